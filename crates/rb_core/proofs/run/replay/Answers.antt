@@ -1,0 +1,16 @@
+use Rattle.std.proofs.Common.{◌≡◌, ◌∷◌, [], ◌++◌, refl, ap, ◌∙◌}
+use Rattle.std.proofs.lemmas.List.{map_push}
+use Rattle.rb_core.specs.StandsFor.{output_of, outputs_of}
+use Rattle.rb_core.proofs.Runs.{one_more, pays_more}
+use Rattle.rb_core.proofs.run.replay.Goals as goal
+
+pub loop-event-preserved : goal.loop-event-preserved
+loop-event-preserved c =
+    let output = c.in_ok-output.output in
+    let items : c.push.new.self.items ≡ c.loop-event.out.items ++ output ∷ [] = rw (c.push.ensures.items, c.unwrap.ensures, c.reserve.ensures.items) refl in
+    let given : outputs_of c.push.new.self.items ≡ outputs_of c.loop-event.out.items ++ output_of output ∷ [] = ap outputs_of items ∙ map_push output_of c.loop-event.out.items output in
+    record {
+      happened = λ s h. rw given (one_more s c.args.events.now c.loop-event.event-index c.event-item.result _ _ _ _ _ c.loop-event-test.true c.event-item.is (c.loop-event.invariant.happened s h) c.in_ok-output.ensures.step);
+      tie = c.in_ok-output.ensures.tie ∙ c.loop-event.invariant.tie;
+      cost = pays_more _ _ _ c.loop-event.event-index c.loop-event.invariant.cost c.in_ok-output.ensures.cost;
+    }

@@ -1,0 +1,77 @@
+use crate::{Answer, Core, CoreFault, Event, Limits, Listener, Output, Peer, replay};
+use rb_xdr::Meter;
+use std::alloc::{AllocError, Global};
+use std::test::Fail;
+
+const LOOPBACK: Peer = Peer {
+    host: [127, 0, 0, 1],
+    port: 900,
+};
+
+const LISTENER: Listener = Listener {
+    host: [192, 0, 2, 1],
+    port: 111,
+};
+
+fn limits(rows: usize) -> Limits {
+    Limits {
+        conns: 4,
+        rows,
+        forwards: 4,
+    }
+}
+
+fn words(alloc: Global, numbers: &[u32]) -> Result<Vec<u8>, AllocError> {
+    let mut bytes = Vec::new(alloc);
+    for n in numbers {
+        bytes.extend_from_slice(&n.to_be_bytes())?;
+    }
+    Ok(bytes)
+}
+
+#[test]
+fn new_core_has_memory(rt: HostRuntime) -> Result<(), Fail> {
+    let mut meter = Meter::new();
+    let mut core = Core::new(rt.alloc(), limits(300), LISTENER, 1000, 0, &mut meter)?;
+    let call = words(rt.alloc(), &[1, 0, 2, 100_000, 2, 0, 0, 0, 0, 0])?;
+    assert_eq!(rt;
+        core.datagram(0, LOOPBACK, &call, &mut meter),
+        Answer::Reply
+    );
+    let reply = words(rt.alloc(), &[1, 1, 0, 0, 0, 0])?;
+    assert_eq!(rt; core.udp_reply(&mut meter), reply.as_slice());
+    assert_eq!(rt; meter.count(), 50);
+    Ok(())
+}
+
+#[test]
+fn limits_and_numbers(rt: HostRuntime) {
+    for (conns, rows, forwards) in [(0, 8, 0), (257, 8, 0), (1, 7, 0), (1, 4097, 0), (1, 8, 65)] {
+        let limits = Limits {
+            conns,
+            rows,
+            forwards,
+        };
+        let made = Core::new(rt.alloc(), limits, LISTENER, 1000, 0, &mut Meter::new());
+        assert!(rt; matches!(made, Err(CoreFault::BadLimits)));
+    }
+}
+
+#[test]
+fn replay_has_memory(rt: HostRuntime) -> Result<(), Fail> {
+    let mut meter = Meter::new();
+    let mut core = Core::new(rt.alloc(), limits(300), LISTENER, 1000, 0, &mut meter)?;
+    let set = [3, 0, 2, 100_000, 2, 1, 0, 0, 0, 0, 200_001, 1, 6, 2049];
+    let mut events = Vec::new(rt.alloc());
+    events.push(Event::Datagram(0, LOOPBACK, words(rt.alloc(), &set)?))?;
+    events.push(Event::Datagram(0, LOOPBACK, Vec::new(rt.alloc())))?;
+    let mut outputs = Vec::new(rt.alloc());
+    replay(rt.alloc(), &mut core, &events, &mut outputs, &mut meter)?;
+    assert_eq!(rt; outputs.len(), 2);
+    let reply = words(rt.alloc(), &[3, 1, 0, 0, 0, 0, 1])?;
+    assert!(rt;
+        matches!(&outputs[0], Output::Replied(bytes) if bytes.as_slice() == reply.as_slice())
+    );
+    assert!(rt; matches!(&outputs[1], Output::Silent));
+    Ok(())
+}

@@ -1,0 +1,6 @@
+-- Sets of lemmas for the checks of the impls.
+use Rattle.rb_xdr.specs.Words.{length-number}
+use Rattle.rb_xdr.specs.Readers.{length-opaque}
+use Rattle.rb_xdr.specs.Types.{length-boolean, length-signed, length-optional, length-optional_none}
+
+pub ruleset lengths = (length-number, length-boolean, length-signed, length-opaque, length-optional, length-optional_none)

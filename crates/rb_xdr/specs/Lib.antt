@@ -1,0 +1,14 @@
+pub mod Keys
+pub mod Kept
+pub mod Links
+pub mod Meter
+pub mod Pool
+pub mod PoolLends
+pub mod Slots
+pub mod Xdr
+pub mod XdrLaws
+pub mod XdrLends
+pub mod Words
+pub mod Worked
+pub mod Readers
+pub mod Types

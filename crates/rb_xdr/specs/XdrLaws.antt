@@ -1,0 +1,55 @@
+-- What reading has to do with spelling.
+use Rattle.std.specs.Prelude.{◌≡◌, ℕ, ◌≤◌, ◌↔◌, List, [], ◌++◌, length, take, drop, Option, IfSome, Ok, ⊤, FitsSigned}
+use Rattle.std.specs.Int.{w32}
+use Rattle.rb_xdr.specs.Xdr.{Reader, AreBytes, Spells, IsNumber, IsContent, number, signed, boolean, opaque, read_number, read_signed, read_bool, read_opaque, max_number, max_opaque}
+
+-- what is read is a value whose spelling stands in front of what is left
+abbrev pub IsSound : {A : Type 0} → (A → Type 0) → (A → List ℕ) → Reader A → Type 0
+IsSound {A} is_value spelling reads = (bytes : List ℕ) (x : A) (n : ℕ) → AreBytes bytes → reads bytes ≡ Ok (x, n) → is_value x × (n ≡ length (spelling x)) × (bytes ≡ spelling x ++ drop n bytes)
+
+-- the spelling of a value is read as that value, whatever follows it
+abbrev pub IsComplete : {A : Type 0} → (A → Type 0) → (A → List ℕ) → Reader A → Type 0
+IsComplete {A} is_value spelling reads = (x : A) (rest : List ℕ) → is_value x → reads (spelling x ++ rest) ≡ Ok (x, length (spelling x))
+
+-- A value and n are read exactly where the first n bytes spell the value.
+abbrev pub ReadsExactly : {A : Type 0} → (A → Type 0) → (A → List ℕ) → Reader A → Type 0
+ReadsExactly {A} is_value spelling reads =
+    (bytes : List ℕ) → AreBytes bytes → (x : A) (n : ℕ)
+    → (reads bytes ≡ Ok (x, n)) ↔ ((n ≤ length bytes) × Spells is_value spelling x (take n bytes))
+
+-- No spelling begins another, and each spells one value.
+abbrev pub IsPrefixFree : {A : Type 0} → (A → Type 0) → (A → List ℕ) → Type 0
+IsPrefixFree {A} is_value spelling = (x y : A) (more : List ℕ) → is_value x → is_value y → spelling x ++ more ≡ spelling y → (x ≡ y) × (more ≡ [])
+
+abbrev pub IsBounded : {A : Type 0} → (A → Type 0) → (A → List ℕ) → ℕ → Type 0
+IsBounded {A} is_value spelling max = (x : A) → is_value x → length (spelling x) ≤ max
+
+-- all that is promised of a type
+pub record IsType {A : Type 0} (is_value : A → Type 0) (spelling : A → List ℕ) (reads : Reader A) (max : ℕ) : Type 0 where
+  pub exact : ReadsExactly is_value spelling reads
+  pub prefix_free : IsPrefixFree is_value spelling
+  pub bounded : IsBounded is_value spelling max
+
+abbrev pub anything : {A : Type 0} → A → Type 0
+anything x = ⊤
+
+abbrev pub both : {A B : Type 0} → (A → Type 0) → (B → Type 0) → A × B → Type 0
+both is_first is_second p = is_first p.0 × is_second p.1
+
+abbrev pub pair : {A B : Type 0} → (A → List ℕ) → (B → List ℕ) → A × B → List ℕ
+pair first second p = first p.0 ++ second p.1
+
+abbrev pub if_there : {A : Type 0} → (A → Type 0) → Option A → Type 0
+if_there is_value o = IfSome o is_value
+
+abbrev pub NumberIsType : Type 0
+NumberIsType = IsType IsNumber number read_number max_number
+
+abbrev pub SignedIsType : Type 0
+SignedIsType = IsType (λ z. FitsSigned w32 z) signed read_signed max_number
+
+abbrev pub BooleanIsType : Type 0
+BooleanIsType = IsType anything boolean read_bool max_number
+
+abbrev pub OpaqueIsType : Type 0
+OpaqueIsType = (limit : ℕ) → IsType (IsContent limit) opaque (read_opaque limit) (max_opaque limit)

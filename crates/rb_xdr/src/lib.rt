@@ -1,0 +1,31 @@
+//! Counted storage.
+#![tactic(auto)]
+
+mod chain;
+pub mod fault;
+pub mod full;
+pub mod kept;
+mod laws;
+mod links;
+pub mod memory;
+pub mod meter;
+mod numbers;
+pub mod opaque;
+mod pairs;
+pub mod pool;
+mod tally;
+pub mod text;
+mod worked;
+pub mod xdr;
+
+pub use fault::XdrFault;
+pub use full::Full;
+pub use kept::Kept;
+pub use laws::{spelling_laws, types_are_read_exactly};
+pub use memory::NoMemory;
+pub use meter::Meter;
+pub use opaque::{Opaque, take_opaque};
+pub use pool::Pool;
+pub use text::Text;
+pub use worked::worked_examples;
+pub use xdr::Xdr;

@@ -1,0 +1,199 @@
+//! Opaque data (RFC 4506, sections 4.9 and 4.10).
+ghost use Rattle.std.specs.Prelude.{◌≡◌, ℕ, ◌+◌, ◌-◌, ◌^◌, ◌<◌, ◌≤◌, List, length, take, replicate, IfOk, OnErr, Result, Ok};
+ghost use Rattle.rb_xdr.specs.Xdr.{Spells, IsContent, opaque, residue, are_zero, read_content, read_opaque, max_opaque};
+ghost use Rattle.rb_xdr.specs.XdrLends.{lent};
+ghost use Rattle.rb_xdr.specs.Readers.{opaque_sound, opaque_complete};
+ghost use Rattle.rb_xdr.specs.Types.{opaque_bounded};
+
+use crate::fault::XdrFault;
+use crate::kept::Kept;
+use crate::meter::Meter;
+use crate::xdr::Xdr;
+use arrayvec::ArrayVec;
+use std::alloc::AllocError;
+use std::fmt;
+use std::marker::Model;
+
+// How many residual bytes follow so many.
+fn residue_of(count: usize) -> usize
+    ensures { result ≡ residue count }
+{
+    (4 - count % 4) % 4
+}
+
+// The residual bytes themselves.
+fn zeros_after(count: usize) -> &'static [u8]
+    ensures { result.now ≡ replicate (residue count) 0 }
+{
+    match residue_of(count) {
+        0 => &[],
+        1 => &[0],
+        2 => &[0, 0],
+        _ => &[0, 0, 0],
+    }
+}
+
+fn all_zero(bytes: &[u8]) -> bool
+    ensures { result ≡ are_zero bytes.now }
+{
+    bytes.iter().all(|b| *b == 0)
+}
+
+// So much content and its residual bytes.
+#[tactic(auto, unfolding(crate::specs::Xdr::read_content))]
+fn take_content(bytes: &[u8], count: usize) -> Result<(&[u8], usize), XdrFault>
+    requires { count < 2 ^ 32 }
+    ensures exact { lent result ≡ read_content count bytes.now }
+    ensures within { IfOk result (λ read. read.1 ≤ length bytes.now) }
+{
+    let padded = count + residue_of(count);
+    if bytes.len() < padded {
+        return Err(XdrFault::Short);
+    }
+    if !all_zero(&bytes[count..padded]) {
+        return Err(XdrFault::BadPadding);
+    }
+    Ok((&bytes[..count], padded))
+}
+
+// Opaque data of at most so many bytes.
+#[tactic(auto, unfolding(crate::specs::Xdr::read_opaque))]
+fn lend_opaque(bytes: &[u8], limit: usize) -> Result<(&[u8], usize), XdrFault>
+    ensures { lent result ≡ read_opaque limit bytes.now }
+{
+    let (count, used) = u32::read(bytes)?;
+    if count as usize > limit {
+        return Err(XdrFault::TooLong);
+    }
+    let (content, more) = take_content(&bytes[used..], count as usize)?;
+    Ok((content, used + more))
+}
+
+/// Lends the content of opaque data or of a string of at most `limit` bytes, from the front of the bytes, and says how many of them spell it.
+///
+/// A count that is cut short is Short, one over the limit TooLong; then content or residual bytes that are missing are Short, and a residual byte that is not zero is BadPadding.
+pub fn take_opaque(bytes: &[u8], limit: usize) -> Result<(&[u8], usize), XdrFault>
+    ensures found { IfOk result (λ read. (read.1 ≤ length bytes.now) × Spells (IsContent limit) opaque read.0.now (take read.1 bytes.now)) }
+    ensures only { (content : List ℕ) (n : ℕ) → n ≤ length bytes.now → Spells (IsContent limit) opaque content (take n bytes.now) → lent result ≡ Ok (content, n) }
+    ensures none { OnErr result ((content : List ℕ) (n : ℕ) → n ≤ length bytes.now → ¬ Spells (IsContent limit) opaque content (take n bytes.now)) }
+    ensures exact { lent result ≡ read_opaque limit bytes.now }
+{
+    lend_opaque(bytes, limit)
+}
+
+/// Bytes, at most `N` of them and fewer than 2^32.
+#[derive(Drop)]
+pub struct Opaque<const N: usize> {
+    bytes: ArrayVec<u8, N>,
+}
+
+impl<const N: usize> Model for Opaque<N> {
+    ghost use Rattle.std.specs.Prelude.{List, ℕ};
+    ghost use Rattle.rb_xdr.specs.Xdr.{IsContent};
+
+    ghost Value = { List ℕ };
+
+    ghost view = { λ o. o.bytes.items };
+
+    ghost invariant = { λ o. IsContent N o.bytes.items };
+}
+
+impl<const N: usize> Opaque<N> {
+    /// A copy of these bytes.
+    pub fn new(bytes: &[u8]) -> Opaque<N>
+        requires limit { length bytes.now ≤ N }
+        requires count { length bytes.now < 2 ^ 32 }
+        ensures { result ≡ bytes.now }
+    {
+        let mut kept = ArrayVec::new();
+        match kept.try_extend_from_slice(bytes) {
+            Ok(()) => Opaque { bytes: kept },
+            Err(_) => unreachable!(),
+        }
+    }
+
+    /// The bytes.
+    pub fn as_slice(&self) -> &[u8]
+        ensures bytes { result.now ≡ self.now }
+        ensures content { IsContent N self.now }
+    {
+        self.bytes.as_slice()
+    }
+}
+
+impl<const N: usize> Xdr for Opaque<N> {
+    ghost is_value = { IsContent N };
+
+    ghost spelling = { opaque };
+
+    ghost max_spelling = { max_opaque N };
+
+    ghost reads = { read_opaque N };
+
+    #[tactic(auto, using(crate::proofs::XdrSets::lengths))]
+    fn room_after(&self, room: usize) -> Option<usize> {
+        let count = self.as_slice().len();
+        room.checked_sub(4)?
+            .checked_sub(count)?
+            .checked_sub(residue_of(count))
+    }
+
+    #[tactic(auto, using(crate::proofs::XdrSets::lengths), unfolding(crate::specs::Xdr::opaque))]
+    fn write(&self, out: &mut Kept, meter: &mut Meter) {
+        let bytes = self.as_slice();
+        (bytes.len() as u32).write(out, meter);
+        let _ = out.extend(bytes, meter);
+        let _ = out.extend(zeros_after(bytes.len()), meter);
+    }
+
+    fn read(bytes: &[u8]) -> Result<(Self, usize), XdrFault> {
+        let (content, used) = take_opaque(bytes, N)?;
+        Ok((Opaque::new(content), used))
+    }
+
+    ghost sound = { opaque_sound N };
+
+    ghost complete = { opaque_complete N };
+
+    ghost bounded = { opaque_bounded N };
+}
+
+impl<const N: usize> PartialEq for Opaque<N> {
+    ghost use Rattle.std.specs.Str.{bytes_eq};
+    ghost use Rattle.std.specs.Cmp.Lexicographic.{lists_per};
+    ghost use Rattle.std.proofs.Common.{rules};
+    ghost use Rattle.std.specs.Cmp.Rules.{comparing};
+
+    ghost eq = { bytes_eq };
+
+    ghost laws = { Prim.search (comparing, rules) };
+
+    fn eq(&self, other: &Opaque<N>) -> bool {
+        self.as_slice() == other.as_slice()
+    }
+}
+
+impl<const N: usize> Eq for Opaque<N> {
+    ghost use Rattle.std.proofs.Common.{rules};
+    ghost use Rattle.std.specs.Cmp.Rules.{comparing};
+
+    ghost laws = { Prim.search (comparing, rules) };
+}
+
+impl<const N: usize> Clone for Opaque<N> {
+    ghost use Rattle.std.specs.Prelude.{⊤, ◌≡◌};
+
+    ghost is_clone = { λ x y. y ≡ x };
+
+    ghost is_infallible = { λ _. ⊤ };
+
+    fn clone(&self) -> Result<Opaque<N>, AllocError> {
+        Ok(Opaque::new(self.as_slice()))
+    }
+}
+
+impl<const N: usize> fmt::Debug for Opaque<N> {
+    fn fmt<W: fmt::Write>(&self, f: &mut fmt::Formatter<W>) -> fmt::Result {
+        f.debug_list().entries(self.as_slice()).finish()
+    }
+}

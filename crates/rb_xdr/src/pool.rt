@@ -1,0 +1,174 @@
+//! A table of fixed capacity whose keys are kept in order of insertion, and whose calls are counted.
+ghost use Rattle.std.specs.Prelude.{◌≡◌, ◌<◌, ◌≤◌, ◌+◌, ◌↔◌, [], ◌∷◌, ◌++◌, length, IsTrue, IsOk, IsSome, IfOk, IfErr, OnErr, option_copied, Some, None};
+ghost use Rattle.std.specs.Option.{option_copied_mut};
+ghost use Rattle.std.specs.Borrow.{sem};
+ghost use Rattle.rb_xdr.specs.Meter.{Pays};
+ghost use Rattle.rb_xdr.specs.Pool.{value_at, without, first_key, key_after, HasDistinctKeys};
+
+use crate::chain::Chain;
+use crate::full::Full;
+use crate::memory::NoMemory;
+use crate::meter::Meter;
+use slab::Slab;
+use std::alloc::Global;
+use std::marker::Model;
+use std::snapshot::Snapshot;
+
+/// At most so many values, each under a key, all in memory that `new` took.
+#[derive(Drop)]
+pub struct Pool<T> {
+    values: Slab<T>,
+    keys: Chain,
+    cap: usize,
+    made_with: Snapshot<Meter>,
+}
+
+impl<T> Model for Pool<T> {
+    ghost use Rattle.rb_xdr.specs.Pool.{Pool as Table, pool_code};
+
+    ghost Value = { Table T };
+
+    ghost coded = { pool_code T.code };
+
+    ghost use Rattle.rb_xdr.specs.Slots.{entries_at, IsTable};
+
+    ghost view = { λ p. record {
+      entries = entries_at p.values.slots p.keys.order;
+      cap = p.cap;
+      tie = p.made_with.value.tie;
+    } };
+
+    ghost invariant = { λ p. IsTable p.values.slots p.values.capacity p.keys.order p.keys.room p.cap };
+}
+
+impl<T> Pool<T> {
+    ghost use Rattle.rb_xdr.specs.PoolLends.{lends_entry, lends_value};
+
+    /// An empty table, for calls that this meter counts.
+    pub fn new(alloc: Global, cap: usize, meter: &mut Meter) -> Result<Pool<T>, NoMemory>
+    where
+        T: Drop,
+        ensures empty { IfOk result (λ p. p.entries ≡ []) }
+        ensures cap { IfOk result (λ p. p.cap ≡ cap) }
+        ensures tie { IfOk result (λ p. p.tie ≡ meter.old.tie) }
+        ensures free { meter.new ≡ meter.old }
+    {
+        let values = Slab::with_capacity(alloc, cap)?;
+        let keys = Chain::new(alloc, values.capacity())?;
+        Ok(Pool {
+            values,
+            keys,
+            cap,
+            made_with: Snapshot::of(meter),
+        })
+    }
+
+    /// Adds a value at the end of the order, under a key that was free.
+    pub fn insert(&mut self, value: T, meter: &mut Meter) -> Result<usize, Full<T>>
+        requires { meter.old.tie ≡ self.old.tie }
+        ensures room { IsOk result ↔ (length self.old.entries < self.old.cap) }
+        ensures ok { IfOk result (λ key. self.new ≡ record self.old { entries = self.old.entries ++ (key, value) ∷ [] }) }
+        ensures fresh { IfOk result (λ key. value_at self.old.entries key ≡ None) }
+        ensures err { OnErr result (self.new ≡ self.old) }
+        ensures cap { self.new.cap ≡ self.old.cap }
+        ensures tie { self.new.tie ≡ self.old.tie }
+        ensures returned { IfErr result (λ full. full.value ≡ value) }
+        ensures cost { Pays meter.old meter.new 1 }
+    {
+        meter.pay(1);
+        if self.values.len() == self.cap {
+            return Err(Full { value });
+        }
+        let key = self.values.insert_reserved(value);
+        self.keys.push(key);
+        Ok(key)
+    }
+
+    /// The value under `key`.
+    pub fn get(&self, key: usize, meter: &mut Meter) -> Option<&T>
+        requires { meter.old.tie ≡ self.now.tie }
+        ensures value { option_copied result ≡ value_at self.now.entries key }
+        ensures cost { Pays meter.old meter.new 1 }
+    {
+        meter.pay(1);
+        self.values.get(key)
+    }
+
+    /// The value under `key`, for writing.
+    pub fn get_mut(&mut self, key: usize, meter: &mut Meter) -> Option<&mut T>
+        requires { meter.old.tie ≡ self.old.tie }
+        ensures* writes_back { sem 𝓛 (lends_entry T.row self.entry key result) }
+        ensures value { option_copied_mut result ≡ value_at self.old.entries key }
+        ensures cost { Pays meter.old meter.new 1 }
+    {
+        meter.pay(1);
+        if self.holds(key) {
+            Some(self.value_mut(key))
+        } else {
+            None
+        }
+    }
+
+    fn holds(&self, key: usize) -> bool
+        ensures { IsTrue result ↔ IsSome (value_at self.now.entries key) }
+    {
+        self.values.contains(key)
+    }
+
+    fn value_mut(&mut self, key: usize) -> &mut T
+        requires { IsSome (value_at self.old.entries key) }
+        ensures* writes_back { sem 𝓛 (lends_value T.row self.entry key result) }
+        ensures value { value_at self.old.entries key ≡ Some result.now }
+    {
+        &mut self.values[key]
+    }
+
+    /// Takes the value under `key` out.
+    pub fn remove(&mut self, key: usize, meter: &mut Meter) -> Option<T>
+        requires { meter.old.tie ≡ self.old.tie }
+        ensures value { result ≡ value_at self.old.entries key }
+        ensures entries { self.new ≡ record self.old { entries = without self.old.entries key } }
+        ensures cost { Pays meter.old meter.new 1 }
+    {
+        meter.pay(1);
+        let value = self.values.try_remove(key)?;
+        self.keys.remove(key);
+        Some(value)
+    }
+
+    /// The key that was inserted first, of those that are there.
+    pub fn first(&self, meter: &mut Meter) -> Option<usize>
+        requires { meter.old.tie ≡ self.now.tie }
+        ensures key { result ≡ first_key self.now.entries }
+        ensures cost { Pays meter.old meter.new 1 }
+    {
+        meter.pay(1);
+        self.keys.first()
+    }
+
+    /// The key that was inserted next after `key`, of those that are there.
+    pub fn next(&self, key: usize, meter: &mut Meter) -> Option<usize>
+        requires { meter.old.tie ≡ self.now.tie }
+        ensures key { result ≡ key_after self.now.entries key }
+        ensures cost { Pays meter.old meter.new 1 }
+    {
+        meter.pay(1);
+        if self.values.contains(key) {
+            self.keys.next(key)
+        } else {
+            None
+        }
+    }
+
+    /// How many values there are.
+    pub fn len(&self, meter: &mut Meter) -> usize
+        requires { meter.old.tie ≡ self.now.tie }
+        ensures len { result ≡ length self.now.entries }
+        ensures within_cap { result ≤ self.now.cap }
+        ensures distinct { HasDistinctKeys self.now.entries }
+        ensures cost { Pays meter.old meter.new 1 }
+    {
+        meter.pay(1);
+        self.values.len()
+    }
+}

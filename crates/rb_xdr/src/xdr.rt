@@ -1,0 +1,80 @@
+//! Values that are spelled in bytes.
+ghost use Rattle.std.specs.Prelude.{◌≡◌, ℕ, ◌+◌, ◌≤◌, ◌<◌, ◌↔◌, List, ◌++◌, length, take, Result, Ok, IsOk, OnOk, OnErr, IfOk, MatchOption};
+ghost use Rattle.rb_xdr.specs.Meter.{Pays};
+ghost use Rattle.rb_xdr.specs.Xdr.{Reader, Spells};
+ghost use Rattle.rb_xdr.specs.XdrLaws.{IsSound, IsComplete, IsBounded};
+
+use crate::fault::XdrFault;
+use crate::full::Full;
+use crate::kept::Kept;
+use crate::meter::Meter;
+
+/// A type whose values each have one spelling in bytes, none a proper prefix of another.
+pub trait Xdr: Drop {
+    /// Holds of the values of the type: a number is in range, a text within its limit.
+    ghost is_value: { Self → Type 0 };
+
+    /// The spelling of a value.
+    ghost spelling: { Self → List ℕ };
+
+    /// No spelling is longer.
+    ghost max_spelling: { ℕ };
+
+    /// What the front of the bytes is read as: a value and the length of its spelling, or the first fault.
+    ghost reads: { Reader Self };
+
+    /// The room that is left of so much once the value is spelled, if its spelling fits.
+    fn room_after(&self, room: usize) -> Option<usize>
+        ensures { MatchOption result (room < length (spelling self.now)) (λ left. left + length (spelling self.now) ≡ room) };
+
+    /// Adds the spelling at the end of a buffer that has room for it.
+    fn write(&self, out: &mut Kept, meter: &mut Meter)
+        requires tie { meter.old.tie ≡ out.old.tie }
+        requires room { length out.old.bytes + length (spelling self.now) ≤ out.old.cap }
+        ensures value { is_value self.now }
+        ensures written { out.new ≡ record out.old { bytes = out.old.bytes ++ spelling self.now } }
+        ensures cost { Pays meter.old meter.new (length (spelling self.now)) };
+
+    /// Reads the front of the bytes.
+    fn read(bytes: &[u8]) -> Result<(Self, usize), XdrFault>
+        ensures exact { result ≡ reads bytes.now }
+        ensures within { IfOk result (λ read. read.1 ≤ length bytes.now) };
+
+    /// Reads a value from the front of the bytes, and says how many of them spell it.
+    final fn take(bytes: &[u8]) -> Result<(Self, usize), XdrFault>
+        ensures found { IfOk result (λ read. (read.1 ≤ length bytes.now) × Spells is_value spelling read.0 (take read.1 bytes.now)) }
+        ensures only { (v : Self) (n : ℕ) → n ≤ length bytes.now → Spells is_value spelling v (take n bytes.now) → result ≡ Ok (v, n) }
+        ensures none { OnErr result ((v : Self) (n : ℕ) → n ≤ length bytes.now → ¬ Spells is_value spelling v (take n bytes.now)) }
+        ensures exact { result ≡ reads bytes.now }
+    {
+        Self::read(bytes)
+    }
+
+    /// Adds the spelling at the end of a buffer, or nothing.
+    final fn put(&self, out: &mut Kept, meter: &mut Meter) -> Result<(), Full>
+        requires { meter.old.tie ≡ out.old.tie }
+        ensures room { IsOk result ↔ (length out.old.bytes + length (spelling self.now) ≤ out.old.cap) }
+        ensures value { OnOk result (is_value self.now) }
+        ensures ok { OnOk result (out.new ≡ record out.old { bytes = out.old.bytes ++ spelling self.now }) }
+        ensures err { OnErr result (out.new ≡ out.old) }
+        ensures cap { out.new.cap ≡ out.old.cap }
+        ensures tie { out.new.tie ≡ out.old.tie }
+        ensures cost { OnOk result (Pays meter.old meter.new (1 + length (spelling self.now))) }
+        ensures cost_of_refusal { OnErr result (Pays meter.old meter.new 1) }
+    {
+        if self.room_after(out.room(meter)).is_none() {
+            return Err(Full { value: () });
+        }
+        self.write(out, meter);
+        Ok(())
+    }
+
+    /// What is read is a value whose spelling stands in front of what is left.
+    ghost sound: { IsSound is_value spelling reads };
+
+    /// The spelling of a value is read as that value, whatever follows it.
+    ghost complete: { IsComplete is_value spelling reads };
+
+    /// No spelling of a value is longer than the greatest.
+    ghost bounded: { IsBounded is_value spelling max_spelling };
+}

@@ -1,0 +1,5 @@
+pub mod Fields
+pub mod Lines
+pub mod Printing
+pub mod Running
+pub mod Worked

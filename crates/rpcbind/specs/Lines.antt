@@ -1,0 +1,97 @@
+-- Event lines: what a text of them says.
+use Rattle.std.specs.Prelude.{◌≡◌, ℕ, ◌+◌, ◌^◌, ◌==◌, nat_lt, ◌||◌, if◌then◌else◌, List, [], ◌∷◌, ◌++◌, length, slice_index, codes, Option, Some, None, Result, Ok, Err}
+use Rattle.std.specs.List.{slice_split}
+use Rattle.std.specs.Str.{bytes_eq}
+use Rattle.rb_core.specs.Step.{Event}
+use Rattle.rb_core.specs.Step.Event.{Datagram}
+use Rattle.rb_core.specs.StandsFor.{event_of}
+use Rattle.rpcbind.specs.declared.lines.Line as line_type
+use Rattle.rpcbind.specs.declared.lines.Line.TheVariants as lines
+use Rattle.rpcbind.specs.declared.lines.ReadFault.{ReadFault}
+use Rattle.rpcbind.specs.declared.lines.ReadFault.TheVariants.{BadLine, TooLong, NoMemory}
+use Rattle.rpcbind.specs.Fields.{◌>>=◌, cut, decimal, peer, hex_bytes}
+
+-- what follows the word `datagram`: a moment, a peer and bytes
+unfoldable pub datagram_line : List ℕ → Option Event
+datagram_line text = do
+  first ← cut 32 text
+  second ← cut 32 first.1
+  now ← decimal (2 ^ 64) first.0
+  from ← peer second.0
+  bytes ← hex_bytes second.1
+  Some (Datagram now from bytes)
+
+-- the event of a line with this first word, and this behind the space after it
+unfoldable pub event : List ℕ → List ℕ → Option Event
+event word rest =
+    if bytes_eq word (codes "datagram") then datagram_line rest
+    else None
+
+pub data Line : Type 0 where
+  Skipped : Line
+  Happens : Event → Line
+  Bad : Line
+
+abbrev pub happens_or_bad : Option Event → Line
+happens_or_bad (Some event) = Happens event
+happens_or_bad None = Bad
+
+-- an empty line, and one that begins with `#`, says nothing
+unfoldable pub line : List ℕ → Line
+line text =
+    if length text == 0 || slice_index text 0 == 35 then Skipped
+    else happens_or_bad (do
+      parts ← cut 32 text
+      event parts.0 parts.1)
+
+-- what the line of this number adds to what the lines after it give
+abbrev pub onto : ℕ → Line → Result (List Event) ReadFault → Result (List Event) ReadFault
+onto k Skipped rest = rest
+onto k Bad rest = Err (BadLine k)
+onto k (Happens event) (Ok events) = Ok (event ∷ events)
+onto k (Happens event) (Err fault) = Err fault
+
+-- the events of the lines, the first of which has this number, or the number of the first bad line
+unfoldable pub events_from : ℕ → List (List ℕ) → Result (List Event) ReadFault
+events_from k [] = Ok []
+events_from k (text ∷ texts) = onto k (line text) (events_from (k + 1) texts)
+
+-- the lines of a text: a line feed ends each but the last
+unfoldable pub lines_of : List ℕ → List (List ℕ)
+lines_of text = slice_split (λ b. b == 10) text
+
+-- in bytes
+unfoldable pub longest_input : ℕ
+longest_input = 16777216
+
+-- the events of a text
+unfoldable pub read : List ℕ → Result (List Event) ReadFault
+read text = if nat_lt longest_input (length text) then Err TooLong else events_from 1 (lines_of text)
+
+-- ---- as the code has them
+
+abbrev pub line_of : line_type.Line → Line
+line_of lines.Skipped = Skipped
+line_of (lines.Happens event) = Happens (event_of event)
+line_of lines.Bad = Bad
+
+-- What a function returned is what reading gives, unless memory ran out.
+abbrev pub Fails : ReadFault → Result (List Event) ReadFault → Type 0
+Fails NoMemory given = Unit {0}
+Fails TooLong given = given ≡ Err TooLong
+Fails (BadLine k) given = given ≡ Err (BadLine k)
+
+abbrev pub Gives : {X : Type 0} → (X → List Event) → Result X ReadFault → Result (List Event) ReadFault → Type 0
+Gives events (Ok x) given = given ≡ Ok (events x)
+Gives events (Err fault) given = Fails fault given
+
+-- the events that were read, in front of those that are left
+abbrev pub with_front : List Event → Result (List Event) ReadFault → Result (List Event) ReadFault
+with_front front (Ok events) = Ok (front ++ events)
+with_front front (Err fault) = Err fault
+
+-- what may be wrong with the line of this number
+abbrev pub IsFaultOf : ℕ → Line → ReadFault → Type 0
+IsFaultOf k said NoMemory = Unit {0}
+IsFaultOf k said TooLong = ⊥
+IsFaultOf k said (BadLine n) = (said ≡ Bad) × (n ≡ k)

@@ -1,0 +1,14 @@
+-- What is printed.
+use Rattle.std.specs.Prelude.{ℕ, List, [], ◌∷◌, ◌++◌, codes}
+use Rattle.std.specs.List.{flat_map}
+use Rattle.hex.specs.Hex.{encode_lower}
+use Rattle.rb_core.specs.Step.{Output}
+use Rattle.rb_core.specs.Step.Output.{Replied, Silent}
+
+-- the line of an output
+abbrev pub text_of : Output → List ℕ
+text_of (Replied bytes) = codes "reply " ++ (encode_lower bytes ++ 10 ∷ [])
+text_of Silent = codes "silent" ++ 10 ∷ []
+
+unfoldable pub report_of : List Output → List ℕ
+report_of outputs = flat_map text_of outputs

@@ -1,0 +1,87 @@
+-- Worked examples: what texts of event lines say, and what is printed for them.
+use Rattle.std.specs.Prelude.{◌≡◌, ◌^◌, ◌-◌, List, ℕ, [], ◌∷◌, ◌++◌, codes, Some, None, Ok, Err}
+use Rattle.std.specs.List.{flat_map}
+use Rattle.std.specs.Int.{w32, to_be_bytes}
+use Rattle.rb_core.specs.declared.types.Peer.{Peer}
+use Rattle.rb_core.specs.Step.Event.{Datagram}
+use Rattle.rb_core.specs.Step.Output.{Replied, Silent}
+use Rattle.rpcbind.specs.declared.lines.ReadFault.TheVariants.{BadLine}
+use Rattle.rpcbind.specs.Fields.{decimal, peer}
+use Rattle.rpcbind.specs.Lines.{read}
+use Rattle.rpcbind.specs.Printing.{report_of}
+
+-- numbers, each as four bytes
+abbrev pub words : List ℕ → List ℕ
+words numbers = flat_map (to_be_bytes w32) numbers
+
+-- a line, and the line feed that ends it
+abbrev pub ended : List ℕ → List ℕ
+ended text = text ++ 10 ∷ []
+
+abbrev pub here : Peer
+here = record { host = 127 ∷ 0 ∷ 0 ∷ 1 ∷ []; port = 900 }
+
+-- A SET, the port of its row, and the same SET again, as three lines and as three events.
+abbrev pub StoredRunIsRead : Type 0
+StoredRunIsRead =
+    read
+    (ended (codes "datagram 0 127.0.0.1:900 000000030000000000000002000186a000000002000000010000000000000000000000000000000000030d41000000010000000600000801")
+    ++ ended (codes "datagram 0 127.0.0.1:900 000000040000000000000002000186a000000002000000030000000000000000000000000000000000030d41000000010000000600000000")
+    ++ ended (codes "datagram 0 127.0.0.1:900 000000050000000000000002000186a000000002000000010000000000000000000000000000000000030d41000000010000000600000801"))
+    ≡ Ok
+    (Datagram 0 here (words (3 ∷ 0 ∷ 2 ∷ 100000 ∷ 2 ∷ 1 ∷ 0 ∷ 0 ∷ 0 ∷ 0 ∷ 200001 ∷ 1 ∷ 6 ∷ 2049 ∷ []))
+    ∷ Datagram 0 here (words (4 ∷ 0 ∷ 2 ∷ 100000 ∷ 2 ∷ 3 ∷ 0 ∷ 0 ∷ 0 ∷ 0 ∷ 200001 ∷ 1 ∷ 6 ∷ 0 ∷ []))
+    ∷ Datagram 0 here (words (5 ∷ 0 ∷ 2 ∷ 100000 ∷ 2 ∷ 1 ∷ 0 ∷ 0 ∷ 0 ∷ 0 ∷ 200001 ∷ 1 ∷ 6 ∷ 2049 ∷ []))
+    ∷ [])
+
+-- Its replies TRUE, port 2049 and FALSE, and what is printed for them.
+abbrev pub StoredRunIsPrinted : Type 0
+StoredRunIsPrinted =
+    report_of
+    (Replied (words (3 ∷ 1 ∷ 0 ∷ 0 ∷ 0 ∷ 0 ∷ 1 ∷ []))
+    ∷ Replied (words (4 ∷ 1 ∷ 0 ∷ 0 ∷ 0 ∷ 0 ∷ 2049 ∷ []))
+    ∷ Replied (words (5 ∷ 1 ∷ 0 ∷ 0 ∷ 0 ∷ 0 ∷ 0 ∷ []))
+    ∷ Silent
+    ∷ [])
+    ≡ ended (codes "reply 00000003000000010000000000000000000000000000000000000001")
+    ++ ended (codes "reply 00000004000000010000000000000000000000000000000000000801")
+    ++ ended (codes "reply 00000005000000010000000000000000000000000000000000000000")
+    ++ ended (codes "silent")
+
+abbrev pub BadEventLine : Type 0
+BadEventLine = read (codes "datagram 0 127.0.0.1:900 0g") ≡ Err (BadLine 1)
+
+-- Comments and empty lines say nothing and count. The last line may lack its line feed. A carriage return,
+-- a space too many and a space at the end make a bad line.
+abbrev pub LinesAreCounted : Type 0
+LinesAreCounted =
+    (read (ended (codes "# a" ++ 9 ∷ 13 ∷ []) ++ ended [] ++ codes "datagram 007 127.0.0.1:900 Af") ≡ Ok (Datagram 7 here (175 ∷ []) ∷ []))
+    × (read (ended (codes "#") ++ ended [] ++ codes "datagram 7 127.0.0.1:900 -" ++ 13 ∷ []) ≡ Err (BadLine 3))
+    × (read (ended (codes "datagram 7 127.0.0.1:900 -") ++ ended (codes "datagram 7  127.0.0.1:900 -")) ≡ Err (BadLine 2))
+    × (read (codes "datagram 7 127.0.0.1:900 00 ") ≡ Err (BadLine 1))
+    × (read (codes " datagram 7 127.0.0.1:900 00") ≡ Err (BadLine 1))
+    × (read (codes "datagram 7 127.0.0.1:900 ") ≡ Err (BadLine 1))
+    × (read (codes "datagram 7 127.0.0.1:900 000") ≡ Err (BadLine 1))
+    × (read (codes "datagrams 7 127.0.0.1:900 00") ≡ Err (BadLine 1))
+    × (read [] ≡ Ok [])
+
+abbrev pub NumbersOfLines : Type 0
+NumbersOfLines =
+    (decimal (2 ^ 64) (codes "18446744073709551615") ≡ Some (2 ^ 64 - 1))
+    × (decimal (2 ^ 64) (codes "18446744073709551616") ≡ None)
+    × (decimal (2 ^ 64) (codes "000000000000000000000000000018446744073709551615") ≡ Some (2 ^ 64 - 1))
+    × (decimal (2 ^ 64) (codes "+1") ≡ None)
+    × (decimal (2 ^ 64) [] ≡ None)
+
+abbrev pub PeersOfLines : Type 0
+PeersOfLines =
+    (peer (codes "127.0.0.1:900") ≡ Some here)
+    × (peer (codes "255.255.255.255:65535") ≡ Some (record { host = 255 ∷ 255 ∷ 255 ∷ 255 ∷ []; port = 65535 }))
+    × (peer (codes "0.0.0.0:0") ≡ Some (record { host = 0 ∷ 0 ∷ 0 ∷ 0 ∷ []; port = 0 }))
+    × (peer (codes "127.0.0.01:900") ≡ None)
+    × (peer (codes "127.0.0.1:0900") ≡ None)
+    × (peer (codes "127.0.0.256:900") ≡ None)
+    × (peer (codes "127.0.0.1:65536") ≡ None)
+    × (peer (codes "127.0.0:900") ≡ None)
+    × (peer (codes "127.0.0.1.1:900") ≡ None)
+    × (peer (codes "127.0.0.1") ≡ None)

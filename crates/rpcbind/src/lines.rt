@@ -1,0 +1,138 @@
+//! Event lines, one event in each.
+ghost use Rattle.std.specs.Prelude.{◌≡◌, ◌≤◌, ◌+◌, length, IfOk, IfErr, OnOk, Result, List};
+ghost use Rattle.std.specs.Option.{option_map};
+ghost use Rattle.rb_core.specs.StandsFor.{event_of, events_of};
+ghost use Rattle.rb_core.specs.Step.{Event as Happening};
+ghost use Rattle.rpcbind.specs.declared.lines.ReadFault.{ReadFault};
+ghost use Rattle.rpcbind.specs.Lines.{with_front, onto, events_from, lines_of, IsFaultOf, datagram_line, event, line, line_of, longest_input, Gives, read};
+
+use crate::fields::{cut, decimal, hex_bytes, peer};
+use rb_core::{Event, NoMemory};
+use std::alloc::Global;
+use thiserror::Error;
+
+/// The length in bytes of the longest text that is read as event lines.
+#[tactic(auto, unfolding(crate::specs::Lines::longest_input))]
+pub fn longest_input() -> usize
+    ensures value { result ≡ longest_input }
+    ensures small { result ≤ 16777216 }
+{
+    16_777_216
+}
+
+/// Why a text was not read as event lines.
+#[derive(Clone, Copy, Debug, Drop, Error, PartialEq, Eq)]
+pub enum ReadFault {
+    /// The number of the first line that is no event line, from 1. Every line counts.
+    #[error("line {0}: bad event")]
+    BadLine(usize),
+    #[error("input too long")]
+    TooLong,
+    #[error("no memory")]
+    NoMemory,
+}
+
+/// What a line says.
+#[derive(Drop)]
+enum Line {
+    Skipped,
+    Happens(Event),
+    Bad,
+}
+
+/// What follows the word `datagram`: a moment, a peer and bytes.
+#[tactic(auto, unfolding(crate::specs::Lines::datagram_line))]
+fn datagram_line(alloc: Global, text: &[u8]) -> Result<Option<Event>, NoMemory>
+    ensures { IfOk result (λ read. option_map event_of read ≡ datagram_line text.now) }
+{
+    let Some((now, rest)) = cut(text, b' ') else {
+        return Ok(None);
+    };
+    let Some((from, bytes)) = cut(rest, b' ') else {
+        return Ok(None);
+    };
+    let Some(now) = decimal(now) else {
+        return Ok(None);
+    };
+    let Some(from) = peer(from) else {
+        return Ok(None);
+    };
+    let Some(bytes) = hex_bytes(alloc, bytes)? else {
+        return Ok(None);
+    };
+    Ok(Some(Event::Datagram(now, from, bytes)))
+}
+
+/// The event of a line with this first word.
+#[tactic(auto, unfolding(crate::specs::Lines::event))]
+fn read_event(alloc: Global, word: &[u8], rest: &[u8]) -> Result<Option<Event>, NoMemory>
+    ensures { IfOk result (λ read. option_map event_of read ≡ event word.now rest.now) }
+{
+    if word == b"datagram".as_slice() {
+        return datagram_line(alloc, rest);
+    }
+    Ok(None)
+}
+
+#[tactic(auto, unfolding(crate::specs::Lines::line))]
+fn read_line(alloc: Global, text: &[u8]) -> Result<Line, NoMemory>
+    ensures { IfOk result (λ read. line_of read ≡ line text.now) }
+{
+    if text.is_empty() || text[0] == b'#' {
+        return Ok(Line::Skipped);
+    }
+    let Some((word, rest)) = cut(text, b' ') else {
+        return Ok(Line::Bad);
+    };
+    match read_event(alloc, word, rest)? {
+        Some(event) => Ok(Line::Happens(event)),
+        None => Ok(Line::Bad),
+    }
+}
+
+/// Adds what the line of this number says.
+fn take_line(
+    alloc: Global,
+    events: &mut Vec<Event>,
+    number: usize,
+    text: &[u8],
+) -> Result<(), ReadFault>
+    ensures ok { OnOk result ((rest : Result (List Happening) ReadFault) →
+        with_front (events_of events.new.items) rest ≡ with_front (events_of events.old.items) (onto number (line text.now) rest)) }
+    ensures err { IfErr result (λ fault. IsFaultOf number (line text.now) fault) }
+{
+    match read_line(alloc, text) {
+        Err(NoMemory) => Err(ReadFault::NoMemory),
+        Ok(Line::Bad) => Err(ReadFault::BadLine(number)),
+        Ok(Line::Skipped) => Ok(()),
+        Ok(Line::Happens(event)) => match events.push(event) {
+            Ok(()) => Ok(()),
+            Err(_) => Err(ReadFault::NoMemory),
+        },
+    }
+}
+
+/// The events of the lines of a text.
+fn read_lines(alloc: Global, text: &[u8]) -> Result<Vec<Event>, ReadFault>
+    ensures { Gives (λ events. events_of events.items) result (events_from 1 (lines_of text.now)) }
+{
+    let mut events = Vec::new(alloc);
+    for (i, line) in text.split(|b| *b == b'\n').enumerate() {
+        if let Err(fault) = take_line(alloc, &mut events, i + 1, line) {
+            return Err(fault);
+        }
+    }
+    Ok(events)
+}
+
+/// The events of a text of event lines, one in each line. A text of more than 16,777,216 bytes is
+/// too long, whatever it says. Empty lines and lines that begin with `#` say nothing.
+#[tactic(auto, unfolding(crate::specs::Lines::read))]
+pub fn read_events(alloc: Global, text: &[u8]) -> Result<Vec<Event>, ReadFault>
+    ensures { Gives (λ events. events_of events.items) result (read text.now) }
+{
+    if text.len() > longest_input() {
+        return Err(ReadFault::TooLong);
+    }
+    read_lines(alloc, text)
+}

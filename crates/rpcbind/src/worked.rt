@@ -1,0 +1,12 @@
+//! Worked examples of the definitions, which the proof computes.
+ghost use Rattle.rpcbind.specs.Worked.{StoredRunIsRead, StoredRunIsPrinted, BadEventLine, LinesAreCounted, NumbersOfLines, PeersOfLines};
+
+/// The definitions give what the worked examples say.
+pub fn worked_examples()
+    ensures stored_run_is_read { StoredRunIsRead }
+    ensures stored_run_is_printed { StoredRunIsPrinted }
+    ensures bad_event_line { BadEventLine }
+    ensures lines_are_counted { LinesAreCounted }
+    ensures numbers { NumbersOfLines }
+    ensures peers { PeersOfLines }
+{}
