@@ -3,7 +3,8 @@ use Rattle.std.proofs.Common.{◌≡◌, ◌<◌, ◌+◌, ℕ, List, [], ◌∷
 use Rattle.std.proofs.lemmas.List.{take-map, map_more}
 use Rattle.rb_core.specs.declared.run.Event as event
 use Rattle.rb_xdr.specs.Meter.{Meter}
-use Rattle.rb_core.specs.Costs.{PaysAtMost, event_cost}
+use Rattle.rb_registry.specs.Costs.{PaysAtMost}
+use Rattle.rb_core.specs.Costs.{event_cost, run_cost}
 use Rattle.rb_core.specs.State.{State}
 use Rattle.rb_core.specs.Step.{Event, Output, step}
 use Rattle.rb_core.specs.Run.{run, after}
@@ -17,11 +18,14 @@ pub after-append : (s : State) (xs ys : List Event) → after s (xs ++ ys) ≡ a
 after-append s [] ys = refl
 after-append s (x ∷ xs) ys = after-append (step s x).1 xs ys
 
+one_further : (events : List event.Event) (i : ℕ) (next : event.Event) → i < length events → next ≡ get_or events i next → take (i + 1) (events_of events) ≡ take i (events_of events) ++ event_of next ∷ []
+one_further events i next lt is =
+    take-map event_of (i + 1) events ∙ map_more event_of events i next lt ∙ rw (← is) (ap (λ (xs : List Event). xs ++ event_of next ∷ []) (sym (take-map event_of i events)))
+
 pub one_more : (s : State) (events : List event.Event) (i : ℕ) (next : event.Event) (before now : List Output) (old new : Held) (given : Output) → i < length events → next ≡ get_or events i next → Happened s (take i (events_of events)) before now old → ((t : State) → StandsFor old t → (given ≡ (step t (event_of next)).0) × StandsFor new (step t (event_of next)).1) → Happened s (take (i + 1) (events_of events)) before (now ++ given ∷ []) new
 one_more s events i next before now old new given lt is h goes =
     let done = take i (events_of events) in
-    let more : take (i + 1) (events_of events) ≡ done ++ event_of next ∷ [] =
-    take-map event_of (i + 1) events ∙ map_more event_of events i next lt ∙ rw (← is) (ap (λ (xs : List Event). xs ++ event_of next ∷ []) (sym (take-map event_of i events))) in
+    let more : take (i + 1) (events_of events) ≡ done ++ event_of next ∷ [] = one_further events i next lt is in
     let gave = goes (after s done) h.state in
     let longer : run s (take (i + 1) (events_of events)) ≡ run s done ++ given ∷ [] =
     ap (run s) more ∙ run-append s done (event_of next ∷ []) ∙ ap (λ (x : Output). run s done ++ x ∷ []) (sym gave.0) in
@@ -30,6 +34,16 @@ one_more s events i next before now old new given lt is h goes =
       state = rw (more, after-append s done (event_of next ∷ [])) gave.1;
     }
 
+run_cost-append : (s : State) (xs : List Event) (x : Event) → run_cost s (xs ++ x ∷ []) ≡ run_cost s xs + event_cost (after s xs) x
+run_cost-append s [] x = omega arith
+run_cost-append s (y ∷ ys) x = ap (λ n. event_cost s y + n) (run_cost-append (step s y).1 ys x) ∙ omega arith
+
 -- the cost of one event more
-pub pays_more : (a b c : Meter) (i : ℕ) → PaysAtMost a b (event_cost * i) → PaysAtMost b c event_cost → PaysAtMost a c (event_cost * (i + 1))
-pays_more a b c i h g = record { tie = g.tie ∙ h.tie; up = omega arith; bound = omega arith }
+pub pays_more : (s : State) (events : List event.Event) (i : ℕ) (next : event.Event) (a b c : Meter) → i < length events → next ≡ get_or events i next
+    → PaysAtMost a b (run_cost s (take i (events_of events))) → PaysAtMost b c (event_cost (after s (take i (events_of events))) (event_of next))
+    → PaysAtMost a c (run_cost s (take (i + 1) (events_of events)))
+pays_more s events i next a b c lt is h g =
+    let done = take i (events_of events) in
+    let more : take (i + 1) (events_of events) ≡ done ++ event_of next ∷ [] = one_further events i next lt is in
+    let cost : run_cost s (take (i + 1) (events_of events)) ≡ run_cost s done + event_cost (after s done) (event_of next) = ap (run_cost s) more ∙ run_cost-append s done (event_of next) in
+    record { steps = omega (arith, cost, h.steps, g.steps); tie = g.tie ∙ h.tie }

@@ -1,38 +1,44 @@
--- Calls (RFC 5531 section 9) of the portmapper's version 2 (RFC 1833 section 3).
-use Rattle.std.specs.Prelude.{ℕ, ◌==◌, nat_lt, not, ◌&&◌, if◌then◌else◌, List, ◌++◌, length, drop}
-use Rattle.rb_core.specs.declared.types.Mapping.{Mapping}
-use Rattle.rb_core.specs.declared.call.Request.TheVariants.{Null, Set, GetPort}
-use Rattle.rb_core.specs.declared.call.Verdict.{Verdict}
-use Rattle.rb_core.specs.declared.call.Verdict.TheVariants.{NoCall, Call}
-use Rattle.rb_xdr.specs.Xdr.{number, word}
+-- What the data of a record, or a datagram, says: the order of refusals (RFC 5531 sections 8 and 9).
+use Rattle.std.specs.Prelude.{ℕ, ◌==◌, not, ◌||◌, Bool, if◌then◌else◌, List, drop, Result, Ok, Err}
+use Rattle.rb_rpc.specs.declared.call.CallHead.{CallHead}
+use Rattle.rb_rpc.specs.declared.call.Verdict.{Verdict}
+use Rattle.rb_rpc.specs.declared.call.Verdict.TheVariants as verdicts
+use Rattle.rb_rpc.specs.Verdict.{verdict}
+use Rattle.rb_rpc.specs.declared.reply.ReplyStatus.{ReplyStatus}
+use Rattle.rb_rpc.specs.declared.reply.ReplyStatus.TheVariants as replies
+use Rattle.rb_proto.specs.declared.request.ArgumentFault.{ArgumentFault}
+use Rattle.rb_proto.specs.declared.request.ArgumentFault.TheVariants as faults
+use Rattle.rb_proto.specs.declared.request.Request.{Request}
+use Rattle.rb_proto.specs.Arguments.{read_request}
+use Rattle.rb_core.specs.declared.message.Message.{Message}
+use Rattle.rb_core.specs.declared.message.Message.TheVariants.{NoCall, Refused, Asked}
 
--- The head of a call with the null credential and the null verifier: xid, CALL, RPC version 2, the program,
--- its version, the procedure, and twice flavor AUTH_NONE and a body of no bytes.
-abbrev pub call_head : ℕ → ℕ → ℕ → List ℕ
-call_head xid vers proc =
-    number xid ++ number 0 ++ number 2 ++ number 100000 ++ number vers ++ number proc
-    ++ number 0 ++ number 0 ++ number 0 ++ number 0
+-- the versions of program 100000
+unfoldable pub is_served : ℕ → Bool
+is_served vers = vers == 2 || vers == 3 || vers == 4
 
-abbrev pub mapping_of : List ℕ → Mapping
-mapping_of bytes = record { prog = word 0 bytes; vers = word 1 bytes; prot = word 2 bytes; port = word 3 bytes }
+-- a reply without results
+abbrev pub refused : ℕ → ReplyStatus → Message
+refused xid status = Refused (record { xid = xid; status = status })
 
--- What the arguments of a procedure ask for, in front of any further bytes.
-unfoldable pub arguments : ℕ → ℕ → List ℕ → Verdict
-arguments xid proc bytes =
-    if proc == 0 then Call xid Null
-    else if not (proc == 1) && not (proc == 3) then NoCall
-    else if nat_lt (length bytes) 16 then NoCall
-    else if proc == 1 then Call xid (Set (mapping_of bytes))
-    else Call xid (GetPort (mapping_of bytes))
+-- a call of a version that is served: its procedure is unknown, or its arguments are unreadable, or it is asked
+unfoldable pub asked : CallHead → Result Request ArgumentFault → Message
+asked head (Err faults.ProcUnavail) = refused head.xid replies.ProcUnavail
+asked head (Err faults.GarbageArgs) = refused head.xid replies.GarbageArgs
+asked head (Ok request) = Asked head request
 
--- The first line that holds of a whole datagram decides.
-abbrev pub verdict : List ℕ → Verdict
-verdict bytes =
-    if nat_lt (length bytes) 40 then NoCall
-    else if not (word 1 bytes == 0) then NoCall
-    else if not (word 2 bytes == 2) then NoCall
-    else if not (word 3 bytes == 100000) then NoCall
-    else if not (word 4 bytes == 2) then NoCall
-    else if not (word 6 bytes == 0 && word 7 bytes == 0) then NoCall
-    else if not (word 8 bytes == 0 && word 9 bytes == 0) then NoCall
-    else arguments (word 0 bytes) (word 5 bytes) (drop 40 bytes)
+-- A call with a readable head, and the bytes behind its verifier: the first line that holds decides.
+unfoldable pub called : CallHead → List ℕ → Message
+called head arguments =
+    if not (head.prog == 100000) then refused head.xid replies.ProgUnavail
+    else if not (is_served head.vers) then refused head.xid (replies.ProgMismatch 2 4)
+    else asked head (read_request head.vers head.proc arguments)
+
+abbrev pub judged : List ℕ → Verdict → Message
+judged bytes verdicts.NoCall = NoCall
+judged bytes (verdicts.RpcMismatch xid) = refused xid (replies.RpcMismatch 2 2)
+judged bytes (verdicts.AuthError xid stat) = refused xid (replies.AuthError stat)
+judged bytes (verdicts.Call head place) = called head (drop place bytes)
+
+unfoldable pub message_of : List ℕ → Message
+message_of bytes = judged bytes (verdict bytes)

@@ -1,11 +1,8 @@
 pub mod Calls
-pub mod Rows
-pub mod Replies
 pub mod State
-pub mod Answers
+pub mod Serve
 pub mod Step
 pub mod Run
 pub mod StandsFor
 pub mod Costs
 pub mod Worked
-pub mod Grammar

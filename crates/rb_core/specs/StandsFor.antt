@@ -4,7 +4,8 @@ use Rattle.rb_core.specs.declared.run.Event as event
 use Rattle.rb_core.specs.declared.run.Event.TheVariants as events
 use Rattle.rb_core.specs.declared.run.Output as output
 use Rattle.rb_core.specs.declared.run.Output.TheVariants as outputs
-use Rattle.rb_core.specs.Rows.{Registered, StandsForChanges, own_rows}
+use Rattle.rb_registry.specs.Registry.{Registry, StandsForChanges}
+use Rattle.rb_proto.specs.Callers.{own_rows}
 use Rattle.rb_core.specs.State.{Setting, State}
 use Rattle.rb_core.specs.Step.{Event, Output}
 use Rattle.rb_core.specs.Step.Event.{Datagram}
@@ -15,7 +16,7 @@ use Rattle.rb_core.specs.Run.{run, after}
 pub record Held : Type 0 where
   pub setting : Setting
   pub clock : ℕ
-  pub registry : Registered
+  pub registry : Registry
   pub reply : List ℕ
   pub tie : ℕ
 

@@ -1,8 +1,8 @@
 -- What the daemon knows between two events, as plain data.
 use Rattle.std.specs.Prelude.{ℕ, nat_le, max, Bool, ◌&&◌, List, []}
 use Rattle.rb_core.specs.declared.types.Limits.{Limits}
-use Rattle.rb_core.specs.declared.types.Listener.{Listener}
-use Rattle.rb_core.specs.Rows.{Change}
+use Rattle.rb_registry.specs.Rows.{Change}
+use Rattle.rb_proto.specs.declared.listener.Listener.{Listener}
 
 -- what no event changes: the first call that is forwarded has the first xid
 pub record Setting : Type 0 where
@@ -33,7 +33,3 @@ opening limits listener first_xid now = record {
 -- a moment earlier than the last one counts as the last one
 abbrev pub at_moment : ℕ → State → State
 at_moment now s = record s { clock = max s.clock now }
-
--- the greatest length of a datagram's reply
-abbrev pub longest_udp_reply : ℕ
-longest_udp_reply = 9000

@@ -1,35 +1,23 @@
 -- The step of each event: what it gives, and the state after it.
-use Rattle.std.specs.Prelude.{ℕ, List, [], length}
-use Rattle.rb_core.specs.declared.types.Peer.{Peer}
+use Rattle.std.specs.Prelude.{ℕ, List, []}
+use Rattle.rb_rpc.specs.declared.peer.Peer.{Peer}
+use Rattle.rb_rpc.specs.declared.peer.Caller.TheVariants.{Udp}
 use Rattle.rb_core.specs.declared.types.Answer.{Answer}
 use Rattle.rb_core.specs.declared.types.Answer.TheVariants as answers
-use Rattle.rb_core.specs.declared.call.Verdict.{Verdict}
-use Rattle.rb_core.specs.declared.call.Verdict.TheVariants.{NoCall, Call}
-use Rattle.rb_core.specs.Calls.{verdict}
-use Rattle.rb_core.specs.Rows.{live}
-use Rattle.rb_core.specs.Replies.{success}
 use Rattle.rb_core.specs.State.{State, at_moment}
-use Rattle.rb_core.specs.Answers.{Seen, changes_after, results}
+use Rattle.rb_core.specs.Serve.{Served, serve}
+use Rattle.rb_core.specs.Serve.Served.{Closing, Replied as Served-Replied}
 
--- what a call from this peer sees
-abbrev pub seen_by : State → Peer → Seen
-seen_by s peer = record {
-  listener = s.setting.listener;
-  limit = s.setting.limits.rows;
-  rows = live s.setting.listener s.changes;
-  count = length s.changes;
-  caller = peer;
-}
+-- the last reply is taken back
+abbrev pub emptied : State → State
+emptied s = record s { reply = [] }
 
--- a datagram that says this: a call is served, and anything else is not answered
-unfoldable pub serve : State → Peer → Verdict → Answer × State
-serve s peer NoCall = (answers.Silent, record s { reply = [] })
-serve s peer (Call xid request) =
-    let seen : Seen = seen_by s peer in
-    (answers.Reply, record s { changes = changes_after seen request s.changes; reply = success xid (results seen request) })
+abbrev pub answered_with : Served × State → Answer × State
+answered_with (Closing, s) = (answers.Silent, s)
+answered_with (Served-Replied reply, s) = (answers.Reply, record s { reply = reply })
 
-abbrev pub datagram : State → ℕ → Peer → List ℕ → Answer × State
-datagram s now peer message = serve (at_moment now s) peer (verdict message)
+unfoldable pub datagram : State → ℕ → Peer → List ℕ → Answer × State
+datagram s now peer message = answered_with (serve (at_moment now (emptied s)) (Udp peer) message)
 
 -- ---- events, one for each line of a script
 

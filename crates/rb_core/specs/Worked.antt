@@ -1,7 +1,8 @@
 -- Worked examples: what runs give, word by word.
-use Rattle.std.specs.Prelude.{◌≡◌, ℕ, List, [], ◌∷◌, ◌++◌}
-use Rattle.rb_core.specs.declared.types.Peer.{Peer}
+use Rattle.std.specs.Prelude.{◌≡◌, ℕ, List, [], ◌∷◌, ◌++◌, take, replicate}
+use Rattle.rb_rpc.specs.declared.peer.Peer.{Peer}
 use Rattle.rb_core.specs.State.{State, opening}
+use Rattle.rb_core.specs.Step.{Output}
 use Rattle.rb_core.specs.Step.Event.{Datagram}
 use Rattle.rb_core.specs.Step.Output.{Replied, Silent}
 use Rattle.rb_core.specs.Run.{run}
@@ -87,3 +88,83 @@ LocalCallersSet =
 
 abbrev pub NothingIsSilent : Type 0
 NothingIsSilent = run fresh (Datagram 0 loopback [] ∷ []) ≡ Silent ∷ []
+
+-- ---- the order of refusals
+
+-- what a fresh core answers a datagram with
+abbrev pub answer_to : List ℕ → List Output
+answer_to message = run fresh (Datagram 0 loopback message ∷ [])
+
+-- AUTH_SYS with stamp 0, an empty machine name, this uid, gid 0 and no gids
+abbrev pub call_by_sys : ℕ → ℕ → ℕ → ℕ → List ℕ
+call_by_sys xid vers proc uid = words (xid ∷ 0 ∷ 2 ∷ 100000 ∷ vers ∷ proc ∷ 1 ∷ 20 ∷ 0 ∷ 0 ∷ uid ∷ 0 ∷ 0 ∷ 0 ∷ 0 ∷ [])
+
+abbrev pub call_by_none : ℕ → ℕ → ℕ → ℕ → List ℕ
+call_by_none xid prog vers proc = words (xid ∷ 0 ∷ 2 ∷ prog ∷ vers ∷ proc ∷ 0 ∷ 0 ∷ 0 ∷ 0 ∷ [])
+
+-- an accepted reply with an accept_stat other than SUCCESS and what belongs to it, and a denied one
+abbrev pub refused_by : ℕ → ℕ → List ℕ → List Output
+refused_by xid stat more = Replied (words (xid ∷ 1 ∷ 0 ∷ 0 ∷ 0 ∷ stat ∷ []) ++ words more) ∷ []
+
+abbrev pub denied : List ℕ → List Output
+denied reply = Replied (words reply) ∷ []
+
+abbrev pub NullBySys : Type 0
+NullBySys = answer_to (call_by_sys 1 2 0 500) ≡ Replied (accepted 1 []) ∷ []
+
+abbrev pub NullOfThree : Type 0
+NullOfThree = answer_to (call_by_none 1 100000 3 0) ≡ Replied (accepted 1 []) ∷ []
+
+abbrev pub NullOfFour : Type 0
+NullOfFour = answer_to (call_by_none 1 100000 4 0) ≡ Replied (accepted 1 []) ∷ []
+
+abbrev pub OtherRpcVersion : Type 0
+OtherRpcVersion = answer_to (words (5 ∷ 0 ∷ 3 ∷ [])) ≡ denied (5 ∷ 1 ∷ 1 ∷ 0 ∷ 2 ∷ 2 ∷ [])
+
+abbrev pub TooShort : Type 0
+TooShort = answer_to (words (5 ∷ 0 ∷ [])) ≡ Silent ∷ []
+
+-- a NULL call whose credential has so many bytes, as it says
+abbrev pub with_credential : ℕ → ℕ → List ℕ
+with_credential says count = words (9 ∷ 0 ∷ 2 ∷ 100000 ∷ 2 ∷ 0 ∷ 0 ∷ says ∷ []) ++ replicate count 0 ++ words (0 ∷ 0 ∷ [])
+
+abbrev pub GreatestCredential : Type 0
+GreatestCredential = answer_to (with_credential 400 400) ≡ Replied (accepted 9 []) ∷ []
+
+abbrev pub OverlongCredential : Type 0
+OverlongCredential = answer_to (with_credential 401 400) ≡ denied (9 ∷ 1 ∷ 1 ∷ 1 ∷ 1 ∷ [])
+
+-- the body ends before its gids
+abbrev pub SysBodyCutShort : Type 0
+SysBodyCutShort =
+    answer_to (words (11 ∷ 0 ∷ 2 ∷ 100000 ∷ 2 ∷ 0 ∷ 1 ∷ 16 ∷ 0 ∷ 0 ∷ 500 ∷ 0 ∷ 0 ∷ 0 ∷ [])) ≡ denied (11 ∷ 1 ∷ 1 ∷ 1 ∷ 1 ∷ [])
+
+abbrev pub OverlongVerifier : Type 0
+OverlongVerifier = answer_to (words (12 ∷ 0 ∷ 2 ∷ 100000 ∷ 2 ∷ 0 ∷ 0 ∷ 0 ∷ 0 ∷ 401 ∷ [])) ≡ denied (12 ∷ 1 ∷ 1 ∷ 1 ∷ 3 ∷ [])
+
+-- a credential of one byte, behind which stand three residual ones
+abbrev pub with_residue : ℕ → List ℕ
+with_residue byte_and_residue = words (13 ∷ 0 ∷ 2 ∷ 100000 ∷ 2 ∷ 0 ∷ 0 ∷ 1 ∷ byte_and_residue ∷ 0 ∷ 0 ∷ [])
+
+abbrev pub BadResidue : Type 0
+BadResidue = answer_to (with_residue 0xff000001) ≡ Silent ∷ []
+
+abbrev pub GoodResidue : Type 0
+GoodResidue = answer_to (with_residue 0xff000000) ≡ Replied (accepted 13 []) ∷ []
+
+-- RPCSEC_GSS is refused whatever the program
+abbrev pub GssBeforeProgram : Type 0
+GssBeforeProgram = answer_to (words (10 ∷ 0 ∷ 2 ∷ 200009 ∷ 2 ∷ 0 ∷ 6 ∷ 0 ∷ 0 ∷ 0 ∷ [])) ≡ denied (10 ∷ 1 ∷ 1 ∷ 1 ∷ 2 ∷ [])
+
+abbrev pub OtherVersion : Type 0
+OtherVersion = answer_to (call_by_none 25 100000 5 0) ≡ refused_by 25 2 (2 ∷ 4 ∷ [])
+
+abbrev pub UnknownProcedure : Type 0
+UnknownProcedure = answer_to (call_by_none 25 100000 2 6) ≡ refused_by 25 3 []
+
+-- a SET with three words in place of four
+abbrev pub GarbageArguments : Type 0
+GarbageArguments = answer_to (call_by_none 25 100000 2 1 ++ words (0 ∷ 0 ∷ 0 ∷ [])) ≡ refused_by 25 4 []
+
+abbrev pub OtherProgram : Type 0
+OtherProgram = answer_to (call_by_none 25 200001 2 0) ≡ refused_by 25 1 []

@@ -1,12 +1,15 @@
 //! Runs: lists of events.
-ghost use Rattle.std.specs.Prelude.{◌≡◌, ◌<◌, ◌*◌, ℕ, length, take, IfOk, OnOk, OnErr};
+ghost use Rattle.std.specs.Prelude.{◌≡◌, ◌<◌, ℕ, length, take, IfOk, OnOk, OnErr};
 ghost use Rattle.rb_core.specs.State.{State};
 ghost use Rattle.rb_core.specs.Step.{step};
 ghost use Rattle.rb_core.specs.StandsFor.{StandsFor, event_of, output_of, events_of, outputs_of, Happened};
-ghost use Rattle.rb_core.specs.Costs.{PaysAtMost, event_cost};
+ghost use Rattle.rb_registry.specs.Costs.{PaysAtMost};
+ghost use Rattle.rb_core.specs.Costs.{event_cost, run_cost};
 
-use crate::engine::{Core, LONGEST_UDP_REPLY};
-use crate::types::{Answer, NoMemory, Peer};
+use crate::engine::Core;
+use crate::serve::LONGEST_REPLY;
+use crate::types::{Answer, NoMemory};
+use rb_rpc::Peer;
 use rb_xdr::Meter;
 use std::alloc::Global;
 
@@ -40,9 +43,11 @@ fn happen(
         (output_of output ≡ (step s (event_of event.now)).0) × StandsFor core.new (step s (event_of event.now)).1) }
     ensures err { OnErr result (core.new ≡ core.old) }
     ensures tie { core.new.tie ≡ core.old.tie }
-    ensures cost { PaysAtMost meter.old meter.new event_cost }
+    ensures meter { meter.new.tie ≡ meter.old.tie }
+    ensures cost { (s : State) → StandsFor core.old s → OnOk result (PaysAtMost meter.old meter.new (event_cost s (event_of event.now))) }
+    ensures free { OnErr result (meter.new ≡ meter.old) }
 {
-    let Ok(mut reply) = Vec::with_capacity(alloc, LONGEST_UDP_REPLY) else {
+    let Ok(mut reply) = Vec::with_capacity(alloc, LONGEST_REPLY) else {
         return Err(NoMemory);
     };
     let Event::Datagram(now, peer, message) = event;
@@ -71,7 +76,8 @@ pub fn replay(
     ensures some { (s : State) → StandsFor core.old s → OnErr result ((n : ℕ) × (n < length events.now)
         × Happened s (take n (events_of events.now)) (outputs_of out.old.items) (outputs_of out.new.items) core.new) }
     ensures tie { core.new.tie ≡ core.old.tie }
-    ensures cost { PaysAtMost meter.old meter.new (event_cost * length events.now) }
+    ensures cost { (s : State) → StandsFor core.old s → OnOk result (PaysAtMost meter.old meter.new (run_cost s (events_of events.now))) }
+    ensures same_meter { meter.new.tie ≡ meter.old.tie }
 {
     for event in events {
         let Ok(()) = out.reserve(1) else {

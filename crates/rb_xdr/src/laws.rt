@@ -5,15 +5,21 @@ ghost use Rattle.rb_xdr.specs.XdrLaws.{NumberIsType, SignedIsType, BooleanIsType
 
 use crate::xdr::Xdr;
 
-/// A value has one spelling, no spelling is a proper prefix of another, each spells one value, and none is longer than the greatest.
+/// A value has one spelling, no spelling is a proper prefix of another, each spells one value, and
+/// none is longer than the greatest.
 pub fn spelling_laws<T: Xdr>()
-    ensures one_spelling { (v : T) (a b : List ℕ) → Spells T.is_value T.spelling v a → Spells T.is_value T.spelling v b → a ≡ b }
-    ensures no_proper_prefix { (v w : T) (a more : List ℕ) → Spells T.is_value T.spelling v a → Spells T.is_value T.spelling w (a ++ more) → more ≡ [] }
-    ensures one_value { (v w : T) (a : List ℕ) → Spells T.is_value T.spelling v a → Spells T.is_value T.spelling w a → v ≡ w }
-    ensures bounded { (v : T) (a : List ℕ) → Spells T.is_value T.spelling v a → length a ≤ T.max_spelling }
+    ensures one_spelling { (v : T) (a b : List ℕ)
+        → Spells T.is_value T.spelling v a → Spells T.is_value T.spelling v b → a ≡ b }
+    ensures no_proper_prefix { (v w : T) (a more : List ℕ)
+        → Spells T.is_value T.spelling v a → Spells T.is_value T.spelling w (a ++ more) → more ≡ [] }
+    ensures one_value { (v w : T) (a : List ℕ)
+        → Spells T.is_value T.spelling v a → Spells T.is_value T.spelling w a → v ≡ w }
+    ensures bounded { (v : T) (a : List ℕ)
+        → Spells T.is_value T.spelling v a → length a ≤ T.max_spelling }
 {}
 
-/// Numbers, ints, bools and opaque data are read exactly where they are spelled; no spelling begins another; each has its greatest length.
+/// Numbers, ints, bools and opaque data are read exactly where they are spelled; no spelling begins
+/// another; each has its greatest length.
 pub fn types_are_read_exactly()
     ensures number { NumberIsType }
     ensures int { SignedIsType }

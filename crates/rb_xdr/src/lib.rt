@@ -1,4 +1,4 @@
-//! Counted storage.
+//! Storage whose calls are counted, and external data representation (RFC 4506) on it.
 #![tactic(auto)]
 
 mod chain;
@@ -14,6 +14,8 @@ pub mod opaque;
 mod pairs;
 pub mod pool;
 mod tally;
+#[cfg(test)]
+mod tests;
 pub mod text;
 mod worked;
 pub mod xdr;

@@ -1,4 +1,4 @@
-//! Numbers and bools (RFC 4506, sections 4.1 to 4.4).
+//! Numbers and bools (RFC 4506, sections 4.1, 4.2 and 4.4).
 ghost use Rattle.rb_xdr.specs.Xdr.{IsNumber, number, signed, boolean, read_number, read_signed, read_bool, max_number};
 ghost use Rattle.rb_xdr.specs.XdrLaws.{anything};
 ghost use Rattle.rb_xdr.specs.Readers.{number_sound, number_complete};
@@ -61,7 +61,7 @@ impl Xdr for i32 {
         room.checked_sub(4)
     }
 
-    #[tactic(auto, unfolding(crate::specs::Xdr::signed))]
+    #[tactic(auto, using(crate::proofs::XdrSets::lengths), unfolding(crate::specs::Xdr::signed))]
     fn write(&self, out: &mut Kept, meter: &mut Meter) {
         let value = *self;
         value.cast_unsigned().write(out, meter);
@@ -94,7 +94,7 @@ impl Xdr for bool {
         room.checked_sub(4)
     }
 
-    #[tactic(auto, unfolding(crate::specs::Xdr::boolean))]
+    #[tactic(auto, using(crate::proofs::XdrSets::lengths), unfolding(crate::specs::Xdr::boolean))]
     fn write(&self, out: &mut Kept, meter: &mut Meter) {
         (*self as u32).write(out, meter);
     }

@@ -1,4 +1,4 @@
-//! Opaque data (RFC 4506, sections 4.9 and 4.10).
+//! Opaque data (RFC 4506, section 4.10).
 ghost use Rattle.std.specs.Prelude.{◌≡◌, ℕ, ◌+◌, ◌-◌, ◌^◌, ◌<◌, ◌≤◌, List, length, take, replicate, IfOk, OnErr, Result, Ok};
 ghost use Rattle.rb_xdr.specs.Xdr.{Spells, IsContent, opaque, residue, are_zero, read_content, read_opaque, max_opaque};
 ghost use Rattle.rb_xdr.specs.XdrLends.{lent};
@@ -69,13 +69,18 @@ fn lend_opaque(bytes: &[u8], limit: usize) -> Result<(&[u8], usize), XdrFault>
     Ok((content, used + more))
 }
 
-/// Lends the content of opaque data or of a string of at most `limit` bytes, from the front of the bytes, and says how many of them spell it.
+/// Lends the content of opaque data or of a string of at most `limit` bytes, from the front of the
+/// bytes, and says how many of them spell it.
 ///
-/// A count that is cut short is Short, one over the limit TooLong; then content or residual bytes that are missing are Short, and a residual byte that is not zero is BadPadding.
+/// A count that is cut short is Short, one over the limit TooLong; then content or residual bytes
+/// that are missing are Short, and a residual byte that is not zero is BadPadding.
 pub fn take_opaque(bytes: &[u8], limit: usize) -> Result<(&[u8], usize), XdrFault>
-    ensures found { IfOk result (λ read. (read.1 ≤ length bytes.now) × Spells (IsContent limit) opaque read.0.now (take read.1 bytes.now)) }
-    ensures only { (content : List ℕ) (n : ℕ) → n ≤ length bytes.now → Spells (IsContent limit) opaque content (take n bytes.now) → lent result ≡ Ok (content, n) }
-    ensures none { OnErr result ((content : List ℕ) (n : ℕ) → n ≤ length bytes.now → ¬ Spells (IsContent limit) opaque content (take n bytes.now)) }
+    ensures found { IfOk result (λ read. (read.1 ≤ length bytes.now)
+        × Spells (IsContent limit) opaque read.0.now (take read.1 bytes.now)) }
+    ensures only { (content : List ℕ) (n : ℕ) → n ≤ length bytes.now
+        → Spells (IsContent limit) opaque content (take n bytes.now) → lent result ≡ Ok (content, n) }
+    ensures none { OnErr result ((content : List ℕ) (n : ℕ) → n ≤ length bytes.now
+        → ¬ Spells (IsContent limit) opaque content (take n bytes.now)) }
     ensures exact { lent result ≡ read_opaque limit bytes.now }
 {
     lend_opaque(bytes, limit)

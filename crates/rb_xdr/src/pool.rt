@@ -14,7 +14,9 @@ use std::alloc::Global;
 use std::marker::Model;
 use std::snapshot::Snapshot;
 
-/// At most so many values, each under a key, all in memory that `new` took.
+/// At most `cap` values, each under a key, all in memory that `new` took: no later call takes any.
+///
+/// Each call costs 1 step, and wants the meter that the table was made with.
 #[derive(Drop)]
 pub struct Pool<T> {
     values: Slab<T>,
@@ -44,7 +46,7 @@ impl<T> Model for Pool<T> {
 impl<T> Pool<T> {
     ghost use Rattle.rb_xdr.specs.PoolLends.{lends_entry, lends_value};
 
-    /// An empty table, for calls that this meter counts.
+    /// An empty table for at most `cap` values, whose calls this meter counts. It costs nothing.
     pub fn new(alloc: Global, cap: usize, meter: &mut Meter) -> Result<Pool<T>, NoMemory>
     where
         T: Drop,
@@ -63,11 +65,13 @@ impl<T> Pool<T> {
         })
     }
 
-    /// Adds a value at the end of the order, under a key that was free.
+    /// Adds a value at the end of the order, under a key that was free. Where the table is full, the
+    /// value comes back.
     pub fn insert(&mut self, value: T, meter: &mut Meter) -> Result<usize, Full<T>>
         requires { meter.old.tie ≡ self.old.tie }
         ensures room { IsOk result ↔ (length self.old.entries < self.old.cap) }
-        ensures ok { IfOk result (λ key. self.new ≡ record self.old { entries = self.old.entries ++ (key, value) ∷ [] }) }
+        ensures ok { IfOk result (λ key.
+            self.new ≡ record self.old { entries = self.old.entries ++ (key, value) ∷ [] }) }
         ensures fresh { IfOk result (λ key. value_at self.old.entries key ≡ None) }
         ensures err { OnErr result (self.new ≡ self.old) }
         ensures cap { self.new.cap ≡ self.old.cap }

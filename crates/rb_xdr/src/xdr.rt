@@ -1,4 +1,4 @@
-//! Values that are spelled in bytes.
+//! Values that are spelled in bytes (RFC 4506).
 ghost use Rattle.std.specs.Prelude.{◌≡◌, ℕ, ◌+◌, ◌≤◌, ◌<◌, ◌↔◌, List, ◌++◌, length, take, Result, Ok, IsOk, OnOk, OnErr, IfOk, MatchOption};
 ghost use Rattle.rb_xdr.specs.Meter.{Pays};
 ghost use Rattle.rb_xdr.specs.Xdr.{Reader, Spells};
@@ -10,6 +10,8 @@ use crate::kept::Kept;
 use crate::meter::Meter;
 
 /// A type whose values each have one spelling in bytes, none a proper prefix of another.
+///
+/// An impl gives `room_after`, `write` and `read`; callers use `take` and `put`.
 pub trait Xdr: Drop {
     /// Holds of the values of the type: a number is in range, a text within its limit.
     ghost is_value: { Self → Type 0 };
@@ -20,12 +22,14 @@ pub trait Xdr: Drop {
     /// No spelling is longer.
     ghost max_spelling: { ℕ };
 
-    /// What the front of the bytes is read as: a value and the length of its spelling, or the first fault.
+    /// What the front of the bytes is read as: a value and the length of its spelling, or the first
+    /// fault.
     ghost reads: { Reader Self };
 
     /// The room that is left of so much once the value is spelled, if its spelling fits.
     fn room_after(&self, room: usize) -> Option<usize>
-        ensures { MatchOption result (room < length (spelling self.now)) (λ left. left + length (spelling self.now) ≡ room) };
+        ensures { MatchOption result (room < length (spelling self.now))
+            (λ left. left + length (spelling self.now) ≡ room) };
 
     /// Adds the spelling at the end of a buffer that has room for it.
     fn write(&self, out: &mut Kept, meter: &mut Meter)
@@ -40,17 +44,23 @@ pub trait Xdr: Drop {
         ensures exact { result ≡ reads bytes.now }
         ensures within { IfOk result (λ read. read.1 ≤ length bytes.now) };
 
-    /// Reads a value from the front of the bytes, and says how many of them spell it.
+    /// Reads a value from the front of the bytes, and says how many of them spell it. Bytes behind
+    /// them count for nothing.
+    ///
+    /// It fails exactly where no front of the bytes is a spelling, with the first fault from the left.
     final fn take(bytes: &[u8]) -> Result<(Self, usize), XdrFault>
-        ensures found { IfOk result (λ read. (read.1 ≤ length bytes.now) × Spells is_value spelling read.0 (take read.1 bytes.now)) }
-        ensures only { (v : Self) (n : ℕ) → n ≤ length bytes.now → Spells is_value spelling v (take n bytes.now) → result ≡ Ok (v, n) }
-        ensures none { OnErr result ((v : Self) (n : ℕ) → n ≤ length bytes.now → ¬ Spells is_value spelling v (take n bytes.now)) }
+        ensures found { IfOk result (λ read. (read.1 ≤ length bytes.now)
+            × Spells is_value spelling read.0 (take read.1 bytes.now)) }
+        ensures only { (v : Self) (n : ℕ) → n ≤ length bytes.now
+            → Spells is_value spelling v (take n bytes.now) → result ≡ Ok (v, n) }
+        ensures none { OnErr result ((v : Self) (n : ℕ) → n ≤ length bytes.now
+            → ¬ Spells is_value spelling v (take n bytes.now)) }
         ensures exact { result ≡ reads bytes.now }
     {
         Self::read(bytes)
     }
 
-    /// Adds the spelling at the end of a buffer, or nothing.
+    /// Adds the spelling at the end of a buffer, or nothing where it does not fit.
     final fn put(&self, out: &mut Kept, meter: &mut Meter) -> Result<(), Full>
         requires { meter.old.tie ≡ out.old.tie }
         ensures room { IsOk result ↔ (length out.old.bytes + length (spelling self.now) ≤ out.old.cap) }

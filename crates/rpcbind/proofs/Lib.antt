@@ -2,3 +2,4 @@ pub mod Decimal
 pub mod Reading
 pub mod Prints
 pub mod Inputs
+pub mod LineLaws

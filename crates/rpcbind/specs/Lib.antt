@@ -3,3 +3,4 @@ pub mod Lines
 pub mod Printing
 pub mod Running
 pub mod Worked
+pub mod LineLaws

@@ -2,7 +2,7 @@
 use Rattle.std.specs.Prelude.{◌≡◌, ◌^◌, ◌-◌, List, ℕ, [], ◌∷◌, ◌++◌, codes, Some, None, Ok, Err}
 use Rattle.std.specs.List.{flat_map}
 use Rattle.std.specs.Int.{w32, to_be_bytes}
-use Rattle.rb_core.specs.declared.types.Peer.{Peer}
+use Rattle.rb_rpc.specs.declared.peer.Peer.{Peer}
 use Rattle.rb_core.specs.Step.Event.{Datagram}
 use Rattle.rb_core.specs.Step.Output.{Replied, Silent}
 use Rattle.rpcbind.specs.declared.lines.ReadFault.TheVariants.{BadLine}

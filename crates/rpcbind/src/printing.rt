@@ -3,7 +3,7 @@ ghost use Rattle.std.specs.Prelude.{◌≡◌, OnOk};
 ghost use Rattle.std.specs.Io.KnownBytes.{Appends};
 ghost use Rattle.hex.specs.Hex.{encode_lower};
 ghost use Rattle.rb_core.specs.StandsFor.{output_of, outputs_of};
-ghost use Rattle.rpcbind.specs.Printing.{text_of, report_of};
+ghost use Rattle.rpcbind.specs.Printing.{hex_text, text_of, report_of};
 
 use rb_core::Output;
 use std::io;
@@ -13,7 +13,7 @@ use std::io::Write;
 const PIECE: usize = 512;
 
 /// Writes bytes as two hexadecimal digits each, in lower case.
-fn print_hex<W: Write>(bytes: &[u8], writer: &mut W) -> io::Result<()>
+fn print_digits<W: Write>(bytes: &[u8], writer: &mut W) -> io::Result<()>
     ensures { OnOk result (Appends (W.contents writer.old) (W.contents writer.new) (encode_lower bytes.now)) }
 {
     let mut digits = [0; 2 * PIECE];
@@ -26,6 +26,16 @@ fn print_hex<W: Write>(bytes: &[u8], writer: &mut W) -> io::Result<()>
         rest = more;
     }
     Ok(())
+}
+
+/// Writes bytes in hexadecimal digits, or `-` for none.
+fn print_hex<W: Write>(bytes: &[u8], writer: &mut W) -> io::Result<()>
+    ensures { OnOk result (Appends (W.contents writer.old) (W.contents writer.new) (hex_text bytes.now)) }
+{
+    if bytes.is_empty() {
+        return writer.write_all(b"-");
+    }
+    print_digits(bytes, writer)
 }
 
 /// Writes the line of an output. An `Err` does not tell how much of it went out.

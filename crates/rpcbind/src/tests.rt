@@ -69,7 +69,7 @@ fn says_which_input_is_refused(rt: HostRuntime) -> Result<(), Fail> {
     let (status, printed, faults) = ran(alloc, &["replay"], &mut longest.as_slice())?;
     assert_eq!(rt; (status, printed.len()), (2, 0));
     assert_eq!(rt; faults.as_slice(), b"rpcbind: input too long\n".as_slice());
-    let mut bad = b"datagram 0 127.0.0.1:900 -\n\nlost".as_slice();
+    let mut bad = b"datagram 0 127.0.0.1:900 -\n\nnothing 1".as_slice();
     let (status, printed, faults) = ran(alloc, &["replay"], &mut bad)?;
     assert_eq!(rt; (status, printed.len()), (2, 0));
     assert_eq!(rt;

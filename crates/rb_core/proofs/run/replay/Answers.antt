@@ -12,5 +12,6 @@ loop-event-preserved c =
     record {
       happened = λ s h. rw given (one_more s c.args.events.now c.loop-event.event-index c.event-item.result _ _ _ _ _ c.loop-event-test.true c.event-item.is (c.loop-event.invariant.happened s h) c.in_ok-output.ensures.step);
       tie = c.in_ok-output.ensures.tie ∙ c.loop-event.invariant.tie;
-      cost = pays_more _ _ _ c.loop-event.event-index c.loop-event.invariant.cost c.in_ok-output.ensures.cost;
+      meter = c.in_ok-output.ensures.meter ∙ c.loop-event.invariant.meter;
+      cost = λ s h. pays_more s c.args.events.now c.loop-event.event-index c.event-item.result _ _ _ c.loop-event-test.true c.event-item.is (c.loop-event.invariant.cost s h) (c.in_ok-output.ensures.cost _ (c.loop-event.invariant.happened s h).state);
     }

@@ -1,6 +1,7 @@
-use Rattle.std.proofs.Common.{◌≡◌, ◌*◌, take}
+use Rattle.std.proofs.Common.{◌≡◌, take}
+use Rattle.rb_registry.specs.Costs.{PaysAtMost}
 use Rattle.rb_core.specs.State.{State}
-use Rattle.rb_core.specs.Costs.{PaysAtMost, event_cost}
+use Rattle.rb_core.specs.Costs.{run_cost}
 use Rattle.rb_core.specs.StandsFor.{StandsFor, events_of, outputs_of, Happened}
 use Rattle.rb_core.proofs.run.replay.Given as goal
 
@@ -8,5 +9,6 @@ abbrev pub invariant-loop-event : goal.invariant-loop-event
 invariant-loop-event l = record {
   happened : (s : State) → StandsFor l.fn.core s → Happened s (take l.event-index (events_of l.events)) (outputs_of l.fn.out.items) (outputs_of l.out.items) l.core;
   tie : l.core.tie ≡ l.fn.core.tie;
-  cost : PaysAtMost l.fn.meter l.meter (event_cost * l.event-index);
+  meter : l.meter.tie ≡ l.fn.meter.tie;
+  cost : (s : State) → StandsFor l.fn.core s → PaysAtMost l.fn.meter l.meter (run_cost s (take l.event-index (events_of l.events)));
 }

@@ -1,0 +1,82 @@
+-- The bytes of an answer's results (RFC 1833 sections 2.2 and 3.2).
+use Rattle.std.specs.Prelude.{ℕ, ◌==◌, Bool, true, false, ◌&&◌, if◌then◌else◌, List, [], ◌++◌, map, filter}
+use Rattle.std.specs.List.{flat_map}
+use Rattle.rb_xdr.specs.Xdr.{number, boolean, opaque, listed}
+use Rattle.rb_registry.specs.declared.row.Row.{Row}
+use Rattle.rb_registry.specs.declared.row.Which.TheVariants.{Inet}
+use Rattle.rb_registry.specs.Rows.{netid_text, is_among}
+use Rattle.rb_proto.specs.declared.mapping.Mapping.{Mapping}
+use Rattle.rb_proto.specs.declared.rpcb.Rpcb.{Rpcb}
+use Rattle.rb_proto.specs.declared.entry.Entry.{Entry}
+use Rattle.rb_proto.specs.declared.answers.Answer.TheVariants.{Results, Rows}
+use Rattle.rb_proto.specs.declared.answers.Listing.{Listing}
+use Rattle.rb_proto.specs.declared.answers.Listing.TheVariants.{Mappings, Rpcbs, Entries}
+use Rattle.rb_proto.specs.declared.answers.Value.{Value}
+use Rattle.rb_proto.specs.declared.answers.Value.TheVariants as values
+use Rattle.rb_proto.specs.Types.{mapping_spelling, rpcb_spelling, netbuf_spelling, entry_spelling}
+use Rattle.rb_proto.specs.Arguments.{Request}
+use Rattle.rb_proto.specs.Callers.{owner_text}
+use Rattle.rb_proto.specs.Netids.{prot_of, semantics_of, family_text, proto_text}
+use Rattle.rb_proto.specs.Answers.{Seen, Answer, answer, shown_text, shown_port}
+
+-- ---- one result
+
+abbrev pub value_bytes : Value → List ℕ
+value_bytes values.Void = []
+value_bytes (values.Bool b) = boolean b
+value_bytes (values.Number n) = number n
+value_bytes (values.Text text) = opaque text
+value_bytes (values.Netbuf netbuf) = netbuf_spelling netbuf
+
+-- ---- lists of rows
+
+-- version 2 shows tcp and udp alone
+abbrev pub is_inet : Row → Bool
+is_inet row = is_among row.netid Inet
+
+abbrev pub is_version : ℕ → ℕ → Row → Bool
+is_version prog vers row = row.prog == prog && row.vers == vers
+
+abbrev pub mapping_of : Row → Mapping
+mapping_of row = record { prog = row.prog; vers = row.vers; prot = prot_of row.netid; port = shown_port row.addr }
+
+-- DUMP shows addresses as they were set
+abbrev pub rpcb_of : Row → Rpcb
+rpcb_of row = record { prog = row.prog; vers = row.vers; netid = netid_text row.netid; addr = row.addr; owner = owner_text row.owner }
+
+abbrev pub entry_of : List ℕ → Row → Entry
+entry_of host row = record {
+  maddr = shown_text host row.addr;
+  netid = netid_text row.netid;
+  semantics = semantics_of row.netid;
+  protofmly = family_text row.netid;
+  proto = proto_text row.netid;
+}
+
+-- the rows that a list shows, in their order
+abbrev pub list_bytes : List ℕ → List Row → Listing → List ℕ
+list_bytes host rows Mappings = listed mapping_spelling (map mapping_of (filter is_inet rows))
+list_bytes host rows Rpcbs = listed rpcb_spelling (map rpcb_of rows)
+list_bytes host rows (Entries prog vers) = listed entry_spelling (map (entry_of host) (filter (is_version prog vers) rows))
+
+-- ---- all results
+
+-- where the listener has this host and these rows are live
+unfoldable pub result_bytes : List ℕ → List Row → Answer → List ℕ
+result_bytes host rows (Results value) = value_bytes value
+result_bytes host rows (Rows list) = list_bytes host rows list
+
+unfoldable pub results : Seen → Request → List ℕ
+results seen request = result_bytes seen.host seen.rows (answer seen request)
+
+-- ---- one row
+
+-- what a row adds to a list
+unfoldable pub row_bytes : List ℕ → Listing → Row → List ℕ
+row_bytes host Mappings row = if is_inet row then boolean true ++ mapping_spelling (mapping_of row) else []
+row_bytes host Rpcbs row = boolean true ++ rpcb_spelling (rpcb_of row)
+row_bytes host (Entries prog vers) row = if is_version prog vers row then boolean true ++ entry_spelling (entry_of host row) else []
+
+-- what the rows add to a list one after another, and its end
+abbrev pub rows_bytes : List ℕ → List Row → Listing → List ℕ
+rows_bytes host rows list = flat_map (row_bytes host list) rows ++ boolean false

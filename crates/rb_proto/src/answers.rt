@@ -1,0 +1,32 @@
+//! What is answered.
+use crate::netbuf::Netbuf;
+use rb_xdr::Text;
+
+/// The results of a procedure.
+#[derive(PartialEq, Eq, Debug, Drop)]
+pub enum Answer {
+    Results(Value),
+    /// Rows of the registry, which are yet to be shown.
+    Rows(Listing),
+}
+
+/// Results that are no list.
+#[derive(PartialEq, Eq, Debug, Drop)]
+pub enum Value {
+    Void,
+    Bool(bool),
+    Number(u32),
+    Text(Text<128>),
+    Netbuf(Netbuf),
+}
+
+/// A list of rows, each as an item of one kind.
+#[derive(Clone, Copy, PartialEq, Eq, Debug)]
+pub enum Listing {
+    /// Each row of tcp and udp as a mapping.
+    Mappings,
+    /// Each row as an rpcb.
+    Rpcbs,
+    /// Each row of this program and version as an rpcb_entry.
+    Entries(u32, u32),
+}

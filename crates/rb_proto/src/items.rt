@@ -1,0 +1,63 @@
+//! Rows as items of lists.
+ghost use Rattle.std.specs.Prelude.{◌≡◌};
+ghost use Rattle.rb_proto.specs.Callers.{owner_text};
+ghost use Rattle.rb_proto.specs.Results.{mapping_of, rpcb_of, entry_of};
+
+use crate::entry::Entry;
+use crate::lookups::{shown_port, shown_text};
+use crate::mapping::Mapping;
+use crate::netids::{family_text, prot_of, proto_text, semantics_of};
+use crate::rpcb::Rpcb;
+use itoa::Buffer;
+use rb_registry::{Owner, Row};
+use rb_xdr::Text;
+
+/// The owner as DUMP shows it: `unknown`, `superuser` for uid 0, or the uid in decimal.
+#[tactic(auto, unfolding(crate::specs::Callers::owner_text))]
+fn owner_text(owner: Owner) -> Text<128>
+    ensures { result ≡ owner_text owner }
+{
+    match owner {
+        Owner::Unknown => Text::new(b"unknown"),
+        Owner::SUPERUSER => Text::new(b"superuser"),
+        Owner::Uid(uid) => Text::new(Buffer::new().format(uid).as_bytes()),
+    }
+}
+
+/// An item of version 2's DUMP.
+pub(crate) fn mapping_of(row: &Row) -> Mapping
+    ensures { result ≡ mapping_of row.now }
+{
+    Mapping {
+        prog: row.prog,
+        vers: row.vers,
+        prot: prot_of(row.netid),
+        port: shown_port(&row.addr),
+    }
+}
+
+/// An item of DUMP, with the address as it was set.
+pub(crate) fn rpcb_of(row: &Row) -> Rpcb
+    ensures { result ≡ rpcb_of row.now }
+{
+    Rpcb {
+        prog: row.prog,
+        vers: row.vers,
+        netid: Text::new(row.netid.text()),
+        addr: Text::new(row.addr.as_slice()),
+        owner: owner_text(row.owner),
+    }
+}
+
+/// An item of GETADDRLIST, with this host in place of 0.0.0.0.
+pub(crate) fn entry_of(host: [u8; 4], row: &Row) -> Entry
+    ensures { result ≡ entry_of host row.now }
+{
+    Entry {
+        maddr: shown_text(host, &row.addr),
+        netid: Text::new(row.netid.text()),
+        semantics: semantics_of(row.netid),
+        protofmly: Text::new(family_text(row.netid)),
+        proto: Text::new(proto_text(row.netid)),
+    }
+}

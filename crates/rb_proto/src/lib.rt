@@ -1,0 +1,34 @@
+//! The procedures of program 100000 (RFC 1833): their arguments, what they do to the registry, and their results.
+#![tactic(auto)]
+
+mod answers;
+mod asker;
+mod entry;
+mod items;
+mod laws;
+mod listener;
+mod lookups;
+mod mapping;
+mod netbuf;
+mod netids;
+mod procedure;
+mod put;
+mod request;
+mod rpcb;
+mod serve;
+mod sets;
+#[cfg(test)]
+mod tests;
+mod worked;
+
+pub use answers::{Answer, Listing, Value};
+pub use entry::Entry;
+pub use laws::argument_laws;
+pub use listener::{Listener, own_rows};
+pub use mapping::Mapping;
+pub use netbuf::Netbuf;
+pub use put::{put_answer, put_row};
+pub use request::{ArgumentFault, Request, read_args};
+pub use rpcb::Rpcb;
+pub use serve::answer;
+pub use worked::worked_examples;

@@ -1,0 +1,54 @@
+//! Where the daemon listens.
+ghost use Rattle.std.specs.Prelude.{◌≡◌};
+ghost use Rattle.rb_registry.specs.Registry.{AreOwn};
+ghost use Rattle.rb_proto.specs.Callers.{own_row, own_rows, is_local};
+
+use rb_registry::row::RPCB_PROG;
+use rb_registry::{Netid, Owner, Row};
+use rb_rpc::Peer;
+use rb_uaddr::Uaddr;
+use rb_xdr::Text;
+
+/// The host and the port of the daemon's own TCP and UDP sockets.
+#[derive(Clone, Copy, PartialEq, Eq, Debug)]
+pub struct Listener {
+    pub host: [u8; 4],
+    pub port: u16,
+}
+
+/// The row of the portmapper's own version on a netid.
+fn own_row(listener: &Listener, vers: u32, netid: Netid) -> Row
+    ensures { result ≡ own_row listener.now vers netid }
+{
+    Row {
+        prog: RPCB_PROG,
+        vers,
+        netid,
+        addr: Text::new(Uaddr::any(listener.port).text().as_slice()),
+        owner: Owner::SUPERUSER,
+    }
+}
+
+/// The rows of the portmapper itself: versions 4, 3 and 2, on tcp and then on udp, at the listener's port of every host.
+#[tactic(auto, unfolding(crate::specs::Callers::own_rows))]
+pub fn own_rows(listener: &Listener) -> [Row; 6]
+    ensures rows { result ≡ own_rows listener.now }
+    ensures own { AreOwn result }
+{
+    [
+        own_row(listener, 4, Netid::Tcp),
+        own_row(listener, 3, Netid::Tcp),
+        own_row(listener, 2, Netid::Tcp),
+        own_row(listener, 4, Netid::Udp),
+        own_row(listener, 3, Netid::Udp),
+        own_row(listener, 2, Netid::Udp),
+    ]
+}
+
+/// Whether the caller's host is in 127.0.0.0/8 or the listener's own.
+#[tactic(auto, unfolding(crate::specs::Callers::is_local))]
+pub(crate) fn is_local(listener: &Listener, peer: &Peer) -> bool
+    ensures { result ≡ is_local listener.now peer.now.host }
+{
+    peer.host[0] == 127 || peer.host == listener.host
+}

@@ -1,0 +1,154 @@
+//! Results, written behind the head of a reply.
+ghost use Rattle.std.specs.Prelude.{◌≡◌, ◌+◌, ◌-◌, ◌*◌, ◌≤◌, ◌↔◌, ◌++◌, length, take, IsOk, OnOk, OnErr};
+ghost use Rattle.rb_registry.specs.Costs.{PaysAtMost};
+ghost use Rattle.rb_registry.specs.Registry.{rows_of};
+ghost use Rattle.rb_proto.specs.Results.{value_bytes, result_bytes, row_bytes, rows_bytes};
+
+use crate::answers::{Answer, Listing, Value};
+use crate::items::{entry_of, mapping_of, rpcb_of};
+use crate::listener::Listener;
+use rb_registry::{Cursor, Registry, Row, Which};
+use rb_xdr::{Full, Kept, Meter, Xdr};
+
+/// Puts a value, unless the buffer would then have more than `limit` bytes.
+fn put_within<T: Xdr>(
+    value: &T,
+    limit: usize,
+    out: &mut Kept,
+    meter: &mut Meter,
+) -> Result<(), Full>
+    requires tie { meter.old.tie ≡ out.old.tie }
+    requires limit { limit ≤ out.old.cap }
+    ensures room { IsOk result ↔ (length out.old.bytes + length (T.spelling value.now) ≤ limit) }
+    ensures ok { OnOk result (out.new ≡ record out.old { bytes = out.old.bytes ++ T.spelling value.now }) }
+    ensures err { OnErr result (out.new ≡ out.old) }
+    ensures cap { out.new.cap ≡ out.old.cap }
+    ensures tie { out.new.tie ≡ out.old.tie }
+    ensures cost { PaysAtMost meter.old meter.new (1 + (length out.new.bytes - length out.old.bytes)) }
+{
+    let Some(room) = limit.checked_sub(out.len(meter)) else {
+        return Err(Full { value: () });
+    };
+    if value.room_after(room).is_none() {
+        return Err(Full { value: () });
+    }
+    value.write(out, meter);
+    Ok(())
+}
+
+/// Puts what a row adds to a list: TRUE and the item, or nothing where the list doesn't show the row.
+///
+/// The row is refused where the buffer would then have more than `limit` bytes, and nothing is put.
+#[tactic(auto, unfolding(crate::specs::Results::row_bytes))]
+pub fn put_row(
+    list: Listing,
+    row: &Row,
+    listener: &Listener,
+    limit: usize,
+    out: &mut Kept,
+    meter: &mut Meter,
+) -> Result<(), Full>
+    requires tie { meter.old.tie ≡ out.old.tie }
+    requires limit { limit ≤ out.old.cap }
+    requires within { length out.old.bytes ≤ limit }
+    ensures room { IsOk result ↔ (length out.old.bytes + length (row_bytes listener.now.host list row.now) ≤ limit) }
+    ensures ok { OnOk result (out.new ≡ record out.old { bytes = out.old.bytes ++ row_bytes listener.now.host list row.now }) }
+    ensures err { OnErr result (out.new ≡ out.old) }
+    ensures cap { out.new.cap ≡ out.old.cap }
+    ensures tie { out.new.tie ≡ out.old.tie }
+    ensures cost { PaysAtMost meter.old meter.new (1 + (length out.new.bytes - length out.old.bytes)) }
+{
+    match list {
+        Listing::Mappings if Which::Inet.includes(row.netid) => {
+            put_within(&(true, mapping_of(row)), limit, out, meter)
+        }
+        Listing::Rpcbs => put_within(&(true, rpcb_of(row)), limit, out, meter),
+        Listing::Entries(prog, vers) if row.prog == prog && row.vers == vers => {
+            put_within(&(true, entry_of(listener.host, row)), limit, out, meter)
+        }
+        Listing::Mappings | Listing::Entries(..) => Ok(()),
+    }
+}
+
+/// Puts results that are no list.
+fn put_value(value: &Value, limit: usize, out: &mut Kept, meter: &mut Meter) -> Result<(), Full>
+    requires tie { meter.old.tie ≡ out.old.tie }
+    requires limit { limit ≤ out.old.cap }
+    ensures room { IsOk result ↔ (length out.old.bytes + length (value_bytes value.now) ≤ limit) }
+    ensures ok { OnOk result (out.new ≡ record out.old { bytes = out.old.bytes ++ value_bytes value.now }) }
+    ensures err { OnErr result (out.new ≡ out.old) }
+    ensures cap { out.new.cap ≡ out.old.cap }
+    ensures tie { out.new.tie ≡ out.old.tie }
+    ensures cost { PaysAtMost meter.old meter.new (1 + (length out.new.bytes - length out.old.bytes)) }
+{
+    match value {
+        Value::Void if out.len(meter) <= limit => Ok(()),
+        Value::Void => Err(Full { value: () }),
+        Value::Bool(b) => put_within(b, limit, out, meter),
+        Value::Number(n) => put_within(n, limit, out, meter),
+        Value::Text(text) => put_within(text, limit, out, meter),
+        Value::Netbuf(netbuf) => put_within(netbuf, limit, out, meter),
+    }
+}
+
+/// Puts the rows that a list shows, and its end.
+fn put_rows(
+    list: Listing,
+    registry: &Registry,
+    listener: &Listener,
+    limit: usize,
+    out: &mut Kept,
+    meter: &mut Meter,
+) -> Result<(), Full>
+    requires registry { meter.old.tie ≡ registry.now.tie }
+    requires out { meter.old.tie ≡ out.old.tie }
+    requires limit { limit ≤ out.old.cap }
+    requires within { length out.old.bytes ≤ limit }
+    ensures room { IsOk result ↔ (length out.old.bytes + length (rows_bytes listener.now.host (rows_of registry.now) list) ≤ limit) }
+    ensures ok { OnOk result (out.new ≡ record out.old { bytes = out.old.bytes ++ rows_bytes listener.now.host (rows_of registry.now) list }) }
+    ensures err { OnErr result (take (length out.old.bytes) out.new.bytes ≡ out.old.bytes) }
+    ensures within { length out.new.bytes ≤ limit }
+    ensures cap { out.new.cap ≡ out.old.cap }
+    ensures tie { out.new.tie ≡ out.old.tie }
+    ensures cost { PaysAtMost meter.old meter.new (3 * length (rows_of registry.now) + (length out.new.bytes - length out.old.bytes) + 3) }
+{
+    let stamp = registry.stamp();
+    let mut cursor = Cursor::start();
+    'rows: while let Some(found) = registry.next_row(stamp, cursor, meter) {
+        let (next, row) = found;
+        put_row(list, row, listener, limit, out, meter)?;
+        cursor = next;
+    }
+    put_within(&false, limit, out, meter)
+}
+
+/// Puts the results of an answer behind what the buffer has, its head: rows are those of the registry.
+///
+/// They are refused where the buffer would then have more than `limit` bytes. What it had stays in front; some of the
+/// rows may stand behind it.
+#[tactic(auto, unfolding(crate::specs::Results::result_bytes))]
+pub fn put_answer(
+    answer: &Answer,
+    registry: &Registry,
+    listener: &Listener,
+    limit: usize,
+    out: &mut Kept,
+    meter: &mut Meter,
+) -> Result<(), Full>
+    requires registry { meter.old.tie ≡ registry.now.tie }
+    requires out { meter.old.tie ≡ out.old.tie }
+    requires limit { limit ≤ out.old.cap }
+    ensures room { IsOk result ↔ (length out.old.bytes + length (result_bytes listener.now.host (rows_of registry.now) answer.now) ≤ limit) }
+    ensures ok { OnOk result (out.new ≡ record out.old { bytes = out.old.bytes ++ result_bytes listener.now.host (rows_of registry.now) answer.now }) }
+    ensures err { OnErr result (take (length out.old.bytes) out.new.bytes ≡ out.old.bytes) }
+    ensures within { length out.old.bytes ≤ limit → length out.new.bytes ≤ limit }
+    ensures cap { out.new.cap ≡ out.old.cap }
+    ensures tie { out.new.tie ≡ out.old.tie }
+    ensures cost { PaysAtMost meter.old meter.new (3 * length (rows_of registry.now) + (length out.new.bytes - length out.old.bytes) + 4) }
+{
+    match answer {
+        Answer::Results(value) => put_value(value, limit, out, meter),
+        Answer::Rows(_) if out.len(meter) > limit => Err(Full { value: () }),
+        Answer::Rows(list) => put_rows(*list, registry, listener, limit, out, meter),
+    }
+}

@@ -1,0 +1,53 @@
+//! What a call asks for.
+ghost use Rattle.std.specs.Prelude.{◌≡◌};
+ghost use Rattle.rb_proto.specs.Arguments.{read_request};
+
+use crate::mapping::Mapping;
+use crate::netbuf::Netbuf;
+use crate::procedure::Procedure;
+use crate::rpcb::Rpcb;
+use rb_xdr::Text;
+use thiserror::Error;
+
+/// A procedure with its arguments. Those of version 2 begin with `Pmap`, but for GETPORT, which it alone has.
+#[derive(PartialEq, Eq, Debug, Drop)]
+pub enum Request {
+    Null,
+    PmapSet(Mapping),
+    PmapUnset(Mapping),
+    Getport(Mapping),
+    PmapDump,
+    Set(Rpcb),
+    Unset(Rpcb),
+    Getaddr(Rpcb),
+    Dump,
+    Gettime,
+    Uaddr2taddr(Text<128>),
+    Taddr2uaddr(Netbuf),
+    Getversaddr(Rpcb),
+    Getaddrlist(Rpcb),
+}
+
+/// Why a call asks for nothing.
+#[derive(Clone, Copy, PartialEq, Eq, Debug, Error)]
+pub enum ArgumentFault {
+    #[error("the version has no procedure of this number")]
+    ProcUnavail,
+    #[error("the arguments can't be read")]
+    GarbageArgs,
+}
+
+/// Reads the arguments of a procedure of version 2, 3 or 4 from the front of the bytes (RFC 1833 sections 2.2 and 3.2).
+/// Bytes behind them count for nothing.
+///
+/// ProcUnavail comes before GarbageArgs. The procedures that forward calls (5 of each version, 10 of version 4) and
+/// GETSTAT (12) are unavailable.
+#[tactic(auto, unfolding(crate::specs::Arguments::is_known, crate::specs::Arguments::request))]
+pub fn read_args(vers: u32, proc: u32, bytes: &[u8]) -> Result<Request, ArgumentFault>
+    ensures { result ≡ read_request vers proc bytes.now }
+{
+    let Some(procedure) = Procedure::at(vers, proc) else {
+        return Err(ArgumentFault::ProcUnavail);
+    };
+    procedure.read(bytes).ok_or(ArgumentFault::GarbageArgs)
+}

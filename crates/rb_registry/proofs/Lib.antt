@@ -1,0 +1,8 @@
+pub mod Walks
+pub mod Removing
+pub mod Changes
+pub mod Finds
+pub mod Stands
+pub mod Cursors
+pub mod RowLaws
+pub mod FoundLaws

@@ -1,0 +1,99 @@
+-- A walk over a table that takes out the values that pass a test.
+use Rattle.std.proofs.Common.{◌≡◌, ℕ, ◌+◌, length, arith, Bool, true, false, not, cond, eqb, ◌||◌, List, [], ◌∷◌, ◌++◌, Option, Some, None, refl, sym, ap, ◌∙◌, append_assoc}
+use Rattle.std.specs.Prelude.{filter}
+use Rattle.std.specs.List.{list_any}
+use Rattle.rb_xdr.specs.Pool.{value_at, without, first_key, HasDistinctKeys}
+use Rattle.rb_registry.specs.Places.{behind, to_come}
+use Rattle.rb_registry.proofs.Walks.{step, up_to, passed}
+
+module _ {T : Type 0} where
+  up_to-behind : (entries : List (ℕ × T)) (key : ℕ) → up_to entries key ++ behind entries key ≡ entries
+  up_to-behind [] key = refl
+  up_to-behind (e ∷ rest) key =
+      elim (eqb e.0 key) as (λ b. cond b (e ∷ []) (e ∷ up_to rest key) ++ cond b rest (behind rest key) ≡ e ∷ rest)
+      [ true ↦ refl | false ↦ ap (λ (es : List (ℕ × T)). e ∷ es) (up_to-behind rest key) ]
+
+  -- a place splits the entries
+  pub passed-to_come : (entries : List (ℕ × T)) (place : Option ℕ) → passed entries place ++ to_come entries place ≡ entries
+  passed-to_come entries None = refl
+  passed-to_come entries (Some key) = up_to-behind entries key
+
+  still_missing : (entries : List (ℕ × T)) (key a : ℕ) → value_at entries a ≡ None → value_at (without entries key) a ≡ None
+  still_missing [] key a h = refl
+  still_missing (e ∷ rest) key a h = by_tests (eqb e.0 key) refl (eqb e.0 a) refl (still_missing rest key a)
+    where
+      by_tests : (b : Bool) → eqb e.0 key ≡ b → (t : Bool) → eqb e.0 a ≡ t → (value_at rest a ≡ None → value_at (without rest key) a ≡ None) → value_at (without (e ∷ rest) key) a ≡ None
+      by_tests b p true q further = let clash : Some e.1 ≡ None = rw q at h in absurd cc
+      by_tests true p false q further = rw (p) (rw q at h)
+      by_tests false p false q further = rw (p, q) (further (rw q at h))
+
+  pub distinct-without : (entries : List (ℕ × T)) (key : ℕ) → HasDistinctKeys entries → HasDistinctKeys (without entries key)
+  distinct-without [] key d = tt
+  distinct-without (e ∷ rest) key d = by_test (eqb e.0 key) (distinct-without rest key d.1)
+    where
+      by_test : (b : Bool) → HasDistinctKeys (without rest key) → HasDistinctKeys (cond b rest (e ∷ without rest key))
+      by_test true further = d.1
+      by_test false further = (still_missing rest key e.0 d.0, further)
+
+  -- up to the place only what stays is left, and behind it nothing was looked at
+  pub record Removing (goes : T → Bool) (before now : List (ℕ × T)) (place : Option ℕ) (removed : Bool) : Type 0 where
+    pub distinct : HasDistinctKeys now
+    pub kept : passed now place ++ filter (λ e. not (goes e.1)) (to_come now place) ≡ filter (λ e. not (goes e.1)) before
+    pub any : (removed || list_any (λ e. goes e.1) (to_come now place)) ≡ list_any (λ e. goes e.1) before
+
+module _ {T : Type 0} (goes : T → Bool) (before now : List (ℕ × T)) (place : Option ℕ) (removed : Bool) (h : Removing goes before now place removed) where
+  or_true : (b : Bool) → (b || true) ≡ true
+  or_true true = refl
+  or_true false = refl
+
+  or_false : (b : Bool) → (b || false) ≡ b
+  or_false true = refl
+  or_false false = refl
+
+  abbrev first_value : T → List (ℕ × T) → T
+  first_value other [] = other
+  first_value other (e ∷ es) = e.1
+
+  module _ (key : ℕ) (value : T) (next : to_come now place ≡ (key, value) ∷ behind now key) where
+    abbrev is_next : first_key (to_come now place) ≡ Some key
+    is_next = ap (λ (es : List (ℕ × T)). first_key es) next
+
+    pub one_fewer : length (to_come (without now key) place) + 1 ≡ length (to_come now place)
+    one_fewer =
+        let s = step now place key h.distinct is_next in
+        let e : length (to_come (without now key) place) ≡ length (behind now key) = ap (λ (es : List (ℕ × T)). length es) s.come_without in
+        let f : length (to_come now place) ≡ length ((key, value) ∷ behind now key) = ap (λ (es : List (ℕ × T)). length es) next in
+        omega (arith, e, f)
+
+    pub taken_out : goes value ≡ true → Removing goes before (without now key) place true
+    taken_out gone =
+        let s = step now place key h.distinct is_next in
+        let kept : passed now place ++ filter (λ e. not (goes e.1)) (behind now key) ≡ filter (λ e. not (goes e.1)) before = rw (next, gone) at h.kept in
+        let any : (removed || true) ≡ list_any (λ e. goes e.1) before = rw (next, gone) at h.any in
+        record {
+          distinct = distinct-without now key h.distinct;
+          kept = rw (s.pass_without, s.come_without) kept;
+          any = sym (or_true removed) ∙ any;
+        }
+
+    pub left_in : goes value ≡ false → Removing goes before now (Some key) removed
+    left_in stays =
+        let s = step now place key h.distinct is_next in
+        let same : s.value ≡ value = ap (λ (es : List (ℕ × T)). first_value value es) (sym s.come ∙ next) in
+        let one : passed now (Some key) ≡ passed now place ++ (key, value) ∷ [] = rw (← same) s.pass in
+        let kept : passed now place ++ ((key, value) ∷ filter (λ e. not (goes e.1)) (behind now key)) ≡ filter (λ e. not (goes e.1)) before = rw (next, stays) at h.kept in
+        record {
+          distinct = h.distinct;
+          kept = rw one (append_assoc (passed now place) ((key, value) ∷ []) (filter (λ e. not (goes e.1)) (behind now key)) ∙ kept);
+          any = rw (next, stays) at h.any;
+        }
+
+  pub all_passed : to_come now place ≡ [] → now ≡ filter (λ e. not (goes e.1)) before
+  all_passed last =
+      let split : passed now place ++ to_come now place ≡ now = passed-to_come now place in
+      let whole : passed now place ++ [] ≡ now = rw last at split in
+      let kept : passed now place ++ [] ≡ filter (λ e. not (goes e.1)) before = rw last at h.kept in
+      sym whole ∙ kept
+
+  pub any_removed : to_come now place ≡ [] → removed ≡ list_any (λ e. goes e.1) before
+  any_removed last = sym (or_false removed) ∙ (rw last at h.any)

@@ -1,0 +1,18 @@
+use Rattle.std.proofs.Common.{◌≡◌, ◌+◌, ◌*◌, ◌≤◌, length}
+use Rattle.std.specs.Prelude.{find, fold, filter, map, max}
+use Rattle.std.specs.Map.{values_of}
+use Rattle.rb_registry.specs.declared.row.Row.{Row}
+use Rattle.rb_registry.specs.Places.{to_come}
+use Rattle.rb_registry.specs.Rows.{is_row, is_on}
+use Rattle.rb_registry.proofs.walk.exact_or_greatest.Given as goal
+
+abbrev pub invariant-rows : goal.invariant-rows
+invariant-rows l = record {
+  found : find (is_row l.prog l.vers l.netid) (values_of (to_come l.rows.entries l.place)) ≡ find (is_row l.prog l.vers l.netid) (values_of l.rows.entries);
+  newest : fold max l.newest (map (λ (row : Row). row.vers) (filter (is_on l.prog l.netid) (values_of (to_come l.rows.entries l.place)))) ≡ fold max 0 (map (λ (row : Row). row.vers) (filter (is_on l.prog l.netid) (values_of l.rows.entries)));
+  tie : l.meter.tie ≡ l.fn.meter.tie;
+  steps : l.meter.steps + 2 * length (to_come l.rows.entries l.place) ≤ l.fn.meter.steps + 2 * length l.rows.entries;
+}
+
+abbrev pub decreases-rows : goal.decreases-rows
+decreases-rows l = length (to_come l.rows.entries l.place)

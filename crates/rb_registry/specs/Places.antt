@@ -1,0 +1,23 @@
+-- Places in a table whose entries stand in order.
+use Rattle.std.specs.Prelude.{ℕ, ◌+◌, ◌==◌, if◌then◌else◌, List, [], ◌∷◌, Option, Some, None, option_map}
+
+module _ {T : Type 0} where
+  -- the entries behind that of a key
+  abbrev pub behind : List (ℕ × T) → ℕ → List (ℕ × T)
+  behind [] key = []
+  behind (e ∷ rest) key = if e.0 == key then rest else behind rest key
+
+  -- the number of entries up to that of a key, where it is there
+  abbrev pub count_to : List (ℕ × T) → ℕ → Option ℕ
+  count_to [] key = None
+  count_to (e ∷ rest) key = if e.0 == key then Some 1 else option_map (λ n. n + 1) (count_to rest key)
+
+  -- A place is before all entries, or behind that of a key. The entries behind it:
+  abbrev pub to_come : List (ℕ × T) → Option ℕ → List (ℕ × T)
+  to_come entries None = entries
+  to_come entries (Some key) = behind entries key
+
+  -- and how many are before it, where that key is there
+  abbrev pub count_passed : List (ℕ × T) → Option ℕ → Option ℕ
+  count_passed entries None = Some 0
+  count_passed entries (Some key) = count_to entries key

@@ -1,0 +1,44 @@
+//! A place in the list of rows.
+ghost use Rattle.std.specs.Prelude.{◌≡◌, ℕ, Some};
+ghost use Rattle.rb_registry.specs.Registry.{Registry as Kept, StandsIn, rows_passed};
+
+use std::marker::Model;
+
+/// A place among the rows of a registry: before all of them, or behind one.
+#[derive(Clone, Copy, PartialEq, Eq, Debug)]
+pub struct Cursor {
+    // the key of the row before it
+    passed: Option<usize>,
+}
+
+impl Model for Cursor {
+    ghost use Rattle.std.specs.Prelude.{ℕ, Option};
+
+    ghost Value = { Option ℕ };
+
+    ghost view = { λ c. c.passed };
+
+    ghost inverse = { λ key. record { passed = key } };
+}
+
+impl Cursor {
+    /// The place before the first row.
+    pub fn start() -> Cursor
+        ensures place { (rows : Kept) (stamp : ℕ) → stamp ≡ rows.stamp → StandsIn rows stamp result }
+        ensures passed { (rows : Kept) (stamp : ℕ) → rows_passed rows stamp result ≡ 0 }
+    {
+        Cursor { passed: None }
+    }
+
+    pub(crate) fn behind(key: usize) -> Cursor
+        ensures { result ≡ Some key }
+    {
+        Cursor { passed: Some(key) }
+    }
+
+    pub(crate) fn key(self) -> Option<usize>
+        ensures { result ≡ self }
+    {
+        self.passed
+    }
+}

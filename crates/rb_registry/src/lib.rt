@@ -1,0 +1,20 @@
+//! The registry's rows: how they are set, removed, found and listed (RFC 1833 sections 2.2.1 and 3.2).
+#![tactic(auto)]
+
+pub mod cursor;
+pub mod fault;
+mod laws;
+pub mod registry;
+mod removal;
+pub mod row;
+#[cfg(test)]
+mod tests;
+mod walk;
+mod worked;
+
+pub use cursor::Cursor;
+pub use fault::RegistryFault;
+pub use laws::row_laws;
+pub use registry::Registry;
+pub use row::{Netid, Owner, RPCB_PROG, Row, Which};
+pub use worked::worked_examples;

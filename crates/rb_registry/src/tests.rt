@@ -1,0 +1,91 @@
+ghost use Rattle.std.specs.Prelude.{◌≡◌};
+ghost use Rattle.rb_registry.specs.Registry.{AreOwn};
+
+use crate::registry::Registry;
+use crate::row::{Netid, Owner, Row, Which};
+use crate::{Cursor, RegistryFault};
+use rb_xdr::{Meter, Text};
+use std::test::Fail;
+
+// A row at port 111 of every host.
+fn row(prog: u32, vers: u32, netid: Netid, owner: Owner) -> Row
+    ensures { result.prog ≡ prog }
+{
+    Row {
+        prog,
+        vers,
+        netid,
+        addr: Text::new(b"0.0.0.0.0.111"),
+        owner,
+    }
+}
+
+// Program 100000, versions 4, 3 and 2, on tcp and then on udp.
+fn own_rows() -> [Row; 6]
+    ensures { AreOwn result }
+{
+    [
+        row(100_000, 4, Netid::Tcp, Owner::SUPERUSER),
+        row(100_000, 3, Netid::Tcp, Owner::SUPERUSER),
+        row(100_000, 2, Netid::Tcp, Owner::SUPERUSER),
+        row(100_000, 4, Netid::Udp, Owner::SUPERUSER),
+        row(100_000, 3, Netid::Udp, Owner::SUPERUSER),
+        row(100_000, 2, Netid::Udp, Owner::SUPERUSER),
+    ]
+}
+
+// The last digit of each row's version, in the order of the rows.
+fn versions(registry: &Registry, meter: &mut Meter) -> u64
+    requires { meter.old.tie ≡ registry.now.tie }
+{
+    let mut digits: u64 = 0;
+    let mut cursor = Cursor::start();
+    'rows: while let Some((next, row)) = registry.next_row(registry.stamp(), cursor, meter) {
+        digits = digits
+            .wrapping_mul(10)
+            .wrapping_add(u64::from(row.vers % 10));
+        cursor = next;
+    }
+    digits
+}
+
+#[test]
+fn registry_has_memory(rt: HostRuntime) -> Result<(), Fail> {
+    let mut meter = Meter::new();
+    let registry = Registry::new(rt.alloc(), 8, own_rows(), &mut meter)?;
+    assert_eq!(rt; registry.len(&mut meter), 6);
+    let refused = Registry::new(rt.alloc(), 5, own_rows(), &mut meter);
+    assert!(rt; matches!(refused, Err(RegistryFault::BadLimits)));
+    Ok(())
+}
+
+#[test]
+fn rows_are_set_found_and_removed(rt: HostRuntime) -> Result<(), Fail> {
+    let mut meter = Meter::new();
+    let mut registry = Registry::new(rt.alloc(), 300, own_rows(), &mut meter)?;
+    let uid = Owner::Uid(500);
+    assert!(rt; registry.set(row(200_001, 1, Netid::Tcp, uid), &mut meter));
+    assert!(rt; !registry.set(row(200_001, 1, Netid::Tcp, uid), &mut meter));
+    assert!(rt; registry.set(row(200_001, 3, Netid::Tcp, uid), &mut meter));
+    assert_eq!(rt; registry.stamp(), 2);
+
+    let newest = registry
+        .find(200_001, 9, Netid::Tcp, &mut meter)
+        .ok_or("no row")?;
+    assert_eq!(rt; newest.vers, 3);
+    assert!(rt;
+        registry
+            .find_exact(200_001, 9, Netid::Tcp, &mut meter)
+            .is_none()
+    );
+
+    assert!(rt; !registry.unset(200_001, 1, Which::Inet, Owner::Unknown, &mut meter));
+    assert!(rt; !registry.unset(100_000, 2, Which::All, Owner::SUPERUSER, &mut meter));
+    assert!(rt; registry.unset(200_001, 1, Which::One(Netid::Tcp), uid, &mut meter));
+    assert_eq!(rt; registry.stamp(), 3);
+    assert_eq!(rt; registry.len(&mut meter), 7);
+
+    assert_eq!(rt; versions(&registry, &mut meter), 4_324_323);
+    assert_eq!(rt; Netid::Udp.text(), b"udp".as_slice());
+    Ok(())
+}

@@ -1,0 +1,9 @@
+mod Auths
+mod Calls
+mod Replies
+pub mod Markings
+mod Numbers
+mod SysBodies
+pub mod Feeding
+pub mod RecordCuts
+mod Streams

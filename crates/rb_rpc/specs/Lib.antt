@@ -1,0 +1,9 @@
+pub mod Messages
+pub mod Verdict
+pub mod Replies
+pub mod Records
+pub mod RecordLaws
+pub mod Grammar
+pub mod Worked
+pub mod Peers
+pub mod Marks

@@ -1,0 +1,67 @@
+-- Where a reader of marked records stands behind the bytes that it was fed (RFC 5531 section 11).
+use Rattle.std.specs.Prelude.{◌≡◌, ℕ, ◌+◌, ◌*◌, ◌%◌, ◌^◌, ◌<◌, ◌==◌, nat_lt, not, Bool, false, if◌then◌else◌, List, [], ◌∷◌, ◌++◌, length, fold, None, ⊤}
+use Rattle.rb_xdr.specs.Xdr.{AreBytes}
+use Rattle.rb_rpc.specs.Records.{Fragment, fragment_header, markings, first_record}
+use Rattle.rb_rpc.specs.declared.marks.Place.TheVariants.{Header, Data}
+use Rattle.rb_rpc.specs.declared.marks.Part.TheVariants as parts
+pub use Rattle.rb_rpc.specs.declared.marks.Part.{Part}
+pub use Rattle.rb_rpc.specs.declared.marks.Place.{Place}
+pub use Rattle.rb_rpc.specs.declared.marks.Marks.{Marks}
+
+-- ---- the bytes since the last record's end
+
+-- fragments that ended, none of them the last of the record
+abbrev pub AreOpen : List Fragment → Type 0
+AreOpen [] = ⊤
+AreOpen (f ∷ more) = (length f.content < 2 ^ 31) × (f.last ≡ false) × AreOpen more
+
+-- the number that the bytes of a header spell, as far as they go
+abbrev pub number_so_far : List ℕ → ℕ
+number_so_far bytes = fold (λ n b. n * 256 + b) 0 bytes
+
+-- the bytes of a header as far as it goes
+pub record IsInHeader (seen number : ℕ) (front : List ℕ) : Type 0 where
+  pub seen_is : seen ≡ length front
+  pub few : length front < 4
+  pub bytes : AreBytes front
+  pub number_is : number ≡ number_so_far front
+
+-- a header, and the fragment's data but for so many bytes
+pub record IsInData (left : ℕ) (last : Bool) (front : List ℕ) : Type 0 where
+  pub content : List ℕ
+  pub some_left : 0 < left
+  pub fits : length content + left < 2 ^ 31
+  pub front_is : front ≡ fragment_header (length content + left) last ++ content
+
+abbrev pub IsAt : Place → List ℕ → Type 0
+IsAt (Header seen number) front = IsInHeader seen number front
+IsAt (Data left last) front = IsInData left last front
+
+-- The reader was fed these bytes since the last record's end: fragments that ended, and the front of one that did not.
+pub record StandsForFed (marks : Marks) (fed : List ℕ) : Type 0 where
+  pub fragments : List Fragment
+  pub front : List ℕ
+  pub open_still : AreOpen fragments
+  pub fed_is : fed ≡ markings fragments ++ front
+  pub place : IsAt marks.place front
+
+-- the data among these bytes
+abbrev pub data_among : Part → List ℕ → List ℕ
+data_among parts.Data bytes = bytes
+data_among parts.Header bytes = []
+
+-- ---- one step
+
+-- behind a header or some of a fragment's data, before so many more bytes of it; and whether the record ended
+unfoldable pub behind : ℕ → Bool → Place × Bool
+behind left last = if left == 0 then (Header 0 0, last) else (Data left last, false)
+
+-- behind one more byte of a header
+unfoldable pub behind_header : ℕ → ℕ → ℕ → Place × Bool
+behind_header seen number byte =
+    if nat_lt seen 3 then (Header (seen + 1) (number * 256 % 2 ^ 32 + byte), false)
+    else behind ((number * 256 % 2 ^ 32 + byte) % 2 ^ 31) (not (nat_lt (number * 256 % 2 ^ 32 + byte) (2 ^ 31)))
+
+-- No record ended among the bytes that a reader stands for.
+abbrev pub NoRecordEnded : Type 0
+NoRecordEnded = (marks : Marks) (fed : List ℕ) → StandsForFed marks fed → first_record fed ≡ None

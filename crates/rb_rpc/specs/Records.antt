@@ -1,0 +1,101 @@
+-- Record marking (RFC 5531 section 11).
+use Rattle.std.specs.Prelude.{◌≡◌, ℕ, zero, suc, ◌+◌, ◌%◌, ◌^◌, ◌<◌, nat_lt, not, Bool, true, false, if◌then◌else◌, List, [], ◌∷◌, ◌++◌, length, take, drop, slice_range, Option, Some, None, ⊤}
+use Rattle.std.specs.Option.{option_map}
+use Rattle.std.specs.List.{flat_map}
+use Rattle.rb_xdr.specs.Xdr.{number, number_at}
+
+-- ---- the relation
+
+-- a flag, and fewer than 2^31 bytes
+pub record Fragment : Type 0 where
+  pub last : Bool
+  pub content : List ℕ
+
+-- the highest bit is 1 in the last fragment, the low 31 bits are the length of the data
+unfoldable pub fragment_header : ℕ → Bool → List ℕ
+fragment_header len last = number (if last then 2 ^ 31 + len else len)
+
+-- a fragment's header and its data
+abbrev pub marking : Fragment → List ℕ
+marking f = fragment_header (length f.content) f.last ++ f.content
+
+abbrev pub is_empty : {A : Type 0} → List A → Bool
+is_empty [] = true
+is_empty (x ∷ xs) = false
+
+-- a fragment has the flag exactly where none follows it
+abbrev pub AreFragments : List Fragment → Type 0
+AreFragments [] = ⊤
+AreFragments (f ∷ more) = (length f.content < 2 ^ 31) × (f.last ≡ is_empty more) × AreFragments more
+
+abbrev pub markings : List Fragment → List ℕ
+markings fragments = flat_map marking fragments
+
+abbrev pub joined : List Fragment → List ℕ
+joined fragments = flat_map (λ f. f.content) fragments
+
+-- The bytes are a marked record of these fragments.
+pub record IsMarkedAs (fragments : List Fragment) (bytes : List ℕ) : Type 0 where
+  pub some : is_empty fragments ≡ false
+  pub fragmented : AreFragments fragments
+  pub spelled : bytes ≡ markings fragments
+
+-- The bytes are a marked record of the data `content`.
+pub record IsMarked (bytes content : List ℕ) : Type 0 where
+  pub fragments : List Fragment
+  pub marked : IsMarkedAs fragments bytes
+  pub content_is : content ≡ joined fragments
+
+-- ---- the same as functions of the bytes
+
+-- the first fragment's flag, and where its data ends
+abbrev pub is_last : List ℕ → Bool
+is_last bytes = not (nat_lt (number_at 0 bytes) (2 ^ 31))
+
+abbrev pub fragment_end : List ℕ → ℕ
+fragment_end bytes = 4 + number_at 0 bytes % 2 ^ 31
+
+-- the first fragment is not whole
+abbrev pub is_cut : List ℕ → Bool
+is_cut bytes = nat_lt (length bytes) (fragment_end bytes)
+
+-- of at most so many fragments
+abbrev pub record_of : ℕ → List ℕ → Option ℕ
+record_of zero bytes = None
+record_of (suc k) bytes =
+    if is_cut bytes then None
+    else if is_last bytes then Some (fragment_end bytes)
+    else option_map (λ n. fragment_end bytes + n) (record_of k (drop (fragment_end bytes) bytes))
+
+-- The least n such that the first n bytes are a marked record, if any.
+unfoldable pub first_record : List ℕ → Option ℕ
+first_record bytes = record_of (length bytes) bytes
+
+abbrev pub data_in : ℕ → List ℕ → List ℕ
+data_in zero bytes = []
+data_in (suc k) bytes =
+    if is_last bytes then slice_range bytes 4 (fragment_end bytes)
+    else slice_range bytes 4 (fragment_end bytes) ++ data_in k (drop (fragment_end bytes) bytes)
+
+-- The data of the marked record that the bytes begin with, as far as the bytes go.
+unfoldable pub data_of : List ℕ → List ℕ
+data_of bytes = data_in (length bytes) bytes
+
+-- ---- a reply, marked
+
+abbrev pub fragment_size : ℕ
+fragment_size = 1024
+
+abbrev pub cut_up : ℕ → List ℕ → List Fragment
+cut_up zero reply = record { last = true; content = reply } ∷ []
+cut_up (suc k) reply =
+    if nat_lt fragment_size (length reply)
+    then record { last = false; content = take fragment_size reply } ∷ cut_up k (drop fragment_size reply)
+    else record { last = true; content = reply } ∷ []
+
+-- fragments of 1,024 bytes, the last of 1 to 1,024
+unfoldable pub reply_fragments : List ℕ → List Fragment
+reply_fragments reply = cut_up (length reply) reply
+
+unfoldable pub marked : List ℕ → List ℕ
+marked reply = markings (reply_fragments reply)

@@ -1,0 +1,152 @@
+//! Calls, and what the bytes of one are worth (RFC 5531 sections 8.2 and 9).
+ghost use Rattle.std.specs.Prelude.{◌≡◌, ◌+◌, ◌*◌, ◌<◌, ◌≤◌, ◌↔◌, ◌++◌, length, not, IsTrue, IsOk, OnOk, OnErr};
+ghost use Rattle.std.specs.Result.{result_ok};
+ghost use Rattle.rb_xdr.specs.Meter.{Pays};
+ghost use Rattle.rb_rpc.specs.Messages.{call_bytes};
+ghost use Rattle.rb_rpc.specs.Verdict.{is_broken, auth_end, sys_uid, head_of, verdict, EndsWithin};
+
+use crate::auth::AuthStat;
+use crate::opaque_auth::{AUTH_NONE, AUTH_SYS, auth_end, body_length, is_broken, is_over_long};
+use crate::sys::uid_of;
+use crate::words::{number_at, put_words};
+use rb_xdr::{Full, Kept, Meter};
+
+/// Who calls, as the credential says. It proves nothing.
+#[derive(Clone, Copy, PartialEq, Eq, Debug)]
+pub enum Credential {
+    /// AUTH_NONE (section 10.1)
+    None,
+    /// The uid of AUTH_SYS (appendix A)
+    Sys(u32),
+}
+
+/// What the head of a call says.
+#[derive(Clone, Copy, PartialEq, Eq, Debug)]
+pub struct CallHead {
+    pub xid: u32,
+    pub prog: u32,
+    pub vers: u32,
+    pub proc: u32,
+    pub cred: Credential,
+}
+
+/// What the data of a record, or a datagram, is worth before its program is looked at.
+#[derive(Clone, Copy, PartialEq, Eq, Debug)]
+pub enum Verdict {
+    /// Nothing that can be answered.
+    NoCall,
+    /// A call of another RPC version than 2, by its xid.
+    RpcMismatch(u32),
+    /// A call whose credential or verifier is refused, by its xid.
+    AuthError(u32, AuthStat),
+    /// A call, and the place where its arguments begin.
+    Call(CallHead, usize),
+}
+
+/// Where the credential begins, behind six words.
+const CREDENTIAL: usize = 24;
+
+const CALL: u32 = 0;
+
+const RPC_VERSION: u32 = 2;
+
+/// The uid of the credential's body as one of AUTH_SYS.
+#[tactic(auto, unfolding(crate::specs::Verdict::sys_uid, crate::specs::Verdict::auth_end))]
+fn sys_uid(bytes: &[u8]) -> Option<u32>
+    requires { auth_end 24 bytes.now ≤ length bytes.now }
+    ensures { result ≡ sys_uid bytes.now }
+{
+    let body = CREDENTIAL + 8;
+    uid_of(&bytes[body..body + body_length(bytes, CREDENTIAL)]).ok()
+}
+
+/// What the words and the credential say.
+fn head_of(bytes: &[u8]) -> CallHead
+    requires header { 32 ≤ length bytes.now }
+    requires whole { auth_end 24 bytes.now ≤ length bytes.now }
+    ensures { result ≡ head_of bytes.now }
+{
+    let cred = if number_at(bytes, CREDENTIAL) == AUTH_NONE {
+        Credential::None
+    } else {
+        sys_uid(bytes).map_or(Credential::None, Credential::Sys)
+    };
+    CallHead {
+        xid: number_at(bytes, 0),
+        prog: number_at(bytes, 12),
+        vers: number_at(bytes, 16),
+        proc: number_at(bytes, 20),
+        cred,
+    }
+}
+
+/// What the bytes are worth: the first refusal that holds of the whole list, else the call.
+#[tactic(auto, unfolding(crate::specs::Verdict::verdict, crate::specs::Verdict::credential_end, crate::specs::Verdict::verifier_end))]
+pub fn read_call(bytes: &[u8]) -> Verdict
+    ensures verdict { result ≡ verdict bytes.now }
+    ensures within { EndsWithin result (length bytes.now) }
+{
+    if bytes.len() < 12 || number_at(bytes, 4) != CALL {
+        return Verdict::NoCall;
+    }
+    let xid = number_at(bytes, 0);
+    if number_at(bytes, 8) != RPC_VERSION {
+        return Verdict::RpcMismatch(xid);
+    }
+    if bytes.len() < CREDENTIAL {
+        return Verdict::NoCall;
+    }
+    if is_over_long(bytes, CREDENTIAL) {
+        return Verdict::AuthError(xid, AuthStat::BadCredential);
+    }
+    if is_broken(bytes, CREDENTIAL) {
+        return Verdict::NoCall;
+    }
+    let verifier = auth_end(bytes, CREDENTIAL);
+    if is_over_long(bytes, verifier) {
+        return Verdict::AuthError(xid, AuthStat::BadVerifier);
+    }
+    if is_broken(bytes, verifier) {
+        return Verdict::NoCall;
+    }
+    let flavor = number_at(bytes, CREDENTIAL);
+    if flavor > AUTH_SYS {
+        return Verdict::AuthError(xid, AuthStat::RejectedCredential);
+    }
+    if flavor == AUTH_SYS && sys_uid(bytes).is_none() {
+        return Verdict::AuthError(xid, AuthStat::BadCredential);
+    }
+    Verdict::Call(head_of(bytes), auth_end(bytes, verifier))
+}
+
+/// Puts the head of a call, or nothing: these words, AUTH_NONE or AUTH_SYS with stamp 0, an empty
+/// name, gid 0 and no gids, and the null verifier.
+#[tactic(auto, unfolding(crate::specs::Messages::call_bytes, rb_xdr::specs::Xdr::number, rb_xdr::specs::Xdr::opaque))]
+pub fn put_call(head: &CallHead, out: &mut Kept, meter: &mut Meter) -> Result<(), Full>
+    requires { meter.old.tie ≡ out.old.tie }
+    ensures room { IsOk result ↔ (length out.old.bytes + length (call_bytes head.now) ≤ out.old.cap) }
+    ensures ok { OnOk result (out.new ≡ record out.old { bytes = out.old.bytes ++ call_bytes head.now }) }
+    ensures err { OnErr result (out.new ≡ out.old) }
+    ensures cap { out.new.cap ≡ out.old.cap }
+    ensures tie { out.new.tie ≡ out.old.tie }
+    ensures cost { OnOk result (Pays meter.old meter.new (1 + length (call_bytes head.now))) }
+    ensures cost_of_refusal { OnErr result (Pays meter.old meter.new 1) }
+{
+    let CallHead {
+        xid,
+        prog,
+        vers,
+        proc,
+        cred,
+    } = *head;
+    match cred {
+        // xid, CALL, the version of RPC, what is called; credential and verifier AUTH_NONE, empty
+        Credential::None => put_words(&[xid, 0, 2, prog, vers, proc, 0, 0, 0, 0], out, meter),
+        // the credential AUTH_SYS, of 20 bytes: stamp, name, uid, gid, gids
+        Credential::Sys(uid) => put_words(
+            &[xid, 0, 2, prog, vers, proc, 1, 20, 0, 0, uid, 0, 0, 0, 0],
+            out,
+            meter,
+        ),
+    }
+}

@@ -1,0 +1,33 @@
+//! Who sends a call.
+use std::fmt;
+
+/// An IPv4 host and a port.
+#[derive(Clone, Copy, PartialEq, Eq, Debug)]
+pub struct Peer {
+    pub host: [u8; 4],
+    pub port: u16,
+}
+
+/// `h1.h2.h3.h4:port`
+impl fmt::Display for Peer {
+    ghost use Rattle.std.specs.Prelude.{Some};
+    ghost use Rattle.rb_rpc.specs.Peers.{peer_text};
+
+    ghost output = { λ p. Some (peer_text p) };
+
+    fn fmt<W: fmt::Write>(&self, f: &mut fmt::Formatter<W>) -> fmt::Result {
+        let a = self.host[0];
+        let b = self.host[1];
+        let c = self.host[2];
+        let d = self.host[3];
+        let port = self.port;
+        write!(f, "{a}.{b}.{c}.{d}:{port}")
+    }
+}
+
+/// Whence a call came: from a connection, by its number, or in a datagram.
+#[derive(Clone, Copy, PartialEq, Eq, Debug)]
+pub enum Caller {
+    Tcp(u64, Peer),
+    Udp(Peer),
+}

@@ -1,0 +1,5 @@
+pub mod Octets
+pub mod Parts
+pub mod Spellings
+pub mod GrammarLaws
+pub mod TransportLaws

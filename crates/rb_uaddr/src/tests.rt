@@ -1,0 +1,67 @@
+use crate::{NotAnAddress, Uaddr};
+use std::test::Fail;
+
+#[test]
+fn any_host_is_merged(rt: HostRuntime) -> Result<(), Fail> {
+    let address = Uaddr::parse(b"0.0.0.0.8.1")?;
+    assert_eq!(rt; address, Uaddr::any(2049));
+    let merged = address.merge([192, 0, 2, 1]);
+    assert_eq!(rt; merged.text().as_slice(), b"192.0.2.1.8.1".as_slice());
+    assert_eq!(rt; merged.merge([198, 51, 100, 7]), merged);
+    assert_eq!(rt; merged.host(), [192, 0, 2, 1].as_slice());
+    assert_eq!(rt; merged.port(), 2049);
+    assert_eq!(rt;
+        format!(in rt.alloc(); "{merged}")?.as_str(),
+        merged.text().as_str()
+    );
+    Ok(())
+}
+
+#[test]
+fn greatest_and_least_numbers(rt: HostRuntime) -> Result<(), Fail> {
+    let greatest = Uaddr::parse(b"255.255.255.255.255.255")?;
+    assert_eq!(rt; greatest, Uaddr::V4([255; 4], 65_535));
+    assert_eq!(rt;
+        greatest.text().as_slice(),
+        b"255.255.255.255.255.255".as_slice()
+    );
+    assert_eq!(rt; Uaddr::parse(b"0.0.0.0.0.111")?.port(), 111);
+    Ok(())
+}
+
+#[test]
+fn other_texts_are_refused(rt: HostRuntime) {
+    let texts = [
+        b"".as_slice(),
+        b"1.2.3.4.5".as_slice(),
+        b"1.2.3.4.5.6.7".as_slice(),
+        b"1.2.3.4.256.0".as_slice(),
+        b"01.2.3.4.5.6".as_slice(),
+        b"1.2.3.4.5.+6".as_slice(),
+        b"1.2.3.4.5.\xff".as_slice(),
+        b"1.2.3.4.5.6 ".as_slice(),
+        b"::1.0.111".as_slice(),
+    ];
+    for text in texts {
+        assert_eq!(rt; Uaddr::parse(text), Err(NotAnAddress), "{text:?}");
+    }
+}
+
+#[test]
+fn address_transport_form(rt: HostRuntime) -> Result<(), Fail> {
+    let form = [2, 0, 0, 0x6f, 0x7f, 0, 0, 1, 0, 0, 0, 0, 0, 0, 0, 0];
+    let address = Uaddr::parse(b"127.0.0.1.0.111")?;
+    assert_eq!(rt; address.to_transport().as_slice(), form.as_slice());
+    assert_eq!(rt;
+        Uaddr::from_transport(&form)?.text().as_slice(),
+        b"127.0.0.1.0.111".as_slice()
+    );
+
+    let padded = [2, 0, 0, 0x6f, 0x7f, 0, 0, 1, 1, 2, 3, 4, 5, 6, 7, 8];
+    assert_eq!(rt; Uaddr::from_transport(&padded)?, address);
+    let other_family = [10, 0, 0, 0x6f, 0x7f, 0, 0, 1, 0, 0, 0, 0, 0, 0, 0, 0];
+    assert_eq!(rt; Uaddr::from_transport(&other_family), Err(NotAnAddress));
+    let short = [2, 0, 0, 0x6f, 0x7f, 0, 0, 1, 0, 0, 0, 0, 0, 0, 0];
+    assert_eq!(rt; Uaddr::from_transport(&short), Err(NotAnAddress));
+    Ok(())
+}

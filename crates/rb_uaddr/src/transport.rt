@@ -1,0 +1,79 @@
+ghost use Rattle.std.specs.Prelude.{◌≡◌, ◌≤◌, length, Some};
+ghost use Rattle.std.specs.Result.{result_ok};
+ghost use Rattle.rb_uaddr.specs.Uaddr.{transport_of, from_transport};
+
+use crate::address::{NotAnAddress, Uaddr, port_bytes, port_from};
+use arrayvec::ArrayVec;
+use std::marker::Model;
+
+/// The most bytes that a transport form has.
+pub const MAX_TRANSPORT: usize = 16;
+
+const IPV4_FAMILY: u8 = 2;
+
+/// The transport form of an address: for IPv4 the bytes 2 and 0, the port and the host, each with
+/// its most significant byte first, and eight zeros. RFC 1833 section 2.1 leaves this form to the
+/// transport; it is this project's own.
+#[derive(Debug, Drop)]
+pub struct TransportForm {
+    bytes: ArrayVec<u8, MAX_TRANSPORT>,
+}
+
+impl Model for TransportForm {
+    ghost use Rattle.std.specs.Prelude.{List, ℕ};
+
+    ghost Value = { List ℕ };
+
+    ghost view = { λ f. f.bytes.items };
+}
+
+impl TransportForm {
+    /// The bytes of the form.
+    pub fn as_slice(&self) -> &[u8]
+        ensures value { result.now ≡ self.now }
+        ensures short { length result.now ≤ MAX_TRANSPORT }
+    {
+        self.bytes.as_slice()
+    }
+}
+
+impl Uaddr {
+    /// The transport form of the address.
+    pub fn to_transport(&self) -> TransportForm
+        ensures form { result ≡ transport_of self.now }
+        ensures read { from_transport result ≡ Some self.now }
+        ensures short { length result ≤ MAX_TRANSPORT }
+    {
+        match self {
+            Uaddr::V4(host, port) => TransportForm {
+                bytes: ArrayVec::from(ipv4_form(host, *port)),
+            },
+        }
+    }
+
+    /// The address of this transport form, whose last eight bytes may be any. Bytes of another
+    /// length, or that do not begin with 2 and 0, are `NotAnAddress`.
+    #[tactic(auto, unfolding(crate::specs::Uaddr::from_transport))]
+    pub fn from_transport(form: &[u8]) -> Result<Uaddr, NotAnAddress>
+        ensures { result_ok result ≡ from_transport form.now }
+    {
+        match form {
+            [IPV4_FAMILY, 0, p1, p2, h1, h2, h3, h4, unread @ ..] if unread.len() == 8 => {
+                Ok(Uaddr::V4([*h1, *h2, *h3, *h4], port_from([*p1, *p2])))
+            }
+            _ => Err(NotAnAddress),
+        }
+    }
+}
+
+#[tactic(auto, unfolding(crate::specs::Uaddr::transport_of, crate::specs::Uaddr::port_bytes))]
+fn ipv4_form(host: &[u8; 4], port: u16) -> [u8; MAX_TRANSPORT]
+    ensures form { result ≡ transport_of (Uaddr.V4 host.now port) }
+    ensures read { from_transport result ≡ Some (Uaddr.V4 host.now port) }
+{
+    let [h1, h2, h3, h4] = *host;
+    let [p1, p2] = port_bytes(port);
+    let mut form = [0; MAX_TRANSPORT];
+    form[..8].copy_from_slice(&[IPV4_FAMILY, 0, p1, p2, h1, h2, h3, h4]);
+    form
+}

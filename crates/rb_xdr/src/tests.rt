@@ -1,0 +1,107 @@
+use crate::{
+    Full, Kept, Meter, NoMemory, Opaque, Pool, Text, Xdr, XdrFault, spelling_laws, take_opaque,
+    types_are_read_exactly, worked_examples,
+};
+use std::test::Fail;
+
+#[test]
+fn pool_has_memory(rt: HostRuntime) -> Result<(), Fail> {
+    let mut meter = Meter::new();
+    let mut pool: Pool<u32> = Pool::new(rt.alloc(), 2, &mut meter)?;
+    let first = pool.insert(10, &mut meter)?;
+    let second = pool.insert(20, &mut meter)?;
+    assert_eq!(rt; pool.insert(30, &mut meter), Err(Full { value: 30 }));
+    assert_eq!(rt; pool.first(&mut meter), Some(first));
+    assert_eq!(rt; pool.next(first, &mut meter), Some(second));
+    assert_eq!(rt; pool.next(second, &mut meter), None);
+    if let Some(value) = pool.get_mut(second, &mut meter) {
+        *value += 1;
+    }
+    assert_eq!(rt; pool.get(second, &mut meter).copied(), Some(21));
+    assert_eq!(rt; pool.remove(first, &mut meter), Some(10));
+    let third = pool.insert(40, &mut meter)?;
+    assert_eq!(rt; pool.first(&mut meter), Some(second));
+    assert_eq!(rt; pool.next(second, &mut meter), Some(third));
+    assert_eq!(rt; pool.len(&mut meter), 2);
+    assert_eq!(rt; meter.count(), 13);
+    Ok(())
+}
+
+#[test]
+fn kept_has_memory(rt: HostRuntime) -> Result<(), Fail> {
+    let mut meter = Meter::new();
+    let mut kept = Kept::new(rt.alloc(), 4, &mut meter)?;
+    kept.extend(b"abc", &mut meter)?;
+    kept.push(b'd', &mut meter)?;
+    assert_eq!(rt; kept.push(b'e', &mut meter), Err(Full { value: () }));
+    assert_eq!(rt; kept.lend(1..3, &mut meter), b"bc".as_slice());
+    assert_eq!(rt; kept.room(&mut meter), 0);
+    kept.clear(&mut meter);
+    kept.extend(b"efgh", &mut meter)?;
+    assert_eq!(rt; kept.push(b'i', &mut meter), Err(Full { value: () }));
+    assert_eq!(rt; kept.len(&mut meter), 4);
+    assert_eq!(rt; meter.count(), 15);
+    Ok(())
+}
+
+#[test]
+fn refused_memory_is_an_error(rt: HostRuntime) -> Result<(), Fail> {
+    let mut meter = Meter::new();
+    let kept = Kept::new(rt.alloc(), usize::MAX, &mut meter);
+    assert!(rt; matches!(kept, Err(NoMemory)));
+    let pool: Result<Pool<u32>, NoMemory> = Pool::new(rt.alloc(), usize::MAX, &mut meter);
+    assert!(rt; matches!(pool, Err(NoMemory)));
+    Ok(())
+}
+
+// Spells a value in exactly as much room as it needs, and reads it again with more bytes behind it.
+fn goes_both_ways<T: Xdr + PartialEq>(
+    rt: &HostRuntime,
+    value: &T,
+    text: &[u8],
+) -> Result<bool, Fail> {
+    let mut meter = Meter::new();
+    let mut kept = Kept::new(rt.alloc(), text.len(), &mut meter)?;
+    value.put(&mut kept, &mut meter)?;
+    let is_full = value.put(&mut kept, &mut meter).is_err();
+    let len = kept.len(&mut meter);
+    let is_spelled = kept.lend(0..len, &mut meter) == text;
+    let mut more = text.to_vec(rt.alloc())?;
+    more.push(7)?;
+    let is_read = match T::take(&more) {
+        Ok((again, used)) => again == *value && used == text.len(),
+        Err(_) => false,
+    };
+    Ok(is_full && is_spelled && is_read)
+}
+
+// The file of section 7 of RFC 4506: its name, its kind, the name of its interpreter, its owner, its data.
+type File = (Text<255>, (u32, (Text<255>, (Text<32>, Opaque<65535>))));
+
+#[test]
+fn values_are_spelled_and_read(rt: HostRuntime) -> Result<(), Fail> {
+    let file: File = (
+        Text::new(b"sillyprog"),
+        (
+            2,
+            (
+                Text::new(b"lisp"),
+                (Text::new(b"john"), Opaque::new(b"(quit)")),
+            ),
+        ),
+    );
+    let text =
+        b"\x00\x00\x00\x09sillyprog\x00\x00\x00\x00\x00\x00\x02\x00\x00\x00\x04lisp\x00\x00\x00\x04john\x00\x00\x00\x06(quit)\x00\x00";
+    assert!(rt; goes_both_ways(&rt, &file, text)?);
+    let options = (Some(true), (None::<u32>, -2));
+    let text = b"\x00\x00\x00\x01\x00\x00\x00\x01\x00\x00\x00\x00\xff\xff\xff\xfe";
+    assert!(rt; goes_both_ways(&rt, &options, text)?);
+    assert_eq!(rt;
+        take_opaque(b"\x00\x00\x00\x02ab\x00\x01", 2),
+        Err(XdrFault::BadPadding)
+    );
+    spelling_laws::<File>();
+    types_are_read_exactly();
+    worked_examples();
+    Ok(())
+}
