@@ -1,7 +1,7 @@
 # rpcbind: `make run` shows a run, `make` proves and builds the programs, `make test` is the whole test.
 # Wanted on the PATH: `rt` (the Rattle toolchain) and bash.
 
-.PHONY: all run test rows clean
+.PHONY: all run test rows bench clean
 
 # Proves each crate and builds the program, crates/rpcbind/out/rpcbind.
 all:
@@ -19,6 +19,10 @@ test:
 # The rows alone, over the program that `make` or `make test` built.
 rows:
 	tests/run-rows.sh
+
+# The time of a call, over the built program: TCP in single bytes and in one piece, and datagrams over 300 rows.
+bench:
+	tests/run-bench.sh
 
 clean:
 	rm -rf crates/*/out

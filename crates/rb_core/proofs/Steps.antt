@@ -12,6 +12,7 @@ use Rattle.rb_core.specs.declared.serve.Served.TheVariants as outcomes
 use Rattle.rb_core.specs.Calls.{message_of}
 use Rattle.rb_core.specs.State.{State}
 use Rattle.rb_core.specs.Serve.{scene_in, served, changes_by, served_of, answer_of, serve}
+use Rattle.rb_core.specs.Slots.{Table}
 use Rattle.rb_core.specs.Step.{datagram}
 use Rattle.rb_core.specs.StandsFor.{Held, StandsFor}
 
@@ -19,6 +20,7 @@ use Rattle.rb_core.specs.StandsFor.{Held, StandsFor}
 pub record Answers (old new : Held) (now : ℕ) (peer : Peer) (message : Message) (said : outcome.Served) : Type 0 where
   pub setting : new.setting ≡ old.setting
   pub clock : new.clock ≡ max old.clock now
+  pub connections : new.connections ≡ old.connections
   pub limit : new.registry.limit ≡ old.registry.limit
   pub served : served_of said new.reply ≡ served (scene_in old.setting.listener (Udp peer) new.clock old.registry) message
   pub changes : (own : List Row) (changes : List Change) → StandsForChanges old.registry own changes
@@ -40,6 +42,8 @@ answered old new s now peer bytes message outcomes.Closing is a h =
       record {
         setting = a.setting ∙ h.setting;
         clock = clock;
+        conns = ap (λ (t : Table). t.conns) a.connections ∙ h.conns;
+        connections = rw a.connections h.connections;
         limit = a.limit ∙ h.limit;
         registry = rw (h.setting, h.limit, h.registry.rows, h.registry.stamp, clock) at known;
         reply = a.closing refl;
@@ -54,6 +58,8 @@ answered old new s now peer bytes message outcomes.Replied is a h =
       record {
         setting = a.setting ∙ h.setting;
         clock = clock;
+        conns = ap (λ (t : Table). t.conns) a.connections ∙ h.conns;
+        connections = rw a.connections h.connections;
         limit = a.limit ∙ h.limit;
         registry = rw (h.setting, h.limit, h.registry.rows, h.registry.stamp, clock) at known;
         reply = refl;

@@ -1,8 +1,9 @@
 -- What the daemon knows between two events, as plain data.
-use Rattle.std.specs.Prelude.{ℕ, nat_le, max, Bool, ◌&&◌, List, []}
+use Rattle.std.specs.Prelude.{ℕ, ◌-◌, ◌^◌, nat_le, max, Bool, ◌&&◌, List, []}
+use Rattle.rb_rpc.specs.declared.peer.Peer.{Peer}
 use Rattle.rb_core.specs.declared.types.Limits.{Limits}
-use Rattle.rb_registry.specs.Rows.{Change}
 use Rattle.rb_proto.specs.declared.listener.Listener.{Listener}
+use Rattle.rb_registry.specs.Rows.{Change}
 
 -- what no event changes: the first call that is forwarded has the first xid
 pub record Setting : Type 0 where
@@ -10,10 +11,38 @@ pub record Setting : Type 0 where
   pub listener : Listener
   pub first_xid : ℕ
 
+-- ---- connections
+
+-- a reply that is being given: its marked bytes, and how many of them were given
+pub record Owed : Type 0 where
+  pub marked : List ℕ
+  pub given : ℕ
+
+-- what a connection is about: `Reading` has the bytes that were fed since the last record's end
+pub data Phase : Type 0 where
+  Idle : Phase
+  Reading : List ℕ → Phase
+  Owing : Owed → Phase
+  Lost : Phase
+
+pub record Connection : Type 0 where
+  pub number : ℕ
+  pub peer : Peer
+  pub phase : Phase
+  pub mark : ℕ
+
+-- the connections in the order of their openings, lost ones among them, and the number of the next one
+pub record Connections : Type 0 where
+  pub next : ℕ
+  pub all : List Connection
+
+-- ---- the whole
+
 -- The accepted changes give the rows. `reply` is the reply to the last datagram.
 pub record State : Type 0 where
   pub setting : Setting
   pub clock : ℕ
+  pub connections : Connections
   pub changes : List Change
   pub reply : List ℕ
 
@@ -26,9 +55,14 @@ abbrev pub opening : Limits → Listener → ℕ → ℕ → State
 opening limits listener first_xid now = record {
   setting = record { limits = limits; listener = listener; first_xid = first_xid };
   clock = now;
+  connections = record { next = 1; all = [] };
   changes = [];
   reply = [];
 }
+
+-- the greatest moment, and the greatest number of a connection or of changes
+abbrev pub greatest_number : ℕ
+greatest_number = 2 ^ 64 - 1
 
 -- a moment earlier than the last one counts as the last one
 abbrev pub at_moment : ℕ → State → State

@@ -1,4 +1,7 @@
 //! What holds of the definitions.
+ghost use Rattle.rb_core.specs.Cuts.{CutsDoNotMatter};
+ghost use Rattle.rb_core.specs.Laws.{RunsAppend, StatesAppend, RefusedEventsChangeNothing, NumbersNeverRecur};
+ghost use Rattle.rb_core.specs.WorkedConnections.{NoCallCloses, OtherRpcVersionOnTcp, CrumbsInOnePiece, CrumbsInSingleBytes, CrumbsInSevens, BytesBehindArguments, OneRecordAtATime, GivenInParts, TooMuchIsRefused, GoodLimits, NumbersDoNotRecur};
 ghost use Rattle.rb_core.specs.Worked.{NullIsAnswered, SetThenAskThenSetAgain, GreatestVersionElse, OwnRowsAreAsked, LimitIsReached, LocalCallersSet, NothingIsSilent, NullBySys, OtherRpcVersion, TooShort, GreatestCredential, OverlongCredential, SysBodyCutShort, OverlongVerifier, BadResidue, GoodResidue, GssBeforeProgram, OtherVersion, UnknownProcedure, GarbageArguments, OtherProgram, NullOfThree, NullOfFour};
 
 /// The definitions give what the worked examples say.
@@ -26,4 +29,40 @@ pub fn worked_examples()
     ensures other_program { OtherProgram }
     ensures null_of_version_3 { NullOfThree }
     ensures null_of_version_4 { NullOfFour }
+{}
+
+/// A run of two lists of events is the run of the first, and then of the second.
+pub fn runs_append()
+    ensures outputs { RunsAppend }
+    ensures states { StatesAppend }
+{}
+
+/// A refused event leaves the state, its clock too.
+pub fn refused_events_change_nothing()
+    ensures { RefusedEventsChangeNothing }
+{}
+
+/// The numbers that a run gives to connections only go up.
+pub fn numbers_never_recur()
+    ensures { NumbersNeverRecur }
+{}
+
+/// Bytes in two pieces do what they do in one, where no record ends in the first.
+pub fn cuts_do_not_matter()
+    ensures { CutsDoNotMatter }
+{}
+
+/// The definitions give what the worked examples of connections say.
+pub fn worked_connections()
+    ensures no_call_closes { NoCallCloses }
+    ensures rpc_version_mismatch { OtherRpcVersionOnTcp }
+    ensures null_in_single_byte_fragments { CrumbsInOnePiece }
+    ensures single_bytes { CrumbsInSingleBytes }
+    ensures pieces_of_seven { CrumbsInSevens }
+    ensures overlong_record_is_answered { BytesBehindArguments }
+    ensures two_calls_in_one_piece { OneRecordAtATime }
+    ensures partial_writes { GivenInParts }
+    ensures more_than_is_pending { TooMuchIsRefused }
+    ensures limits { GoodLimits }
+    ensures numbers { NumbersDoNotRecur }
 {}

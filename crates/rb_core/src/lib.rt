@@ -1,11 +1,16 @@
 //! The port mapper's logic without sockets: one event is one public call on `Core`, and nothing happens between two.
 #![tactic(auto)]
 
+mod connections;
 mod engine;
+mod giving;
 mod laws;
 mod message;
 mod run;
 mod serve;
+mod serving;
+mod slot;
+mod taking;
 mod types;
 
 pub use engine::Core;
@@ -14,7 +19,7 @@ pub use message::{Message, read_message};
 pub use rb_proto::Listener;
 pub use rb_rpc::{Caller, Peer};
 pub use run::{Event, Output, replay};
-pub use types::{Answer, CoreFault, Limits, NoMemory};
+pub use types::{Answer, CoreFault, Limits, NoMemory, Taken};
 
 #[cfg(test)]
 mod tests;

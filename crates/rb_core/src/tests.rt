@@ -134,3 +134,34 @@ fn greatest_dump_of_version_2(rt: HostRuntime) -> Result<(), Fail> {
     assert_eq!(rt; taken, 1);
     Ok(())
 }
+
+/// A connection is opened, calls, is answered and is closed: each call of a connection once.
+#[test]
+fn connections_have_memory(rt: HostRuntime) -> Result<(), Fail> {
+    let mut meter = Meter::new();
+    let mut core = Core::new(rt.alloc(), limits(300), LISTENER, 1000, 0, &mut meter)?;
+    let call = words(
+        rt.alloc(),
+        &[0x8000_0028, 1, 0, 2, 100_000, 2, 0, 0, 0, 0, 0],
+    )?;
+    let mut events = Vec::new(rt.alloc());
+    events.push(Event::Open(0, LOOPBACK))?;
+    events.push(Event::Bytes(0, 1, call))?;
+    events.push(Event::Pending(1))?;
+    events.push(Event::Gave(0, 1, 28))?;
+    events.push(Event::NextLost)?;
+    events.push(Event::Closed(1))?;
+    let mut outputs = Vec::new(rt.alloc());
+    replay(rt.alloc(), &mut core, &events, &mut outputs, &mut meter)?;
+    let reply = words(rt.alloc(), &[0x8000_0018, 1, 1, 0, 0, 0, 0])?;
+    assert_eq!(rt; outputs.len(), 6);
+    assert!(rt; matches!(&outputs[0], Output::Opened(1)));
+    assert!(rt; matches!(&outputs[1], Output::Took(44)));
+    assert!(rt;
+        matches!(&outputs[2], Output::Pending(bytes) if bytes.as_slice() == reply.as_slice())
+    );
+    assert!(rt; matches!(&outputs[3], Output::Done));
+    assert!(rt; matches!(&outputs[4], Output::Lost(None)));
+    assert!(rt; matches!(&outputs[5], Output::Done));
+    Ok(())
+}

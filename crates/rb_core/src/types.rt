@@ -18,6 +18,15 @@ pub enum Answer {
     Silent,
 }
 
+/// How far the bytes that arrived on a connection were taken.
+#[derive(Clone, Copy, Debug, PartialEq, Eq)]
+pub struct Taken {
+    /// How many of them, from the first one on.
+    pub count: usize,
+    /// Whether the connection takes and gives nothing more, and is to be closed.
+    pub closed: bool,
+}
+
 /// Why a call on a core was refused. It changed nothing.
 #[derive(Clone, Copy, Debug, Drop, Error, PartialEq, Eq)]
 pub enum CoreFault {
@@ -27,6 +36,15 @@ pub enum CoreFault {
     /// A limit is out of its range.
     #[error("bad limits")]
     BadLimits,
+    /// There are as many connections as there may be, lost ones among them.
+    #[error("full")]
+    Full,
+    /// No number of a connection is left.
+    #[error("spent")]
+    Spent,
+    /// There is no connection of that number that is asked for.
+    #[error("gone")]
+    Gone,
 }
 
 /// An allocation was refused.

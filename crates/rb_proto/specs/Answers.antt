@@ -1,5 +1,5 @@
--- What each procedure answers and changes, over what it sees (RFC 1833 sections 2.2.1 and 3.2).
-use Rattle.std.specs.Prelude.{ℕ, ◌/◌, ◌-◌, ◌^◌, ◌==◌, nat_le, min, Bool, true, false, not, ◌&&◌, if◌then◌else◌, List, [], ◌∷◌, ◌++◌, length, Option, Some, None, option_map, option_and_then, is_some}
+-- What each procedure answers and changes, over what it sees (RFC 1833 sections 2.2 and 3.2).
+use Rattle.std.specs.Prelude.{ℕ, ◌/◌, ◌-◌, ◌^◌, ◌==◌, nat_le, min, Bool, false, not, ◌&&◌, if◌then◌else◌, List, [], ◌∷◌, ◌++◌, length, Option, Some, None, option_map, option_and_then, is_some}
 use Rattle.std.specs.Option.{option_map_or}
 use Rattle.rb_rpc.specs.declared.call.CallHead.{CallHead}
 use Rattle.rb_rpc.specs.declared.peer.Caller.{Caller}
@@ -18,7 +18,6 @@ use Rattle.rb_proto.specs.declared.rpcb.Rpcb.{Rpcb}
 use Rattle.rb_proto.specs.declared.netbuf.Netbuf.{Netbuf}
 use Rattle.rb_proto.specs.declared.answers.Answer.TheVariants.{Results, Rows}
 use Rattle.rb_proto.specs.declared.answers.Listing.TheVariants.{Mappings, Rpcbs, Entries}
-use Rattle.rb_proto.specs.declared.answers.Value.{Value}
 use Rattle.rb_proto.specs.declared.answers.Value.TheVariants as values
 use Rattle.rb_proto.specs.declared.request.Request.TheVariants.{Null, PmapSet, PmapUnset, Getport, PmapDump, Set, Unset, Getaddr, Dump, Gettime, Uaddr2taddr, Taddr2uaddr, Getversaddr, Getaddrlist}
 use Rattle.rb_proto.specs.Arguments.{Request}

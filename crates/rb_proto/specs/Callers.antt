@@ -1,6 +1,5 @@
 -- The listener, and what it knows of a caller.
 use Rattle.std.specs.Prelude.{ℕ, ◌==◌, Bool, ◌||◌, List, [], ◌∷◌, slice_index, bytes_eq, codes, decimal, if◌then◌else◌}
-use Rattle.rb_rpc.specs.declared.call.CallHead.{CallHead}
 use Rattle.rb_rpc.specs.declared.call.Credential.{Credential}
 use Rattle.rb_rpc.specs.declared.call.Credential.TheVariants as credentials
 use Rattle.rb_rpc.specs.declared.peer.Peer.{Peer}

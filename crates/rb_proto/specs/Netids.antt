@@ -1,5 +1,5 @@
--- What is known of each netid (RFC 5665 section 5.1, RFC 1833 section 3.1).
-use Rattle.std.specs.Prelude.{ℕ, ◌==◌, List, [], ◌∷◌, Option, Some, None, option_map, find, codes, bytes_eq}
+-- What is known of each netid (RFC 5665 section 5.1, RFC 1833 section 2.1).
+use Rattle.std.specs.Prelude.{ℕ, ◌==◌, List, [], ◌∷◌, Option, Some, option_map, find, codes, bytes_eq}
 use Rattle.rb_registry.specs.declared.row.Netid.{Netid}
 use Rattle.rb_registry.specs.declared.row.Netid.TheVariants.{Tcp, Udp}
 use Rattle.rb_registry.specs.declared.row.Which.{Which}

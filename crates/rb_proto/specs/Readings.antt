@@ -1,7 +1,7 @@
 -- What is read of arguments and results is what is spelled in front.
 use Rattle.std.proofs.Common.{◌≡◌, ℕ, ◌+◌, List, ◌++◌, length, drop, refl, sym, ap, subst, ◌∙◌, append_assoc, length-append, arith, Ok}
 use Rattle.std.proofs.lemmas.List.{drop_at}
-use Rattle.rb_xdr.specs.Xdr.{Reader, Reading, ◌>>=◌, give, IsNumber, IsContent, AreBytes, number, opaque, read_number, read_opaque, max_number, max_opaque}
+use Rattle.rb_xdr.specs.Xdr.{Reader, ◌>>=◌, give, IsNumber, IsContent, AreBytes, number, opaque, read_number, read_opaque}
 use Rattle.rb_xdr.specs.XdrLaws.{IsSound, IsComplete, IsBounded}
 use Rattle.rb_xdr.specs.Words.{AreBytes-drop}
 use Rattle.rb_xdr.specs.Readers.{ok_is, bind_ok, bind_again, number_sound, number_complete, opaque_sound, opaque_complete}

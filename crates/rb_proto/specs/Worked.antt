@@ -1,5 +1,5 @@
 -- Worked examples. The listener is 192.0.2.1, port 111; callers are at 127.0.0.1 and come by UDP unless it says otherwise.
-use Rattle.std.specs.Prelude.{◌≡◌, ℕ, zero, suc, ◌+◌, List, [], ◌∷◌, ◌++◌, length, map, drop, replicate, Option, Some, None, Result, Ok, Err, codes}
+use Rattle.std.specs.Prelude.{◌≡◌, ℕ, zero, suc, ◌+◌, List, [], ◌∷◌, ◌++◌, length, map, drop, replicate, Result, Ok, Err, codes}
 use Rattle.rb_xdr.specs.Xdr.{words, opaque}
 use Rattle.rb_rpc.specs.declared.call.Credential.{Credential}
 use Rattle.rb_rpc.specs.declared.call.Credential.TheVariants as credentials

@@ -1,4 +1,4 @@
-//! rpcb_entry (RFC 1833 section 3.1).
+//! rpcb_entry (RFC 1833 section 2.1).
 ghost use Rattle.rb_proto.specs.Types.{IsEntry, entry_spelling, max_entry, read_entry};
 ghost use Rattle.rb_proto.specs.Readings.{entry_sound, entry_complete, entry_bounded};
 

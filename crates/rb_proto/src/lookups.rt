@@ -1,4 +1,4 @@
-//! The procedures that look something up, or turn an address into another form (RFC 1833 sections 2.2.1 and 3.2).
+//! The procedures that look something up, or turn an address into another form (RFC 1833 sections 2.2 and 3.2).
 ghost use Rattle.std.specs.Prelude.{◌≡◌, ◌+◌, ◌*◌, length};
 ghost use Rattle.rb_registry.specs.Costs.{PaysAtMost};
 ghost use Rattle.rb_registry.specs.Registry.{rows_of};
@@ -69,7 +69,7 @@ pub(crate) fn getaddr(
     }
 }
 
-/// RPCBPROC_GETVERSADDR (RFC 1833 section 2.2.1): as GETADDR, but of the exact version alone.
+/// RPCBPROC_GETVERSADDR (RFC 1833 section 2.2.2): as GETADDR, but of the exact version alone.
 pub(crate) fn getversaddr(
     registry: &Registry,
     asker: &Asker,

@@ -1,4 +1,4 @@
-//! mapping (RFC 1833 section 2.1).
+//! mapping (RFC 1833 section 3.1).
 ghost use Rattle.rb_proto.specs.Types.{IsMapping, mapping_spelling, max_mapping, read_mapping};
 ghost use Rattle.rb_proto.specs.Readings.{mapping_sound, mapping_complete, mapping_bounded};
 

@@ -1,4 +1,4 @@
-//! rpcb (RFC 1833 section 3.1).
+//! rpcb (RFC 1833 section 2.1).
 ghost use Rattle.rb_proto.specs.Types.{IsRpcb, rpcb_spelling, max_rpcb, read_rpcb};
 ghost use Rattle.rb_proto.specs.Readings.{rpcb_sound, rpcb_complete, rpcb_bounded};
 

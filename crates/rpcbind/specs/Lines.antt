@@ -1,9 +1,10 @@
 -- Event lines: what a text of them says.
 use Rattle.std.specs.Prelude.{◌≡◌, ℕ, ◌+◌, ◌^◌, ◌==◌, nat_lt, ◌||◌, if◌then◌else◌, List, [], ◌∷◌, ◌++◌, length, slice_index, codes, Option, Some, None, Result, Ok, Err}
 use Rattle.std.specs.List.{slice_split}
+use Rattle.std.specs.Option.{option_map}
 use Rattle.std.specs.Str.{bytes_eq}
 use Rattle.rb_core.specs.Step.{Event}
-use Rattle.rb_core.specs.Step.Event.{Datagram}
+use Rattle.rb_core.specs.Step.Event.{Datagram, Open, Bytes, Pending, Gave, Closed, NextLost}
 use Rattle.rb_core.specs.StandsFor.{event_of}
 use Rattle.rpcbind.specs.declared.lines.Line as line_type
 use Rattle.rpcbind.specs.declared.lines.Line.TheVariants as lines
@@ -21,11 +22,54 @@ datagram_line text = do
   bytes ← hex_bytes second.1
   Some (Datagram now from bytes)
 
--- the event of a line with this first word, and this behind the space after it
+-- what follows the word `open`: a moment and a peer
+unfoldable pub open_line : List ℕ → Option Event
+open_line text = do
+  parts ← cut 32 text
+  now ← decimal (2 ^ 64) parts.0
+  from ← peer parts.1
+  Some (Open now from)
+
+-- what follows the word `bytes`: a moment, a connection's number and bytes
+unfoldable pub bytes_line : List ℕ → Option Event
+bytes_line text = do
+  first ← cut 32 text
+  second ← cut 32 first.1
+  now ← decimal (2 ^ 64) first.0
+  id ← decimal (2 ^ 64) second.0
+  bytes ← hex_bytes second.1
+  Some (Bytes now id bytes)
+
+-- what follows the word `gave`: a moment, a connection's number and how many bytes
+unfoldable pub gave_line : List ℕ → Option Event
+gave_line text = do
+  first ← cut 32 text
+  second ← cut 32 first.1
+  now ← decimal (2 ^ 64) first.0
+  id ← decimal (2 ^ 64) second.0
+  n ← decimal (2 ^ 64) second.1
+  Some (Gave now id n)
+
+-- the event of a line of more than one word: the first, and what stands behind the space after it
 unfoldable pub event : List ℕ → List ℕ → Option Event
 event word rest =
     if bytes_eq word (codes "datagram") then datagram_line rest
+    else if bytes_eq word (codes "open") then open_line rest
+    else if bytes_eq word (codes "bytes") then bytes_line rest
+    else if bytes_eq word (codes "pending") then option_map Pending (decimal (2 ^ 64) rest)
+    else if bytes_eq word (codes "gave") then gave_line rest
+    else if bytes_eq word (codes "closed") then option_map Closed (decimal (2 ^ 64) rest)
     else None
+
+-- the event of a line of one word
+unfoldable pub lone_event : List ℕ → Option Event
+lone_event word =
+    if bytes_eq word (codes "lost") then Some NextLost
+    else None
+
+abbrev pub event_of_parts : List ℕ → Option (List ℕ × List ℕ) → Option Event
+event_of_parts text None = lone_event text
+event_of_parts text (Some parts) = event parts.0 parts.1
 
 pub data Line : Type 0 where
   Skipped : Line
@@ -40,9 +84,7 @@ happens_or_bad None = Bad
 unfoldable pub line : List ℕ → Line
 line text =
     if length text == 0 || slice_index text 0 == 35 then Skipped
-    else happens_or_bad (do
-      parts ← cut 32 text
-      event parts.0 parts.1)
+    else happens_or_bad (event_of_parts text (cut 32 text))
 
 -- what the line of this number adds to what the lines after it give
 abbrev pub onto : ℕ → Line → Result (List Event) ReadFault → Result (List Event) ReadFault

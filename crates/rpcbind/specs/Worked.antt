@@ -3,8 +3,9 @@ use Rattle.std.specs.Prelude.{◌≡◌, ◌^◌, ◌-◌, List, ℕ, [], ◌∷
 use Rattle.std.specs.List.{flat_map}
 use Rattle.std.specs.Int.{w32, to_be_bytes}
 use Rattle.rb_rpc.specs.declared.peer.Peer.{Peer}
-use Rattle.rb_core.specs.Step.Event.{Datagram}
-use Rattle.rb_core.specs.Step.Output.{Replied, Silent}
+use Rattle.rb_core.specs.Step.Event.{Datagram, Open, Bytes, Pending, Gave, Closed, NextLost}
+use Rattle.rb_core.specs.declared.types.CoreFault.TheVariants.{Full, Spent, Gone}
+use Rattle.rb_core.specs.Step.Output.{Replied, Silent, Opened, Refused, Took, TookAndClosed, IsPending, Done, TooMuch, LostIs}
 use Rattle.rpcbind.specs.declared.lines.ReadFault.TheVariants.{BadLine}
 use Rattle.rpcbind.specs.Fields.{decimal, peer}
 use Rattle.rpcbind.specs.Lines.{read}
@@ -85,3 +86,30 @@ PeersOfLines =
     × (peer (codes "127.0.0:900") ≡ None)
     × (peer (codes "127.0.0.1.1:900") ≡ None)
     × (peer (codes "127.0.0.1") ≡ None)
+
+-- The lines of connections.
+abbrev pub ConnectionsAreRead : Type 0
+ConnectionsAreRead =
+    (read
+    (ended (codes "open 0005 127.0.0.1:900") ++ ended (codes "bytes 6 1 80000028") ++ ended (codes "bytes 0 7 -")
+    ++ ended (codes "pending 01") ++ ended (codes "gave 0 1 29") ++ ended (codes "closed 18446744073709551615") ++ codes "lost")
+    ≡ Ok
+    (Open 5 here ∷ Bytes 6 1 (128 ∷ 0 ∷ 0 ∷ 40 ∷ []) ∷ Bytes 0 7 [] ∷ Pending 1 ∷ Gave 0 1 29 ∷ Closed (2 ^ 64 - 1) ∷ NextLost ∷ []))
+    × (read (codes "open 5") ≡ Err (BadLine 1))
+    × (read (codes "open 5 127.0.0.1:900 ") ≡ Err (BadLine 1))
+    × (read (codes "bytes 0 7") ≡ Err (BadLine 1))
+    × (read (codes "bytes 0 7 ") ≡ Err (BadLine 1))
+    × (read (codes "pending") ≡ Err (BadLine 1))
+    × (read (codes "pending +1") ≡ Err (BadLine 1))
+    × (read (codes "gave 0 1") ≡ Err (BadLine 1))
+    × (read (codes "gave 0 1 18446744073709551616") ≡ Err (BadLine 1))
+    × (read (codes "closed 1 ") ≡ Err (BadLine 1))
+    × (read (codes "lost ") ≡ Err (BadLine 1))
+
+abbrev pub ConnectionsArePrinted : Type 0
+ConnectionsArePrinted =
+    report_of
+    (Opened 1 ∷ Refused Full ∷ Refused Spent ∷ Refused Gone ∷ Took 360 ∷ TookAndClosed 12 ∷ IsPending (128 ∷ 0 ∷ 0 ∷ 24 ∷ []) ∷ IsPending [] ∷ Done ∷ TooMuch ∷ LostIs None ∷ LostIs (Some 10) ∷ [])
+    ≡ ended (codes "open 1") ++ ended (codes "full") ++ ended (codes "spent") ++ ended (codes "gone") ++ ended (codes "took 360")
+    ++ ended (codes "took 12 closed") ++ ended (codes "pending 80000018") ++ ended (codes "pending -") ++ ended (codes "ok")
+    ++ ended (codes "toomuch") ++ ended (codes "lost -") ++ ended (codes "lost 10")

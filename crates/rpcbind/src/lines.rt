@@ -4,7 +4,7 @@ ghost use Rattle.std.specs.Option.{option_map};
 ghost use Rattle.rb_core.specs.StandsFor.{event_of, events_of};
 ghost use Rattle.rb_core.specs.Step.{Event as Happening};
 ghost use Rattle.rpcbind.specs.declared.lines.ReadFault.{ReadFault};
-ghost use Rattle.rpcbind.specs.Lines.{with_front, onto, events_from, lines_of, IsFaultOf, datagram_line, event, line, line_of, longest_input, Gives, read};
+ghost use Rattle.rpcbind.specs.Lines.{with_front, onto, events_from, lines_of, IsFaultOf, datagram_line, open_line, bytes_line, gave_line, event, lone_event, line, line_of, longest_input, Gives, read};
 
 use crate::fields::{cut, decimal, hex_bytes, peer};
 use rb_core::{Event, NoMemory};
@@ -63,7 +63,54 @@ fn datagram_line(alloc: Global, text: &[u8]) -> Result<Option<Event>, NoMemory>
     Ok(Some(Event::Datagram(now, from, bytes)))
 }
 
-/// The event of a line with this first word.
+/// What follows the word `open`: a moment and a peer.
+#[tactic(auto, unfolding(crate::specs::Lines::open_line))]
+fn open_line(text: &[u8]) -> Option<Event>
+    ensures { option_map event_of result ≡ open_line text.now }
+{
+    let (now, from) = cut(text, b' ')?;
+    let now = decimal(now)?;
+    let from = peer(from)?;
+    Some(Event::Open(now, from))
+}
+
+/// What follows the word `bytes`: a moment, a connection's number and bytes.
+#[tactic(auto, unfolding(crate::specs::Lines::bytes_line))]
+fn bytes_line(alloc: Global, text: &[u8]) -> Result<Option<Event>, NoMemory>
+    ensures { IfOk result (λ read. option_map event_of read ≡ bytes_line text.now) }
+{
+    let Some((now, rest)) = cut(text, b' ') else {
+        return Ok(None);
+    };
+    let Some((id, bytes)) = cut(rest, b' ') else {
+        return Ok(None);
+    };
+    let Some(now) = decimal(now) else {
+        return Ok(None);
+    };
+    let Some(id) = decimal(id) else {
+        return Ok(None);
+    };
+    let Some(bytes) = hex_bytes(alloc, bytes)? else {
+        return Ok(None);
+    };
+    Ok(Some(Event::Bytes(now, id, bytes)))
+}
+
+/// What follows the word `gave`: a moment, a connection's number and how many bytes.
+#[tactic(auto, unfolding(crate::specs::Lines::gave_line))]
+fn gave_line(text: &[u8]) -> Option<Event>
+    ensures { option_map event_of result ≡ gave_line text.now }
+{
+    let (now, rest) = cut(text, b' ')?;
+    let (id, n) = cut(rest, b' ')?;
+    let now = decimal(now)?;
+    let id = decimal(id)?;
+    let n = decimal(n)?;
+    Some(Event::Gave(now, id, n))
+}
+
+/// The event of a line of more than one word: the first, and what stands behind the space after it.
 #[tactic(auto, unfolding(crate::specs::Lines::event))]
 fn read_event(alloc: Global, word: &[u8], rest: &[u8]) -> Result<Option<Event>, NoMemory>
     ensures { IfOk result (λ read. option_map event_of read ≡ event word.now rest.now) }
@@ -71,7 +118,33 @@ fn read_event(alloc: Global, word: &[u8], rest: &[u8]) -> Result<Option<Event>, 
     if word == b"datagram".as_slice() {
         return datagram_line(alloc, rest);
     }
+    if word == b"open".as_slice() {
+        return Ok(open_line(rest));
+    }
+    if word == b"bytes".as_slice() {
+        return bytes_line(alloc, rest);
+    }
+    if word == b"pending".as_slice() {
+        return Ok(decimal(rest).map(Event::Pending));
+    }
+    if word == b"gave".as_slice() {
+        return Ok(gave_line(rest));
+    }
+    if word == b"closed".as_slice() {
+        return Ok(decimal(rest).map(Event::Closed));
+    }
     Ok(None)
+}
+
+/// The event of a line of one word.
+#[tactic(auto, unfolding(crate::specs::Lines::lone_event))]
+fn lone_event(word: &[u8]) -> Option<Event>
+    ensures { option_map event_of result ≡ lone_event word.now }
+{
+    if word == b"lost".as_slice() {
+        return Some(Event::NextLost);
+    }
+    None
 }
 
 #[tactic(auto, unfolding(crate::specs::Lines::line))]
@@ -81,10 +154,11 @@ fn read_line(alloc: Global, text: &[u8]) -> Result<Line, NoMemory>
     if text.is_empty() || text[0] == b'#' {
         return Ok(Line::Skipped);
     }
-    let Some((word, rest)) = cut(text, b' ') else {
-        return Ok(Line::Bad);
+    let event = match cut(text, b' ') {
+        None => lone_event(text),
+        Some((word, rest)) => read_event(alloc, word, rest)?,
     };
-    match read_event(alloc, word, rest)? {
+    match event {
         Some(event) => Ok(Line::Happens(event)),
         None => Ok(Line::Bad),
     }

@@ -1,11 +1,11 @@
 //! The lines that outputs are printed as.
-ghost use Rattle.std.specs.Prelude.{◌≡◌, OnOk};
+ghost use Rattle.std.specs.Prelude.{◌≡◌, ◌++◌, codes, OnOk};
 ghost use Rattle.std.specs.Io.KnownBytes.{Appends};
 ghost use Rattle.hex.specs.Hex.{encode_lower};
 ghost use Rattle.rb_core.specs.StandsFor.{output_of, outputs_of};
-ghost use Rattle.rpcbind.specs.Printing.{hex_text, text_of, report_of};
+ghost use Rattle.rpcbind.specs.Printing.{hex_text, refusal_text, text_of, report_of};
 
-use rb_core::Output;
+use rb_core::{CoreFault, Output};
 use std::io;
 use std::io::Write;
 
@@ -38,17 +38,44 @@ fn print_hex<W: Write>(bytes: &[u8], writer: &mut W) -> io::Result<()>
     print_digits(bytes, writer)
 }
 
+/// Writes a line of a word and bytes.
+fn print_bytes<W: Write>(word: &str, bytes: &[u8], writer: &mut W) -> io::Result<()>
+    ensures { OnOk result (Appends (W.contents writer.old) (W.contents writer.new) (word.now ++ (hex_text bytes.now ++ codes "\n"))) }
+{
+    writer.write_all(word.as_bytes())?;
+    print_hex(bytes, writer)?;
+    writer.write_all(b"\n")
+}
+
+/// Writes the line of a refused call.
+fn print_refusal<W: Write>(fault: CoreFault, writer: &mut W) -> io::Result<()>
+    ensures { OnOk result (Appends (W.contents writer.old) (W.contents writer.new) (refusal_text fault)) }
+{
+    match fault {
+        CoreFault::Full => writer.write_all(b"full\n"),
+        CoreFault::Spent => writer.write_all(b"spent\n"),
+        CoreFault::Gone => writer.write_all(b"gone\n"),
+        CoreFault::NoMemory => writer.write_all(b"no memory\n"),
+        CoreFault::BadLimits => writer.write_all(b"bad limits\n"),
+    }
+}
+
 /// Writes the line of an output. An `Err` does not tell how much of it went out.
 pub fn print_output<W: Write>(output: &Output, writer: &mut W) -> io::Result<()>
     ensures { OnOk result (Appends (W.contents writer.old) (W.contents writer.new) (text_of (output_of output.now))) }
 {
     match output {
+        Output::Replied(bytes) => print_bytes("reply ", bytes, writer),
         Output::Silent => writer.write_all(b"silent\n"),
-        Output::Replied(bytes) => {
-            writer.write_all(b"reply ")?;
-            print_hex(bytes, writer)?;
-            writer.write_all(b"\n")
-        }
+        Output::Opened(id) => writeln!(writer, "open {id}"),
+        Output::Refused(fault) => print_refusal(*fault, writer),
+        Output::Took(n) => writeln!(writer, "took {n}"),
+        Output::TookAndClosed(n) => writeln!(writer, "took {n} closed"),
+        Output::Pending(bytes) => print_bytes("pending ", bytes, writer),
+        Output::Done => writer.write_all(b"ok\n"),
+        Output::TooMuch => writer.write_all(b"toomuch\n"),
+        Output::Lost(None) => writer.write_all(b"lost -\n"),
+        Output::Lost(Some(id)) => writeln!(writer, "lost {id}"),
     }
 }
 

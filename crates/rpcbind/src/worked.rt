@@ -1,5 +1,5 @@
 //! Worked examples of the definitions, which the proof computes.
-ghost use Rattle.rpcbind.specs.Worked.{StoredRunIsRead, StoredRunIsPrinted, BadEventLine, LinesAreCounted, NumbersOfLines, PeersOfLines};
+ghost use Rattle.rpcbind.specs.Worked.{StoredRunIsRead, StoredRunIsPrinted, BadEventLine, LinesAreCounted, NumbersOfLines, PeersOfLines, ConnectionsAreRead, ConnectionsArePrinted};
 
 /// The definitions give what the worked examples say.
 pub fn worked_examples()
@@ -9,4 +9,6 @@ pub fn worked_examples()
     ensures lines_are_counted { LinesAreCounted }
     ensures numbers { NumbersOfLines }
     ensures peers { PeersOfLines }
+    ensures connections_are_read { ConnectionsAreRead }
+    ensures connections_are_printed { ConnectionsArePrinted }
 {}

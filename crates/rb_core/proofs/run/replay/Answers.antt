@@ -12,6 +12,8 @@ loop-event-preserved c =
     record {
       happened = λ s h. rw given (one_more s c.args.events.now c.loop-event.event-index c.event-item.result _ _ _ _ _ c.loop-event-test.true c.event-item.is (c.loop-event.invariant.happened s h) c.in_ok-output.ensures.step);
       tie = c.in_ok-output.ensures.tie ∙ c.loop-event.invariant.tie;
-      meter = c.in_ok-output.ensures.meter ∙ c.loop-event.invariant.meter;
-      cost = λ s h. pays_more s c.args.events.now c.loop-event.event-index c.event-item.result _ _ _ c.loop-event-test.true c.event-item.is (c.loop-event.invariant.cost s h) (c.in_ok-output.ensures.cost _ (c.loop-event.invariant.happened s h).state);
+      meter = c.in_ok-output.ensures.cost.tie ∙ c.loop-event.invariant.meter;
+      cost = λ s h.
+          let before = (c.loop-event.invariant.happened s h).state in
+          pays_more s c.args.events.now c.loop-event.event-index c.event-item.result _ _ _ _ _ c.loop-event-test.true c.event-item.is before (c.in_ok-output.ensures.step _ before).1 (c.loop-event.invariant.cost s h) c.in_ok-output.ensures.cost;
     }

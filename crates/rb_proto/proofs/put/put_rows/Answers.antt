@@ -1,4 +1,4 @@
-use Rattle.std.proofs.Common.{◌≡◌, ◌≤◌, ◌<◌, ◌+◌, ◌++◌, ℕ, length, arith, refl}
+use Rattle.std.proofs.Common.{◌<◌, ◌+◌, length, arith, refl}
 use Rattle.rb_xdr.specs.Xdr.{boolean}
 use Rattle.std.specs.Prelude.{false}
 use Rattle.rb_proto.specs.Results.{row_bytes}

@@ -9,6 +9,7 @@ returns-clause-step c = λ s h.
     (record {
       setting = refl;
       clock = c.max-self-inside.ensures;
+      connections = refl;
       limit = c.serve-served.ensures.limit;
       served = c.serve-served.ensures.served;
       changes = c.serve-served.ensures.changes;

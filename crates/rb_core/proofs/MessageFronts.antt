@@ -1,0 +1,113 @@
+-- The first 9,656 bytes of a record decide what it says.
+use Rattle.std.proofs.Common.{◌≡◌, ◌≤◌, ◌+◌, ◌-◌, ℕ, cond, List, take, drop, Option, Some, None, Err, refl, ap, ◌∙◌, arith}
+use Rattle.std.specs.Prelude.{option_map, option_and_then}
+use Rattle.rb_xdr.specs.Xdr.{Reading, read_number, read_opaque}
+use Rattle.rb_xdr.specs.Kept.{Kept}
+use Rattle.rb_rpc.specs.declared.call.CallHead.{CallHead}
+use Rattle.rb_rpc.specs.declared.marks.Marks.{Marks}
+use Rattle.rb_rpc.specs.Records.{data_of}
+use Rattle.rb_rpc.specs.Verdict.{EndsWithin, verdict}
+use Rattle.rb_rpc.specs.declared.call.Verdict.{Verdict}
+use Rattle.rb_rpc.specs.declared.call.Verdict.TheVariants.{NoCall, RpcMismatch, AuthError, Call}
+use Rattle.rb_proto.specs.declared.mapping.Mapping.{Mapping}
+use Rattle.rb_proto.specs.declared.rpcb.Rpcb.{Rpcb}
+use Rattle.rb_proto.specs.declared.netbuf.Netbuf.{Netbuf}
+use Rattle.rb_proto.specs.declared.procedure.Procedure.{Procedure}
+use Rattle.rb_proto.specs.declared.procedure.Procedure.TheVariants as asks
+use Rattle.rb_proto.specs.declared.request.ArgumentFault.TheVariants.{ProcUnavail}
+use Rattle.rb_proto.specs.declared.request.Request.{Request}
+use Rattle.rb_proto.specs.declared.request.Request.TheVariants.{PmapSet, PmapUnset, Getport, Set, Unset, Getaddr, Uaddr2taddr, Taddr2uaddr, Getversaddr, Getaddrlist}
+use Rattle.rb_proto.specs.Types.{read_mapping, read_rpcb, read_netbuf}
+use Rattle.rb_proto.specs.Arguments.{procedure_at, is_known, value_of, front, arguments, request, or_garbage, read_request}
+use Rattle.rb_core.specs.Calls.{called, judged, message_of}
+use Rattle.rb_core.specs.Feeding.{HasRecord, KeptSaysTheRecord}
+use Rattle.rb_core.specs.Reading.{longest_head, longest_arguments, longest_call}
+use Rattle.rb_core.proofs.ReaderFronts.{LooksAt, give_looks, bind_looks, number_looks, opaque_looks, drop_front}
+use Rattle.rb_core.proofs.Fronts.{front_decides, head_ends}
+
+-- ---- the types of arguments
+
+mapping_looks : LooksAt 16 read_mapping
+unfolding read_mapping
+mapping_looks =
+    bind_looks 4 12 read_number _ number_looks
+    (λ prog. bind_looks 4 8 read_number _ number_looks
+    (λ vers. bind_looks 4 4 read_number _ number_looks
+    (λ prot. bind_looks 4 0 read_number _ number_looks (λ port. give_looks _ 0))))
+
+rpcb_looks : LooksAt 308 read_rpcb
+unfolding read_rpcb
+rpcb_looks =
+    bind_looks 4 304 read_number _ number_looks
+    (λ prog. bind_looks 4 300 read_number _ number_looks
+    (λ vers. bind_looks 36 264 (read_opaque 32) _ (opaque_looks 32)
+    (λ netid. bind_looks 132 132 (read_opaque 128) _ (opaque_looks 128)
+    (λ addr. bind_looks 132 0 (read_opaque 128) _ (opaque_looks 128) (λ owner. give_looks _ 0)))))
+
+netbuf_looks : LooksAt 136 read_netbuf
+unfolding read_netbuf
+netbuf_looks =
+    bind_looks 4 132 read_number _ number_looks
+    (λ maxlen. bind_looks 132 0 (read_opaque 128) _ (opaque_looks 128) (λ buf. give_looks _ 0))
+
+-- ---- what is asked for
+
+mapping_of_front : (asked : Mapping → Request) (n : ℕ) (bytes : List ℕ) → longest_arguments ≤ n → option_map asked (front read_mapping (take n bytes)) ≡ option_map asked (front read_mapping bytes)
+mapping_of_front asked n bytes enough = ap (λ (r : Reading Mapping). option_map asked (value_of r)) (mapping_looks.decided n bytes (omega (arith, enough)))
+
+rpcb_of_front : (asked : Rpcb → Request) (n : ℕ) (bytes : List ℕ) → longest_arguments ≤ n → option_map asked (front read_rpcb (take n bytes)) ≡ option_map asked (front read_rpcb bytes)
+rpcb_of_front asked n bytes enough = ap (λ (r : Reading Rpcb). option_map asked (value_of r)) (rpcb_looks.decided n bytes (omega (arith, enough)))
+
+arguments_of_front : (procedure : Procedure) (n : ℕ) (bytes : List ℕ) → longest_arguments ≤ n → arguments procedure (take n bytes) ≡ arguments procedure bytes
+unfolding arguments
+arguments_of_front asks.Null n bytes enough = refl
+arguments_of_front asks.PmapSet n bytes enough = mapping_of_front PmapSet n bytes enough
+arguments_of_front asks.PmapUnset n bytes enough = mapping_of_front PmapUnset n bytes enough
+arguments_of_front asks.Getport n bytes enough = mapping_of_front Getport n bytes enough
+arguments_of_front asks.PmapDump n bytes enough = refl
+arguments_of_front asks.Set n bytes enough = rpcb_of_front Set n bytes enough
+arguments_of_front asks.Unset n bytes enough = rpcb_of_front Unset n bytes enough
+arguments_of_front asks.Getaddr n bytes enough = rpcb_of_front Getaddr n bytes enough
+arguments_of_front asks.Dump n bytes enough = refl
+arguments_of_front asks.Gettime n bytes enough = refl
+arguments_of_front asks.Uaddr2taddr n bytes enough = ap (λ (r : Reading (List ℕ)). option_map Uaddr2taddr (value_of r)) ((opaque_looks 128).decided n bytes (omega (arith, enough)))
+arguments_of_front asks.Taddr2uaddr n bytes enough = ap (λ (r : Reading Netbuf). option_map Taddr2uaddr (value_of r)) (netbuf_looks.decided n bytes (omega (arith, enough)))
+arguments_of_front asks.Getversaddr n bytes enough = rpcb_of_front Getversaddr n bytes enough
+arguments_of_front asks.Getaddrlist n bytes enough = rpcb_of_front Getaddrlist n bytes enough
+
+-- the first bytes of the arguments decide what is asked for
+pub request_of_front : (vers proc n : ℕ) (bytes : List ℕ) → longest_arguments ≤ n → request vers proc (take n bytes) ≡ request vers proc bytes
+unfolding request
+request_of_front vers proc n bytes enough = by_procedure (procedure_at vers proc)
+  where
+    by_procedure : (p : Option Procedure) → option_and_then (λ procedure. arguments procedure (take n bytes)) p ≡ option_and_then (λ procedure. arguments procedure bytes) p
+    by_procedure (Some procedure) = arguments_of_front procedure n bytes enough
+    by_procedure None = refl
+
+pub read_of_front : (vers proc n : ℕ) (bytes : List ℕ) → longest_arguments ≤ n → read_request vers proc (take n bytes) ≡ read_request vers proc bytes
+read_of_front vers proc n bytes enough = ap (λ (r : Option Request). cond (is_known vers proc) (or_garbage r) (Err ProcUnavail)) (request_of_front vers proc n bytes enough)
+
+called_of_front : (n : ℕ) (head : CallHead) (bytes : List ℕ) → longest_arguments ≤ n → called head (take n bytes) ≡ called head bytes
+unfolding called
+called_of_front n head bytes enough = rw (request_of_front head.vers head.proc n bytes enough) refl
+
+judged_of_front : (n : ℕ) (bytes : List ℕ) (v : Verdict) → longest_head + longest_arguments ≤ n → EndsWithin v longest_head → judged (take n bytes) v ≡ judged bytes v
+judged_of_front n bytes NoCall enough within = refl
+judged_of_front n bytes (RpcMismatch xid) enough within = refl
+judged_of_front n bytes (AuthError xid stat) enough within = refl
+judged_of_front n bytes (Call head place) enough within =
+    ap (λ (arguments : List ℕ). called head arguments) (drop_front place n bytes (omega (arith, enough, within)))
+    ∙ called_of_front (n - place) head (drop place bytes) (omega (arith, enough, within))
+
+pub front_says : (n : ℕ) (bytes : List ℕ) → longest_head + longest_arguments ≤ n → message_of (take n bytes) ≡ message_of bytes
+unfolding message_of
+front_says n bytes enough =
+    ap (λ (v : Verdict). judged (take n bytes) v) (front_decides n bytes (omega (arith, enough)))
+    ∙ judged_of_front n bytes (verdict bytes) enough (head_ends bytes)
+
+pub kept_says : KeptSaysTheRecord
+unfolding longest_call
+kept_says bytes = front_says longest_call bytes (omega arith)
+
+pub record_says : (marks : Marks) (kept : Kept) (bytes : List ℕ) → HasRecord marks kept bytes → message_of kept.bytes ≡ message_of (data_of bytes)
+record_says marks kept bytes h = ap message_of h.kept_is ∙ kept_says (data_of bytes)

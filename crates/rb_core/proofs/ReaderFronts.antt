@@ -1,0 +1,170 @@
+-- How many bytes a reader looks at.
+use Rattle.std.proofs.Common.{◌≡◌, ◌≤◌, ◌+◌, ◌-◌, ◌*◌, ℕ, zero, suc, Bool, true, false, cond, eqb, ltb, List, [], ◌∷◌, length, take, drop, Some, None, Result, Ok, Err, refl, sym, ap, ◌∙◌, arith, inl, inr}
+use Rattle.std.specs.Prelude.{slice_range}
+use Rattle.std.specs.Int.{cast_signed, w32, from_be_bytes}
+use Rattle.std.proofs.lemmas.List.{take-take, take_all, drop-take, length-take}
+use Rattle.std.proofs.lemmas.Bool.{cases_lt, le-ltb, ltb-false}
+use Rattle.rb_xdr.specs.declared.fault.XdrFault.{XdrFault}
+use Rattle.rb_xdr.specs.Xdr.{Reading, Reader, behind, read_on, ◌>>=◌, give, refuse, number_at, residue, are_zero, max_number, max_opaque, max_optional, read_number, read_signed, read_bool, read_content, read_opaque, read_pair, read_item, read_optional, read_numbers, read_array}
+use Rattle.rb_xdr.specs.declared.fault.XdrFault.TheVariants.{Short, TooLong, BadBool, BadPadding}
+use Rattle.rb_xdr.proofs.Readers.{ok_is, bind_ok}
+
+-- ---- parts of a front
+
+pub drop_front : (p n : ℕ) (xs : List ℕ) → p ≤ n → drop p (take n xs) ≡ take (n - p) (drop p xs)
+drop_front p n xs le =
+    let size : n ≡ p + (n - p) = omega (arith, le) in
+    ap (λ (k : ℕ). drop p (take k xs)) size ∙ drop-take p (n - p) xs
+
+pub part_of_front : (p k n : ℕ) (xs : List ℕ) → p + k ≤ n → take k (drop p (take n xs)) ≡ take k (drop p xs)
+part_of_front p k n xs le =
+    ap (λ (ys : List ℕ). take k ys) (drop_front p n xs (omega (arith, le))) ∙ take-take k (n - p) (drop p xs) (omega (arith, le))
+
+pub slice_of_front : (p q n : ℕ) (xs : List ℕ) → p ≤ q → q ≤ n → slice_range (take n xs) p q ≡ slice_range xs p q
+slice_of_front p q n xs le within = part_of_front p (q - p) n xs (omega (arith, le, within))
+
+pub number_of_front : (p n : ℕ) (xs : List ℕ) → p + 4 ≤ n → number_at p (take n xs) ≡ number_at p xs
+unfolding number_at
+number_of_front p n xs le = ap (λ (ys : List ℕ). from_be_bytes w32 ys) (part_of_front p 4 n xs le)
+
+-- a front is shorter than so many bytes where they all are
+pub short_front : (k n : ℕ) (xs : List ℕ) → k ≤ n → ltb (length (take n xs)) k ≡ ltb (length xs) k
+short_front k n xs le =
+    elim (cases_lt (length xs) n) [
+      | inl short ↦ ap (λ (ys : List ℕ). ltb (length ys) k) (take_all n xs (omega (arith, short)))
+      | inr long ↦ le-ltb (length (take n xs)) k (omega (arith, long, le, length-take n xs)) ∙ sym (le-ltb (length xs) k (omega (arith, long, le)))
+    ]
+
+-- ---- readers
+
+-- A front of so many bytes decides what is read, and a value ends in it.
+pub record LooksAt {A : Type 0} (most : ℕ) (reads : Reader A) : Type 0 where
+  pub decided : (n : ℕ) (bytes : List ℕ) → most ≤ n → reads (take n bytes) ≡ reads bytes
+  pub ends : (bytes : List ℕ) (x : A) (used : ℕ) → reads bytes ≡ Ok (x, used) → used ≤ most
+
+pub looks_at_more : {A : Type 0} (most more : ℕ) (reads : Reader A) → most ≤ more → LooksAt most reads → LooksAt more reads
+looks_at_more most more reads le looks = record {
+  decided = λ n bytes enough. looks.decided n bytes (omega (arith, le, enough));
+  ends = λ bytes x used e. omega (arith, le, looks.ends bytes x used e);
+}
+
+pub give_looks : {A : Type 0} (x : A) (most : ℕ) → LooksAt most (give x)
+give_looks x most = record {
+  decided = λ n bytes enough. refl;
+  ends = λ bytes y used e. let zero_is : 0 ≡ used = ap (λ (p : _ × ℕ). p.1) (ok_is (x, 0) (y, used) e) in omega (arith, zero_is);
+}
+
+pub refuse_looks : {A : Type 0} (fault : XdrFault) (most : ℕ) → LooksAt {A = A} most (refuse fault)
+refuse_looks fault most = record {
+  decided = λ n bytes enough. refl;
+  ends = λ bytes x used e. absurd cc;
+}
+
+pub cond_looks : {A : Type 0} (most : ℕ) (b : Bool) (first second : Reader A) → (b ≡ true → LooksAt most first) → (b ≡ false → LooksAt most second) → LooksAt most (cond b first second)
+cond_looks most true first second p q = p refl
+cond_looks most false first second p q = q refl
+
+-- one after the other looks at the sum
+pub bind_looks : {A B : Type 0} (most more : ℕ) (first : Reader A) (next : A → Reader B) → LooksAt most first → ((x : A) → LooksAt more (next x)) → LooksAt (most + more) (first >>= next)
+bind_looks {A} {B} most more first next looks then_looks = record {
+  decided = λ n bytes enough. ap (λ (r : Reading A). read_on r next (take n bytes)) (looks.decided n bytes (omega (arith, enough))) ∙ by_value n bytes enough (first bytes) refl;
+  ends = λ bytes y used e.
+      let s = bind_ok first next bytes y used e in
+      let p : s.used ≤ most = looks.ends bytes s.x s.used s.was in
+      let q : s.more ≤ more = (then_looks s.x).ends (drop s.used bytes) y s.more s.then_was in
+      let sum : s.used + s.more ≡ used = s.sum in
+      omega (arith, p, q, sum);
+}
+  where
+    by_value : (n : ℕ) (bytes : List ℕ) → most + more ≤ n → (r : Reading A) → first bytes ≡ r → read_on r next (take n bytes) ≡ read_on r next bytes
+    by_value n bytes enough (Ok x) was =
+        let used : x.1 ≤ most = looks.ends bytes x.0 x.1 was in
+        ap (λ (ys : List ℕ). behind x.1 (next x.0 ys)) (drop_front x.1 n bytes (omega (arith, used, enough)))
+        ∙ ap (λ (r : Reading B). behind x.1 r) ((then_looks x.0).decided (n - x.1) (drop x.1 bytes) (omega (arith, used, enough)))
+    by_value n bytes enough (Err fault) was = refl
+
+-- ---- the readers of specs/Xdr
+
+refused : {A : Type 0} (b : Bool) (d : XdrFault) (r : Result A XdrFault) (y : A) → cond b (Err d) r ≡ Ok y → (b ≡ false) × (r ≡ Ok y)
+refused true d r y e = absurd cc
+refused false d r y e = (refl, e)
+
+pub number_looks : LooksAt max_number read_number
+unfolding read_number
+number_looks = record {
+  decided = λ n bytes enough. rw (short_front 4 n bytes enough, number_of_front 0 n bytes enough) refl;
+  ends = λ bytes x used e.
+      let r = refused (ltb (length bytes) 4) Short (Ok (number_at 0 bytes, 4)) (x, used) e in
+      let used_is : 4 ≡ used = ap (λ (p : ℕ × ℕ). p.1) (ok_is (number_at 0 bytes, 4) (x, used) r.1) in
+      omega (arith, used_is);
+}
+
+pub signed_looks : LooksAt max_number read_signed
+unfolding read_signed
+signed_looks = bind_looks 4 0 read_number (λ n. give (cast_signed w32 n)) number_looks (λ n. give_looks (cast_signed w32 n) 0)
+
+pub bool_looks : LooksAt max_number read_bool
+unfolding read_bool
+bool_looks =
+    bind_looks 4 0 read_number (λ n. cond (eqb n 0) (give false) (cond (eqb n 1) (give true) (refuse BadBool))) number_looks
+    (λ n. cond_looks 0 (eqb n 0) (give false) (cond (eqb n 1) (give true) (refuse BadBool)) (λ e. give_looks false 0)
+    (λ e. cond_looks 0 (eqb n 1) (give true) (refuse BadBool) (λ f. give_looks true 0) (λ f. refuse_looks BadBool 0)))
+
+passed : {A : Type 0} (b : Bool) (d : XdrFault) (x y : A) → cond b (Ok x) (Err d) ≡ Ok y → x ≡ y
+passed true d x y e = ok_is x y e
+passed false d x y e = absurd cc
+
+pub content_looks : (count : ℕ) → LooksAt (count + residue count) (read_content count)
+unfolding read_content
+content_looks count =
+    let size : ℕ = count + residue count in
+    record {
+      decided = λ n bytes enough.
+          rw (short_front (count + residue count) n bytes enough, slice_of_front count (count + residue count) n bytes (omega arith) enough, take-take count n bytes (omega (arith, enough))) refl;
+      ends = λ bytes x used e.
+          let r = refused (ltb (length bytes) (count + residue count)) Short _ (x, used) e in
+          let used_is : count + residue count ≡ used = ap (λ (p : List ℕ × ℕ). p.1) (passed (are_zero (slice_range bytes count (count + residue count))) BadPadding (take count bytes, count + residue count) (x, used) r.1) in
+          omega (arith, used_is);
+    }
+
+-- at most the count, the greatest content and its residual bytes
+pub opaque_looks : (limit : ℕ) → LooksAt (max_opaque limit) (read_opaque limit)
+unfolding read_opaque
+opaque_looks limit =
+    looks_at_more (4 + (limit + residue limit)) (max_opaque limit) (read_number >>= next) (omega arith)
+    (bind_looks 4 (limit + residue limit) read_number next number_looks
+    (λ count. cond_looks (limit + residue limit) (ltb limit count) (refuse TooLong) (read_content count) (λ e. refuse_looks TooLong (limit + residue limit)) (λ e. within count e)))
+  where
+    next : ℕ → Reader (List ℕ)
+    next count = cond (ltb limit count) (refuse TooLong) (read_content count)
+
+    within : (count : ℕ) → ltb limit count ≡ false → LooksAt (limit + residue limit) (read_content count)
+    within count e = looks_at_more (count + residue count) (limit + residue limit) (read_content count) (omega (arith, ltb-false limit count e)) (content_looks count)
+
+pub pair_looks : {A B : Type 0} (most more : ℕ) (first : Reader A) (second : Reader B) → LooksAt most first → LooksAt more second → LooksAt (most + more) (read_pair first second)
+unfolding read_pair
+pair_looks most more first second looks then_looks =
+    bind_looks most more first (λ a. second >>= λ b. give (a, b)) looks
+    (λ a. looks_at_more (more + 0) more (second >>= λ b. give (a, b)) (omega arith) (bind_looks more 0 second (λ b. give (a, b)) then_looks (λ b. give_looks (a, b) 0)))
+
+pub optional_looks : {A : Type 0} (most : ℕ) (reads : Reader A) → LooksAt most reads → LooksAt (max_optional most) (read_optional reads)
+unfolding read_optional
+optional_looks {A} most reads looks = bind_looks 4 most read_bool (read_item reads) bool_looks item_looks
+  where
+    item_looks : (there : Bool) → LooksAt most (read_item reads there)
+    item_looks true = looks_at_more (most + 0) most (reads >>= λ x. give (Some x)) (omega arith) (bind_looks most 0 reads (λ x. give (Some x)) looks (λ x. give_looks (Some x) 0))
+    item_looks false = give_looks None most
+
+pub numbers_look : (count : ℕ) → LooksAt (4 * count) (read_numbers count)
+numbers_look zero = give_looks [] 0
+numbers_look (suc k) =
+    looks_at_more (4 + (4 * k + 0)) (4 * suc k) (read_numbers (suc k)) (omega arith)
+    (bind_looks 4 (4 * k + 0) read_number (λ n. read_numbers k >>= λ more. give (n ∷ more)) number_looks
+    (λ n. bind_looks (4 * k) 0 (read_numbers k) (λ more. give (n ∷ more)) (numbers_look k) (λ more. give_looks (n ∷ more) 0)))
+
+pub array_looks : (limit : ℕ) → LooksAt (4 + 4 * limit) (read_array limit)
+unfolding read_array
+array_looks limit =
+    bind_looks 4 (4 * limit) read_number (λ count. cond (ltb limit count) (refuse TooLong) (read_numbers count)) number_looks
+    (λ count. cond_looks (4 * limit) (ltb limit count) (refuse TooLong) (read_numbers count) (λ e. refuse_looks TooLong (4 * limit))
+    (λ e. looks_at_more (4 * count) (4 * limit) (read_numbers count) (omega (arith, ltb-false limit count e)) (numbers_look count)))

@@ -1,0 +1,15 @@
+use Rattle.std.proofs.Common.{◌≡◌, ℕ, ◌+◌, ◌*◌, ◌≤◌, length}
+use Rattle.std.specs.Prelude.{find}
+use Rattle.rb_core.specs.Places.{to_come}
+use Rattle.rb_core.specs.Slots.{is_wanted_slot}
+use Rattle.rb_core.proofs.connections.wanted_key.Given as goal
+
+abbrev pub invariant-slots : goal.invariant-slots
+invariant-slots l = record {
+  found : find (λ e. is_wanted_slot l.wanted e.1) (to_come l.slots.entries l.place) ≡ find (λ e. is_wanted_slot l.wanted e.1) l.slots.entries;
+  tie : l.meter.tie ≡ l.fn.meter.tie;
+  steps : l.meter.steps + 2 * length (to_come l.slots.entries l.place) ≤ l.fn.meter.steps + 2 * length l.slots.entries;
+}
+
+abbrev pub decreases-slots : goal.decreases-slots
+decreases-slots l = length (to_come l.slots.entries l.place)

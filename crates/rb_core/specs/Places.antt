@@ -1,0 +1,31 @@
+-- Places in a table whose entries stand in order.
+use Rattle.std.specs.Prelude.{ℕ, ◌+◌, ◌==◌, if◌then◌else◌, List, [], ◌∷◌, Option, Some, None, option_map}
+
+module _ {T : Type 0} where
+  -- the entries behind that of a key
+  abbrev pub behind : List (ℕ × T) → ℕ → List (ℕ × T)
+  behind [] key = []
+  behind (e ∷ rest) key = if e.0 == key then rest else behind rest key
+
+  -- the entries up to that of a key
+  abbrev pub up_to : List (ℕ × T) → ℕ → List (ℕ × T)
+  up_to [] key = []
+  up_to (e ∷ rest) key = if e.0 == key then e ∷ [] else e ∷ up_to rest key
+
+  -- the number of entries up to that of a key, where it is there
+  abbrev pub count_to : List (ℕ × T) → ℕ → Option ℕ
+  count_to [] key = None
+  count_to (e ∷ rest) key = if e.0 == key then Some 1 else option_map (λ n. n + 1) (count_to rest key)
+
+  -- a place is behind the entry of a key, or before all: the entries before it, those after it, and how many are before it
+  abbrev pub passed : List (ℕ × T) → Option ℕ → List (ℕ × T)
+  passed entries None = []
+  passed entries (Some key) = up_to entries key
+
+  abbrev pub to_come : List (ℕ × T) → Option ℕ → List (ℕ × T)
+  to_come entries None = entries
+  to_come entries (Some key) = behind entries key
+
+  abbrev pub count_passed : List (ℕ × T) → Option ℕ → Option ℕ
+  count_passed entries None = Some 0
+  count_passed entries (Some key) = count_to entries key

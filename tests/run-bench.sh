@@ -1,0 +1,54 @@
+#!/usr/bin/env bash
+# Times the built program over three runs, and prints the time of each per call: 1,000 TCP NULL calls of 40 bytes in
+# single-byte pieces, the same in one piece each, and 10,000 datagram GETPORTs over 300 rows.
+set -eu
+cd "$(dirname "$0")/.."
+
+program=crates/rpcbind/out/rpcbind
+work=$(mktemp -d)
+trap 'rm -rf "$work"' EXIT
+[ -x "$program" ] || { echo "no program $program: run 'make' first"; exit 1; }
+
+# a NULL call of version 2 as a record of one fragment: header, xid, CALL, 2, 100000, 2, 0, and four zero words
+call=80000028$(printf '%08x' 1 0 2 100000 2 0 0 0 0 0)
+
+single_bytes() {
+    echo 'open 0 127.0.0.1:900'
+    for _ in $(seq 1000); do
+        for ((i = 0; i < ${#call}; i += 2)); do echo "bytes 0 1 ${call:i:2}"; done
+        echo 'gave 0 1 28'
+    done
+}
+
+whole_calls() {
+    echo 'open 0 127.0.0.1:900'
+    for _ in $(seq 1000); do
+        echo "bytes 0 1 $call"
+        echo 'gave 0 1 28'
+    done
+}
+
+getports() {
+    for i in $(seq 294); do
+        printf 'datagram 0 127.0.0.1:900 %s\n' "$(printf '%08x' "$i" 0 2 100000 2 1 0 0 0 0 $((200000 + i)) 1 6 2049)"
+    done
+    local ask
+    ask=$(printf '%08x' 1 0 2 100000 2 3 0 0 0 0 200294 1 6 0)
+    for _ in $(seq 10000); do echo "datagram 0 127.0.0.1:900 $ask"; done
+}
+
+# Runs the program over a file of events, and prints the time for each of so many calls.
+time_run() {
+    local name=$1 calls=$2 begin end
+    begin=$(date +%s%N)
+    "$program" replay < "$work/events" > "$work/outputs"
+    end=$(date +%s%N)
+    echo "$name: $(((end - begin) / calls / 1000)).$(printf '%03d' $(((end - begin) / calls % 1000))) microseconds per call"
+}
+
+single_bytes > "$work/events"
+time_run '1,000 TCP calls in single bytes' 1000
+whole_calls > "$work/events"
+time_run '1,000 TCP calls in one piece' 1000
+getports > "$work/events"
+time_run '10,000 GETPORTs over 300 rows' 10000
