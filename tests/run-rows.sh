@@ -2,7 +2,8 @@
 # Runs the built program over each row of tests/rows, and checks two rules of the repository.
 #
 # A row is NAME.events (standard input of `rpcbind replay`) and NAME.expected (its standard output). Where they
-# differ from 0 and from nothing, NAME.status has the exit status and NAME.stderr the standard error.
+# differ from 0 and from nothing, NAME.status has the exit status and NAME.stderr the standard error. A row with
+# bytes of connections is run again with them cut into single bytes and into pieces of 7.
 # Each difference is printed. The last line is 'N passed, N failed'; the status is 1 where one failed.
 set -u
 cd "$(dirname "$0")/.." || exit 1
@@ -43,6 +44,25 @@ run_row() {
     return $bad
 }
 
+# Cuts the bytes of each `bytes` line into pieces of $2 bytes, a line each.
+cut_into_pieces() {
+    LC_ALL=C awk -v width=$((2 * $2)) '
+        $1 == "bytes" && $4 != "-" {
+            for (at = 1; at <= length($4); at += width) print $1, $2, $3, substr($4, at, width)
+            next
+        }
+        { print }
+    ' "$1"
+}
+
+# In pieces of any length a connection's bytes give the same pending bytes.
+run_row_in_pieces() {
+    local base=$1
+    grep '^pending' "$base.expected" > "$work/wanted"
+    cut_into_pieces "$base.events" "$2" | "$program" replay | grep '^pending' > "$work/stdout"
+    same "$work/wanted" "$work/stdout" "pending"
+}
+
 if [ ! -x "$program" ]; then
     judge 1 "no program $program: run 'make' first"
 fi
@@ -52,6 +72,11 @@ for events in tests/rows/*.events; do
     rows=$((rows + 1))
     run_row "${events%.events}"
     judge $? "row $(basename "${events%.events}")"
+    grep -q '^bytes' "$events" || continue
+    for length in 1 7; do
+        run_row_in_pieces "${events%.events}" $length
+        judge $? "row $(basename "${events%.events}") in pieces of $length"
+    done
 done
 [ "$rows" -gt 0 ]
 judge $? "there is no row in tests/rows"
