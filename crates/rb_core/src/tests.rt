@@ -58,25 +58,6 @@ fn limits_and_numbers(rt: HostRuntime) {
     }
 }
 
-#[test]
-fn replay_has_memory(rt: HostRuntime) -> Result<(), Fail> {
-    let mut meter = Meter::new();
-    let mut core = Core::new(rt.alloc(), limits(300), LISTENER, 1000, 0, &mut meter)?;
-    let set = [3, 0, 2, 100_000, 2, 1, 0, 0, 0, 0, 200_001, 1, 6, 2049];
-    let mut events = Vec::new(rt.alloc());
-    events.push(Event::Datagram(0, LOOPBACK, words(rt.alloc(), &set)?))?;
-    events.push(Event::Datagram(0, LOOPBACK, Vec::new(rt.alloc())))?;
-    let mut outputs = Vec::new(rt.alloc());
-    replay(rt.alloc(), &mut core, &events, &mut outputs, &mut meter)?;
-    assert_eq!(rt; outputs.len(), 2);
-    let reply = words(rt.alloc(), &[3, 1, 0, 0, 0, 0, 1])?;
-    assert!(rt;
-        matches!(&outputs[0], Output::Replied(bytes) if bytes.as_slice() == reply.as_slice())
-    );
-    assert!(rt; matches!(&outputs[1], Output::Silent));
-    Ok(())
-}
-
 /// The length of what a version 2 DUMP over UDP is answered with.
 fn dump_length(alloc: Global, core: &mut Core, meter: &mut Meter) -> Result<usize, AllocError>
     requires { meter.old.tie ≡ core.old.tie }
@@ -135,33 +116,71 @@ fn greatest_dump_of_version_2(rt: HostRuntime) -> Result<(), Fail> {
     Ok(())
 }
 
+fn silent_is_last(outputs: &[Output]) -> bool {
+    matches!(outputs.last(), Some(Output::Silent))
+}
+
+fn set_and_nothing(alloc: Global) -> Result<Vec<Event>, AllocError> {
+    let set = [3, 0, 2, 100_000, 2, 1, 0, 0, 0, 0, 200_001, 1, 6, 2049];
+    let mut events = Vec::new(alloc);
+    events.push(Event::Datagram(0, LOOPBACK, words(alloc, &set)?))?;
+    events.push(Event::Datagram(0, LOOPBACK, Vec::new(alloc)))?;
+    Ok(events)
+}
+
+#[test]
+fn replay_has_memory(rt: HostRuntime) -> Result<(), Fail> {
+    let mut meter = Meter::new();
+    let mut core = Core::new(rt.alloc(), limits(300), LISTENER, 1000, 0, &mut meter)?;
+    let events = set_and_nothing(rt.alloc())?;
+    let mut outputs = Vec::new(rt.alloc());
+    replay(rt.alloc(), &mut core, &events, &mut outputs, &mut meter)?;
+    assert!(rt; outputs.len() == 2 && silent_is_last(&outputs));
+    Ok(())
+}
+
+fn null_record(alloc: Global) -> Result<Vec<u8>, AllocError> {
+    words(alloc, &[0x8000_0028, 1, 0, 2, 100_000, 2, 0, 0, 0, 0, 0])
+}
+
 /// A connection is opened, calls, is answered and is closed: each call of a connection once.
 #[test]
 fn connections_have_memory(rt: HostRuntime) -> Result<(), Fail> {
     let mut meter = Meter::new();
     let mut core = Core::new(rt.alloc(), limits(300), LISTENER, 1000, 0, &mut meter)?;
-    let call = words(
-        rt.alloc(),
-        &[0x8000_0028, 1, 0, 2, 100_000, 2, 0, 0, 0, 0, 0],
-    )?;
-    let mut events = Vec::new(rt.alloc());
+    let call = null_record(rt.alloc())?;
+    let id = core.open(0, LOOPBACK, &mut meter)?;
+    let taken = core.bytes(0, id, &call, &mut meter)?;
+    core.gave(0, id, 3, &mut meter)?;
+    let pending = core.pending(id, &mut meter)?.len();
+    let lost = core.next_lost(&mut meter);
+    core.closed(id, &mut meter)?;
+    assert!(rt; taken.count == 44 && pending == 25 && lost.is_none());
+    Ok(())
+}
+
+fn written_in_parts(alloc: Global) -> Result<Vec<Event>, AllocError> {
+    let mut events = Vec::new(alloc);
     events.push(Event::Open(0, LOOPBACK))?;
-    events.push(Event::Bytes(0, 1, call))?;
+    events.push(Event::Bytes(0, 1, null_record(alloc)?))?;
+    events.push(Event::Gave(0, 1, 27))?;
+    events.push(Event::Gave(0, 1, 2))?;
     events.push(Event::Pending(1))?;
-    events.push(Event::Gave(0, 1, 28))?;
-    events.push(Event::NextLost)?;
-    events.push(Event::Closed(1))?;
+    Ok(events)
+}
+
+fn too_much_is_next_to_last(outputs: &[Output]) -> bool {
+    matches!(outputs.get(3), Some(Output::TooMuch))
+}
+
+/// Of 28 reply bytes 27 are taken, then 2: more than is left is refused, and the events go on.
+#[test]
+fn partial_writes(rt: HostRuntime) -> Result<(), Fail> {
+    let mut meter = Meter::new();
+    let mut core = Core::new(rt.alloc(), limits(300), LISTENER, 1000, 0, &mut meter)?;
+    let events = written_in_parts(rt.alloc())?;
     let mut outputs = Vec::new(rt.alloc());
     replay(rt.alloc(), &mut core, &events, &mut outputs, &mut meter)?;
-    let reply = words(rt.alloc(), &[0x8000_0018, 1, 1, 0, 0, 0, 0])?;
-    assert_eq!(rt; outputs.len(), 6);
-    assert!(rt; matches!(&outputs[0], Output::Opened(1)));
-    assert!(rt; matches!(&outputs[1], Output::Took(44)));
-    assert!(rt;
-        matches!(&outputs[2], Output::Pending(bytes) if bytes.as_slice() == reply.as_slice())
-    );
-    assert!(rt; matches!(&outputs[3], Output::Done));
-    assert!(rt; matches!(&outputs[4], Output::Lost(None)));
-    assert!(rt; matches!(&outputs[5], Output::Done));
+    assert!(rt; outputs.len() == 5 && too_much_is_next_to_last(&outputs));
     Ok(())
 }
