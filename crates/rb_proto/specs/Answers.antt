@@ -146,11 +146,11 @@ row_of_getversaddr seen r = find_exact r.prog r.vers seen.caller_netid seen.rows
 
 -- 0 where there is no row
 abbrev pub port_found : Option Row → ℕ
-port_found row = option_map_or (λ (found : Row). shown_port found.addr) row 0
+port_found found = option_map_or (λ (row : Row). shown_port row.addr) found 0
 
 -- empty where there is no row
 abbrev pub addr_found : List ℕ → Option Row → List ℕ
-addr_found host row = option_map_or (λ (found : Row). shown_text host found.addr) row []
+addr_found host found = option_map_or (λ (row : Row). shown_text host row.addr) found []
 
 -- ---- the rest
 
