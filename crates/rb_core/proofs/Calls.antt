@@ -12,14 +12,13 @@ use Rattle.rb_core.specs.Serve.{scene_by, served, changes_by, serve}
 use Rattle.rb_rpc.specs.declared.peer.Peer.{Peer}
 use Rattle.rb_core.specs.declared.types.CoreFault.{CoreFault}
 use Rattle.rb_core.specs.declared.types.CoreFault.TheVariants.{Gone}
-use Rattle.rb_registry.specs.declared.row.Row.{Row}
 use Rattle.rb_registry.specs.Rows.{Change}
 use Rattle.rb_registry.specs.Registry.{Registry, StandsForChanges}
 use Rattle.rb_proto.specs.Callers.{own_rows}
-use Rattle.rb_core.specs.State.{State, Connection, Connections, at_moment}
+use Rattle.rb_core.specs.State.{State, Connection, at_moment}
 use Rattle.rb_core.specs.Slots.{Table, StandsForConnections}
-use Rattle.rb_core.specs.Connections.{number_for, open_connection, opened_or, with_new, is_live, live_connection, change_first, changed_at, on_connection, settled, is_lost, first_lost, next_lost, is_there, without_number, closed}
-use Rattle.rb_core.specs.Pending.{pending, lent, gave, gave_on, give, is_too_much, pending_in, when_given}
+use Rattle.rb_core.specs.Connections.{number_for, open_connection, with_new, is_live, live_connection, change_first, changed_at, on_connection, settled, is_lost, is_there, without_number, closed}
+use Rattle.rb_core.specs.Pending.{pending, gave, is_too_much, pending_in, when_given}
 use Rattle.rb_core.specs.Taking.{Taken, bytes, bytes_to, taken_from, fed_with, none_taken, reading, is_closing, fed_in}
 use Rattle.rb_core.specs.Took.{HasTaken, HasGiven, Took, took, took_with, took_record, given_in}
 use Rattle.rb_core.specs.StandsFor.{Held, StandsFor}

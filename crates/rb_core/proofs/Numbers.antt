@@ -1,5 +1,5 @@
 -- The numbers of connections only go up.
-use Rattle.std.proofs.Common.{◌≡◌, ℕ, ◌+◌, Bool, true, false, cond, not, nat_lt, eqb, Option, Some, None, Result, Ok, Err, List, [], ◌∷◌, ◌++◌, length, take, refl, sym, subst, ap, ◌∙◌, arith}
+use Rattle.std.proofs.Common.{◌≡◌, ℕ, ◌+◌, Bool, true, false, cond, not, nat_lt, eqb, Option, Some, None, Result, Ok, Err, List, [], ◌∷◌, ◌++◌, length, take, refl, sym, subst, arith}
 use Rattle.std.specs.Prelude.{filter_map}
 use Rattle.std.specs.List.{cons_option}
 use Rattle.rb_rpc.specs.declared.peer.Peer.{Peer}
@@ -8,10 +8,8 @@ use Rattle.rb_rpc.specs.declared.peer.Caller.TheVariants.{Tcp, Udp}
 use Rattle.rb_rpc.specs.Records.{first_record, data_of}
 use Rattle.rb_core.specs.declared.types.CoreFault.{CoreFault}
 use Rattle.rb_core.specs.declared.types.CoreFault.TheVariants.{Full, Spent, Gone}
-use Rattle.rb_core.specs.declared.types.Answer.{Answer}
-use Rattle.rb_core.specs.declared.types.Answer.TheVariants as answers
 use Rattle.rb_core.specs.State.{State, Connection, at_moment, greatest_number}
-use Rattle.rb_core.specs.Connections.{number_for, live_connection, on_connection, open_connection, opened, opened_or, is_there, closed, without_connection}
+use Rattle.rb_core.specs.Connections.{number_for, live_connection, on_connection, open_connection, opened_or, is_there, closed, without_connection}
 use Rattle.rb_core.specs.Pending.{pending, gave, gave_on, give, is_too_much, when_given}
 use Rattle.rb_core.specs.Serve.{Served, serve}
 use Rattle.rb_core.specs.Serve.Served.{Closing, Replied}

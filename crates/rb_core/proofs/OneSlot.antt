@@ -1,29 +1,27 @@
 -- One connection's slot beside the connection that it stands for.
-use Rattle.std.proofs.Common.{◌≡◌, ℕ, ◌+◌, ◌-◌, ◌<◌, ◌≤◌, Bool, true, false, cond, nat_lt, List, [], ◌∷◌, ◌++◌, length, take, Option, Some, None, refl, sym, ap, ◌∙◌, arith}
+use Rattle.std.proofs.Common.{◌≡◌, ℕ, ◌+◌, ◌-◌, ◌<◌, ◌≤◌, Bool, true, false, cond, nat_lt, List, [], ◌∷◌, ◌++◌, length, Option, Some, None, refl, sym, ap, ◌∙◌, arith}
 use Rattle.std.specs.Prelude.{IfSome}
 use Rattle.std.proofs.lemmas.List.{length-append}
 use Rattle.rb_xdr.specs.Xdr.{number, opaque}
 use Rattle.rb_xdr.specs.Kept.{Kept}
-use Rattle.rb_rpc.specs.declared.marks.Marks.{Marks}
 use Rattle.rb_rpc.specs.declared.reply.ReplyStatus.{ReplyStatus}
 use Rattle.rb_rpc.specs.declared.reply.ReplyStatus.TheVariants.{Success, ProgUnavail, ProgMismatch, ProcUnavail, GarbageArgs, SystemErr, RpcMismatch, AuthError}
 use Rattle.rb_rpc.specs.Marks.{StandsForFed}
-use Rattle.rb_rpc.specs.Records.{first_record, marked}
+use Rattle.rb_rpc.specs.Records.{first_record}
 use Rattle.rb_rpc.specs.Replies.{reply_head}
 use Rattle.rb_core.specs.declared.message.Message.{Message}
 use Rattle.rb_core.specs.declared.message.Message.TheVariants as messages
 use Rattle.rb_core.specs.declared.serve.Served as outcome
 use Rattle.rb_core.specs.declared.serve.Served.TheVariants as outcomes
 use Rattle.rb_core.specs.declared.slot.Slot.{Slot}
-use Rattle.rb_core.specs.declared.slot.Stage.{Stage}
 use Rattle.rb_core.specs.declared.slot.Stage.TheVariants as stages
 use Rattle.rb_registry.specs.Rows.{Change}
 use Rattle.rb_proto.specs.Results.{results}
 use Rattle.rb_core.specs.Serve.{Scene, seen_of, fitting, longest_reply}
 use Rattle.rb_core.specs.State.{Owed, Phase, Connection}
 use Rattle.rb_core.specs.State.Phase.{Idle, Reading, Owing, Lost}
-use Rattle.rb_core.specs.Serve.{Served, served, served_of}
-use Rattle.rb_core.specs.Serve.Served.{Closing, Replied}
+use Rattle.rb_core.specs.Serve.{served, served_of}
+use Rattle.rb_core.specs.Serve.Served.{Replied}
 use Rattle.rb_core.specs.Connections.{settled}
 use Rattle.rb_core.specs.Giving.{IsGiving, owed_of, pending_of}
 use Rattle.rb_core.specs.Pending.{pending_in, when_given, phase_when_given}
@@ -31,7 +29,7 @@ use Rattle.rb_core.specs.Reading.{longest_call, IsReading}
 use Rattle.rb_core.specs.Feeding.{Fed, fed_until, StandsBehind}
 use Rattle.rb_core.specs.Taking.{fed_in, mark_when_fed, reading}
 use Rattle.rb_core.specs.Slots.{StandsForConnection, HoldsPhase}
-use Rattle.rb_core.specs.Took.{Took, took, took_with, is_taking, mark_from, HasEnded, IsFed}
+use Rattle.rb_core.specs.Took.{took, took_with, is_taking, mark_from, IsFed}
 use Rattle.rb_core.proofs.Slots.{reads_nothing}
 
 -- ---- what a call is answered with

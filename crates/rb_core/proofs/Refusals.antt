@@ -1,20 +1,16 @@
 -- A refused event leaves the state.
 use Rattle.std.proofs.Common.{◌≡◌, ℕ, Bool, true, false, cond, Option, Some, None, Result, Ok, Err, List, [], ◌∷◌, ◌++◌, length, refl}
 use Rattle.rb_rpc.specs.declared.peer.Peer.{Peer}
-use Rattle.rb_rpc.specs.declared.peer.Caller.{Caller}
-use Rattle.rb_rpc.specs.declared.peer.Caller.TheVariants.{Tcp, Udp}
-use Rattle.rb_rpc.specs.Records.{first_record, data_of}
+use Rattle.rb_rpc.specs.Records.{first_record}
 use Rattle.rb_core.specs.declared.types.CoreFault.{CoreFault}
-use Rattle.rb_core.specs.declared.types.CoreFault.TheVariants.{Full, Spent, Gone}
+use Rattle.rb_core.specs.declared.types.CoreFault.TheVariants.{Gone}
 use Rattle.rb_core.specs.declared.types.Answer.{Answer}
 use Rattle.rb_core.specs.declared.types.Answer.TheVariants as answers
-use Rattle.rb_core.specs.State.{State, Connection, at_moment, greatest_number}
-use Rattle.rb_core.specs.Connections.{number_for, live_connection, on_connection, open_connection, opened, opened_or, is_there, closed, without_connection}
-use Rattle.rb_core.specs.Pending.{pending, gave, gave_on, give, is_too_much, when_given}
-use Rattle.rb_core.specs.Serve.{Served, serve}
-use Rattle.rb_core.specs.Serve.Served.{Closing, Replied}
+use Rattle.rb_core.specs.State.{State, Connection, at_moment}
+use Rattle.rb_core.specs.Connections.{number_for, live_connection, open_connection, opened_or, is_there, closed, without_connection}
+use Rattle.rb_core.specs.Pending.{pending, gave, gave_on, is_too_much}
 use Rattle.rb_core.specs.Taking.{Taken, bytes, bytes_to, taken_from, fed_with, fed_in}
-use Rattle.rb_core.specs.Step.{Event, Output, datagram, answered_with, emptied, output_or, show_taken, show_answer, step}
+use Rattle.rb_core.specs.Step.{Event, Output, datagram, output_or, show_taken, show_answer, step}
 use Rattle.rb_core.specs.Step.Event.{Open, Bytes, Pending, Gave, Closed, NextLost, Datagram}
 use Rattle.rb_core.specs.Step.Output.{Opened, TooMuch, Took, TookAndClosed, IsPending, Done}
 use Rattle.rb_core.specs.Laws.{IsKeptIfRefused}

@@ -1,6 +1,6 @@
 -- A table of slots beside the connections that they stand for.
-use Rattle.std.proofs.Common.{◌≡◌, ◌≢◌, ℕ, suc, ◌+◌, ◌≤◌, Bool, true, false, not, cond, eqb, ◌||◌, zero, ◌<◌, nat_lt, take, Result, Ok, Err, List, [], ◌∷◌, ◌++◌, Option, Some, None, refl, sym, ap, ◌∙◌, length, eq-eqb, arith}
-use Rattle.std.specs.Prelude.{find, filter, option_map, All}
+use Rattle.std.proofs.Common.{◌≡◌, ℕ, suc, ◌+◌, ◌≤◌, Bool, true, false, not, cond, eqb, zero, ◌<◌, nat_lt, take, Ok, Err, List, [], ◌∷◌, ◌++◌, Option, Some, None, refl, sym, ap, ◌∙◌, length, eq-eqb, arith}
+use Rattle.std.specs.Prelude.{find, filter, option_map}
 use Rattle.std.specs.List.{AllZip, list_any}
 use Rattle.std.specs.Map.{values_of}
 use Rattle.std.proofs.lemmas.Bool.{eqb-true}
@@ -14,7 +14,7 @@ use Rattle.rb_core.specs.declared.types.CoreFault.TheVariants.{Full, Spent}
 use Rattle.rb_core.specs.Reading.{longest_call, IsReading}
 use Rattle.rb_xdr.proofs.PoolLemmas.{All-with_value}
 use Rattle.rb_core.specs.declared.slot.Buffers.{Buffers}
-use Rattle.rb_xdr.specs.Pool.{Pool, value_at, without, with_value, first_key, HasDistinctKeys}
+use Rattle.rb_xdr.specs.Pool.{Pool, value_at, without, with_value, HasDistinctKeys}
 use Rattle.rb_core.specs.declared.slot.Slot.{Slot}
 use Rattle.rb_core.specs.declared.slot.Wanted.{Wanted}
 use Rattle.rb_core.specs.declared.slot.Wanted.TheVariants as wanted

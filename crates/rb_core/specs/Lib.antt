@@ -1,4 +1,5 @@
 pub mod Calls
+pub mod Grammar
 pub mod State
 pub mod Serve
 pub mod Costs
@@ -10,7 +11,6 @@ pub mod Feeding
 pub mod Taking
 pub mod Slots
 pub mod Took
-pub mod Places
 pub mod Step
 pub mod Run
 pub mod StandsFor

@@ -12,7 +12,7 @@ use Rattle.rb_core.specs.declared.slot.Stage.TheVariants as stages
 use Rattle.rb_core.specs.declared.slot.Wanted.{Wanted}
 use Rattle.rb_core.specs.declared.slot.Wanted.TheVariants as wanted
 use Rattle.rb_core.specs.Connections.{is_lost, is_live, has_number}
-use Rattle.rb_core.specs.State.{Owed, Phase, Connection, Connections}
+use Rattle.rb_core.specs.State.{Phase, Connection, Connections}
 use Rattle.rb_core.specs.State.Phase.{Idle, Reading, Owing, Lost}
 use Rattle.rb_core.specs.Giving.{longest_fragment, IsGiving}
 use Rattle.rb_core.specs.Reading.{longest_call, IsReading}

@@ -1,5 +1,5 @@
 -- What a core holds, and the states that it stands for.
-use Rattle.std.specs.Prelude.{◌≡◌, ℕ, ◌+◌, List, [], ◌∷◌, ◌++◌, length, map}
+use Rattle.std.specs.Prelude.{◌≡◌, ℕ, List, ◌++◌, length, map}
 use Rattle.rb_core.specs.declared.run.Event as event
 use Rattle.rb_core.specs.declared.run.Event.TheVariants as events
 use Rattle.rb_core.specs.declared.run.Output as output

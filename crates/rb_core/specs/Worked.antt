@@ -1,5 +1,5 @@
 -- Worked examples: what runs give, word by word.
-use Rattle.std.specs.Prelude.{◌≡◌, ℕ, List, [], ◌∷◌, ◌++◌, take, replicate}
+use Rattle.std.specs.Prelude.{◌≡◌, ℕ, List, [], ◌∷◌, ◌++◌, replicate}
 use Rattle.rb_rpc.specs.declared.peer.Peer.{Peer}
 use Rattle.rb_core.specs.State.{State, opening}
 use Rattle.rb_core.specs.Step.{Output}

@@ -7,7 +7,7 @@ ghost use Rattle.std.specs.Map.{values_of};
 ghost use Rattle.rb_xdr.specs.Meter.{Pays};
 ghost use Rattle.rb_xdr.specs.Pool.{HasDistinctKeys, first_key};
 ghost use Rattle.rb_registry.specs.Costs.{PaysAtMost};
-ghost use Rattle.rb_core.specs.Places.{to_come};
+ghost use Rattle.rb_xdr.specs.Places.{to_come};
 ghost use Rattle.rb_core.specs.Slots.{wanted_slot, AreSpare};
 
 use crate::serving::{give_bytes, pending_of, take_piece};

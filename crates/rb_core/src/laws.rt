@@ -1,5 +1,6 @@
 //! What holds of the definitions.
 ghost use Rattle.rb_core.specs.Cuts.{CutsDoNotMatter};
+ghost use Rattle.rb_core.specs.Grammar.{MessagesAreOfTheGrammar};
 ghost use Rattle.rb_core.specs.Laws.{RunsAppend, StatesAppend, RefusedEventsChangeNothing, NumbersNeverRecur};
 ghost use Rattle.rb_core.specs.WorkedConnections.{NoCallCloses, OtherRpcVersionOnTcp, CrumbsInOnePiece, CrumbsInSingleBytes, CrumbsInSevens, BytesBehindArguments, OneRecordAtATime, GivenInParts, TooMuchIsRefused, GoodLimits, NumbersDoNotRecur};
 ghost use Rattle.rb_core.specs.Worked.{NullIsAnswered, SetThenAskThenSetAgain, GreatestVersionElse, OwnRowsAreAsked, LimitIsReached, LocalCallersSet, NothingIsSilent, NullBySys, OtherRpcVersion, TooShort, GreatestCredential, OverlongCredential, SysBodyCutShort, OverlongVerifier, BadResidue, GoodResidue, GssBeforeProgram, OtherVersion, UnknownProcedure, GarbageArguments, OtherProgram, NullOfThree, NullOfFour};
@@ -29,6 +30,11 @@ pub fn worked_examples()
     ensures other_program { OtherProgram }
     ensures null_of_version_3 { NullOfThree }
     ensures null_of_version_4 { NullOfFour }
+{}
+
+/// A message asks for a procedure exactly where its bytes begin with a call of it and its arguments.
+pub fn messages_are_of_the_grammar()
+    ensures { MessagesAreOfTheGrammar }
 {}
 
 /// A run of two lists of events is the run of the first, and then of the second.

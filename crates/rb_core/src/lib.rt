@@ -14,11 +14,15 @@ mod taking;
 mod types;
 
 pub use engine::Core;
-pub use laws::worked_examples;
+pub use laws::{
+    cuts_do_not_matter, messages_are_of_the_grammar, numbers_never_recur,
+    refused_events_change_nothing, runs_append, worked_connections, worked_examples,
+};
 pub use message::{Message, read_message};
 pub use rb_proto::Listener;
 pub use rb_rpc::{Caller, Peer};
 pub use run::{Event, Output, replay};
+pub use taking::kept_bytes_say_the_record;
 pub use types::{Answer, CoreFault, Limits, NoMemory, Taken};
 
 #[cfg(test)]

@@ -1,2 +1,2 @@
-mod Requests
+pub mod Requests
 pub mod Lists

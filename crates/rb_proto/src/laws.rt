@@ -1,7 +1,6 @@
-ghost use Rattle.rb_proto.specs.Grammar.{RequestsAreSpelled, SpelledRequestsAreRead};
+ghost use Rattle.rb_proto.specs.Grammar.{RequestsAreOfTheGrammar};
 
 /// Arguments are read exactly where the bytes begin with a spelling of them.
-pub fn argument_laws()
-    ensures requests_are_spelled { RequestsAreSpelled }
-    ensures spelled_requests_are_read { SpelledRequestsAreRead }
+pub fn requests_are_of_the_grammar()
+    ensures { RequestsAreOfTheGrammar }
 {}

@@ -23,7 +23,7 @@ mod worked;
 
 pub use answers::{Answer, Listing, Value};
 pub use entry::Entry;
-pub use laws::argument_laws;
+pub use laws::requests_are_of_the_grammar;
 pub use listener::{Listener, own_rows};
 pub use mapping::Mapping;
 pub use netbuf::Netbuf;

@@ -1,8 +1,8 @@
 ghost use Rattle.std.specs.Prelude.{◌≡◌, ◌≤◌};
 
 use crate::{
-    ArgumentFault, Entry, Listener, Listing, Mapping, Netbuf, Rpcb, answer, argument_laws,
-    own_rows, put_answer, put_row, read_args, worked_examples,
+    ArgumentFault, Entry, Listener, Listing, Mapping, Netbuf, Rpcb, answer, own_rows, put_answer,
+    put_row, read_args, requests_are_of_the_grammar, worked_examples,
 };
 use rb_registry::{Cursor, Registry};
 use rb_rpc::{CallHead, Caller, Credential, Peer};
@@ -70,7 +70,7 @@ fn serve(
 
 #[test]
 fn calls_are_read_answered_and_put(rt: HostRuntime) -> Result<(), Fail> {
-    argument_laws();
+    requests_are_of_the_grammar();
     worked_examples();
     let mut meter = Meter::new();
     let mut out = Kept::new(rt.alloc(), 1000, &mut meter)?;

@@ -1,4 +1,3 @@
-pub mod Walks
 pub mod Removing
 pub mod Changes
 pub mod Finds

@@ -3,8 +3,8 @@ use Rattle.std.proofs.Common.{◌≡◌, ℕ, ◌+◌, length, arith, Bool, true
 use Rattle.std.specs.Prelude.{filter}
 use Rattle.std.specs.List.{list_any}
 use Rattle.rb_xdr.specs.Pool.{value_at, without, first_key, HasDistinctKeys}
-use Rattle.rb_registry.specs.Places.{behind, to_come}
-use Rattle.rb_registry.proofs.Walks.{step, up_to, passed}
+use Rattle.rb_xdr.specs.Places.{behind, to_come}
+use Rattle.rb_xdr.proofs.Walks.{step, up_to, passed}
 
 module _ {T : Type 0} where
   up_to-behind : (entries : List (ℕ × T)) (key : ℕ) → up_to entries key ++ behind entries key ≡ entries

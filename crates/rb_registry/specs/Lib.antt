@@ -1,7 +1,6 @@
 pub mod Costs
 pub mod Rows
 pub mod Registry
-pub mod Places
 pub mod Removals
 pub mod Laws
 pub mod Worked

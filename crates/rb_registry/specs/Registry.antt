@@ -4,7 +4,7 @@ use Rattle.std.specs.List.{list_all}
 use Rattle.std.specs.Map.{values_of}
 use Rattle.rb_registry.specs.declared.row.Row.{Row}
 use Rattle.rb_registry.specs.Rows.{Change, rpcb_prog, live}
-use Rattle.rb_registry.specs.Places.{count_passed}
+use Rattle.rb_xdr.specs.Places.{count_passed}
 
 -- the rows under their keys, how many there may be, how many changes were accepted, and the number of the meter that counts the calls
 pub record Registry : Type 0 where

@@ -5,7 +5,7 @@ ghost use Rattle.std.specs.Map.{values_of};
 ghost use Rattle.rb_xdr.specs.Meter.{Pays};
 ghost use Rattle.rb_xdr.specs.Pool.{HasDistinctKeys, first_key};
 ghost use Rattle.rb_registry.specs.Costs.{PaysAtMost};
-ghost use Rattle.rb_registry.specs.Places.{to_come};
+ghost use Rattle.rb_xdr.specs.Places.{to_come};
 ghost use Rattle.rb_registry.specs.Removals.{change_of};
 ghost use Rattle.rb_registry.specs.Rows.{find_exact, versions, greatest, covers, is_of_key};
 

@@ -1,5 +1,5 @@
 mod Auths
-mod Calls
+pub mod Calls
 mod Replies
 pub mod Markings
 mod Numbers

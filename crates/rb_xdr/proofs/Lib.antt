@@ -1,5 +1,6 @@
 pub mod Chains
 pub mod PoolLemmas
+pub mod Walks
 pub mod Readers
 pub mod Tables
 pub mod Taking

@@ -4,6 +4,7 @@ pub mod Links
 pub mod Meter
 pub mod Pool
 pub mod PoolLends
+pub mod Places
 pub mod Slots
 pub mod Xdr
 pub mod XdrLaws

@@ -1,5 +1,5 @@
 use Rattle.std.proofs.Common.{sym}
-use Rattle.rb_core.proofs.Walks.{next_entry, has_entry}
+use Rattle.rb_xdr.proofs.Walks.{next_entry, has_entry}
 use Rattle.rb_core.proofs.connections.entry_after.Goals as goal
 
 pub returns-in-Some-get-clause-next : goal.returns-in-Some-get-clause-next

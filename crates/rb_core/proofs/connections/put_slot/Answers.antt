@@ -1,4 +1,4 @@
-use Rattle.rb_core.proofs.Walks.{distinct-push}
+use Rattle.rb_xdr.proofs.Walks.{distinct-push}
 use Rattle.rb_core.proofs.connections.put_slot.Goals as goal
 
 pub returns-clause-distinct : goal.returns-clause-distinct

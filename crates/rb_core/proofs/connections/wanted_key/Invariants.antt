@@ -1,6 +1,6 @@
-use Rattle.std.proofs.Common.{◌≡◌, ℕ, ◌+◌, ◌*◌, ◌≤◌, length}
+use Rattle.std.proofs.Common.{◌≡◌, ◌+◌, ◌*◌, ◌≤◌, length}
 use Rattle.std.specs.Prelude.{find}
-use Rattle.rb_core.specs.Places.{to_come}
+use Rattle.rb_xdr.specs.Places.{to_come}
 use Rattle.rb_core.specs.Slots.{is_wanted_slot}
 use Rattle.rb_core.proofs.connections.wanted_key.Given as goal
 

@@ -1,6 +1,5 @@
-use Rattle.std.proofs.Common.{◌≡◌, refl, sym, ap, ◌∙◌, arith}
+use Rattle.std.proofs.Common.{ap, ◌∙◌, arith}
 use Rattle.rb_core.specs.Reading.{longest_call}
-use Rattle.rb_core.specs.Calls.{message_of}
 use Rattle.rb_core.specs.Taking.{is_closing}
 use Rattle.rb_core.proofs.MessageFronts.{record_says}
 use Rattle.rb_core.proofs.OneSlot.{replies_some}

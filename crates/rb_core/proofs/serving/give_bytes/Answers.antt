@@ -1,4 +1,4 @@
-use Rattle.std.proofs.Common.{◌≡◌, ℕ, Some, None, refl, sym, ap, ◌∙◌, arith}
+use Rattle.std.proofs.Common.{◌≡◌, Some, None, refl, ap, ◌∙◌, arith}
 use Rattle.rb_xdr.specs.Kept.{Kept}
 use Rattle.rb_core.specs.Reading.{longest_call}
 use Rattle.rb_core.proofs.OneSlot.{gave_stands}

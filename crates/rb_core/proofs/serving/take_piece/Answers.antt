@@ -1,9 +1,9 @@
-use Rattle.std.proofs.Common.{◌≡◌, ℕ, ◌-◌, [], List, Some, None, true, false, eqb, rules, not, length, take, ◌++◌, refl, sym, subst, ap, ◌∙◌, arith}
+use Rattle.std.proofs.Common.{◌≡◌, ℕ, ◌-◌, [], List, Some, None, true, false, eqb, rules, length, take, ◌++◌, sym, subst, ap, ◌∙◌}
 use Rattle.rb_rpc.specs.declared.peer.Caller.TheVariants.{Tcp}
 use Rattle.rb_rpc.specs.Records.{first_record}
 use Rattle.rb_registry.specs.Registry.{StandsForChanges}
 use Rattle.rb_core.specs.Serve.{scene_in}
-use Rattle.rb_core.specs.Taking.{Taken, reading}
+use Rattle.rb_core.specs.Taking.{reading}
 use Rattle.rb_core.specs.Slots.{StandsForConnection}
 use Rattle.rb_core.specs.Took.{Took, took_record, is_taking, IsFed, HasEnded}
 use Rattle.rb_core.proofs.OneSlot.{has_fed, took_fed, not_ended, has_ended, counts, counts_to, size_behind}

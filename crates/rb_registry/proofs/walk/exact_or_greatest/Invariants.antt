@@ -2,7 +2,7 @@ use Rattle.std.proofs.Common.{◌≡◌, ◌+◌, ◌*◌, ◌≤◌, length}
 use Rattle.std.specs.Prelude.{find, fold, filter, map, max}
 use Rattle.std.specs.Map.{values_of}
 use Rattle.rb_registry.specs.declared.row.Row.{Row}
-use Rattle.rb_registry.specs.Places.{to_come}
+use Rattle.rb_xdr.specs.Places.{to_come}
 use Rattle.rb_registry.specs.Rows.{is_row, is_on}
 use Rattle.rb_registry.proofs.walk.exact_or_greatest.Given as goal
 

@@ -1,7 +1,7 @@
 use Rattle.std.proofs.Common.{◌≡◌, ◌+◌, ◌*◌, ◌≤◌, length}
 use Rattle.std.specs.Prelude.{find}
 use Rattle.std.specs.Map.{values_of}
-use Rattle.rb_registry.specs.Places.{to_come}
+use Rattle.rb_xdr.specs.Places.{to_come}
 use Rattle.rb_registry.specs.Rows.{is_row}
 use Rattle.rb_registry.proofs.walk.find_exact.Given as goal
 

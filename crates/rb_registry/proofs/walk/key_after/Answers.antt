@@ -1,5 +1,5 @@
 use Rattle.std.proofs.Common.{◌∙◌}
-use Rattle.rb_registry.proofs.Walks.{key_after-behind}
+use Rattle.rb_xdr.proofs.Walks.{key_after-behind}
 use Rattle.rb_registry.proofs.walk.key_after.Goals as goal
 
 pub returns-in-Some-clause-key : goal.returns-in-Some-clause-key

@@ -1,7 +1,7 @@
 use Rattle.std.proofs.Common.{◌≡◌, refl, sym, ap, ◌∙◌, arith, ◌+◌, length}
 use Rattle.rb_xdr.specs.Pool.{without}
 use Rattle.rb_xdr.specs.Meter.{Meter}
-use Rattle.rb_registry.specs.Places.{to_come, behind}
+use Rattle.rb_xdr.specs.Places.{to_come, behind}
 use Rattle.rb_registry.proofs.Removing.{one_fewer, taken_out, left_in, all_passed}
 use Rattle.rb_registry.proofs.walk.remove_covered.Goals as goal
 

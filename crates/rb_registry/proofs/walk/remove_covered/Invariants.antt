@@ -1,5 +1,5 @@
 use Rattle.std.proofs.Common.{◌≡◌, ◌+◌, ◌*◌, ◌≤◌, length}
-use Rattle.rb_registry.specs.Places.{to_come}
+use Rattle.rb_xdr.specs.Places.{to_come}
 use Rattle.rb_registry.specs.Rows.{covers}
 use Rattle.rb_registry.specs.Removals.{change_of}
 use Rattle.rb_registry.specs.declared.row.Row.{Row}

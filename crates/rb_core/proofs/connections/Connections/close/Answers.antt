@@ -1,4 +1,4 @@
-use Rattle.std.proofs.Common.{◌≡◌, [], sym, subst, ◌∙◌, arith}
+use Rattle.std.proofs.Common.{[], sym, subst, ◌∙◌, arith}
 use Rattle.std.specs.Prelude.{All}
 use Rattle.std.specs.Map.{values_of}
 use Rattle.rb_xdr.proofs.PoolLemmas.{All-value_at, All-without}

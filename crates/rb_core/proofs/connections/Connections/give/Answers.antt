@@ -1,12 +1,8 @@
-use Rattle.std.proofs.Common.{◌≡◌, ◌<◌, [], ℕ, false, eqb, refl, ap, sym, subst, ◌∙◌, arith}
+use Rattle.std.proofs.Common.{◌≡◌, ◌<◌, [], false, eqb, refl, ap, sym, subst, ◌∙◌, arith}
 use Rattle.std.proofs.lemmas.Bool.Decides.{nat_tests}
 use Rattle.rb_xdr.specs.Meter.{Meter}
 use Rattle.rb_xdr.proofs.PoolLemmas.{All-value_at, with_value-same}
-use Rattle.rb_core.specs.State.{Connection}
-use Rattle.rb_core.specs.Slots.{StandsForConnections, StandsForConnection, HasBuffers}
-use Rattle.rb_core.specs.Took.{took}
-use Rattle.rb_core.specs.Taking.{fed_in}
-use Rattle.rb_core.specs.Serve.{scene_in}
+use Rattle.rb_core.specs.Slots.{StandsForConnections, HasBuffers}
 use Rattle.rb_core.specs.Pending.{when_given}
 use Rattle.rb_core.proofs.Slots.{live_slot, not_live, slot_is_there, table_changed}
 use Rattle.rb_core.proofs.connections.Connections.give.Goals as goal

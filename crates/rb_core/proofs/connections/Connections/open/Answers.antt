@@ -1,4 +1,4 @@
-use Rattle.std.proofs.Common.{◌≡◌, Ok, [], ◌+◌, sym, subst, refl, ap, ◌∙◌, arith}
+use Rattle.std.proofs.Common.{Ok, ◌+◌, sym, subst, refl, ap, ◌∙◌, arith}
 use Rattle.std.specs.Prelude.{All}
 use Rattle.std.specs.Map.{values_of}
 use Rattle.std.proofs.lemmas.List.Elements.{All-push}

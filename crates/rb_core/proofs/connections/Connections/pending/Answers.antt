@@ -1,4 +1,4 @@
-use Rattle.std.proofs.Common.{◌≡◌, Ok, ap, sym, ◌∙◌}
+use Rattle.std.proofs.Common.{Ok, ap, sym, ◌∙◌}
 use Rattle.rb_core.specs.Connections.{live_connection}
 use Rattle.rb_core.specs.Pending.{lent}
 use Rattle.rb_core.specs.Slots.{is_wanted}

@@ -1,4 +1,4 @@
-use Rattle.std.proofs.Common.{◌≡◌, [], ℕ, refl, ap, sym, subst, ◌∙◌, arith}
+use Rattle.std.proofs.Common.{◌≡◌, [], ℕ, ap, sym, subst, ◌∙◌}
 use Rattle.rb_xdr.specs.Meter.{Meter}
 use Rattle.rb_xdr.proofs.PoolLemmas.{All-value_at}
 use Rattle.rb_core.specs.State.{Connection}
@@ -9,7 +9,6 @@ use Rattle.rb_rpc.specs.declared.peer.Peer.{Peer}
 use Rattle.rb_rpc.specs.declared.peer.Caller.TheVariants.{Tcp}
 use Rattle.rb_core.specs.Taking.{fed_in}
 use Rattle.rb_core.specs.Serve.{scene_in}
-use Rattle.rb_core.specs.Pending.{when_given}
 use Rattle.rb_core.proofs.Slots.{live_slot, not_live, slot_is_there, table_changed}
 use Rattle.rb_core.proofs.connections.Connections.take.Goals as goal
 

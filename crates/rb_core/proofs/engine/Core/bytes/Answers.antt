@@ -1,6 +1,5 @@
-use Rattle.std.proofs.Common.{◌≡◌, Ok, Err, refl, sym, subst, ap, ◌∙◌}
+use Rattle.std.proofs.Common.{sym, subst}
 use Rattle.rb_proto.specs.Callers.{own_rows}
-use Rattle.rb_core.specs.State.{State}
 use Rattle.rb_core.specs.StandsFor.{StandsFor}
 use Rattle.rb_core.proofs.Calls.{bytes_took, bytes_gone}
 use Rattle.rb_core.proofs.engine.Core.bytes.Goals as goal

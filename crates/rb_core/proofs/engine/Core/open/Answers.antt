@@ -1,5 +1,4 @@
-use Rattle.std.proofs.Common.{◌≡◌, Ok, Err, refl, sym, subst, ap, ◌∙◌}
-use Rattle.rb_core.specs.State.{State}
+use Rattle.std.proofs.Common.{sym, subst}
 use Rattle.rb_core.specs.StandsFor.{StandsFor}
 use Rattle.rb_core.proofs.Calls.{open_refused, open_made}
 use Rattle.rb_core.proofs.engine.Core.open.Goals as goal

@@ -1,7 +1,7 @@
 use Rattle.std.proofs.Common.{◌≡◌, ◌∙◌, ap, arith, ◌+◌, length, length-append, List, ◌++◌, ◌∷◌, []}
 use Rattle.rb_xdr.specs.Meter.{Meter}
 use Rattle.rb_registry.specs.declared.row.Row.{Row}
-use Rattle.rb_registry.proofs.Walks.{distinct-push}
+use Rattle.rb_xdr.proofs.Walks.{distinct-push}
 use Rattle.rb_registry.proofs.Finds.{values_of-push}
 use Rattle.rb_registry.proofs.registry.Registry.new.Goals as goal
 

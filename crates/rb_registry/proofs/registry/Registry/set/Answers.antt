@@ -1,7 +1,7 @@
 use Rattle.std.proofs.Common.{◌≡◌, ◌<◌, length, arith, sym, subst, true, false}
 use Rattle.rb_registry.specs.Registry.{Registry, StandsForChanges}
 use Rattle.rb_registry.proofs.Stands.{after_set, place_left, key_taken, no_change_left, no_room}
-use Rattle.rb_registry.proofs.Walks.{distinct-push}
+use Rattle.rb_xdr.proofs.Walks.{distinct-push}
 use Rattle.rb_registry.proofs.registry.Registry.set.Goals as goal
 use Rattle.rb_registry.proofs.registry.Registry.set.Goals.{then-not-is_change_left-via-then-not-is_change_left, then-not-is_change_left-via-else-not-is_change_left+then-has_key}
 

@@ -4,7 +4,7 @@ use Rattle.std.specs.Prelude.{option_map}
 use Rattle.std.proofs.lemmas.Bool.{eqb-true}
 use Rattle.std.proofs.lemmas.Bool.Decides.{nat_tests}
 use Rattle.rb_xdr.specs.Pool.{value_at, without, first_key, key_after, HasDistinctKeys}
-use Rattle.rb_core.specs.Places.{behind, up_to, count_to, passed, to_come, count_passed}
+use Rattle.rb_xdr.specs.Places.{behind, count_to, to_come, count_passed}
 
 by_test : (P : Bool → Type 0) (b : Bool) → ((b ≡ true) → P true) → ((b ≡ false) → P false) → P b
 by_test P true t f = t refl
@@ -14,6 +14,16 @@ same_test : (m n : ℕ) → eqb m n ≡ eqb n m
 same_test m n = grind (arith, nat_tests)
 
 module _ {T : Type 0} where
+  -- the entries up to that of a key
+  abbrev pub up_to : List (ℕ × T) → ℕ → List (ℕ × T)
+  up_to [] key = []
+  up_to (e ∷ rest) key = cond (eqb e.0 key) (e ∷ []) (e ∷ up_to rest key)
+
+  -- the entries before a place
+  abbrev pub passed : List (ℕ × T) → Option ℕ → List (ℕ × T)
+  passed entries None = []
+  passed entries (Some key) = up_to entries key
+
   -- two keys differ where one has a value and the other none
   apart : (entries : List (ℕ × T)) (a b : ℕ) (v : T) → value_at entries a ≡ None → value_at entries b ≡ Some v → eqb a b ≡ false
   apart entries a b v no_value some_value =
