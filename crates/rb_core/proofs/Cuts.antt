@@ -19,8 +19,8 @@ use Rattle.rb_core.specs.Cuts.{SameInOnePiece, CutsDoNotMatter, one_after_anothe
 -- ---- a connection that is fed further
 
 -- the change keeps a live connection live
-record IsFeeding (id : ℕ) (f : Connection → Connection) : Type 0 where
-  live : (c : Connection) → is_live id c ≡ true → is_live id (f c) ≡ true
+pub record IsFeeding (id : ℕ) (f : Connection → Connection) : Type 0 where
+  pub live : (c : Connection) → is_live id c ≡ true → is_live id (f c) ≡ true
 
 one_is : (b : Bool) (d c : Connection) (rest : Option Connection) → b ≡ true → cond b (Some d) rest ≡ Some c → d ≡ c
 one_is true d c rest e is = cc
@@ -30,7 +30,7 @@ other_is : (b : Bool) (d c : Connection) (rest : Option Connection) → b ≡ fa
 other_is true d c rest e is = absurd cc
 other_is false d c rest e is = is
 
-find-changed : (id : ℕ) (f : Connection → Connection) → IsFeeding id f → (all : List Connection) (c : Connection) → find (is_live id) all ≡ Some c → find (is_live id) (changed_at id f all) ≡ Some (f c)
+pub find-changed : (id : ℕ) (f : Connection → Connection) → IsFeeding id f → (all : List Connection) (c : Connection) → find (is_live id) all ≡ Some c → find (is_live id) (changed_at id f all) ≡ Some (f c)
 find-changed id f feeds [] c is = absurd cc
 find-changed id f feeds (d ∷ all) c is = by_test (is_live id d) refl (find-changed id f feeds all c)
   where
@@ -121,7 +121,7 @@ fed-cut s c before front all (Some n) low high longer =
 
 -- ---- the call
 
-find-holds : (p : Connection → Bool) (all : List Connection) (c : Connection) → find p all ≡ Some c → p c ≡ true
+pub find-holds : (p : Connection → Bool) (all : List Connection) (c : Connection) → find p all ≡ Some c → p c ≡ true
 find-holds p [] c is = absurd cc
 find-holds p (d ∷ all) c is = by_test (p d) refl (find-holds p all c)
   where
@@ -130,7 +130,7 @@ find-holds p (d ∷ all) c is = by_test (p d) refl (find-holds p all c)
     by_test false e later = later (rw e at is)
 
 -- the live connection of a number has this number
-number-is : (id : ℕ) (c : Connection) → is_live id c ≡ true → c.number ≡ id
+pub number-is : (id : ℕ) (c : Connection) → is_live id c ≡ true → c.number ≡ id
 unfolding is_live
 number-is id c e = eqb-true c.number id (and_parts (eqb c.number id) (not (is_lost c.phase)) e).0
 
@@ -151,7 +151,7 @@ nothing-first : (r : Result Taken CoreFault) → r ≡ one_after_another none_ta
 nothing-first (Ok t) = ap (λ (n : ℕ). Ok (record { count = n; closed = t.closed })) (omega arith)
 nothing-first (Err fault) = refl
 
-fed-at : (s : State) (now id : ℕ) (piece : List ℕ) (c : Connection) (fed : Option (List ℕ)) → live_connection id s.connections.all ≡ Some c → fed_in c.phase ≡ fed → bytes s now id piece ≡ taken_from (at_moment now s) c piece fed
+pub fed-at : (s : State) (now id : ℕ) (piece : List ℕ) (c : Connection) (fed : Option (List ℕ)) → live_connection id s.connections.all ≡ Some c → fed_in c.phase ≡ fed → bytes s now id piece ≡ taken_from (at_moment now s) c piece fed
 fed-at s now id piece c fed there phase =
     bytes-at s now id piece (Some c) there ∙ ap (taken_from (at_moment now s) c piece) phase
 

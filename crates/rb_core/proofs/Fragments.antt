@@ -70,7 +70,7 @@ length-long : (reply : List ℕ) → fragment_size < length reply → length (ma
 length-long reply long =
     omega (arith, ap (λ (xs : List ℕ). length xs) (marked-long reply long), length-append (fragment_header fragment_size false ++ take fragment_size reply) (marked (drop fragment_size reply)), length-front reply long)
 
-some-marked : (reply : List ℕ) → 4 ≤ length (marked reply)
+pub some-marked : (reply : List ℕ) → 4 ≤ length (marked reply)
 some-marked reply =
     elim (cases_lt fragment_size (length reply)) [
       | inl long ↦ omega (arith, length-long reply long, long)

@@ -1,9 +1,8 @@
 -- Runs go on by one event.
-use Rattle.std.proofs.Common.{◌≡◌, ◌<◌, ◌+◌, ℕ, List, [], ◌∷◌, ◌++◌, length, get_or, take, refl, sym, ap, ◌∙◌, append_assoc, arith}
+use Rattle.std.proofs.Common.{◌≡◌, ◌<◌, ◌≤◌, ◌+◌, ℕ, zero, suc, List, [], ◌∷◌, ◌++◌, length, get_or, take, refl, sym, ap, ◌∙◌, append_assoc, arith}
 use Rattle.std.proofs.lemmas.List.{take-map, map_more}
 use Rattle.rb_core.specs.declared.run.Event as event
-use Rattle.rb_xdr.specs.Meter.{Meter}
-use Rattle.rb_registry.specs.Costs.{PaysAtMost}
+use Rattle.rb_xdr.specs.Meter.{Meter, PaysAtMost}
 use Rattle.rb_core.specs.Costs.{event_cost}
 use Rattle.rb_core.specs.RunCosts.{row_count, cost_from, run_cost}
 use Rattle.rb_registry.specs.Registry.{rows_of}
@@ -57,3 +56,14 @@ pays_more s events i next old new a b c lt is before behind h g =
     let rows = rows_held old (after s done) before in
     let left = rows_held new (step (after s done) (event_of next)).1 behind in
     record { steps = omega (arith, cost, h.steps, g.steps, rows, left); tie = g.tie ∙ h.tie }
+
+-- the first events of a run cost no more than all of them
+pub run_cost-take : (s : State) (events : List Event) (n : ℕ) → run_cost s (take n events) ≤ run_cost s events
+run_cost-take s [] zero = omega arith
+run_cost-take s [] (suc n) = omega arith
+run_cost-take s (x ∷ xs) zero = omega arith
+run_cost-take s (x ∷ xs) (suc n) = let rest = run_cost-take (step s x).1 xs n in omega (arith, rest)
+
+-- what the first events cost is within what all of them do
+pub pays_within : (s : State) (events : List Event) (n : ℕ) (a b : Meter) → PaysAtMost a b (run_cost s (take n events)) → PaysAtMost a b (run_cost s events)
+pays_within s events n a b h = let less = run_cost-take s events n in record { steps = omega (arith, h.steps, less); tie = h.tie }

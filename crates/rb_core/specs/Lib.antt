@@ -19,3 +19,4 @@ pub mod Cuts
 pub mod Laws
 pub mod Worked
 pub mod WorkedConnections
+pub mod Reached

@@ -62,3 +62,8 @@ bytes_to s now piece (Some c) = taken_from (at_moment now s) c piece (fed_in c.p
 
 unfoldable pub bytes : State → ℕ → ℕ → List ℕ → Result Taken CoreFault × State
 bytes s now id piece = bytes_to s now piece (live_connection id s.connections.all)
+
+-- how many bytes were taken, none where the call was refused
+abbrev pub count_taken : Result Taken CoreFault → ℕ
+count_taken (Ok taken) = taken.count
+count_taken (Err fault) = 0

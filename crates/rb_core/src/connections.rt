@@ -1,12 +1,11 @@
 //! The connections that are open, in the order of their openings.
-ghost use Rattle.std.specs.Prelude.{◌≡◌, ◌≤◌, ◌<◌, ◌+◌, ◌*◌, ◌-◌, ◌^◌, ◌↔◌, ◌++◌, ◌∷◌, [], ℕ, List, All, length, not, find, filter, MatchOption, IfOk, IsErrOf, OnErr, OnOk, option_copied};
+ghost use Rattle.std.specs.Prelude.{◌≡◌, ◌≤◌, ◌<◌, ◌+◌, ◌*◌, ◌-◌, ◌^◌, ◌↔◌, ◌++◌, ◌∷◌, [], ℕ, List, All, length, not, find, filter, IfOk, IsErrOf, OnErr, OnOk, option_copied};
 ghost use Rattle.std.specs.List.{list_any};
 ghost use Rattle.std.specs.Option.{option_map};
 ghost use Rattle.std.specs.Bool.{OnFalse};
 ghost use Rattle.std.specs.Map.{values_of};
-ghost use Rattle.rb_xdr.specs.Meter.{Pays};
-ghost use Rattle.rb_xdr.specs.Pool.{HasDistinctKeys, first_key};
-ghost use Rattle.rb_registry.specs.Costs.{PaysAtMost};
+ghost use Rattle.rb_xdr.specs.Meter.{Pays, PaysAtMost};
+ghost use Rattle.rb_xdr.specs.Pool.{HasDistinctKeys};
 ghost use Rattle.rb_xdr.specs.Places.{to_come};
 ghost use Rattle.rb_core.specs.Slots.{wanted_slot, AreSpare};
 
@@ -43,38 +42,6 @@ impl Model for Connections {
     ghost view = { λ c. record { slots = c.slots.entries; given = c.given; conns = c.conns; tie = c.slots.tie } };
 
     ghost invariant = { λ c. IsTable c.slots c.spare c.given c.conns };
-}
-
-fn key_after(slots: &Pool<Slot>, place: Option<usize>, meter: &mut Meter) -> Option<usize>
-    requires { meter.old.tie ≡ slots.now.tie }
-    ensures key { result ≡ first_key (to_come slots.now.entries place) }
-    ensures cost { Pays meter.old meter.new 1 }
-{
-    match place {
-        None => slots.first(meter),
-        Some(key) => slots.next(key, meter),
-    }
-}
-
-/// The slot behind that of a key, or the first, with its key.
-fn entry_after<'a>(
-    slots: &'a Pool<Slot>,
-    place: Option<usize>,
-    meter: &mut Meter,
-) -> Option<(usize, &'a Slot)>
-    requires tie { meter.old.tie ≡ slots.now.tie }
-    requires distinct { HasDistinctKeys slots.now.entries }
-    ensures next { MatchOption result (to_come slots.now.entries place ≡ [])
-        (λ next. to_come slots.now.entries place ≡ (next.0, next.1.now) ∷ to_come slots.now.entries (Some next.0)) }
-    ensures cost { PaysAtMost meter.old meter.new 2 }
-{
-    let Some(key) = key_after(slots, place, meter) else {
-        return None;
-    };
-    match slots.get(key, meter) {
-        Some(slot) => Some((key, slot)),
-        None => None,
-    }
 }
 
 impl Slot {
@@ -182,7 +149,7 @@ fn wanted_key(slots: &Pool<Slot>, wanted: Wanted, meter: &mut Meter) -> Option<u
     ensures cost { PaysAtMost meter.old meter.new (2 * length slots.now.entries + 2) }
 {
     let mut place = None;
-    'slots: while let Some((key, slot)) = entry_after(slots, place, meter) {
+    'slots: while let Some((key, slot)) = slots.entry_after(place, meter) {
         if slot.is_wanted(wanted) {
             return Some(key);
         }
@@ -198,11 +165,11 @@ impl Connections {
     ghost use Rattle.rb_registry.specs.Registry.{StandsForChanges, rows_of};
     ghost use Rattle.rb_core.specs.Giving.{longest_fragment};
     ghost use Rattle.rb_core.specs.Pending.{lent};
+    ghost use Rattle.rb_core.specs.Taking.{count_taken};
     ghost use Rattle.rb_core.specs.Took.{HasTaken, HasGiven};
     ghost use Rattle.rb_core.specs.State.{Connections as Open, Connection};
     ghost use Rattle.rb_core.specs.State.Phase.{Idle};
     ghost use Rattle.rb_core.specs.Connections.{number_for, first_lost, without_number, is_there, with_new, live_connection};
-    ghost use Rattle.rb_registry.specs.Costs.{PaysAtMost};
     ghost use Rattle.rb_core.specs.Costs.{find_cost, settle_cost, give_cost, pending_cost};
     ghost use Rattle.rb_core.specs.Slots.{StandsForConnections, IsFound, is_wanted, HasBuffers};
 
@@ -325,7 +292,7 @@ impl Connections {
         ensures limit { registry.new.limit ≡ registry.old.limit }
         ensures conns { self.new.conns ≡ self.old.conns }
         ensures tie { self.new.tie ≡ self.old.tie }
-        ensures cost { PaysAtMost meter.old meter.new (find_cost self.old.conns + length piece.now + settle_cost (length (rows_of registry.old)) (length (rows_of registry.new))) }
+        ensures cost { PaysAtMost meter.old meter.new (find_cost self.old.conns + count_taken result + settle_cost (length (rows_of registry.old)) (length (rows_of registry.new))) }
     {
         let Some(key) = wanted_key(&self.slots, Wanted::Live(id), meter) else {
             return Err(CoreFault::Gone);

@@ -67,17 +67,16 @@ fn answer_to(served: Served) -> Answer
 }
 
 impl Core {
-    ghost use Rattle.std.specs.Prelude.{◌≡◌, ◌+◌, ◌≤◌, ◌↔◌, ℕ, length, IsTrue, IfOk, IsErrOf, OnErr, MatchResult, Ok, Err, not};
-    ghost use Rattle.rb_xdr.specs.Meter.{Pays};
+    ghost use Rattle.std.specs.Prelude.{◌≡◌, ◌+◌, ◌≤◌, ◌↔◌, ℕ, length, IsTrue, IfOk, IfErr, IsErrOf, OnErr, MatchResult, Ok, Err, not};
+    ghost use Rattle.rb_xdr.specs.Meter.{Pays, PaysAtMost};
     ghost use Rattle.rb_core.specs.State.{State, are_good, opening};
     ghost use Rattle.rb_core.specs.Step.{datagram};
     ghost use Rattle.rb_core.specs.StandsFor.{StandsFor};
     ghost use Rattle.rb_registry.specs.Registry.{rows_of};
-    ghost use Rattle.rb_registry.specs.Costs.{PaysAtMost};
     ghost use Rattle.rb_core.specs.Connections.{open_connection, next_lost, closed};
     ghost use Rattle.rb_core.specs.Giving.{longest_fragment};
     ghost use Rattle.rb_core.specs.Pending.{pending, gave, is_too_much};
-    ghost use Rattle.rb_core.specs.Taking.{bytes};
+    ghost use Rattle.rb_core.specs.Taking.{bytes, count_taken};
     ghost use Rattle.rb_core.specs.Costs.{serve_cost, lookup_cost, settle_cost, give_cost, pending_cost};
 
     /// A core with the daemon's own rows alone, at the moment `now` (milliseconds since the start of 1970).
@@ -94,6 +93,7 @@ impl Core {
         ensures made { IfOk result (λ core. StandsFor core (opening limits listener first_xid now)) }
         ensures tie { IfOk result (λ core. core.tie ≡ meter.old.tie) }
         ensures bad { IsErrOf result CoreFault.BadLimits ↔ IsTrue (not (are_good limits)) }
+        ensures memory { IfErr result (λ fault. IsTrue (are_good limits) → fault ≡ CoreFault.NoMemory) }
         ensures cost { PaysAtMost meter.old meter.new (6 + limits.conns) }
     {
         if !are_good(&limits) {
@@ -188,7 +188,7 @@ impl Core {
         ensures within { IfOk result (λ taken. taken.count ≤ length piece.now) }
         ensures refused { OnErr result (self.new ≡ self.old) }
         ensures tie { self.new.tie ≡ self.old.tie }
-        ensures cost { PaysAtMost meter.old meter.new (lookup_cost + length piece.now + settle_cost (length (rows_of self.old.registry)) (length (rows_of self.new.registry))) }
+        ensures cost { PaysAtMost meter.old meter.new (lookup_cost + count_taken result + settle_cost (length (rows_of self.old.registry)) (length (rows_of self.new.registry))) }
     {
         let clock = self.clock.max(now);
         let taken = self.connections.take(

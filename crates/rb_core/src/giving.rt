@@ -3,11 +3,10 @@
 //! The whole reply stays unmarked in one buffer. A window shows its current fragment, marked, and
 //! a number tells how many of all its marked bytes were given.
 ghost use Rattle.std.specs.Prelude.{◌≡◌, ◌+◌, ◌-◌, ◌%◌, ◌<◌, ◌≤◌, ◌^◌, ◌++◌, ℕ, List, length, take, drop, nat_lt, if◌then◌else◌, Some, None, IfSome};
-ghost use Rattle.rb_xdr.specs.Meter.{Pays};
+ghost use Rattle.rb_xdr.specs.Meter.{Pays, PaysAtMost};
 ghost use Rattle.rb_rpc.specs.Records.{marked};
 ghost use Rattle.rb_core.specs.State.{Owed};
 ghost use Rattle.rb_core.specs.Giving.{longest_fragment, pending_of, IsGiving, owed_of};
-ghost use Rattle.rb_registry.specs.Costs.{PaysAtMost};
 ghost use Rattle.rb_core.specs.Costs.{show_cost, pending_cost, advance_cost};
 
 use rb_rpc::fragment_header;

@@ -2,6 +2,7 @@
 ghost use Rattle.rb_core.specs.Cuts.{CutsDoNotMatter};
 ghost use Rattle.rb_core.specs.Grammar.{MessagesAreOfTheGrammar};
 ghost use Rattle.rb_core.specs.Laws.{RunsAppend, StatesAppend, RefusedEventsChangeNothing, NumbersNeverRecur};
+ghost use Rattle.rb_core.specs.Reached.{BytesAreTakenExactly, RepliesAreGivenWhole, RepliesBeginWhole, OwedRepliesStay, NextLostIsLeast};
 ghost use Rattle.rb_core.specs.WorkedConnections.{NoCallCloses, OtherRpcVersionOnTcp, CrumbsInOnePiece, CrumbsInSingleBytes, CrumbsInSevens, BytesBehindArguments, OneRecordAtATime, GivenInParts, TooMuchIsRefused, GoodLimits, NumbersDoNotRecur};
 ghost use Rattle.rb_core.specs.Worked.{NullIsAnswered, SetThenAskThenSetAgain, GreatestVersionElse, OwnRowsAreAsked, LimitIsReached, LocalCallersSet, NothingIsSilent, NullBySys, OtherRpcVersion, TooShort, GreatestCredential, OverlongCredential, SysBodyCutShort, OverlongVerifier, BadResidue, GoodResidue, GssBeforeProgram, OtherVersion, UnknownProcedure, GarbageArguments, OtherProgram, NullOfThree, NullOfFour};
 
@@ -56,6 +57,27 @@ pub fn numbers_never_recur()
 /// Bytes in two pieces do what they do in one, where no record ends in the first.
 pub fn cuts_do_not_matter()
     ensures { CutsDoNotMatter }
+{}
+
+/// In each state that a run reaches, bytes are taken up to the end of the first record, or all where there is none.
+pub fn bytes_are_taken_exactly()
+    ensures { BytesAreTakenExactly }
+{}
+
+/// In each state that a run reaches, what is pending of a reply comes next in it, and what was given is given no more.
+pub fn replies_are_given_whole()
+    ensures { RepliesAreGivenWhole }
+{}
+
+/// A call's whole reply is owed once its record ends, and only bytes given on its connection, or the close of it, change what is owed.
+pub fn owed_replies_stay()
+    ensures begin { RepliesBeginWhole }
+    ensures stay { OwedRepliesStay }
+{}
+
+/// In each state that a run reaches, the look for a Lost connection finds the one of the least number.
+pub fn next_lost_is_least()
+    ensures { NextLostIsLeast }
 {}
 
 /// The definitions give what the worked examples of connections say.

@@ -15,15 +15,17 @@ mod types;
 
 pub use engine::Core;
 pub use laws::{
-    cuts_do_not_matter, messages_are_of_the_grammar, numbers_never_recur,
-    refused_events_change_nothing, runs_append, worked_connections, worked_examples,
+    bytes_are_taken_exactly, cuts_do_not_matter, messages_are_of_the_grammar, next_lost_is_least,
+    numbers_never_recur, owed_replies_stay, refused_events_change_nothing, replies_are_given_whole,
+    runs_append, worked_connections, worked_examples,
 };
 pub use message::{Message, read_message};
 pub use rb_proto::Listener;
 pub use rb_rpc::{Caller, Peer};
 pub use run::{Event, Output, replay};
+pub use rb_xdr::NoMemory;
 pub use taking::kept_bytes_say_the_record;
-pub use types::{Answer, CoreFault, Limits, NoMemory, Taken};
+pub use types::{Answer, CoreFault, Limits, Taken};
 
 #[cfg(test)]
 mod tests;

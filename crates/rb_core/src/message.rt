@@ -3,6 +3,7 @@ ghost use Rattle.std.specs.Prelude.{◌≡◌};
 ghost use Rattle.rb_core.specs.Calls.{is_served, asked, called, message_of};
 
 use rb_proto::{ArgumentFault, Request, read_args};
+use rb_registry::RPCB_PROG;
 use rb_rpc::{CallHead, ReplyHead, ReplyStatus, Verdict, read_call};
 
 /// What the data of a record, or a datagram, says.
@@ -15,8 +16,6 @@ pub enum Message {
     /// A call of a procedure that is served, with arguments that can be read.
     Asked(CallHead, Request),
 }
-
-const PORTMAPPER: u32 = 100_000;
 
 #[tactic(auto, unfolding(crate::specs::Calls::is_served))]
 fn is_served(vers: u32) -> bool
@@ -47,7 +46,7 @@ fn asked(head: CallHead, request: Result<Request, ArgumentFault>) -> Message
 fn called(head: CallHead, arguments: &[u8]) -> Message
     ensures { result ≡ called head arguments.now }
 {
-    if head.prog != PORTMAPPER {
+    if head.prog != RPCB_PROG {
         return refused(head.xid, ReplyStatus::ProgUnavail);
     }
     if !is_served(head.vers) {

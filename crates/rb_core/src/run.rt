@@ -5,7 +5,7 @@ ghost use Rattle.rb_core.specs.Step.{step, show_taken};
 ghost use Rattle.rb_core.specs.Step.Event.{Open, Bytes, Pending, Gave, Closed, NextLost, Datagram};
 ghost use Rattle.rb_core.specs.Pending.{pending, is_too_much};
 ghost use Rattle.rb_core.specs.StandsFor.{StandsFor, event_of, output_of, events_of, outputs_of, Happens, Happened, arrived};
-ghost use Rattle.rb_registry.specs.Costs.{PaysAtMost};
+ghost use Rattle.rb_xdr.specs.Meter.{PaysAtMost};
 ghost use Rattle.rb_registry.specs.Registry.{rows_of};
 ghost use Rattle.rb_core.specs.RunCosts.{run_cost};
 ghost use Rattle.rb_core.specs.Costs.{event_cost, lookup_cost, pending_cost};
@@ -13,9 +13,9 @@ ghost use Rattle.rb_core.specs.Costs.{event_cost, lookup_cost, pending_cost};
 use crate::connections::LONGEST_FRAGMENT;
 use crate::engine::Core;
 use crate::serve::LONGEST_REPLY;
-use crate::types::{Answer, CoreFault, NoMemory, Taken};
+use crate::types::{Answer, CoreFault, Taken};
 use rb_rpc::Peer;
-use rb_xdr::Meter;
+use rb_xdr::{Meter, NoMemory};
 use std::alloc::Global;
 
 /// An event of a run: a call on a core, and the look at its reply where there is one. Moments are milliseconds
@@ -104,6 +104,7 @@ fn show_taken(taken: Taken) -> Output
 fn pending(alloc: Global, core: &Core, id: u64, meter: &mut Meter) -> Result<Output, NoMemory>
     requires { meter.old.tie ≡ core.now.tie }
     ensures step { (s : State) → StandsFor core.now s → IfOk result (λ given. Happens s (Pending id) given core.now) }
+    ensures free { OnErr result (meter.new ≡ meter.old) }
     ensures cost { PaysAtMost meter.old meter.new (event_cost (length (rows_of core.now.registry)) (length (rows_of core.now.registry))) }
 {
     let Ok(mut copy) = Vec::with_capacity(alloc, LONGEST_FRAGMENT) else {
@@ -179,6 +180,7 @@ fn datagram(
     requires { meter.old.tie ≡ core.old.tie }
     ensures step { (s : State) → StandsFor core.old s → IfOk result (λ given. Happens s (Datagram now peer message.now) given core.new) }
     ensures err { OnErr result (core.new ≡ core.old) }
+    ensures free { OnErr result (meter.new ≡ meter.old) }
     ensures tie { core.new.tie ≡ core.old.tie }
     ensures cost { PaysAtMost meter.old meter.new (event_cost (length (rows_of core.old.registry)) (length (rows_of core.new.registry))) }
 {
@@ -206,6 +208,7 @@ fn happen(
     ensures step { (s : State) → StandsFor core.old s → IfOk result (λ output.
         (output_of output ≡ (step s (event_of event.now)).0) × StandsFor core.new (step s (event_of event.now)).1) }
     ensures err { OnErr result (core.new ≡ core.old) }
+    ensures free { OnErr result (meter.new ≡ meter.old) }
     ensures tie { core.new.tie ≡ core.old.tie }
     ensures cost { PaysAtMost meter.old meter.new ((event_cost (length (rows_of core.old.registry)) (length (rows_of core.new.registry))) + arrived (event_of event.now)) }
 {
@@ -235,7 +238,7 @@ pub fn replay(
     ensures some { (s : State) → StandsFor core.old s → OnErr result ((n : ℕ) × (n < length events.now)
         × Happened s (take n (events_of events.now)) (outputs_of out.old.items) (outputs_of out.new.items) core.new) }
     ensures tie { core.new.tie ≡ core.old.tie }
-    ensures cost { (s : State) → StandsFor core.old s → OnOk result (PaysAtMost meter.old meter.new (run_cost s (events_of events.now))) }
+    ensures cost { (s : State) → StandsFor core.old s → PaysAtMost meter.old meter.new (run_cost s (events_of events.now)) }
     ensures same_meter { meter.new.tie ≡ meter.old.tie }
 {
     for event in events {

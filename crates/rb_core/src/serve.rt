@@ -4,7 +4,7 @@ ghost use Rattle.rb_rpc.specs.Replies.{reply_head};
 ghost use Rattle.rb_registry.specs.declared.row.Row.{Row};
 ghost use Rattle.rb_registry.specs.Rows.{Change};
 ghost use Rattle.rb_registry.specs.Registry.{StandsForChanges, rows_of};
-ghost use Rattle.rb_registry.specs.Costs.{PaysAtMost};
+ghost use Rattle.rb_xdr.specs.Meter.{PaysAtMost};
 ghost use Rattle.rb_proto.specs.Results.{result_bytes};
 ghost use Rattle.rb_core.specs.Serve.{served, changes_by, served_of, scene_in, fitting, longest_reply};
 ghost use Rattle.rb_core.specs.Costs.{serve_cost};

@@ -17,7 +17,7 @@ ghost use Rattle.rb_core.specs.Feeding.{fed_until};
 ghost use Rattle.rb_core.specs.Slots.{StandsForConnection, HasBuffers};
 ghost use Rattle.rb_core.specs.Giving.{longest_fragment};
 ghost use Rattle.rb_core.specs.Took.{Took, took, is_taking, mark_from, HasEnded, IsFed};
-ghost use Rattle.rb_registry.specs.Costs.{PaysAtMost};
+ghost use Rattle.rb_xdr.specs.Meter.{PaysAtMost};
 ghost use Rattle.rb_core.specs.Costs.{show_cost, settle_cost, give_cost, pending_cost};
 
 use crate::giving::{advance, begin, pending, pending_len};

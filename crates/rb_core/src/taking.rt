@@ -1,9 +1,8 @@
 //! Bytes that arrive on a connection.
 ghost use Rattle.std.specs.Prelude.{◌≡◌, ℕ, ◌+◌, ◌≤◌, [], ◌∷◌, ◌++◌, if◌then◌else◌, List, length, take, Some, None};
-ghost use Rattle.rb_xdr.specs.Meter.{Pays};
+ghost use Rattle.rb_xdr.specs.Meter.{Pays, PaysAtMost};
 ghost use Rattle.rb_rpc.specs.Marks.{StandsForFed};
 ghost use Rattle.rb_rpc.specs.Records.{first_record, data_of};
-ghost use Rattle.rb_registry.specs.Costs.{PaysAtMost};
 ghost use Rattle.rb_core.specs.Reading.{longest_call, IsReading};
 ghost use Rattle.rb_core.specs.Feeding.{fed_until, StandsBehind, KeptSaysTheRecord};
 

@@ -46,8 +46,3 @@ pub enum CoreFault {
     #[error("gone")]
     Gone,
 }
-
-/// An allocation was refused.
-#[derive(Clone, Copy, Debug, Drop, Error, PartialEq, Eq)]
-#[error("no memory")]
-pub struct NoMemory;

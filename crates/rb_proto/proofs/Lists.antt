@@ -8,10 +8,9 @@ use Rattle.std.proofs.lemmas.List.Folds.{length-flat_map-take}
 use Rattle.std.proofs.lemmas.Option.{slice_get_within, get_or_from_slice_get}
 use Rattle.rb_xdr.specs.Xdr.{boolean, listed}
 use Rattle.rb_xdr.specs.Kept.{Kept}
-use Rattle.rb_xdr.specs.Meter.{Meter}
+use Rattle.rb_xdr.specs.Meter.{Meter, PaysAtMost}
 use Rattle.rb_registry.specs.declared.row.Row.{Row}
 use Rattle.rb_registry.specs.Registry.{Registry, rows_of, StandsIn, rows_passed}
-use Rattle.rb_registry.specs.Costs.{PaysAtMost}
 use Rattle.rb_proto.specs.declared.answers.Answer.{Answer}
 use Rattle.rb_proto.specs.declared.answers.Answer.TheVariants.{Rows}
 use Rattle.rb_proto.specs.declared.answers.Listing.{Listing}

@@ -1,6 +1,6 @@
 //! The procedures that look something up, or turn an address into another form (RFC 1833 sections 2.2 and 3.2).
 ghost use Rattle.std.specs.Prelude.{◌≡◌, ◌+◌, ◌*◌, length};
-ghost use Rattle.rb_registry.specs.Costs.{PaysAtMost};
+ghost use Rattle.rb_xdr.specs.Meter.{PaysAtMost};
 ghost use Rattle.rb_registry.specs.Registry.{rows_of};
 ghost use Rattle.rb_proto.specs.Answers.{shown_text, shown_port, row_of_getport, row_of_getaddr, row_of_getversaddr, port_found, addr_found, seconds, taddr_of, uaddr_of};
 ghost use Rattle.rb_proto.specs.Asked.{sees};

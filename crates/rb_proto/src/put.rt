@@ -1,6 +1,6 @@
 //! Results, written behind the head of a reply.
 ghost use Rattle.std.specs.Prelude.{◌≡◌, ◌+◌, ◌-◌, ◌*◌, ◌≤◌, ◌↔◌, ◌++◌, length, take, IsOk, OnOk, OnErr};
-ghost use Rattle.rb_registry.specs.Costs.{PaysAtMost};
+ghost use Rattle.rb_xdr.specs.Meter.{PaysAtMost};
 ghost use Rattle.rb_registry.specs.Registry.{rows_of};
 ghost use Rattle.rb_proto.specs.Results.{value_bytes, result_bytes, row_bytes, rows_bytes};
 

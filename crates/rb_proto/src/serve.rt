@@ -1,6 +1,6 @@
 //! The procedures, each with its function.
 ghost use Rattle.std.specs.Prelude.{◌≡◌, ◌+◌, ◌*◌, List, length};
-ghost use Rattle.rb_registry.specs.Costs.{PaysAtMost};
+ghost use Rattle.rb_xdr.specs.Meter.{PaysAtMost};
 ghost use Rattle.rb_registry.specs.declared.row.Row.{Row};
 ghost use Rattle.rb_registry.specs.Rows.{Change};
 ghost use Rattle.rb_registry.specs.Registry.{rows_of, StandsForChanges};

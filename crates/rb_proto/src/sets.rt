@@ -1,6 +1,6 @@
 //! SET and UNSET, the procedures that change the registry (RFC 1833 sections 2.2 and 3.2).
 ghost use Rattle.std.specs.Prelude.{◌≡◌, ◌+◌, ◌*◌, List, length, is_some, None};
-ghost use Rattle.rb_registry.specs.Costs.{PaysAtMost};
+ghost use Rattle.rb_xdr.specs.Meter.{PaysAtMost};
 ghost use Rattle.rb_registry.specs.declared.row.Row.{Row};
 ghost use Rattle.rb_registry.specs.Rows.{Change};
 ghost use Rattle.rb_registry.specs.Rows.Change.{Removed};

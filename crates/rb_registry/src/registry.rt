@@ -6,7 +6,7 @@ use crate::cursor::Cursor;
 use crate::fault::RegistryFault;
 use crate::removal::Removal;
 use crate::row::{Netid, Owner, Row, Which};
-use crate::walk::{entry_after, exact_or_greatest, find_exact, has_key, remove_covered};
+use crate::walk::{exact_or_greatest, find_exact, has_key, remove_covered};
 use rb_xdr::{Meter, Pool};
 use std::alloc::Global;
 use std::marker::Model;
@@ -46,8 +46,7 @@ fn is_change_left(changes: u64) -> bool
 impl Registry {
     ghost use Rattle.std.specs.Prelude.{◌≡◌, ◌≤◌, ◌<◌, ◌+◌, ◌*◌, ℕ, List, [], ◌∷◌, ◌++◌, length, take, slice_get, Some, None, Ok, Err, IfOk, OnOk, OnErr, IfSome, IfNone, IsErrOf, ◌↔◌, option_copied, if◌then◌else◌};
     ghost use Rattle.std.specs.Bool.{OnFalse};
-    ghost use Rattle.rb_xdr.specs.Meter.{Pays};
-    ghost use Rattle.rb_registry.specs.Costs.{PaysAtMost};
+    ghost use Rattle.rb_xdr.specs.Meter.{Pays, PaysAtMost};
     ghost use Rattle.rb_registry.specs.declared.row.Row.{Row};
     ghost use Rattle.rb_registry.specs.Rows.{Change, has_place, removes_some, find_exact, find_row, live};
     ghost use Rattle.rb_registry.specs.Rows.Change.{Added, Removed};
@@ -159,7 +158,7 @@ impl Registry {
         }
     }
 
-    /// The row of exactly this version of the program on the netid (RFC 1833 section 2.2.1,
+    /// The row of exactly this version of the program on the netid (RFC 1833 section 2.2.2,
     /// RPCBPROC_GETVERSADDR).
     pub fn find_exact(&self, prog: u32, vers: u32, netid: Netid, meter: &mut Meter) -> Option<&Row>
         requires { meter.old.tie ≡ self.now.tie }
@@ -201,7 +200,7 @@ impl Registry {
         ensures rows { (own : List Row) (changes : List Change) → StandsForChanges self.now own changes → rows_at self.now stamp ≡ live own (take stamp changes) }
         ensures cost { PaysAtMost meter.old meter.new 2 }
     {
-        match entry_after(&self.rows, cursor.key(), meter) {
+        match self.rows.entry_after(cursor.key(), meter) {
             Some((key, row)) => Some((Cursor::behind(key), row)),
             None => None,
         }

@@ -56,6 +56,8 @@ fn registry_has_memory(rt: HostRuntime) -> Result<(), Fail> {
     assert_eq!(rt; registry.len(&mut meter), 6);
     let refused = Registry::new(rt.alloc(), 5, own_rows(), &mut meter);
     assert!(rt; matches!(refused, Err(RegistryFault::BadLimits)));
+    let refused = Registry::new(rt.alloc(), usize::MAX, own_rows(), &mut meter);
+    assert!(rt; matches!(refused, Err(RegistryFault::NoMemory)));
     Ok(())
 }
 

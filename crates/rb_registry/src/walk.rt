@@ -1,10 +1,9 @@
 //! Walks over the rows, in their order.
-ghost use Rattle.std.specs.Prelude.{◌≡◌, ◌+◌, ◌*◌, ◌∷◌, [], length, filter, not, MatchOption, MatchResult, Some, None, option_copied};
+ghost use Rattle.std.specs.Prelude.{◌≡◌, ◌+◌, ◌*◌, ◌∷◌, [], length, filter, not, MatchResult, Some, None, option_copied};
 ghost use Rattle.std.specs.List.{list_any};
 ghost use Rattle.std.specs.Map.{values_of};
-ghost use Rattle.rb_xdr.specs.Meter.{Pays};
-ghost use Rattle.rb_xdr.specs.Pool.{HasDistinctKeys, first_key};
-ghost use Rattle.rb_registry.specs.Costs.{PaysAtMost};
+ghost use Rattle.rb_xdr.specs.Meter.{PaysAtMost};
+ghost use Rattle.rb_xdr.specs.Pool.{HasDistinctKeys};
 ghost use Rattle.rb_xdr.specs.Places.{to_come};
 ghost use Rattle.rb_registry.specs.Removals.{change_of};
 ghost use Rattle.rb_registry.specs.Rows.{find_exact, versions, greatest, covers, is_of_key};
@@ -12,39 +11,6 @@ ghost use Rattle.rb_registry.specs.Rows.{find_exact, versions, greatest, covers,
 use crate::removal::Removal;
 use crate::row::{Netid, Row};
 use rb_xdr::{Meter, Pool};
-
-// The key behind this one, or the first.
-fn key_after(rows: &Pool<Row>, place: Option<usize>, meter: &mut Meter) -> Option<usize>
-    requires { meter.old.tie ≡ rows.now.tie }
-    ensures key { result ≡ first_key (to_come rows.now.entries place) }
-    ensures cost { Pays meter.old meter.new 1 }
-{
-    match place {
-        None => rows.first(meter),
-        Some(key) => rows.next(key, meter),
-    }
-}
-
-/// The row behind that of a key, or the first, with its key.
-pub(crate) fn entry_after<'a>(
-    rows: &'a Pool<Row>,
-    place: Option<usize>,
-    meter: &mut Meter,
-) -> Option<(usize, &'a Row)>
-    requires tie { meter.old.tie ≡ rows.now.tie }
-    requires distinct { HasDistinctKeys rows.now.entries }
-    ensures next { MatchOption result (to_come rows.now.entries place ≡ [])
-        (λ next. to_come rows.now.entries place ≡ (next.0, next.1.now) ∷ to_come rows.now.entries (Some next.0)) }
-    ensures cost { PaysAtMost meter.old meter.new 2 }
-{
-    let Some(key) = key_after(rows, place, meter) else {
-        return None;
-    };
-    match rows.get(key, meter) {
-        Some(row) => Some((key, row)),
-        None => None,
-    }
-}
 
 /// The row of exactly this version.
 #[tactic(auto, unfolding(crate::specs::Rows::find_exact))]
@@ -61,7 +27,7 @@ pub(crate) fn find_exact<'a>(
     ensures cost { PaysAtMost meter.old meter.new (2 * length rows.now.entries + 2) }
 {
     let mut place = None;
-    'rows: while let Some((key, row)) = entry_after(rows, place, meter) {
+    'rows: while let Some((key, row)) = rows.entry_after(place, meter) {
         if row.is_of(prog, vers, netid) {
             return Some(row);
         }
@@ -98,7 +64,7 @@ pub(crate) fn exact_or_greatest<'a>(
 {
     let mut newest = 0;
     let mut place = None;
-    'rows: while let Some((key, row)) = entry_after(rows, place, meter) {
+    'rows: while let Some((key, row)) = rows.entry_after(place, meter) {
         if row.is_of(prog, vers, netid) {
             return Ok(row);
         }
@@ -121,7 +87,7 @@ pub(crate) fn remove_covered(rows: &mut Pool<Row>, removal: &Removal, meter: &mu
 {
     let mut removed = false;
     let mut place = None;
-    'rows: while let Some((key, row)) = entry_after(rows, place, meter) {
+    'rows: while let Some((key, row)) = rows.entry_after(place, meter) {
         if removal.covers(row) {
             rows.remove(key, meter);
             removed = true;

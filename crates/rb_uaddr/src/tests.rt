@@ -30,7 +30,7 @@ fn greatest_and_least_numbers(rt: HostRuntime) -> Result<(), Fail> {
 }
 
 #[test]
-fn other_texts_are_refused(rt: HostRuntime) {
+fn other_texts_are_refused(rt: HostRuntime) -> Result<(), Fail> {
     let texts = [
         b"".as_slice(),
         b"1.2.3.4.5".as_slice(),
@@ -45,6 +45,11 @@ fn other_texts_are_refused(rt: HostRuntime) {
     for text in texts {
         assert_eq!(rt; Uaddr::parse(text), Err(NotAnAddress), "{text:?}");
     }
+    assert_eq!(rt;
+        format!(in rt.alloc(); "{NotAnAddress}")?.as_str(),
+        "not a universal address"
+    );
+    Ok(())
 }
 
 #[test]

@@ -1,8 +1,9 @@
 //! A table of fixed capacity whose keys are kept in order of insertion, and whose calls are counted.
-ghost use Rattle.std.specs.Prelude.{◌≡◌, ◌<◌, ◌≤◌, ◌+◌, ◌↔◌, [], ◌∷◌, ◌++◌, length, IsTrue, IsOk, IsSome, IfOk, IfErr, OnErr, option_copied, Some, None};
+ghost use Rattle.std.specs.Prelude.{◌≡◌, ◌<◌, ◌≤◌, ◌+◌, ◌↔◌, [], ◌∷◌, ◌++◌, length, IsTrue, IsOk, IsSome, IfOk, IfErr, OnErr, MatchOption, option_copied, Some, None};
 ghost use Rattle.std.specs.Option.{option_copied_mut};
 ghost use Rattle.std.specs.Borrow.{sem};
-ghost use Rattle.rb_xdr.specs.Meter.{Pays};
+ghost use Rattle.rb_xdr.specs.Meter.{Pays, PaysAtMost};
+ghost use Rattle.rb_xdr.specs.Places.{to_come};
 ghost use Rattle.rb_xdr.specs.Pool.{value_at, without, first_key, key_after, HasDistinctKeys};
 
 use crate::chain::Chain;
@@ -16,7 +17,7 @@ use std::snapshot::Snapshot;
 
 /// At most `cap` values, each under a key, all in memory that `new` took: no later call takes any.
 ///
-/// Each call costs 1 step, and wants the meter that the table was made with.
+/// Each call costs 1 step, but for `entry_after`, and wants the meter that the table was made with.
 #[derive(Drop)]
 pub struct Pool<T> {
     values: Slab<T>,
@@ -144,6 +145,7 @@ impl<T> Pool<T> {
     pub fn first(&self, meter: &mut Meter) -> Option<usize>
         requires { meter.old.tie ≡ self.now.tie }
         ensures key { result ≡ first_key self.now.entries }
+        ensures distinct { HasDistinctKeys self.now.entries }
         ensures cost { Pays meter.old meter.new 1 }
     {
         meter.pay(1);
@@ -154,6 +156,7 @@ impl<T> Pool<T> {
     pub fn next(&self, key: usize, meter: &mut Meter) -> Option<usize>
         requires { meter.old.tie ≡ self.now.tie }
         ensures key { result ≡ key_after self.now.entries key }
+        ensures distinct { HasDistinctKeys self.now.entries }
         ensures cost { Pays meter.old meter.new 1 }
     {
         meter.pay(1);
@@ -161,6 +164,35 @@ impl<T> Pool<T> {
             self.keys.next(key)
         } else {
             None
+        }
+    }
+
+    /// The value inserted next after that of `place`, of those that are there, or the first at None, with its key.
+    /// It costs at most 2 steps.
+    pub fn entry_after(&self, place: Option<usize>, meter: &mut Meter) -> Option<(usize, &T)>
+        requires { meter.old.tie ≡ self.now.tie }
+        ensures next { MatchOption result (to_come self.now.entries place ≡ [])
+            (λ next. to_come self.now.entries place ≡ (next.0, next.1.now) ∷ to_come self.now.entries (Some next.0)) }
+        ensures cost { PaysAtMost meter.old meter.new 2 }
+    {
+        let Some(key) = self.key_after(place, meter) else {
+            return None;
+        };
+        match self.get(key, meter) {
+            Some(value) => Some((key, value)),
+            None => None,
+        }
+    }
+
+    fn key_after(&self, place: Option<usize>, meter: &mut Meter) -> Option<usize>
+        requires { meter.old.tie ≡ self.now.tie }
+        ensures key { result ≡ first_key (to_come self.now.entries place) }
+        ensures distinct { HasDistinctKeys self.now.entries }
+        ensures cost { Pays meter.old meter.new 1 }
+    {
+        match place {
+            None => self.first(meter),
+            Some(key) => self.next(key, meter),
         }
     }
 

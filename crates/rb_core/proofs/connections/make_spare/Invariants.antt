@@ -2,7 +2,7 @@ use Rattle.std.proofs.Common.{◌≡◌, length}
 use Rattle.std.specs.Prelude.{All}
 use Rattle.std.specs.Map.{values_of}
 use Rattle.rb_xdr.specs.Pool.{HasDistinctKeys}
-use Rattle.rb_registry.specs.Costs.{PaysAtMost}
+use Rattle.rb_xdr.specs.Meter.{PaysAtMost}
 use Rattle.rb_core.specs.Slots.{AreSpare}
 use Rattle.rb_core.proofs.connections.make_spare.Given as goal
 

@@ -1,7 +1,7 @@
 use Rattle.std.proofs.Common.{◌≡◌, ◌∷◌, [], ◌++◌, refl, ap, ◌∙◌}
 use Rattle.std.proofs.lemmas.List.{map_push}
-use Rattle.rb_core.specs.StandsFor.{output_of, outputs_of}
-use Rattle.rb_core.proofs.Runs.{one_more, pays_more}
+use Rattle.rb_core.specs.StandsFor.{events_of, output_of, outputs_of}
+use Rattle.rb_core.proofs.Runs.{one_more, pays_more, pays_within}
 use Rattle.rb_core.proofs.run.replay.Goals as goal
 
 pub loop-event-preserved : goal.loop-event-preserved
@@ -17,3 +17,9 @@ loop-event-preserved c =
           let before = (c.loop-event.invariant.happened s h).state in
           pays_more s c.args.events.now c.loop-event.event-index c.event-item.result _ _ _ _ _ c.loop-event-test.true c.event-item.is before (c.in_ok-output.ensures.step _ before).1 (c.loop-event.invariant.cost s h) c.in_ok-output.ensures.cost;
     }
+
+pub returns-in_default-clause-cost : goal.returns-in_default-clause-cost
+returns-in_default-clause-cost c s h = pays_within s (events_of c.args.events.now) c.loop-event.event-index _ _ (c.loop-event.invariant.cost s h)
+
+pub returns-in_err-output-clause-cost : goal.returns-in_err-output-clause-cost
+returns-in_err-output-clause-cost c s h = rw c.in_err-output.ensures.free (pays_within s (events_of c.args.events.now) c.loop-event.event-index _ _ (c.loop-event.invariant.cost s h))

@@ -1,5 +1,5 @@
 use Rattle.std.proofs.Common.{◌≡◌, take}
-use Rattle.rb_registry.specs.Costs.{PaysAtMost}
+use Rattle.rb_xdr.specs.Meter.{PaysAtMost}
 use Rattle.rb_core.specs.State.{State}
 use Rattle.rb_core.specs.RunCosts.{run_cost}
 use Rattle.rb_core.specs.StandsFor.{StandsFor, events_of, outputs_of, Happened}

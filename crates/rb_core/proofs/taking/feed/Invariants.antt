@@ -1,5 +1,5 @@
 use Rattle.std.proofs.Common.{take}
-use Rattle.rb_registry.specs.Costs.{PaysAtMost}
+use Rattle.rb_xdr.specs.Meter.{PaysAtMost}
 use Rattle.rb_core.proofs.Feeding.{IsBehind}
 use Rattle.rb_core.proofs.taking.feed.Given as goal
 
