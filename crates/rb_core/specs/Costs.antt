@@ -2,9 +2,9 @@
 use Rattle.std.specs.Prelude.{ℕ, ◌+◌, ◌*◌}
 
 -- what it costs to serve a message over so many rows, where so many are left: the last reply is taken back, the
--- procedure walks the rows, and a list of them, or what fits of it, and a reply of 9,000 bytes are written
+-- procedure walks the rows, those of a list are walked twice, and a reply of 9,000 bytes is written
 abbrev pub serve_cost : ℕ → ℕ → ℕ
-serve_cost rows left = 4 * rows + 3 * left + 9080
+serve_cost rows left = 4 * rows + 4 * left + 9043
 
 -- what it costs to show a fragment: the window is emptied, and a header of 4 bytes and at most 1,024 of data are written
 abbrev pub show_cost : ℕ

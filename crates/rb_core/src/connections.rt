@@ -128,7 +128,8 @@ fn make_spare(alloc: Global, conns: usize, meter: &mut Meter) -> Result<Pool<Buf
     ensures all { IfOk result (λ spare. length spare.entries ≡ conns) }
     ensures cap { IfOk result (λ spare. spare.cap ≡ conns) }
     ensures tie { IfOk result (λ spare. spare.tie ≡ meter.old.tie) }
-    ensures buffers { IfOk result (λ spare. All (AreSpare meter.old.tie) (values_of spare.entries)) }
+    ensures buffers { IfOk result
+        (λ spare. All (AreSpare meter.old.tie) (values_of spare.entries)) }
     ensures cost { PaysAtMost meter.old meter.new conns }
 {
     let mut spare = Pool::new(alloc, conns, meter)?;
@@ -176,7 +177,9 @@ impl Connections {
     /// The first connection that is wanted.
     fn first(&self, wanted: Wanted, meter: &mut Meter) -> Option<&Slot>
         requires { meter.old.tie ≡ self.now.tie }
-        ensures found { (c : Open) → StandsForConnections self.now c → MatchOption result (find (is_wanted wanted) c.all ≡ None) (λ slot. IsFound wanted c.all slot.now) }
+        ensures found { (c : Open) → StandsForConnections self.now c
+            → MatchOption result (find (is_wanted wanted) c.all ≡ None)
+            (λ slot. IsFound wanted c.all slot.now) }
         ensures buffers { IfSome result (λ slot. HasBuffers self.now.tie slot.now) }
         ensures cost { PaysAtMost meter.old meter.new (find_cost self.now.conns) }
     {
@@ -203,7 +206,8 @@ impl Connections {
 
     /// No connections yet, of at most so many. All of their memory is taken.
     pub fn new(alloc: Global, conns: usize, meter: &mut Meter) -> Result<Connections, NoMemory>
-        ensures empty { IfOk result (λ c. c ≡ record { slots = []; given = 0; conns = conns; tie = meter.old.tie }) }
+        ensures empty { IfOk result
+            (λ c. c ≡ record { slots = []; given = 0; conns = conns; tie = meter.old.tie }) }
         ensures cost { PaysAtMost meter.old meter.new conns }
     {
         let spare = make_spare(alloc, conns, meter)?;
@@ -219,8 +223,10 @@ impl Connections {
     /// them, else `Spent` where no number is left.
     pub fn open(&mut self, clock: u64, peer: Peer, meter: &mut Meter) -> Result<u64, CoreFault>
         requires { meter.old.tie ≡ self.old.tie }
-        ensures number { (c : Open) → StandsForConnections self.old c → result ≡ number_for self.old.conns c.all c.next }
-        ensures ok { (c : Open) → StandsForConnections self.old c → OnOk result (StandsForConnections self.new (with_new peer clock c)) }
+        ensures number { (c : Open) → StandsForConnections self.old c
+            → result ≡ number_for self.old.conns c.all c.next }
+        ensures ok { (c : Open) → StandsForConnections self.old c
+            → OnOk result (StandsForConnections self.new (with_new peer clock c)) }
         ensures err { OnErr result (self.new ≡ self.old) }
         ensures conns { self.new.conns ≡ self.old.conns }
         ensures tie { self.new.tie ≡ self.old.tie }
@@ -252,7 +258,8 @@ impl Connections {
     pub fn close(&mut self, id: u64, meter: &mut Meter) -> bool
         requires { meter.old.tie ≡ self.old.tie }
         ensures there { (c : Open) → StandsForConnections self.old c → result ≡ is_there id c.all }
-        ensures gone { (c : Open) → StandsForConnections self.old c → StandsForConnections self.new (record c { all = without_number id c.all }) }
+        ensures gone { (c : Open) → StandsForConnections self.old c
+            → StandsForConnections self.new (record c { all = without_number id c.all }) }
         ensures refused { result ≡ false → self.new ≡ self.old }
         ensures conns { self.new.conns ≡ self.old.conns }
         ensures tie { self.new.tie ≡ self.old.tie }
@@ -283,16 +290,21 @@ impl Connections {
         requires tie { meter.old.tie ≡ self.old.tie }
         requires registry { meter.old.tie ≡ registry.old.tie }
         ensures fault { IfErr result (λ e. e ≡ CoreFault.Gone) }
-        ensures gone { (c : Open) → StandsForConnections self.old c → OnErr result (live_connection id c.all ≡ None) }
+        ensures gone { (c : Open) → StandsForConnections self.old c
+            → OnErr result (live_connection id c.all ≡ None) }
         ensures refused { OnErr result ((self.new ≡ self.old) × (registry.new ≡ registry.old)) }
-        ensures taken { (c : Open) (own : List Row) (changes : List Change) → StandsForConnections self.old c → StandsForChanges registry.old own changes
-            → IfOk result (HasTaken id clock listener.now registry.old registry.new own changes piece.now c self.new) }
+        ensures taken { (c : Open) (own : List Row) (changes : List Change)
+            → StandsForConnections self.old c → StandsForChanges registry.old own changes
+            → IfOk result (HasTaken id clock listener.now registry.old registry.new own changes
+            piece.now c self.new) }
         ensures within { IfOk result (λ taken. taken.count ≤ length piece.now) }
         ensures registry_tie { registry.new.tie ≡ registry.old.tie }
         ensures limit { registry.new.limit ≡ registry.old.limit }
         ensures conns { self.new.conns ≡ self.old.conns }
         ensures tie { self.new.tie ≡ self.old.tie }
-        ensures cost { PaysAtMost meter.old meter.new (find_cost self.old.conns + count_taken result + settle_cost (length (rows_of registry.old)) (length (rows_of registry.new))) }
+        ensures cost { PaysAtMost meter.old meter.new
+            (find_cost self.old.conns + count_taken result
+            + settle_cost (length (rows_of registry.old)) (length (rows_of registry.new))) }
     {
         let Some(key) = wanted_key(&self.slots, Wanted::Live(id), meter) else {
             return Err(CoreFault::Gone);
@@ -313,9 +325,11 @@ impl Connections {
     ) -> Result<(), CoreFault>
         requires { meter.old.tie ≡ self.old.tie }
         ensures fault { IfErr result (λ e. e ≡ CoreFault.Gone) }
-        ensures gone { (c : Open) → StandsForConnections self.old c → OnErr result (live_connection id c.all ≡ None) }
+        ensures gone { (c : Open) → StandsForConnections self.old c
+            → OnErr result (live_connection id c.all ≡ None) }
         ensures refused { OnErr result (self.new ≡ self.old) }
-        ensures given { (c : Open) → StandsForConnections self.old c → OnOk result (HasGiven id n clock c self.new) }
+        ensures given { (c : Open) → StandsForConnections self.old c
+            → OnOk result (HasGiven id n clock c self.new) }
         ensures conns { self.new.conns ≡ self.old.conns }
         ensures tie { self.new.tie ≡ self.old.tie }
         ensures cost { PaysAtMost meter.old meter.new (find_cost self.old.conns + give_cost) }
@@ -337,7 +351,9 @@ impl Connections {
     /// none: `Gone` where there is no such connection.
     pub fn pending(&self, id: u64, meter: &mut Meter) -> Result<&[u8], CoreFault>
         requires { meter.old.tie ≡ self.now.tie }
-        ensures lent { (c : Open) → StandsForConnections self.now c → MatchResult result (λ bytes. lent (live_connection id c.all) ≡ Ok bytes.now) (λ e. lent (live_connection id c.all) ≡ Err e) }
+        ensures lent { (c : Open) → StandsForConnections self.now c
+            → MatchResult result (λ bytes. lent (live_connection id c.all) ≡ Ok bytes.now)
+            (λ e. lent (live_connection id c.all) ≡ Err e) }
         ensures few { IfOk result (λ bytes. length bytes.now ≤ longest_fragment) }
         ensures cost { PaysAtMost meter.old meter.new (find_cost self.now.conns + pending_cost) }
     {

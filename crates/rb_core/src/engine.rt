@@ -90,10 +90,12 @@ impl Core {
         now: u64,
         meter: &mut Meter,
     ) -> Result<Core, CoreFault>
-        ensures made { IfOk result (λ core. StandsFor core (opening limits listener first_xid now)) }
+        ensures made { IfOk result
+            (λ core. StandsFor core (opening limits listener first_xid now)) }
         ensures tie { IfOk result (λ core. core.tie ≡ meter.old.tie) }
         ensures bad { IsErrOf result CoreFault.BadLimits ↔ IsTrue (not (are_good limits)) }
-        ensures memory { IfErr result (λ fault. IsTrue (are_good limits) → fault ≡ CoreFault.NoMemory) }
+        ensures memory { IfErr result
+            (λ fault. IsTrue (are_good limits) → fault ≡ CoreFault.NoMemory) }
         ensures cost { PaysAtMost meter.old meter.new (6 + limits.conns) }
     {
         if !are_good(&limits) {
@@ -123,10 +125,12 @@ impl Core {
     pub fn datagram(&mut self, now: u64, peer: Peer, message: &[u8], meter: &mut Meter) -> Answer
         requires { meter.old.tie ≡ self.old.tie }
         ensures step { (s : State) → StandsFor self.old s →
-            (result ≡ (datagram s now peer message.now).0) × StandsFor self.new (datagram s now peer message.now).1 }
+            (result ≡ (datagram s now peer message.now).0)
+            × StandsFor self.new (datagram s now peer message.now).1 }
         ensures tie { self.new.tie ≡ self.old.tie }
         ensures short { length self.new.reply ≤ 9000 }
-        ensures cost { PaysAtMost meter.old meter.new (serve_cost (length (rows_of self.old.registry)) (length (rows_of self.new.registry))) }
+        ensures cost { PaysAtMost meter.old meter.new
+            (serve_cost (length (rows_of self.old.registry)) (length (rows_of self.new.registry))) }
     {
         self.clock = self.clock.max(now);
         let said = read_message(message);
@@ -158,7 +162,8 @@ impl Core {
     pub fn open(&mut self, now: u64, peer: Peer, meter: &mut Meter) -> Result<u64, CoreFault>
         requires { meter.old.tie ≡ self.old.tie }
         ensures step { (s : State) → StandsFor self.old s →
-            (result ≡ (open_connection s now peer).0) × StandsFor self.new (open_connection s now peer).1 }
+            (result ≡ (open_connection s now peer).0)
+            × StandsFor self.new (open_connection s now peer).1 }
         ensures refused { OnErr result (self.new ≡ self.old) }
         ensures tie { self.new.tie ≡ self.old.tie }
         ensures cost { PaysAtMost meter.old meter.new 5 }
@@ -184,11 +189,15 @@ impl Core {
     ) -> Result<Taken, CoreFault>
         requires { meter.old.tie ≡ self.old.tie }
         ensures step { (s : State) → StandsFor self.old s →
-            (result ≡ (bytes s now id piece.now).0) × StandsFor self.new (bytes s now id piece.now).1 }
+            (result ≡ (bytes s now id piece.now).0)
+            × StandsFor self.new (bytes s now id piece.now).1 }
         ensures within { IfOk result (λ taken. taken.count ≤ length piece.now) }
         ensures refused { OnErr result (self.new ≡ self.old) }
         ensures tie { self.new.tie ≡ self.old.tie }
-        ensures cost { PaysAtMost meter.old meter.new (lookup_cost + count_taken result + settle_cost (length (rows_of self.old.registry)) (length (rows_of self.new.registry))) }
+        ensures cost { PaysAtMost meter.old meter.new
+            (lookup_cost + count_taken result
+            + settle_cost (length (rows_of self.old.registry))
+            (length (rows_of self.new.registry))) }
     {
         let clock = self.clock.max(now);
         let taken = self.connections.take(
@@ -212,7 +221,9 @@ impl Core {
     /// there is no such connection, or it is Lost.
     pub fn pending(&self, id: u64, meter: &mut Meter) -> Result<&[u8], CoreFault>
         requires { meter.old.tie ≡ self.now.tie }
-        ensures lent { (s : State) → StandsFor self.now s → MatchResult result (λ bytes. pending s id ≡ Ok bytes.now) (λ e. pending s id ≡ Err e) }
+        ensures lent { (s : State) → StandsFor self.now s
+            → MatchResult result (λ bytes. pending s id ≡ Ok bytes.now)
+            (λ e. pending s id ≡ Err e) }
         ensures few { IfOk result (λ bytes. length bytes.now ≤ longest_fragment) }
         ensures cost { PaysAtMost meter.old meter.new (lookup_cost + pending_cost) }
     {
@@ -223,7 +234,8 @@ impl Core {
     /// connection, or it is Lost.
     pub fn gave(&mut self, now: u64, id: u64, n: usize, meter: &mut Meter) -> Result<(), CoreFault>
         requires { meter.old.tie ≡ self.old.tie }
-        ensures step { (s : State) → StandsFor self.old s → IsTrue (not (is_too_much n (pending s id))) →
+        ensures step { (s : State) → StandsFor self.old s
+            → IsTrue (not (is_too_much n (pending s id))) →
             (result ≡ (gave s now id n).0) × StandsFor self.new (gave s now id n).1 }
         ensures refused { OnErr result (self.new ≡ self.old) }
         ensures tie { self.new.tie ≡ self.old.tie }
@@ -242,7 +254,8 @@ impl Core {
     /// A connection was closed: it is there no longer, live or Lost. `Gone` where there is none of that number.
     pub fn closed(&mut self, id: u64, meter: &mut Meter) -> Result<(), CoreFault>
         requires { meter.old.tie ≡ self.old.tie }
-        ensures step { (s : State) → StandsFor self.old s → (result ≡ (closed s id).0) × StandsFor self.new (closed s id).1 }
+        ensures step { (s : State) → StandsFor self.old s → (result ≡ (closed s id).0)
+            × StandsFor self.new (closed s id).1 }
         ensures refused { OnErr result (self.new ≡ self.old) }
         ensures tie { self.new.tie ≡ self.old.tie }
         ensures cost { PaysAtMost meter.old meter.new (lookup_cost + 1) }

@@ -37,7 +37,11 @@ fn show(reply: &Kept, start: usize, window: &mut Kept, meter: &mut Meter)
     requires window_tie { meter.old.tie ≡ window.old.tie }
     requires start { start < length reply.now.bytes }
     requires cap { window.old.cap ≡ longest_fragment }
-    ensures shown { window.new ≡ record window.old { bytes = take longest_fragment (marked (drop start reply.now.bytes)) } }
+    ensures shown { window.new
+        ≡ record window.old {
+          bytes = take longest_fragment
+              (marked (drop start reply.now.bytes));
+        } }
     ensures cost { PaysAtMost meter.old meter.new show_cost }
 {
     let left = reply.len(meter) - start;
@@ -66,7 +70,8 @@ pub fn begin(reply: &Kept, window: &mut Kept, meter: &mut Meter)
 pub fn pending_len(window: &Kept, given: usize, meter: &mut Meter) -> usize
     requires tie { meter.old.tie ≡ window.now.tie }
     ensures left { result ≡ length window.now.bytes - given % longest_fragment }
-    ensures pending { (reply : List ℕ) (o : Owed) → IsGiving reply window.now given o → result ≡ length (pending_of o) }
+    ensures pending { (reply : List ℕ) (o : Owed) → IsGiving reply window.now given o
+        → result ≡ length (pending_of o) }
     ensures cost { Pays meter.old meter.new 1 }
 {
     window.len(meter).saturating_sub(given % MARKED)
@@ -77,7 +82,8 @@ pub fn pending_len(window: &Kept, given: usize, meter: &mut Meter) -> usize
 pub fn pending<'a>(window: &'a Kept, given: usize, meter: &mut Meter) -> &'a [u8]
     requires tie { meter.old.tie ≡ window.now.tie }
     requires cap { window.now.cap ≡ longest_fragment }
-    ensures pending { (reply : List ℕ) (o : Owed) → IsGiving reply window.now given o → result.now ≡ pending_of o }
+    ensures pending { (reply : List ℕ) (o : Owed) → IsGiving reply window.now given o
+        → result.now ≡ pending_of o }
     ensures few { length result.now ≤ longest_fragment }
     ensures cost { PaysAtMost meter.old meter.new pending_cost }
 {
@@ -101,8 +107,12 @@ pub fn advance(
     requires reply_cap { reply.now.cap < 2 ^ 32 }
     requires cap { window.old.cap ≡ longest_fragment }
     requires pending { more ≤ length window.old.bytes - given % longest_fragment }
-    ensures count { (o : Owed) → IsGiving reply.now.bytes window.old given o → result ≡ (if nat_lt (o.given + more) (length o.marked) then Some (o.given + more) else None) }
-    ensures giving { (o : Owed) → IsGiving reply.now.bytes window.old given o → IfSome result (λ count. IsGiving reply.now.bytes window.new count (record o { given = o.given + more })) }
+    ensures count { (o : Owed) → IsGiving reply.now.bytes window.old given o
+        → result ≡ (if nat_lt (o.given + more) (length o.marked) then Some
+        (o.given + more) else None) }
+    ensures giving { (o : Owed) → IsGiving reply.now.bytes window.old given o
+        → IfSome result (λ count. IsGiving reply.now.bytes window.new count
+        (record o { given = o.given + more })) }
     ensures cap { window.new.cap ≡ window.old.cap }
     ensures tie { window.new.tie ≡ window.old.tie }
     ensures cost { PaysAtMost meter.old meter.new advance_cost }

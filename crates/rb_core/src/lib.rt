@@ -22,8 +22,8 @@ pub use laws::{
 pub use message::{Message, read_message};
 pub use rb_proto::Listener;
 pub use rb_rpc::{Caller, Peer};
-pub use run::{Event, Output, replay};
 pub use rb_xdr::NoMemory;
+pub use run::{Event, Output, replay};
 pub use taking::kept_bytes_say_the_record;
 pub use types::{Answer, CoreFault, Limits, Taken};
 

@@ -68,7 +68,8 @@ fn open(core: &mut Core, now: u64, peer: Peer, meter: &mut Meter) -> Output
     requires { meter.old.tie ≡ core.old.tie }
     ensures step { (s : State) → StandsFor core.old s → Happens s (Open now peer) result core.new }
     ensures tie { core.new.tie ≡ core.old.tie }
-    ensures cost { PaysAtMost meter.old meter.new (event_cost (length (rows_of core.old.registry)) (length (rows_of core.new.registry))) }
+    ensures cost { PaysAtMost meter.old meter.new
+        (event_cost (length (rows_of core.old.registry)) (length (rows_of core.new.registry))) }
 {
     match core.open(now, peer, meter) {
         Ok(number) => Output::Opened(number),
@@ -79,9 +80,12 @@ fn open(core: &mut Core, now: u64, peer: Peer, meter: &mut Meter) -> Output
 #[tactic(auto, unfolding(crate::specs::Step::step))]
 fn bytes(core: &mut Core, now: u64, id: u64, piece: &[u8], meter: &mut Meter) -> Output
     requires { meter.old.tie ≡ core.old.tie }
-    ensures step { (s : State) → StandsFor core.old s → Happens s (Bytes now id piece.now) result core.new }
+    ensures step { (s : State) → StandsFor core.old s
+        → Happens s (Bytes now id piece.now) result core.new }
     ensures tie { core.new.tie ≡ core.old.tie }
-    ensures cost { PaysAtMost meter.old meter.new ((event_cost (length (rows_of core.old.registry)) (length (rows_of core.new.registry))) + length piece.now) }
+    ensures cost { PaysAtMost meter.old meter.new
+        ((event_cost (length (rows_of core.old.registry)) (length (rows_of core.new.registry)))
+        + length piece.now) }
 {
     match core.bytes(now, id, piece, meter) {
         Ok(taken) => show_taken(taken),
@@ -103,9 +107,11 @@ fn show_taken(taken: Taken) -> Output
 #[tactic(auto, unfolding(crate::specs::Step::step, crate::specs::Giving::longest_fragment))]
 fn pending(alloc: Global, core: &Core, id: u64, meter: &mut Meter) -> Result<Output, NoMemory>
     requires { meter.old.tie ≡ core.now.tie }
-    ensures step { (s : State) → StandsFor core.now s → IfOk result (λ given. Happens s (Pending id) given core.now) }
+    ensures step { (s : State) → StandsFor core.now s
+        → IfOk result (λ given. Happens s (Pending id) given core.now) }
     ensures free { OnErr result (meter.new ≡ meter.old) }
-    ensures cost { PaysAtMost meter.old meter.new (event_cost (length (rows_of core.now.registry)) (length (rows_of core.now.registry))) }
+    ensures cost { PaysAtMost meter.old meter.new
+        (event_cost (length (rows_of core.now.registry)) (length (rows_of core.now.registry))) }
 {
     let Ok(mut copy) = Vec::with_capacity(alloc, LONGEST_FRAGMENT) else {
         return Err(NoMemory);
@@ -135,7 +141,8 @@ fn gave(core: &mut Core, now: u64, id: u64, n: u64, meter: &mut Meter) -> Output
     requires { meter.old.tie ≡ core.old.tie }
     ensures step { (s : State) → StandsFor core.old s → Happens s (Gave now id n) result core.new }
     ensures tie { core.new.tie ≡ core.old.tie }
-    ensures cost { PaysAtMost meter.old meter.new (event_cost (length (rows_of core.old.registry)) (length (rows_of core.new.registry))) }
+    ensures cost { PaysAtMost meter.old meter.new
+        (event_cost (length (rows_of core.old.registry)) (length (rows_of core.new.registry))) }
 {
     if is_too_much(core, id, n, meter) {
         return Output::TooMuch;
@@ -151,7 +158,8 @@ fn closed(core: &mut Core, id: u64, meter: &mut Meter) -> Output
     requires { meter.old.tie ≡ core.old.tie }
     ensures step { (s : State) → StandsFor core.old s → Happens s (Closed id) result core.new }
     ensures tie { core.new.tie ≡ core.old.tie }
-    ensures cost { PaysAtMost meter.old meter.new (event_cost (length (rows_of core.old.registry)) (length (rows_of core.new.registry))) }
+    ensures cost { PaysAtMost meter.old meter.new
+        (event_cost (length (rows_of core.old.registry)) (length (rows_of core.new.registry))) }
 {
     match core.closed(id, meter) {
         Ok(()) => Output::Done,
@@ -163,7 +171,8 @@ fn closed(core: &mut Core, id: u64, meter: &mut Meter) -> Output
 fn next_lost(core: &Core, meter: &mut Meter) -> Output
     requires { meter.old.tie ≡ core.now.tie }
     ensures step { (s : State) → StandsFor core.now s → Happens s NextLost result core.now }
-    ensures cost { PaysAtMost meter.old meter.new (event_cost (length (rows_of core.now.registry)) (length (rows_of core.now.registry))) }
+    ensures cost { PaysAtMost meter.old meter.new
+        (event_cost (length (rows_of core.now.registry)) (length (rows_of core.now.registry))) }
 {
     Output::Lost(core.next_lost(meter))
 }
@@ -178,11 +187,13 @@ fn datagram(
     meter: &mut Meter,
 ) -> Result<Output, NoMemory>
     requires { meter.old.tie ≡ core.old.tie }
-    ensures step { (s : State) → StandsFor core.old s → IfOk result (λ given. Happens s (Datagram now peer message.now) given core.new) }
+    ensures step { (s : State) → StandsFor core.old s
+        → IfOk result (λ given. Happens s (Datagram now peer message.now) given core.new) }
     ensures err { OnErr result (core.new ≡ core.old) }
     ensures free { OnErr result (meter.new ≡ meter.old) }
     ensures tie { core.new.tie ≡ core.old.tie }
-    ensures cost { PaysAtMost meter.old meter.new (event_cost (length (rows_of core.old.registry)) (length (rows_of core.new.registry))) }
+    ensures cost { PaysAtMost meter.old meter.new
+        (event_cost (length (rows_of core.old.registry)) (length (rows_of core.new.registry))) }
 {
     let Ok(mut reply) = Vec::with_capacity(alloc, LONGEST_REPLY) else {
         return Err(NoMemory);
@@ -206,11 +217,14 @@ fn happen(
 ) -> Result<Output, NoMemory>
     requires { meter.old.tie ≡ core.old.tie }
     ensures step { (s : State) → StandsFor core.old s → IfOk result (λ output.
-        (output_of output ≡ (step s (event_of event.now)).0) × StandsFor core.new (step s (event_of event.now)).1) }
+        (output_of output ≡ (step s (event_of event.now)).0)
+        × StandsFor core.new (step s (event_of event.now)).1) }
     ensures err { OnErr result (core.new ≡ core.old) }
     ensures free { OnErr result (meter.new ≡ meter.old) }
     ensures tie { core.new.tie ≡ core.old.tie }
-    ensures cost { PaysAtMost meter.old meter.new ((event_cost (length (rows_of core.old.registry)) (length (rows_of core.new.registry))) + arrived (event_of event.now)) }
+    ensures cost { PaysAtMost meter.old meter.new
+        ((event_cost (length (rows_of core.old.registry)) (length (rows_of core.new.registry)))
+        + arrived (event_of event.now)) }
 {
     match event {
         Event::Open(now, peer) => Ok(open(core, *now, *peer, meter)),
@@ -238,7 +252,8 @@ pub fn replay(
     ensures some { (s : State) → StandsFor core.old s → OnErr result ((n : ℕ) × (n < length events.now)
         × Happened s (take n (events_of events.now)) (outputs_of out.old.items) (outputs_of out.new.items) core.new) }
     ensures tie { core.new.tie ≡ core.old.tie }
-    ensures cost { (s : State) → StandsFor core.old s → PaysAtMost meter.old meter.new (run_cost s (events_of events.now)) }
+    ensures cost { (s : State) → StandsFor core.old s
+        → PaysAtMost meter.old meter.new (run_cost s (events_of events.now)) }
     ensures same_meter { meter.new.tie ≡ meter.old.tie }
 {
     for event in events {

@@ -56,9 +56,13 @@ fn put_success(
     requires tie { meter.old.tie ≡ out.old.tie }
     requires empty { out.old.bytes ≡ [] }
     requires room { 9000 ≤ out.old.cap }
-    ensures written { out.new ≡ record out.old { bytes = fitting xid (reply_head xid ReplyStatus.Success ++ result_bytes listener.now.host (rows_of registry.now) answer.now) } }
+    ensures written { out.new ≡ record out.old {
+      bytes = fitting xid
+          (reply_head xid ReplyStatus.Success ++ result_bytes listener.now.host
+          (rows_of registry.now) answer.now);
+    } }
     ensures short { length out.new.bytes ≤ 9000 }
-    ensures cost { PaysAtMost meter.old meter.new (3 * length (rows_of registry.now) + 9071) }
+    ensures cost { PaysAtMost meter.old meter.new (4 * length (rows_of registry.now) + 9038) }
 {
     put_head(
         out,
@@ -95,15 +99,20 @@ pub fn serve(
     requires registry { meter.old.tie ≡ registry.old.tie }
     requires tie { meter.old.tie ≡ out.old.tie }
     requires room { 9000 ≤ out.old.cap }
-    ensures served { served_of result out.new.bytes ≡ served (scene_in listener.now caller.now clock registry.old) message }
-    ensures changes { (own : List Row) (changes : List Change) → StandsForChanges registry.old own changes → StandsForChanges registry.new own (changes_by (scene_in listener.now caller.now clock registry.old) message changes) }
+    ensures served { served_of result out.new.bytes
+        ≡ served (scene_in listener.now caller.now clock registry.old) message }
+    ensures changes { (own : List Row) (changes : List Change)
+        → StandsForChanges registry.old own changes
+        → StandsForChanges registry.new own
+        (changes_by (scene_in listener.now caller.now clock registry.old) message changes) }
     ensures limit { registry.new.limit ≡ registry.old.limit }
     ensures short { length out.new.bytes ≤ 9000 }
     ensures closing { result ≡ Served.Closing → out.new.bytes ≡ [] }
     ensures registry_tie { registry.new.tie ≡ registry.old.tie }
     ensures tie { out.new.tie ≡ out.old.tie }
     ensures cap { out.new.cap ≡ out.old.cap }
-    ensures cost { PaysAtMost meter.old meter.new (serve_cost (length (rows_of registry.old)) (length (rows_of registry.new))) }
+    ensures cost { PaysAtMost meter.old meter.new
+        (serve_cost (length (rows_of registry.old)) (length (rows_of registry.new))) }
 {
     out.clear(meter);
     match message {

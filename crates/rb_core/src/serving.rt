@@ -63,7 +63,9 @@ fn settle(slot: &mut Slot, served: Served, clock: u64, meter: &mut Meter) -> boo
     requires buffers { HasBuffers meter.old.tie slot.old }
     requires some { served ≡ Served.Replied → 0 < length slot.old.buffer.bytes }
     ensures closed { result ≡ is_closing (served_of served slot.old.buffer.bytes) }
-    ensures settled { (c : Connection) → slot.old.number ≡ c.number → slot.old.peer ≡ c.peer → StandsForFed slot.old.marks [] → StandsForConnection slot.new (settled clock (served_of served slot.old.buffer.bytes) c) }
+    ensures settled { (c : Connection) → slot.old.number ≡ c.number → slot.old.peer ≡ c.peer
+        → StandsForFed slot.old.marks []
+        → StandsForConnection slot.new (settled clock (served_of served slot.old.buffer.bytes) c) }
     ensures buffers { HasBuffers meter.old.tie slot.new }
     ensures number { slot.new.number ≡ slot.old.number }
     ensures cost { PaysAtMost meter.old meter.new show_cost }
@@ -103,15 +105,26 @@ fn answer_record(
 ) -> bool
     requires buffers { HasBuffers meter.old.tie slot.old }
     requires registry { meter.old.tie ≡ registry.old.tie }
-    ensures closed { (c : Connection) (bytes : List ℕ) → HasEnded slot.old c bytes → result ≡ is_closing (served (scene_in listener.now (Tcp slot.old.number slot.old.peer) clock registry.old) (message_of (data_of bytes))) }
-    ensures settled { (c : Connection) (bytes : List ℕ) → HasEnded slot.old c bytes → StandsForConnection slot.new (settled clock (served (scene_in listener.now (Tcp slot.old.number slot.old.peer) clock registry.old) (message_of (data_of bytes))) c) }
-    ensures changes { (c : Connection) (bytes : List ℕ) (own : List Row) (changes : List Change) → HasEnded slot.old c bytes → StandsForChanges registry.old own changes
-        → StandsForChanges registry.new own (changes_by (scene_in listener.now (Tcp slot.old.number slot.old.peer) clock registry.old) (message_of (data_of bytes)) changes) }
+    ensures closed { (c : Connection) (bytes : List ℕ) → HasEnded slot.old c bytes
+        → result ≡ is_closing (served
+        (scene_in listener.now (Tcp slot.old.number slot.old.peer) clock registry.old)
+        (message_of (data_of bytes))) }
+    ensures settled { (c : Connection) (bytes : List ℕ) → HasEnded slot.old c bytes
+        → StandsForConnection slot.new
+        (settled clock (served (scene_in listener.now
+        (Tcp slot.old.number slot.old.peer) clock registry.old) (message_of (data_of bytes))) c) }
+    ensures changes { (c : Connection) (bytes : List ℕ) (own : List Row) (changes : List Change)
+        → HasEnded slot.old c bytes → StandsForChanges registry.old own changes
+        → StandsForChanges registry.new own
+        (changes_by (scene_in listener.now
+        (Tcp slot.old.number slot.old.peer) clock registry.old)
+        (message_of (data_of bytes)) changes) }
     ensures limit { registry.new.limit ≡ registry.old.limit }
     ensures registry_tie { registry.new.tie ≡ registry.old.tie }
     ensures buffers { HasBuffers meter.old.tie slot.new }
     ensures number { slot.new.number ≡ slot.old.number }
-    ensures cost { PaysAtMost meter.old meter.new (settle_cost (length (rows_of registry.old)) (length (rows_of registry.new))) }
+    ensures cost { PaysAtMost meter.old meter.new
+        (settle_cost (length (rows_of registry.old)) (length (rows_of registry.new))) }
 {
     let message = read_record(&slot.buffer, meter);
     let caller = Caller::Tcp(slot.number, slot.peer);
@@ -131,8 +144,12 @@ fn answer_record(
 fn feed_slot(slot: &mut Slot, piece: &[u8], clock: u64, meter: &mut Meter) -> Fed
     requires buffers { HasBuffers meter.old.tie slot.old }
     ensures within { result.count ≤ length piece.now }
-    ensures taken { (c : Connection) (fed : List ℕ) → StandsForConnection slot.old c → fed_in c.phase ≡ Some fed → result ≡ fed_until (length fed) (length piece.now) (first_record (fed ++ piece.now)) }
-    ensures fed { (c : Connection) (fed : List ℕ) → StandsForConnection slot.old c → fed_in c.phase ≡ Some fed → IsFed slot.new clock c (fed ++ piece.now) (first_record (fed ++ piece.now)) }
+    ensures taken { (c : Connection) (fed : List ℕ) → StandsForConnection slot.old c
+        → fed_in c.phase ≡ Some fed
+        → result ≡ fed_until (length fed) (length piece.now) (first_record (fed ++ piece.now)) }
+    ensures fed { (c : Connection) (fed : List ℕ) → StandsForConnection slot.old c
+        → fed_in c.phase ≡ Some fed
+        → IsFed slot.new clock c (fed ++ piece.now) (first_record (fed ++ piece.now)) }
     ensures buffers { HasBuffers meter.old.tie slot.new }
     ensures number { slot.new.number ≡ slot.old.number }
     ensures peer { slot.new.peer ≡ slot.old.peer }
@@ -156,15 +173,28 @@ pub fn take_piece(
     requires buffers { HasBuffers meter.old.tie slot.old }
     requires registry { meter.old.tie ≡ registry.old.tie }
     ensures within { result.count ≤ length piece.now }
-    ensures taken { (c : Connection) (changes : List Change) → StandsForConnection slot.old c → result ≡ (took (scene_in listener.now (Tcp slot.old.number slot.old.peer) clock registry.old) clock c changes piece.now (fed_in c.phase)).taken }
-    ensures stands { (c : Connection) (changes : List Change) → StandsForConnection slot.old c → StandsForConnection slot.new (took (scene_in listener.now (Tcp slot.old.number slot.old.peer) clock registry.old) clock c changes piece.now (fed_in c.phase)).connection }
-    ensures changes { (c : Connection) (own : List Row) (changes : List Change) → StandsForConnection slot.old c → StandsForChanges registry.old own changes
-        → StandsForChanges registry.new own (took (scene_in listener.now (Tcp slot.old.number slot.old.peer) clock registry.old) clock c changes piece.now (fed_in c.phase)).changes }
+    ensures taken { (c : Connection) (changes : List Change) → StandsForConnection slot.old c
+        → result ≡ (took (scene_in listener.now
+        (Tcp slot.old.number slot.old.peer) clock registry.old) clock c changes piece.now
+        (fed_in c.phase)).taken }
+    ensures stands { (c : Connection) (changes : List Change) → StandsForConnection slot.old c
+        → StandsForConnection slot.new
+        (took (scene_in listener.now
+        (Tcp slot.old.number slot.old.peer) clock registry.old) clock c changes piece.now
+        (fed_in c.phase)).connection }
+    ensures changes { (c : Connection) (own : List Row) (changes : List Change)
+        → StandsForConnection slot.old c → StandsForChanges registry.old own changes
+        → StandsForChanges registry.new own
+        (took (scene_in listener.now
+        (Tcp slot.old.number slot.old.peer) clock registry.old) clock c changes piece.now
+        (fed_in c.phase)).changes }
     ensures limit { registry.new.limit ≡ registry.old.limit }
     ensures registry_tie { registry.new.tie ≡ registry.old.tie }
     ensures buffers { HasBuffers meter.old.tie slot.new }
     ensures number { slot.new.number ≡ slot.old.number }
-    ensures cost { PaysAtMost meter.old meter.new (result.count + settle_cost (length (rows_of registry.old)) (length (rows_of registry.new))) }
+    ensures cost { PaysAtMost meter.old meter.new
+        (result.count + settle_cost (length (rows_of registry.old))
+        (length (rows_of registry.new))) }
 {
     if piece.is_empty() {
         return NOTHING;
@@ -183,7 +213,8 @@ pub fn take_piece(
 /// Counts n of the pending bytes as given: with the last byte of its reply the connection is Idle again.
 pub fn give_bytes(slot: &mut Slot, n: usize, clock: u64, meter: &mut Meter)
     requires buffers { HasBuffers meter.old.tie slot.old }
-    ensures given { (c : Connection) → StandsForConnection slot.old c → 0 < n → n ≤ length (pending_in c.phase) → StandsForConnection slot.new (when_given clock n c) }
+    ensures given { (c : Connection) → StandsForConnection slot.old c → 0 < n
+        → n ≤ length (pending_in c.phase) → StandsForConnection slot.new (when_given clock n c) }
     ensures buffers { HasBuffers meter.old.tie slot.new }
     ensures number { slot.new.number ≡ slot.old.number }
     ensures cost { PaysAtMost meter.old meter.new give_cost }
@@ -205,7 +236,8 @@ pub fn give_bytes(slot: &mut Slot, n: usize, clock: u64, meter: &mut Meter)
 /// The rest of the current fragment of the reply that is owed, empty where none is.
 pub fn pending_of<'a>(slot: &'a Slot, meter: &mut Meter) -> &'a [u8]
     requires buffers { HasBuffers meter.old.tie slot.now }
-    ensures pending { (c : Connection) → StandsForConnection slot.now c → result.now ≡ pending_in c.phase }
+    ensures pending { (c : Connection) → StandsForConnection slot.now c
+        → result.now ≡ pending_in c.phase }
     ensures few { length result.now ≤ longest_fragment }
     ensures cost { PaysAtMost meter.old meter.new pending_cost }
 {

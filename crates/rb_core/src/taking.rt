@@ -21,7 +21,8 @@ pub struct Fed {
 /// Adds a byte at the end, or leaves it out where the buffer is full.
 fn keep(kept: &mut Kept, byte: u8, meter: &mut Meter)
     requires { meter.old.tie ≡ kept.old.tie }
-    ensures front { (bytes : List ℕ) → kept.old.bytes ≡ take kept.old.cap bytes → kept.new.bytes ≡ take kept.old.cap (bytes ++ byte ∷ []) }
+    ensures front { (bytes : List ℕ) → kept.old.bytes ≡ take kept.old.cap bytes
+        → kept.new.bytes ≡ take kept.old.cap (bytes ++ byte ∷ []) }
     ensures cap { kept.new.cap ≡ kept.old.cap }
     ensures tie { kept.new.tie ≡ kept.old.tie }
     ensures cost { Pays meter.old meter.new 1 }
@@ -32,9 +33,12 @@ fn keep(kept: &mut Kept, byte: u8, meter: &mut Meter)
 /// Takes one byte. It says whether the record ends with it.
 fn feed_byte(marks: &mut Marks, kept: &mut Kept, byte: u8, meter: &mut Meter) -> bool
     requires { meter.old.tie ≡ kept.old.tie }
-    ensures ends { (fed : List ℕ) → IsReading marks.old kept.old fed → first_record (fed ++ byte ∷ []) ≡ (if result then Some (length fed + 1) else None) }
-    ensures marks { (fed : List ℕ) → IsReading marks.old kept.old fed → StandsForFed marks.new (if result then [] else fed ++ byte ∷ []) }
-    ensures keeps { (fed : List ℕ) → IsReading marks.old kept.old fed → kept.new.bytes ≡ take longest_call (data_of (fed ++ byte ∷ [])) }
+    ensures ends { (fed : List ℕ) → IsReading marks.old kept.old fed
+        → first_record (fed ++ byte ∷ []) ≡ (if result then Some (length fed + 1) else None) }
+    ensures marks { (fed : List ℕ) → IsReading marks.old kept.old fed
+        → StandsForFed marks.new (if result then [] else fed ++ byte ∷ []) }
+    ensures keeps { (fed : List ℕ) → IsReading marks.old kept.old fed
+        → kept.new.bytes ≡ take longest_call (data_of (fed ++ byte ∷ [])) }
     ensures cap { kept.new.cap ≡ kept.old.cap }
     ensures tie { kept.new.tie ≡ kept.old.tie }
     ensures cost { PaysAtMost meter.old meter.new 1 }
@@ -52,8 +56,10 @@ fn feed_byte(marks: &mut Marks, kept: &mut Kept, byte: u8, meter: &mut Meter) ->
 pub fn feed(marks: &mut Marks, kept: &mut Kept, piece: &[u8], meter: &mut Meter) -> Fed
     requires { meter.old.tie ≡ kept.old.tie }
     ensures within { result.count ≤ length piece.now }
-    ensures taken { (fed : List ℕ) → IsReading marks.old kept.old fed → result ≡ fed_until (length fed) (length piece.now) (first_record (fed ++ piece.now)) }
-    ensures after { (fed : List ℕ) → IsReading marks.old kept.old fed → StandsBehind marks.new kept.new (fed ++ piece.now) (first_record (fed ++ piece.now)) }
+    ensures taken { (fed : List ℕ) → IsReading marks.old kept.old fed
+        → result ≡ fed_until (length fed) (length piece.now) (first_record (fed ++ piece.now)) }
+    ensures after { (fed : List ℕ) → IsReading marks.old kept.old fed
+        → StandsBehind marks.new kept.new (fed ++ piece.now) (first_record (fed ++ piece.now)) }
     ensures cap { kept.new.cap ≡ kept.old.cap }
     ensures tie { kept.new.tie ≡ kept.old.tie }
     ensures cost { PaysAtMost meter.old meter.new result.count }

@@ -1,6 +1,6 @@
 -- Lists of rows, put row by row.
-use Rattle.std.proofs.Common.{◌≡◌, ◌≤◌, ◌<◌, ◌+◌, ◌*◌, ℕ, Result, Ok, Err, IsOk, Bool, true, false, cond, List, [], ◌∷◌, ◌++◌, length, take, Some, Option, refl, sym, ap, ◌∙◌, append_assoc, append-nil, length-append, arith}
-use Rattle.std.specs.Prelude.{IsErr, ◌-◌, filter, map, slice_get}
+use Rattle.std.proofs.Common.{◌≡◌, ◌≤◌, ◌<◌, ◌+◌, ◌*◌, ℕ, Bool, true, false, cond, List, [], ◌∷◌, ◌++◌, length, take, Some, Option, refl, sym, ap, ◌∙◌, append_assoc, append-nil, length-append, arith}
+use Rattle.std.specs.Prelude.{◌-◌, filter, map, slice_get}
 use Rattle.std.specs.List.{flat_map}
 use Rattle.std.proofs.lemmas.Grind.{flat_map-append}
 use Rattle.std.proofs.lemmas.List.{take_more}
@@ -62,25 +62,7 @@ module _ (f : Row → List ℕ) (rows : List Row) (n : ℕ) (row : Row) (here : 
       let more = length-flat_map-take f rows n row (slice_get_within rows n row here) in
       rw (get_or_from_slice_get rows n row row here) at more
 
--- ---- the loop
-
--- the rows that the cursor has passed are put and paid for, as far as the list shows them
-pub record Putting (f : Row → List ℕ) (kept : Registry) (stamp : ℕ) (cursor : Option ℕ) (limit : ℕ) (began out : Kept) (first meter : Meter) : Type 0 where
-  pub place : StandsIn kept stamp cursor
-  pub put : out ≡ record began { bytes = began.bytes ++ flat_map f (take (rows_passed kept stamp cursor) (rows_of kept)) }
-  pub within : length out.bytes ≤ limit
-  pub tie : meter.tie ≡ first.tie
-  pub steps : meter.steps + length began.bytes ≤ first.steps + 3 * rows_passed kept stamp cursor + length out.bytes
-
-pub nothing_put : (f : Row → List ℕ) (kept : Registry) (stamp : ℕ) (cursor : Option ℕ) (limit : ℕ) (began : Kept) (first : Meter)
-    → StandsIn kept stamp cursor → rows_passed kept stamp cursor ≡ 0 → length began.bytes ≤ limit → Putting f kept stamp cursor limit began began first first
-nothing_put f kept stamp cursor limit began first place none within = record {
-  place = place;
-  put = ap (λ (xs : List ℕ). record began { bytes = xs }) (sym (append-nil began.bytes)) ∙ ap (λ (n : ℕ). record began { bytes = began.bytes ++ flat_map f (take n (rows_of kept)) }) (sym none);
-  within = within;
-  tie = refl;
-  steps = omega (arith, none);
-}
+-- ---- the walks
 
 -- the number of rows that are yet to be looked at
 abbrev pub left : Registry → ℕ → Option ℕ → ℕ
@@ -92,64 +74,102 @@ pub record Passes (kept : Registry) (stamp : ℕ) (cursor : Option ℕ) (row : R
   pub place : StandsIn kept stamp next
   pub passed : rows_passed kept stamp next ≡ rows_passed kept stamp cursor + 1
 
-pub fewer_left : (kept : Registry) (stamp : ℕ) (cursor : Option ℕ) (row : Row) (next : Option ℕ) → Passes kept stamp cursor row next → left kept stamp next < left kept stamp cursor
-fewer_left kept stamp cursor row next passes =
-    let inside : rows_passed kept stamp cursor < length (rows_of kept) = slice_get_within (rows_of kept) (rows_passed kept stamp cursor) row passes.here in
-    omega (arith, inside, passes.passed)
+-- what the rows add that the cursor has passed
+abbrev pub passed_bytes : (Row → List ℕ) → Registry → ℕ → Option ℕ → List ℕ
+passed_bytes f kept stamp cursor = flat_map f (take (rows_passed kept stamp cursor) (rows_of kept))
 
-module _ (f : Row → List ℕ) (kept : Registry) (stamp : ℕ) (cursor : Option ℕ) (limit : ℕ) (began out : Kept) (first meter : Meter) (p : Putting f kept stamp cursor limit began out first meter)
-    (row : Row) (next : Option ℕ) (passes : Passes kept stamp cursor row next) where
-  abbrev count : ℕ
-  count = rows_passed kept stamp cursor
+module _ (f : Row → List ℕ) (kept : Registry) (stamp : ℕ) where
+  abbrev all_bytes : List ℕ
+  all_bytes = flat_map f (rows_of kept)
 
-  pub row_put : (more : Kept) (asked paid : Meter) → more ≡ record out { bytes = out.bytes ++ f row } → length out.bytes + length (f row) ≤ limit
-      → PaysAtMost meter asked 2 → PaysAtMost asked paid (1 + (length more.bytes - length out.bytes))
-      → Putting f kept stamp next limit began more first paid
-  row_put more asked paid added room looked cost =
-      let bytes : more.bytes ≡ out.bytes ++ f row = ap (λ (k : Kept). k.bytes) added in
-      let size : length more.bytes ≡ length out.bytes + length (f row) = ap length bytes ∙ length-append out.bytes (f row) in
-      record {
-        place = passes.place;
-        put = added ∙ whole;
-        within = omega (arith, size, room);
-        tie = cost.tie ∙ looked.tie ∙ p.tie;
-        steps = omega (arith, size, passes.passed, p.steps, looked.steps, cost.steps);
-      }
-    where
-      whole : record out { bytes = out.bytes ++ f row } ≡ record began { bytes = began.bytes ++ flat_map f (take (rows_passed kept stamp next) (rows_of kept)) }
-      whole =
-          let text : out.bytes ++ f row ≡ began.bytes ++ flat_map f (take (rows_passed kept stamp next) (rows_of kept)) =
-          ap (λ (k : Kept). k.bytes ++ f row) p.put ∙ append_assoc began.bytes (flat_map f (take count (rows_of kept))) (f row)
-          ∙ ap (λ (xs : List ℕ). began.bytes ++ xs) (sym (one_more f (rows_of kept) count row passes.here) ∙ ap (λ (n : ℕ). flat_map f (take n (rows_of kept))) (sym passes.passed)) in
-          ap (λ (xs : List ℕ). record out { bytes = xs }) text ∙ ap (λ (k : Kept). record k { bytes = began.bytes ++ flat_map f (take (rows_passed kept stamp next) (rows_of kept)) }) p.put
+  pub none_passed : (cursor : Option ℕ) → rows_passed kept stamp cursor ≡ 0 → passed_bytes f kept stamp cursor ≡ []
+  none_passed cursor none = ap (λ (n : ℕ). flat_map f (take n (rows_of kept))) none
+
+  module _ (cursor : Option ℕ) (row : Row) (next : Option ℕ) (passes : Passes kept stamp cursor row next) where
+    pub one_passed : passed_bytes f kept stamp next ≡ passed_bytes f kept stamp cursor ++ f row
+    one_passed =
+        ap (λ (n : ℕ). flat_map f (take n (rows_of kept))) passes.passed ∙ one_more f (rows_of kept) (rows_passed kept stamp cursor) row passes.here
+
+    pub one_longer : length (passed_bytes f kept stamp next) ≡ length (passed_bytes f kept stamp cursor) + length (f row)
+    one_longer = ap length one_passed ∙ length-append (passed_bytes f kept stamp cursor) (f row)
+
+    pub no_longer : length (passed_bytes f kept stamp cursor) + length (f row) ≤ length all_bytes
+    no_longer = not_all f (rows_of kept) (rows_passed kept stamp cursor) row passes.here
+
+-- ---- the walk for the room
+
+-- the rows that the cursor has passed fit, with so much room left behind them, and are paid for
+pub record Measuring (f : Row → List ℕ) (kept : Registry) (stamp : ℕ) (cursor : Option ℕ) (room behind : ℕ) (first meter : Meter) : Type 0 where
+  pub place : StandsIn kept stamp cursor
+  pub fits : behind + length (passed_bytes f kept stamp cursor) ≡ room
+  pub tie : meter.tie ≡ first.tie
+  pub steps : meter.steps ≤ first.steps + 2 * rows_passed kept stamp cursor
+
+pub nothing_measured : (f : Row → List ℕ) (kept : Registry) (stamp : ℕ) (cursor : Option ℕ) (room : ℕ) (first : Meter)
+    → StandsIn kept stamp cursor → rows_passed kept stamp cursor ≡ 0 → Measuring f kept stamp cursor room room first first
+nothing_measured f kept stamp cursor room first place none = record {
+  place = place;
+  fits = omega (arith, ap length (none_passed f kept stamp cursor none));
+  tie = refl;
+  steps = omega arith;
+}
+
+module _ (f : Row → List ℕ) (kept : Registry) (stamp : ℕ) (cursor : Option ℕ) (room behind : ℕ) (first meter : Meter) (m : Measuring f kept stamp cursor room behind first meter) where
+  pub row_measured : (row : Row) (next : Option ℕ) → Passes kept stamp cursor row next → (more : ℕ) (paid : Meter)
+      → more + length (f row) ≡ behind → PaysAtMost meter paid 2 → Measuring f kept stamp next room more first paid
+  row_measured row next passes more paid fits cost = record {
+    place = passes.place;
+    fits = omega (arith, fits, m.fits, one_longer f kept stamp cursor row next passes);
+    tie = cost.tie ∙ m.tie;
+    steps = omega (arith, passes.passed, m.steps, cost.steps);
+  }
 
   -- no room for the row is none for the list
-  pub no_room : (end : List ℕ) → limit < length out.bytes + length (f row) → limit < length began.bytes + length (flat_map f (rows_of kept) ++ end)
-  no_room end full =
-      let size : length out.bytes ≡ length began.bytes + length (flat_map f (take count (rows_of kept))) =
-      ap (λ (k : Kept). length k.bytes) p.put ∙ length-append began.bytes (flat_map f (take count (rows_of kept))) in
-      omega (arith, full, size, not_all f (rows_of kept) count row passes.here, length-append (flat_map f (rows_of kept)) end)
+  pub no_room : (row : Row) (next : Option ℕ) → Passes kept stamp cursor row next → (end : List ℕ)
+      → behind < length (f row) → room < length (flat_map f (rows_of kept) ++ end)
+  no_room row next passes end full = omega (arith, full, m.fits, no_longer f kept stamp cursor row next passes, length-append (flat_map f (rows_of kept)) end)
 
-  -- what is paid where the row is refused
-  pub paid_for : (more : Kept) (asked paid : Meter) → more ≡ out → PaysAtMost meter asked 2 → PaysAtMost asked paid (1 + (length more.bytes - length out.bytes))
-      → PaysAtMost first paid (3 * length (rows_of kept) + (length more.bytes - length began.bytes) + 3)
-  paid_for more asked paid same looked cost =
-      let inside : count < length (rows_of kept) = slice_get_within (rows_of kept) count row passes.here in
-      let size : length out.bytes ≡ length began.bytes + length (flat_map f (take count (rows_of kept))) =
-      ap (λ (k : Kept). length k.bytes) p.put ∙ length-append began.bytes (flat_map f (take count (rows_of kept))) in
-      let unchanged : length more.bytes ≡ length out.bytes = ap (λ (k : Kept). length k.bytes) same in
-      record {
-        steps = omega (arith, inside, size, unchanged, p.steps, looked.steps, cost.steps);
-        tie = cost.tie ∙ looked.tie ∙ p.tie;
-      }
+-- ---- the walk that writes
 
--- ---- a refusal
+-- the rows that the cursor has passed are written and paid for
+pub record Writing (f : Row → List ℕ) (kept : Registry) (stamp : ℕ) (cursor : Option ℕ) (began out : Kept) (first meter : Meter) : Type 0 where
+  pub place : StandsIn kept stamp cursor
+  pub written : out ≡ record began { bytes = began.bytes ++ passed_bytes f kept stamp cursor }
+  pub tie : meter.tie ≡ first.tie
+  pub steps : meter.steps ≤ first.steps + 2 * rows_passed kept stamp cursor + length (passed_bytes f kept stamp cursor)
 
-pub refused : {A E : Type 0} (r : Result A E) (P : Type 0) → IsErr r → (P → ⊥) → (IsOk r → P) × (P → IsOk r)
-refused (Ok x) P is none = absurd cc
-refused (Err e) P is none = (λ h. absurd cc, λ h. absurd (none h))
+pub nothing_written : (f : Row → List ℕ) (kept : Registry) (stamp : ℕ) (cursor : Option ℕ) (began : Kept) (first : Meter)
+    → StandsIn kept stamp cursor → rows_passed kept stamp cursor ≡ 0 → Writing f kept stamp cursor began began first first
+nothing_written f kept stamp cursor began first place none = record {
+  place = place;
+  written =
+      ap (λ (xs : List ℕ). record began { bytes = xs }) (sym (append-nil began.bytes) ∙ ap (λ (xs : List ℕ). began.bytes ++ xs) (sym (none_passed f kept stamp cursor none)));
+  tie = refl;
+  steps = omega arith;
+}
 
-pub above : (a b : ℕ) → (a ≤ b → false ≡ true) → b < a
-above a b so =
-    let none : a ≤ b → ⊥ = λ h. let e : false ≡ true = so h in absurd cc in
-    omega (arith, none)
+module _ (f : Row → List ℕ) (kept : Registry) (stamp : ℕ) (cursor : Option ℕ) (began out : Kept) (first meter : Meter) (w : Writing f kept stamp cursor began out first meter) where
+  size : length out.bytes ≡ length began.bytes + length (passed_bytes f kept stamp cursor)
+  size = ap (λ (k : Kept). length k.bytes) w.written ∙ length-append began.bytes (passed_bytes f kept stamp cursor)
+
+  -- what is written now stands behind all that was written before
+  behind : (xs : List ℕ) → record out { bytes = out.bytes ++ xs } ≡ record began { bytes = began.bytes ++ (passed_bytes f kept stamp cursor ++ xs) }
+  behind xs =
+      ap (λ (k : Kept). record k { bytes = k.bytes ++ xs }) w.written
+      ∙ ap (λ (bytes : List ℕ). record began { bytes = bytes }) (append_assoc began.bytes (passed_bytes f kept stamp cursor) xs)
+
+  module _ (row : Row) (next : Option ℕ) (passes : Passes kept stamp cursor row next) where
+    pub row_written : (more : Kept) (asked paid : Meter) → more ≡ record out { bytes = out.bytes ++ f row } → PaysAtMost meter asked 2 → PaysAtMost asked paid (length (f row))
+        → Writing f kept stamp next began more first paid
+    row_written more asked paid added looked cost = record {
+      place = passes.place;
+      written = added ∙ behind (f row) ∙ ap (λ (xs : List ℕ). record began { bytes = began.bytes ++ xs }) (sym (one_passed f kept stamp cursor row next passes));
+      tie = cost.tie ∙ looked.tie ∙ w.tie;
+      steps = omega (arith, passes.passed, w.steps, looked.steps, cost.steps, one_longer f kept stamp cursor row next passes);
+    }
+
+    -- room for the list is room for the row
+    pub row_fits : (end : List ℕ) → length began.bytes + length (flat_map f (rows_of kept) ++ end) ≤ began.cap → length out.bytes + length (f row) ≤ out.cap
+    row_fits end room =
+        let cap : out.cap ≡ began.cap = ap (λ (k : Kept). k.cap) w.written in
+        omega (arith, room, cap, size, no_longer f kept stamp cursor row next passes, length-append (flat_map f (rows_of kept)) end)

@@ -118,10 +118,6 @@ changes_made None None changes = changes
 unfoldable pub changes_after : Seen → Request → List Change → List Change
 changes_after seen request changes = changes_made (row_set seen request) (removal_made seen request) changes
 
--- the call is a SET that is accepted, so that there has to be room for its row
-unfoldable pub wants_room : Seen → Request → Bool
-wants_room seen request = is_some (row_set seen request)
-
 -- ---- rows that are asked for
 
 -- the listener's host stands in for 0.0.0.0; any other text stays as it was set

@@ -71,11 +71,19 @@ results seen request = result_bytes seen.host seen.rows (answer seen request)
 
 -- ---- one row
 
+abbrev pub is_shown : Listing → Row → Bool
+is_shown Mappings row = is_inet row
+is_shown Rpcbs row = true
+is_shown (Entries prog vers) row = is_version prog vers row
+
+abbrev pub item_bytes : List ℕ → Listing → Row → List ℕ
+item_bytes host Mappings row = mapping_spelling (mapping_of row)
+item_bytes host Rpcbs row = rpcb_spelling (rpcb_of row)
+item_bytes host (Entries prog vers) row = entry_spelling (entry_of host row)
+
 -- what a row adds to a list
 unfoldable pub row_bytes : List ℕ → Listing → Row → List ℕ
-row_bytes host Mappings row = if is_inet row then boolean true ++ mapping_spelling (mapping_of row) else []
-row_bytes host Rpcbs row = boolean true ++ rpcb_spelling (rpcb_of row)
-row_bytes host (Entries prog vers) row = if is_version prog vers row then boolean true ++ entry_spelling (entry_of host row) else []
+row_bytes host list row = if is_shown list row then boolean true ++ item_bytes host list row else []
 
 -- what the rows add to a list one after another, and its end
 abbrev pub rows_bytes : List ℕ → List Row → Listing → List ℕ

@@ -1,7 +1,6 @@
 //! Who asks.
 ghost use Rattle.std.specs.Prelude.{◌≡◌};
-ghost use Rattle.rb_proto.specs.Asked.{asker_of};
-ghost use Rattle.rb_proto.specs.Callers.{peer_of, netid_of, owner_of};
+ghost use Rattle.rb_proto.specs.Callers.{is_local, peer_of, netid_of, owner_of};
 
 use crate::listener::{Listener, is_local};
 use rb_registry::{Netid, Owner};
@@ -10,14 +9,9 @@ use rb_rpc::{CallHead, Caller, Credential, Peer};
 /// What a procedure sees beside the registry.
 #[derive(Clone, Copy)]
 pub(crate) struct Asker {
-    /// The listener's host.
-    pub(crate) host: [u8; 4],
-    /// Whether the caller is on this machine.
-    pub(crate) is_local: bool,
-    /// The transport on which the call came.
-    pub(crate) netid: Netid,
-    /// Whom the credential names.
-    pub(crate) owner: Owner,
+    pub(crate) listener: Listener,
+    pub(crate) caller: Caller,
+    pub(crate) head: CallHead,
     /// In milliseconds.
     pub(crate) clock: u64,
 }
@@ -30,34 +24,31 @@ fn peer_of(caller: &Caller) -> Peer
     }
 }
 
-fn netid_of(caller: &Caller) -> Netid
-    ensures { result ≡ netid_of caller.now }
-{
-    match caller {
-        Caller::Tcp(..) => Netid::Tcp,
-        Caller::Udp(_) => Netid::Udp,
-    }
-}
-
-fn owner_of(credential: Credential) -> Owner
-    ensures { result ≡ owner_of credential }
-{
-    match credential {
-        Credential::None => Owner::Unknown,
-        Credential::Sys(uid) => Owner::Uid(uid),
-    }
-}
-
 impl Asker {
-    pub(crate) fn new(listener: &Listener, caller: &Caller, head: &CallHead, clock: u64) -> Asker
-        ensures { result ≡ asker_of listener.now caller.now head.now clock }
+    /// Whether the caller is on this machine.
+    pub(crate) fn is_local(&self) -> bool
+        ensures { result ≡ is_local self.now.listener (peer_of self.now.caller).host }
     {
-        Asker {
-            host: listener.host,
-            is_local: is_local(listener, &peer_of(caller)),
-            netid: netid_of(caller),
-            owner: owner_of(head.cred),
-            clock,
+        is_local(&self.listener, &peer_of(&self.caller))
+    }
+
+    /// The transport on which the call came.
+    pub(crate) fn netid(&self) -> Netid
+        ensures { result ≡ netid_of self.now.caller }
+    {
+        match self.caller {
+            Caller::Tcp(..) => Netid::Tcp,
+            Caller::Udp(_) => Netid::Udp,
+        }
+    }
+
+    /// Whom the credential names.
+    pub(crate) fn owner(&self) -> Owner
+        ensures { result ≡ owner_of self.now.head.cred }
+    {
+        match self.head.cred {
+            Credential::None => Owner::Unknown,
+            Credential::Sys(uid) => Owner::Uid(uid),
         }
     }
 }

@@ -14,6 +14,7 @@ mod netids;
 mod procedure;
 mod put;
 mod request;
+mod rows;
 mod rpcb;
 mod serve;
 mod sets;

@@ -60,11 +60,12 @@ pub(crate) fn getaddr(
     meter: &mut Meter,
 ) -> Text<128>
     requires { meter.old.tie ≡ registry.now.tie }
-    ensures addr { result ≡ addr_found asker.now.host (row_of_getaddr (sees asker.now registry.now) rpcb.now) }
+    ensures addr { result ≡ addr_found asker.now.listener.host
+        (row_of_getaddr (sees asker.now registry.now) rpcb.now) }
     ensures cost { PaysAtMost meter.old meter.new (4 * length (rows_of registry.now) + 4) }
 {
-    match registry.find(rpcb.prog, rpcb.vers, asker.netid, meter) {
-        Some(row) => shown_text(asker.host, &row.addr),
+    match registry.find(rpcb.prog, rpcb.vers, asker.netid(), meter) {
+        Some(row) => shown_text(asker.listener.host, &row.addr),
         None => Text::new(&[]),
     }
 }
@@ -77,11 +78,12 @@ pub(crate) fn getversaddr(
     meter: &mut Meter,
 ) -> Text<128>
     requires { meter.old.tie ≡ registry.now.tie }
-    ensures addr { result ≡ addr_found asker.now.host (row_of_getversaddr (sees asker.now registry.now) rpcb.now) }
+    ensures addr { result ≡ addr_found asker.now.listener.host
+        (row_of_getversaddr (sees asker.now registry.now) rpcb.now) }
     ensures cost { PaysAtMost meter.old meter.new (4 * length (rows_of registry.now) + 4) }
 {
-    match registry.find_exact(rpcb.prog, rpcb.vers, asker.netid, meter) {
-        Some(row) => shown_text(asker.host, &row.addr),
+    match registry.find_exact(rpcb.prog, rpcb.vers, asker.netid(), meter) {
+        Some(row) => shown_text(asker.listener.host, &row.addr),
         None => Text::new(&[]),
     }
 }

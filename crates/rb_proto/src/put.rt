@@ -1,13 +1,13 @@
 //! Results, written behind the head of a reply.
-ghost use Rattle.std.specs.Prelude.{◌≡◌, ◌+◌, ◌-◌, ◌*◌, ◌≤◌, ◌↔◌, ◌++◌, length, take, IsOk, OnOk, OnErr};
+ghost use Rattle.std.specs.Prelude.{◌≡◌, ◌+◌, ◌-◌, ◌*◌, ◌≤◌, ◌↔◌, ◌++◌, length, IsOk, OnOk, OnErr};
 ghost use Rattle.rb_xdr.specs.Meter.{PaysAtMost};
 ghost use Rattle.rb_registry.specs.Registry.{rows_of};
 ghost use Rattle.rb_proto.specs.Results.{value_bytes, result_bytes, row_bytes, rows_bytes};
 
 use crate::answers::{Answer, Listing, Value};
-use crate::items::{entry_of, mapping_of, rpcb_of};
 use crate::listener::Listener;
-use rb_registry::{Cursor, Registry, Row, Which};
+use crate::rows::{room_after_row, room_after_rows, write_row, write_rows};
+use rb_registry::{Registry, Row};
 use rb_xdr::{Full, Kept, Meter, Xdr};
 
 /// Puts a value, unless the buffer would then have more than `limit` bytes.
@@ -20,11 +20,13 @@ fn put_within<T: Xdr>(
     requires tie { meter.old.tie ≡ out.old.tie }
     requires limit { limit ≤ out.old.cap }
     ensures room { IsOk result ↔ (length out.old.bytes + length (T.spelling value.now) ≤ limit) }
-    ensures ok { OnOk result (out.new ≡ record out.old { bytes = out.old.bytes ++ T.spelling value.now }) }
+    ensures ok { OnOk result (out.new
+        ≡ record out.old { bytes = out.old.bytes ++ T.spelling value.now }) }
     ensures err { OnErr result (out.new ≡ out.old) }
     ensures cap { out.new.cap ≡ out.old.cap }
     ensures tie { out.new.tie ≡ out.old.tie }
-    ensures cost { PaysAtMost meter.old meter.new (1 + (length out.new.bytes - length out.old.bytes)) }
+    ensures cost { PaysAtMost meter.old meter.new
+        (1 + (length out.new.bytes - length out.old.bytes)) }
 {
     let Some(room) = limit.checked_sub(out.len(meter)) else {
         return Err(Full { value: () });
@@ -39,7 +41,6 @@ fn put_within<T: Xdr>(
 /// Puts what a row adds to a list: TRUE and the item, or nothing where the list doesn't show the row.
 ///
 /// The row is refused where the buffer would then have more than `limit` bytes, and nothing is put.
-#[tactic(auto, unfolding(crate::specs::Results::row_bytes))]
 pub fn put_row(
     list: Listing,
     row: &Row,
@@ -50,24 +51,24 @@ pub fn put_row(
 ) -> Result<(), Full>
     requires tie { meter.old.tie ≡ out.old.tie }
     requires limit { limit ≤ out.old.cap }
-    requires within { length out.old.bytes ≤ limit }
-    ensures room { IsOk result ↔ (length out.old.bytes + length (row_bytes listener.now.host list row.now) ≤ limit) }
-    ensures ok { OnOk result (out.new ≡ record out.old { bytes = out.old.bytes ++ row_bytes listener.now.host list row.now }) }
+    ensures room { IsOk result ↔
+        (length out.old.bytes + length (row_bytes listener.now.host list row.now) ≤ limit) }
+    ensures ok { OnOk result (out.new
+        ≡ record out.old { bytes = out.old.bytes ++ row_bytes listener.now.host list row.now }) }
     ensures err { OnErr result (out.new ≡ out.old) }
     ensures cap { out.new.cap ≡ out.old.cap }
     ensures tie { out.new.tie ≡ out.old.tie }
-    ensures cost { PaysAtMost meter.old meter.new (1 + (length out.new.bytes - length out.old.bytes)) }
+    ensures cost { PaysAtMost meter.old meter.new
+        (1 + (length out.new.bytes - length out.old.bytes)) }
 {
-    match list {
-        Listing::Mappings if Which::Inet.includes(row.netid) => {
-            put_within(&(true, mapping_of(row)), limit, out, meter)
-        }
-        Listing::Rpcbs => put_within(&(true, rpcb_of(row)), limit, out, meter),
-        Listing::Entries(prog, vers) if row.prog == prog && row.vers == vers => {
-            put_within(&(true, entry_of(listener.host, row)), limit, out, meter)
-        }
-        Listing::Mappings | Listing::Entries(..) => Ok(()),
+    let Some(room) = limit.checked_sub(out.len(meter)) else {
+        return Err(Full { value: () });
+    };
+    if room_after_row(list, row, listener, room).is_none() {
+        return Err(Full { value: () });
     }
+    write_row(list, row, listener, out, meter);
+    Ok(())
 }
 
 /// Puts results that are no list.
@@ -75,11 +76,13 @@ fn put_value(value: &Value, limit: usize, out: &mut Kept, meter: &mut Meter) -> 
     requires tie { meter.old.tie ≡ out.old.tie }
     requires limit { limit ≤ out.old.cap }
     ensures room { IsOk result ↔ (length out.old.bytes + length (value_bytes value.now) ≤ limit) }
-    ensures ok { OnOk result (out.new ≡ record out.old { bytes = out.old.bytes ++ value_bytes value.now }) }
+    ensures ok { OnOk result (out.new
+        ≡ record out.old { bytes = out.old.bytes ++ value_bytes value.now }) }
     ensures err { OnErr result (out.new ≡ out.old) }
     ensures cap { out.new.cap ≡ out.old.cap }
     ensures tie { out.new.tie ≡ out.old.tie }
-    ensures cost { PaysAtMost meter.old meter.new (1 + (length out.new.bytes - length out.old.bytes)) }
+    ensures cost { PaysAtMost meter.old meter.new
+        (1 + (length out.new.bytes - length out.old.bytes)) }
 {
     match value {
         Value::Void if out.len(meter) <= limit => Ok(()),
@@ -91,7 +94,7 @@ fn put_value(value: &Value, limit: usize, out: &mut Kept, meter: &mut Meter) -> 
     }
 }
 
-/// Puts the rows that a list shows, and its end.
+/// Puts the rows that a list shows, and its end: all or nothing.
 fn put_rows(
     list: Listing,
     registry: &Registry,
@@ -103,29 +106,34 @@ fn put_rows(
     requires registry { meter.old.tie ≡ registry.now.tie }
     requires out { meter.old.tie ≡ out.old.tie }
     requires limit { limit ≤ out.old.cap }
-    requires within { length out.old.bytes ≤ limit }
-    ensures room { IsOk result ↔ (length out.old.bytes + length (rows_bytes listener.now.host (rows_of registry.now) list) ≤ limit) }
-    ensures ok { OnOk result (out.new ≡ record out.old { bytes = out.old.bytes ++ rows_bytes listener.now.host (rows_of registry.now) list }) }
-    ensures err { OnErr result (take (length out.old.bytes) out.new.bytes ≡ out.old.bytes) }
-    ensures within { length out.new.bytes ≤ limit }
+    ensures room { IsOk result ↔
+        (length out.old.bytes + length
+        (rows_bytes listener.now.host (rows_of registry.now) list) ≤ limit) }
+    ensures ok { OnOk result (out.new
+        ≡ record out.old {
+          bytes = out.old.bytes ++ rows_bytes listener.now.host
+              (rows_of registry.now) list;
+        }) }
+    ensures err { OnErr result (out.new ≡ out.old) }
     ensures cap { out.new.cap ≡ out.old.cap }
     ensures tie { out.new.tie ≡ out.old.tie }
-    ensures cost { PaysAtMost meter.old meter.new (3 * length (rows_of registry.now) + (length out.new.bytes - length out.old.bytes) + 3) }
+    ensures cost { PaysAtMost meter.old meter.new
+        (4 * length (rows_of registry.now) + (length out.new.bytes - length out.old.bytes) + 5) }
 {
-    let stamp = registry.stamp();
-    let mut cursor = Cursor::start();
-    'rows: while let Some(found) = registry.next_row(stamp, cursor, meter) {
-        let (next, row) = found;
-        put_row(list, row, listener, limit, out, meter)?;
-        cursor = next;
+    let Some(room) = limit.checked_sub(out.len(meter)) else {
+        return Err(Full { value: () });
+    };
+    if room_after_rows(list, registry, listener, room, meter).is_none() {
+        return Err(Full { value: () });
     }
-    put_within(&false, limit, out, meter)
+    write_rows(list, registry, listener, out, meter);
+    Ok(())
 }
 
 /// Puts the results of an answer behind what the buffer has, its head: rows are those of the registry.
 ///
-/// They are refused where the buffer would then have more than `limit` bytes. What it had stays in front; some of the
-/// rows may stand behind it.
+/// They are refused where the buffer would then have more than `limit` bytes, and nothing is put. So the rows are walked
+/// twice: for the room that they want, and to be written.
 #[tactic(auto, unfolding(crate::specs::Results::result_bytes))]
 pub fn put_answer(
     answer: &Answer,
@@ -138,17 +146,23 @@ pub fn put_answer(
     requires registry { meter.old.tie ≡ registry.now.tie }
     requires out { meter.old.tie ≡ out.old.tie }
     requires limit { limit ≤ out.old.cap }
-    ensures room { IsOk result ↔ (length out.old.bytes + length (result_bytes listener.now.host (rows_of registry.now) answer.now) ≤ limit) }
-    ensures ok { OnOk result (out.new ≡ record out.old { bytes = out.old.bytes ++ result_bytes listener.now.host (rows_of registry.now) answer.now }) }
-    ensures err { OnErr result (take (length out.old.bytes) out.new.bytes ≡ out.old.bytes) }
+    ensures room { IsOk result ↔
+        (length out.old.bytes + length
+        (result_bytes listener.now.host (rows_of registry.now) answer.now) ≤ limit) }
+    ensures ok { OnOk result (out.new
+        ≡ record out.old {
+          bytes = out.old.bytes ++ result_bytes listener.now.host
+              (rows_of registry.now) answer.now;
+        }) }
+    ensures err { OnErr result (out.new ≡ out.old) }
     ensures within { length out.old.bytes ≤ limit → length out.new.bytes ≤ limit }
     ensures cap { out.new.cap ≡ out.old.cap }
     ensures tie { out.new.tie ≡ out.old.tie }
-    ensures cost { PaysAtMost meter.old meter.new (3 * length (rows_of registry.now) + (length out.new.bytes - length out.old.bytes) + 4) }
+    ensures cost { PaysAtMost meter.old meter.new
+        (4 * length (rows_of registry.now) + (length out.new.bytes - length out.old.bytes) + 5) }
 {
     match answer {
         Answer::Results(value) => put_value(value, limit, out, meter),
-        Answer::Rows(_) if out.len(meter) > limit => Err(Full { value: () }),
         Answer::Rows(list) => put_rows(*list, registry, listener, limit, out, meter),
     }
 }

@@ -1,5 +1,5 @@
 //! The procedures, each with its function.
-ghost use Rattle.std.specs.Prelude.{◌≡◌, ◌+◌, ◌*◌, List, length};
+ghost use Rattle.std.specs.Prelude.{◌≡◌, ◌+◌, ◌*◌, List, [], length};
 ghost use Rattle.rb_xdr.specs.Meter.{PaysAtMost};
 ghost use Rattle.rb_registry.specs.declared.row.Row.{Row};
 ghost use Rattle.rb_registry.specs.Rows.{Change};
@@ -23,9 +23,14 @@ use rb_xdr::Meter;
 fn serve(registry: &mut Registry, asker: &Asker, request: Request, meter: &mut Meter) -> Answer
     requires { meter.old.tie ≡ registry.old.tie }
     ensures answer { result ≡ answer (sees asker.now registry.old) request }
-    ensures results { result_bytes asker.now.host (rows_of registry.new) result ≡ results (sees asker.now registry.old) request }
-    ensures changes { (own : List Row) (changes : List Change) → StandsForChanges registry.old own changes
-        → StandsForChanges registry.new own (changes_after (sees asker.now registry.old) request changes) }
+    ensures results { result_bytes asker.now.listener.host (rows_of registry.new) result
+        ≡ results (sees asker.now registry.old) request }
+    ensures changes { (own : List Row) (changes : List Change)
+        → StandsForChanges registry.old own changes
+        → StandsForChanges registry.new own
+        (changes_after (sees asker.now registry.old) request changes) }
+    ensures kept { changes_after (sees asker.now registry.old) request [] ≡ []
+        → registry.new ≡ registry.old }
     ensures limit { registry.new.limit ≡ registry.old.limit }
     ensures tie { registry.new.tie ≡ registry.old.tie }
     ensures cost { PaysAtMost meter.old meter.new (4 * length (rows_of registry.old) + 4) }
@@ -60,15 +65,27 @@ pub fn answer(
     meter: &mut Meter,
 ) -> Answer
     requires { meter.old.tie ≡ registry.old.tie }
-    ensures answer { result ≡ answer (seen_in listener.now caller.now head.now clock registry.old) request }
+    ensures answer { result ≡ answer
+        (seen_in listener.now caller.now head.now clock registry.old) request }
     ensures results { result_bytes listener.now.host (rows_of registry.new) result
         ≡ results (seen_in listener.now caller.now head.now clock registry.old) request }
-    ensures changes { (own : List Row) (changes : List Change) → StandsForChanges registry.old own changes
-        → StandsForChanges registry.new own (changes_after (seen_in listener.now caller.now head.now clock registry.old) request changes) }
+    ensures changes { (own : List Row) (changes : List Change)
+        → StandsForChanges registry.old own changes
+        → StandsForChanges registry.new own
+        (changes_after (seen_in listener.now caller.now head.now clock registry.old) request
+        changes) }
+    ensures kept { changes_after
+        (seen_in listener.now caller.now head.now clock registry.old) request [] ≡ []
+        → registry.new ≡ registry.old }
     ensures limit { registry.new.limit ≡ registry.old.limit }
     ensures tie { registry.new.tie ≡ registry.old.tie }
     ensures cost { PaysAtMost meter.old meter.new (4 * length (rows_of registry.old) + 4) }
 {
-    let asker = Asker::new(listener, caller, head, clock);
+    let asker = Asker {
+        listener: *listener,
+        caller: *caller,
+        head: *head,
+        clock,
+    };
     serve(registry, &asker, request, meter)
 }

@@ -1,5 +1,5 @@
 //! SET and UNSET, the procedures that change the registry (RFC 1833 sections 2.2 and 3.2).
-ghost use Rattle.std.specs.Prelude.{◌≡◌, ◌+◌, ◌*◌, List, length, is_some, None};
+ghost use Rattle.std.specs.Prelude.{◌≡◌, ◌+◌, ◌*◌, List, [], length, is_some, None};
 ghost use Rattle.rb_xdr.specs.Meter.{PaysAtMost};
 ghost use Rattle.rb_registry.specs.declared.row.Row.{Row};
 ghost use Rattle.rb_registry.specs.Rows.{Change};
@@ -7,6 +7,7 @@ ghost use Rattle.rb_registry.specs.Rows.Change.{Removed};
 ghost use Rattle.rb_registry.specs.Registry.{rows_of, StandsForChanges};
 ghost use Rattle.rb_proto.specs.Answers.{row_of_mapping, row_of_rpcb, row_set, can_be_set, is_accepted, is_removed, removal_made, only_if, changes_made, changes_after};
 ghost use Rattle.rb_proto.specs.Asked.{sees};
+ghost use Rattle.rb_proto.specs.Callers.{owner_of};
 ghost use Rattle.rb_proto.specs.declared.request.Request.TheVariants.{PmapSet, PmapUnset, Set, Unset};
 
 use crate::asker::Asker;
@@ -65,8 +66,12 @@ fn can_be_set(row: &Row) -> bool
 fn set(registry: &mut Registry, asker: &Asker, row: Option<Row>, meter: &mut Meter) -> bool
     requires { meter.old.tie ≡ registry.old.tie }
     ensures taken { result ≡ is_some (only_if (is_accepted (sees asker.now registry.old)) row) }
-    ensures changes { (own : List Row) (changes : List Change) → StandsForChanges registry.old own changes
-        → StandsForChanges registry.new own (changes_made (only_if (is_accepted (sees asker.now registry.old)) row) None changes) }
+    ensures changes { (own : List Row) (changes : List Change)
+        → StandsForChanges registry.old own changes
+        → StandsForChanges registry.new own
+        (changes_made (only_if (is_accepted (sees asker.now registry.old)) row) None changes) }
+    ensures kept { changes_made (only_if (is_accepted (sees asker.now registry.old)) row) None []
+        ≡ [] → registry.new ≡ registry.old }
     ensures limit { registry.new.limit ≡ registry.old.limit }
     ensures tie { registry.new.tie ≡ registry.old.tie }
     ensures cost { PaysAtMost meter.old meter.new (4 * length (rows_of registry.old) + 4) }
@@ -74,7 +79,7 @@ fn set(registry: &mut Registry, asker: &Asker, row: Option<Row>, meter: &mut Met
     let Some(row) = row else {
         return false;
     };
-    if !asker.is_local || !can_be_set(&row) {
+    if !asker.is_local() || !can_be_set(&row) {
         return false;
     }
     registry.set(row, meter)
@@ -91,17 +96,25 @@ fn unset(
     meter: &mut Meter,
 ) -> bool
     requires { meter.old.tie ≡ registry.old.tie }
-    ensures taken { result ≡ is_removed (sees asker.now registry.old) (Removed prog vers which asker.now.owner) }
-    ensures changes { (own : List Row) (changes : List Change) → StandsForChanges registry.old own changes
-        → StandsForChanges registry.new own (changes_made None (only_if (is_removed (sees asker.now registry.old)) (Some (Removed prog vers which asker.now.owner))) changes) }
+    ensures taken { result ≡ is_removed (sees asker.now registry.old)
+        (Removed prog vers which (owner_of asker.now.head.cred)) }
+    ensures changes { (own : List Row) (changes : List Change)
+        → StandsForChanges registry.old own changes
+        → StandsForChanges registry.new own
+        (changes_made None (only_if (is_removed (sees asker.now registry.old))
+        (Some (Removed prog vers which (owner_of asker.now.head.cred)))) changes) }
+    ensures kept { changes_made None
+        (only_if (is_removed (sees asker.now registry.old))
+        (Some (Removed prog vers which (owner_of asker.now.head.cred)))) [] ≡ []
+        → registry.new ≡ registry.old }
     ensures limit { registry.new.limit ≡ registry.old.limit }
     ensures tie { registry.new.tie ≡ registry.old.tie }
     ensures cost { PaysAtMost meter.old meter.new (4 * length (rows_of registry.old) + 4) }
 {
-    if !asker.is_local {
+    if !asker.is_local() {
         return false;
     }
-    registry.unset(prog, vers, which, asker.owner, meter)
+    registry.unset(prog, vers, which, asker.owner(), meter)
 }
 
 /// PMAPPROC_SET (RFC 1833 section 3.2).
@@ -114,8 +127,12 @@ pub(crate) fn pmap_set(
 ) -> bool
     requires { meter.old.tie ≡ registry.old.tie }
     ensures taken { result ≡ is_some (row_set (sees asker.now registry.old) (PmapSet mapping)) }
-    ensures changes { (own : List Row) (changes : List Change) → StandsForChanges registry.old own changes
-        → StandsForChanges registry.new own (changes_after (sees asker.now registry.old) (PmapSet mapping) changes) }
+    ensures changes { (own : List Row) (changes : List Change)
+        → StandsForChanges registry.old own changes
+        → StandsForChanges registry.new own
+        (changes_after (sees asker.now registry.old) (PmapSet mapping) changes) }
+    ensures kept { changes_after (sees asker.now registry.old) (PmapSet mapping) [] ≡ []
+        → registry.new ≡ registry.old }
     ensures limit { registry.new.limit ≡ registry.old.limit }
     ensures tie { registry.new.tie ≡ registry.old.tie }
     ensures cost { PaysAtMost meter.old meter.new (4 * length (rows_of registry.old) + 4) }
@@ -123,7 +140,7 @@ pub(crate) fn pmap_set(
     set(
         registry,
         asker,
-        row_of_mapping(asker.owner, &mapping),
+        row_of_mapping(asker.owner(), &mapping),
         meter,
     )
 }
@@ -138,13 +155,17 @@ pub(crate) fn rpcb_set(
 ) -> bool
     requires { meter.old.tie ≡ registry.old.tie }
     ensures taken { result ≡ is_some (row_set (sees asker.now registry.old) (Set rpcb)) }
-    ensures changes { (own : List Row) (changes : List Change) → StandsForChanges registry.old own changes
-        → StandsForChanges registry.new own (changes_after (sees asker.now registry.old) (Set rpcb) changes) }
+    ensures changes { (own : List Row) (changes : List Change)
+        → StandsForChanges registry.old own changes
+        → StandsForChanges registry.new own
+        (changes_after (sees asker.now registry.old) (Set rpcb) changes) }
+    ensures kept { changes_after (sees asker.now registry.old) (Set rpcb) [] ≡ []
+        → registry.new ≡ registry.old }
     ensures limit { registry.new.limit ≡ registry.old.limit }
     ensures tie { registry.new.tie ≡ registry.old.tie }
     ensures cost { PaysAtMost meter.old meter.new (4 * length (rows_of registry.old) + 4) }
 {
-    set(registry, asker, row_of_rpcb(asker.owner, rpcb), meter)
+    set(registry, asker, row_of_rpcb(asker.owner(), rpcb), meter)
 }
 
 /// PMAPPROC_UNSET (RFC 1833 section 3.2), on tcp and udp.
@@ -156,9 +177,14 @@ pub(crate) fn pmap_unset(
     meter: &mut Meter,
 ) -> bool
     requires { meter.old.tie ≡ registry.old.tie }
-    ensures taken { result ≡ is_some (removal_made (sees asker.now registry.old) (PmapUnset mapping.now)) }
-    ensures changes { (own : List Row) (changes : List Change) → StandsForChanges registry.old own changes
-        → StandsForChanges registry.new own (changes_after (sees asker.now registry.old) (PmapUnset mapping.now) changes) }
+    ensures taken { result ≡ is_some
+        (removal_made (sees asker.now registry.old) (PmapUnset mapping.now)) }
+    ensures changes { (own : List Row) (changes : List Change)
+        → StandsForChanges registry.old own changes
+        → StandsForChanges registry.new own
+        (changes_after (sees asker.now registry.old) (PmapUnset mapping.now) changes) }
+    ensures kept { changes_after (sees asker.now registry.old) (PmapUnset mapping.now) [] ≡ []
+        → registry.new ≡ registry.old }
     ensures limit { registry.new.limit ≡ registry.old.limit }
     ensures tie { registry.new.tie ≡ registry.old.tie }
     ensures cost { PaysAtMost meter.old meter.new (4 * length (rows_of registry.old) + 4) }
@@ -183,8 +209,12 @@ pub(crate) fn rpcb_unset(
 ) -> bool
     requires { meter.old.tie ≡ registry.old.tie }
     ensures taken { result ≡ is_some (removal_made (sees asker.now registry.old) (Unset rpcb.now)) }
-    ensures changes { (own : List Row) (changes : List Change) → StandsForChanges registry.old own changes
-        → StandsForChanges registry.new own (changes_after (sees asker.now registry.old) (Unset rpcb.now) changes) }
+    ensures changes { (own : List Row) (changes : List Change)
+        → StandsForChanges registry.old own changes
+        → StandsForChanges registry.new own
+        (changes_after (sees asker.now registry.old) (Unset rpcb.now) changes) }
+    ensures kept { changes_after (sees asker.now registry.old) (Unset rpcb.now) [] ≡ []
+        → registry.new ≡ registry.old }
     ensures limit { registry.new.limit ≡ registry.old.limit }
     ensures tie { registry.new.tie ≡ registry.old.tie }
     ensures cost { PaysAtMost meter.old meter.new (4 * length (rows_of registry.old) + 4) }

@@ -24,7 +24,8 @@ impl Model for Cursor {
 impl Cursor {
     /// The place before the first row.
     pub fn start() -> Cursor
-        ensures place { (rows : Kept) (stamp : ℕ) → stamp ≡ rows.stamp → StandsIn rows stamp result }
+        ensures place { (rows : Kept) (stamp : ℕ) → stamp ≡ rows.stamp
+            → StandsIn rows stamp result }
         ensures passed { (rows : Kept) (stamp : ℕ) → rows_passed rows stamp result ≡ 0 }
     {
         Cursor { passed: None }

@@ -90,8 +90,10 @@ impl Registry {
     pub fn set(&mut self, row: Row, meter: &mut Meter) -> bool
         requires { meter.old.tie ≡ self.old.tie }
         ensures taken { result ≡ has_place self.old.limit (rows_of self.old) self.old.stamp row }
-        ensures changes { (own : List Row) (changes : List Change) → StandsForChanges self.old own changes
-            → StandsForChanges self.new own (if result then changes ++ Added row ∷ [] else changes) }
+        ensures changes { (own : List Row) (changes : List Change)
+            → StandsForChanges self.old own changes
+            → StandsForChanges self.new own
+            (if result then changes ++ Added row ∷ [] else changes) }
         ensures rejected { OnFalse result (self.new ≡ self.old) }
         ensures limit { self.new.limit ≡ self.old.limit }
         ensures tie { self.new.tie ≡ self.old.tie }
@@ -121,9 +123,12 @@ impl Registry {
         meter: &mut Meter,
     ) -> bool
         requires { meter.old.tie ≡ self.old.tie }
-        ensures taken { result ≡ removes_some (rows_of self.old) self.old.stamp (Removed prog vers which owner) }
-        ensures changes { (own : List Row) (changes : List Change) → StandsForChanges self.old own changes
-            → StandsForChanges self.new own (if result then changes ++ Removed prog vers which owner ∷ [] else changes) }
+        ensures taken { result ≡ removes_some (rows_of self.old) self.old.stamp
+            (Removed prog vers which owner) }
+        ensures changes { (own : List Row) (changes : List Change)
+            → StandsForChanges self.old own changes
+            → StandsForChanges self.new own
+            (if result then changes ++ Removed prog vers which owner ∷ [] else changes) }
         ensures rejected { OnFalse result (self.new ≡ self.old) }
         ensures limit { self.new.limit ≡ self.old.limit }
         ensures tie { self.new.tie ≡ self.old.tie }
@@ -192,12 +197,19 @@ impl Registry {
     pub fn next_row(&self, stamp: u64, cursor: Cursor, meter: &mut Meter) -> Option<(Cursor, &Row)>
         requires tie { meter.old.tie ≡ self.now.tie }
         requires place { StandsIn self.now stamp cursor }
-        ensures row { IfSome result (λ next. slice_get (rows_at self.now stamp) (rows_passed self.now stamp cursor) ≡ Some next.1.now) }
+        ensures row { IfSome result
+            (λ next. slice_get (rows_at self.now stamp) (rows_passed self.now stamp cursor)
+            ≡ Some next.1.now) }
         ensures place { IfSome result (λ next. StandsIn self.now stamp next.0) }
-        ensures passed { IfSome result (λ next. rows_passed self.now stamp next.0 ≡ rows_passed self.now stamp cursor + 1) }
-        ensures within { IfSome result (λ next. rows_passed self.now stamp next.0 ≤ length (rows_at self.now stamp)) }
-        ensures end { IfNone result (rows_passed self.now stamp cursor ≡ length (rows_at self.now stamp)) }
-        ensures rows { (own : List Row) (changes : List Change) → StandsForChanges self.now own changes → rows_at self.now stamp ≡ live own (take stamp changes) }
+        ensures passed { IfSome result
+            (λ next. rows_passed self.now stamp next.0 ≡ rows_passed self.now stamp cursor + 1) }
+        ensures within { IfSome result
+            (λ next. rows_passed self.now stamp next.0 ≤ length (rows_at self.now stamp)) }
+        ensures end { IfNone result
+            (rows_passed self.now stamp cursor ≡ length (rows_at self.now stamp)) }
+        ensures rows { (own : List Row) (changes : List Change)
+            → StandsForChanges self.now own changes
+            → rows_at self.now stamp ≡ live own (take stamp changes) }
         ensures cost { PaysAtMost meter.old meter.new 2 }
     {
         match self.rows.entry_after(cursor.key(), meter) {

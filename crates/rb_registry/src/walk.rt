@@ -59,7 +59,8 @@ pub(crate) fn exact_or_greatest<'a>(
     requires distinct { HasDistinctKeys rows.now.entries }
     ensures found { MatchResult result
         (λ row. find_exact prog vers netid (values_of rows.now.entries) ≡ Some row.now)
-        (λ newest. (find_exact prog vers netid (values_of rows.now.entries) ≡ None) × (newest ≡ greatest (versions prog netid (values_of rows.now.entries)))) }
+        (λ newest. (find_exact prog vers netid (values_of rows.now.entries) ≡ None)
+        × (newest ≡ greatest (versions prog netid (values_of rows.now.entries)))) }
     ensures cost { PaysAtMost meter.old meter.new (2 * length rows.now.entries + 2) }
 {
     let mut newest = 0;
@@ -81,7 +82,10 @@ pub(crate) fn remove_covered(rows: &mut Pool<Row>, removal: &Removal, meter: &mu
     requires tie { meter.old.tie ≡ rows.old.tie }
     requires distinct { HasDistinctKeys rows.old.entries }
     ensures removed { result ≡ list_any (λ e. covers e.1 (change_of removal.now)) rows.old.entries }
-    ensures rows { rows.new ≡ record rows.old { entries = filter (λ e. not (covers e.1 (change_of removal.now))) rows.old.entries } }
+    ensures rows { rows.new ≡ record rows.old {
+      entries = filter
+          (λ e. not (covers e.1 (change_of removal.now))) rows.old.entries;
+    } }
     ensures distinct { HasDistinctKeys rows.new.entries }
     ensures cost { PaysAtMost meter.old meter.new (3 * length rows.old.entries + 2) }
 {

@@ -124,8 +124,10 @@ pub fn read_call(bytes: &[u8]) -> Verdict
 #[tactic(auto, unfolding(crate::specs::Messages::call_bytes, rb_xdr::specs::Xdr::number, rb_xdr::specs::Xdr::opaque))]
 pub fn put_call(head: &CallHead, out: &mut Kept, meter: &mut Meter) -> Result<(), Full>
     requires { meter.old.tie ≡ out.old.tie }
-    ensures room { IsOk result ↔ (length out.old.bytes + length (call_bytes head.now) ≤ out.old.cap) }
-    ensures ok { OnOk result (out.new ≡ record out.old { bytes = out.old.bytes ++ call_bytes head.now }) }
+    ensures room { IsOk result ↔
+        (length out.old.bytes + length (call_bytes head.now) ≤ out.old.cap) }
+    ensures ok { OnOk result (out.new
+        ≡ record out.old { bytes = out.old.bytes ++ call_bytes head.now }) }
     ensures err { OnErr result (out.new ≡ out.old) }
     ensures cap { out.new.cap ≡ out.old.cap }
     ensures tie { out.new.tie ≡ out.old.tie }

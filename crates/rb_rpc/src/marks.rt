@@ -76,9 +76,14 @@ impl Marks {
         requires { 0 < length bytes.now }
         ensures some { 0 < result.1 }
         ensures within { result.1 ≤ length bytes.now }
-        ensures ends { (fed : List ℕ) → StandsForFed self.old fed → first_record (fed ++ take result.1 bytes.now) ≡ (if result.2 then Some (length fed + result.1) else None) }
-        ensures data { (fed : List ℕ) → StandsForFed self.old fed → data_of (fed ++ take result.1 bytes.now) ≡ data_of fed ++ data_among result.0 (take result.1 bytes.now) }
-        ensures after { (fed : List ℕ) → StandsForFed self.old fed → StandsForFed self.new (if result.2 then [] else fed ++ take result.1 bytes.now) }
+        ensures ends { (fed : List ℕ) → StandsForFed self.old fed
+            → first_record (fed ++ take result.1 bytes.now)
+            ≡ (if result.2 then Some (length fed + result.1) else None) }
+        ensures data { (fed : List ℕ) → StandsForFed self.old fed
+            → data_of (fed ++ take result.1 bytes.now)
+            ≡ data_of fed ++ data_among result.0 (take result.1 bytes.now) }
+        ensures after { (fed : List ℕ) → StandsForFed self.old fed
+            → StandsForFed self.new (if result.2 then [] else fed ++ take result.1 bytes.now) }
     {
         match self.place {
             Place::Header { seen, number } => {
@@ -97,9 +102,12 @@ impl Marks {
 
     /// Takes one byte. It says what the byte is, and whether the record ends with it.
     pub fn feed(&mut self, byte: u8) -> (Part, bool)
-        ensures ends { (fed : List ℕ) → StandsForFed self.old fed → first_record (fed ++ byte ∷ []) ≡ (if result.1 then Some (length fed + 1) else None) }
-        ensures data { (fed : List ℕ) → StandsForFed self.old fed → data_of (fed ++ byte ∷ []) ≡ data_of fed ++ data_among result.0 (byte ∷ []) }
-        ensures after { (fed : List ℕ) → StandsForFed self.old fed → StandsForFed self.new (if result.1 then [] else fed ++ byte ∷ []) }
+        ensures ends { (fed : List ℕ) → StandsForFed self.old fed
+            → first_record (fed ++ byte ∷ []) ≡ (if result.1 then Some (length fed + 1) else None) }
+        ensures data { (fed : List ℕ) → StandsForFed self.old fed
+            → data_of (fed ++ byte ∷ []) ≡ data_of fed ++ data_among result.0 (byte ∷ []) }
+        ensures after { (fed : List ℕ) → StandsForFed self.old fed
+            → StandsForFed self.new (if result.1 then [] else fed ++ byte ∷ []) }
     {
         let (part, _, ended) = self.feed_run(&[byte]);
         (part, ended)

@@ -72,7 +72,8 @@ const AUTH_ERROR: u32 = 1;
 fn put_accepted(xid: u32, stat: u32, out: &mut Kept, meter: &mut Meter) -> Result<(), Full>
     requires { meter.old.tie ≡ out.old.tie }
     ensures room { IsOk result ↔ (length out.old.bytes + 24 ≤ out.old.cap) }
-    ensures ok { OnOk result (out.new ≡ record out.old { bytes = out.old.bytes ++ accepted xid auth_none stat }) }
+    ensures ok { OnOk result (out.new
+        ≡ record out.old { bytes = out.old.bytes ++ accepted xid auth_none stat }) }
     ensures err { OnErr result (out.new ≡ out.old) }
     ensures cap { out.new.cap ≡ out.old.cap }
     ensures tie { out.new.tie ≡ out.old.tie }
@@ -86,12 +87,15 @@ fn put_accepted(xid: u32, stat: u32, out: &mut Kept, meter: &mut Meter) -> Resul
 #[tactic(auto, unfolding(crate::specs::Replies::reply_head, rb_xdr::specs::Xdr::number, rb_xdr::specs::Xdr::opaque))]
 pub fn put_reply(head: &ReplyHead, out: &mut Kept, meter: &mut Meter) -> Result<(), Full>
     requires { meter.old.tie ≡ out.old.tie }
-    ensures room { IsOk result ↔ (length out.old.bytes + length (reply_head head.now.xid head.now.status) ≤ out.old.cap) }
-    ensures ok { OnOk result (out.new ≡ record out.old { bytes = out.old.bytes ++ reply_head head.now.xid head.now.status }) }
+    ensures room { IsOk result ↔
+        (length out.old.bytes + length (reply_head head.now.xid head.now.status) ≤ out.old.cap) }
+    ensures ok { OnOk result (out.new
+        ≡ record out.old { bytes = out.old.bytes ++ reply_head head.now.xid head.now.status }) }
     ensures err { OnErr result (out.new ≡ out.old) }
     ensures cap { out.new.cap ≡ out.old.cap }
     ensures tie { out.new.tie ≡ out.old.tie }
-    ensures cost { OnOk result (Pays meter.old meter.new (1 + length (reply_head head.now.xid head.now.status))) }
+    ensures cost { OnOk result
+        (Pays meter.old meter.new (1 + length (reply_head head.now.xid head.now.status))) }
     ensures cost_of_refusal { OnErr result (Pays meter.old meter.new 1) }
 {
     let ReplyHead { xid, status } = *head;

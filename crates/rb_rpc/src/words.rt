@@ -21,7 +21,8 @@ pub(crate) fn put_words(numbers: &[u32], out: &mut Kept, meter: &mut Meter) -> R
     requires tie { meter.old.tie ≡ out.old.tie }
     requires few { length numbers.now < 2 ^ 32 }
     ensures room { IsOk result ↔ (length out.old.bytes + 4 * length numbers.now ≤ out.old.cap) }
-    ensures ok { OnOk result (out.new ≡ record out.old { bytes = out.old.bytes ++ words numbers.now }) }
+    ensures ok { OnOk result (out.new
+        ≡ record out.old { bytes = out.old.bytes ++ words numbers.now }) }
     ensures err { OnErr result (out.new ≡ out.old) }
     ensures cap { out.new.cap ≡ out.old.cap }
     ensures tie { out.new.tie ≡ out.old.tie }

@@ -50,7 +50,8 @@ impl Kept {
     pub fn push(&mut self, byte: u8, meter: &mut Meter) -> Result<(), Full>
         requires { meter.old.tie ≡ self.old.tie }
         ensures room { IsOk result ↔ (length self.old.bytes < self.old.cap) }
-        ensures ok { OnOk result (self.new ≡ record self.old { bytes = self.old.bytes ++ byte ∷ [] }) }
+        ensures ok { OnOk result (self.new
+            ≡ record self.old { bytes = self.old.bytes ++ byte ∷ [] }) }
         ensures err { OnErr result (self.new ≡ self.old) }
         ensures cap { self.new.cap ≡ self.old.cap }
         ensures tie { self.new.tie ≡ self.old.tie }
@@ -69,7 +70,8 @@ impl Kept {
     pub fn extend(&mut self, bytes: &[u8], meter: &mut Meter) -> Result<(), Full>
         requires { meter.old.tie ≡ self.old.tie }
         ensures room { IsOk result ↔ (length self.old.bytes + length bytes.now ≤ self.old.cap) }
-        ensures ok { OnOk result (self.new ≡ record self.old { bytes = self.old.bytes ++ bytes.now }) }
+        ensures ok { OnOk result (self.new
+            ≡ record self.old { bytes = self.old.bytes ++ bytes.now }) }
         ensures err { OnErr result (self.new ≡ self.old) }
         ensures cap { self.new.cap ≡ self.old.cap }
         ensures tie { self.new.tie ≡ self.old.tie }

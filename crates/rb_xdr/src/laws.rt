@@ -11,7 +11,8 @@ pub fn spelling_laws<T: Xdr>()
     ensures one_spelling { (v : T) (a b : List ℕ)
         → Spells T.is_value T.spelling v a → Spells T.is_value T.spelling v b → a ≡ b }
     ensures no_proper_prefix { (v w : T) (a more : List ℕ)
-        → Spells T.is_value T.spelling v a → Spells T.is_value T.spelling w (a ++ more) → more ≡ [] }
+        → Spells T.is_value T.spelling v a → Spells T.is_value T.spelling w (a ++ more)
+        → more ≡ [] }
     ensures one_value { (v w : T) (a : List ℕ)
         → Spells T.is_value T.spelling v a → Spells T.is_value T.spelling w a → v ≡ w }
     ensures bounded { (v : T) (a : List ℕ)

@@ -78,7 +78,8 @@ pub fn take_opaque(bytes: &[u8], limit: usize) -> Result<(&[u8], usize), XdrFaul
     ensures found { IfOk result (λ read. (read.1 ≤ length bytes.now)
         × Spells (IsContent limit) opaque read.0.now (take read.1 bytes.now)) }
     ensures only { (content : List ℕ) (n : ℕ) → n ≤ length bytes.now
-        → Spells (IsContent limit) opaque content (take n bytes.now) → lent result ≡ Ok (content, n) }
+        → Spells (IsContent limit) opaque content (take n bytes.now)
+        → lent result ≡ Ok (content, n) }
     ensures none { OnErr result ((content : List ℕ) (n : ℕ) → n ≤ length bytes.now
         → ¬ Spells (IsContent limit) opaque content (take n bytes.now)) }
     ensures exact { lent result ≡ read_opaque limit bytes.now }

@@ -172,7 +172,8 @@ impl<T> Pool<T> {
     pub fn entry_after(&self, place: Option<usize>, meter: &mut Meter) -> Option<(usize, &T)>
         requires { meter.old.tie ≡ self.now.tie }
         ensures next { MatchOption result (to_come self.now.entries place ≡ [])
-            (λ next. to_come self.now.entries place ≡ (next.0, next.1.now) ∷ to_come self.now.entries (Some next.0)) }
+            (λ next. to_come self.now.entries place
+            ≡ (next.0, next.1.now) ∷ to_come self.now.entries (Some next.0)) }
         ensures cost { PaysAtMost meter.old meter.new 2 }
     {
         let Some(key) = self.key_after(place, meter) else {

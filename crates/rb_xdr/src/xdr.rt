@@ -63,9 +63,11 @@ pub trait Xdr: Drop {
     /// Adds the spelling at the end of a buffer, or nothing where it does not fit.
     final fn put(&self, out: &mut Kept, meter: &mut Meter) -> Result<(), Full>
         requires { meter.old.tie ≡ out.old.tie }
-        ensures room { IsOk result ↔ (length out.old.bytes + length (spelling self.now) ≤ out.old.cap) }
+        ensures room { IsOk result ↔
+            (length out.old.bytes + length (spelling self.now) ≤ out.old.cap) }
         ensures value { OnOk result (is_value self.now) }
-        ensures ok { OnOk result (out.new ≡ record out.old { bytes = out.old.bytes ++ spelling self.now }) }
+        ensures ok { OnOk result (out.new
+            ≡ record out.old { bytes = out.old.bytes ++ spelling self.now }) }
         ensures err { OnErr result (out.new ≡ out.old) }
         ensures cap { out.new.cap ≡ out.old.cap }
         ensures tie { out.new.tie ≡ out.old.tie }

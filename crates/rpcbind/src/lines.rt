@@ -172,7 +172,8 @@ fn take_line(
     text: &[u8],
 ) -> Result<(), ReadFault>
     ensures ok { OnOk result ((rest : Result (List Happening) ReadFault) →
-        with_front (events_of events.new.items) rest ≡ with_front (events_of events.old.items) (onto number (line text.now) rest)) }
+        with_front (events_of events.new.items) rest
+        ≡ with_front (events_of events.old.items) (onto number (line text.now) rest)) }
     ensures err { IfErr result (λ fault. IsFaultOf number (line text.now) fault) }
 {
     match read_line(alloc, text) {

@@ -14,7 +14,8 @@ const PIECE: usize = 512;
 
 /// Writes bytes as two hexadecimal digits each, in lower case.
 fn print_digits<W: Write>(bytes: &[u8], writer: &mut W) -> io::Result<()>
-    ensures { OnOk result (Appends (W.contents writer.old) (W.contents writer.new) (encode_lower bytes.now)) }
+    ensures { OnOk result (Appends (W.contents writer.old) (W.contents writer.new)
+        (encode_lower bytes.now)) }
 {
     let mut digits = [0; 2 * PIECE];
     let mut rest = bytes;
@@ -30,7 +31,8 @@ fn print_digits<W: Write>(bytes: &[u8], writer: &mut W) -> io::Result<()>
 
 /// Writes bytes in hexadecimal digits, or `-` for none.
 fn print_hex<W: Write>(bytes: &[u8], writer: &mut W) -> io::Result<()>
-    ensures { OnOk result (Appends (W.contents writer.old) (W.contents writer.new) (hex_text bytes.now)) }
+    ensures { OnOk result (Appends (W.contents writer.old) (W.contents writer.new)
+        (hex_text bytes.now)) }
 {
     if bytes.is_empty() {
         return writer.write_all(b"-");
@@ -40,7 +42,8 @@ fn print_hex<W: Write>(bytes: &[u8], writer: &mut W) -> io::Result<()>
 
 /// Writes a line of a word and bytes.
 fn print_bytes<W: Write>(word: &str, bytes: &[u8], writer: &mut W) -> io::Result<()>
-    ensures { OnOk result (Appends (W.contents writer.old) (W.contents writer.new) (word.now ++ (hex_text bytes.now ++ codes "\n"))) }
+    ensures { OnOk result (Appends (W.contents writer.old) (W.contents writer.new)
+        (word.now ++ (hex_text bytes.now ++ codes "\n"))) }
 {
     writer.write_all(word.as_bytes())?;
     print_hex(bytes, writer)?;
@@ -49,7 +52,8 @@ fn print_bytes<W: Write>(word: &str, bytes: &[u8], writer: &mut W) -> io::Result
 
 /// Writes the line of a refused call.
 fn print_refusal<W: Write>(fault: CoreFault, writer: &mut W) -> io::Result<()>
-    ensures { OnOk result (Appends (W.contents writer.old) (W.contents writer.new) (refusal_text fault)) }
+    ensures { OnOk result (Appends (W.contents writer.old) (W.contents writer.new)
+        (refusal_text fault)) }
 {
     match fault {
         CoreFault::Full => writer.write_all(b"full\n"),
@@ -62,7 +66,8 @@ fn print_refusal<W: Write>(fault: CoreFault, writer: &mut W) -> io::Result<()>
 
 /// Writes the line of an output. An `Err` does not tell how much of it went out.
 pub fn print_output<W: Write>(output: &Output, writer: &mut W) -> io::Result<()>
-    ensures { OnOk result (Appends (W.contents writer.old) (W.contents writer.new) (text_of (output_of output.now))) }
+    ensures { OnOk result (Appends (W.contents writer.old) (W.contents writer.new)
+        (text_of (output_of output.now))) }
 {
     match output {
         Output::Replied(bytes) => print_bytes("reply ", bytes, writer),
@@ -81,7 +86,8 @@ pub fn print_output<W: Write>(output: &Output, writer: &mut W) -> io::Result<()>
 
 /// Writes the lines of the outputs.
 pub fn print_outputs<W: Write>(outputs: &[Output], writer: &mut W) -> io::Result<()>
-    ensures { OnOk result (Appends (W.contents writer.old) (W.contents writer.new) (report_of (outputs_of outputs.now))) }
+    ensures { OnOk result (Appends (W.contents writer.old) (W.contents writer.new)
+        (report_of (outputs_of outputs.now))) }
 {
     for output in outputs {
         print_output(output, writer)?;

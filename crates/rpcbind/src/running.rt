@@ -68,7 +68,9 @@ impl Fault {
 
 /// The first bytes of what the reader has left: as many as an input may have, and one more.
 fn read_input<R: Read>(alloc: Global, reader: &mut R) -> Result<Vec<u8>, Fault>
-    ensures bytes { IfOk result (λ text. IfSome (R.remaining reader.old) (λ input. text.items ≡ take (longest_input + 1) input)) }
+    ensures bytes { IfOk result
+        (λ text. IfSome (R.remaining reader.old)
+        (λ input. text.items ≡ take (longest_input + 1) input)) }
     ensures err { IfErr result (λ fault. status_of fault ≡ 1) }
 {
     let mut text = Vec::new(alloc);
@@ -82,8 +84,10 @@ fn read_input<R: Read>(alloc: Global, reader: &mut R) -> Result<Vec<u8>, Fault>
 
 /// The events of what the reader has left.
 fn read_all<R: Read>(alloc: Global, reader: &mut R) -> Result<Vec<Event>, Fault>
-    ensures ok { IfOk result (λ events. IfSome (R.remaining reader.old) (λ input. read input ≡ Ok (events_of events.items))) }
-    ensures err { IfErr result (λ fault. IfSome (R.remaining reader.old) (λ input. IsFaultOf fault (read input))) }
+    ensures ok { IfOk result (λ events. IfSome (R.remaining reader.old)
+        (λ input. read input ≡ Ok (events_of events.items))) }
+    ensures err { IfErr result
+        (λ fault. IfSome (R.remaining reader.old) (λ input. IsFaultOf fault (read input))) }
 {
     let text = read_input(alloc, reader)?;
     match read_events(alloc, &text) {
@@ -94,7 +98,8 @@ fn read_all<R: Read>(alloc: Global, reader: &mut R) -> Result<Vec<Event>, Fault>
 
 /// The outputs of the events, from a new core.
 fn outputs_from(alloc: Global, events: &[Event]) -> Result<Vec<Output>, Fault>
-    ensures ok { IfOk result (λ outputs. outputs_of outputs.items ≡ run first (events_of events.now)) }
+    ensures ok { IfOk result (λ outputs. outputs_of outputs.items
+        ≡ run first (events_of events.now)) }
     ensures err { IfErr result (λ fault. status_of fault ≡ 1) }
 {
     let mut meter = Meter::new();
@@ -112,7 +117,8 @@ fn outputs_from(alloc: Global, events: &[Event]) -> Result<Vec<Output>, Fault>
 
 /// Writes what the outputs are printed as, to the last byte.
 fn put_outputs<W: Write>(outputs: &[Output], writer: &mut W) -> Result<(), Fault>
-    ensures ok { OnOk result (Appends (W.contents writer.old) (W.contents writer.new) (report_of (outputs_of outputs.now))) }
+    ensures ok { OnOk result (Appends (W.contents writer.old) (W.contents writer.new)
+        (report_of (outputs_of outputs.now))) }
     ensures err { IfErr result (λ fault. status_of fault ≡ 1) }
 {
     let Ok(()) = print_outputs(outputs, writer) else {
@@ -126,8 +132,11 @@ fn put_outputs<W: Write>(outputs: &[Output], writer: &mut W) -> Result<(), Fault
 
 /// Reads all there is, runs its events and writes what they give.
 fn replay_all<R: Read, W: Write>(alloc: Global, reader: &mut R, writer: &mut W) -> Result<(), Fault>
-    ensures ok { OnOk result (IfSome (R.remaining reader.old) (λ input. PrintsTo (W.contents writer.old) (W.contents writer.new) (read input))) }
-    ensures refused { IfErr result (λ fault. status_of fault ≡ 2 → IfSome (R.remaining reader.old) (λ input. IsRefused (read input))) }
+    ensures ok { OnOk result (IfSome (R.remaining reader.old)
+        (λ input. PrintsTo (W.contents writer.old) (W.contents writer.new) (read input))) }
+    ensures refused { IfErr result
+        (λ fault. status_of fault ≡ 2
+        → IfSome (R.remaining reader.old) (λ input. IsRefused (read input))) }
     ensures unwritten { IfErr result (λ fault. status_of fault ≡ 2 → writer.new ≡ writer.old) }
 {
     let events = read_all(alloc, reader)?;
@@ -161,8 +170,10 @@ pub fn run_replay<R: Read, W: Write, E: Write>(
 ) -> u8
     ensures status { result ≤ 2 }
     ensures usage { is_replay (map string_bytes words.now) ≡ false → result ≡ 2 }
-    ensures done { result ≡ 0 → IfSome (R.remaining reader.old) (λ input. PrintsTo (W.contents writer.old) (W.contents writer.new) (read input)) }
-    ensures refused { result ≡ 2 → IsTrue (is_replay (map string_bytes words.now)) → IfSome (R.remaining reader.old) (λ input. IsRefused (read input)) }
+    ensures done { result ≡ 0 → IfSome (R.remaining reader.old)
+        (λ input. PrintsTo (W.contents writer.old) (W.contents writer.new) (read input)) }
+    ensures refused { result ≡ 2 → IsTrue (is_replay (map string_bytes words.now))
+        → IfSome (R.remaining reader.old) (λ input. IsRefused (read input)) }
     ensures unwritten { result ≡ 2 → writer.new ≡ writer.old }
 {
     if !is_replay(words) {

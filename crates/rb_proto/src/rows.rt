@@ -1,0 +1,127 @@
+//! Rows as a list shows them: the room that they want, and their bytes.
+ghost use Rattle.std.specs.Prelude.{◌≡◌, ◌+◌, ◌*◌, ◌<◌, ◌≤◌, ◌++◌, length, MatchOption};
+ghost use Rattle.rb_xdr.specs.Meter.{PaysAtMost};
+ghost use Rattle.rb_registry.specs.Registry.{rows_of};
+ghost use Rattle.rb_proto.specs.Results.{is_shown, row_bytes, rows_bytes};
+
+use crate::answers::Listing;
+use crate::items::{entry_of, mapping_of, rpcb_of};
+use crate::listener::Listener;
+use rb_registry::{Cursor, Registry, Row, Which};
+use rb_xdr::{Kept, Meter, Xdr};
+
+/// Whether the list shows the row.
+fn is_shown(list: Listing, row: &Row) -> bool
+    ensures { result ≡ is_shown list row.now }
+{
+    match list {
+        Listing::Mappings => Which::Inet.includes(row.netid),
+        Listing::Rpcbs => true,
+        Listing::Entries(prog, vers) => row.prog == prog && row.vers == vers,
+    }
+}
+
+/// The room that is left of so much behind what a row adds to a list, if that fits.
+#[tactic(auto, unfolding(crate::specs::Results::row_bytes))]
+pub(crate) fn room_after_row(
+    list: Listing,
+    row: &Row,
+    listener: &Listener,
+    room: usize,
+) -> Option<usize>
+    ensures { MatchOption result (room < length (row_bytes listener.now.host list row.now))
+        (λ left. left + length (row_bytes listener.now.host list row.now) ≡ room) }
+{
+    if !is_shown(list, row) {
+        return Some(room);
+    }
+    match list {
+        Listing::Mappings => (true, mapping_of(row)).room_after(room),
+        Listing::Rpcbs => (true, rpcb_of(row)).room_after(room),
+        Listing::Entries(..) => (true, entry_of(listener.host, row)).room_after(room),
+    }
+}
+
+/// Writes what a row adds to a list: TRUE and the item, or nothing where the list doesn't show the row.
+#[tactic(auto, unfolding(crate::specs::Results::row_bytes))]
+pub(crate) fn write_row(
+    list: Listing,
+    row: &Row,
+    listener: &Listener,
+    out: &mut Kept,
+    meter: &mut Meter,
+)
+    requires tie { meter.old.tie ≡ out.old.tie }
+    requires room { length out.old.bytes
+        + length (row_bytes listener.now.host list row.now) ≤ out.old.cap }
+    ensures written { out.new ≡ record out.old {
+      bytes = out.old.bytes ++ row_bytes
+          listener.now.host list row.now;
+    } }
+    ensures cost { PaysAtMost meter.old meter.new
+        (length (row_bytes listener.now.host list row.now)) }
+{
+    if !is_shown(list, row) {
+        return;
+    }
+    match list {
+        Listing::Mappings => (true, mapping_of(row)).write(out, meter),
+        Listing::Rpcbs => (true, rpcb_of(row)).write(out, meter),
+        Listing::Entries(..) => (true, entry_of(listener.host, row)).write(out, meter),
+    }
+}
+
+/// The room that is left of so much behind all rows that a list shows and its end, if they fit.
+pub(crate) fn room_after_rows(
+    list: Listing,
+    registry: &Registry,
+    listener: &Listener,
+    room: usize,
+    meter: &mut Meter,
+) -> Option<usize>
+    requires { meter.old.tie ≡ registry.now.tie }
+    ensures room { MatchOption result
+        (room < length (rows_bytes listener.now.host (rows_of registry.now) list))
+        (λ left. left + length (rows_bytes listener.now.host (rows_of registry.now) list) ≡ room) }
+    ensures cost { PaysAtMost meter.old meter.new (2 * length (rows_of registry.now) + 2) }
+{
+    let stamp = registry.stamp();
+    let mut cursor = Cursor::start();
+    let mut left = room;
+    'rows: while let Some(found) = registry.next_row(stamp, cursor, meter) {
+        let (next, row) = found;
+        left = room_after_row(list, row, listener, left)?;
+        cursor = next;
+    }
+    false.room_after(left)
+}
+
+/// Writes the rows that a list shows, and its end.
+pub(crate) fn write_rows(
+    list: Listing,
+    registry: &Registry,
+    listener: &Listener,
+    out: &mut Kept,
+    meter: &mut Meter,
+)
+    requires registry { meter.old.tie ≡ registry.now.tie }
+    requires tie { meter.old.tie ≡ out.old.tie }
+    requires room { length out.old.bytes
+        + length (rows_bytes listener.now.host (rows_of registry.now) list) ≤ out.old.cap }
+    ensures written { out.new ≡ record out.old {
+      bytes = out.old.bytes ++ rows_bytes
+          listener.now.host (rows_of registry.now) list;
+    } }
+    ensures cost { PaysAtMost meter.old meter.new
+        (2 * length (rows_of registry.now)
+        + length (rows_bytes listener.now.host (rows_of registry.now) list) + 2) }
+{
+    let stamp = registry.stamp();
+    let mut cursor = Cursor::start();
+    'rows: while let Some(found) = registry.next_row(stamp, cursor, meter) {
+        let (next, row) = found;
+        write_row(list, row, listener, out, meter);
+        cursor = next;
+    }
+    false.write(out, meter);
+}
