@@ -1,7 +1,7 @@
 # rpcbind: `make run` shows a run, `make` proves and builds the programs, `make test` is the whole test.
-# Wanted on the PATH: `rt` (the Rattle toolchain) and bash.
+# Needs `rt` (the Rattle toolchain) and bash on the PATH.
 
-.PHONY: all run test rows bench clean
+.PHONY: all run test rows bench measure clean
 
 # Proves each crate and builds the program, crates/rpcbind/out/rpcbind.
 all:
@@ -23,6 +23,10 @@ rows:
 # The time of a call, over the built program: TCP in single bytes and in one piece, and datagrams over 300 rows.
 bench:
 	tests/run-bench.sh
+
+# Where the time of `make test` goes, by crate. It proves everything from nothing, so run it in a clone of its own.
+measure:
+	tests/measure-gate.sh
 
 clean:
 	rm -rf crates/*/out

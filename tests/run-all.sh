@@ -9,15 +9,17 @@ trap 'rm -rf "$work"' EXIT
 passed=0
 failed=0
 
-# Runs a command that ends with its counts, and adds them. A command that fails and counts no failure is one.
+# Runs a command whose last line is its counts, and adds them. A command that prints no counts is a failure, and so is
+# one that fails and counts none.
 add() {
-    local status p=0 f=0
+    local status p f
     "$@" 2>&1 | tee "$work/log"
     status=${PIPESTATUS[0]}
-    read -r p f < <(sed -nE 's/^.*\b([0-9]+) passed, ([0-9]+) failed.*$/\1 \2/p' "$work/log" | tail -n 1)
-    p=${p:-0}
-    f=${f:-0}
-    if [ "$status" -ne 0 ] && [ "$f" -eq 0 ]; then
+    if ! read -r p f < <(tail -n 1 "$work/log" | sed -nE 's/^([0-9]+) passed, ([0-9]+) failed$/\1 \2/p'); then
+        echo "failed: '$*' printed no counts"
+        p=0
+        f=1
+    elif [ "$status" -ne 0 ] && [ "$f" -eq 0 ]; then
         f=1
     fi
     passed=$((passed + p))

@@ -1,14 +1,16 @@
 #!/usr/bin/env bash
-# Runs the built program over each row of tests/rows, and checks two rules of the repository.
+# Runs the built program over each row of tests/rows and over a few inputs that are made here, and checks two rules of
+# the repository.
 #
-# A row is NAME.events (standard input of `rpcbind replay`) and NAME.expected (its standard output). Where they
-# differ from 0 and from nothing, NAME.status has the exit status and NAME.stderr the standard error. A row in which
-# bytes of connections get a reply is run again with them cut into single bytes and into pieces of 7.
+# A row is NAME.events (standard input) and NAME.expected (standard output), with the rule that it shows in a comment.
+# Where they differ from the word `replay`, from 0 and from nothing, NAME.args has the program's words, one a line,
+# NAME.status the exit status and NAME.stderr the standard error. A row with bytes of connections is run again with
+# them cut into pieces of 1, of 7 and of 1,000 bytes: all its outputs stay, with the sums of what the pieces took.
 # Each difference is printed. The last line is 'N passed, N failed'; the status is 1 where one failed.
 set -u
 cd "$(dirname "$0")/.." || exit 1
 
-program=crates/rpcbind/out/rpcbind
+program=$PWD/crates/rpcbind/out/rpcbind
 passed=0
 failed=0
 work=$(mktemp -d) || exit 1
@@ -24,89 +26,215 @@ judge() {
     fi
 }
 
-# Compares a file with what is wanted of it, and prints the difference.
+# Compares a file with what is wanted of it, and prints the first lines of the difference.
 same() {
-    diff --label "$3, wanted" --label "$3, got" -u "$1" "$2"
+    diff --label "$3, wanted" --label "$3, got" -u "$1" "$2" | head -n 20
+    return "${PIPESTATUS[0]}"
 }
 
-run_row() {
-    local base=$1 wanted_status=0 wanted_stderr=/dev/null status bad=0
-    [ -f "$base.status" ] && wanted_status=$(cat "$base.status")
-    [ -f "$base.stderr" ] && wanted_stderr=$base.stderr
-    "$program" replay < "$base.events" > "$work/stdout" 2> "$work/stderr"
-    status=$?
-    same "$base.expected" "$work/stdout" "standard output" || bad=1
-    same "$wanted_stderr" "$work/stderr" "standard error" || bad=1
-    if [ "$status" -ne "$wanted_status" ]; then
-        echo "status: wanted $wanted_status, got $status"
+# Compares what the last run wrote and how it ended with files of what is wanted, and a status.
+as_wanted() {
+    local stdout=$1 stderr=$2 status=$3 bad=0
+    same "$stdout" "$work/stdout" "standard output" || bad=1
+    same "$stderr" "$work/stderr" "standard error" || bad=1
+    if [ "$got" -ne "$status" ]; then
+        echo "status: wanted $status, got $got"
         bad=1
     fi
     return $bad
 }
 
-# Cuts the bytes of each `bytes` line into pieces of $2 bytes, a line each.
+# Runs the program with these words over a file.
+run() {
+    local input=$1
+    shift
+    "$program" "$@" < "$input" > "$work/stdout" 2> "$work/stderr"
+    got=$?
+}
+
+# ---- rows
+
+run_row() {
+    local base=$1 words=(replay) status=0 stderr=/dev/null
+    [ -f "$base.args" ] && mapfile -t words < "$base.args"
+    [ -f "$base.status" ] && status=$(cat "$base.status")
+    [ -f "$base.stderr" ] && stderr=$base.stderr
+    run "$base.events" "${words[@]}"
+    as_wanted "$base.expected" "$stderr" "$status"
+}
+
+# Cuts the bytes of each `bytes` line into pieces of $2 bytes, a line each, and writes to $3 of each event how many
+# lines it became.
 cut_into_pieces() {
-    LC_ALL=C awk -v width=$((2 * $2)) '
+    LC_ALL=C awk -v width=$((2 * $2)) -v counts="$3" '
+        /^#/ || /^$/ { next }
         $1 == "bytes" && $4 != "-" {
-            for (at = 1; at <= length($4); at += width) print $1, $2, $3, substr($4, at, width)
+            pieces = 0
+            for (at = 1; at <= length($4); at += width) {
+                print $1, $2, $3, substr($4, at, width)
+                pieces++
+            }
+            print pieces > counts
             next
         }
-        { print }
+        { print; print 1 > counts }
     ' "$1"
 }
 
-# In pieces of any length a connection's bytes give the same pending bytes, and the program ends with status 0.
-run_row_in_pieces() {
-    local base=$1 status bad=0
-    grep '^pending' "$base.expected" > "$work/wanted"
-    cut_into_pieces "$base.events" "$2" > "$work/events"
-    "$program" replay < "$work/events" > "$work/stdout"
-    status=$?
-    grep '^pending' "$work/stdout" > "$work/pending"
-    same "$work/wanted" "$work/pending" "pending" || bad=1
-    if [ "$status" -ne 0 ]; then
-        echo "status: wanted 0, got $status"
-        bad=1
-    fi
-    return $bad
+# Puts the outputs of the pieces together again: what they took is a sum, and after a closing each is gone.
+join_pieces() {
+    LC_ALL=C awk '
+        NR == FNR { pieces[FNR] = $1; next }
+        FNR == 1 { event = 1; seen = 0 }
+        {
+            if (seen == 0) { took = 0; taken = 0; gone = 0; ending = "" }
+            seen++
+            if ($1 == "took" && ending == "") { took += $2; taken++; if (NF > 2) ending = " " $3 }
+            else if ($1 == "gone") gone++
+            if (seen < pieces[event]) next
+            if (seen == 1) print
+            else if (gone == seen) print "gone"
+            else if (taken == seen || (ending != "" && taken + gone == seen)) print "took " took ending
+            else print "pieces differ at event " event
+            event++
+            seen = 0
+        }
+    ' "$1" "$2"
 }
 
-if [ ! -x "$program" ]; then
-    judge 1 "no program $program: run 'make' first"
-fi
-rows=0
-for events in tests/rows/*.events; do
-    [ -f "$events" ] || continue
-    rows=$((rows + 1))
-    run_row "${events%.events}"
-    judge $? "row $(basename "${events%.events}")"
-    # nothing to compare without a reply on a connection
-    grep -q '^pending [^-]' "${events%.events}.expected" || continue
-    for length in 1 7; do
-        run_row_in_pieces "${events%.events}" $length
-        judge $? "row $(basename "${events%.events}") in pieces of $length"
+run_row_in_pieces() {
+    local base=$1
+    cut_into_pieces "$base.events" "$2" "$work/counts" > "$work/events"
+    run "$work/events" replay
+    join_pieces "$work/counts" "$work/stdout" > "$work/joined"
+    mv "$work/joined" "$work/stdout"
+    as_wanted "$base.expected" /dev/null 0
+}
+
+run_rows() {
+    local events base name length rows=0 unruled= stray= other
+    for events in tests/rows/*.events; do
+        [ -f "$events" ] || continue
+        rows=$((rows + 1))
+        base=${events%.events}
+        name=$(basename "$base")
+        run_row "$base"
+        judge $? "row $name"
+        grep -q '^# .' "$events" || unruled="$unruled $name"
+        { [ -f "$base.status" ] || ! grep -q '^bytes' "$events"; } && continue
+        for length in 1 7 1000; do
+            run_row_in_pieces "$base" $length
+            judge $? "row $name in pieces of $length"
+        done
     done
-done
-[ "$rows" -gt 0 ]
-judge $? "there is no row in tests/rows"
+    [ "$rows" -gt 0 ]
+    judge $? "there is no row in tests/rows"
+    [ -z "$unruled" ]
+    judge $? "rows that say no rule in a comment:$unruled"
+    for other in tests/rows/*; do
+        [ -f "${other%.*}.events" ] || stray="$stray $other"
+    done
+    [ -z "$stray" ]
+    judge $? "files that belong to no row:$stray"
+}
+
+# ---- inputs that are made here
+
+# The input has at most 16,777,216 bytes: so many are read, and of one more no event is run.
+run_longest_inputs() {
+    head -c 16777216 /dev/zero | tr '\0' '\n' > "$work/events"
+    run "$work/events" replay
+    as_wanted /dev/null /dev/null 0
+    judge $? "an input of 16,777,216 bytes"
+    { echo lost; head -c 16777212 /dev/zero | tr '\0' '\n'; } > "$work/events"
+    echo 'rpcbind: input too long' > "$work/wanted"
+    run "$work/events" replay
+    as_wanted /dev/null "$work/wanted" 2
+    judge $? "an input of 16,777,217 bytes"
+}
+
+# Many events, each with its output.
+run_many_events() {
+    yes lost | head -n 250001 > "$work/events"
+    yes 'lost -' | head -n 250001 > "$work/wanted"
+    run "$work/events" replay
+    as_wanted "$work/wanted" /dev/null 0
+    judge $? "250,001 events"
+}
+
+# A word that is no text can't be read.
+run_word_without_text() {
+    echo lost > "$work/events"
+    echo 'usage: rpcbind replay' > "$work/wanted"
+    run "$work/events" $'\xff'
+    as_wanted /dev/null "$work/wanted" 2
+    judge $? "a word that is no text"
+}
+
+# Status 0 says that the output was written out.
+run_full_device() {
+    echo 'rpcbind: write failed' > "$work/wanted"
+    "$program" replay < examples/first.events > /dev/full 2> "$work/stderr"
+    got=$?
+    : > "$work/stdout"
+    as_wanted /dev/null "$work/wanted" 1
+    judge $? "an output that cannot be written"
+}
+
+run_input_that_cannot_be_read() {
+    echo 'rpcbind: read failed' > "$work/wanted"
+    run tests replay
+    as_wanted /dev/null "$work/wanted" 1
+    judge $? "an input that cannot be read"
+}
+
+# The memory of the process is limited to 24,000 KiB, and the input does not fit.
+run_with_little_memory() {
+    head -c 16777216 /dev/zero | tr '\0' '\n' > "$work/events"
+    echo 'rpcbind: no memory' > "$work/wanted"
+    (ulimit -v 24000 && exec "$program" replay < "$work/events" > "$work/stdout" 2> "$work/stderr")
+    got=$?
+    as_wanted /dev/null "$work/wanted" 1
+    judge $? "an input that does not fit in memory"
+}
+
+# ---- rules of the repository
 
 # A proof by hand could set the true count of the meter's token, so those of its two functions are the only ones.
-token=./crates/rb_xdr/proofs/tally/Tally
-printf '%s\n' $token/new/Proof.antt $token/raise/Proof.antt > "$work/wanted"
-find . -regex '\./crates/[^/]*/out' -prune -o -name Proof.antt -print | LC_ALL=C sort > "$work/proofs"
-same "$work/wanted" "$work/proofs" "proofs by hand"
-judge $? "proofs by hand other than those of the meter's token"
+check_proofs_by_hand() {
+    local token=./crates/rb_xdr/proofs/tally/Tally
+    printf '%s\n' $token/new/Proof.antt $token/raise/Proof.antt > "$work/wanted"
+    find . -regex '\./crates/[^/]*/out' -prune -o -name Proof.antt -print | LC_ALL=C sort > "$work/proofs"
+    same "$work/wanted" "$work/proofs" "proofs by hand"
+    judge $? "proofs by hand other than those of the meter's token"
+}
 
 # README.md names every crate.
-unnamed=
-while read -r line; do
-    line=${line%%#*}
-    name=${line%%[: ]*}
-    [ -n "$name" ] || continue
-    grep -qw -- "$name" README.md || unnamed="$unnamed $name"
-done < crates.txt
-[ -z "$unnamed" ]
-judge $? "README.md does not name:$unnamed"
+check_crates_are_named() {
+    local line name unnamed=
+    while read -r line; do
+        line=${line%%#*}
+        name=${line%%[: ]*}
+        [ -n "$name" ] || continue
+        grep -qw -- "$name" README.md || unnamed="$unnamed $name"
+    done < crates.txt
+    [ -z "$unnamed" ]
+    judge $? "README.md does not name:$unnamed"
+}
+
+if [ -x "$program" ]; then
+    run_rows
+    run_longest_inputs
+    run_many_events
+    run_word_without_text
+    run_full_device
+    run_input_that_cannot_be_read
+    run_with_little_memory
+else
+    judge 1 "no program $program: run 'make' first"
+fi
+check_proofs_by_hand
+check_crates_are_named
 
 echo "$passed passed, $failed failed"
 [ "$failed" -eq 0 ]

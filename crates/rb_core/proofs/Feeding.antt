@@ -7,8 +7,7 @@ use Rattle.rb_rpc.specs.Marks.{StandsForFed}
 use Rattle.rb_rpc.specs.Records.{first_record, data_of}
 use Rattle.rb_rpc.proofs.RecordCuts.{stays}
 use Rattle.rb_rpc.proofs.Feeding.{none_ended}
-use Rattle.rb_core.specs.Reading.{longest_call, IsReading}
-use Rattle.rb_core.specs.Feeding.{Fed, fed_until, HasRecord, StandsBehind}
+use Rattle.rb_core.specs.Reading.{Fed, longest_call, IsReading, fed_until, HasRecord, StandsBehind}
 
 -- Behind these bytes, where the reading began with the first marks and buffer.
 pub record IsBehind (first_marks : Marks) (first : Kept) (marks : Marks) (kept : Kept) (front : List ℕ) : Type 0 where
@@ -98,9 +97,8 @@ ended_in marks kept fed piece i ended within e h =
     let some : first_record (fed ++ piece) ≡ Some (length fed + (i + 1)) =
     ends_at fed piece (i + 1) (length fed + (i + 1)) (ap first_record (sym step) ∙ ends ∙ ap (λ (k : ℕ). Some k) size) in
     let front : here fed piece i ++ get_or piece i 0 ∷ [] ≡ take (length fed + (i + 1)) (fed ++ piece) = step ∙ sym (taken fed piece (i + 1) (omega (arith, within))) in
-    let read : HasRecord marks kept (take (length fed + (i + 1)) (fed ++ piece)) =
+    let read : HasRecord kept (take (length fed + (i + 1)) (fed ++ piece)) =
     record {
-      marks_are = subst (λ (b : Bool). StandsForFed marks (cond b [] (here fed piece i ++ get_or piece i 0 ∷ []))) e h.stands;
       kept_is = h.keeps ∙ ap (λ (xs : List ℕ). take longest_call (data_of xs)) front;
       cap = h.cap;
     } in

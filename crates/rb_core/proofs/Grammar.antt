@@ -9,10 +9,12 @@ use Rattle.rb_xdr.proofs.Words.{AreBytes-drop}
 use Rattle.rb_rpc.specs.declared.call.CallHead.{CallHead}
 use Rattle.rb_rpc.specs.declared.call.Verdict.{Verdict}
 use Rattle.rb_rpc.specs.declared.call.Verdict.TheVariants as verdicts
-use Rattle.rb_rpc.specs.declared.reply.ReplyHead.{ReplyHead}
 use Rattle.rb_rpc.specs.declared.reply.ReplyStatus.TheVariants as replies
 use Rattle.rb_rpc.specs.Verdict.{verdict}
+use Rattle.rb_rpc.specs.Grammar.{BeginsWithCall}
 use Rattle.rb_rpc.proofs.Calls.{verdict_agrees}
+use Rattle.rb_registry.specs.Rows.{rpcb_prog}
+use Rattle.rb_proto.specs.declared.call.Call.{Call}
 use Rattle.rb_proto.specs.declared.procedure.Procedure.{Procedure}
 use Rattle.rb_proto.specs.declared.request.ArgumentFault.{ArgumentFault}
 use Rattle.rb_proto.specs.declared.request.ArgumentFault.TheVariants as faults
@@ -21,8 +23,8 @@ use Rattle.rb_proto.specs.Arguments.{procedures, procedure_at, is_known, request
 use Rattle.rb_proto.specs.Grammar.{Asks, procedure_of}
 use Rattle.rb_proto.proofs.Requests.{requests_are_of_the_grammar}
 use Rattle.rb_core.specs.declared.message.Message.{Message}
-use Rattle.rb_core.specs.declared.message.Message.TheVariants.{Refused, Asked}
-use Rattle.rb_core.specs.Calls.{is_served, refused, asked, called, judged, message_of}
+use Rattle.rb_core.specs.declared.message.Message.TheVariants.{NoCall, Refused, Garbage, Asked}
+use Rattle.rb_core.specs.Calls.{is_served, refusal, request_of, call_of, message_by, message_of}
 use Rattle.rb_core.specs.Grammar.{BeginsWithRequest, MessagesAreOfTheGrammar}
 
 -- ---- only served versions have procedures
@@ -62,48 +64,61 @@ known_is_served vers proc p e = by_row (find test procedures) refl e
 
 -- ---- from the message to the grammar
 
-past : (b : Bool) (r : ReplyHead) (m : Message) (head : CallHead) (asks : Request) → cond b (Refused r) m ≡ Asked head asks → (b ≡ false) × (m ≡ Asked head asks)
-past true r m head asks e = absurd cc
-past false r m head asks e = (refl, e)
+abbrev is_asked : Message → Bool
+is_asked NoCall = false
+is_asked (Refused head) = false
+is_asked (Garbage head) = false
+is_asked (Asked call) = true
 
-asked_is : (h head : CallHead) (r asks : Request) → Asked h r ≡ Asked head asks → (h ≡ head) × (r ≡ asks)
-asked_is h head r asks e = (cc, cc)
+past : (b : Bool) (r m : Message) (call : Call) → is_asked r ≡ false → cond b r m ≡ Asked call → (b ≡ false) × (m ≡ Asked call)
+past true r m call plain e = let one : is_asked r ≡ true = ap is_asked e in absurd cc
+past false r m call plain e = (refl, e)
 
-read_is : (h head : CallHead) (read : Result Request ArgumentFault) (asks : Request) → asked h read ≡ Asked head asks → (h ≡ head) × (read ≡ Ok asks)
-unfolding asked
-read_is h head (Ok r) asks e = let s = asked_is h head r asks e in (s.0, ap Ok s.1)
-read_is h head (Err faults.ProcUnavail) asks e = absurd cc
-read_is h head (Err faults.GarbageArgs) asks e = absurd cc
+call_is : (a b : Call) → Asked a ≡ Asked b → a ≡ b
+call_is a b e = cc
+
+read_is : (h : CallHead) (read : Result Request ArgumentFault) (call : Call) → request_of h read ≡ Asked call → (h ≡ call.head) × (read ≡ Ok call.request)
+unfolding request_of
+read_is h (Ok r) call e =
+    let same = call_is (record { head = h; request = r }) call e in
+    (ap (λ (x : Call). x.head) same, ap (λ (x : Call). Ok x.request) same)
+read_is h (Err faults.ProcUnavail) call e = absurd cc
+read_is h (Err faults.GarbageArgs) call e = absurd cc
 
 request_is : (known : Bool) (r : Option Request) (asks : Request) → cond known (or_garbage r) (Err faults.ProcUnavail) ≡ Ok asks → r ≡ Some asks
 request_is false r asks e = absurd cc
 request_is true None asks e = absurd cc
 request_is true (Some r) asks e = let same : r ≡ asks = cc in ap Some same
 
-from_call : (h head : CallHead) (arguments : List ℕ) (asks : Request) → called h arguments ≡ Asked head asks
-    → (h ≡ head) × (h.prog ≡ 100000) × (request h.vers h.proc arguments ≡ Some asks)
-unfolding called
-from_call h head arguments asks e =
-    let program = past (not (h.prog == 100000)) (record { xid = h.xid; status = replies.ProgUnavail })
-    (cond (not (is_served h.vers)) (refused h.xid (replies.ProgMismatch 2 4)) (asked h (read_request h.vers h.proc arguments))) head asks e in
-    let version = past (not (is_served h.vers)) (record { xid = h.xid; status = replies.ProgMismatch 2 4 })
-    (asked h (read_request h.vers h.proc arguments)) head asks program.1 in
-    let read = read_is h head (read_request h.vers h.proc arguments) asks version.1 in
-    (read.0, eqb-true h.prog 100000 (not-false (h.prog == 100000) program.0), request_is (is_known h.vers h.proc) (request h.vers h.proc arguments) asks read.1)
+from_call : (h : CallHead) (arguments : List ℕ) (call : Call) → call_of h arguments ≡ Asked call
+    → (h ≡ call.head) × (h.prog ≡ rpcb_prog) × (request h.vers h.proc arguments ≡ Some call.request)
+unfolding call_of
+from_call h arguments call e =
+    let program = past (not (h.prog == rpcb_prog)) (refusal h.xid replies.ProgUnavail)
+    (cond (not (is_served h.vers)) (refusal h.xid (replies.ProgMismatch 2 4)) (request_of h (read_request h.vers h.proc arguments))) call refl e in
+    let version = past (not (is_served h.vers)) (refusal h.xid (replies.ProgMismatch 2 4))
+    (request_of h (read_request h.vers h.proc arguments)) call refl program.1 in
+    let read = read_is h (read_request h.vers h.proc arguments) call version.1 in
+    (read.0, eqb-true h.prog rpcb_prog (not-false (h.prog == rpcb_prog) program.0), request_is (is_known h.vers h.proc) (request h.vers h.proc arguments) call.request read.1)
 
-spelled : (bytes : List ℕ) → AreBytes bytes → (head : CallHead) (asks : Request) → message_of bytes ≡ Asked head asks → BeginsWithRequest head asks bytes
+spelled : (bytes : List ℕ) → AreBytes bytes → (call : Call) → message_of bytes ≡ Asked call → BeginsWithRequest call bytes
 unfolding message_of
-spelled bytes are head asks e = by_verdict (verdict bytes) refl e
+spelled bytes are call e = by_verdict (verdict bytes) refl e
   where
-    by_verdict : (v : Verdict) → verdict bytes ≡ v → judged bytes v ≡ Asked head asks → BeginsWithRequest head asks bytes
+    by_verdict : (v : Verdict) → verdict bytes ≡ v → message_by bytes v ≡ Asked call → BeginsWithRequest call bytes
     by_verdict verdicts.NoCall is e = absurd cc
     by_verdict (verdicts.RpcMismatch xid) is e = absurd cc
     by_verdict (verdicts.AuthError xid stat) is e = absurd cc
     by_verdict (verdicts.Call h place) is e =
-        let parts = from_call h head (drop place bytes) asks e in
+        let parts = from_call h (drop place bytes) call e in
         let one = (verdict_agrees bytes are h place).0 is in
-        let two = (requests_are_of_the_grammar h.vers h.proc (drop place bytes) (AreBytes-drop place bytes are) asks).0 parts.2 in
-        subst (λ k. BeginsWithRequest k asks bytes) parts.0 (record { place = place; called = one; program = parts.1; asks = two })
+        let two = (requests_are_of_the_grammar h.vers h.proc (drop place bytes) (AreBytes-drop place bytes are) call.request).0 parts.2 in
+        record {
+          place = place;
+          head = subst (λ (k : CallHead). BeginsWithCall k place bytes) parts.0 one;
+          program = subst (λ (k : CallHead). k.prog ≡ rpcb_prog) parts.0 parts.1;
+          asks = subst (λ (k : CallHead). Asks k.vers k.proc call.request (drop place bytes)) parts.0 two;
+        }
 
 -- ---- and back
 
@@ -111,20 +126,21 @@ known_of : (vers proc : ℕ) (p : Procedure) → procedure_at vers proc ≡ Some
 unfolding is_known
 known_of vers proc p e = ap is_some e
 
-to_call : (head : CallHead) (arguments : List ℕ) (asks : Request) → AreBytes arguments → head.prog ≡ 100000 → Asks head.vers head.proc asks arguments → called head arguments ≡ Asked head asks
-unfolding called asked
-to_call head arguments asks are program is =
-    let known = known_of head.vers head.proc (procedure_of asks) is.0 in
-    let serves = known_is_served head.vers head.proc (procedure_of asks) is.0 in
-    let of_program : eqb head.prog 100000 ≡ true = eq-eqb head.prog 100000 program in
-    let read : request head.vers head.proc arguments ≡ Some asks = (requests_are_of_the_grammar head.vers head.proc arguments are asks).1 is in
+to_call : (call : Call) (arguments : List ℕ) → AreBytes arguments → call.head.prog ≡ rpcb_prog → Asks call.head.vers call.head.proc call.request arguments → call_of call.head arguments ≡ Asked call
+unfolding call_of request_of
+to_call call arguments are program is =
+    let head = call.head in
+    let known = known_of head.vers head.proc (procedure_of call.request) is.0 in
+    let serves = known_is_served head.vers head.proc (procedure_of call.request) is.0 in
+    let of_program : eqb head.prog rpcb_prog ≡ true = eq-eqb head.prog rpcb_prog program in
+    let read : request head.vers head.proc arguments ≡ Some call.request = (requests_are_of_the_grammar head.vers head.proc arguments are call.request).1 is in
     rw (of_program, serves, known, read) refl
 
-read_back : (bytes : List ℕ) → AreBytes bytes → (head : CallHead) (asks : Request) → BeginsWithRequest head asks bytes → message_of bytes ≡ Asked head asks
+read_back : (bytes : List ℕ) → AreBytes bytes → (call : Call) → BeginsWithRequest call bytes → message_of bytes ≡ Asked call
 unfolding message_of
-read_back bytes are head asks b =
-    let is : verdict bytes ≡ verdicts.Call head b.place = (verdict_agrees bytes are head b.place).1 b.called in
-    ap (judged bytes) is ∙ to_call head (drop b.place bytes) asks (AreBytes-drop b.place bytes are) b.program b.asks
+read_back bytes are call b =
+    let is : verdict bytes ≡ verdicts.Call call.head b.place = (verdict_agrees bytes are call.head b.place).1 b.head in
+    ap (message_by bytes) is ∙ to_call call (drop b.place bytes) (AreBytes-drop b.place bytes are) b.program b.asks
 
 pub messages_are_of_the_grammar : MessagesAreOfTheGrammar
-messages_are_of_the_grammar bytes are head asks = (spelled bytes are head asks, read_back bytes are head asks)
+messages_are_of_the_grammar bytes are call = (spelled bytes are call, read_back bytes are call)

@@ -3,8 +3,9 @@ use Rattle.std.proofs.Common.{◌≡◌, ◌≤◌, ℕ, suc, ◌+◌, Bool, tru
 use Rattle.std.specs.Prelude.{All, Any, find, option_map}
 use Rattle.std.proofs.lemmas.List.Elements.{All-nil, All-cons, All-weaker}
 use Rattle.rb_core.specs.State.{Connection}
-use Rattle.rb_core.specs.Connections.{is_lost, first_lost, next_lost}
-use Rattle.rb_core.specs.Reached.{IsLeastLost, NextLostIsLeast}
+use Rattle.rb_core.specs.Connections.{is_lost, first_lost}
+use Rattle.rb_core.specs.Step.{next_lost}
+use Rattle.rb_core.specs.Laws.{IsLeastLost, NextLostIsLeast}
 use Rattle.rb_core.proofs.Reached.{AreSound, reached-sound}
 
 -- they are all numbered from the least on
@@ -26,8 +27,7 @@ found-later c all (Some id) live (there, least) = (
   All-cons (λ (d : Connection). is_lost d.phase ≡ true → id ≤ d.number) c all (λ lost. absurd cc) least,
 )
 
-least-lost : (least next : ℕ) (all : List Connection) → AreSound least next all → IsLeastLost all (first_lost all)
-unfolding first_lost
+least-lost : (least next : ℕ) (all : List Connection) → AreSound least next all → IsLeastLost all (option_map (λ (d : Connection). d.number) (find (λ (d : Connection). is_lost d.phase) all))
 least-lost least next [] s = All-nil (λ (c : Connection). is_lost c.phase ≡ false)
 least-lost least next (c ∷ all) s = by_test (is_lost c.phase) refl (least-lost (c.number + 1) next all s.2)
   where
@@ -44,5 +44,5 @@ least-lost least next (c ∷ all) s = by_test (is_lost c.phase) refl (least-lost
     by_test false live later = found-later c all _ live later
 
 pub next_lost_is_least : NextLostIsLeast
-unfolding next_lost
+unfolding next_lost first_lost
 next_lost_is_least s reached = least-lost 0 s.connections.next s.connections.all (reached-sound s reached)

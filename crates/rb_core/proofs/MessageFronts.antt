@@ -4,24 +4,19 @@ use Rattle.std.specs.Prelude.{option_map, option_and_then}
 use Rattle.rb_xdr.specs.Xdr.{Reading, read_number, read_opaque}
 use Rattle.rb_xdr.specs.Kept.{Kept}
 use Rattle.rb_rpc.specs.declared.call.CallHead.{CallHead}
-use Rattle.rb_rpc.specs.declared.marks.Marks.{Marks}
 use Rattle.rb_rpc.specs.Records.{data_of}
 use Rattle.rb_rpc.specs.Verdict.{EndsWithin, verdict}
 use Rattle.rb_rpc.specs.declared.call.Verdict.{Verdict}
 use Rattle.rb_rpc.specs.declared.call.Verdict.TheVariants.{NoCall, RpcMismatch, AuthError, Call}
-use Rattle.rb_proto.specs.declared.mapping.Mapping.{Mapping}
-use Rattle.rb_proto.specs.declared.rpcb.Rpcb.{Rpcb}
-use Rattle.rb_proto.specs.declared.netbuf.Netbuf.{Netbuf}
 use Rattle.rb_proto.specs.declared.procedure.Procedure.{Procedure}
-use Rattle.rb_proto.specs.declared.procedure.Procedure.TheVariants as asks
+use Rattle.rb_proto.specs.declared.procedure.Procedure.TheVariants as procedures
 use Rattle.rb_proto.specs.declared.request.ArgumentFault.TheVariants.{ProcUnavail}
 use Rattle.rb_proto.specs.declared.request.Request.{Request}
-use Rattle.rb_proto.specs.declared.request.Request.TheVariants.{PmapSet, PmapUnset, Getport, Set, Unset, Getaddr, Uaddr2taddr, Taddr2uaddr, Getversaddr, Getaddrlist}
+use Rattle.rb_proto.specs.declared.request.Request.TheVariants.{Mapping, Rpcb, Uaddr2taddr, Taddr2uaddr}
 use Rattle.rb_proto.specs.Types.{read_mapping, read_rpcb, read_netbuf}
 use Rattle.rb_proto.specs.Arguments.{procedure_at, is_known, value_of, front, arguments, request, or_garbage, read_request}
-use Rattle.rb_core.specs.Calls.{called, judged, message_of}
-use Rattle.rb_core.specs.Feeding.{HasRecord, KeptSaysTheRecord}
-use Rattle.rb_core.specs.Reading.{longest_head, longest_arguments, longest_call}
+use Rattle.rb_core.specs.Calls.{call_of, message_by, message_of}
+use Rattle.rb_core.specs.Reading.{longest_head, longest_arguments, longest_call, HasRecord, KeptSaysTheRecord}
 use Rattle.rb_core.proofs.ReaderFronts.{LooksAt, give_looks, bind_looks, number_looks, opaque_looks, drop_front}
 use Rattle.rb_core.proofs.Fronts.{front_decides, head_ends}
 
@@ -52,28 +47,17 @@ netbuf_looks =
 
 -- ---- what is asked for
 
-mapping_of_front : (asked : Mapping → Request) (n : ℕ) (bytes : List ℕ) → longest_arguments ≤ n → option_map asked (front read_mapping (take n bytes)) ≡ option_map asked (front read_mapping bytes)
-mapping_of_front asked n bytes enough = ap (λ (r : Reading Mapping). option_map asked (value_of r)) (mapping_looks.decided n bytes (omega (arith, enough)))
-
-rpcb_of_front : (asked : Rpcb → Request) (n : ℕ) (bytes : List ℕ) → longest_arguments ≤ n → option_map asked (front read_rpcb (take n bytes)) ≡ option_map asked (front read_rpcb bytes)
-rpcb_of_front asked n bytes enough = ap (λ (r : Reading Rpcb). option_map asked (value_of r)) (rpcb_looks.decided n bytes (omega (arith, enough)))
+front_of_front : {A : Type 0} (made : A → Request) (reads : List ℕ → Reading A) (most n : ℕ) (bytes : List ℕ) → LooksAt most reads → most ≤ n
+    → option_map made (front reads (take n bytes)) ≡ option_map made (front reads bytes)
+front_of_front {A} made reads most n bytes looks enough = ap (λ (r : Reading A). option_map made (value_of r)) (looks.decided n bytes enough)
 
 arguments_of_front : (procedure : Procedure) (n : ℕ) (bytes : List ℕ) → longest_arguments ≤ n → arguments procedure (take n bytes) ≡ arguments procedure bytes
 unfolding arguments
-arguments_of_front asks.Null n bytes enough = refl
-arguments_of_front asks.PmapSet n bytes enough = mapping_of_front PmapSet n bytes enough
-arguments_of_front asks.PmapUnset n bytes enough = mapping_of_front PmapUnset n bytes enough
-arguments_of_front asks.Getport n bytes enough = mapping_of_front Getport n bytes enough
-arguments_of_front asks.PmapDump n bytes enough = refl
-arguments_of_front asks.Set n bytes enough = rpcb_of_front Set n bytes enough
-arguments_of_front asks.Unset n bytes enough = rpcb_of_front Unset n bytes enough
-arguments_of_front asks.Getaddr n bytes enough = rpcb_of_front Getaddr n bytes enough
-arguments_of_front asks.Dump n bytes enough = refl
-arguments_of_front asks.Gettime n bytes enough = refl
-arguments_of_front asks.Uaddr2taddr n bytes enough = ap (λ (r : Reading (List ℕ)). option_map Uaddr2taddr (value_of r)) ((opaque_looks 128).decided n bytes (omega (arith, enough)))
-arguments_of_front asks.Taddr2uaddr n bytes enough = ap (λ (r : Reading Netbuf). option_map Taddr2uaddr (value_of r)) (netbuf_looks.decided n bytes (omega (arith, enough)))
-arguments_of_front asks.Getversaddr n bytes enough = rpcb_of_front Getversaddr n bytes enough
-arguments_of_front asks.Getaddrlist n bytes enough = rpcb_of_front Getaddrlist n bytes enough
+arguments_of_front (procedures.Void procedure) n bytes enough = refl
+arguments_of_front (procedures.Mapping procedure) n bytes enough = front_of_front (Mapping procedure) read_mapping 16 n bytes mapping_looks (omega (arith, enough))
+arguments_of_front (procedures.Rpcb procedure) n bytes enough = front_of_front (Rpcb procedure) read_rpcb 308 n bytes rpcb_looks (omega (arith, enough))
+arguments_of_front procedures.Uaddr2taddr n bytes enough = front_of_front Uaddr2taddr (read_opaque 128) 132 n bytes (opaque_looks 128) (omega (arith, enough))
+arguments_of_front procedures.Taddr2uaddr n bytes enough = front_of_front Taddr2uaddr read_netbuf 136 n bytes netbuf_looks (omega (arith, enough))
 
 -- the first bytes of the arguments decide what is asked for
 pub request_of_front : (vers proc n : ℕ) (bytes : List ℕ) → longest_arguments ≤ n → request vers proc (take n bytes) ≡ request vers proc bytes
@@ -87,27 +71,27 @@ request_of_front vers proc n bytes enough = by_procedure (procedure_at vers proc
 pub read_of_front : (vers proc n : ℕ) (bytes : List ℕ) → longest_arguments ≤ n → read_request vers proc (take n bytes) ≡ read_request vers proc bytes
 read_of_front vers proc n bytes enough = ap (λ (r : Option Request). cond (is_known vers proc) (or_garbage r) (Err ProcUnavail)) (request_of_front vers proc n bytes enough)
 
-called_of_front : (n : ℕ) (head : CallHead) (bytes : List ℕ) → longest_arguments ≤ n → called head (take n bytes) ≡ called head bytes
-unfolding called
-called_of_front n head bytes enough = rw (request_of_front head.vers head.proc n bytes enough) refl
+call_of_front : (n : ℕ) (head : CallHead) (bytes : List ℕ) → longest_arguments ≤ n → call_of head (take n bytes) ≡ call_of head bytes
+unfolding call_of
+call_of_front n head bytes enough = rw (request_of_front head.vers head.proc n bytes enough) refl
 
-judged_of_front : (n : ℕ) (bytes : List ℕ) (v : Verdict) → longest_head + longest_arguments ≤ n → EndsWithin v longest_head → judged (take n bytes) v ≡ judged bytes v
-judged_of_front n bytes NoCall enough within = refl
-judged_of_front n bytes (RpcMismatch xid) enough within = refl
-judged_of_front n bytes (AuthError xid stat) enough within = refl
-judged_of_front n bytes (Call head place) enough within =
-    ap (λ (arguments : List ℕ). called head arguments) (drop_front place n bytes (omega (arith, enough, within)))
-    ∙ called_of_front (n - place) head (drop place bytes) (omega (arith, enough, within))
+message_of_front : (n : ℕ) (bytes : List ℕ) (v : Verdict) → longest_head + longest_arguments ≤ n → EndsWithin v longest_head → message_by (take n bytes) v ≡ message_by bytes v
+message_of_front n bytes NoCall enough within = refl
+message_of_front n bytes (RpcMismatch xid) enough within = refl
+message_of_front n bytes (AuthError xid stat) enough within = refl
+message_of_front n bytes (Call head place) enough within =
+    ap (λ (arguments : List ℕ). call_of head arguments) (drop_front place n bytes (omega (arith, enough, within)))
+    ∙ call_of_front (n - place) head (drop place bytes) (omega (arith, enough, within))
 
 pub front_says : (n : ℕ) (bytes : List ℕ) → longest_head + longest_arguments ≤ n → message_of (take n bytes) ≡ message_of bytes
 unfolding message_of
 front_says n bytes enough =
-    ap (λ (v : Verdict). judged (take n bytes) v) (front_decides n bytes (omega (arith, enough)))
-    ∙ judged_of_front n bytes (verdict bytes) enough (head_ends bytes)
+    ap (λ (v : Verdict). message_by (take n bytes) v) (front_decides n bytes (omega (arith, enough)))
+    ∙ message_of_front n bytes (verdict bytes) enough (head_ends bytes)
 
 pub kept_says : KeptSaysTheRecord
 unfolding longest_call
 kept_says bytes = front_says longest_call bytes (omega arith)
 
-pub record_says : (marks : Marks) (kept : Kept) (bytes : List ℕ) → HasRecord marks kept bytes → message_of kept.bytes ≡ message_of (data_of bytes)
-record_says marks kept bytes h = ap message_of h.kept_is ∙ kept_says (data_of bytes)
+pub record_says : (kept : Kept) (bytes : List ℕ) → HasRecord kept bytes → message_of kept.bytes ≡ message_of (data_of bytes)
+record_says kept bytes h = ap message_of h.kept_is ∙ kept_says (data_of bytes)

@@ -1,192 +1,185 @@
 -- One connection's slot beside the connection that it stands for.
-use Rattle.std.proofs.Common.{◌≡◌, ℕ, ◌+◌, ◌-◌, ◌<◌, ◌≤◌, Bool, true, false, cond, nat_lt, List, [], ◌∷◌, ◌++◌, length, Option, Some, None, refl, sym, ap, ◌∙◌, arith}
-use Rattle.std.specs.Prelude.{IfSome}
-use Rattle.std.proofs.lemmas.List.{length-append}
-use Rattle.rb_xdr.specs.Xdr.{number, opaque}
+use Rattle.std.proofs.Common.{◌≡◌, ℕ, ◌+◌, ◌-◌, ◌<◌, Bool, true, false, cond, nat_lt, eqb, List, [], ◌∷◌, ◌++◌, length, Option, Some, None, refl, sym, ap, subst, ◌∙◌, arith}
+use Rattle.std.specs.Prelude.{min, take}
+use Rattle.std.proofs.lemmas.Bool.Decides.{nat_tests}
 use Rattle.rb_xdr.specs.Kept.{Kept}
-use Rattle.rb_rpc.specs.declared.reply.ReplyStatus.{ReplyStatus}
-use Rattle.rb_rpc.specs.declared.reply.ReplyStatus.TheVariants.{Success, ProgUnavail, ProgMismatch, ProcUnavail, GarbageArgs, SystemErr, RpcMismatch, AuthError}
-use Rattle.rb_rpc.specs.Marks.{StandsForFed}
-use Rattle.rb_rpc.specs.Records.{first_record}
-use Rattle.rb_rpc.specs.Replies.{reply_head}
+use Rattle.rb_rpc.specs.declared.marks.Marks.{Marks}
+use Rattle.rb_rpc.specs.declared.peer.Peer.{Peer}
+use Rattle.rb_rpc.specs.Records.{first_record, data_of}
 use Rattle.rb_core.specs.declared.message.Message.{Message}
-use Rattle.rb_core.specs.declared.message.Message.TheVariants as messages
-use Rattle.rb_core.specs.declared.serve.Served as outcome
-use Rattle.rb_core.specs.declared.serve.Served.TheVariants as outcomes
+use Rattle.rb_core.specs.Calls.{message_of}
 use Rattle.rb_core.specs.declared.slot.Slot.{Slot}
+use Rattle.rb_core.specs.declared.slot.Stage.{Stage}
 use Rattle.rb_core.specs.declared.slot.Stage.TheVariants as stages
-use Rattle.rb_registry.specs.Rows.{Change}
-use Rattle.rb_proto.specs.Results.{results}
-use Rattle.rb_core.specs.Serve.{Scene, seen_of, fitting, longest_reply}
+use Rattle.rb_core.specs.declared.slot.Received.{Received}
 use Rattle.rb_core.specs.State.{Owed, Phase, Connection}
 use Rattle.rb_core.specs.State.Phase.{Idle, Reading, Owing, Lost}
-use Rattle.rb_core.specs.Serve.{served, served_of}
-use Rattle.rb_core.specs.Serve.Served.{Replied}
-use Rattle.rb_core.specs.Connections.{settled}
-use Rattle.rb_core.specs.Giving.{IsGiving, owed_of, pending_of}
-use Rattle.rb_core.specs.Pending.{pending_in, when_given, phase_when_given}
-use Rattle.rb_core.specs.Reading.{longest_call, IsReading}
-use Rattle.rb_core.specs.Feeding.{Fed, fed_until, StandsBehind}
-use Rattle.rb_core.specs.Taking.{fed_in, mark_when_fed, reading}
-use Rattle.rb_core.specs.Slots.{StandsForConnection, HoldsPhase}
-use Rattle.rb_core.specs.Took.{took, took_with, is_taking, mark_from, IsFed}
-use Rattle.rb_core.proofs.Slots.{reads_nothing}
+use Rattle.rb_core.specs.Connections.{Taking, taking, taking_on, mark_when_fed, fed_in, pending_in, phase_when_given, when_given, giving}
+use Rattle.rb_core.specs.Connections.Taking.{TakesNone}
+use Rattle.rb_core.specs.Giving.{IsGiving, pending_of}
+use Rattle.rb_core.specs.Reading.{Fed, fed_until, IsReading}
+use Rattle.rb_core.specs.Slots.{Acts, StandsForPhase, StandsForConnection, received, fed_with, feeding}
 
--- ---- what a call is answered with
+-- ---- the phase by the stage
 
-some_head : (xid : ℕ) (status : ReplyStatus) → 0 < length (reply_head xid status)
-unfolding reply_head number opaque
-some_head xid Success = omega arith
-some_head xid ProgUnavail = omega arith
-some_head xid (ProgMismatch low high) = omega arith
-some_head xid ProcUnavail = omega arith
-some_head xid GarbageArgs = omega arith
-some_head xid SystemErr = omega arith
-some_head xid (RpcMismatch low high) = omega arith
-some_head xid (AuthError stat) = omega arith
-
-same_reply : (a b : List ℕ) → Replied a ≡ Replied b → a ≡ b
-same_reply a b h = cc
-
-some_fitting : (xid : ℕ) (reply : List ℕ) → 0 < length reply → 0 < length (fitting xid reply)
-unfolding fitting
-some_fitting xid reply some =
-    elim (nat_lt longest_reply (length reply)) as (λ b. 0 < length (cond b (reply_head xid SystemErr) reply)) [
-      | true ↦ some_head xid SystemErr
-      | false ↦ some
-    ]
-
-some_of : (seen : Scene) (message : Message) (bytes : List ℕ) → Replied bytes ≡ served seen message → 0 < length bytes
-unfolding served
-some_of seen messages.NoCall bytes h = absurd cc
-some_of seen (messages.Refused head) bytes h =
-    let e = same_reply bytes (reply_head head.xid head.status) h in
-    rw e (some_head head.xid head.status)
-some_of seen (messages.Asked head request) bytes h =
-    let front : List ℕ = reply_head head.xid Success in
-    let rest : List ℕ = results (seen_of seen head) request in
-    let e = same_reply bytes (fitting head.xid (front ++ rest)) h in
-    rw e (some_fitting head.xid (front ++ rest) (omega (arith, length-append front rest, some_head head.xid Success)))
-
-pub replies_some : (seen : Scene) (message : Message) (said : outcome.Served) (bytes : List ℕ) → served_of said bytes ≡ served seen message → said ≡ outcomes.Replied → 0 < length bytes
-replies_some seen message said bytes h is = some_of seen message bytes (rw is at h)
-
-pub settled_lost : (slot : Slot) (c : Connection) (clock : ℕ) (said : outcome.Served) (bytes : List ℕ) → said ≡ outcomes.Closing → slot.number ≡ c.number → slot.peer ≡ c.peer → slot.mark ≡ clock → slot.stage ≡ stages.Lost
-    → StandsForConnection slot (settled clock (served_of said bytes) c)
-unfolding settled
-settled_lost slot c clock said bytes is number peer mark stage = rw is (record { number = number; peer = peer; mark = mark; phase = stage })
-
-pub settled_owing : (slot : Slot) (c : Connection) (clock : ℕ) (said : outcome.Served) → said ≡ outcomes.Replied → slot.number ≡ c.number → slot.peer ≡ c.peer → slot.mark ≡ clock → slot.stage ≡ stages.Owing
-    → StandsForFed slot.marks [] → IsGiving slot.buffer.bytes slot.window slot.given (owed_of slot.buffer.bytes 0) → StandsForConnection slot (settled clock (served_of said slot.buffer.bytes) c)
-unfolding settled
-settled_owing slot c clock said is number peer mark stage marks giving = rw is (record { number = number; peer = peer; mark = mark; phase = (stage, marks, giving) })
-
--- ---- bytes that arrive
-
-reading_in : (slot : Slot) (phase : Phase) (fed : List ℕ) → HoldsPhase slot phase → fed_in phase ≡ Some fed → IsReading slot.marks slot.buffer fed
-reading_in slot Idle fed h is = let same : [] ≡ fed = cc in rw (← same) h.1
-reading_in slot (Reading before) fed h is = let same : before ≡ fed = cc in rw (← same) h.1
-reading_in slot (Owing o) fed h is = absurd cc
-reading_in slot Lost fed h is = absurd cc
-
-pub reading_of : (slot : Slot) (c : Connection) (fed : List ℕ) → StandsForConnection slot c → fed_in c.phase ≡ Some fed → IsReading slot.marks slot.buffer fed
-reading_of slot c fed h is = reading_in slot c.phase fed h.phase is
-
-mark_alike : (slot : Slot) (phase : Phase) (clock mark : ℕ) → HoldsPhase slot phase → mark_from clock mark slot.stage ≡ mark_when_fed clock mark phase
-mark_alike slot Idle clock mark h = rw h.0 refl
-mark_alike slot (Reading fed) clock mark h = rw h.0 refl
-mark_alike slot (Owing o) clock mark h = rw h.0 refl
-mark_alike slot Lost clock mark h = rw h refl
-
-pub is_fed : (old new : Slot) (clock : ℕ) (c : Connection) (all : List ℕ) (m : Option ℕ) → StandsForConnection old c → new.number ≡ old.number → new.peer ≡ old.peer → new.mark ≡ mark_from clock old.mark old.stage
-    → new.stage ≡ stages.Reading → StandsBehind new.marks new.buffer all m → IsFed new clock c all m
-unfolding reading
-is_fed old new clock c all None h number peer mark stage behind = record {
-  number = number ∙ h.number;
-  peer = peer ∙ h.peer;
-  mark = mark ∙ mark_alike old c.phase clock old.mark h.phase ∙ ap (λ m. mark_when_fed clock m c.phase) h.mark;
-  phase = (stage, behind);
-}
-is_fed old new clock c all (Some n) h number peer mark stage behind = record { number = number ∙ h.number; peer = peer ∙ h.peer; ended = behind }
-
--- what was fed to a connection that takes bytes
-pub record HasFed (c : Connection) : Type 0 where
-  pub fed : List ℕ
-  pub is : fed_in c.phase ≡ Some fed
-
-pub has_fed : (slot : Slot) (c : Connection) → StandsForConnection slot c → is_taking slot.stage ≡ true → HasFed c
-has_fed slot c h t = by_phase c.phase h.phase refl
+pub idle_phase : (stage : Stage) (buffer window : Kept) (phase : Phase) → stage ≡ stages.Idle → StandsForPhase stage buffer window phase
+    → (phase ≡ Idle) × (buffer.bytes ≡ []) × (window.bytes ≡ [])
+idle_phase stage buffer window phase is h = at phase (subst (λ (s : Stage). StandsForPhase s buffer window phase) is h)
   where
-    by_phase : (phase : Phase) → HoldsPhase slot phase → c.phase ≡ phase → HasFed c
-    by_phase Idle p is = record { fed = []; is = ap fed_in is }
-    by_phase (Reading fed) p is = record { fed = fed; is = ap fed_in is }
-    by_phase (Owing o) p is = let clash : false ≡ true = ap is_taking (sym p.0) ∙ t in absurd cc
-    by_phase Lost p is = let clash : false ≡ true = ap is_taking (sym p) ∙ t in absurd cc
+    at : (phase : Phase) → StandsForPhase stages.Idle buffer window phase → (phase ≡ Idle) × (buffer.bytes ≡ []) × (window.bytes ≡ [])
+    at Idle h = (refl, h.0, h.1)
+    at (Reading fed) h = absurd h
+    at (Owing o) h = absurd h
+    at Lost h = absurd h
 
-took_some : (seen : Scene) (clock : ℕ) (c : Connection) (changes : List Change) (piece fed : List ℕ) → (piece ≡ [] → ⊥)
-    → took seen clock c changes piece (Some fed) ≡ took_with seen clock c changes (length fed) (fed ++ piece) (first_record (fed ++ piece))
-took_some seen clock c changes [] fed some = absurd (some refl)
-took_some seen clock c changes (byte ∷ piece) fed some = refl
+pub reading_phase : (marks : Marks) (stage : Stage) (buffer window : Kept) (phase : Phase) → stage ≡ stages.Reading marks → StandsForPhase stage buffer window phase
+    → (fed : List ℕ) × (phase ≡ Reading fed) × IsReading marks buffer fed × (window.bytes ≡ [])
+reading_phase marks stage buffer window phase is h = at phase (subst (λ (s : Stage). StandsForPhase s buffer window phase) is h)
+  where
+    at : (phase : Phase) → StandsForPhase (stages.Reading marks) buffer window phase → (fed : List ℕ) × (phase ≡ Reading fed) × IsReading marks buffer fed × (window.bytes ≡ [])
+    at Idle h = absurd h
+    at (Reading fed) h = (fed, refl, h.0, h.1)
+    at (Owing o) h = absurd h
+    at Lost h = absurd h
 
-pub took_fed : (seen : Scene) (clock : ℕ) (c : Connection) (changes : List Change) (piece fed : List ℕ) (m : Option ℕ) → (piece ≡ [] → ⊥) → fed_in c.phase ≡ Some fed → first_record (fed ++ piece) ≡ m
-    → took seen clock c changes piece (fed_in c.phase) ≡ took_with seen clock c changes (length fed) (fed ++ piece) m
-took_fed seen clock c changes piece fed m some is ends =
-    ap (took seen clock c changes piece) is ∙ took_some seen clock c changes piece fed some ∙ ap (took_with seen clock c changes (length fed) (fed ++ piece)) ends
+pub owing_phase : (given : ℕ) (stage : Stage) (buffer window : Kept) (phase : Phase) → stage ≡ stages.Owing given → StandsForPhase stage buffer window phase
+    → (o : Owed) × (phase ≡ Owing o) × IsGiving buffer.bytes window given o
+owing_phase given stage buffer window phase is h = at phase (subst (λ (s : Stage). StandsForPhase s buffer window phase) is h)
+  where
+    at : (phase : Phase) → StandsForPhase (stages.Owing given) buffer window phase → (o : Owed) × (phase ≡ Owing o) × IsGiving buffer.bytes window given o
+    at Idle h = absurd h
+    at (Reading fed) h = absurd h
+    at (Owing o) h = (o, refl, h)
+    at Lost h = absurd h
+
+pub lost_phase : (stage : Stage) (buffer window : Kept) (phase : Phase) → stage ≡ stages.Lost → StandsForPhase stage buffer window phase → phase ≡ Lost
+lost_phase stage buffer window phase is h = at phase (subst (λ (s : Stage). StandsForPhase s buffer window phase) is h)
+  where
+    at : (phase : Phase) → StandsForPhase stages.Lost buffer window phase → phase ≡ Lost
+    at Idle h = absurd h
+    at (Reading fed) h = absurd h
+    at (Owing o) h = absurd h
+    at Lost h = refl
+
+-- ---- a piece that is taken
+
+-- What a piece comes to on the connections that a slot stands for.
+pub record Took (old new : Slot) (clock : ℕ) (piece : List ℕ) (result : Received) (c : Connection) : Type 0 where
+  pub taken : Taking
+  pub is : taking c.phase piece ≡ taken
+  pub gives : result ≡ received piece c taken
+  pub stands : StandsForConnection new (fed_with clock c taken)
+
+pub feeding_acts : (old new : Slot) (clock : ℕ) (piece : List ℕ) (result : Received)
+    → ((c : Connection) → StandsForConnection old c → Took old new clock piece result c) → Acts StandsForConnection (feeding clock piece) old new result
+unfolding feeding
+feeding_acts old new clock piece result took = record {
+  gives = λ c h. let t = took c h in t.gives ∙ ap (received piece c) (sym t.is);
+  stands = λ c h. let t = took c h in subst (λ (x : Taking). StandsForConnection new (fed_with clock c x)) (sym t.is) t.stands;
+}
+
+-- nothing is taken of nothing
+pub nothing_of_nothing : (phase : Phase) → taking phase [] ≡ TakesNone
+unfolding taking
+nothing_of_nothing Idle = refl
+nothing_of_nothing (Reading fed) = refl
+nothing_of_nothing (Owing o) = refl
+nothing_of_nothing Lost = refl
+
+pub nothing_where_owing : (phase : Phase) (o : Owed) (piece : List ℕ) → phase ≡ Owing o → taking phase piece ≡ TakesNone
+unfolding taking
+nothing_where_owing phase o piece is = rw is refl
+
+pub nothing_where_lost : (phase : Phase) (piece : List ℕ) → phase ≡ Lost → taking phase piece ≡ TakesNone
+unfolding taking
+nothing_where_lost phase piece is = rw is refl
+
+pub some_where_fed : (phase : Phase) (fed piece : List ℕ) → fed_in phase ≡ Some fed → (piece ≡ [] → ⊥) → taking phase piece ≡ taking_on fed piece
+unfolding taking
+some_where_fed phase fed [] is some = absurd (some refl)
+some_where_fed phase fed (byte ∷ piece) is some = rw is refl
+
+-- ---- how a record ends in a piece
 
 pub not_ended : (before size : ℕ) (m : Option ℕ) (r : Fed) → r ≡ fed_until before size m → r.ended ≡ false → m ≡ None
 not_ended before size None r is ended = refl
 not_ended before size (Some n) r is ended = let clash : false ≡ true = sym ended ∙ ap (λ (f : Fed). f.ended) is in absurd cc
 
-pub record Ends (m : Option ℕ) : Type 0 where
+pub record EndsAt (m : Option ℕ) : Type 0 where
   pub at : ℕ
   pub is : m ≡ Some at
 
-pub has_ended : (before size : ℕ) (m : Option ℕ) (r : Fed) → r ≡ fed_until before size m → r.ended ≡ true → Ends m
+pub has_ended : (before size : ℕ) (m : Option ℕ) (r : Fed) → r ≡ fed_until before size m → r.ended ≡ true → EndsAt m
 has_ended before size None r is ended = let clash : true ≡ false = sym ended ∙ ap (λ (f : Fed). f.ended) is in absurd cc
 has_ended before size (Some n) r is ended = record { at = n; is = refl }
 
-pub counts : (before size : ℕ) (m : Option ℕ) (r : Fed) → r ≡ fed_until before size m → m ≡ None → r.count ≡ size
-counts before size m r is none = ap (λ (f : Fed). f.count) (is ∙ ap (fed_until before size) none)
+pub counts_all : (before size : ℕ) (m : Option ℕ) (r : Fed) → r ≡ fed_until before size m → m ≡ None → r.count ≡ size
+counts_all before size m r is none = ap (λ (f : Fed). f.count) (is ∙ ap (fed_until before size) none)
 
 pub counts_to : (before size n : ℕ) (m : Option ℕ) (r : Fed) → r ≡ fed_until before size m → m ≡ Some n → r.count ≡ n - before
 counts_to before size n m r is some = ap (λ (f : Fed). f.count) (is ∙ ap (fed_until before size) some)
 
-pub size_behind : (fed piece : List ℕ) → length piece ≡ length (fed ++ piece) - length fed
-size_behind fed piece = omega (arith, length-append fed piece)
+pub heard_then : (fed piece : List ℕ) (c : Connection) (count n : ℕ) (peer : Peer) (message : Message) → first_record (fed ++ piece) ≡ Some n → count ≡ n - length fed → peer ≡ c.peer
+    → message ≡ message_of (data_of (take n (fed ++ piece))) → record { count = count; heard = Some (record { peer = peer; message = message }) } ≡ received piece c (taking_on fed piece)
+heard_then fed piece c count n peer message is counts from says = rw (is, counts, from, says) refl
+
+pub mark_of_idle : (clock mark : ℕ) (phase : Phase) → phase ≡ Idle → mark_when_fed clock mark phase ≡ clock
+mark_of_idle clock mark phase is = rw is refl
+
+pub mark_of_reading : (clock mark : ℕ) (phase : Phase) (fed : List ℕ) → phase ≡ Reading fed → mark_when_fed clock mark phase ≡ mark
+mark_of_reading clock mark phase fed is = rw is refl
 
 -- ---- bytes that are given
 
-module _ (old new : Slot) (c : Connection) (n more clock : ℕ) (shown : Kept) (result : Option ℕ)
-    (count : (o : Owed) → IsGiving old.buffer.bytes old.window old.given o → result ≡ cond (nat_lt (o.given + more) (length o.marked)) (Some (o.given + more)) None)
-    (giving : (o : Owed) → IsGiving old.buffer.bytes old.window old.given o → IfSome result (λ k. IsGiving old.buffer.bytes shown k (record o { given = o.given + more })))
-    (all_given : (o : Owed) → IsGiving old.buffer.bytes old.window old.given o → n ≤ length (pending_of o) → more ≡ n)
-    (marks : new.marks ≡ old.marks)
-    (none : result ≡ None → (new.stage ≡ stages.Idle) × (new.buffer.bytes ≡ []) × (new.buffer.cap ≡ longest_call))
-    (some : (k : ℕ) → result ≡ Some k → (new.stage ≡ stages.Owing) × (new.given ≡ k) × (new.buffer.bytes ≡ old.buffer.bytes) × (new.window ≡ shown)) where
-  gave_phase : (phase : Phase) → HoldsPhase old phase → 0 < n → n ≤ length (pending_in phase) → HoldsPhase new (phase_when_given n phase)
-  gave_phase Idle h lt le = absurd (omega arith)
-  gave_phase (Reading fed) h lt le = absurd (omega arith)
-  gave_phase Lost h lt le = absurd (omega arith)
-  gave_phase (Owing o) h lt le = by_end (nat_lt (o.given + n) (length o.marked)) refl
-    where
-      by_end : (b : Bool) → nat_lt (o.given + n) (length o.marked) ≡ b → HoldsPhase new (cond b (Owing (record o { given = o.given + n })) Idle)
-      by_end true e =
-          let m = all_given o h.2 le in
-          let counted : result ≡ cond (nat_lt (o.given + more) (length o.marked)) (Some (o.given + more)) None = count o h.2 in
-          let is : result ≡ Some (o.given + n) = rw (m, e) at counted in
-          let s = some (o.given + n) is in
-          let shows = giving o h.2 in
-          (s.0, rw marks h.1, rw (s.2, s.3, s.1) (rw (is, m) at shows))
-      by_end false e =
-          let m = all_given o h.2 le in
-          let counted : result ≡ cond (nat_lt (o.given + more) (length o.marked)) (Some (o.given + more)) None = count o h.2 in
-          let is : result ≡ None = rw (m, e) at counted in
-          let s = none is in
-          (s.0, reads_nothing new.marks new.buffer (rw marks h.1) s.1 s.2)
+-- No byte is given.
+pub none_given : (old : Slot) (clock n : ℕ) → ((c : Connection) → StandsForConnection old c → min n (length (pending_in c.phase)) ≡ 0) → Acts StandsForConnection (giving clock n) old old tt
+unfolding giving when_given
+none_given old clock n none = record {
+  gives = λ c h. refl;
+  stands = λ c h. rw (none c h) h;
+}
 
-  pub gave_stands : StandsForConnection old c → 0 < n → n ≤ length (pending_in c.phase) → new.number ≡ old.number → new.peer ≡ old.peer → new.mark ≡ clock → StandsForConnection new (when_given clock n c)
-  unfolding when_given
-  gave_stands h lt le number peer mark = record { number = number ∙ h.number; peer = peer ∙ h.peer; mark = mark; phase = gave_at c.phase h.phase refl }
+-- nothing is pending but where a reply is owed
+pub nothing_pending : (stage : Stage) (buffer window : Kept) (phase : Phase) → ((x : ℕ) → stage ≡ stages.Owing x → ⊥) → StandsForPhase stage buffer window phase → pending_in phase ≡ []
+nothing_pending stages.Idle buffer window Idle other h = refl
+nothing_pending stages.Idle buffer window (Reading fed) other h = absurd h
+nothing_pending stages.Idle buffer window (Owing o) other h = absurd h
+nothing_pending stages.Idle buffer window Lost other h = absurd h
+nothing_pending (stages.Reading marks) buffer window Idle other h = absurd h
+nothing_pending (stages.Reading marks) buffer window (Reading fed) other h = refl
+nothing_pending (stages.Reading marks) buffer window (Owing o) other h = absurd h
+nothing_pending (stages.Reading marks) buffer window Lost other h = absurd h
+nothing_pending (stages.Owing given) buffer window phase other h = absurd (other given refl)
+nothing_pending stages.Lost buffer window Idle other h = absurd h
+nothing_pending stages.Lost buffer window (Reading fed) other h = absurd h
+nothing_pending stages.Lost buffer window (Owing o) other h = absurd h
+nothing_pending stages.Lost buffer window Lost other h = refl
+
+module _ (old new : Slot) (clock n more given : ℕ) (result : Option ℕ)
+    (stage : old.stage ≡ stages.Owing given)
+    (count : (o : Owed) → IsGiving old.buffer.bytes old.window given o → result ≡ cond (nat_lt (o.given + more) (length o.marked)) (Some (o.given + more)) None)
+    (all_given : (o : Owed) → IsGiving old.buffer.bytes old.window given o → more ≡ min n (length (pending_of o)))
+    (some : 0 < more)
+    (number : new.number ≡ old.number) (peer : new.peer ≡ old.peer) (mark : new.mark ≡ clock)
+    (goes_on : (o : Owed) (k : ℕ) → IsGiving old.buffer.bytes old.window given o → result ≡ Some k → StandsForPhase new.stage new.buffer new.window (Owing (record o { given = o.given + more })))
+    (ends : result ≡ None → StandsForPhase new.stage new.buffer new.window Idle) where
+  pub some_given : Acts StandsForConnection (giving clock n) old new tt
+  unfolding giving when_given
+  some_given = record {
+    gives = λ c h. refl;
+    stands = λ c h.
+        let w = owing_phase given old.stage old.buffer old.window c.phase stage h.phase in
+        let m : more ≡ min n (length (pending_in c.phase)) = rw w.1 (all_given w.0 w.2) in
+        let test : eqb more 0 ≡ false = grind (arith, nat_tests) in
+        let phase = by_end w.0 w.2 (nat_lt (w.0.given + more) (length w.0.marked)) refl in
+        rw (← m) (rw test (record { number = number ∙ h.number; peer = peer ∙ h.peer; mark = mark; phase = rw w.1 phase }));
+  }
     where
-      gave_at : (phase : Phase) → HoldsPhase old phase → c.phase ≡ phase → HoldsPhase new (phase_when_given n c.phase)
-      gave_at phase p is = gave_phase c.phase h.phase lt le
+      by_end : (o : Owed) → IsGiving old.buffer.bytes old.window given o → (b : Bool) → nat_lt (o.given + more) (length o.marked) ≡ b
+          → StandsForPhase new.stage new.buffer new.window (phase_when_given more (Owing o))
+      by_end o g true e =
+          let is : result ≡ Some (o.given + more) = rw e at (count o g) in
+          rw e (goes_on o (o.given + more) g is)
+      by_end o g false e =
+          let is : result ≡ None = rw e at (count o g) in
+          rw e (ends is)

@@ -3,13 +3,11 @@ use Rattle.std.proofs.Common.{◌≡◌, ◌<◌, ◌≤◌, ◌+◌, ℕ, zero,
 use Rattle.std.proofs.lemmas.List.{take-map, map_more}
 use Rattle.rb_core.specs.declared.run.Event as event
 use Rattle.rb_xdr.specs.Meter.{Meter, PaysAtMost}
-use Rattle.rb_core.specs.Costs.{event_cost}
-use Rattle.rb_core.specs.RunCosts.{row_count, cost_from, run_cost}
-use Rattle.rb_registry.specs.Registry.{rows_of}
+use Rattle.rb_core.specs.Costs.{event_cost, run_cost}
 use Rattle.rb_core.specs.State.{State}
 use Rattle.rb_core.specs.Step.{Event, Output, step}
 use Rattle.rb_core.specs.Run.{run, after}
-use Rattle.rb_core.specs.StandsFor.{Held, StandsFor, event_of, events_of, Happened, arrived}
+use Rattle.rb_core.specs.StandsFor.{Held, StandsFor, event_of, events_of, Happened}
 
 pub run-append : (s : State) (xs ys : List Event) → run s (xs ++ ys) ≡ run s xs ++ run (after s xs) ys
 run-append s [] ys = refl
@@ -35,27 +33,19 @@ one_more s events i next before now old new given lt is h goes =
       state = rw (more, after-append s done (event_of next ∷ [])) gave.1;
     }
 
-run_cost-append : (s : State) (xs : List Event) (x : Event) → run_cost s (xs ++ x ∷ []) ≡ run_cost s xs + cost_from (after s xs) x
+run_cost-append : (s : State) (xs : List Event) (x : Event) → run_cost s (xs ++ x ∷ []) ≡ run_cost s xs + event_cost (after s xs) x
 run_cost-append s [] x = omega arith
-run_cost-append s (y ∷ ys) x = ap (λ n. cost_from s y + n) (run_cost-append (step s y).1 ys x) ∙ omega arith
-
--- a core holds as many rows as are live in the state that it stands for
-rows_held : (held : Held) (s : State) → StandsFor held s → length (rows_of held.registry) ≡ row_count s
-rows_held held s h = ap length h.registry.rows
+run_cost-append s (y ∷ ys) x = ap (λ n. event_cost s y + n) (run_cost-append (step s y).1 ys x) ∙ omega arith
 
 -- the cost of one event more
-pub pays_more : (s : State) (events : List event.Event) (i : ℕ) (next : event.Event) (old new : Held) (a b c : Meter) → i < length events → next ≡ get_or events i next
-    → StandsFor old (after s (take i (events_of events))) → StandsFor new (step (after s (take i (events_of events))) (event_of next)).1
-    → PaysAtMost a b (run_cost s (take i (events_of events)))
-    → PaysAtMost b c (event_cost (length (rows_of old.registry)) (length (rows_of new.registry)) + arrived (event_of next))
+pub pays_more : (s : State) (events : List event.Event) (i : ℕ) (next : event.Event) (a b c : Meter) → i < length events → next ≡ get_or events i next
+    → PaysAtMost a b (run_cost s (take i (events_of events))) → PaysAtMost b c (event_cost (after s (take i (events_of events))) (event_of next))
     → PaysAtMost a c (run_cost s (take (i + 1) (events_of events)))
-pays_more s events i next old new a b c lt is before behind h g =
+pays_more s events i next a b c lt is h g =
     let done = take i (events_of events) in
     let more : take (i + 1) (events_of events) ≡ done ++ event_of next ∷ [] = one_further events i next lt is in
-    let cost : run_cost s (take (i + 1) (events_of events)) ≡ run_cost s done + cost_from (after s done) (event_of next) = ap (run_cost s) more ∙ run_cost-append s done (event_of next) in
-    let rows = rows_held old (after s done) before in
-    let left = rows_held new (step (after s done) (event_of next)).1 behind in
-    record { steps = omega (arith, cost, h.steps, g.steps, rows, left); tie = g.tie ∙ h.tie }
+    let cost : run_cost s (take (i + 1) (events_of events)) ≡ run_cost s done + event_cost (after s done) (event_of next) = ap (run_cost s) more ∙ run_cost-append s done (event_of next) in
+    record { steps = omega (arith, cost, h.steps, g.steps); rises = omega (arith, h.rises, g.rises); tie = g.tie ∙ h.tie }
 
 -- the first events of a run cost no more than all of them
 pub run_cost-take : (s : State) (events : List Event) (n : ℕ) → run_cost s (take n events) ≤ run_cost s events
@@ -66,4 +56,4 @@ run_cost-take s (x ∷ xs) (suc n) = let rest = run_cost-take (step s x).1 xs n 
 
 -- what the first events cost is within what all of them do
 pub pays_within : (s : State) (events : List Event) (n : ℕ) (a b : Meter) → PaysAtMost a b (run_cost s (take n events)) → PaysAtMost a b (run_cost s events)
-pays_within s events n a b h = let less = run_cost-take s events n in record { steps = omega (arith, h.steps, less); tie = h.tie }
+pays_within s events n a b h = let less = run_cost-take s events n in record { steps = omega (arith, h.steps, less); rises = h.rises; tie = h.tie }

@@ -1,5 +1,5 @@
 -- A table of slots beside the connections that they stand for.
-use Rattle.std.proofs.Common.{◌≡◌, ℕ, suc, ◌+◌, ◌≤◌, Bool, true, false, not, cond, eqb, zero, ◌<◌, nat_lt, take, Ok, Err, List, [], ◌∷◌, ◌++◌, Option, Some, None, refl, sym, ap, ◌∙◌, length, eq-eqb, arith}
+use Rattle.std.proofs.Common.{◌≡◌, ℕ, suc, ◌+◌, ◌≤◌, Bool, true, false, not, cond, eqb, zero, ◌<◌, nat_lt, take, Ok, Err, List, [], ◌∷◌, ◌++◌, Option, Some, None, refl, sym, ap, subst, ◌∙◌, length, eq-eqb, arith}
 use Rattle.std.specs.Prelude.{find, filter, option_map}
 use Rattle.std.specs.List.{AllZip, list_any}
 use Rattle.std.specs.Map.{values_of}
@@ -10,7 +10,7 @@ use Rattle.rb_xdr.specs.Kept.{Kept}
 use Rattle.rb_rpc.specs.declared.marks.Marks.{Marks}
 use Rattle.rb_rpc.specs.Marks.{StandsForFed}
 use Rattle.rb_rpc.specs.Records.{data_of}
-use Rattle.rb_core.specs.declared.types.CoreFault.TheVariants.{Full, Spent}
+use Rattle.rb_core.specs.declared.types.CoreFault.TheVariants.{Full, Spent, Gone}
 use Rattle.rb_core.specs.Reading.{longest_call, IsReading}
 use Rattle.rb_xdr.proofs.PoolLemmas.{All-with_value}
 use Rattle.rb_core.specs.declared.slot.Buffers.{Buffers}
@@ -18,10 +18,13 @@ use Rattle.rb_xdr.specs.Pool.{Pool, value_at, without, with_value, HasDistinctKe
 use Rattle.rb_core.specs.declared.slot.Slot.{Slot}
 use Rattle.rb_core.specs.declared.slot.Wanted.{Wanted}
 use Rattle.rb_core.specs.declared.slot.Wanted.TheVariants as wanted
-use Rattle.rb_core.specs.State.{Phase, Connection, greatest_number}
+use Rattle.rb_core.specs.State.{Phase, Connection, Connections, greatest_number}
 use Rattle.rb_core.specs.State.Phase.{Idle, Reading, Owing, Lost}
-use Rattle.rb_core.specs.Connections.{change_first, is_lost, is_live, live_connection, has_number, number_for, is_there, without_number}
-use Rattle.rb_core.specs.Slots.{StandsForConnection, HoldsPhase, is_lost_stage, is_wanted_slot, is_wanted, wanted_slot, IsFound, is_numbered, AreNumbered, IsTable, HasBuffers}
+use Rattle.rb_core.specs.Connections.{change_first, changed_at, is_lost, is_live, live_connection, on_live, has_number, number_for, opening_of, is_there, without_number, closing_of}
+use Rattle.rb_core.specs.Slots.{Acts, StandsForConnection, StandsForPhase, StandsForConnections, Table, is_lost_stage, is_wanted_slot, is_wanted, wanted_slot, IsFound, is_numbered, AreNumbered, IsTable, HasBuffers}
+use Rattle.rb_core.specs.declared.slot.Stage.{Stage}
+use Rattle.rb_core.specs.declared.slot.Stage.TheVariants as stages
+use Rattle.rb_rpc.specs.declared.peer.Peer.{Peer}
 
 some_is : {X : Type 0} (x y : X) → Some x ≡ Some y → x ≡ y
 some_is x y h = cc
@@ -119,17 +122,29 @@ module _ {A B : Type 0} (R : A → B → Type 0) where
 
 -- ---- slots and connections
 
-lost_as_stage : (slot : Slot) (phase : Phase) → HoldsPhase slot phase → is_lost_stage slot.stage ≡ is_lost phase
-lost_as_stage slot Idle h = rw h.0 refl
-lost_as_stage slot (Reading fed) h = rw h.0 refl
-lost_as_stage slot (Owing o) h = rw h.0 refl
-lost_as_stage slot Lost h = rw h refl
+lost_as_stage : (stage : Stage) (buffer window : Kept) (phase : Phase) → StandsForPhase stage buffer window phase → is_lost_stage stage ≡ is_lost phase
+lost_as_stage stages.Idle buffer window Idle h = refl
+lost_as_stage stages.Idle buffer window (Reading fed) h = absurd h
+lost_as_stage stages.Idle buffer window (Owing o) h = absurd h
+lost_as_stage stages.Idle buffer window Lost h = absurd h
+lost_as_stage (stages.Reading marks) buffer window Idle h = absurd h
+lost_as_stage (stages.Reading marks) buffer window (Reading fed) h = refl
+lost_as_stage (stages.Reading marks) buffer window (Owing o) h = absurd h
+lost_as_stage (stages.Reading marks) buffer window Lost h = absurd h
+lost_as_stage (stages.Owing given) buffer window Idle h = absurd h
+lost_as_stage (stages.Owing given) buffer window (Reading fed) h = absurd h
+lost_as_stage (stages.Owing given) buffer window (Owing o) h = refl
+lost_as_stage (stages.Owing given) buffer window Lost h = absurd h
+lost_as_stage stages.Lost buffer window Idle h = absurd h
+lost_as_stage stages.Lost buffer window (Reading fed) h = absurd h
+lost_as_stage stages.Lost buffer window (Owing o) h = absurd h
+lost_as_stage stages.Lost buffer window Lost h = refl
 
 pub wanted_alike : (sought : Wanted) (slot : Slot) (c : Connection) → StandsForConnection slot c → is_wanted_slot sought slot ≡ is_wanted sought c
 unfolding is_wanted_slot is_wanted is_live
-wanted_alike (wanted.Live id) slot c h = rw (h.number, lost_as_stage slot c.phase h.phase) refl
+wanted_alike (wanted.Live id) slot c h = rw (h.number, lost_as_stage slot.stage slot.buffer slot.window c.phase h.phase) refl
 wanted_alike (wanted.Numbered id) slot c h = rw h.number refl
-wanted_alike wanted.AnyLost slot c h = lost_as_stage slot c.phase h.phase
+wanted_alike wanted.AnyLost slot c h = lost_as_stage slot.stage slot.buffer slot.window c.phase h.phase
 
 module _ (sought : Wanted) (entries : List (ℕ × Slot)) (all : List Connection) where
   pub found_slot : (k : ℕ) (slot : Slot) → HasDistinctKeys entries → AllZip StandsForConnection (values_of entries) all
@@ -265,6 +280,53 @@ module _ (id : ℕ) (entries : List (ℕ × Slot)) (all : List Connection) where
   unfolding is_wanted live_connection
   not_live z h = no_slot (wanted.Live id) entries all z h
 
+-- the same of a table by its other name
+pub acts_from : {A : Type 0} (act : Connections → A × Connections) (view now new : Table) (x : A) → view ≡ now
+    → Acts StandsForConnections act view new x → Acts StandsForConnections act now new x
+acts_from act view now new x is acts = subst (λ (t : Table). Acts StandsForConnections act t new x) is acts
+
+-- An act on the slot of the live connection is that on the connection.
+module _ {A : Type 0} (id : ℕ) (act : Connection → A × Connection) (table : Table) where
+  pub live_acts : (k : ℕ) (slot new : Slot) (x : A) → HasDistinctKeys table.slots
+      → option_map (λ e. e.0) (wanted_slot (wanted.Live id) table.slots) ≡ Some k → value_at table.slots k ≡ Some slot
+      → Acts StandsForConnection act slot new x → Acts StandsForConnections (on_live id act) table (record table { slots = with_value table.slots k new }) (Ok x)
+  live_acts k slot new x d h v acts = record {
+    gives = λ c z.
+        let l = live_slot id table.slots c.all k slot d z.all h v in
+        rw l.there (ap Ok (acts.gives l.connection l.stands));
+    stands = λ c z.
+        let l = live_slot id table.slots c.all k slot d z.all h v in
+        rw l.there (record { all = l.changed new (λ y. (act y).1) (acts.stands l.connection l.stands); next = z.next });
+  }
+
+  pub gone_acts : option_map (λ e. e.0) (wanted_slot (wanted.Live id) table.slots) ≡ None → Acts StandsForConnections (on_live id act) table table (Err Gone)
+  gone_acts h = record {
+    gives = λ c z. rw (not_live id table.slots c.all z.all h) refl;
+    stands = λ c z. rw (not_live id table.slots c.all z.all h) z;
+  }
+
+module _ (id : ℕ) (change : Connection → Connection) (table : Table) where
+  pub live_changed : (k : ℕ) (slot new : Slot) → HasDistinctKeys table.slots
+      → option_map (λ e. e.0) (wanted_slot (wanted.Live id) table.slots) ≡ Some k → value_at table.slots k ≡ Some slot
+      → ((c : Connection) → StandsForConnection slot c → StandsForConnection new (change c))
+      → (c : Connections) → StandsForConnections table c → StandsForConnections (record table { slots = with_value table.slots k new }) (changed_at id change c)
+  live_changed k slot new d h v stands c z =
+      let l = live_slot id table.slots c.all k slot d z.all h v in
+      record { all = l.changed new change (stands l.connection l.stands); next = z.next }
+
+  none_changes : (all : List Connection) → live_connection id all ≡ None → change_first (is_live id) change all ≡ all
+  unfolding live_connection
+  none_changes [] h = refl
+  none_changes (c ∷ all) h = by_cases (is_live id c) refl (none_changes all)
+    where
+      by_cases : (b : Bool) → is_live id c ≡ b → (find (is_live id) all ≡ None → change_first (is_live id) change all ≡ all) → change_first (is_live id) change (c ∷ all) ≡ c ∷ all
+      by_cases true t further = absurd (none_some c (sym (rw t at h)))
+      by_cases false t further = rw t (ap (λ (cs : List Connection). c ∷ cs) (further (rw t at h)))
+
+  pub gone_stays : option_map (λ e. e.0) (wanted_slot (wanted.Live id) table.slots) ≡ None
+      → (c : Connections) → StandsForConnections table c → StandsForConnections table (changed_at id change c)
+  gone_stays h c z = rw (none_changes c.all (not_live id table.slots c.all z.all h)) z
+
 -- ---- a slot more
 
 any-more : (number : ℕ) (slots : List Slot) (slot : Slot) → list_any (is_numbered number) slots ≡ false → eqb slot.number number ≡ false → list_any (is_numbered number) (slots ++ slot ∷ []) ≡ false
@@ -345,26 +407,27 @@ removed id given (e ∷ es) (c ∷ all) k slot d n z h = by_cases (eqb e.1.numbe
             absurd (has_key (is_numbered id) es k in_rest (rw key at d.0))
         by_key false y in_rest other = rw (y, other) (z.0, further in_rest)
 
-module _ (id given : ℕ) (entries : List (ℕ × Slot)) (all : List Connection) where
-  pub none_removed : AllZip StandsForConnection (values_of entries) all → option_map (λ e. e.0) (wanted_slot (wanted.Numbered id) entries) ≡ None → is_there id all ≡ false
-  unfolding is_there is_wanted
-  none_removed z h = none_any (has_number id) all (no_slot (wanted.Numbered id) entries all z h)
+module _ (id : ℕ) (table : Table) where
+  pub none_closed : option_map (λ e. e.0) (wanted_slot (wanted.Numbered id) table.slots) ≡ None → Acts StandsForConnections (closing_of id) table table (Err Gone)
+  unfolding closing_of is_there is_wanted
+  none_closed h = record {
+    gives = λ c z. rw (none_any (has_number id) c.all (no_slot (wanted.Numbered id) table.slots c.all z.all h)) refl;
+    stands = λ c z. rw (none_any (has_number id) c.all (no_slot (wanted.Numbered id) table.slots c.all z.all h)) z;
+  }
 
-  pub all_stay : is_there id all ≡ false → without_number id all ≡ all
-  unfolding is_there without_number
-  all_stay h = all_kept (has_number id) all h
-
-  pub one_removed : (k : ℕ) (slot : Slot) → HasDistinctKeys entries → AllZip StandsForConnection (values_of entries) all
-      → option_map (λ e. e.0) (wanted_slot (wanted.Numbered id) entries) ≡ Some k → value_at entries k ≡ Some slot → is_there id all ≡ true
-  unfolding is_there is_wanted
-  one_removed k slot d z h v =
-      let f = found_slot (wanted.Numbered id) entries all k slot d z h v in
-      some_any (has_number id) all f.connection f.found
-
-  pub others_stay : (k : ℕ) (slot : Slot) → HasDistinctKeys entries → AreNumbered given (values_of entries) → AllZip StandsForConnection (values_of entries) all
-      → option_map (λ e. e.0) (wanted_slot (wanted.Numbered id) entries) ≡ Some k → AllZip StandsForConnection (values_of (without entries k)) (without_number id all)
-  unfolding wanted_slot is_wanted_slot without_number
-  others_stay k slot d n z h = removed id given entries all k slot d n z h
+  pub one_closed : (k : ℕ) (slot : Slot) → HasDistinctKeys table.slots → AreNumbered table.given (values_of table.slots)
+      → option_map (λ e. e.0) (wanted_slot (wanted.Numbered id) table.slots) ≡ Some k → value_at table.slots k ≡ Some slot
+      → Acts StandsForConnections (closing_of id) table (record table { slots = without table.slots k }) (Ok tt)
+  unfolding closing_of is_there is_wanted wanted_slot is_wanted_slot without_number
+  one_closed k slot d n h v = record {
+    gives = λ c z. rw (there c z) refl;
+    stands = λ c z. rw (there c z) (record { all = removed id table.given table.slots c.all k slot d n z.all h; next = z.next });
+  }
+    where
+      there : (c : Connections) → StandsForConnections table c → list_any (has_number id) c.all ≡ true
+      there c z =
+          let f = found_slot (wanted.Numbered id) table.slots c.all k slot d z.all h v in
+          some_any (has_number id) c.all f.connection f.found
 
 -- ---- a new connection
 
@@ -380,27 +443,51 @@ nothing_kept = take_nothing longest_call
 pub reads_nothing : (marks : Marks) (kept : Kept) → StandsForFed marks [] → kept.bytes ≡ [] → kept.cap ≡ longest_call → IsReading marks kept []
 reads_nothing marks kept m e c = record { marks_are = m; kept_is = e ∙ sym nothing_kept; cap = c }
 
-module _ (conns : ℕ) (all : List Connection) (next : ℕ) where
-  pub no_place : conns ≤ length all → Err Full ≡ number_for conns all next
-  unfolding number_for
-  no_place h = let e : nat_lt (length all) conns ≡ false = grind (arith, nat_tests) in rw e refl
-
-  pub no_number : length all < conns → greatest_number < next → Err Spent ≡ number_for conns all next
-  unfolding number_for
-  no_number h g =
-      let e : nat_lt (length all) conns ≡ true = grind (arith, nat_tests) in
-      let f : nat_lt greatest_number next ≡ true = grind (arith, nat_tests) in
-      rw (e, f) refl
-
-  pub next_number : length all < conns → next ≤ greatest_number → Ok next ≡ number_for conns all next
-  unfolding number_for
-  next_number h g =
-      let e : nat_lt (length all) conns ≡ true = grind (arith, nat_tests) in
-      let f : nat_lt greatest_number next ≡ false = le-ltb greatest_number next g in
-      rw (e, f) refl
-
 pub as_many : (es : List (ℕ × Slot)) (all : List Connection) → AllZip StandsForConnection (values_of es) all → length all ≡ length es
 as_many es all z = sym (same_length_of StandsForConnection (values_of es) all z) ∙ length-values es
+
+module _ (conns : ℕ) (peer : Peer) (clock : ℕ) (table : Table) where
+  pub full_acts : conns ≤ length table.slots → Acts StandsForConnections (opening_of conns peer clock) table table (Err Full)
+  unfolding opening_of number_for
+  full_acts full = record {
+    gives = λ c z. rw (no_room c z) refl;
+    stands = λ c z. rw (no_room c z) z;
+  }
+    where
+      no_room : (c : Connections) → StandsForConnections table c → nat_lt (length c.all) conns ≡ false
+      no_room c z = let many = as_many table.slots c.all z.all in grind (arith, nat_tests)
+
+  pub spent_acts : length table.slots < conns → table.given ≡ greatest_number → Acts StandsForConnections (opening_of conns peer clock) table table (Err Spent)
+  unfolding opening_of number_for
+  spent_acts room spent = record {
+    gives = λ c z. rw (has_room c z, no_number c z) refl;
+    stands = λ c z. rw (has_room c z, no_number c z) z;
+  }
+    where
+      has_room : (c : Connections) → StandsForConnections table c → nat_lt (length c.all) conns ≡ true
+      has_room c z = let many = as_many table.slots c.all z.all in grind (arith, nat_tests)
+
+      no_number : (c : Connections) → StandsForConnections table c → nat_lt greatest_number c.next ≡ true
+      no_number c z = let next = z.next in grind (arith, nat_tests)
+
+  pub opened_acts : (slot : Slot) (new : Table) → length table.slots < conns → table.given < greatest_number
+      → values_of new.slots ≡ values_of table.slots ++ slot ∷ [] → new.given ≡ table.given + 1
+      → StandsForConnection slot (record { number = table.given + 1; peer = peer; phase = Idle; mark = clock })
+      → Acts StandsForConnections (opening_of conns peer clock) table new (Ok (table.given + 1))
+  unfolding opening_of number_for
+  opened_acts slot new room left more given stands = record {
+    gives = λ c z. rw (has_room c z, has_number_left c z) (ap Ok (sym z.next));
+    stands = λ c z. rw (has_room c z, has_number_left c z) (record {
+      all = rw more (one_more_each StandsForConnection (values_of table.slots) c.all slot _ z.all (rw z.next stands));
+      next = rw (given, z.next) refl;
+    });
+  }
+    where
+      has_room : (c : Connections) → StandsForConnections table c → nat_lt (length c.all) conns ≡ true
+      has_room c z = let many = as_many table.slots c.all z.all in grind (arith, nat_tests)
+
+      has_number_left : (c : Connections) → StandsForConnections table c → nat_lt greatest_number c.next ≡ false
+      has_number_left c z = let next = z.next in le-ltb greatest_number c.next (omega (arith, next, left))
 
 -- ---- the table with a slot changed
 

@@ -1,67 +1,449 @@
--- A core that stands for a state before a datagram stands for the state after it.
-use Rattle.std.proofs.Common.{◌≡◌, ℕ, List, [], refl, ap, ◌∙◌, max}
+-- A core that stands for a state before a call stands for the state after it.
+use Rattle.std.proofs.Common.{◌≡◌, ℕ, Bool, true, false, cond, List, [], ◌∷◌, Option, Some, None, Result, Ok, Err, length, eqb, refl, sym, ap, subst, ◌∙◌, max}
+use Rattle.std.specs.Prelude.{find, not, IfSome}
+use Rattle.std.proofs.lemmas.Bool.{and_parts}
 use Rattle.rb_rpc.specs.declared.peer.Peer.{Peer}
-use Rattle.rb_rpc.specs.declared.peer.Caller.TheVariants.{Udp}
-use Rattle.rb_registry.specs.declared.row.Row.{Row}
-use Rattle.rb_registry.specs.Rows.{Change}
-use Rattle.rb_registry.specs.Registry.{StandsForChanges}
-use Rattle.rb_proto.specs.Callers.{own_rows}
+use Rattle.rb_rpc.specs.declared.peer.Caller.{Caller}
+use Rattle.rb_rpc.specs.declared.peer.Caller.TheVariants.{Tcp, Udp}
+use Rattle.rb_proto.specs.declared.context.Context.{Context}
+use Rattle.rb_proto.specs.Ledger.{Ledger, StandsForLedger, ActsAs, SameFrame}
+use Rattle.rb_registry.specs.Registry.{Registry}
 use Rattle.rb_core.specs.declared.message.Message.{Message}
-use Rattle.rb_core.specs.declared.serve.Served as outcome
-use Rattle.rb_core.specs.declared.serve.Served.TheVariants as outcomes
-use Rattle.rb_core.specs.Calls.{message_of}
-use Rattle.rb_core.specs.State.{State}
-use Rattle.rb_core.specs.Serve.{scene_in, served, changes_by, served_of, answer_of, serve}
-use Rattle.rb_core.specs.Slots.{Table}
-use Rattle.rb_core.specs.Step.{datagram}
+use Rattle.rb_core.specs.declared.slot.Heard.{Heard}
+use Rattle.rb_core.specs.declared.slot.Received.{Received}
+use Rattle.rb_core.specs.declared.types.CoreFault.{CoreFault}
+use Rattle.rb_core.specs.declared.types.CoreFault.TheVariants.{Gone}
+use Rattle.rb_core.specs.Calls.{Outcome, Outcome as said, outcome, message_of, is_no_call}
+use Rattle.rb_core.specs.State.{State, Connection, Connections, at_moment}
+use Rattle.rb_core.specs.State.Phase.{Idle}
+use Rattle.rb_core.specs.Connections.{Taking, taking, reading, settled, is_lost, is_live, live_connection, change_first, changed_at, on_live, opening_of, closing_of, giving}
+use Rattle.rb_core.specs.Connections.Taking.{TakesNone, GoesOn, Ends}
+use Rattle.rb_core.specs.Slots.{Acts, Table, StandsForConnections, StaysTable, received, fed_with, feeding}
+use Rattle.rb_core.specs.Step.{context_in, with_ledger, with_reply, settled_in, serve, answering, when_taken, bytes_to, bytes, datagram, gave, open_connection, close_connection, moved}
+use Rattle.rb_core.specs.Costs.{NoRecordEnds, has_ended}
 use Rattle.rb_core.specs.StandsFor.{Held, StandsFor}
 
--- what is known once a message was served
-pub record Answers (old new : Held) (now : ℕ) (peer : Peer) (message : Message) (said : outcome.Served) : Type 0 where
-  pub setting : new.setting ≡ old.setting
-  pub clock : new.clock ≡ max old.clock now
-  pub connections : new.connections ≡ old.connections
-  pub limit : new.registry.limit ≡ old.registry.limit
-  pub served : served_of said new.reply ≡ served (scene_in old.setting.listener (Udp peer) new.clock old.registry) message
-  pub changes : (own : List Row) (changes : List Change) → StandsForChanges old.registry own changes
-      → StandsForChanges new.registry own (changes_by (scene_in old.setting.listener (Udp peer) new.clock old.registry) message changes)
-  pub closing : said ≡ outcomes.Closing → new.reply ≡ []
+-- ---- the table alone
 
-abbrev ByOutcome : (old new : Held) (s : State) (now : ℕ) (peer : Peer) (bytes : List ℕ) (message : Message) (said : outcome.Served) → Type 0
-ByOutcome old new s now peer bytes message said =
-    message ≡ message_of bytes → Answers old new now peer message said → StandsFor old s → (answer_of said ≡ (datagram s now peer bytes).0) × StandsFor new (datagram s now peer bytes).1
+module _ (old : Held) (s : State) (h : StandsFor old s) where
+  -- with another clock and table
+  pub with_table : (now clock : ℕ) (table : Table) (connections : Connections) → clock ≡ max old.clock now → StaysTable old.connections table → StandsForConnections table connections
+      → StandsFor (record old { clock = clock; connections = table }) (record (at_moment now s) { connections = connections })
+  with_table now clock table connections is stays stands = record {
+    setting = h.setting;
+    clock = is ∙ ap (λ (n : ℕ). max n now) h.clock;
+    conns = stays.conns ∙ h.conns;
+    connections = stands;
+    limit = h.limit;
+    ledger = h.ledger;
+    reply = h.reply;
+  }
 
-pub answered : (old new : Held) (s : State) (now : ℕ) (peer : Peer) (bytes : List ℕ) (message : Message) (said : outcome.Served) → ByOutcome old new s now peer bytes message said
-unfolding datagram serve
-answered old new s now peer bytes message outcomes.Closing is a h =
-    let clock : new.clock ≡ max s.clock now = a.clock ∙ ap (λ clock. max clock now) h.clock in
-    let known = a.changes (own_rows s.setting.listener) s.changes h.registry in
-    let seen = rw (h.setting, h.limit, h.registry.rows, h.registry.stamp, clock) at a.served in
-    rw (← is, ← seen) (
-      refl,
-      record {
-        setting = a.setting ∙ h.setting;
-        clock = clock;
-        conns = ap (λ (t : Table). t.conns) a.connections ∙ h.conns;
-        connections = rw a.connections h.connections;
-        limit = a.limit ∙ h.limit;
-        registry = rw (h.setting, h.limit, h.registry.rows, h.registry.stamp, clock) at known;
-        reply = a.closing refl;
-      },
-    )
-answered old new s now peer bytes message outcomes.Replied is a h =
-    let clock : new.clock ≡ max s.clock now = a.clock ∙ ap (λ clock. max clock now) h.clock in
-    let known = a.changes (own_rows s.setting.listener) s.changes h.registry in
-    let seen = rw (h.setting, h.limit, h.registry.rows, h.registry.stamp, clock) at a.served in
-    rw (← is, ← seen) (
-      refl,
-      record {
-        setting = a.setting ∙ h.setting;
-        clock = clock;
-        conns = ap (λ (t : Table). t.conns) a.connections ∙ h.conns;
-        connections = rw a.connections h.connections;
-        limit = a.limit ∙ h.limit;
-        registry = rw (h.setting, h.limit, h.registry.rows, h.registry.stamp, clock) at known;
-        reply = refl;
-      },
-    )
+-- A call on the connections that moves the clock: done, or refused.
+module _ {A : Type 0} (old : Held) (now clock : ℕ) (act : State → Connections → Result A CoreFault × Connections) (table : Table) where
+  pub moved_acts : (x : A) → clock ≡ max old.clock now → StaysTable old.connections table
+      → ((s : State) → StandsFor old s → Acts StandsForConnections (act s) old.connections table (Ok x))
+      → Acts StandsFor (λ s. moved now s (act s s.connections)) old (record old { clock = clock; connections = table }) (Ok x)
+  moved_acts x is stays acts = record {
+    gives = λ s h. by_result s h (act s s.connections) ((acts s h).gives s.connections h.connections);
+    stands = λ s h. by_state s h (act s s.connections) ((acts s h).gives s.connections h.connections) ((acts s h).stands s.connections h.connections);
+  }
+    where
+      by_result : (s : State) → StandsFor old s → (r : Result A CoreFault × Connections) → Ok x ≡ r.0 → Ok x ≡ (moved now s r).0
+      by_result s h (Ok y, c) e = e
+      by_result s h (Err f, c) e = absurd cc
+
+      by_state : (s : State) → StandsFor old s → (r : Result A CoreFault × Connections) → Ok x ≡ r.0 → StandsForConnections table r.1
+          → StandsFor (record old { clock = clock; connections = table }) (moved now s r).1
+      by_state s h (Ok y, c) e z = with_table old s h now clock table c is stays z
+      by_state s h (Err f, c) e z = absurd cc
+
+  pub refused_acts : (f : CoreFault) → ((s : State) → StandsFor old s → Acts StandsForConnections (act s) old.connections table (Err f))
+      → Acts StandsFor (λ s. moved now s (act s s.connections)) old old (Err f)
+  refused_acts f acts = record {
+    gives = λ s h. by_result s (act s s.connections) ((acts s h).gives s.connections h.connections);
+    stands = λ s h. by_state s h (act s s.connections) ((acts s h).gives s.connections h.connections);
+  }
+    where
+      by_result : (s : State) → (r : Result A CoreFault × Connections) → Err f ≡ r.0 → Err f ≡ (moved now s r).0
+      by_result s (Ok y, c) e = absurd cc
+      by_result s (Err g, c) e = e
+
+      by_state : (s : State) → StandsFor old s → (r : Result A CoreFault × Connections) → Err f ≡ r.0 → StandsFor old (moved now s r).1
+      by_state s h (Ok y, c) e = absurd cc
+      by_state s h (Err g, c) e = h
+
+-- the same of a core by its other name
+pub acts_from : {A : Type 0} (act : State → A × State) (view now new : Held) (x : A) → view ≡ now → Acts StandsFor act view new x → Acts StandsFor act now new x
+acts_from act view now new x is acts = subst (λ (held : Held). Acts StandsFor act held new x) is acts
+
+module _ (old : Held) (now clock : ℕ) (is : clock ≡ max old.clock now) (table : Table) where
+  open_at : (peer : Peer) (r : Result ℕ CoreFault) → Acts StandsForConnections (opening_of old.connections.conns peer clock) old.connections table r
+      → (s : State) → StandsFor old s → Acts StandsForConnections (opening_of s.setting.limits.conns peer (max s.clock now)) old.connections table r
+  open_at peer r acts s h = rw (← h.conns, ← h.clock, ← is) acts
+
+  give_at : (id n : ℕ) (r : Result (Unit {0}) CoreFault) → Acts StandsForConnections (on_live id (giving clock n)) old.connections table r
+      → (s : State) → StandsFor old s → Acts StandsForConnections (on_live id (giving (max s.clock now) n)) old.connections table r
+  give_at id n r acts s h = rw (← h.clock, ← is) acts
+
+  pub open_done : (peer : Peer) (x : ℕ) → StaysTable old.connections table → Acts StandsForConnections (opening_of old.connections.conns peer clock) old.connections table (Ok x)
+      → Acts StandsFor (λ s. open_connection s now peer) old (record old { clock = clock; connections = table }) (Ok x)
+  unfolding open_connection
+  open_done peer x stays acts = moved_acts old now clock (λ s. opening_of s.setting.limits.conns peer (max s.clock now)) table x is stays (open_at peer (Ok x) acts)
+
+  pub open_refused : (peer : Peer) (f : CoreFault) → Acts StandsForConnections (opening_of old.connections.conns peer clock) old.connections table (Err f)
+      → Acts StandsFor (λ s. open_connection s now peer) old old (Err f)
+  unfolding open_connection
+  open_refused peer f acts = refused_acts old now clock (λ s. opening_of s.setting.limits.conns peer (max s.clock now)) table f (open_at peer (Err f) acts)
+
+  pub gave_done : (id n : ℕ) (u : Unit {0}) → StaysTable old.connections table → Acts StandsForConnections (on_live id (giving clock n)) old.connections table (Ok u)
+      → Acts StandsFor (λ s. gave s now id n) old (record old { clock = clock; connections = table }) (Ok u)
+  unfolding gave
+  gave_done id n u stays acts = moved_acts old now clock (λ s. on_live id (giving (max s.clock now) n)) table u is stays (give_at id n (Ok u) acts)
+
+  pub gave_refused : (id n : ℕ) (f : CoreFault) → Acts StandsForConnections (on_live id (giving clock n)) old.connections table (Err f)
+      → Acts StandsFor (λ s. gave s now id n) old old (Err f)
+  unfolding gave
+  gave_refused id n f acts = refused_acts old now clock (λ s. on_live id (giving (max s.clock now) n)) table f (give_at id n (Err f) acts)
+
+pub closed_acts : (old : Held) (id : ℕ) (table : Table) (r : Result (Unit {0}) CoreFault) → StaysTable old.connections table
+    → Acts StandsForConnections (closing_of id) old.connections table r → Acts StandsFor (λ s. close_connection s id) old (record old { connections = table }) r
+unfolding close_connection
+closed_acts old id table r stays acts = record {
+  gives = λ s h. acts.gives s.connections h.connections;
+  stands = λ s h. record {
+    setting = h.setting;
+    clock = h.clock;
+    conns = stays.conns ∙ h.conns;
+    connections = acts.stands s.connections h.connections;
+    limit = h.limit;
+    ledger = h.ledger;
+    reply = h.reply;
+  };
+}
+
+-- ---- a message
+
+-- What serving a message did, where it came from this caller.
+pub record Served (old : Held) (caller : Caller) (message : Message) (registry : Registry) (given : Outcome) : Type 0 where
+  pub context : Context
+  pub is : context ≡ record { listener = old.setting.listener; limit = old.setting.limits.rows; clock = old.clock; caller = caller }
+  pub acts : ActsAs (outcome context message) old.registry registry given
+  pub frame : SameFrame old.registry registry
+
+module _ (old : Held) (caller : Caller) (message : Message) (registry : Registry) (given : Outcome) (served : Served old caller message registry given) (s : State) (h : StandsFor old s) where
+  same_context : served.context ≡ context_in s caller
+  same_context = served.is ∙ (rw (h.setting, h.clock) refl)
+
+  pub serve_gives : given ≡ (outcome (context_in s caller) message s.ledger).0
+  serve_gives = subst (λ (x : Context). given ≡ (outcome x message s.ledger).0) same_context (served.acts.gives s.ledger h.ledger)
+
+  pub serve_stands : StandsForLedger registry (outcome (context_in s caller) message s.ledger).1
+  serve_stands = subst (λ (x : Context). StandsForLedger registry (outcome x message s.ledger).1) same_context (served.acts.stands s.ledger h.ledger)
+
+-- the connection on which it came goes on
+pub answer_acts : (old : Held) (id : ℕ) (peer : Peer) (message : Message) (registry : Registry) (given : Outcome) (table : Table)
+    → Served old (Tcp id peer) message registry given → StaysTable old.connections table
+    → ((c : Connections) → StandsForConnections old.connections c → StandsForConnections table (changed_at id (settled old.clock given) c))
+    → Acts StandsFor (λ s. answering s id peer message) old (record old { connections = table; registry = registry }) (is_no_call given)
+unfolding answering serve
+answer_acts old id peer message registry given table served stays settles = record {
+  gives = λ s h. ap is_no_call (serve_gives old (Tcp id peer) message registry given served s h);
+  stands = λ s h. record {
+    setting = h.setting;
+    clock = h.clock;
+    conns = stays.conns ∙ h.conns;
+    connections =
+        subst (λ (o : Outcome). StandsForConnections table (changed_at id (settled s.clock o) s.connections)) (serve_gives old (Tcp id peer) message registry given served s h)
+        (subst (λ (n : ℕ). StandsForConnections table (changed_at id (settled n given) s.connections)) h.clock (settles s.connections h.connections));
+    limit = served.frame.limit ∙ h.limit;
+    ledger = serve_stands old (Tcp id peer) message registry given served s h;
+    reply = h.reply;
+  };
+}
+
+-- a datagram is answered
+module _ (old : Held) (now clock : ℕ) (peer : Peer) (content : List ℕ) (registry : Registry) (reply : List ℕ) (tie : ℕ) (is : clock ≡ max old.clock now) where
+  moment : (s : State) → StandsFor old s → StandsFor (record old { clock = clock }) (at_moment now s)
+  moment s h = record {
+    setting = h.setting;
+    clock = is ∙ ap (λ (n : ℕ). max n now) h.clock;
+    conns = h.conns;
+    connections = h.connections;
+    limit = h.limit;
+    ledger = h.ledger;
+    reply = h.reply;
+  }
+
+  abbrev answered : State → Outcome × Ledger
+  answered s = outcome (context_in (at_moment now s) (Udp peer)) (message_of content) s.ledger
+
+  same_reply : (a b : List ℕ) → said.Reply a ≡ said.Reply b → a ≡ b
+  same_reply a b e = cc
+
+  silent_state : SameFrame old.registry registry → reply ≡ [] → (s : State) → StandsFor old s → (o : Outcome × Ledger) → said.NoCall ≡ o.0 → StandsForLedger registry o.1
+      → (said.NoCall ≡ (with_reply (with_ledger (at_moment now s) o)).0) × StandsFor (record old { clock = clock; registry = registry; reply = reply; tie = tie }) (with_reply (with_ledger (at_moment now s) o)).1
+  silent_state frame none s h (said.NoCall, l) e z = (
+    refl,
+    record {
+      setting = h.setting;
+      clock = is ∙ ap (λ (n : ℕ). max n now) h.clock;
+      conns = h.conns;
+      connections = h.connections;
+      limit = frame.limit ∙ h.limit;
+      ledger = z;
+      reply = none;
+    },
+  )
+  silent_state frame none s h (said.Reply bytes, l) e z = absurd cc
+
+  replied_state : SameFrame old.registry registry → (s : State) → StandsFor old s → (o : Outcome × Ledger) → said.Reply reply ≡ o.0 → StandsForLedger registry o.1
+      → (said.Reply reply ≡ (with_reply (with_ledger (at_moment now s) o)).0) × StandsFor (record old { clock = clock; registry = registry; reply = reply; tie = tie }) (with_reply (with_ledger (at_moment now s) o)).1
+  replied_state frame s h (said.NoCall, l) e z = absurd cc
+  replied_state frame s h (said.Reply bytes, l) e z = (
+    e,
+    record {
+      setting = h.setting;
+      clock = is ∙ ap (λ (n : ℕ). max n now) h.clock;
+      conns = h.conns;
+      connections = h.connections;
+      limit = frame.limit ∙ h.limit;
+      ledger = z;
+      reply = same_reply reply bytes e;
+    },
+  )
+
+  pub silent_acts : Served (record old { clock = clock }) (Udp peer) (message_of content) registry said.NoCall → reply ≡ []
+      → Acts StandsFor (λ s. datagram s now peer content) old (record old { clock = clock; registry = registry; reply = reply; tie = tie }) said.NoCall
+  unfolding datagram serve
+  silent_acts served none = record { gives = λ s h. (goes s h).0; stands = λ s h. (goes s h).1 }
+    where
+      goes : (s : State) → StandsFor old s → (said.NoCall ≡ (with_reply (with_ledger (at_moment now s) (answered s))).0) × StandsFor (record old { clock = clock; registry = registry; reply = reply; tie = tie }) (with_reply (with_ledger (at_moment now s) (answered s))).1
+      goes s h = silent_state served.frame none s h (answered s) (serve_gives (record old { clock = clock }) (Udp peer) (message_of content) registry said.NoCall served (at_moment now s) (moment s h))
+          (serve_stands (record old { clock = clock }) (Udp peer) (message_of content) registry said.NoCall served (at_moment now s) (moment s h))
+
+  pub replied_acts : Served (record old { clock = clock }) (Udp peer) (message_of content) registry (said.Reply reply)
+      → Acts StandsFor (λ s. datagram s now peer content) old (record old { clock = clock; registry = registry; reply = reply; tie = tie }) (said.Reply reply)
+  unfolding datagram serve
+  replied_acts served = record { gives = λ s h. (goes s h).0; stands = λ s h. (goes s h).1 }
+    where
+      goes : (s : State) → StandsFor old s → (said.Reply reply ≡ (with_reply (with_ledger (at_moment now s) (answered s))).0) × StandsFor (record old { clock = clock; registry = registry; reply = reply; tie = tie }) (with_reply (with_ledger (at_moment now s) (answered s))).1
+      goes s h = replied_state served.frame s h (answered s) (serve_gives (record old { clock = clock }) (Udp peer) (message_of content) registry (said.Reply reply) served (at_moment now s) (moment s h))
+          (serve_stands (record old { clock = clock }) (Udp peer) (message_of content) registry (said.Reply reply) served (at_moment now s) (moment s h))
+
+-- ---- a piece of bytes
+
+module _ {X : Type 0} (test : X → Bool) where
+  none_is : (x : X) → None ≡ Some x → ⊥
+  none_is x h = absurd cc
+
+  some_is : (x y : X) → Some x ≡ Some y → x ≡ y
+  some_is x y h = cc
+
+  -- two changes that agree on the one that is found
+  pub change_alike : (f g : X → X) (xs : List X) (x : X) → find test xs ≡ Some x → f x ≡ g x → change_first test f xs ≡ change_first test g xs
+  change_alike f g [] x h e = refl
+  change_alike f g (y ∷ xs) x h e = by_cases (test y) refl (change_alike f g xs x)
+    where
+      by_cases : (b : Bool) → test y ≡ b → (find test xs ≡ Some x → f x ≡ g x → change_first test f xs ≡ change_first test g xs) → change_first test f (y ∷ xs) ≡ change_first test g (y ∷ xs)
+      by_cases true t further =
+          let same : y ≡ x = some_is y x (rw t at h) in
+          rw t (ap (λ (z : X). z ∷ xs) (ap f same ∙ e ∙ ap g (sym same)))
+      by_cases false t further = rw t (ap (λ (zs : List X). y ∷ zs) (further (rw t at h) e))
+
+  pub change_nothing : (xs : List X) → change_first test (λ y. y) xs ≡ xs
+  change_nothing [] = refl
+  change_nothing (y ∷ xs) = elim (test y) as (λ b. cond b (y ∷ xs) (y ∷ change_first test (λ z. z) xs) ≡ y ∷ xs) [ true ↦ refl | false ↦ ap (λ (zs : List X). y ∷ zs) (change_nothing xs) ]
+
+  -- one change after another, where the first leaves it the one that is found
+  pub change_twice : (f g : X → X) (xs : List X) → ((y : X) → test y ≡ true → test (f y) ≡ true) → change_first test g (change_first test f xs) ≡ change_first test (λ y. g (f y)) xs
+  change_twice f g [] still = refl
+  change_twice f g (y ∷ xs) still = by_cases (test y) refl (change_twice f g xs still)
+    where
+      by_cases : (b : Bool) → test y ≡ b → change_first test g (change_first test f xs) ≡ change_first test (λ z. g (f z)) xs
+          → change_first test g (change_first test f (y ∷ xs)) ≡ change_first test (λ z. g (f z)) (y ∷ xs)
+      by_cases true t further = rw t (rw (still y t) refl)
+      by_cases false t further = rw t (rw t (ap (λ (zs : List X). y ∷ zs) further))
+
+-- Idle, from this moment on
+abbrev idle : ℕ → Connection → Connection
+idle clock c = record c { phase = Idle; mark = clock }
+
+idle_is_live : (clock id : ℕ) (c : Connection) → is_live id c ≡ true → is_live id (idle clock c) ≡ true
+unfolding is_live
+idle_is_live clock id c h = let p = and_parts (eqb c.number id) (not (is_lost c.phase)) h in rw p.0 refl
+
+settled_twice : (clock id now : ℕ) (given : Outcome) (all : List Connection)
+    → change_first (is_live id) (settled now given) (change_first (is_live id) (idle clock) all) ≡ change_first (is_live id) (settled now given) all
+unfolding settled
+settled_twice clock id now given all = change_twice (is_live id) (idle clock) (settled now given) all (idle_is_live clock id)
+
+-- A message is answered alike where the connection was Idle meanwhile.
+answering_alike : (clock id : ℕ) (peer : Peer) (message : Message) (s : State)
+    → answering (record s { connections = changed_at id (idle clock) s.connections }) id peer message ≡ answering s id peer message
+unfolding answering serve
+answering_alike clock id peer message s = by_outcome (outcome (context_in s (Tcp id peer)) message s.ledger)
+  where
+    by_outcome : (o : Outcome × Ledger) → settled_in id (with_ledger (record s { connections = changed_at id (idle clock) s.connections }) o) ≡ settled_in id (with_ledger s o)
+    by_outcome o = ap (λ (xs : List Connection). (is_no_call o.0, record s { ledger = o.1; connections = record s.connections { all = xs } })) (twice o.0)
+      where
+        twice : (given : Outcome) → change_first (is_live id) (settled s.clock given) (change_first (is_live id) (idle clock) s.connections.all) ≡ change_first (is_live id) (settled s.clock given) s.connections.all
+        twice given = settled_twice clock id s.clock given s.connections.all
+
+-- the live connection that took a piece, and what came of it
+pub record Fed (old : Held) (clock id : ℕ) (piece : List ℕ) (table : Table) (got : Received) (s : State) : Type 0 where
+  pub connection : Connection
+  pub there : live_connection id s.connections.all ≡ Some connection
+  pub gives : got ≡ received piece connection (taking connection.phase piece)
+  pub stands : StandsForConnections table (changed_at id (λ x. fed_with clock x (taking x.phase piece)) s.connections)
+
+module _ (old : Held) (now clock id : ℕ) (piece : List ℕ) (is : clock ≡ max old.clock now) (table : Table) (stays : StaysTable old.connections table) where
+  abbrev ok : Received → Result Received CoreFault
+  ok got = Ok got
+
+  ok_is : (a b : Received) → ok a ≡ ok b → a ≡ b
+  ok_is a b e = cc
+
+  abbrev quiet : ℕ → Received
+  quiet n = record { count = n; heard = None }
+
+  abbrev heard : ℕ → Heard → Received
+  heard n said = record { count = n; heard = Some said }
+
+  nobody : (x : Heard) → Some x ≡ None → ⊥
+  nobody x h = absurd cc
+
+  fed_by : (got : Received) → Acts StandsForConnections (on_live id (feeding clock piece)) old.connections table (Ok got) → (s : State) → StandsFor old s → Fed old clock id piece table got s
+  unfolding feeding
+  fed_by got acts s h = by_there (live_connection id s.connections.all) refl (acts.gives s.connections h.connections) (acts.stands s.connections h.connections)
+    where
+      by_there : (m : Option Connection) → live_connection id s.connections.all ≡ m
+          → Ok got ≡ (on_live id (feeding clock piece) s.connections).0 → StandsForConnections table (on_live id (feeding clock piece) s.connections).1 → Fed old clock id piece table got s
+      by_there None e g z = let clash = rw e at g in absurd cc
+      by_there (Some c) e g z = record { connection = c; there = e; gives = ok_is got (received piece c (taking c.phase piece)) (rw e at g); stands = rw e at z }
+
+  bytes_by : (s : State) (c : Connection) (t : Taking) → live_connection id s.connections.all ≡ Some c → taking c.phase piece ≡ t
+      → bytes s now id piece ≡ (Ok (when_taken (at_moment now s) id piece c t).0, (when_taken (at_moment now s) id piece c t).1)
+  unfolding bytes
+  bytes_by s c t there takes = rw there (rw takes refl)
+
+  -- the connections where the one that is found takes this
+  fed_to : (s : State) (c : Connection) (t : Taking) (change : Connection → Connection) → live_connection id s.connections.all ≡ Some c → taking c.phase piece ≡ t → fed_with clock c t ≡ change c
+      → changed_at id (λ x. fed_with clock x (taking x.phase piece)) s.connections ≡ changed_at id change s.connections
+  unfolding live_connection
+  fed_to s c t change there takes same =
+      ap (λ (xs : List Connection). record s.connections { all = xs })
+      (change_alike (is_live id) (λ x. fed_with clock x (taking x.phase piece)) change s.connections.all c there (ap (fed_with clock c) takes ∙ same))
+
+  table_with : (s : State) → StandsFor old s → (connections : Connections) → StandsForConnections table connections
+      → StandsFor (record old { clock = clock; connections = table }) (record (at_moment now s) { connections = connections })
+  table_with s h connections z = with_table old s h now clock table connections is stays z
+
+  -- what is given where no record ended
+  pub record Quiet (s : State) (count : ℕ) : Type 0 where
+    pub gives : Ok (record { count = count; closed = false }) ≡ (bytes s now id piece).0
+    pub stands : StandsFor (record old { clock = clock; connections = table }) (bytes s now id piece).1
+
+  pub quiet_acts : (count : ℕ) → Acts StandsForConnections (on_live id (feeding clock piece)) old.connections table (Ok (quiet count))
+      → Acts StandsFor (λ s. bytes s now id piece) old (record old { clock = clock; connections = table }) (Ok (record { count = count; closed = false }))
+  quiet_acts count acts = record { gives = λ s h. (goes s h).gives; stands = λ s h. (goes s h).stands }
+    where
+      by_taking : (s : State) → StandsFor old s → (f : Fed old clock id piece table (quiet count) s) (t : Taking) → taking f.connection.phase piece ≡ t → Quiet s count
+      by_taking s h f TakesNone t =
+          let gives : quiet count ≡ quiet 0 = rw t at f.gives in
+          let n : count ≡ 0 = ap (λ (r : Received). r.count) gives in
+          let same = fed_to s f.connection TakesNone (λ x. x) f.there t refl ∙ ap (λ (xs : List Connection). record s.connections { all = xs }) (change_nothing (is_live id) s.connections.all) in
+          record { gives = rw (bytes_by s f.connection TakesNone f.there t) (rw n refl); stands = rw (bytes_by s f.connection TakesNone f.there t) (table_with s h s.connections (subst (StandsForConnections table) same f.stands)) }
+      by_taking s h f (GoesOn fed) t =
+          let gives : quiet count ≡ quiet (length piece) = rw t at f.gives in
+          let n : count ≡ length piece = ap (λ (r : Received). r.count) gives in
+          let same = fed_to s f.connection (GoesOn fed) (reading (max s.clock now) fed) f.there t (ap (λ (k : ℕ). reading k fed f.connection) (is ∙ ap (λ (k : ℕ). max k now) h.clock)) in
+          record { gives = rw (bytes_by s f.connection (GoesOn fed) f.there t) (rw n refl); stands = rw (bytes_by s f.connection (GoesOn fed) f.there t) (table_with s h (changed_at id (reading (max s.clock now) fed) s.connections) (subst (StandsForConnections table) same f.stands)) }
+      by_taking s h f (Ends n content) t =
+          let gives : quiet count ≡ heard n (record { peer = f.connection.peer; message = message_of content }) = rw t at f.gives in
+          absurd (nobody (record { peer = f.connection.peer; message = message_of content }) (sym (ap (λ (r : Received). r.heard) gives)))
+
+      goes : (s : State) → StandsFor old s → Quiet s count
+      goes s h = let f = fed_by (quiet count) acts s h in by_taking s h f (taking f.connection.phase piece) refl
+
+  -- what is given where one ended, and what it said is answered
+  pub heard_acts : (count : ℕ) (said : Heard) (new : Held) (closed : Bool) → Acts StandsForConnections (on_live id (feeding clock piece)) old.connections table (Ok (heard count said))
+      → Acts StandsFor (λ s. answering s id said.peer said.message) (record old { clock = clock; connections = table }) new closed
+      → Acts StandsFor (λ s. bytes s now id piece) old new (Ok (record { count = count; closed = closed }))
+  heard_acts count said new closed acts answers = record { gives = λ s h. (goes s h).0; stands = λ s h. (goes s h).1 }
+    where
+      by_taking : (s : State) → StandsFor old s → (f : Fed old clock id piece table (heard count said) s) (t : Taking) → taking f.connection.phase piece ≡ t
+          → (Ok (record { count = count; closed = closed }) ≡ (bytes s now id piece).0) × StandsFor new (bytes s now id piece).1
+      by_taking s h f TakesNone t = let gives : heard count said ≡ quiet 0 = rw t at f.gives in absurd (nobody said (ap (λ (r : Received). r.heard) gives))
+      by_taking s h f (GoesOn fed) t = let gives : heard count said ≡ quiet (length piece) = rw t at f.gives in absurd (nobody said (ap (λ (r : Received). r.heard) gives))
+      by_taking s h f (Ends n content) t =
+          let gives : heard count said ≡ heard n (record { peer = f.connection.peer; message = message_of content }) = rw t at f.gives in
+          let k : count ≡ n = ap (λ (r : Received). r.count) gives in
+          let who : said ≡ record { peer = f.connection.peer; message = message_of content } = some_is {X = Heard} (λ x. true) _ _ (ap (λ (r : Received). r.heard) gives) in
+          let same = fed_to s f.connection (Ends n content) (idle clock) f.there t refl in
+          let z = table_with s h (changed_at id (idle clock) s.connections) (subst (StandsForConnections table) same f.stands) in
+          let alike = answering_alike clock id said.peer said.message (at_moment now s) in
+          let one : closed ≡ (answering (at_moment now s) id said.peer said.message).0 = answers.gives _ z ∙ ap (λ r. r.0) alike in
+          let two : StandsFor new (answering (at_moment now s) id said.peer said.message).1 = subst (λ (r : Bool × State). StandsFor new r.1) alike (answers.stands _ z) in
+          let from = ap (λ (x : Heard). x.peer) who in
+          let says = ap (λ (x : Heard). x.message) who in
+          (rw (bytes_by s f.connection (Ends n content) f.there t) (rw (k, ← from, ← says, one) refl), rw (bytes_by s f.connection (Ends n content) f.there t) (rw (← from, ← says) two))
+
+      goes : (s : State) → StandsFor old s → (Ok (record { count = count; closed = closed }) ≡ (bytes s now id piece).0) × StandsFor new (bytes s now id piece).1
+      goes s h = let f = fed_by (heard count said) acts s h in by_taking s h f (taking f.connection.phase piece) refl
+
+abbrev unheard : CoreFault → Result Received CoreFault
+unheard fault = Err fault
+
+fault_is : (a b : CoreFault) → unheard a ≡ unheard b → a ≡ b
+fault_is a b e = cc
+
+abbrev ok_received : Received → Result Received CoreFault
+ok_received got = Ok got
+
+-- a connection that is not there takes nothing
+pub bytes_refused : (old : Held) (now clock id : ℕ) (piece : List ℕ) (table : Table) (f : CoreFault) → Acts StandsForConnections (on_live id (feeding clock piece)) old.connections table (Err f)
+    → Acts StandsFor (λ s. bytes s now id piece) old old (Err f)
+unfolding bytes
+bytes_refused old now clock id piece table f acts = record {
+  gives = λ s h. by_there s (live_connection id s.connections.all) refl (acts.gives s.connections h.connections);
+  stands = λ s h. by_state s h (live_connection id s.connections.all) refl (acts.gives s.connections h.connections);
+}
+  where
+    by_there : (s : State) (m : Option Connection) → live_connection id s.connections.all ≡ m → Err f ≡ (on_live id (feeding clock piece) s.connections).0 → Err f ≡ (bytes_to s now id piece m).0
+    by_there s None e g = ap Err (fault_is f Gone (rw e at g))
+    by_there s (Some c) e g = let clash = rw e at g in absurd cc
+
+    by_state : (s : State) → StandsFor old s → (m : Option Connection) → live_connection id s.connections.all ≡ m → Err f ≡ (on_live id (feeding clock piece) s.connections).0 → StandsFor old (bytes_to s now id piece m).1
+    by_state s h None e g = h
+    by_state s h (Some c) e g = let clash = rw e at g in absurd cc
+
+-- the same by what was heard
+pub with_heard : (id clock : ℕ) (piece : List ℕ) (old table : Table) (got : Received) (said : Option Heard) → got.heard ≡ said
+    → Acts StandsForConnections (on_live id (feeding clock piece)) old table (Ok got) → Acts StandsForConnections (on_live id (feeding clock piece)) old table (Ok (record { count = got.count; heard = said }))
+with_heard id clock piece old table got said is acts = subst (λ (m : Option Heard). Acts StandsForConnections (on_live id (feeding clock piece)) old table (Ok (record { count = got.count; heard = m }))) is acts
+
+-- No piece that ends no record says anything.
+pub nothing_heard : (clock id count : ℕ) (piece : List ℕ) (said : Heard) (old : Held) (table : Table) → Acts StandsForConnections (on_live id (feeding clock piece)) old.connections table (Ok (record { count = count; heard = Some said }))
+    → (s : State) → StandsFor old s → NoRecordEnds s id piece → ⊥
+unfolding feeding
+nothing_heard clock id count piece said old table acts s h none = by_there (live_connection id s.connections.all) refl (acts.gives s.connections h.connections) none
+  where
+    by_taking : (c : Connection) (t : Taking) → has_ended t ≡ false → record { count = count; heard = Some said } ≡ received piece c t → ⊥
+    by_taking c TakesNone e g = some_none said (ap (λ (r : Received). r.heard) g)
+      where
+        some_none : (x : Heard) → Some x ≡ None → ⊥
+        some_none x h = absurd cc
+    by_taking c (GoesOn fed) e g = some_none said (ap (λ (r : Received). r.heard) g)
+      where
+        some_none : (x : Heard) → Some x ≡ None → ⊥
+        some_none x h = absurd cc
+    by_taking c (Ends n content) e g = let clash : true ≡ false = e in absurd cc
+
+    by_there : (m : Option Connection) → live_connection id s.connections.all ≡ m → Ok (record { count = count; heard = Some said }) ≡ (on_live id (feeding clock piece) s.connections).0
+        → IfSome (live_connection id s.connections.all) (λ c. has_ended (taking c.phase piece) ≡ false) → ⊥
+    by_there None e g n = let clash = rw e at g in absurd cc
+    by_there (Some c) e g n = by_taking c (taking c.phase piece) (rw e at n) (same (record { count = count; heard = Some said }) (received piece c (taking c.phase piece)) (rw e at g))
+      where
+        same : (a b : Received) → ok_received a ≡ ok_received b → a ≡ b
+        same a b e = cc

@@ -1,15 +1,16 @@
 -- A reply is given whole, in order, and no byte of it twice.
-use Rattle.std.proofs.Common.{◌≡◌, ◌<◌, ◌≤◌, ◌↔◌, ℕ, ◌+◌, ◌*◌, ◌/◌, Bool, true, false, cond, not, ◌&&◌, eqb, nat_lt, Option, Some, List, [], ◌++◌, length, take, drop, refl, sym, ap, subst, ◌∙◌, arith}
+use Rattle.std.proofs.Common.{◌≡◌, ◌<◌, ◌≤◌, ◌↔◌, ℕ, ◌+◌, ◌*◌, ◌/◌, max, min, Bool, true, false, cond, eqb, nat_lt, Option, List, [], ◌++◌, length, take, drop, refl, sym, ap, subst, ◌∙◌, arith}
 use Rattle.std.proofs.lemmas.List.{take-append-drop, drop-append-le, drop-drop, length-take, length-drop, nil_from_length}
 use Rattle.std.proofs.lemmas.Bool.{ltb-true, ltb-false, eqb-true}
-use Rattle.rb_core.specs.State.{State, Phase, Connection, Owed, at_moment}
+use Rattle.rb_core.specs.State.{State, Phase, Connection, Owed}
 use Rattle.rb_core.specs.State.Phase.{Idle, Reading, Owing, Lost}
-use Rattle.rb_core.specs.Connections.{is_live, is_lost, live_connection, on_connection}
+use Rattle.rb_core.specs.Connections.{live_connection, on_found, giving, pending_in, phase_when_given, when_given}
 use Rattle.rb_core.specs.Giving.{longest_fragment, owed, pending_of}
-use Rattle.rb_core.specs.Pending.{pending_in, phase_when_given, when_given, lent, pending, give, gave_on, gave}
-use Rattle.rb_core.specs.Reached.{owed_in, is_owing, IsGiven, RepliesAreGivenWhole}
-use Rattle.rb_core.proofs.Cuts.{IsFeeding, find-changed}
-use Rattle.rb_core.proofs.Reached.{IsSoundPhase, reached-sound, found-sound}
+use Rattle.rb_core.specs.Step.{moved, pending, pending_on, gave}
+use Rattle.rb_core.specs.Laws.{IsLive, owed_in, is_owing, IsGiven, RepliesAreGivenWhole}
+use Rattle.rb_core.proofs.Cuts.{find-changed}
+use Rattle.rb_core.proofs.Live.{giving-feeds}
+use Rattle.rb_core.proofs.Reached.{IsSoundPhase, live-sound}
 
 -- ---- what is pending
 
@@ -22,13 +23,13 @@ unfolding longest_fragment
 ends-later o = omega arith
 
 -- behind what is pending
-abbrev behind : Phase → List ℕ
+abbrev pub behind : Phase → List ℕ
 behind (Owing o) = drop (fragment_end o) o.marked
 behind Idle = []
 behind (Reading fed) = []
 behind Lost = []
 
-front-of : (p : Phase) → IsSoundPhase p → owed_in p ≡ pending_in p ++ behind p
+pub front-of : (p : Phase) → IsSoundPhase p → owed_in p ≡ pending_in p ++ behind p
 unfolding owed pending_of
 front-of Idle sound = refl
 front-of (Reading fed) sound = refl
@@ -51,7 +52,7 @@ some-pending (Owing o) sound is =
 
 -- ---- what is given
 
-is-left : (o : Owed) → owed o ≡ [] → length o.marked ≤ o.given
+pub is-left : (o : Owed) → owed o ≡ [] → length o.marked ≤ o.given
 unfolding owed
 is-left o none = omega (arith, ap (λ (xs : List ℕ). length xs) none, length-drop o.given o.marked)
 
@@ -93,50 +94,32 @@ some-given n (Owing o) = by_test (nat_lt (o.given + n) (length o.marked)) refl
 
 -- ---- the connection behind it
 
-giving-stays : (id clock n : ℕ) → IsFeeding id (when_given clock n)
-unfolding is_live when_given
-giving-stays id clock n = record { live = λ c e. stays (eqb c.number id) c.phase e }
+-- n bytes are given on one connection
+pub one-given : (clock n : ℕ) (c : Connection) → IsSoundPhase c.phase → n ≤ length (pending_in c.phase) → IsGiven n c.phase (giving clock n c).1.phase
+unfolding giving when_given
+one-given clock n c sound few =
+    let all : min n (length (pending_in c.phase)) ≡ n = omega (arith, few) in
+    subst (λ (k : ℕ). IsGiven n c.phase (when_given clock k c).phase) (sym all) (by_zero (eqb n 0) refl)
   where
-    stays : (b : Bool) (p : Phase) → (b && not (is_lost p)) ≡ true → (b && not (is_lost (phase_when_given n p))) ≡ true
-    stays b Idle e = e
-    stays b (Reading fed) e = e
-    stays b Lost e = e
-    stays b (Owing o) e = by_test (nat_lt (o.given + n) (length o.marked))
-      where
-        by_test : (t : Bool) → (b && not (is_lost (cond t (Owing (record o { given = o.given + n })) Idle))) ≡ true
-        by_test true = e
-        by_test false = e
+    by_zero : (z : Bool) → eqb n 0 ≡ z → IsGiven n c.phase (cond z c (record c { phase = phase_when_given n c.phase; mark = clock })).phase
+    by_zero true e = subst (λ (k : ℕ). IsGiven k c.phase c.phase) (sym (eqb-true n 0 e)) (nothing-given c.phase sound)
+    by_zero false e = some-given n c.phase
 
--- after n bytes were given
-abbrev IsThereGiven : ℕ → ℕ → Connection → State → Type 0
-IsThereGiven id n c t = (d : Connection) × (live_connection id t.connections.all ≡ Some d) × IsGiven n c.phase d.phase
-
-gives-on : (s : State) (id n : ℕ) (c : Connection) → live_connection id s.connections.all ≡ Some c → IsSoundPhase c.phase → IsThereGiven id n c (give id n s)
-unfolding live_connection when_given
-gives-on s id n c there sound = by_test (eqb n 0) refl
-  where
-    by_test : (b : Bool) → eqb n 0 ≡ b → IsThereGiven id n c (cond b s (on_connection id (when_given s.clock n) s))
-    by_test true e = (c, there, subst (λ (k : ℕ). IsGiven k c.phase c.phase) (sym (eqb-true n 0 e)) (nothing-given c.phase sound))
-    by_test false e = (
-      when_given s.clock n c,
-      find-changed id (when_given s.clock n) (giving-stays id s.clock n) s.connections.all c there,
-      some-given n c.phase,
-    )
-
-gives : (s : State) (now id n : ℕ) (c : Connection) → live_connection id s.connections.all ≡ Some c → IsSoundPhase c.phase → IsThereGiven id n c (gave s now id n).1
-unfolding gave
-gives s now id n c there sound =
-    subst (λ (o : Option Connection). IsThereGiven id n c (gave_on s now id n o).1) (sym there) (gives-on (at_moment now s) id n c there sound)
+gave-at : (s : State) (now id n : ℕ) (c : Connection) → IsLive s id c → IsLive (gave s now id n).1 id (giving (max s.clock now) n c).1
+unfolding gave live_connection
+gave-at s now id n c there =
+    ap (λ (o : Option Connection). live_connection id (moved now s (on_found id (giving (max s.clock now) n) s.connections o)).1.connections.all) there
+    ∙ find-changed id (λ x. (giving (max s.clock now) n x).1) (giving-feeds id (max s.clock now) n) s.connections.all c there
 
 pub replies_are_given_whole : RepliesAreGivenWhole
-unfolding live_connection pending
+unfolding pending
 replies_are_given_whole s reached id c there =
-    let sound : IsSoundPhase c.phase = found-sound (is_live id) 0 s.connections.next s.connections.all c (reached-sound s reached) there in
+    let sound : IsSoundPhase c.phase = live-sound s reached id c there in
     record {
       front = pending_in c.phase;
       rest = behind c.phase;
-      lends = ap lent there;
+      lends = ap pending_on there;
       whole = front-of c.phase sound;
       some = some-pending c.phase sound;
-      gives = λ now n few. gives s now id n c there sound;
+      gives = λ now n few. ((giving (max s.clock now) n c).1, gave-at s now id n c there, one-given (max s.clock now) n c sound few);
     }

@@ -1,44 +1,85 @@
--- What the data of a record, or a datagram, says: the order of refusals (RFC 5531 sections 8 and 9).
-use Rattle.std.specs.Prelude.{ℕ, ◌==◌, not, ◌||◌, Bool, if◌then◌else◌, List, drop, Result, Ok, Err}
+-- What a message says, by the order of refusals, and what it is answered with (RFC 5531 sections 8 and 9).
+use Rattle.std.specs.Prelude.{ℕ, ◌==◌, nat_lt, not, ◌||◌, Bool, true, false, if◌then◌else◌, List, ◌++◌, length, drop, Result, Ok, Err}
 use Rattle.rb_rpc.specs.declared.call.CallHead.{CallHead}
 use Rattle.rb_rpc.specs.declared.call.Verdict.{Verdict}
 use Rattle.rb_rpc.specs.declared.call.Verdict.TheVariants as verdicts
 use Rattle.rb_rpc.specs.Verdict.{verdict}
 use Rattle.rb_rpc.specs.declared.reply.ReplyStatus.{ReplyStatus}
 use Rattle.rb_rpc.specs.declared.reply.ReplyStatus.TheVariants as replies
+use Rattle.rb_rpc.specs.Replies.{reply_head}
+use Rattle.rb_registry.specs.Rows.{rpcb_prog}
 use Rattle.rb_proto.specs.declared.request.ArgumentFault.{ArgumentFault}
 use Rattle.rb_proto.specs.declared.request.ArgumentFault.TheVariants as faults
 use Rattle.rb_proto.specs.declared.request.Request.{Request}
+use Rattle.rb_proto.specs.declared.context.Context.{Context}
 use Rattle.rb_proto.specs.Arguments.{read_request}
+use Rattle.rb_proto.specs.Ledger.{Ledger, rows_in}
+use Rattle.rb_proto.specs.declared.answers.Answer.{Answer}
+use Rattle.rb_proto.specs.Answers.{answer}
+use Rattle.rb_proto.specs.Results.{result_bytes}
 use Rattle.rb_core.specs.declared.message.Message.{Message}
-use Rattle.rb_core.specs.declared.message.Message.TheVariants.{NoCall, Refused, Asked}
+use Rattle.rb_core.specs.declared.message.Message.TheVariants as says
+
+-- ---- what a message says
 
 -- the versions of program 100000
 unfoldable pub is_served : ℕ → Bool
 is_served vers = vers == 2 || vers == 3 || vers == 4
 
 -- a reply without results
-abbrev pub refused : ℕ → ReplyStatus → Message
-refused xid status = Refused (record { xid = xid; status = status })
+abbrev pub refusal : ℕ → ReplyStatus → Message
+refusal xid status = says.Refused (record { xid = xid; status = status })
 
--- a call of a version that is served: its procedure is unknown, or its arguments are unreadable, or it is asked
-unfoldable pub asked : CallHead → Result Request ArgumentFault → Message
-asked head (Err faults.ProcUnavail) = refused head.xid replies.ProcUnavail
-asked head (Err faults.GarbageArgs) = refused head.xid replies.GarbageArgs
-asked head (Ok request) = Asked head request
+-- a call of a version that is served, with its arguments, or why they can't be read
+unfoldable pub request_of : CallHead → Result Request ArgumentFault → Message
+request_of head (Err faults.ProcUnavail) = refusal head.xid replies.ProcUnavail
+request_of head (Err faults.GarbageArgs) = says.Garbage head
+request_of head (Ok request) = says.Asked (record { head = head; request = request })
 
 -- A call with a readable head, and the bytes behind its verifier: the first line that holds decides.
-unfoldable pub called : CallHead → List ℕ → Message
-called head arguments =
-    if not (head.prog == 100000) then refused head.xid replies.ProgUnavail
-    else if not (is_served head.vers) then refused head.xid (replies.ProgMismatch 2 4)
-    else asked head (read_request head.vers head.proc arguments)
+unfoldable pub call_of : CallHead → List ℕ → Message
+call_of head arguments =
+    if not (head.prog == rpcb_prog) then refusal head.xid replies.ProgUnavail
+    else if not (is_served head.vers) then refusal head.xid (replies.ProgMismatch 2 4)
+    else request_of head (read_request head.vers head.proc arguments)
 
-abbrev pub judged : List ℕ → Verdict → Message
-judged bytes verdicts.NoCall = NoCall
-judged bytes (verdicts.RpcMismatch xid) = refused xid (replies.RpcMismatch 2 2)
-judged bytes (verdicts.AuthError xid stat) = refused xid (replies.AuthError stat)
-judged bytes (verdicts.Call head place) = called head (drop place bytes)
+abbrev pub message_by : List ℕ → Verdict → Message
+message_by bytes verdicts.NoCall = says.NoCall
+message_by bytes (verdicts.RpcMismatch xid) = refusal xid (replies.RpcMismatch 2 2)
+message_by bytes (verdicts.AuthError xid stat) = refusal xid (replies.AuthError stat)
+message_by bytes (verdicts.Call head place) = call_of head (drop place bytes)
 
+-- the data of a whole record, or a datagram
 unfoldable pub message_of : List ℕ → Message
-message_of bytes = judged bytes (verdict bytes)
+message_of bytes = message_by bytes (verdict bytes)
+
+-- ---- what it is answered with
+
+-- what is no call has no reply, and every call has one
+pub data Outcome : Type 0 where
+  NoCall : Outcome
+  Reply : List ℕ → Outcome
+
+abbrev pub is_no_call : Outcome → Bool
+is_no_call NoCall = true
+is_no_call (Reply bytes) = false
+
+-- the greatest length of a reply (streamed lists will pass it on TCP)
+unfoldable pub longest_reply : ℕ
+longest_reply = 9000
+
+-- a reply that does not fit is SYSTEM_ERR
+unfoldable pub fitting : ℕ → List ℕ → List ℕ
+fitting xid reply = if nat_lt longest_reply (length reply) then reply_head xid replies.SystemErr else reply
+
+-- the reply with the results of an answer, where these rows are live after it
+abbrev pub reply_with : Context → ℕ → Answer × Ledger → Outcome × Ledger
+reply_with context xid (given, ledger) =
+    (Reply (fitting xid (reply_head xid replies.Success ++ result_bytes context.listener.host (rows_in ledger) given)), ledger)
+
+-- What a message is answered with where a call sees this, and the ledger after it.
+unfoldable pub outcome : Context → Message → Ledger → Outcome × Ledger
+outcome context says.NoCall ledger = (NoCall, ledger)
+outcome context (says.Refused head) ledger = (Reply (reply_head head.xid head.status), ledger)
+outcome context (says.Garbage head) ledger = (Reply (reply_head head.xid replies.GarbageArgs), ledger)
+outcome context (says.Asked call) ledger = reply_with context call.head.xid (answer context call ledger)

@@ -1,17 +1,94 @@
--- Connections: their phases and marks, and how they come and go.
-use Rattle.std.specs.Prelude.{ℕ, ◌+◌, ◌==◌, nat_lt, not, Bool, true, false, ◌&&◌, if◌then◌else◌, List, [], ◌∷◌, ◌++◌, length, find, filter, Option, Result, Ok, Err}
+-- Connections: what bytes that arrive and bytes that are given do to one, and how they come and go.
+use Rattle.std.specs.Prelude.{ℕ, ◌+◌, ◌-◌, ◌==◌, nat_lt, min, not, Bool, true, false, ◌&&◌, if◌then◌else◌, List, [], ◌∷◌, ◌++◌, length, take, find, filter, Option, Some, None, Result, Ok, Err}
 use Rattle.std.specs.List.{list_any}
 use Rattle.std.specs.Option.{option_map}
 use Rattle.rb_rpc.specs.declared.peer.Peer.{Peer}
-use Rattle.rb_rpc.specs.Records.{marked}
+use Rattle.rb_rpc.specs.Records.{first_record, data_of}
 use Rattle.rb_core.specs.declared.types.CoreFault.{CoreFault}
 use Rattle.rb_core.specs.declared.types.CoreFault.TheVariants.{Full, Spent, Gone}
-use Rattle.rb_core.specs.State.{State, Phase, Connection, Connections, at_moment, greatest_number}
+use Rattle.rb_core.specs.Calls.{Outcome}
+use Rattle.rb_core.specs.Calls.Outcome.{NoCall, Reply}
+use Rattle.rb_core.specs.State.{Phase, Connection, Connections, greatest_number}
 use Rattle.rb_core.specs.State.Phase.{Idle, Reading, Owing, Lost}
-use Rattle.rb_core.specs.Serve.{Served}
-use Rattle.rb_core.specs.Serve.Served.{Closing, Replied}
+use Rattle.rb_core.specs.Giving.{pending_of, owed_of}
 
--- ---- one connection
+-- ---- bytes that arrive on one (RFC 5531 section 11)
+
+-- What a connection takes of a piece of bytes: none of it; or all, no record ends in it, and all these bytes are fed
+-- since the last record's end; or so many bytes, with which the first record ends, and its data.
+pub data Taking : Type 0 where
+  TakesNone : Taking
+  GoesOn : List ℕ → Taking
+  Ends : ℕ → List ℕ → Taking
+
+-- the bytes fed since the last record's end, where the connection takes any now
+abbrev pub fed_in : Phase → Option (List ℕ)
+fed_in Idle = Some []
+fed_in (Reading fed) = Some fed
+fed_in (Owing owed) = None
+fed_in Lost = None
+
+abbrev pub taking_up_to : List ℕ → List ℕ → Option ℕ → Taking
+taking_up_to fed piece None = GoesOn (fed ++ piece)
+taking_up_to fed piece (Some n) = Ends (n - length fed) (data_of (take n (fed ++ piece)))
+
+-- the first record that ends in these bytes decides
+abbrev pub taking_on : List ℕ → List ℕ → Taking
+taking_on fed piece = taking_up_to fed piece (first_record (fed ++ piece))
+
+abbrev pub taking_behind : Option (List ℕ) → List ℕ → Taking
+taking_behind None piece = TakesNone
+taking_behind (Some fed) [] = TakesNone
+taking_behind (Some fed) (byte ∷ piece) = taking_on fed (byte ∷ piece)
+
+-- in this phase
+unfoldable pub taking : Phase → List ℕ → Taking
+taking phase piece = taking_behind (fed_in phase) piece
+
+-- the mark while a record is read is that of its first byte
+abbrev pub mark_when_fed : ℕ → ℕ → Phase → ℕ
+mark_when_fed clock mark Idle = clock
+mark_when_fed clock mark (Reading fed) = mark
+mark_when_fed clock mark (Owing owed) = mark
+mark_when_fed clock mark Lost = mark
+
+-- no record ended yet
+unfoldable pub reading : ℕ → List ℕ → Connection → Connection
+reading clock fed c = record c { phase = Reading fed; mark = mark_when_fed clock c.mark c.phase }
+
+abbrev pub phase_after : Outcome → Phase
+phase_after NoCall = Lost
+phase_after (Reply bytes) = Owing (owed_of bytes 0)
+
+-- once the record that ended is answered
+unfoldable pub settled : ℕ → Outcome → Connection → Connection
+settled clock given c = record c { phase = phase_after given; mark = clock }
+
+-- ---- bytes that are given on one
+
+abbrev pub pending_in : Phase → List ℕ
+pending_in (Owing o) = pending_of o
+pending_in Idle = []
+pending_in (Reading fed) = []
+pending_in Lost = []
+
+-- with its last byte given, the connection is Idle again
+abbrev pub phase_when_given : ℕ → Phase → Phase
+phase_when_given n (Owing o) =
+    if nat_lt (o.given + n) (length o.marked) then Owing (record o { given = o.given + n }) else Idle
+phase_when_given n Idle = Idle
+phase_when_given n (Reading fed) = Reading fed
+phase_when_given n Lost = Lost
+
+-- so many of the pending bytes were given; none leaves it as it was
+unfoldable pub when_given : ℕ → ℕ → Connection → Connection
+when_given clock n c = if n == 0 then c else record c { phase = phase_when_given n c.phase; mark = clock }
+
+-- n bytes were given, or as many as are pending
+unfoldable pub giving : ℕ → ℕ → Connection → Unit {0} × Connection
+giving clock n c = (tt, when_given clock (min n (length (pending_in c.phase))) c)
+
+-- ---- all connections
 
 abbrev pub is_lost : Phase → Bool
 is_lost Lost = true
@@ -21,16 +98,6 @@ is_lost (Owing owed) = false
 
 abbrev pub has_number : ℕ → Connection → Bool
 has_number id c = c.number == id
-
-abbrev pub phase_after : Served → Phase
-phase_after Closing = Lost
-phase_after (Replied reply) = Owing (record { marked = marked reply; given = 0 })
-
--- the connection once its call is served
-unfoldable pub settled : ℕ → Served → Connection → Connection
-settled clock served c = record c { phase = phase_after served; mark = clock }
-
--- ---- all connections
 
 -- it has this number and is not Lost
 unfoldable pub is_live : ℕ → Connection → Bool
@@ -45,58 +112,50 @@ change_first test change [] = []
 change_first test change (x ∷ xs) = if test x then change x ∷ xs else x ∷ change_first test change xs
 
 -- the connections, with the live one of the number changed
-abbrev pub changed_at : ℕ → (Connection → Connection) → List Connection → List Connection
-changed_at id change all = change_first (is_live id) change all
+abbrev pub changed_at : ℕ → (Connection → Connection) → Connections → Connections
+changed_at id change c = record c { all = change_first (is_live id) change c.all }
 
-abbrev pub on_connection : ℕ → (Connection → Connection) → State → State
-on_connection id change s =
-    record s { connections = record s.connections { all = changed_at id change s.connections.all } }
+-- Something is done with the live connection of the number. It is refused where there is none, and nothing changes.
+abbrev pub on_found : {A : Type 0} → ℕ → (Connection → A × Connection) → Connections → Option Connection → Result A CoreFault × Connections
+on_found id act connections None = (Err Gone, connections)
+on_found id act connections (Some c) = (Ok (act c).0, changed_at id (λ x. (act x).1) connections)
 
--- ---- calls
+abbrev pub on_live : {A : Type 0} → ℕ → (Connection → A × Connection) → Connections → Result A CoreFault × Connections
+on_live id act connections = on_found id act connections (live_connection id connections.all)
+
+-- ---- how they come and go
 
 -- Lost connections count until they are closed
-unfoldable pub number_for : ℕ → List Connection → ℕ → Result ℕ CoreFault
-number_for conns all next =
-    if not (nat_lt (length all) conns) then Err Full
-    else if nat_lt greatest_number next then Err Spent
-    else Ok next
+unfoldable pub number_for : ℕ → Connections → Result ℕ CoreFault
+number_for conns c =
+    if not (nat_lt (length c.all) conns) then Err Full
+    else if nat_lt greatest_number c.next then Err Spent
+    else Ok c.next
 
 -- a new connection among them, Idle from its opening
 abbrev pub with_new : Peer → ℕ → Connections → Connections
-with_new peer clock before =
-    let c : Connection = record { number = before.next; peer = peer; phase = Idle; mark = clock } in
-    record { next = before.next + 1; all = before.all ++ c ∷ [] }
+with_new peer clock c =
+    let new : Connection = record { number = c.next; peer = peer; phase = Idle; mark = clock } in
+    record { next = c.next + 1; all = c.all ++ new ∷ [] }
 
-abbrev pub opened : Peer → State → State
-opened peer s = record s { connections = with_new peer s.clock s.connections }
+abbrev pub opening_as : Peer → ℕ → Connections → Result ℕ CoreFault → Result ℕ CoreFault × Connections
+opening_as peer clock c (Err fault) = (Err fault, c)
+opening_as peer clock c (Ok number) = (Ok number, with_new peer clock c)
 
-abbrev pub opened_or : State → ℕ → Peer → Result ℕ CoreFault → Result ℕ CoreFault × State
-opened_or s now peer (Err fault) = (Err fault, s)
-opened_or s now peer (Ok number) = (Ok number, opened peer (at_moment now s))
-
--- a call that is refused leaves the state, its clock too
-unfoldable pub open_connection : State → ℕ → Peer → Result ℕ CoreFault × State
-open_connection s now peer =
-    opened_or s now peer (number_for s.setting.limits.conns s.connections.all s.connections.next)
+-- a connection is opened where there may be one more
+unfoldable pub opening_of : ℕ → Peer → ℕ → Connections → Result ℕ CoreFault × Connections
+opening_of conns peer clock c = opening_as peer clock c (number_for conns c)
 
 -- The connections are in the order of their numbers, so the first is that of least number.
-unfoldable pub first_lost : List Connection → Option ℕ
-first_lost all = option_map (λ (c : Connection). c.number) (find (λ (c : Connection). is_lost c.phase) all)
+unfoldable pub first_lost : Connections → Option ℕ
+first_lost c = option_map (λ (x : Connection). x.number) (find (λ (x : Connection). is_lost x.phase) c.all)
 
-unfoldable pub next_lost : State → Option ℕ
-next_lost s = first_lost s.connections.all
+unfoldable pub is_there : ℕ → Connections → Bool
+is_there id c = list_any (has_number id) c.all
 
-unfoldable pub without_number : ℕ → List Connection → List Connection
-without_number id all = filter (λ (c : Connection). not (c.number == id)) all
-
-abbrev pub without_connection : ℕ → State → State
-without_connection id s =
-    record s { connections = record s.connections { all = without_number id s.connections.all } }
-
-unfoldable pub is_there : ℕ → List Connection → Bool
-is_there id all = list_any (has_number id) all
+unfoldable pub without_number : ℕ → Connections → Connections
+without_number id c = record c { all = filter (λ (x : Connection). not (x.number == id)) c.all }
 
 -- live or Lost, it is there no longer
-unfoldable pub closed : State → ℕ → Result (Unit {0}) CoreFault × State
-closed s id =
-    if is_there id s.connections.all then (Ok tt, without_connection id s) else (Err Gone, s)
+unfoldable pub closing_of : ℕ → Connections → Result (Unit {0}) CoreFault × Connections
+closing_of id c = if is_there id c then (Ok tt, without_number id c) else (Err Gone, c)

@@ -1,8 +1,20 @@
 -- What calls cost at most, in counted steps.
-use Rattle.std.specs.Prelude.{ℕ, ◌+◌, ◌*◌}
+use Rattle.std.specs.Prelude.{◌≡◌, ℕ, ◌+◌, ◌*◌, Bool, true, false, IfSome, List, [], ◌∷◌, length, Option, Some, None, Result, Ok, Err}
+use Rattle.rb_proto.specs.Ledger.{rows_in}
+use Rattle.rb_core.specs.declared.slot.Received.{Received}
+use Rattle.rb_core.specs.declared.slot.Heard.{Heard}
+use Rattle.rb_core.specs.declared.types.CoreFault.{CoreFault}
+use Rattle.rb_core.specs.State.{State, Connection}
+use Rattle.rb_core.specs.Connections.{Taking, taking, live_connection}
+use Rattle.rb_core.specs.Connections.Taking.{TakesNone, GoesOn, Ends}
+use Rattle.rb_core.specs.Reading.{longest_call}
+use Rattle.rb_core.specs.Step.{Taken, Event, step}
+use Rattle.rb_core.specs.Step.Event.{Open, Bytes, Pending, Gave, Closed, NextLost, Datagram}
 
--- what it costs to serve a message over so many rows, where so many are left: the last reply is taken back, the
--- procedure walks the rows, those of a list are walked twice, and a reply of 9,000 bytes is written
+-- ---- parts of calls
+
+-- what it costs to serve a message over so many rows, where so many are left: the procedure walks the rows, those of a
+-- list are walked twice, and a reply of 9,000 bytes is written
 abbrev pub serve_cost : ℕ → ℕ → ℕ
 serve_cost rows left = 4 * rows + 4 * left + 9043
 
@@ -18,23 +30,86 @@ advance_cost = 2056
 abbrev pub pending_cost : ℕ
 pending_cost = 1029
 
--- what it costs to look a connection up among so many
+-- what it costs to count bytes as given: the look at how many are pending, the next fragment, or both buffers emptied
+abbrev pub give_cost : ℕ
+give_cost = 3 + advance_cost
+
+-- what it costs to look a connection up among so many, and its slot
 abbrev pub find_cost : ℕ → ℕ
 find_cost connections = 2 * connections + 3
 
--- what it costs to serve a record over so many rows, where so many are left: the look at its first 9,656 bytes, the call, and its reply's first fragment
-abbrev pub settle_cost : ℕ → ℕ → ℕ
-settle_cost rows left = 1 + 9656 + serve_cost rows left + show_cost
+-- what it costs to read a record that ended: its length, its first bytes, and the buffer emptied
+abbrev pub read_cost : ℕ
+read_cost = longest_call + 2
 
--- what it costs to give bytes: the look at how many are pending, the next fragment, or the buffer emptied
-abbrev pub give_cost : ℕ
-give_cost = 2 + advance_cost
+abbrev pub heard_cost : Option Heard → ℕ
+heard_cost None = 0
+heard_cost (Some heard) = read_cost
 
--- what it costs at most to look a connection up: there are 256 at most
-abbrev pub lookup_cost : ℕ
-lookup_cost = find_cost 256
+-- what it costs to take so many bytes of a piece, and to read the record that ended with them
+abbrev pub received_cost : Received → ℕ
+received_cost got = got.count + heard_cost got.heard
 
--- What an event costs at most over so many rows, where so many are left, beside the bytes that arrive: a connection is
--- looked up, what is pending is looked at, and a record is served, or a datagram and the look at its reply.
-abbrev pub event_cost : ℕ → ℕ → ℕ
-event_cost rows left = 2 * lookup_cost + pending_cost + settle_cost rows left
+abbrev pub taken_cost : Result Received CoreFault → ℕ
+taken_cost (Ok got) = received_cost got
+taken_cost (Err fault) = 0
+
+-- how many bytes were taken, none where the call was refused
+abbrev pub count_taken : Result Taken CoreFault → ℕ
+count_taken (Ok taken) = taken.count
+count_taken (Err fault) = 0
+
+abbrev pub has_ended : Taking → Bool
+has_ended TakesNone = false
+has_ended (GoesOn fed) = false
+has_ended (Ends n content) = true
+
+-- No record ends in the piece on the connection of the number.
+abbrev pub NoRecordEnds : State → ℕ → List ℕ → Type 0
+NoRecordEnds s id piece = IfSome (live_connection id s.connections.all) (λ c. has_ended (taking c.phase piece) ≡ false)
+
+-- what it costs to begin a reply on a connection that is found among so many
+abbrev pub settle_cost : ℕ → ℕ
+settle_cost connections = find_cost connections + show_cost + 1
+
+-- what it costs to answer the record that ended, among so many connections and rows
+abbrev pub answer_cost : ℕ → ℕ → ℕ → ℕ
+answer_cost connections rows left = read_cost + serve_cost rows left + settle_cost connections
+
+-- ---- events
+
+-- how many rows are live, and how many connections are there, Lost ones too
+abbrev pub row_count : State → ℕ
+row_count s = length (rows_in s.ledger)
+
+abbrev pub connection_count : State → ℕ
+connection_count s = length s.connections.all
+
+abbrev pub ended_cost : State → State → Taking → ℕ
+ended_cost s after TakesNone = 0
+ended_cost s after (GoesOn fed) = 0
+ended_cost s after (Ends n content) = answer_cost (connection_count s) (row_count s) (row_count after)
+
+-- by whether a record ended
+abbrev pub piece_cost : State → State → List ℕ → Option Connection → ℕ
+piece_cost s after piece None = 0
+piece_cost s after piece (Some c) = length piece + ended_cost s after (taking c.phase piece)
+
+-- what an event costs from a state, where it leaves this one
+abbrev pub cost_between : State → State → Event → ℕ
+cost_between s after (Open now peer) = 4
+cost_between s after (Bytes now id piece) =
+    find_cost (connection_count s) + piece_cost s after piece (live_connection id s.connections.all)
+cost_between s after (Pending id) = find_cost (connection_count s) + pending_cost
+cost_between s after (Gave now id n) = 2 * find_cost (connection_count s) + 1 + give_cost
+cost_between s after (Closed id) = find_cost (connection_count s) + 3
+cost_between s after NextLost = find_cost (connection_count s)
+cost_between s after (Datagram now peer content) = serve_cost (row_count s) (row_count after) + 9002
+
+abbrev pub event_cost : State → Event → ℕ
+event_cost s event = cost_between s (step s event).1 event
+
+-- the sum of what each event costs from the state that it meets
+abbrev pub run_cost : State → List Event → ℕ
+run_cost s [] = 0
+run_cost s (event ∷ events) = event_cost s event + run_cost (step s event).1 events

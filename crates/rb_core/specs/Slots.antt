@@ -1,34 +1,70 @@
 -- What the slots of connections hold, and the connections that they stand for.
-use Rattle.std.specs.Prelude.{◌≡◌, ℕ, ◌+◌, ◌≤◌, ◌==◌, not, Bool, true, false, ◌&&◌, List, [], ◌∷◌, Option, Some, find, length, All, ⊤}
+use Rattle.std.specs.Prelude.{◌≡◌, ℕ, ◌+◌, ◌≤◌, ◌==◌, not, Bool, true, false, ◌&&◌, List, [], ◌∷◌, Option, Some, None, find, length, All, ⊤}
 use Rattle.std.specs.List.{AllZip, list_any}
 use Rattle.std.specs.Map.{values_of}
-use Rattle.rb_rpc.specs.Marks.{StandsForFed}
 use Rattle.rb_xdr.specs.Kept.{Kept}
 use Rattle.rb_xdr.specs.Pool.{Pool, HasDistinctKeys}
+use Rattle.rb_rpc.specs.declared.marks.Marks.{Marks}
 use Rattle.rb_core.specs.declared.slot.Slot.{Slot}
 use Rattle.rb_core.specs.declared.slot.Buffers.{Buffers}
 use Rattle.rb_core.specs.declared.slot.Stage.{Stage}
 use Rattle.rb_core.specs.declared.slot.Stage.TheVariants as stages
+use Rattle.rb_core.specs.declared.slot.Received.{Received}
 use Rattle.rb_core.specs.declared.slot.Wanted.{Wanted}
 use Rattle.rb_core.specs.declared.slot.Wanted.TheVariants as wanted
-use Rattle.rb_core.specs.Connections.{is_lost, is_live, has_number}
+use Rattle.rb_core.specs.Calls.{message_of}
 use Rattle.rb_core.specs.State.{Phase, Connection, Connections}
 use Rattle.rb_core.specs.State.Phase.{Idle, Reading, Owing, Lost}
+use Rattle.rb_core.specs.Connections.{Taking, taking, mark_when_fed, reading, is_lost, is_live, has_number}
+use Rattle.rb_core.specs.Connections.Taking.{TakesNone, GoesOn, Ends}
 use Rattle.rb_core.specs.Giving.{longest_fragment, IsGiving}
 use Rattle.rb_core.specs.Reading.{longest_call, IsReading}
 
--- the slot holds what there is to know of the phase
-abbrev pub HoldsPhase : Slot → Phase → Type 0
-HoldsPhase slot Idle = (slot.stage ≡ stages.Idle) × IsReading slot.marks slot.buffer []
-HoldsPhase slot (Reading fed) = (slot.stage ≡ stages.Reading) × IsReading slot.marks slot.buffer fed
-HoldsPhase slot (Owing o) = (slot.stage ≡ stages.Owing) × StandsForFed slot.marks [] × IsGiving slot.buffer.bytes slot.window slot.given o
-HoldsPhase slot Lost = slot.stage ≡ stages.Lost
+-- An act on what something stands for, which gives a result: from whatever the old one stood for, this result came,
+-- and the new one stands for what is there after the act.
+pub record Acts {Held Plain Result : Type 0} (StandsFor : Held → Plain → Type 0) (act : Plain → Result × Plain) (old new : Held) (result : Result) : Type 0 where
+  pub gives : (x : Plain) → StandsFor old x → result ≡ (act x).0
+  pub stands : (x : Plain) → StandsFor old x → StandsFor new (act x).1
+
+-- ---- one slot
+
+-- The stage and the buffers hold what there is to know of the phase.
+abbrev pub StandsForPhase : Stage → Kept → Kept → Phase → Type 0
+StandsForPhase stages.Idle buffer window Idle = (buffer.bytes ≡ []) × (window.bytes ≡ [])
+StandsForPhase (stages.Reading marks) buffer window (Reading fed) = IsReading marks buffer fed × (window.bytes ≡ [])
+StandsForPhase (stages.Owing given) buffer window (Owing o) = IsGiving buffer.bytes window given o
+StandsForPhase stages.Lost buffer window Lost = ⊤
+StandsForPhase stage buffer window phase = ⊥
 
 pub record StandsForConnection (slot : Slot) (c : Connection) : Type 0 where
   pub number : slot.number ≡ c.number
   pub peer : slot.peer ≡ c.peer
   pub mark : slot.mark ≡ c.mark
-  pub phase : HoldsPhase slot c.phase
+  pub phase : StandsForPhase slot.stage slot.buffer slot.window c.phase
+
+-- The slot is about to be fed a piece behind these bytes of a record.
+pub record IsBeforePiece (slot : Slot) (marks : Marks) (clock : ℕ) (c : Connection) (fed : List ℕ) : Type 0 where
+  pub number : slot.number ≡ c.number
+  pub peer : slot.peer ≡ c.peer
+  pub mark : slot.mark ≡ mark_when_fed clock c.mark c.phase
+  pub reads : IsReading marks slot.buffer fed
+  pub window : slot.window.bytes ≡ []
+
+-- what the core is told of a piece that a connection takes
+abbrev pub received : List ℕ → Connection → Taking → Received
+received piece c TakesNone = record { count = 0; heard = None }
+received piece c (GoesOn fed) = record { count = length piece; heard = None }
+received piece c (Ends n content) = record { count = n; heard = Some (record { peer = c.peer; message = message_of content }) }
+
+-- the connection meanwhile: it is Idle until the record that ended is answered
+abbrev pub fed_with : ℕ → Connection → Taking → Connection
+fed_with clock c TakesNone = c
+fed_with clock c (GoesOn fed) = reading clock fed c
+fed_with clock c (Ends n content) = record c { phase = Idle; mark = clock }
+
+-- a piece is taken, and what it says is not answered yet
+unfoldable pub feeding : ℕ → List ℕ → Connection → Received × Connection
+feeding clock piece c = (received piece c (taking c.phase piece), fed_with clock c (taking c.phase piece))
 
 -- ---- the table
 
@@ -44,11 +80,13 @@ pub record StandsForConnections (table : Table) (connections : Connections) : Ty
   pub all : AllZip StandsForConnection (values_of table.slots) connections.all
   pub next : connections.next ≡ table.given + 1
 
+-- ---- looking for a slot
+
 abbrev pub is_lost_stage : Stage → Bool
 is_lost_stage stages.Lost = true
 is_lost_stage stages.Idle = false
-is_lost_stage stages.Reading = false
-is_lost_stage stages.Owing = false
+is_lost_stage (stages.Reading marks) = false
+is_lost_stage (stages.Owing given) = false
 
 unfoldable pub is_wanted_slot : Wanted → Slot → Bool
 is_wanted_slot (wanted.Live id) slot = slot.number == id && not (is_lost_stage slot.stage)
@@ -70,6 +108,8 @@ pub record IsFound (sought : Wanted) (all : List Connection) (slot : Slot) : Typ
   pub found : find (is_wanted sought) all ≡ Some connection
   pub stands : StandsForConnection slot connection
 
+-- ---- what is true of all slots and buffers
+
 abbrev pub is_numbered : ℕ → Slot → Bool
 is_numbered id slot = slot.number == id
 
@@ -88,8 +128,26 @@ pub record AreBuffers (tie : ℕ) (buffer window : Kept) : Type 0 where
 abbrev pub HasBuffers : ℕ → Slot → Type 0
 HasBuffers tie slot = AreBuffers tie slot.buffer slot.window
 
-abbrev pub AreSpare : ℕ → Buffers → Type 0
-AreSpare tie b = AreBuffers tie b.buffer b.window
+-- buffers that no connection has are empty
+pub record AreSpare (tie : ℕ) (b : Buffers) : Type 0 where
+  pub buffers : AreBuffers tie b.buffer b.window
+  pub buffer_empty : b.buffer.bytes ≡ []
+  pub window_empty : b.window.bytes ≡ []
+
+-- a buffer to write a reply in, which a connection takes in exchange for its own
+pub record IsDraft (tie : ℕ) (kept : Kept) : Type 0 where
+  pub tie_is : kept.tie ≡ tie
+  pub cap : kept.cap ≡ longest_call
+
+-- the slot goes on having its number, and buffers of this meter
+pub record StaysSlot (tie : ℕ) (old new : Slot) : Type 0 where
+  pub number : new.number ≡ old.number
+  pub buffers : HasBuffers tie new
+
+-- as many connections as before may be there, counted by the same meter
+pub record StaysTable (old new : Table) : Type 0 where
+  pub conns : new.conns ≡ old.conns
+  pub tie : new.tie ≡ old.tie
 
 -- What is true of all that is kept of connections: each connection that is not open has its buffers spare.
 pub record IsTable (slots : Pool Slot) (spare : Pool Buffers) (given conns : ℕ) : Type 0 where

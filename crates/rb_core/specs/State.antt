@@ -1,9 +1,10 @@
 -- What the daemon knows between two events, as plain data.
 use Rattle.std.specs.Prelude.{ℕ, ◌-◌, ◌^◌, nat_le, max, Bool, ◌&&◌, List, []}
 use Rattle.rb_rpc.specs.declared.peer.Peer.{Peer}
-use Rattle.rb_core.specs.declared.types.Limits.{Limits}
 use Rattle.rb_proto.specs.declared.listener.Listener.{Listener}
-use Rattle.rb_registry.specs.Rows.{Change}
+use Rattle.rb_proto.specs.Callers.{own_rows}
+use Rattle.rb_proto.specs.Ledger.{Ledger}
+use Rattle.rb_core.specs.declared.types.Limits.{Limits}
 
 -- what no event changes: the first call that is forwarded has the first xid
 pub record Setting : Type 0 where
@@ -25,6 +26,7 @@ pub data Phase : Type 0 where
   Owing : Owed → Phase
   Lost : Phase
 
+-- the mark is the moment from which its deadline counts
 pub record Connection : Type 0 where
   pub number : ℕ
   pub peer : Peer
@@ -38,12 +40,12 @@ pub record Connections : Type 0 where
 
 -- ---- the whole
 
--- The accepted changes give the rows. `reply` is the reply to the last datagram.
+-- The ledger has what is remembered of the calls. `reply` is the reply to the last datagram.
 pub record State : Type 0 where
   pub setting : Setting
   pub clock : ℕ
   pub connections : Connections
-  pub changes : List Change
+  pub ledger : Ledger
   pub reply : List ℕ
 
 abbrev pub are_good : Limits → Bool
@@ -56,7 +58,7 @@ opening limits listener first_xid now = record {
   setting = record { limits = limits; listener = listener; first_xid = first_xid };
   clock = now;
   connections = record { next = 1; all = [] };
-  changes = [];
+  ledger = record { own = own_rows listener; changes = [] };
   reply = [];
 }
 

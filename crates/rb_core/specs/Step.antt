@@ -1,28 +1,123 @@
 -- The step of each event: what it gives, and the state after it.
-use Rattle.std.specs.Prelude.{ℕ, if◌then◌else◌, List, [], Option, Result, Ok, Err}
+use Rattle.std.specs.Prelude.{ℕ, max, nat_lt, Bool, false, if◌then◌else◌, List, [], length, Option, Some, None, Result, Ok, Err}
 use Rattle.rb_rpc.specs.declared.peer.Peer.{Peer}
-use Rattle.rb_rpc.specs.declared.peer.Caller.TheVariants.{Udp}
-use Rattle.rb_core.specs.declared.types.Answer.{Answer}
-use Rattle.rb_core.specs.declared.types.Answer.TheVariants as answers
-use Rattle.rb_core.specs.State.{State, at_moment}
-use Rattle.rb_core.specs.Serve.{Served, Served as said, serve}
+use Rattle.rb_rpc.specs.declared.peer.Caller.{Caller}
+use Rattle.rb_rpc.specs.declared.peer.Caller.TheVariants.{Tcp, Udp}
+use Rattle.rb_proto.specs.declared.context.Context.{Context}
+use Rattle.rb_proto.specs.Ledger.{Ledger}
+use Rattle.rb_core.specs.declared.message.Message.{Message}
 use Rattle.rb_core.specs.declared.types.CoreFault.{CoreFault}
-use Rattle.rb_core.specs.Connections.{open_connection, next_lost, closed}
-use Rattle.rb_core.specs.Pending.{pending, gave, is_too_much}
-use Rattle.rb_core.specs.Taking.{Taken, bytes}
+use Rattle.rb_core.specs.declared.types.CoreFault.TheVariants.{NoMemory, BadLimits, Full, Spent, Gone}
+use Rattle.rb_core.specs.State.{State, Connection, Connections, at_moment}
+use Rattle.rb_core.specs.Calls.{Outcome, Outcome as outcomes, message_of, outcome, is_no_call}
+use Rattle.rb_core.specs.Connections.{Taking, taking, reading, settled, giving, pending_in, live_connection, on_live, changed_at, opening_of, closing_of, first_lost}
+use Rattle.rb_core.specs.Connections.Taking.{TakesNone, GoesOn, Ends}
+pub use Rattle.rb_core.specs.declared.types.Taken.{Taken}
+
+-- ---- calls
+
+-- what a call from a caller sees
+abbrev pub context_in : State → Caller → Context
+context_in s caller = record {
+  listener = s.setting.listener;
+  limit = s.setting.limits.rows;
+  clock = s.clock;
+  caller = caller;
+}
+
+abbrev pub with_ledger : State → Outcome × Ledger → Outcome × State
+with_ledger s (given, ledger) = (given, record s { ledger = ledger })
+
+-- a message from a caller is answered
+unfoldable pub serve : State → Caller → Message → Outcome × State
+serve s caller message = with_ledger s (outcome (context_in s caller) message s.ledger)
+
+-- ---- connections
+
+-- the live connection of the number is changed
+abbrev pub on_connection : ℕ → (Connection → Connection) → State → State
+on_connection id change s = record s { connections = changed_at id change s.connections }
+
+-- A call on the connections at a moment: where it is refused the state stays, its clock too.
+abbrev pub moved : {A : Type 0} → ℕ → State → Result A CoreFault × Connections → Result A CoreFault × State
+moved now s (Err fault, connections) = (Err fault, s)
+moved now s (Ok x, connections) = (Ok x, record (at_moment now s) { connections = connections })
+
+-- ---- bytes that arrive on a connection
+
+-- the connection goes on as its record is answered: whether it is Lost now
+abbrev pub settled_in : ℕ → Outcome × State → Bool × State
+settled_in id (given, s) = (is_no_call given, on_connection id (settled s.clock given) s)
+
+-- a message on a connection is answered
+unfoldable pub answering : State → ℕ → Peer → Message → Bool × State
+answering s id peer message = settled_in id (serve s (Tcp id peer) message)
+
+abbrev pub with_count : ℕ → Bool × State → Taken × State
+with_count n (closed, s) = (record { count = n; closed = closed }, s)
+
+-- Nothing is taken; or all, and no record ends; or all up to the end of a record, which is answered.
+abbrev pub when_taken : State → ℕ → List ℕ → Connection → Taking → Taken × State
+when_taken s id piece c TakesNone = (record { count = 0; closed = false }, s)
+when_taken s id piece c (GoesOn fed) = (record { count = length piece; closed = false }, on_connection id (reading s.clock fed) s)
+when_taken s id piece c (Ends n content) = with_count n (answering s id c.peer (message_of content))
+
+abbrev pub bytes_to : State → ℕ → ℕ → List ℕ → Option Connection → Result Taken CoreFault × State
+bytes_to s now id piece None = (Err Gone, s)
+bytes_to s now id piece (Some c) =
+    let after : Taken × State = when_taken (at_moment now s) id piece c (taking c.phase piece) in (Ok after.0, after.1)
+
+unfoldable pub bytes : State → ℕ → ℕ → List ℕ → Result Taken CoreFault × State
+bytes s now id piece = bytes_to s now id piece (live_connection id s.connections.all)
+
+-- ---- bytes that are given on a connection
+
+abbrev pub pending_on : Option Connection → Result (List ℕ) CoreFault
+pending_on None = Err Gone
+pending_on (Some c) = Ok (pending_in c.phase)
+
+-- the rest of the current fragment
+unfoldable pub pending : State → ℕ → Result (List ℕ) CoreFault
+pending s id = pending_on (live_connection id s.connections.all)
+
+-- n bytes of it were given, or as many as there are
+unfoldable pub gave : State → ℕ → ℕ → ℕ → Result (Unit {0}) CoreFault × State
+gave s now id n = moved now s (on_live id (giving (max s.clock now) n) s.connections)
+
+-- how many bytes that is
+abbrev pub pending_count : Result (List ℕ) CoreFault → Result ℕ CoreFault
+pending_count (Ok bytes) = Ok (length bytes)
+pending_count (Err fault) = Err fault
+
+-- more than is pending
+abbrev pub is_too_much : ℕ → Result (List ℕ) CoreFault → Bool
+is_too_much n (Err fault) = false
+is_too_much n (Ok bytes) = nat_lt (length bytes) n
+
+-- ---- connections that come and go
+
+unfoldable pub open_connection : State → ℕ → Peer → Result ℕ CoreFault × State
+open_connection s now peer = moved now s (opening_of s.setting.limits.conns peer (max s.clock now) s.connections)
+
+-- (closing takes no moment)
+unfoldable pub close_connection : State → ℕ → Result (Unit {0}) CoreFault × State
+close_connection s id =
+    let after : Result (Unit {0}) CoreFault × Connections = closing_of id s.connections in
+    (after.0, record s { connections = after.1 })
+
+-- the Lost connection of least number
+unfoldable pub next_lost : State → Option ℕ
+next_lost s = first_lost s.connections
 
 -- ---- datagrams
 
 -- the last reply is taken back
-abbrev pub emptied : State → State
-emptied s = record s { reply = [] }
+abbrev pub with_reply : Outcome × State → Outcome × State
+with_reply (outcomes.NoCall, s) = (outcomes.NoCall, record s { reply = [] })
+with_reply (outcomes.Reply reply, s) = (outcomes.Reply reply, record s { reply = reply })
 
-abbrev pub answered_with : Served × State → Answer × State
-answered_with (said.Closing, s) = (answers.Silent, s)
-answered_with (said.Replied reply, s) = (answers.Reply, record s { reply = reply })
-
-unfoldable pub datagram : State → ℕ → Peer → List ℕ → Answer × State
-datagram s now peer message = answered_with (serve (at_moment now (emptied s)) (Udp peer) message)
+unfoldable pub datagram : State → ℕ → Peer → List ℕ → Outcome × State
+datagram s now peer content = with_reply (serve (at_moment now s) (Udp peer) (message_of content))
 
 -- ---- events, one for each line of a script
 
@@ -55,16 +150,27 @@ output_or show (Err fault, s) = (Refused fault, s)
 abbrev pub show_taken : Taken → Output
 show_taken t = if t.closed then TookAndClosed t.count else Took t.count
 
+abbrev pub show_done : Unit {0} → Output
+show_done u = Done
+
 -- where there is a reply, the event is the datagram and the look at the reply after it
-abbrev pub show_answer : Answer × State → Output × State
-show_answer (answers.Reply, s) = (Replied s.reply, s)
-show_answer (answers.Silent, s) = (Silent, s)
+abbrev pub show_outcome : Outcome × State → Output × State
+show_outcome (outcomes.NoCall, s) = (Silent, s)
+show_outcome (outcomes.Reply reply, s) = (Replied reply, s)
 
 unfoldable pub step : State → Event → Output × State
 step s (Open now peer) = output_or Opened (open_connection s now peer)
 step s (Bytes now id piece) = output_or show_taken (bytes s now id piece)
 step s (Pending id) = output_or IsPending (pending s id, s)
-step s (Gave now id n) = if is_too_much n (pending s id) then (TooMuch, s) else output_or (λ u. Done) (gave s now id n)
-step s (Closed id) = output_or (λ u. Done) (closed s id)
+step s (Gave now id n) = if is_too_much n (pending s id) then (TooMuch, s) else output_or show_done (gave s now id n)
+step s (Closed id) = output_or show_done (close_connection s id)
 step s NextLost = (LostIs (next_lost s), s)
-step s (Datagram now peer message) = show_answer (datagram s now peer message)
+step s (Datagram now peer content) = show_outcome (datagram s now peer content)
+
+-- the number of a refusal
+abbrev pub fault_number : CoreFault → ℕ
+fault_number NoMemory = 1
+fault_number BadLimits = 2
+fault_number Full = 3
+fault_number Spent = 4
+fault_number Gone = 5

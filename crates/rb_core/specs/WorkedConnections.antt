@@ -8,6 +8,8 @@ use Rattle.rb_core.specs.Step.{Event}
 use Rattle.rb_core.specs.Step.Event.{Open, Bytes, Pending, Gave, Closed, NextLost}
 use Rattle.rb_core.specs.Step.Output.{Opened, Refused, TooMuch, Took, TookAndClosed, IsPending, Done, LostIs}
 use Rattle.rb_core.specs.Run.{run}
+use Rattle.rb_core.specs.Calls.Outcome.{NoCall, Reply}
+use Rattle.rb_core.specs.Sessions.{Exchange, session}
 use Rattle.rb_core.specs.Worked.{fresh, loopback, call_by_none, accepted}
 
 abbrev pub opens : Event
@@ -79,6 +81,40 @@ OneRecordAtATime =
     (opens ∷ Bytes 0 1 (in_one (null_call 1) ++ in_one (null_call 2)) ∷ Bytes 0 1 (in_one (null_call 2)) ∷ Gave 0 1 28
     ∷ Bytes 0 1 (in_one (null_call 2)) ∷ Pending 1 ∷ [])
     ≡ Opened 1 ∷ Took 44 ∷ Took 0 ∷ Done ∷ Took 44 ∷ IsPending (null_reply 2) ∷ []
+
+-- what passed on the connection then
+abbrev pub null_called : ℕ → Exchange
+null_called xid = record { content = null_call xid; said = Reply (accepted xid []) }
+
+abbrev pub OneRecordAtATimePasses : Type 0
+OneRecordAtATimePasses =
+    session fresh 1
+    (opens ∷ Bytes 0 1 (in_one (null_call 1) ++ in_one (null_call 2)) ∷ Bytes 0 1 (in_one (null_call 2)) ∷ Gave 0 1 28
+    ∷ Bytes 0 1 (in_one (null_call 2) ++ in_one (null_call 3)) ∷ Gave 0 1 3 ∷ Bytes 0 1 (in_one (null_call 3)) ∷ Gave 0 1 25
+    ∷ Bytes 0 1 (take 7 (in_one (null_call 3))) ∷ [])
+    ≡ record {
+      taken = in_one (null_call 1) ++ in_one (null_call 2) ++ take 7 (in_one (null_call 3));
+      given = null_reply 1 ++ null_reply 2;
+      unfinished = take 7 (in_one (null_call 3));
+      calls = null_called 1 ∷ null_called 2 ∷ [];
+    }
+
+-- two words
+abbrev pub no_call : List ℕ
+no_call = words (5 ∷ 0 ∷ [])
+
+-- what is no call is a record without a reply, and nothing is taken behind it
+abbrev pub NoCallPasses : Type 0
+NoCallPasses =
+    session fresh 1
+    (opens ∷ Bytes 0 1 (in_one (null_call 1)) ∷ Gave 0 1 28 ∷ Bytes 0 1 (in_one no_call ++ in_one (null_call 2))
+    ∷ Bytes 0 1 (in_one (null_call 2)) ∷ [])
+    ≡ record {
+      taken = in_one (null_call 1) ++ in_one no_call;
+      given = null_reply 1;
+      unfinished = [];
+      calls = null_called 1 ∷ record { content = no_call; said = NoCall } ∷ [];
+    }
 
 -- ---- giving
 

@@ -1,26 +1,20 @@
 //! The connections that are open, in the order of their openings.
-ghost use Rattle.std.specs.Prelude.{◌≡◌, ◌≤◌, ◌<◌, ◌+◌, ◌*◌, ◌-◌, ◌^◌, ◌↔◌, ◌++◌, ◌∷◌, [], ℕ, List, All, length, not, find, filter, IfOk, IsErrOf, OnErr, OnOk, option_copied};
-ghost use Rattle.std.specs.List.{list_any};
+ghost use Rattle.std.specs.Prelude.{◌≡◌, ◌<◌, ◌+◌, ◌*◌, ◌++◌, ◌∷◌, [], All, length, IfOk};
 ghost use Rattle.std.specs.Option.{option_map};
-ghost use Rattle.std.specs.Bool.{OnFalse};
 ghost use Rattle.std.specs.Map.{values_of};
-ghost use Rattle.rb_xdr.specs.Meter.{Pays, PaysAtMost};
+ghost use Rattle.rb_xdr.specs.Meter.{PaysAtMost};
 ghost use Rattle.rb_xdr.specs.Pool.{HasDistinctKeys};
-ghost use Rattle.rb_xdr.specs.Places.{to_come};
-ghost use Rattle.rb_core.specs.Slots.{wanted_slot, AreSpare};
+ghost use Rattle.rb_core.specs.Slots.{wanted_slot, AreBuffers, AreSpare};
 
-use crate::serving::{give_bytes, pending_of, take_piece};
-use crate::slot::{Buffers, Slot, Stage, Wanted};
-use crate::types::{CoreFault, Taken};
-use rb_proto::Listener;
-use rb_registry::Registry;
-use rb_rpc::{Marks, Peer};
+use crate::slot::{Buffers, Received, Slot, Stage, Wanted};
+use crate::types::{CoreFault, Outcome};
+use rb_rpc::Peer;
 use rb_xdr::{Kept, Meter, NoMemory, Pool};
 use std::alloc::Global;
 use std::marker::Model;
 
 /// So many first bytes of a record decide what it says, and every reply is shorter.
-const LONGEST_CALL: usize = 9656;
+pub const LONGEST_CALL: usize = 9656;
 
 /// A whole marked fragment of a reply.
 pub const LONGEST_FRAGMENT: usize = 1028;
@@ -44,23 +38,7 @@ impl Model for Connections {
     ghost invariant = { λ c. IsTable c.slots c.spare c.given c.conns };
 }
 
-impl Slot {
-    ghost use Rattle.std.specs.Prelude.{◌≡◌};
-    ghost use Rattle.rb_core.specs.Slots.{is_wanted_slot};
-
-    #[tactic(auto, unfolding(crate::specs::Slots::is_wanted_slot))]
-    fn is_wanted(&self, wanted: Wanted) -> bool
-        ensures { result ≡ is_wanted_slot wanted self.now }
-    {
-        match wanted {
-            Wanted::Live(id) => self.number == id && self.stage != Stage::Lost,
-            Wanted::Numbered(id) => self.number == id,
-            Wanted::AnyLost => self.stage == Stage::Lost,
-        }
-    }
-}
-
-/// Takes the first spare buffers out, emptied.
+/// Takes the first spare buffers out.
 fn take_buffers(spare: &mut Pool<Buffers>, meter: &mut Meter) -> Buffers
     requires tie { meter.old.tie ≡ spare.old.tie }
     requires some { 0 < length spare.old.entries }
@@ -70,35 +48,35 @@ fn take_buffers(spare: &mut Pool<Buffers>, meter: &mut Meter) -> Buffers
     ensures buffers { All (AreSpare spare.old.tie) (values_of spare.new.entries) }
     ensures distinct { HasDistinctKeys spare.new.entries }
     ensures made { AreSpare spare.old.tie result }
-    ensures empty { result.buffer.bytes ≡ [] }
     ensures cap { spare.new.cap ≡ spare.old.cap }
     ensures tie { spare.new.tie ≡ spare.old.tie }
-    ensures cost { PaysAtMost meter.old meter.new 3 }
+    ensures cost { PaysAtMost meter.old meter.new 2 }
 {
     let Some(key) = spare.first(meter) else {
         unreachable!()
     };
-    let Some(mut buffers) = spare.remove(key, meter) else {
+    let Some(buffers) = spare.remove(key, meter) else {
         unreachable!()
     };
-    buffers.buffer.clear(meter);
     buffers
 }
 
-/// Adds buffers to the spare ones.
-fn put_buffers(spare: &mut Pool<Buffers>, buffers: Buffers, meter: &mut Meter)
+/// Adds buffers to the spare ones, emptied.
+fn put_buffers(spare: &mut Pool<Buffers>, mut buffers: Buffers, meter: &mut Meter)
     requires tie { meter.old.tie ≡ spare.old.tie }
     requires room { length spare.old.entries < spare.old.cap }
     requires buffers { All (AreSpare spare.old.tie) (values_of spare.old.entries) }
-    requires made { AreSpare spare.old.tie buffers }
+    requires made { AreBuffers spare.old.tie buffers.buffer buffers.window }
     requires distinct { HasDistinctKeys spare.old.entries }
     ensures more { length spare.new.entries ≡ length spare.old.entries + 1 }
     ensures buffers { All (AreSpare spare.old.tie) (values_of spare.new.entries) }
     ensures distinct { HasDistinctKeys spare.new.entries }
     ensures cap { spare.new.cap ≡ spare.old.cap }
     ensures tie { spare.new.tie ≡ spare.old.tie }
-    ensures cost { PaysAtMost meter.old meter.new 1 }
+    ensures cost { PaysAtMost meter.old meter.new 3 }
 {
+    buffers.buffer.clear(meter);
+    buffers.window.clear(meter);
     let Ok(_) = spare.insert(buffers, meter) else {
         unreachable!()
     };
@@ -130,7 +108,7 @@ fn make_spare(alloc: Global, conns: usize, meter: &mut Meter) -> Result<Pool<Buf
     ensures tie { IfOk result (λ spare. spare.tie ≡ meter.old.tie) }
     ensures buffers { IfOk result
         (λ spare. All (AreSpare meter.old.tie) (values_of spare.entries)) }
-    ensures cost { PaysAtMost meter.old meter.new conns }
+    ensures cost { PaysAtMost meter.old meter.new (3 * conns) }
 {
     let mut spare = Pool::new(alloc, conns, meter)?;
     for _i in 0..conns {
@@ -160,55 +138,20 @@ fn wanted_key(slots: &Pool<Slot>, wanted: Wanted, meter: &mut Meter) -> Option<u
 }
 
 impl Connections {
-    ghost use Rattle.std.specs.Prelude.{◌≡◌, ◌≤◌, ◌+◌, ◌*◌, [], ◌∷◌, length, find, None, Some, false, Ok, Err, List, MatchOption, MatchResult, OnOk, OnErr, IfOk, IfErr, IfSome};
-    ghost use Rattle.rb_registry.specs.declared.row.Row.{Row};
-    ghost use Rattle.rb_registry.specs.Rows.{Change};
-    ghost use Rattle.rb_registry.specs.Registry.{StandsForChanges, rows_of};
+    ghost use Rattle.std.specs.Prelude.{◌≡◌, ◌≤◌, ◌<◌, ◌+◌, ◌*◌, [], length, find, None, Ok, Err, MatchOption, MatchResult, OnErr, IfOk, IfSome};
+    ghost use Rattle.rb_core.specs.Connections.{on_live, live_connection, giving, settled, changed_at, opening_of, closing_of, first_lost};
+    ghost use Rattle.rb_core.specs.State.{Connections as Open};
+    ghost use Rattle.rb_core.specs.StandsFor.{outcome_with};
+    ghost use Rattle.rb_core.specs.Step.{pending_on, pending_count};
     ghost use Rattle.rb_core.specs.Giving.{longest_fragment};
-    ghost use Rattle.rb_core.specs.Pending.{lent};
-    ghost use Rattle.rb_core.specs.Taking.{count_taken};
-    ghost use Rattle.rb_core.specs.Took.{HasTaken, HasGiven};
-    ghost use Rattle.rb_core.specs.State.{Connections as Open, Connection};
-    ghost use Rattle.rb_core.specs.State.Phase.{Idle};
-    ghost use Rattle.rb_core.specs.Connections.{number_for, first_lost, without_number, is_there, with_new, live_connection};
-    ghost use Rattle.rb_core.specs.Costs.{find_cost, settle_cost, give_cost, pending_cost};
-    ghost use Rattle.rb_core.specs.Slots.{StandsForConnections, IsFound, is_wanted, HasBuffers};
-
-    /// The first connection that is wanted.
-    fn first(&self, wanted: Wanted, meter: &mut Meter) -> Option<&Slot>
-        requires { meter.old.tie ≡ self.now.tie }
-        ensures found { (c : Open) → StandsForConnections self.now c
-            → MatchOption result (find (is_wanted wanted) c.all ≡ None)
-            (λ slot. IsFound wanted c.all slot.now) }
-        ensures buffers { IfSome result (λ slot. HasBuffers self.now.tie slot.now) }
-        ensures cost { PaysAtMost meter.old meter.new (find_cost self.now.conns) }
-    {
-        let Some(key) = wanted_key(&self.slots, wanted, meter) else {
-            return None;
-        };
-        match self.slots.get(key, meter) {
-            Some(slot) => Some(slot),
-            None => None,
-        }
-    }
-
-    /// The least number of those that are Lost.
-    pub fn next_lost(&self, meter: &mut Meter) -> Option<u64>
-        requires { meter.old.tie ≡ self.now.tie }
-        ensures lost { (c : Open) → StandsForConnections self.now c → result ≡ first_lost c.all }
-        ensures cost { PaysAtMost meter.old meter.new (find_cost self.now.conns) }
-    {
-        match self.first(Wanted::AnyLost, meter) {
-            Some(slot) => Some(slot.number),
-            None => None,
-        }
-    }
+    ghost use Rattle.rb_core.specs.Costs.{find_cost, taken_cost, settle_cost, give_cost, pending_cost};
+    ghost use Rattle.rb_core.specs.Slots.{Acts, StandsForConnections, StaysTable, IsFound, IsDraft, is_wanted, feeding, HasBuffers};
 
     /// No connections yet, of at most so many. All of their memory is taken.
     pub fn new(alloc: Global, conns: usize, meter: &mut Meter) -> Result<Connections, NoMemory>
         ensures empty { IfOk result
             (λ c. c ≡ record { slots = []; given = 0; conns = conns; tie = meter.old.tie }) }
-        ensures cost { PaysAtMost meter.old meter.new conns }
+        ensures cost { PaysAtMost meter.old meter.new (3 * conns) }
     {
         let spare = make_spare(alloc, conns, meter)?;
         Ok(Connections {
@@ -223,14 +166,11 @@ impl Connections {
     /// them, else `Spent` where no number is left.
     pub fn open(&mut self, clock: u64, peer: Peer, meter: &mut Meter) -> Result<u64, CoreFault>
         requires { meter.old.tie ≡ self.old.tie }
-        ensures number { (c : Open) → StandsForConnections self.old c
-            → result ≡ number_for self.old.conns c.all c.next }
-        ensures ok { (c : Open) → StandsForConnections self.old c
-            → OnOk result (StandsForConnections self.new (with_new peer clock c)) }
-        ensures err { OnErr result (self.new ≡ self.old) }
-        ensures conns { self.new.conns ≡ self.old.conns }
-        ensures tie { self.new.tie ≡ self.old.tie }
-        ensures cost { PaysAtMost meter.old meter.new 5 }
+        ensures acts { Acts StandsForConnections (opening_of self.old.conns peer clock)
+            self.old self.new result }
+        ensures refused { OnErr result (self.new ≡ self.old) }
+        ensures stays { StaysTable self.old self.new }
+        ensures cost { PaysAtMost meter.old meter.new 4 }
     {
         if self.slots.len(meter) >= self.conns {
             return Err(CoreFault::Full);
@@ -245,8 +185,6 @@ impl Connections {
             peer,
             stage: Stage::Idle,
             mark: clock,
-            marks: Marks::new(),
-            given: 0,
             buffer,
             window,
         };
@@ -254,57 +192,43 @@ impl Connections {
         Ok(self.given)
     }
 
-    /// Removes the connection of the number, live or Lost. It says whether there was one.
-    pub fn close(&mut self, id: u64, meter: &mut Meter) -> bool
+    /// Removes the connection of the number, live or Lost: `Gone` where there is none.
+    pub fn close(&mut self, id: u64, meter: &mut Meter) -> Result<(), CoreFault>
         requires { meter.old.tie ≡ self.old.tie }
-        ensures there { (c : Open) → StandsForConnections self.old c → result ≡ is_there id c.all }
-        ensures gone { (c : Open) → StandsForConnections self.old c
-            → StandsForConnections self.new (record c { all = without_number id c.all }) }
-        ensures refused { result ≡ false → self.new ≡ self.old }
-        ensures conns { self.new.conns ≡ self.old.conns }
-        ensures tie { self.new.tie ≡ self.old.tie }
-        ensures cost { PaysAtMost meter.old meter.new (find_cost self.old.conns + 1) }
+        ensures acts { Acts StandsForConnections (closing_of id) self.old self.new result }
+        ensures refused { OnErr result (self.new ≡ self.old) }
+        ensures stays { StaysTable self.old self.new }
+        ensures cost { PaysAtMost meter.old meter.new (find_cost (length self.old.slots) + 3) }
     {
         let Some(key) = wanted_key(&self.slots, Wanted::Numbered(id), meter) else {
-            return false;
+            return Err(CoreFault::Gone);
         };
         let Some(slot) = self.slots.remove(key, meter) else {
             unreachable!()
         };
         let Slot { buffer, window, .. } = slot;
         put_buffers(&mut self.spare, Buffers { buffer, window }, meter);
-        true
+        Ok(())
     }
 
-    /// Takes bytes that arrive on the live connection of the number, and serves the record that ends in them: `Gone`
-    /// where there is none.
+    /// Takes bytes that arrive on the live connection of the number, up to the end of a record, and says what the
+    /// record said: `Gone` where there is none.
     pub fn take(
         &mut self,
-        registry: &mut Registry,
-        listener: &Listener,
         id: u64,
         piece: &[u8],
         clock: u64,
         meter: &mut Meter,
-    ) -> Result<Taken, CoreFault>
-        requires tie { meter.old.tie ≡ self.old.tie }
-        requires registry { meter.old.tie ≡ registry.old.tie }
-        ensures fault { IfErr result (λ e. e ≡ CoreFault.Gone) }
-        ensures gone { (c : Open) → StandsForConnections self.old c
-            → OnErr result (live_connection id c.all ≡ None) }
-        ensures refused { OnErr result ((self.new ≡ self.old) × (registry.new ≡ registry.old)) }
-        ensures taken { (c : Open) (own : List Row) (changes : List Change)
-            → StandsForConnections self.old c → StandsForChanges registry.old own changes
-            → IfOk result (HasTaken id clock listener.now registry.old registry.new own changes
-            piece.now c self.new) }
-        ensures within { IfOk result (λ taken. taken.count ≤ length piece.now) }
-        ensures registry_tie { registry.new.tie ≡ registry.old.tie }
-        ensures limit { registry.new.limit ≡ registry.old.limit }
-        ensures conns { self.new.conns ≡ self.old.conns }
-        ensures tie { self.new.tie ≡ self.old.tie }
+    ) -> Result<Received, CoreFault>
+        requires { meter.old.tie ≡ self.old.tie }
+        ensures acts { Acts StandsForConnections (on_live id (feeding clock piece.now))
+            self.old self.new result }
+        ensures within { IfOk result (λ got. got.count ≤ length piece.now) }
+        ensures refused { OnErr result (self.new ≡ self.old) }
+        ensures stays { StaysTable self.old self.new }
+        ensures as_many { length self.new.slots ≡ length self.old.slots }
         ensures cost { PaysAtMost meter.old meter.new
-            (find_cost self.old.conns + count_taken result
-            + settle_cost (length (rows_of registry.old)) (length (rows_of registry.new))) }
+            (find_cost (length self.old.slots) + taken_cost result) }
     {
         let Some(key) = wanted_key(&self.slots, Wanted::Live(id), meter) else {
             return Err(CoreFault::Gone);
@@ -312,10 +236,41 @@ impl Connections {
         let Some(slot) = self.slots.get_mut(key, meter) else {
             unreachable!()
         };
-        Ok(take_piece(slot, registry, listener, piece, clock, meter))
+        Ok(slot.take(piece, clock, meter))
     }
 
-    /// Counts n of the pending bytes of the live connection of the number as given: `Gone` where there is none.
+    /// The live connection of the number goes on as its record is answered: it takes the reply, and gives an empty
+    /// buffer for it, or it is Lost.
+    pub fn settle(
+        &mut self,
+        id: u64,
+        outcome: Outcome,
+        reply: &mut Kept,
+        clock: u64,
+        meter: &mut Meter,
+    )
+        requires tie { meter.old.tie ≡ self.old.tie }
+        requires draft { IsDraft meter.old.tie reply.old }
+        requires some { outcome ≡ Outcome.Reply → 0 < length reply.old.bytes }
+        ensures stands { (c : Open) → StandsForConnections self.old c → StandsForConnections
+            self.new (changed_at id (settled clock (outcome_with outcome reply.old.bytes)) c) }
+        ensures stays { StaysTable self.old self.new }
+        ensures draft { IsDraft meter.old.tie reply.new }
+        ensures empty { reply.new.bytes ≡ [] }
+        ensures cost { PaysAtMost meter.old meter.new (settle_cost (length self.old.slots)) }
+    {
+        let Some(key) = wanted_key(&self.slots, Wanted::Live(id), meter) else {
+            reply.clear(meter);
+            return;
+        };
+        let Some(slot) = self.slots.get_mut(key, meter) else {
+            unreachable!()
+        };
+        slot.settle(outcome, reply, clock, meter);
+    }
+
+    /// Counts n of the pending bytes of the live connection of the number as given, or as many as there are: `Gone`
+    /// where there is none.
     pub fn give(
         &mut self,
         id: u64,
@@ -324,15 +279,12 @@ impl Connections {
         meter: &mut Meter,
     ) -> Result<(), CoreFault>
         requires { meter.old.tie ≡ self.old.tie }
-        ensures fault { IfErr result (λ e. e ≡ CoreFault.Gone) }
-        ensures gone { (c : Open) → StandsForConnections self.old c
-            → OnErr result (live_connection id c.all ≡ None) }
+        ensures acts { Acts StandsForConnections (on_live id (giving clock n))
+            self.old self.new result }
         ensures refused { OnErr result (self.new ≡ self.old) }
-        ensures given { (c : Open) → StandsForConnections self.old c
-            → OnOk result (HasGiven id n clock c self.new) }
-        ensures conns { self.new.conns ≡ self.old.conns }
-        ensures tie { self.new.tie ≡ self.old.tie }
-        ensures cost { PaysAtMost meter.old meter.new (find_cost self.old.conns + give_cost) }
+        ensures stays { StaysTable self.old self.new }
+        ensures cost { PaysAtMost meter.old meter.new
+            (find_cost (length self.old.slots) + give_cost) }
     {
         let Some(key) = wanted_key(&self.slots, Wanted::Live(id), meter) else {
             return Err(CoreFault::Gone);
@@ -340,11 +292,40 @@ impl Connections {
         let Some(slot) = self.slots.get_mut(key, meter) else {
             unreachable!()
         };
-        if n == 0 {
-            return Ok(());
-        }
-        give_bytes(slot, n, clock, meter);
+        slot.give(n, clock, meter);
         Ok(())
+    }
+
+    /// The first connection that is wanted.
+    fn first(&self, wanted: Wanted, meter: &mut Meter) -> Option<&Slot>
+        requires { meter.old.tie ≡ self.now.tie }
+        ensures found { (c : Open) → StandsForConnections self.now c
+            → MatchOption result (find (is_wanted wanted) c.all ≡ None)
+            (λ slot. IsFound wanted c.all slot.now) }
+        ensures buffers { IfSome result (λ slot. HasBuffers self.now.tie slot.now) }
+        ensures cost { PaysAtMost meter.old meter.new (find_cost (length self.now.slots)) }
+    {
+        let Some(key) = wanted_key(&self.slots, wanted, meter) else {
+            return None;
+        };
+        match self.slots.get(key, meter) {
+            Some(slot) => Some(slot),
+            None => None,
+        }
+    }
+
+    /// How many bytes are pending on the live connection of the number: `Gone` where there is none.
+    pub fn pending_len(&self, id: u64, meter: &mut Meter) -> Result<usize, CoreFault>
+        requires { meter.old.tie ≡ self.now.tie }
+        ensures len { (c : Open) → StandsForConnections self.now c
+            → result ≡ pending_count (pending_on (live_connection id c.all)) }
+        ensures cost { PaysAtMost meter.old meter.new
+            (find_cost (length self.now.slots) + 1) }
+    {
+        let Some(slot) = self.first(Wanted::Live(id), meter) else {
+            return Err(CoreFault::Gone);
+        };
+        Ok(slot.pending_len(meter))
     }
 
     /// The rest of the current fragment of the reply that the live connection of the number owes, empty where it owes
@@ -352,14 +333,27 @@ impl Connections {
     pub fn pending(&self, id: u64, meter: &mut Meter) -> Result<&[u8], CoreFault>
         requires { meter.old.tie ≡ self.now.tie }
         ensures lent { (c : Open) → StandsForConnections self.now c
-            → MatchResult result (λ bytes. lent (live_connection id c.all) ≡ Ok bytes.now)
-            (λ e. lent (live_connection id c.all) ≡ Err e) }
+            → MatchResult result (λ bytes. pending_on (live_connection id c.all) ≡ Ok bytes.now)
+            (λ fault. pending_on (live_connection id c.all) ≡ Err fault) }
         ensures few { IfOk result (λ bytes. length bytes.now ≤ longest_fragment) }
-        ensures cost { PaysAtMost meter.old meter.new (find_cost self.now.conns + pending_cost) }
+        ensures cost { PaysAtMost meter.old meter.new
+            (find_cost (length self.now.slots) + pending_cost) }
     {
         let Some(slot) = self.first(Wanted::Live(id), meter) else {
             return Err(CoreFault::Gone);
         };
-        Ok(pending_of(slot, meter))
+        Ok(slot.pending(meter))
+    }
+
+    /// The least number of those that are Lost.
+    pub fn next_lost(&self, meter: &mut Meter) -> Option<u64>
+        requires { meter.old.tie ≡ self.now.tie }
+        ensures lost { (c : Open) → StandsForConnections self.now c → result ≡ first_lost c }
+        ensures cost { PaysAtMost meter.old meter.new (find_cost (length self.now.slots)) }
+    {
+        match self.first(Wanted::AnyLost, meter) {
+            Some(slot) => Some(slot.number),
+            None => None,
+        }
     }
 }

@@ -1,13 +1,13 @@
 //! The core: what it holds, and its calls.
 ghost use Rattle.std.specs.Prelude.{◌≡◌, ◌≤◌, IsTrue};
 ghost use Rattle.rb_core.specs.State.{are_good};
-ghost use Rattle.rb_core.specs.Serve.{answer_of};
 
-use crate::connections::Connections;
+use crate::connections::{Connections, LONGEST_CALL};
 use crate::message::read_message;
-use crate::serve::{LONGEST_REPLY, Served, serve};
-use crate::types::{Answer, CoreFault, Limits, Taken};
-use rb_proto::{Listener, own_rows};
+use crate::serve::{LONGEST_REPLY, serve};
+use crate::slot::{Heard, Received};
+use crate::types::{CoreFault, Limits, Outcome, Taken};
+use rb_proto::{Context, Listener, own_rows};
 use rb_registry::Registry;
 use rb_rpc::{Caller, Peer};
 use rb_xdr::{Kept, Meter};
@@ -23,12 +23,14 @@ pub struct Core {
     clock: u64,
     connections: Connections,
     registry: Registry,
+    /// The reply to the last datagram.
     reply: Kept,
+    /// Where a reply on a connection is written, empty between two events: the connection takes it for its own.
+    draft: Kept,
 }
 
 impl Model for Core {
-    ghost use Rattle.std.specs.Prelude.{◌≡◌, ◌≤◌};
-    ghost use Rattle.rb_core.specs.StandsFor.{Held};
+    ghost use Rattle.rb_core.specs.StandsFor.{Held, IsCore};
 
     ghost Value = { Held };
 
@@ -41,13 +43,12 @@ impl Model for Core {
       tie = c.reply.tie;
     } };
 
-    ghost invariant = { λ c. (c.reply.cap ≡ 9000) × (c.registry.tie ≡ c.reply.tie) × (c.connections.tie ≡ c.reply.tie) × (c.connections.conns ≤ 256) };
+    ghost invariant = { λ c. IsCore c.limits c.connections c.registry c.reply c.draft };
 }
 
 fn are_good(limits: &Limits) -> bool
     ensures value { result ≡ are_good limits.now }
     ensures rows { IsTrue result → 6 ≤ limits.now.rows }
-    ensures conns { IsTrue result → limits.now.conns ≤ 256 }
 {
     1 <= limits.conns
         && limits.conns <= 256
@@ -56,32 +57,22 @@ fn are_good(limits: &Limits) -> bool
         && limits.forwards <= 64
 }
 
-/// What becomes of a datagram that was served so.
-fn answer_to(served: Served) -> Answer
-    ensures { result ≡ answer_of served }
-{
-    match served {
-        Served::Closing => Answer::Silent,
-        Served::Replied => Answer::Reply,
-    }
-}
-
 impl Core {
-    ghost use Rattle.std.specs.Prelude.{◌≡◌, ◌+◌, ◌≤◌, ◌↔◌, ℕ, length, IsTrue, IfOk, IfErr, IsErrOf, OnErr, MatchResult, Ok, Err, not};
+    ghost use Rattle.std.specs.Prelude.{◌≡◌, ◌+◌, ◌*◌, ◌≤◌, ◌↔◌, ℕ, length, IsTrue, IfOk, IfErr, IsErrOf, OnErr, MatchResult, Ok, Err, not};
     ghost use Rattle.rb_xdr.specs.Meter.{Pays, PaysAtMost};
-    ghost use Rattle.rb_core.specs.State.{State, are_good, opening};
-    ghost use Rattle.rb_core.specs.Step.{datagram};
-    ghost use Rattle.rb_core.specs.StandsFor.{StandsFor};
     ghost use Rattle.rb_registry.specs.Registry.{rows_of};
-    ghost use Rattle.rb_core.specs.Connections.{open_connection, next_lost, closed};
+    ghost use Rattle.rb_core.specs.State.{State, are_good, opening};
+    ghost use Rattle.rb_core.specs.Calls.{longest_reply};
     ghost use Rattle.rb_core.specs.Giving.{longest_fragment};
-    ghost use Rattle.rb_core.specs.Pending.{pending, gave, is_too_much};
-    ghost use Rattle.rb_core.specs.Taking.{bytes, count_taken};
-    ghost use Rattle.rb_core.specs.Costs.{serve_cost, lookup_cost, settle_cost, give_cost, pending_cost};
+    ghost use Rattle.rb_core.specs.Step.{datagram, open_connection, bytes, answering, pending, pending_count, gave, close_connection, next_lost};
+    ghost use Rattle.rb_core.specs.Slots.{Acts};
+    ghost use Rattle.rb_core.specs.StandsFor.{StandsFor, outcome_with};
+    ghost use Rattle.rb_core.specs.Costs.{find_cost, pending_cost, give_cost, serve_cost, settle_cost, answer_cost, count_taken, NoRecordEnds};
 
     /// A core with the daemon's own rows alone, at the moment `now` (milliseconds since the start of 1970).
     /// `first_xid` is the number of the first call that it forwards. `BadLimits` where a limit is out of its
     /// range, else `NoMemory` where an allocation is refused.
+    #[tactic(auto, unfolding(crate::specs::Calls::longest_reply, crate::specs::Reading::longest_call))]
     pub fn new(
         alloc: Global,
         limits: Limits,
@@ -96,7 +87,7 @@ impl Core {
         ensures bad { IsErrOf result CoreFault.BadLimits ↔ IsTrue (not (are_good limits)) }
         ensures memory { IfErr result
             (λ fault. IsTrue (are_good limits) → fault ≡ CoreFault.NoMemory) }
-        ensures cost { PaysAtMost meter.old meter.new (6 + limits.conns) }
+        ensures cost { PaysAtMost meter.old meter.new (6 + 3 * limits.conns) }
     {
         if !are_good(&limits) {
             return Err(CoreFault::BadLimits);
@@ -110,6 +101,9 @@ impl Core {
         let Ok(reply) = Kept::new(alloc, LONGEST_REPLY, meter) else {
             return Err(CoreFault::NoMemory);
         };
+        let Ok(draft) = Kept::new(alloc, LONGEST_CALL, meter) else {
+            return Err(CoreFault::NoMemory);
+        };
         Ok(Core {
             limits,
             listener,
@@ -118,32 +112,47 @@ impl Core {
             connections,
             registry,
             reply,
+            draft,
         })
     }
 
+    /// What a call from a caller sees.
+    fn context(&self, caller: Caller) -> Context
+        ensures { result ≡ record {
+          listener = self.now.setting.listener;
+          limit = self.now.setting.limits.rows;
+          clock = self.now.clock;
+          caller = caller;
+        } }
+    {
+        Context {
+            listener: self.listener,
+            limit: self.limits.rows,
+            clock: self.clock,
+            caller,
+        }
+    }
+
     /// Takes a datagram in. The reply is that of `udp_reply`.
-    pub fn datagram(&mut self, now: u64, peer: Peer, message: &[u8], meter: &mut Meter) -> Answer
+    pub fn datagram(&mut self, now: u64, peer: Peer, content: &[u8], meter: &mut Meter) -> Outcome
         requires { meter.old.tie ≡ self.old.tie }
-        ensures step { (s : State) → StandsFor self.old s →
-            (result ≡ (datagram s now peer message.now).0)
-            × StandsFor self.new (datagram s now peer message.now).1 }
+        ensures acts { Acts StandsFor (λ s. datagram s now peer content.now)
+            self.old self.new (outcome_with result self.new.reply) }
         ensures tie { self.new.tie ≡ self.old.tie }
-        ensures short { length self.new.reply ≤ 9000 }
-        ensures cost { PaysAtMost meter.old meter.new
-            (serve_cost (length (rows_of self.old.registry)) (length (rows_of self.new.registry))) }
+        ensures short { length self.new.reply ≤ longest_reply }
+        ensures cost { PaysAtMost meter.old meter.new (1 + serve_cost
+            (length (rows_of self.old.registry)) (length (rows_of self.new.registry))) }
     {
         self.clock = self.clock.max(now);
-        let said = read_message(message);
-        let served = serve(
+        let context = self.context(Caller::Udp(peer));
+        self.reply.clear(meter);
+        serve(
             &mut self.registry,
-            &self.listener,
-            &Caller::Udp(peer),
-            self.clock,
-            said,
+            &context,
+            read_message(content),
             &mut self.reply,
             meter,
-        );
-        answer_to(served)
+        )
     }
 
     /// The reply to the last datagram: no bytes where it was not answered.
@@ -161,21 +170,16 @@ impl Core {
     /// may be, lost ones among them, else `Spent` where no number is left.
     pub fn open(&mut self, now: u64, peer: Peer, meter: &mut Meter) -> Result<u64, CoreFault>
         requires { meter.old.tie ≡ self.old.tie }
-        ensures step { (s : State) → StandsFor self.old s →
-            (result ≡ (open_connection s now peer).0)
-            × StandsFor self.new (open_connection s now peer).1 }
+        ensures acts { Acts StandsFor (λ s. open_connection s now peer)
+            self.old self.new result }
         ensures refused { OnErr result (self.new ≡ self.old) }
         ensures tie { self.new.tie ≡ self.old.tie }
-        ensures cost { PaysAtMost meter.old meter.new 5 }
+        ensures cost { PaysAtMost meter.old meter.new 4 }
     {
         let clock = self.clock.max(now);
-        match self.connections.open(clock, peer, meter) {
-            Ok(number) => {
-                self.clock = clock;
-                Ok(number)
-            }
-            Err(fault) => Err(fault),
-        }
+        let number = self.connections.open(clock, peer, meter)?;
+        self.clock = clock;
+        Ok(number)
     }
 
     /// Takes bytes that arrive on a connection, up to the one that ends a record, and none while a reply is owed.
@@ -188,33 +192,63 @@ impl Core {
         meter: &mut Meter,
     ) -> Result<Taken, CoreFault>
         requires { meter.old.tie ≡ self.old.tie }
-        ensures step { (s : State) → StandsFor self.old s →
-            (result ≡ (bytes s now id piece.now).0)
-            × StandsFor self.new (bytes s now id piece.now).1 }
+        ensures acts { Acts StandsFor (λ s. bytes s now id piece.now) self.old self.new result }
         ensures within { IfOk result (λ taken. taken.count ≤ length piece.now) }
         ensures refused { OnErr result (self.new ≡ self.old) }
         ensures tie { self.new.tie ≡ self.old.tie }
         ensures cost { PaysAtMost meter.old meter.new
-            (lookup_cost + count_taken result
-            + settle_cost (length (rows_of self.old.registry))
-            (length (rows_of self.new.registry))) }
+            (find_cost (length self.old.connections.slots) + count_taken result + answer_cost
+            (length self.old.connections.slots)
+            (length (rows_of self.old.registry)) (length (rows_of self.new.registry))) }
+        ensures cheap { (s : State) → StandsFor self.old s → NoRecordEnds s id piece.now
+            → PaysAtMost meter.old meter.new
+            (find_cost (length self.old.connections.slots) + count_taken result) }
     {
         let clock = self.clock.max(now);
-        let taken = self.connections.take(
+        let Received { count, heard } = self.connections.take(id, piece, clock, meter)?;
+        self.clock = clock;
+        let Some(heard) = heard else {
+            return Ok(Taken {
+                count,
+                closed: false,
+            });
+        };
+        let closed = self.answer(id, heard, meter);
+        Ok(Taken { count, closed })
+    }
+
+    /// Answers what a record on a connection said, and lets the connection go on. It says whether it is Lost now.
+    #[tactic(auto, unfolding(crate::specs::Calls::longest_reply, crate::specs::Reading::longest_call))]
+    fn answer(&mut self, id: u64, heard: Heard, meter: &mut Meter) -> bool
+        requires { meter.old.tie ≡ self.old.tie }
+        ensures acts { Acts StandsFor (λ s. answering s id heard.peer heard.message)
+            self.old self.new result }
+        ensures tie { self.new.tie ≡ self.old.tie }
+        ensures cost { PaysAtMost meter.old meter.new (serve_cost
+            (length (rows_of self.old.registry)) (length (rows_of self.new.registry))
+            + settle_cost (length self.old.connections.slots)) }
+    {
+        let context = self.context(Caller::Tcp(id, heard.peer));
+        let outcome = serve(
             &mut self.registry,
-            &self.listener,
-            id,
-            piece,
-            clock,
+            &context,
+            heard.message,
+            &mut self.draft,
             meter,
         );
-        match taken {
-            Ok(taken) => {
-                self.clock = clock;
-                Ok(taken)
-            }
-            Err(fault) => Err(fault),
-        }
+        self.connections
+            .settle(id, outcome, &mut self.draft, self.clock, meter);
+        outcome.is_no_call()
+    }
+
+    /// How many bytes are pending on a connection. `Gone` where there is no such connection, or it is Lost.
+    pub(crate) fn pending_len(&self, id: u64, meter: &mut Meter) -> Result<usize, CoreFault>
+        requires { meter.old.tie ≡ self.now.tie }
+        ensures len { (s : State) → StandsFor self.now s → result ≡ pending_count (pending s id) }
+        ensures cost { PaysAtMost meter.old meter.new
+            (find_cost (length self.now.connections.slots) + 1) }
+    {
+        self.connections.pending_len(id, meter)
     }
 
     /// The rest of the current fragment of the reply that a connection owes, empty where it owes none. `Gone` where
@@ -223,54 +257,48 @@ impl Core {
         requires { meter.old.tie ≡ self.now.tie }
         ensures lent { (s : State) → StandsFor self.now s
             → MatchResult result (λ bytes. pending s id ≡ Ok bytes.now)
-            (λ e. pending s id ≡ Err e) }
+            (λ fault. pending s id ≡ Err fault) }
         ensures few { IfOk result (λ bytes. length bytes.now ≤ longest_fragment) }
-        ensures cost { PaysAtMost meter.old meter.new (lookup_cost + pending_cost) }
+        ensures cost { PaysAtMost meter.old meter.new
+            (find_cost (length self.now.connections.slots) + pending_cost) }
     {
         self.connections.pending(id, meter)
     }
 
-    /// n of the pending bytes of a connection were given. n is at most their number. `Gone` where there is no such
+    /// n of the pending bytes of a connection were given, or as many as are pending. `Gone` where there is no such
     /// connection, or it is Lost.
     pub fn gave(&mut self, now: u64, id: u64, n: usize, meter: &mut Meter) -> Result<(), CoreFault>
         requires { meter.old.tie ≡ self.old.tie }
-        ensures step { (s : State) → StandsFor self.old s
-            → IsTrue (not (is_too_much n (pending s id))) →
-            (result ≡ (gave s now id n).0) × StandsFor self.new (gave s now id n).1 }
+        ensures acts { Acts StandsFor (λ s. gave s now id n) self.old self.new result }
         ensures refused { OnErr result (self.new ≡ self.old) }
         ensures tie { self.new.tie ≡ self.old.tie }
-        ensures cost { PaysAtMost meter.old meter.new (lookup_cost + give_cost) }
+        ensures cost { PaysAtMost meter.old meter.new
+            (find_cost (length self.old.connections.slots) + give_cost) }
     {
         let clock = self.clock.max(now);
-        match self.connections.give(id, n, clock, meter) {
-            Ok(()) => {
-                self.clock = clock;
-                Ok(())
-            }
-            Err(fault) => Err(fault),
-        }
+        self.connections.give(id, n, clock, meter)?;
+        self.clock = clock;
+        Ok(())
     }
 
     /// A connection was closed: it is there no longer, live or Lost. `Gone` where there is none of that number.
     pub fn closed(&mut self, id: u64, meter: &mut Meter) -> Result<(), CoreFault>
         requires { meter.old.tie ≡ self.old.tie }
-        ensures step { (s : State) → StandsFor self.old s → (result ≡ (closed s id).0)
-            × StandsFor self.new (closed s id).1 }
+        ensures acts { Acts StandsFor (λ s. close_connection s id) self.old self.new result }
         ensures refused { OnErr result (self.new ≡ self.old) }
         ensures tie { self.new.tie ≡ self.old.tie }
-        ensures cost { PaysAtMost meter.old meter.new (lookup_cost + 1) }
+        ensures cost { PaysAtMost meter.old meter.new
+            (find_cost (length self.old.connections.slots) + 3) }
     {
-        if !self.connections.close(id, meter) {
-            return Err(CoreFault::Gone);
-        }
-        Ok(())
+        self.connections.close(id, meter)
     }
 
     /// The least number of the connections that are Lost. They are to be closed.
     pub fn next_lost(&self, meter: &mut Meter) -> Option<u64>
         requires { meter.old.tie ≡ self.now.tie }
         ensures lost { (s : State) → StandsFor self.now s → result ≡ next_lost s }
-        ensures cost { PaysAtMost meter.old meter.new (lookup_cost) }
+        ensures cost { PaysAtMost meter.old meter.new
+            (find_cost (length self.now.connections.slots)) }
     {
         self.connections.next_lost(meter)
     }

@@ -1,10 +1,16 @@
 //! What holds of the definitions.
-ghost use Rattle.rb_core.specs.Cuts.{CutsDoNotMatter};
 ghost use Rattle.rb_core.specs.Grammar.{MessagesAreOfTheGrammar};
-ghost use Rattle.rb_core.specs.Laws.{RunsAppend, StatesAppend, RefusedEventsChangeNothing, NumbersNeverRecur};
-ghost use Rattle.rb_core.specs.Reached.{BytesAreTakenExactly, RepliesAreGivenWhole, RepliesBeginWhole, OwedRepliesStay, NextLostIsLeast};
-ghost use Rattle.rb_core.specs.WorkedConnections.{NoCallCloses, OtherRpcVersionOnTcp, CrumbsInOnePiece, CrumbsInSingleBytes, CrumbsInSevens, BytesBehindArguments, OneRecordAtATime, GivenInParts, TooMuchIsRefused, GoodLimits, NumbersDoNotRecur};
+ghost use Rattle.rb_core.specs.Laws.{RunsAppend, StatesAppend, RefusedEventsChangeNothing, NumbersNeverRecur, CutsDoNotMatter, NextLostIsLeast, BytesAreTakenExactly, RepliesAreGivenWhole, OwedRepliesStay, ConnectionsCloseExactly, LedgersAreWellKept};
+ghost use Rattle.rb_core.specs.Sessions.{SessionsAreWhole};
+ghost use Rattle.rb_core.specs.WorkedConnections.{NoCallCloses, OtherRpcVersionOnTcp, CrumbsInOnePiece, CrumbsInSingleBytes, CrumbsInSevens, BytesBehindArguments, OneRecordAtATime, OneRecordAtATimePasses, NoCallPasses, GivenInParts, TooMuchIsRefused, GoodLimits, NumbersDoNotRecur};
 ghost use Rattle.rb_core.specs.Worked.{NullIsAnswered, SetThenAskThenSetAgain, GreatestVersionElse, OwnRowsAreAsked, LimitIsReached, LocalCallersSet, NothingIsSilent, NullBySys, OtherRpcVersion, TooShort, GreatestCredential, OverlongCredential, SysBodyCutShort, OverlongVerifier, BadResidue, GoodResidue, GssBeforeProgram, OtherVersion, UnknownProcedure, GarbageArguments, OtherProgram, NullOfThree, NullOfFour};
+
+/// For each connection in each run: the bytes taken on it are the marked records of its calls and an unfinished rest;
+/// those given on it, and then those still owed, are the marked replies to these calls, joined in order; and no byte is
+/// taken while a reply is owed. Of one that is Lost or gone, those given are a front of the replies.
+pub fn sessions_are_whole()
+    ensures { SessionsAreWhole }
+{}
 
 /// The definitions give what the worked examples say.
 pub fn worked_examples()
@@ -33,6 +39,23 @@ pub fn worked_examples()
     ensures null_of_version_4 { NullOfFour }
 {}
 
+/// The definitions give what the worked examples of connections say.
+pub fn worked_connections()
+    ensures no_call_closes { NoCallCloses }
+    ensures rpc_version_mismatch { OtherRpcVersionOnTcp }
+    ensures null_in_single_byte_fragments { CrumbsInOnePiece }
+    ensures single_bytes { CrumbsInSingleBytes }
+    ensures pieces_of_seven { CrumbsInSevens }
+    ensures overlong_record_is_answered { BytesBehindArguments }
+    ensures two_calls_in_one_piece { OneRecordAtATime }
+    ensures two_calls_pass { OneRecordAtATimePasses }
+    ensures no_call_passes { NoCallPasses }
+    ensures partial_writes { GivenInParts }
+    ensures more_than_is_pending { TooMuchIsRefused }
+    ensures limits { GoodLimits }
+    ensures numbers { NumbersDoNotRecur }
+{}
+
 /// A message asks for a procedure exactly where its bytes begin with a call of it and its arguments.
 pub fn messages_are_of_the_grammar()
     ensures { MessagesAreOfTheGrammar }
@@ -59,7 +82,13 @@ pub fn cuts_do_not_matter()
     ensures { CutsDoNotMatter }
 {}
 
-/// In each state that a run reaches, bytes are taken up to the end of the first record, or all where there is none.
+/// In each state that a run reaches, the look for a Lost connection finds the one of the least number.
+pub fn next_lost_is_least()
+    ensures { NextLostIsLeast }
+{}
+
+/// In each state that a run reaches, bytes are taken up to the end of the first record, which is answered, or all where
+/// there is none: by cases, how many, and what the connection is about from then on.
 pub fn bytes_are_taken_exactly()
     ensures { BytesAreTakenExactly }
 {}
@@ -69,28 +98,19 @@ pub fn replies_are_given_whole()
     ensures { RepliesAreGivenWhole }
 {}
 
-/// A call's whole reply is owed once its record ends, and only bytes given on its connection, or the close of it, change what is owed.
+/// Only bytes given on its connection, or the close of it, change what is owed, unless the connection is Lost.
 pub fn owed_replies_stay()
-    ensures begin { RepliesBeginWhole }
-    ensures stay { OwedRepliesStay }
+    ensures { OwedRepliesStay }
 {}
 
-/// In each state that a run reaches, the look for a Lost connection finds the one of the least number.
-pub fn next_lost_is_least()
-    ensures { NextLostIsLeast }
+/// In each state that a run reaches, a live connection becomes Lost exactly by the end of a record that is no call, and is
+/// gone exactly by its close.
+pub fn connections_close_exactly()
+    ensures { ConnectionsCloseExactly }
 {}
 
-/// The definitions give what the worked examples of connections say.
-pub fn worked_connections()
-    ensures no_call_closes { NoCallCloses }
-    ensures rpc_version_mismatch { OtherRpcVersionOnTcp }
-    ensures null_in_single_byte_fragments { CrumbsInOnePiece }
-    ensures single_bytes { CrumbsInSingleBytes }
-    ensures pieces_of_seven { CrumbsInSevens }
-    ensures overlong_record_is_answered { BytesBehindArguments }
-    ensures two_calls_in_one_piece { OneRecordAtATime }
-    ensures partial_writes { GivenInParts }
-    ensures more_than_is_pending { TooMuchIsRefused }
-    ensures limits { GoodLimits }
-    ensures numbers { NumbersDoNotRecur }
+/// In each state that a run reaches, for every listener: each change was accepted, no two live rows are of one program,
+/// version and netid, and at good limits at most `limits.rows` rows are live.
+pub fn ledgers_are_well_kept()
+    ensures { LedgersAreWellKept }
 {}

@@ -6,26 +6,26 @@ mod engine;
 mod giving;
 mod laws;
 mod message;
+mod reading;
 mod run;
 mod serve;
-mod serving;
 mod slot;
-mod taking;
 mod types;
 
 pub use engine::Core;
 pub use laws::{
-    bytes_are_taken_exactly, cuts_do_not_matter, messages_are_of_the_grammar, next_lost_is_least,
-    numbers_never_recur, owed_replies_stay, refused_events_change_nothing, replies_are_given_whole,
-    runs_append, worked_connections, worked_examples,
+    bytes_are_taken_exactly, connections_close_exactly, cuts_do_not_matter, ledgers_are_well_kept,
+    messages_are_of_the_grammar, next_lost_is_least, numbers_never_recur, owed_replies_stay,
+    refused_events_change_nothing, replies_are_given_whole, runs_append, sessions_are_whole,
+    worked_connections, worked_examples,
 };
 pub use message::{Message, read_message};
 pub use rb_proto::Listener;
 pub use rb_rpc::{Caller, Peer};
 pub use rb_xdr::NoMemory;
+pub use reading::kept_bytes_say_the_record;
 pub use run::{Event, Output, replay};
-pub use taking::kept_bytes_say_the_record;
-pub use types::{Answer, CoreFault, Limits, Taken};
+pub use types::{CoreFault, Limits, Outcome, Taken};
 
 #[cfg(test)]
 mod tests;

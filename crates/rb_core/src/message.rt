@@ -1,8 +1,8 @@
 //! What the data of a record, or a datagram, says: the order of refusals.
 ghost use Rattle.std.specs.Prelude.{◌≡◌};
-ghost use Rattle.rb_core.specs.Calls.{is_served, asked, called, message_of};
+ghost use Rattle.rb_core.specs.Calls.{is_served, request_of, call_of, message_of};
 
-use rb_proto::{ArgumentFault, Request, read_args};
+use rb_proto::{ArgumentFault, Call, Request, read_args};
 use rb_registry::RPCB_PROG;
 use rb_rpc::{CallHead, ReplyHead, ReplyStatus, Verdict, read_call};
 
@@ -13,8 +13,10 @@ pub enum Message {
     NoCall,
     /// A call that gets this reply, whatever the daemon holds.
     Refused(ReplyHead),
-    /// A call of a procedure that is served, with arguments that can be read.
-    Asked(CallHead, Request),
+    /// A call of a procedure that is served, whose arguments can't be read.
+    Garbage(CallHead),
+    /// A call of a procedure that is served, with its arguments.
+    Asked(Call),
 }
 
 #[tactic(auto, unfolding(crate::specs::Calls::is_served))]
@@ -24,35 +26,35 @@ fn is_served(vers: u32) -> bool
     vers == 2 || vers == 3 || vers == 4
 }
 
-fn refused(xid: u32, status: ReplyStatus) -> Message
+fn refusal(xid: u32, status: ReplyStatus) -> Message
     ensures { result ≡ Message.Refused (record { xid = xid; status = status }) }
 {
     Message::Refused(ReplyHead { xid, status })
 }
 
-#[tactic(auto, unfolding(crate::specs::Calls::asked))]
-fn asked(head: CallHead, request: Result<Request, ArgumentFault>) -> Message
-    ensures { result ≡ asked head request }
+#[tactic(auto, unfolding(crate::specs::Calls::request_of))]
+fn request_of(head: CallHead, request: Result<Request, ArgumentFault>) -> Message
+    ensures { result ≡ request_of head request }
 {
     match request {
-        Ok(request) => Message::Asked(head, request),
-        Err(ArgumentFault::ProcUnavail) => refused(head.xid, ReplyStatus::ProcUnavail),
-        Err(ArgumentFault::GarbageArgs) => refused(head.xid, ReplyStatus::GarbageArgs),
+        Ok(request) => Message::Asked(Call { head, request }),
+        Err(ArgumentFault::ProcUnavail) => refusal(head.xid, ReplyStatus::ProcUnavail),
+        Err(ArgumentFault::GarbageArgs) => Message::Garbage(head),
     }
 }
 
 /// What a call with a readable head says.
-#[tactic(auto, unfolding(crate::specs::Calls::called))]
-fn called(head: CallHead, arguments: &[u8]) -> Message
-    ensures { result ≡ called head arguments.now }
+#[tactic(auto, unfolding(crate::specs::Calls::call_of))]
+fn call_of(head: CallHead, arguments: &[u8]) -> Message
+    ensures { result ≡ call_of head arguments.now }
 {
     if head.prog != RPCB_PROG {
-        return refused(head.xid, ReplyStatus::ProgUnavail);
+        return refusal(head.xid, ReplyStatus::ProgUnavail);
     }
     if !is_served(head.vers) {
-        return refused(head.xid, ReplyStatus::ProgMismatch(2, 4));
+        return refusal(head.xid, ReplyStatus::ProgMismatch(2, 4));
     }
-    asked(head, read_args(head.vers, head.proc, arguments))
+    request_of(head, read_args(head.vers, head.proc, arguments))
 }
 
 /// What the data of a record, or a datagram, says: the first line of the order of refusals that holds decides.
@@ -62,11 +64,11 @@ pub fn read_message(bytes: &[u8]) -> Message
 {
     match read_call(bytes) {
         Verdict::NoCall => Message::NoCall,
-        Verdict::RpcMismatch(xid) => refused(xid, ReplyStatus::RpcMismatch(2, 2)),
-        Verdict::AuthError(xid, stat) => refused(xid, ReplyStatus::AuthError(stat)),
+        Verdict::RpcMismatch(xid) => refusal(xid, ReplyStatus::RpcMismatch(2, 2)),
+        Verdict::AuthError(xid, stat) => refusal(xid, ReplyStatus::AuthError(stat)),
         Verdict::Call(head, place) => {
             let (_, arguments) = bytes.split_at(place);
-            called(head, arguments)
+            call_of(head, arguments)
         }
     }
 }

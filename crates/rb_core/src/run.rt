@@ -1,19 +1,16 @@
 //! Runs: lists of events.
 ghost use Rattle.std.specs.Prelude.{◌≡◌, ◌<◌, ◌*◌, ◌+◌, ℕ, length, take, IfOk, OnOk, OnErr};
 ghost use Rattle.rb_core.specs.State.{State};
-ghost use Rattle.rb_core.specs.Step.{step, show_taken};
+ghost use Rattle.rb_core.specs.Step.{show_taken, pending, is_too_much};
 ghost use Rattle.rb_core.specs.Step.Event.{Open, Bytes, Pending, Gave, Closed, NextLost, Datagram};
-ghost use Rattle.rb_core.specs.Pending.{pending, is_too_much};
-ghost use Rattle.rb_core.specs.StandsFor.{StandsFor, event_of, output_of, events_of, outputs_of, Happens, Happened, arrived};
+ghost use Rattle.rb_core.specs.StandsFor.{StandsFor, event_of, output_of, events_of, outputs_of, HasHappened, Happened};
 ghost use Rattle.rb_xdr.specs.Meter.{PaysAtMost};
-ghost use Rattle.rb_registry.specs.Registry.{rows_of};
-ghost use Rattle.rb_core.specs.RunCosts.{run_cost};
-ghost use Rattle.rb_core.specs.Costs.{event_cost, lookup_cost, pending_cost};
+ghost use Rattle.rb_core.specs.Costs.{find_cost, run_cost};
 
 use crate::connections::LONGEST_FRAGMENT;
 use crate::engine::Core;
 use crate::serve::LONGEST_REPLY;
-use crate::types::{Answer, CoreFault, Taken};
+use crate::types::{CoreFault, Outcome, Taken};
 use rb_rpc::Peer;
 use rb_xdr::{Meter, NoMemory};
 use std::alloc::Global;
@@ -66,10 +63,7 @@ pub enum Output {
 #[tactic(auto, unfolding(crate::specs::Step::step))]
 fn open(core: &mut Core, now: u64, peer: Peer, meter: &mut Meter) -> Output
     requires { meter.old.tie ≡ core.old.tie }
-    ensures step { (s : State) → StandsFor core.old s → Happens s (Open now peer) result core.new }
-    ensures tie { core.new.tie ≡ core.old.tie }
-    ensures cost { PaysAtMost meter.old meter.new
-        (event_cost (length (rows_of core.old.registry)) (length (rows_of core.new.registry))) }
+    ensures { HasHappened (Open now peer) core.old core.new meter.old meter.new result }
 {
     match core.open(now, peer, meter) {
         Ok(number) => Output::Opened(number),
@@ -80,12 +74,7 @@ fn open(core: &mut Core, now: u64, peer: Peer, meter: &mut Meter) -> Output
 #[tactic(auto, unfolding(crate::specs::Step::step))]
 fn bytes(core: &mut Core, now: u64, id: u64, piece: &[u8], meter: &mut Meter) -> Output
     requires { meter.old.tie ≡ core.old.tie }
-    ensures step { (s : State) → StandsFor core.old s
-        → Happens s (Bytes now id piece.now) result core.new }
-    ensures tie { core.new.tie ≡ core.old.tie }
-    ensures cost { PaysAtMost meter.old meter.new
-        ((event_cost (length (rows_of core.old.registry)) (length (rows_of core.new.registry)))
-        + length piece.now) }
+    ensures { HasHappened (Bytes now id piece.now) core.old core.new meter.old meter.new result }
 {
     match core.bytes(now, id, piece, meter) {
         Ok(taken) => show_taken(taken),
@@ -107,11 +96,9 @@ fn show_taken(taken: Taken) -> Output
 #[tactic(auto, unfolding(crate::specs::Step::step, crate::specs::Giving::longest_fragment))]
 fn pending(alloc: Global, core: &Core, id: u64, meter: &mut Meter) -> Result<Output, NoMemory>
     requires { meter.old.tie ≡ core.now.tie }
-    ensures step { (s : State) → StandsFor core.now s
-        → IfOk result (λ given. Happens s (Pending id) given core.now) }
+    ensures happens { IfOk result
+        (λ given. HasHappened (Pending id) core.now core.now meter.old meter.new given) }
     ensures free { OnErr result (meter.new ≡ meter.old) }
-    ensures cost { PaysAtMost meter.old meter.new
-        (event_cost (length (rows_of core.now.registry)) (length (rows_of core.now.registry))) }
 {
     let Ok(mut copy) = Vec::with_capacity(alloc, LONGEST_FRAGMENT) else {
         return Err(NoMemory);
@@ -128,10 +115,11 @@ fn pending(alloc: Global, core: &Core, id: u64, meter: &mut Meter) -> Result<Out
 fn is_too_much(core: &Core, id: u64, n: u64, meter: &mut Meter) -> bool
     requires { meter.old.tie ≡ core.now.tie }
     ensures value { (s : State) → StandsFor core.now s → result ≡ is_too_much n (pending s id) }
-    ensures cost { PaysAtMost meter.old meter.new (lookup_cost + pending_cost) }
+    ensures cost { PaysAtMost meter.old meter.new
+        (find_cost (length core.now.connections.slots) + 1) }
 {
-    match core.pending(id, meter) {
-        Ok(bytes) => (bytes.len() as u64) < n,
+    match core.pending_len(id, meter) {
+        Ok(len) => (len as u64) < n,
         Err(_) => false,
     }
 }
@@ -139,10 +127,7 @@ fn is_too_much(core: &Core, id: u64, n: u64, meter: &mut Meter) -> bool
 #[tactic(auto, unfolding(crate::specs::Step::step))]
 fn gave(core: &mut Core, now: u64, id: u64, n: u64, meter: &mut Meter) -> Output
     requires { meter.old.tie ≡ core.old.tie }
-    ensures step { (s : State) → StandsFor core.old s → Happens s (Gave now id n) result core.new }
-    ensures tie { core.new.tie ≡ core.old.tie }
-    ensures cost { PaysAtMost meter.old meter.new
-        (event_cost (length (rows_of core.old.registry)) (length (rows_of core.new.registry))) }
+    ensures { HasHappened (Gave now id n) core.old core.new meter.old meter.new result }
 {
     if is_too_much(core, id, n, meter) {
         return Output::TooMuch;
@@ -156,10 +141,7 @@ fn gave(core: &mut Core, now: u64, id: u64, n: u64, meter: &mut Meter) -> Output
 #[tactic(auto, unfolding(crate::specs::Step::step))]
 fn closed(core: &mut Core, id: u64, meter: &mut Meter) -> Output
     requires { meter.old.tie ≡ core.old.tie }
-    ensures step { (s : State) → StandsFor core.old s → Happens s (Closed id) result core.new }
-    ensures tie { core.new.tie ≡ core.old.tie }
-    ensures cost { PaysAtMost meter.old meter.new
-        (event_cost (length (rows_of core.old.registry)) (length (rows_of core.new.registry))) }
+    ensures { HasHappened (Closed id) core.old core.new meter.old meter.new result }
 {
     match core.closed(id, meter) {
         Ok(()) => Output::Done,
@@ -170,37 +152,32 @@ fn closed(core: &mut Core, id: u64, meter: &mut Meter) -> Output
 #[tactic(auto, unfolding(crate::specs::Step::step))]
 fn next_lost(core: &Core, meter: &mut Meter) -> Output
     requires { meter.old.tie ≡ core.now.tie }
-    ensures step { (s : State) → StandsFor core.now s → Happens s NextLost result core.now }
-    ensures cost { PaysAtMost meter.old meter.new
-        (event_cost (length (rows_of core.now.registry)) (length (rows_of core.now.registry))) }
+    ensures { HasHappened NextLost core.now core.now meter.old meter.new result }
 {
     Output::Lost(core.next_lost(meter))
 }
 
-#[tactic(auto, unfolding(crate::specs::Step::step))]
+#[tactic(auto, unfolding(crate::specs::Step::step, crate::specs::Calls::longest_reply))]
 fn datagram(
     alloc: Global,
     core: &mut Core,
     now: u64,
     peer: Peer,
-    message: &[u8],
+    content: &[u8],
     meter: &mut Meter,
 ) -> Result<Output, NoMemory>
     requires { meter.old.tie ≡ core.old.tie }
-    ensures step { (s : State) → StandsFor core.old s
-        → IfOk result (λ given. Happens s (Datagram now peer message.now) given core.new) }
+    ensures happens { IfOk result (λ given. HasHappened (Datagram now peer content.now)
+        core.old core.new meter.old meter.new given) }
     ensures err { OnErr result (core.new ≡ core.old) }
     ensures free { OnErr result (meter.new ≡ meter.old) }
-    ensures tie { core.new.tie ≡ core.old.tie }
-    ensures cost { PaysAtMost meter.old meter.new
-        (event_cost (length (rows_of core.old.registry)) (length (rows_of core.new.registry))) }
 {
     let Ok(mut reply) = Vec::with_capacity(alloc, LONGEST_REPLY) else {
         return Err(NoMemory);
     };
-    match core.datagram(now, peer, message, meter) {
-        Answer::Silent => Ok(Output::Silent),
-        Answer::Reply => {
+    match core.datagram(now, peer, content, meter) {
+        Outcome::NoCall => Ok(Output::Silent),
+        Outcome::Reply => {
             reply.extend_from_slice(core.udp_reply(meter)).unwrap();
             reply.shrink_to_fit();
             Ok(Output::Replied(reply))
@@ -216,15 +193,10 @@ fn happen(
     meter: &mut Meter,
 ) -> Result<Output, NoMemory>
     requires { meter.old.tie ≡ core.old.tie }
-    ensures step { (s : State) → StandsFor core.old s → IfOk result (λ output.
-        (output_of output ≡ (step s (event_of event.now)).0)
-        × StandsFor core.new (step s (event_of event.now)).1) }
+    ensures happens { IfOk result (λ given. HasHappened (event_of event.now)
+        core.old core.new meter.old meter.new given) }
     ensures err { OnErr result (core.new ≡ core.old) }
     ensures free { OnErr result (meter.new ≡ meter.old) }
-    ensures tie { core.new.tie ≡ core.old.tie }
-    ensures cost { PaysAtMost meter.old meter.new
-        ((event_cost (length (rows_of core.old.registry)) (length (rows_of core.new.registry)))
-        + arrived (event_of event.now)) }
 {
     match event {
         Event::Open(now, peer) => Ok(open(core, *now, *peer, meter)),
@@ -233,7 +205,7 @@ fn happen(
         Event::Gave(now, id, n) => Ok(gave(core, *now, *id, *n, meter)),
         Event::Closed(id) => Ok(closed(core, *id, meter)),
         Event::NextLost => Ok(next_lost(core, meter)),
-        Event::Datagram(now, peer, message) => datagram(alloc, core, *now, *peer, message, meter),
+        Event::Datagram(now, peer, content) => datagram(alloc, core, *now, *peer, content, meter),
     }
 }
 

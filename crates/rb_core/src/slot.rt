@@ -1,6 +1,15 @@
-//! The slot of a connection.
+//! The slot of a connection: bytes that arrive on it, and bytes that are given on it.
+ghost use Rattle.std.specs.Prelude.{◌≡◌, ◌+◌, [], None};
+ghost use Rattle.rb_xdr.specs.Meter.{PaysAtMost};
+ghost use Rattle.rb_core.specs.Calls.{message_of};
+
+use crate::giving::{advance, begin, pending, pending_len};
+use crate::message::{Message, read_message};
+use crate::reading::feed;
+use crate::types::Outcome;
 use rb_rpc::{Marks, Peer};
-use rb_xdr::Kept;
+use rb_xdr::{Kept, Meter};
+use std::mem;
 
 /// What a connection is about.
 #[derive(Clone, Copy, Debug, PartialEq, Eq)]
@@ -8,9 +17,9 @@ pub enum Stage {
     /// Between a reply and the next record.
     Idle,
     /// In the middle of a record.
-    Reading,
-    /// A reply is being given.
-    Owing,
+    Reading(Marks),
+    /// A reply is being given, and so many of its marked bytes were.
+    Owing(usize),
     /// It takes and gives nothing more, and waits to be closed.
     Lost,
 }
@@ -26,6 +35,20 @@ pub enum Wanted {
     AnyLost,
 }
 
+/// What a record said, and who sent it.
+#[derive(Drop)]
+pub struct Heard {
+    pub peer: Peer,
+    pub message: Message,
+}
+
+/// What came of a piece of bytes: how many of them were taken, and what the record said that ended with the last.
+#[derive(Drop)]
+pub struct Received {
+    pub count: usize,
+    pub heard: Option<Heard>,
+}
+
 /// What is kept of a connection.
 #[derive(Drop)]
 pub struct Slot {
@@ -34,10 +57,7 @@ pub struct Slot {
     pub stage: Stage,
     /// The moment from which its deadline counts.
     pub mark: u64,
-    pub marks: Marks,
-    /// How many bytes of the marked reply were given.
-    pub given: usize,
-    /// The front of the record that is read, and then the whole reply.
+    /// The front of the record that is read, or the whole reply.
     pub buffer: Kept,
     /// The marked fragment of the reply that is being given.
     pub window: Kept,
@@ -48,4 +68,188 @@ pub struct Slot {
 pub struct Buffers {
     pub buffer: Kept,
     pub window: Kept,
+}
+
+fn nothing() -> Received
+    ensures { result ≡ record { count = 0; heard = None } }
+{
+    Received {
+        count: 0,
+        heard: None,
+    }
+}
+
+/// Takes out what the record says whose first bytes the buffer has.
+fn take_message(buffer: &mut Kept, meter: &mut Meter) -> Message
+    requires { meter.old.tie ≡ buffer.old.tie }
+    ensures said { result ≡ message_of buffer.old.bytes }
+    ensures empty { buffer.new ≡ record buffer.old { bytes = [] } }
+    ensures cost { PaysAtMost meter.old meter.new (2 + buffer.old.cap) }
+{
+    let len = buffer.len(meter);
+    let message = read_message(buffer.lend(0..len, meter));
+    buffer.clear(meter);
+    message
+}
+
+impl Slot {
+    ghost use Rattle.std.specs.Prelude.{◌≡◌, ◌≤◌, ◌<◌, ◌+◌, ℕ, List, [], length};
+    ghost use Rattle.rb_core.specs.State.{Connection};
+    ghost use Rattle.rb_core.specs.Connections.{taking_on, settled, giving, pending_in};
+    ghost use Rattle.rb_core.specs.Slots.{Acts, StandsForConnection, IsBeforePiece, HasBuffers, IsDraft, StaysSlot, received, fed_with, feeding, is_lost_stage, is_wanted_slot};
+    ghost use Rattle.rb_core.specs.StandsFor.{outcome_with};
+    ghost use Rattle.rb_core.specs.Giving.{longest_fragment};
+    ghost use Rattle.rb_core.specs.Costs.{received_cost, show_cost, give_cost, pending_cost};
+
+    #[tactic(auto, unfolding(crate::specs::Slots::is_wanted_slot))]
+    pub fn is_wanted(&self, wanted: Wanted) -> bool
+        ensures { result ≡ is_wanted_slot wanted self.now }
+    {
+        match wanted {
+            Wanted::Live(id) => self.number == id && !self.is_lost(),
+            Wanted::Numbered(id) => self.number == id,
+            Wanted::AnyLost => self.is_lost(),
+        }
+    }
+
+    fn is_lost(&self) -> bool
+        ensures { result ≡ is_lost_stage self.now.stage }
+    {
+        matches!(self.stage, Stage::Lost)
+    }
+
+    /// Feeds the piece to the record that is read, up to the end of the record.
+    fn feed(&mut self, mut marks: Marks, piece: &[u8], clock: u64, meter: &mut Meter) -> Received
+        requires { HasBuffers meter.old.tie self.old }
+        ensures received { (c : Connection) (fed : List ℕ)
+            → IsBeforePiece self.old marks clock c fed
+            → result ≡ received piece.now c (taking_on fed piece.now) }
+        ensures stands { (c : Connection) (fed : List ℕ)
+            → IsBeforePiece self.old marks clock c fed
+            → StandsForConnection self.new (fed_with clock c (taking_on fed piece.now)) }
+        ensures within { result.count ≤ length piece.now }
+        ensures stays { StaysSlot meter.old.tie self.old self.new }
+        ensures cost { PaysAtMost meter.old meter.new (received_cost result) }
+    {
+        let fed = feed(&mut marks, &mut self.buffer, piece, meter);
+        if fed.ended {
+            self.stage = Stage::Idle;
+            self.mark = clock;
+            let message = take_message(&mut self.buffer, meter);
+            return Received {
+                count: fed.count,
+                heard: Some(Heard {
+                    peer: self.peer,
+                    message,
+                }),
+            };
+        }
+        self.stage = Stage::Reading(marks);
+        Received {
+            count: fed.count,
+            heard: None,
+        }
+    }
+
+    /// Takes bytes of the piece up to the one that ends a record, or all, and says what the record said; nothing while
+    /// a reply is owed. From the end of a record on the connection is Idle, until it is settled.
+    pub fn take(&mut self, piece: &[u8], clock: u64, meter: &mut Meter) -> Received
+        requires { HasBuffers meter.old.tie self.old }
+        ensures acts { Acts StandsForConnection (feeding clock piece.now) self.old self.new result }
+        ensures within { result.count ≤ length piece.now }
+        ensures stays { StaysSlot meter.old.tie self.old self.new }
+        ensures cost { PaysAtMost meter.old meter.new (received_cost result) }
+    {
+        if piece.is_empty() {
+            return nothing();
+        }
+        match self.stage {
+            Stage::Idle => {
+                self.mark = clock;
+                self.feed(Marks::new(), piece, clock, meter)
+            }
+            Stage::Reading(marks) => self.feed(marks, piece, clock, meter),
+            Stage::Owing(_) | Stage::Lost => nothing(),
+        }
+    }
+
+    /// Goes on as its record is answered: it takes the reply in exchange for its own buffer and owes it, or is Lost.
+    pub fn settle(&mut self, outcome: Outcome, reply: &mut Kept, clock: u64, meter: &mut Meter)
+        requires buffers { HasBuffers meter.old.tie self.old }
+        requires draft { IsDraft meter.old.tie reply.old }
+        requires some { outcome ≡ Outcome.Reply → 0 < length reply.old.bytes }
+        ensures stands { (c : Connection) → StandsForConnection self.old c → StandsForConnection
+            self.new (settled clock (outcome_with outcome reply.old.bytes) c) }
+        ensures stays { StaysSlot meter.old.tie self.old self.new }
+        ensures draft { IsDraft meter.old.tie reply.new }
+        ensures empty { reply.new.bytes ≡ [] }
+        ensures cost { PaysAtMost meter.old meter.new (show_cost + 1) }
+    {
+        self.mark = clock;
+        match outcome {
+            Outcome::NoCall => {
+                self.stage = Stage::Lost;
+                reply.clear(meter);
+            }
+            Outcome::Reply => {
+                self.stage = Stage::Owing(0);
+                self.buffer.clear(meter);
+                mem::swap(&mut self.buffer, reply);
+                begin(&self.buffer, &mut self.window, meter);
+            }
+        }
+    }
+
+    /// Counts n of the pending bytes as given, or as many as there are: with the last byte of its reply the
+    /// connection is Idle again.
+    pub fn give(&mut self, n: usize, clock: u64, meter: &mut Meter)
+        requires { HasBuffers meter.old.tie self.old }
+        ensures acts { Acts StandsForConnection (giving clock n) self.old self.new tt }
+        ensures stays { StaysSlot meter.old.tie self.old self.new }
+        ensures cost { PaysAtMost meter.old meter.new give_cost }
+    {
+        let Stage::Owing(given) = self.stage else {
+            return;
+        };
+        let more = n.min(pending_len(&self.window, given, meter));
+        if more == 0 {
+            return;
+        }
+        self.mark = clock;
+        match advance(&self.buffer, &mut self.window, given, more, meter) {
+            Some(given) => self.stage = Stage::Owing(given),
+            None => {
+                self.stage = Stage::Idle;
+                self.buffer.clear(meter);
+                self.window.clear(meter);
+            }
+        }
+    }
+
+    /// How many bytes are pending.
+    pub fn pending_len(&self, meter: &mut Meter) -> usize
+        requires { HasBuffers meter.old.tie self.now }
+        ensures len { (c : Connection) → StandsForConnection self.now c
+            → result ≡ length (pending_in c.phase) }
+        ensures cost { PaysAtMost meter.old meter.new 1 }
+    {
+        match self.stage {
+            Stage::Owing(given) => pending_len(&self.window, given, meter),
+            Stage::Idle | Stage::Reading(_) | Stage::Lost => 0,
+        }
+    }
+
+    /// The rest of the current fragment of the reply that is owed, empty where none is.
+    pub fn pending(&self, meter: &mut Meter) -> &[u8]
+        requires { HasBuffers meter.old.tie self.now }
+        ensures pending { (c : Connection) → StandsForConnection self.now c
+            → result.now ≡ pending_in c.phase }
+        ensures few { length result.now ≤ longest_fragment }
+        ensures cost { PaysAtMost meter.old meter.new pending_cost }
+    {
+        match self.stage {
+            Stage::Owing(given) => pending(&self.window, given, meter),
+            Stage::Idle | Stage::Reading(_) | Stage::Lost => self.window.lend(0..0, meter),
+        }
+    }
 }

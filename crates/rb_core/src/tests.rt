@@ -1,6 +1,4 @@
-ghost use Rattle.std.specs.Prelude.{◌≡◌, ◌^◌, ◌<◌};
-
-use crate::{Answer, Core, CoreFault, Event, Limits, Listener, Output, Peer, replay};
+use crate::{Core, CoreFault, Event, Limits, Listener, Outcome, Output, Peer, replay};
 use rb_xdr::Meter;
 use std::alloc::{AllocError, Global};
 use std::test::Fail;
@@ -38,7 +36,7 @@ fn new_core_has_memory(rt: HostRuntime) -> Result<(), Fail> {
     let call = words(rt.alloc(), &[1, 0, 2, 100_000, 2, 0, 0, 0, 0, 0])?;
     assert_eq!(rt;
         core.datagram(0, LOOPBACK, &call, &mut meter),
-        Answer::Reply
+        Outcome::Reply
     );
     let reply = words(rt.alloc(), &[1, 1, 0, 0, 0, 0])?;
     assert_eq!(rt; core.udp_reply(&mut meter), reply.as_slice());
@@ -56,64 +54,6 @@ fn limits_and_numbers(rt: HostRuntime) {
         let made = Core::new(rt.alloc(), limits, LISTENER, 1000, 0, &mut Meter::new());
         assert!(rt; matches!(made, Err(CoreFault::BadLimits)));
     }
-}
-
-/// The length of what a version 2 DUMP over UDP is answered with.
-fn dump_length(alloc: Global, core: &mut Core, meter: &mut Meter) -> Result<usize, AllocError>
-    requires { meter.old.tie ≡ core.old.tie }
-    ensures core { core.new.tie ≡ core.old.tie }
-    ensures meter { meter.new.tie ≡ meter.old.tie }
-{
-    let dump = words(alloc, &[7, 0, 2, 100_000, 2, 4, 0, 0, 0, 0])?;
-    core.datagram(0, LOOPBACK, &dump, meter);
-    Ok(core.udp_reply(meter).len())
-}
-
-/// Sets this many programs from the first one on, and says how many were taken.
-fn set_programs(
-    alloc: Global,
-    core: &mut Core,
-    first: u32,
-    count: u32,
-    meter: &mut Meter,
-) -> Result<u32, AllocError>
-    requires tie { meter.old.tie ≡ core.old.tie }
-    requires first { first < 2 ^ 31 }
-    requires count { count < 2 ^ 31 }
-    ensures core { core.new.tie ≡ core.old.tie }
-    ensures meter { meter.new.tie ≡ meter.old.tie }
-{
-    let mut taken: u32 = 0;
-    for i in 0..count {
-        let set = words(
-            alloc,
-            &[1, 0, 2, 100_000, 2, 1, 0, 0, 0, 0, first + i, 1, 6, 2049],
-        )?;
-        core.datagram(0, LOOPBACK, &set, meter);
-        if core.udp_reply(meter).last() == Some(&1) {
-            taken = taken.saturating_add(1);
-        }
-    }
-    Ok(taken)
-}
-
-/// At a limit of 450 rows: with 448 rows a version 2 DUMP has 8,988 bytes, with 449 it is SYSTEM_ERR, and behind the
-/// 450th no row is taken.
-#[test]
-fn greatest_dump_of_version_2(rt: HostRuntime) -> Result<(), Fail> {
-    let mut meter = Meter::new();
-    let mut core = Core::new(rt.alloc(), limits(450), LISTENER, 1000, 0, &mut meter)?;
-    let taken = set_programs(rt.alloc(), &mut core, 200_001, 442, &mut meter)?;
-    assert_eq!(rt; taken, 442);
-    let length = dump_length(rt.alloc(), &mut core, &mut meter)?;
-    assert_eq!(rt; length, 8_988);
-    let taken = set_programs(rt.alloc(), &mut core, 200_443, 1, &mut meter)?;
-    assert_eq!(rt; taken, 1);
-    let length = dump_length(rt.alloc(), &mut core, &mut meter)?;
-    assert_eq!(rt; length, 24);
-    let taken = set_programs(rt.alloc(), &mut core, 200_444, 5, &mut meter)?;
-    assert_eq!(rt; taken, 1);
-    Ok(())
 }
 
 fn silent_is_last(outputs: &[Output]) -> bool {
@@ -156,31 +96,5 @@ fn connections_have_memory(rt: HostRuntime) -> Result<(), Fail> {
     let lost = core.next_lost(&mut meter);
     core.closed(id, &mut meter)?;
     assert!(rt; taken.count == 44 && pending == 25 && lost.is_none());
-    Ok(())
-}
-
-fn written_in_parts(alloc: Global) -> Result<Vec<Event>, AllocError> {
-    let mut events = Vec::new(alloc);
-    events.push(Event::Open(0, LOOPBACK))?;
-    events.push(Event::Bytes(0, 1, null_record(alloc)?))?;
-    events.push(Event::Gave(0, 1, 27))?;
-    events.push(Event::Gave(0, 1, 2))?;
-    events.push(Event::Pending(1))?;
-    Ok(events)
-}
-
-fn too_much_is_next_to_last(outputs: &[Output]) -> bool {
-    matches!(outputs.get(3), Some(Output::TooMuch))
-}
-
-/// Of 28 reply bytes 27 are taken, then 2: more than is left is refused, and the events go on.
-#[test]
-fn partial_writes(rt: HostRuntime) -> Result<(), Fail> {
-    let mut meter = Meter::new();
-    let mut core = Core::new(rt.alloc(), limits(300), LISTENER, 1000, 0, &mut meter)?;
-    let events = written_in_parts(rt.alloc())?;
-    let mut outputs = Vec::new(rt.alloc());
-    replay(rt.alloc(), &mut core, &events, &mut outputs, &mut meter)?;
-    assert!(rt; outputs.len() == 5 && too_much_is_next_to_last(&outputs));
     Ok(())
 }

@@ -1,4 +1,7 @@
 //! What calls on a core are given, and what they answer.
+ghost use Rattle.std.specs.Prelude.{◌≡◌};
+ghost use Rattle.rb_core.specs.Step.{fault_number};
+
 use thiserror::Error;
 
 /// How much a core may hold: connections (1 to 256), rows (8 to 4,096) and forwarded calls (0 to 64).
@@ -9,13 +12,25 @@ pub struct Limits {
     pub forwards: usize,
 }
 
-/// What becomes of a datagram.
+/// What a message is answered with.
 #[derive(Clone, Copy, Debug, PartialEq, Eq)]
-pub enum Answer {
-    /// `Core::udp_reply` lends the reply.
+pub enum Outcome {
+    /// Nothing: it is no call. A connection on which it came is Lost.
+    NoCall,
+    /// A reply, which is written.
     Reply,
-    /// It is not answered.
-    Silent,
+}
+
+impl Outcome {
+    ghost use Rattle.std.specs.Prelude.{◌≡◌, ℕ, List};
+    ghost use Rattle.rb_core.specs.Calls.{is_no_call};
+    ghost use Rattle.rb_core.specs.StandsFor.{outcome_with};
+
+    pub(crate) fn is_no_call(self) -> bool
+        ensures { (reply : List ℕ) → result ≡ is_no_call (outcome_with self reply) }
+    {
+        matches!(self, Outcome::NoCall)
+    }
 }
 
 /// How far the bytes that arrived on a connection were taken.
@@ -45,4 +60,13 @@ pub enum CoreFault {
     /// There is no connection of that number that is asked for.
     #[error("gone")]
     Gone,
+}
+
+impl CoreFault {
+    /// Its number, from 1 to 5 in the order above.
+    pub fn number(self) -> u32
+        ensures { result ≡ fault_number self }
+    {
+        self as u32
+    }
 }

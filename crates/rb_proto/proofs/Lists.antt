@@ -103,6 +103,7 @@ pub record Measuring (f : Row → List ℕ) (kept : Registry) (stamp : ℕ) (cur
   pub place : StandsIn kept stamp cursor
   pub fits : behind + length (passed_bytes f kept stamp cursor) ≡ room
   pub tie : meter.tie ≡ first.tie
+  pub rises : first.steps ≤ meter.steps
   pub steps : meter.steps ≤ first.steps + 2 * rows_passed kept stamp cursor
 
 pub nothing_measured : (f : Row → List ℕ) (kept : Registry) (stamp : ℕ) (cursor : Option ℕ) (room : ℕ) (first : Meter)
@@ -111,6 +112,7 @@ nothing_measured f kept stamp cursor room first place none = record {
   place = place;
   fits = omega (arith, ap length (none_passed f kept stamp cursor none));
   tie = refl;
+  rises = omega arith;
   steps = omega arith;
 }
 
@@ -121,6 +123,7 @@ module _ (f : Row → List ℕ) (kept : Registry) (stamp : ℕ) (cursor : Option
     place = passes.place;
     fits = omega (arith, fits, m.fits, one_longer f kept stamp cursor row next passes);
     tie = cost.tie ∙ m.tie;
+    rises = omega (arith, m.rises, cost.rises);
     steps = omega (arith, passes.passed, m.steps, cost.steps);
   }
 
@@ -136,6 +139,7 @@ pub record Writing (f : Row → List ℕ) (kept : Registry) (stamp : ℕ) (curso
   pub place : StandsIn kept stamp cursor
   pub written : out ≡ record began { bytes = began.bytes ++ passed_bytes f kept stamp cursor }
   pub tie : meter.tie ≡ first.tie
+  pub rises : first.steps ≤ meter.steps
   pub steps : meter.steps ≤ first.steps + 2 * rows_passed kept stamp cursor + length (passed_bytes f kept stamp cursor)
 
 pub nothing_written : (f : Row → List ℕ) (kept : Registry) (stamp : ℕ) (cursor : Option ℕ) (began : Kept) (first : Meter)
@@ -145,6 +149,7 @@ nothing_written f kept stamp cursor began first place none = record {
   written =
       ap (λ (xs : List ℕ). record began { bytes = xs }) (sym (append-nil began.bytes) ∙ ap (λ (xs : List ℕ). began.bytes ++ xs) (sym (none_passed f kept stamp cursor none)));
   tie = refl;
+  rises = omega arith;
   steps = omega arith;
 }
 
@@ -165,6 +170,7 @@ module _ (f : Row → List ℕ) (kept : Registry) (stamp : ℕ) (cursor : Option
       place = passes.place;
       written = added ∙ behind (f row) ∙ ap (λ (xs : List ℕ). record began { bytes = began.bytes ++ xs }) (sym (one_passed f kept stamp cursor row next passes));
       tie = cost.tie ∙ looked.tie ∙ w.tie;
+      rises = omega (arith, w.rises, looked.rises, cost.rises);
       steps = omega (arith, passes.passed, w.steps, looked.steps, cost.steps, one_longer f kept stamp cursor row next passes);
     }
 

@@ -1,58 +1,45 @@
--- What each procedure answers and changes, over what it sees (RFC 1833 sections 2.2 and 3.2).
-use Rattle.std.specs.Prelude.{ℕ, ◌/◌, ◌-◌, ◌^◌, ◌==◌, nat_le, min, Bool, false, not, ◌&&◌, if◌then◌else◌, List, [], ◌∷◌, ◌++◌, length, Option, Some, None, option_map, option_and_then, is_some}
+-- What each procedure is answered, and the ledger after it (RFC 1833 sections 2.2 and 3.2).
+use Rattle.std.specs.Prelude.{ℕ, ◌/◌, ◌-◌, ◌^◌, ◌==◌, nat_le, min, Bool, false, not, ◌&&◌, if◌then◌else◌, List, [], ◌∷◌, ◌++◌, length, Option, Some, None, option_map, option_and_then}
 use Rattle.std.specs.Option.{option_map_or}
 use Rattle.rb_rpc.specs.declared.call.CallHead.{CallHead}
-use Rattle.rb_rpc.specs.declared.peer.Caller.{Caller}
 use Rattle.rb_uaddr.specs.declared.address.Uaddr.TheVariants.{V4}
 use Rattle.rb_uaddr.specs.Uaddr.{any_host, port_of, parse, text_of, merged, transport_of, from_transport}
 use Rattle.rb_registry.specs.declared.row.Netid.{Netid}
 use Rattle.rb_registry.specs.declared.row.Owner.{Owner}
 use Rattle.rb_registry.specs.declared.row.Row.{Row}
+use Rattle.rb_registry.specs.declared.row.Which.{Which}
 use Rattle.rb_registry.specs.declared.row.Which.TheVariants.{Inet}
-use Rattle.rb_registry.specs.Registry.{Registry, rows_of}
 use Rattle.rb_registry.specs.Rows.{Change, rpcb_prog, has_place, removes_some, find_exact, find_row}
 use Rattle.rb_registry.specs.Rows.Change.{Added, Removed}
-use Rattle.rb_proto.specs.declared.listener.Listener.{Listener}
 use Rattle.rb_proto.specs.declared.mapping.Mapping.{Mapping}
 use Rattle.rb_proto.specs.declared.rpcb.Rpcb.{Rpcb}
 use Rattle.rb_proto.specs.declared.netbuf.Netbuf.{Netbuf}
+use Rattle.rb_proto.specs.declared.procedure.VoidProcedure.TheVariants as voids
+use Rattle.rb_proto.specs.declared.procedure.MappingProcedure.TheVariants as mappings
+use Rattle.rb_proto.specs.declared.procedure.RpcbProcedure.TheVariants as rpcbs
+use Rattle.rb_proto.specs.declared.request.Request.TheVariants as requests
 use Rattle.rb_proto.specs.declared.answers.Answer.TheVariants.{Results, Rows}
+use Rattle.rb_proto.specs.declared.answers.Listing.{Listing}
 use Rattle.rb_proto.specs.declared.answers.Listing.TheVariants.{Mappings, Rpcbs, Entries}
+use Rattle.rb_proto.specs.declared.answers.Value.{Value}
 use Rattle.rb_proto.specs.declared.answers.Value.TheVariants as values
-use Rattle.rb_proto.specs.declared.request.Request.TheVariants.{Null, PmapSet, PmapUnset, Getport, PmapDump, Set, Unset, Getaddr, Dump, Gettime, Uaddr2taddr, Taddr2uaddr, Getversaddr, Getaddrlist}
 use Rattle.rb_proto.specs.Arguments.{Request}
 use Rattle.rb_proto.specs.Callers.{is_local, peer_of, netid_of, owner_of}
 use Rattle.rb_proto.specs.Netids.{netid_named, netid_of_prot, which_of}
+use Rattle.rb_proto.specs.Ledger.{Ledger, rows_in}
 pub use Rattle.rb_proto.specs.declared.answers.Answer.{Answer}
+pub use Rattle.rb_proto.specs.declared.call.Call.{Call}
+pub use Rattle.rb_proto.specs.declared.context.Context.{Context}
 
--- What a procedure sees: the listener's host, the limit of rows, the live rows, the number of changes so far, the clock
--- in milliseconds, and of its caller whether it is local, the netid of its transport, and who it says to be.
-pub record Seen : Type 0 where
-  pub host : List ℕ
-  pub limit : ℕ
-  pub rows : List Row
-  pub count : ℕ
-  pub clock : ℕ
-  pub caller_is_local : Bool
-  pub caller_netid : Netid
-  pub owner : Owner
+-- ---- changes
 
--- a call that comes to a listener, with this limit of rows, these live rows and so many changes
-abbrev pub seen_by : Listener → Caller → CallHead → ℕ → ℕ → List Row → ℕ → Seen
-seen_by listener caller head clock limit rows count = record {
-  host = listener.host;
-  limit = limit;
-  rows = rows;
-  count = count;
-  clock = clock;
-  caller_is_local = is_local listener (peer_of caller).host;
-  caller_netid = netid_of caller;
-  owner = owner_of head.cred;
-}
+-- the caller is on this machine
+unfoldable pub comes_from_here : Context → Bool
+comes_from_here context = is_local context.listener (peer_of context.caller).host
 
--- the same of what a registry keeps
-abbrev pub seen_in : Listener → Caller → CallHead → ℕ → Registry → Seen
-seen_in listener caller head clock kept = seen_by listener caller head clock kept.limit (rows_of kept) kept.stamp
+-- the change behind the others, where it is accepted, and whether it is
+abbrev pub change_if : Bool → Change → Ledger → Bool × Ledger
+change_if accepted change l = (accepted, record l { changes = if accepted then l.changes ++ change ∷ [] else l.changes })
 
 -- ---- SET (RPCBPROC_SET, PMAPPROC_SET)
 
@@ -72,51 +59,31 @@ row_of_rpcb owner r =
     at : Netid → Row
     at netid = record { prog = r.prog; vers = r.vers; netid = netid; addr = r.addr; owner = owner }
 
--- the row that a SET asks for
-unfoldable pub row_to_set : Seen → Request → Option Row
-row_to_set seen (PmapSet m) = row_of_mapping seen.owner m
-row_to_set seen (Set r) = row_of_rpcb seen.owner r
-row_to_set seen _ = None
-
 -- another program than the portmapper's own, at a universal address that has a port
 unfoldable pub can_be_set : Row → Bool
 can_be_set row = not (row.prog == rpcb_prog) && option_map_or (λ u. not (port_of u == 0)) (parse row.addr) false
 
-unfoldable pub is_accepted : Seen → Row → Bool
-is_accepted seen row = seen.caller_is_local && can_be_set row && has_place seen.limit seen.rows seen.count row
+-- a caller on this machine may set the row, and there is a place for it
+unfoldable pub accepts_row : Context → Ledger → Row → Bool
+accepts_row context l row = comes_from_here context && can_be_set row && has_place context.limit (rows_in l) (length l.changes) row
 
-abbrev pub only_if : {A : Type 0} → (A → Bool) → Option A → Option A
-only_if test None = None
-only_if test (Some x) = if test x then Some x else None
-
--- the row that is set, where one is
-unfoldable pub row_set : Seen → Request → Option Row
-row_set seen request = only_if (is_accepted seen) (row_to_set seen request)
+-- A SET of the row that is asked for, if there is one: TRUE and the row added, else FALSE.
+unfoldable pub set_row : Context → Option Row → Ledger → Bool × Ledger
+set_row context None l = (false, l)
+set_row context (Some row) l = change_if (accepts_row context l row) (Added row) l
 
 -- ---- UNSET (RPCBPROC_UNSET, PMAPPROC_UNSET)
 
--- the removal that an UNSET asks for; prot, port, r_addr and r_owner are ignored
-unfoldable pub removal_of : Seen → Request → Option Change
-removal_of seen (PmapUnset m) = Some (Removed m.prog m.vers Inet seen.owner)
-removal_of seen (Unset r) = option_map (λ which. Removed r.prog r.vers which seen.owner) (which_of r.netid)
-removal_of seen _ = None
+-- a caller on this machine may remove some row by it
+unfoldable pub accepts_removal : Context → Ledger → Change → Bool
+accepts_removal context l removal = comes_from_here context && removes_some (rows_in l) (length l.changes) removal
 
-unfoldable pub is_removed : Seen → Change → Bool
-is_removed seen change = seen.caller_is_local && removes_some seen.rows seen.count change
-
--- the removal, where something is removed
-unfoldable pub removal_made : Seen → Request → Option Change
-removal_made seen request = only_if (is_removed seen) (removal_of seen request)
-
--- ---- the changes after a request
-
-abbrev pub changes_made : Option Row → Option Change → List Change → List Change
-changes_made (Some row) _ changes = changes ++ Added row ∷ []
-changes_made None (Some removal) changes = changes ++ removal ∷ []
-changes_made None None changes = changes
-
-unfoldable pub changes_after : Seen → Request → List Change → List Change
-changes_after seen request changes = changes_made (row_set seen request) (removal_made seen request) changes
+-- An UNSET of a version of a program on these netids, if they are known, by this owner: TRUE where some row is removed,
+-- else FALSE.
+unfoldable pub unset_rows : Context → Owner → ℕ → ℕ → Option Which → Ledger → Bool × Ledger
+unset_rows context owner prog vers None l = (false, l)
+unset_rows context owner prog vers (Some which) l =
+    change_if (accepts_removal context l (Removed prog vers which owner)) (Removed prog vers which owner) l
 
 -- ---- rows that are asked for
 
@@ -128,18 +95,6 @@ shown_text host addr = option_map_or (λ u. text_of (merged host u)) (parse addr
 unfoldable pub shown_port : List ℕ → ℕ
 shown_port addr = option_map_or port_of (parse addr) 0
 
--- GETPORT: by the netid of prot
-unfoldable pub row_of_getport : List Row → Mapping → Option Row
-row_of_getport rows m = option_and_then (λ netid. find_row m.prog m.vers netid rows) (netid_of_prot m.prot)
-
--- GETADDR: by the transport on which the call came; r_netid is ignored
-abbrev pub row_of_getaddr : Seen → Rpcb → Option Row
-row_of_getaddr seen r = find_row r.prog r.vers seen.caller_netid seen.rows
-
--- GETVERSADDR: the exact version alone
-abbrev pub row_of_getversaddr : Seen → Rpcb → Option Row
-row_of_getversaddr seen r = find_exact r.prog r.vers seen.caller_netid seen.rows
-
 -- 0 where there is no row
 abbrev pub port_found : Option Row → ℕ
 port_found found = option_map_or (λ (row : Row). shown_port row.addr) found 0
@@ -147,6 +102,18 @@ port_found found = option_map_or (λ (row : Row). shown_port row.addr) found 0
 -- empty where there is no row
 abbrev pub addr_found : List ℕ → Option Row → List ℕ
 addr_found host found = option_map_or (λ (row : Row). shown_text host row.addr) found []
+
+-- PMAPPROC_GETPORT: by the netid of prot; port is ignored
+unfoldable pub getport : Mapping → List Row → ℕ
+getport m rows = port_found (option_and_then (λ netid. find_row m.prog m.vers netid rows) (netid_of_prot m.prot))
+
+-- RPCBPROC_GETADDR: by the transport on which the call came; r_netid, r_addr and r_owner are ignored
+unfoldable pub getaddr : Context → Rpcb → List Row → List ℕ
+getaddr context r rows = addr_found context.listener.host (find_row r.prog r.vers (netid_of context.caller) rows)
+
+-- RPCBPROC_GETVERSADDR: the same, of the exact version alone
+unfoldable pub getversaddr : Context → Rpcb → List Row → List ℕ
+getversaddr context r rows = addr_found context.listener.host (find_exact r.prog r.vers (netid_of context.caller) rows)
 
 -- ---- the rest
 
@@ -162,20 +129,37 @@ taddr_of text = let buf = option_map_or transport_of (parse text) [] in record {
 unfoldable pub uaddr_of : Netbuf → List ℕ
 uaddr_of netbuf = option_map_or text_of (from_transport netbuf.buf) []
 
--- ---- the answers
+-- ---- the table
 
-unfoldable pub answer : Seen → Request → Answer
-answer seen Null = Results values.Void
-answer seen (PmapSet m) = Results (values.Bool (is_some (row_set seen (PmapSet m))))
-answer seen (PmapUnset m) = Results (values.Bool (is_some (removal_made seen (PmapUnset m))))
-answer seen (Getport m) = Results (values.Number (port_found (row_of_getport seen.rows m)))
-answer seen PmapDump = Rows Mappings
-answer seen (Set r) = Results (values.Bool (is_some (row_set seen (Set r))))
-answer seen (Unset r) = Results (values.Bool (is_some (removal_made seen (Unset r))))
-answer seen (Getaddr r) = Results (values.Text (addr_found seen.host (row_of_getaddr seen r)))
-answer seen Dump = Rows Rpcbs
-answer seen Gettime = Results (values.Number (seconds seen.clock))
-answer seen (Uaddr2taddr text) = Results (values.Netbuf (taddr_of text))
-answer seen (Taddr2uaddr netbuf) = Results (values.Text (uaddr_of netbuf))
-answer seen (Getversaddr r) = Results (values.Text (addr_found seen.host (row_of_getversaddr seen r)))
-answer seen (Getaddrlist r) = Rows (Entries r.prog r.vers)
+-- these results, and the ledger as it was
+abbrev pub tell : Value → Ledger → Answer × Ledger
+tell value l = (Results value, l)
+
+-- a list of the live rows, and the ledger as it was
+abbrev pub tell_rows : Listing → Ledger → Answer × Ledger
+tell_rows listing l = (Rows listing, l)
+
+-- whether something was done, and the ledger after it
+abbrev pub tell_whether : Bool × Ledger → Answer × Ledger
+tell_whether done = (Results (values.Bool done.0), done.1)
+
+-- what a call of this head is answered that asks for this
+abbrev pub answer_to : Context → CallHead → Request → Ledger → Answer × Ledger
+answer_to context head (requests.Void voids.Null) l = tell values.Void l
+answer_to context head (requests.Void voids.PmapDump) l = tell_rows Mappings l
+answer_to context head (requests.Void voids.Dump) l = tell_rows Rpcbs l
+answer_to context head (requests.Void voids.Gettime) l = tell (values.Number (seconds context.clock)) l
+answer_to context head (requests.Mapping mappings.Set m) l = tell_whether (set_row context (row_of_mapping (owner_of head.cred) m) l)
+answer_to context head (requests.Mapping mappings.Unset m) l = tell_whether (unset_rows context (owner_of head.cred) m.prog m.vers (Some Inet) l)
+answer_to context head (requests.Mapping mappings.Getport m) l = tell (values.Number (getport m (rows_in l))) l
+answer_to context head (requests.Rpcb rpcbs.Set r) l = tell_whether (set_row context (row_of_rpcb (owner_of head.cred) r) l)
+answer_to context head (requests.Rpcb rpcbs.Unset r) l = tell_whether (unset_rows context (owner_of head.cred) r.prog r.vers (which_of r.netid) l)
+answer_to context head (requests.Rpcb rpcbs.Getaddr r) l = tell (values.Text (getaddr context r (rows_in l))) l
+answer_to context head (requests.Rpcb rpcbs.Getversaddr r) l = tell (values.Text (getversaddr context r (rows_in l))) l
+answer_to context head (requests.Rpcb rpcbs.Getaddrlist r) l = tell_rows (Entries r.prog r.vers) l
+answer_to context head (requests.Uaddr2taddr text) l = tell (values.Netbuf (taddr_of text)) l
+answer_to context head (requests.Taddr2uaddr netbuf) l = tell (values.Text (uaddr_of netbuf)) l
+
+-- what a call is answered, and the ledger after it
+unfoldable pub answer : Context → Call → Ledger → Answer × Ledger
+answer context call l = answer_to context call.head call.request l

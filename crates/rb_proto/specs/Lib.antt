@@ -1,10 +1,10 @@
 pub mod Types
-pub mod Readings
 pub mod Arguments
 pub mod Grammar
 pub mod Netids
 pub mod Callers
+pub mod Ledger
 pub mod Answers
 pub mod Results
-pub mod Asked
+pub mod Puts
 pub mod Worked

@@ -4,7 +4,9 @@ use Rattle.std.specs.List.{flat_map}
 use Rattle.rb_xdr.specs.Xdr.{number, boolean, opaque, listed}
 use Rattle.rb_registry.specs.declared.row.Row.{Row}
 use Rattle.rb_registry.specs.declared.row.Which.TheVariants.{Inet}
+use Rattle.rb_registry.specs.Registry.{Registry, rows_of}
 use Rattle.rb_registry.specs.Rows.{netid_text, is_among}
+use Rattle.rb_proto.specs.declared.listener.Listener.{Listener}
 use Rattle.rb_proto.specs.declared.mapping.Mapping.{Mapping}
 use Rattle.rb_proto.specs.declared.rpcb.Rpcb.{Rpcb}
 use Rattle.rb_proto.specs.declared.entry.Entry.{Entry}
@@ -14,10 +16,9 @@ use Rattle.rb_proto.specs.declared.answers.Listing.TheVariants.{Mappings, Rpcbs,
 use Rattle.rb_proto.specs.declared.answers.Value.{Value}
 use Rattle.rb_proto.specs.declared.answers.Value.TheVariants as values
 use Rattle.rb_proto.specs.Types.{mapping_spelling, rpcb_spelling, netbuf_spelling, entry_spelling}
-use Rattle.rb_proto.specs.Arguments.{Request}
 use Rattle.rb_proto.specs.Callers.{owner_text}
 use Rattle.rb_proto.specs.Netids.{prot_of, semantics_of, family_text, proto_text}
-use Rattle.rb_proto.specs.Answers.{Seen, Answer, answer, shown_text, shown_port}
+use Rattle.rb_proto.specs.Answers.{Answer, shown_text, shown_port}
 
 -- ---- one result
 
@@ -66,16 +67,19 @@ unfoldable pub result_bytes : List ℕ → List Row → Answer → List ℕ
 result_bytes host rows (Results value) = value_bytes value
 result_bytes host rows (Rows list) = list_bytes host rows list
 
-unfoldable pub results : Seen → Request → List ℕ
-results seen request = result_bytes seen.host seen.rows (answer seen request)
+-- where a registry keeps the rows
+abbrev pub results_at : Listener → Registry → Answer → List ℕ
+results_at listener kept answer = result_bytes listener.host (rows_of kept) answer
 
 -- ---- one row
 
+-- whether a list of this kind has an item for the row
 abbrev pub is_shown : Listing → Row → Bool
 is_shown Mappings row = is_inet row
 is_shown Rpcbs row = true
 is_shown (Entries prog vers) row = is_version prog vers row
 
+-- the spelling of that item
 abbrev pub item_bytes : List ℕ → Listing → Row → List ℕ
 item_bytes host Mappings row = mapping_spelling (mapping_of row)
 item_bytes host Rpcbs row = rpcb_spelling (rpcb_of row)

@@ -1,6 +1,8 @@
 -- The types of arguments and results (RFC 1833 sections 2.1 and 3.1): their values, what spells them, and how they are read.
 use Rattle.std.specs.Prelude.{ℕ, ◌+◌, List, ◌++◌}
 use Rattle.rb_xdr.specs.Xdr.{Reader, IsNumber, IsContent, number, opaque, read_number, read_opaque, max_number, max_opaque, ◌>>=◌, give}
+use Rattle.rb_xdr.specs.Forms.{Form}
+use Rattle.rb_xdr.specs.Forms.Form.{Number, Content, Then}
 use Rattle.rb_proto.specs.declared.mapping.Mapping.{Mapping}
 use Rattle.rb_proto.specs.declared.rpcb.Rpcb.{Rpcb}
 use Rattle.rb_proto.specs.declared.netbuf.Netbuf.{Netbuf}
@@ -19,6 +21,9 @@ mapping_spelling m = number m.prog ++ (number m.vers ++ (number m.prot ++ number
 
 abbrev pub max_mapping : ℕ
 max_mapping = max_number + max_number + max_number + max_number
+
+abbrev pub mapping_form : Form
+mapping_form = Then Number (Then Number (Then Number Number))
 
 unfoldable pub read_mapping : Reader Mapping
 read_mapping = do
@@ -43,6 +48,9 @@ rpcb_spelling r = number r.prog ++ (number r.vers ++ (opaque r.netid ++ (opaque 
 abbrev pub max_rpcb : ℕ
 max_rpcb = max_number + max_number + max_opaque 32 + max_opaque 128 + max_opaque 128
 
+abbrev pub rpcb_form : Form
+rpcb_form = Then Number (Then Number (Then (Content 32) (Then (Content 128) (Content 128))))
+
 unfoldable pub read_rpcb : Reader Rpcb
 read_rpcb = do
   prog ← read_number
@@ -64,6 +72,9 @@ netbuf_spelling n = number n.maxlen ++ opaque n.buf
 abbrev pub max_netbuf : ℕ
 max_netbuf = max_number + max_opaque 128
 
+abbrev pub netbuf_form : Form
+netbuf_form = Then Number (Content 128)
+
 unfoldable pub read_netbuf : Reader Netbuf
 read_netbuf = do
   maxlen ← read_number
@@ -84,6 +95,9 @@ entry_spelling e = opaque e.maddr ++ (opaque e.netid ++ (number e.semantics ++ (
 
 abbrev pub max_entry : ℕ
 max_entry = max_opaque 128 + max_opaque 32 + max_number + max_opaque 32 + max_opaque 32
+
+abbrev pub entry_form : Form
+entry_form = Then (Content 128) (Then (Content 32) (Then Number (Then (Content 32) (Content 32))))
 
 unfoldable pub read_entry : Reader Entry
 read_entry = do

@@ -8,19 +8,21 @@ use Rattle.rb_rpc.specs.declared.peer.Caller.TheVariants.{Tcp, Udp}
 use Rattle.rb_registry.specs.declared.row.Netid.TheVariants as netids
 use Rattle.rb_registry.specs.declared.row.Owner.TheVariants as owners
 use Rattle.rb_registry.specs.declared.row.Row.{Row}
-use Rattle.rb_registry.specs.Rows.{Change, live}
+use Rattle.rb_registry.specs.Rows.{rpcb_prog}
 use Rattle.rb_proto.specs.declared.listener.Listener.{Listener}
 use Rattle.rb_proto.specs.declared.request.ArgumentFault.{ArgumentFault}
 use Rattle.rb_proto.specs.declared.request.ArgumentFault.TheVariants.{ProcUnavail, GarbageArgs}
 use Rattle.rb_proto.specs.declared.answers.Listing.TheVariants.{Mappings}
 use Rattle.rb_proto.specs.Arguments.{Request, read_request}
 use Rattle.rb_proto.specs.Callers.{own_rows}
-use Rattle.rb_proto.specs.Answers.{Seen, seen_by, changes_after}
-use Rattle.rb_proto.specs.Results.{list_bytes, results}
+use Rattle.rb_proto.specs.Ledger.{Ledger, rows_in}
+use Rattle.rb_proto.specs.Answers.{Answer, Call, Context, answer}
+use Rattle.rb_proto.specs.Results.{list_bytes, result_bytes}
 
 -- ---- calls one after another
 
-pub record Ask : Type 0 where
+-- from whom a call comes, when, by which credential, and what it says
+pub record Message : Type 0 where
   pub caller : Caller
   pub cred : Credential
   pub clock : ℕ
@@ -38,44 +40,48 @@ from host = Udp (record { host = host; port = 900 })
 abbrev pub loopback : List ℕ
 loopback = 127 ∷ 0 ∷ 0 ∷ 1 ∷ []
 
-abbrev pub asks_with : Credential → ℕ → ℕ → List ℕ → Ask
-asks_with cred vers proc args = record { caller = from loopback; cred = cred; clock = 0; vers = vers; proc = proc; args = args }
+abbrev pub call_with : Credential → ℕ → ℕ → List ℕ → Message
+call_with cred vers proc args = record { caller = from loopback; cred = cred; clock = 0; vers = vers; proc = proc; args = args }
 
 -- by AUTH_NONE
-abbrev pub asks : ℕ → ℕ → List ℕ → Ask
-asks vers proc numbers = asks_with credentials.None vers proc (words numbers)
+abbrev pub call : ℕ → ℕ → List ℕ → Message
+call vers proc numbers = call_with credentials.None vers proc (words numbers)
 
 -- by AUTH_SYS
-abbrev pub asks_as : ℕ → ℕ → ℕ → List ℕ → Ask
-asks_as uid vers proc numbers = asks_with (credentials.Sys uid) vers proc (words numbers)
+abbrev pub call_as : ℕ → ℕ → ℕ → List ℕ → Message
+call_as uid vers proc numbers = call_with (credentials.Sys uid) vers proc (words numbers)
 
-abbrev pub seen : ℕ → List Change → Ask → Seen
-seen limit changes a =
-    seen_by listener a.caller (record { xid = 1; prog = 100000; vers = a.vers; proc = a.proc; cred = a.cred }) a.clock
-    limit (live (own_rows listener) changes) (length changes)
+abbrev pub context_of : ℕ → Message → Context
+context_of limit m = record { listener = listener; limit = limit; clock = m.clock; caller = m.caller }
 
-abbrev pub changed : Seen → Result Request ArgumentFault → List Change → List Change
-changed s (Ok asked) changes = changes_after s asked changes
-changed s (Err fault) changes = changes
+abbrev pub call_of : Message → Request → Call
+call_of m request = record { head = record { xid = 1; prog = rpcb_prog; vers = m.vers; proc = m.proc; cred = m.cred }; request = request }
 
--- the results, or why there are none
-abbrev pub told : Seen → Result Request ArgumentFault → Result (List ℕ) ArgumentFault
-told s (Ok asked) = Ok (results s asked)
-told s (Err fault) = Err fault
+-- the results of an answer, over the ledger that it left
+abbrev pub shown : Answer × Ledger → Result (List ℕ) ArgumentFault × Ledger
+shown given = (Ok (result_bytes listener.host (rows_in given.1) given.0), given.1)
+
+-- the results, or why there are none, and the ledger after it
+abbrev pub outcome : ℕ → Message → Ledger → Result Request ArgumentFault → Result (List ℕ) ArgumentFault × Ledger
+outcome limit m l (Ok request) = shown (answer (context_of limit m) (call_of m request) l)
+outcome limit m l (Err fault) = (Err fault, l)
 
 -- of calls one after another, over this limit of rows
-abbrev pub results_from : ℕ → List Change → List Ask → List (Result (List ℕ) ArgumentFault)
-results_from limit changes [] = []
-results_from limit changes (a ∷ later) =
-    let s = seen limit changes a in
-    let asked = read_request a.vers a.proc a.args in
-    told s asked ∷ results_from limit (changed s asked changes) later
+abbrev pub results_from : ℕ → Ledger → List Message → List (Result (List ℕ) ArgumentFault)
+results_from limit l [] = []
+results_from limit l (m ∷ later) =
+    let given = outcome limit m l (read_request m.vers m.proc m.args) in
+    given.0 ∷ results_from limit given.1 later
 
-abbrev pub results_of : List Ask → List (Result (List ℕ) ArgumentFault)
-results_of calls = results_from 300 [] calls
+-- of calls to a fresh daemon with this limit of rows
+abbrev pub results_within : ℕ → List Message → List (Result (List ℕ) ArgumentFault)
+results_within limit calls = results_from limit (record { own = own_rows listener; changes = [] }) calls
+
+abbrev pub results_of : List Message → List (Result (List ℕ) ArgumentFault)
+results_of calls = results_within 300 calls
 
 -- the results without the first so many
-abbrev pub results_behind : ℕ → List Ask → List (Result (List ℕ) ArgumentFault)
+abbrev pub results_behind : ℕ → List Message → List (Result (List ℕ) ArgumentFault)
 results_behind n calls = drop n (results_of calls)
 
 abbrev pub says : List ℕ → Result (List ℕ) ArgumentFault
@@ -92,7 +98,7 @@ no_ = says (0 ∷ [])
 -- DUMP of a fresh registry
 abbrev pub DumpOwnRows : Type 0
 DumpOwnRows =
-    results_of (asks 2 4 [] ∷ [])
+    results_of (call 2 4 [] ∷ [])
     ≡ says (
     1 ∷ 0x186a0 ∷ 4 ∷ 6 ∷ 0x6f ∷ 1 ∷ 0x186a0 ∷ 3 ∷ 6 ∷ 0x6f ∷ 1 ∷ 0x186a0 ∷ 2 ∷ 6 ∷ 0x6f
     ∷ 1 ∷ 0x186a0 ∷ 4 ∷ 17 ∷ 0x6f ∷ 1 ∷ 0x186a0 ∷ 3 ∷ 17 ∷ 0x6f ∷ 1 ∷ 0x186a0 ∷ 2 ∷ 17 ∷ 0x6f
@@ -100,41 +106,41 @@ DumpOwnRows =
 
 abbrev pub SetGetportSetAgain : Type 0
 SetGetportSetAgain =
-    results_of (asks 2 1 (0x30d41 ∷ 1 ∷ 6 ∷ 0x801 ∷ []) ∷ asks 2 3 (0x30d41 ∷ 1 ∷ 6 ∷ 0 ∷ []) ∷ asks 2 1 (0x30d41 ∷ 1 ∷ 6 ∷ 0x801 ∷ []) ∷ [])
+    results_of (call 2 1 (0x30d41 ∷ 1 ∷ 6 ∷ 0x801 ∷ []) ∷ call 2 3 (0x30d41 ∷ 1 ∷ 6 ∷ 0 ∷ []) ∷ call 2 1 (0x30d41 ∷ 1 ∷ 6 ∷ 0x801 ∷ []) ∷ [])
     ≡ yes ∷ says (0x801 ∷ []) ∷ no_ ∷ []
 
 -- the exact version, else the greatest one on that protocol
 abbrev pub GetportGreatestVersion : Type 0
 GetportGreatestVersion =
     results_of (
-    asks 2 1 (200002 ∷ 1 ∷ 6 ∷ 3001 ∷ []) ∷ asks 2 1 (200002 ∷ 3 ∷ 6 ∷ 3003 ∷ [])
-    ∷ asks 2 3 (200002 ∷ 9 ∷ 6 ∷ 0 ∷ []) ∷ asks 2 3 (200002 ∷ 1 ∷ 6 ∷ 0 ∷ [])
-    ∷ asks 2 3 (200002 ∷ 9 ∷ 17 ∷ 0 ∷ []) ∷ asks 2 3 (200002 ∷ 1 ∷ 5 ∷ 0 ∷ []) ∷ [])
+    call 2 1 (200002 ∷ 1 ∷ 6 ∷ 3001 ∷ []) ∷ call 2 1 (200002 ∷ 3 ∷ 6 ∷ 3003 ∷ [])
+    ∷ call 2 3 (200002 ∷ 9 ∷ 6 ∷ 0 ∷ []) ∷ call 2 3 (200002 ∷ 1 ∷ 6 ∷ 0 ∷ [])
+    ∷ call 2 3 (200002 ∷ 9 ∷ 17 ∷ 0 ∷ []) ∷ call 2 3 (200002 ∷ 1 ∷ 5 ∷ 0 ∷ []) ∷ [])
     ≡ yes ∷ yes ∷ says (0xbbb ∷ []) ∷ says (3001 ∷ []) ∷ no_ ∷ no_ ∷ []
 
 -- eight rows: two more than the listener's own
 abbrev pub SetAtRowLimit : Type 0
 SetAtRowLimit =
-    results_from 8 [] (asks 2 1 (200001 ∷ 1 ∷ 6 ∷ 2049 ∷ []) ∷ asks 2 1 (200002 ∷ 1 ∷ 6 ∷ 2049 ∷ []) ∷ asks 2 1 (200003 ∷ 1 ∷ 6 ∷ 2049 ∷ []) ∷ [])
+    results_within 8 (call 2 1 (200001 ∷ 1 ∷ 6 ∷ 2049 ∷ []) ∷ call 2 1 (200002 ∷ 1 ∷ 6 ∷ 2049 ∷ []) ∷ call 2 1 (200003 ∷ 1 ∷ 6 ∷ 2049 ∷ []) ∷ [])
     ≡ yes ∷ yes ∷ no_ ∷ []
 
--- a protocol or a port that there is not; the portmapper's own program
+-- no such protocol or port; the portmapper's own program
 abbrev pub VersionTwoRefuses : Type 0
 VersionTwoRefuses =
     results_of (
-    asks 2 1 (200001 ∷ 1 ∷ 5 ∷ 2049 ∷ []) ∷ asks 2 1 (200001 ∷ 1 ∷ 6 ∷ 0 ∷ []) ∷ asks 2 1 (200001 ∷ 1 ∷ 6 ∷ 65536 ∷ [])
-    ∷ asks 2 1 (100000 ∷ 9 ∷ 6 ∷ 2049 ∷ []) ∷ asks 2 1 (200001 ∷ 1 ∷ 6 ∷ 65535 ∷ []) ∷ [])
+    call 2 1 (200001 ∷ 1 ∷ 5 ∷ 2049 ∷ []) ∷ call 2 1 (200001 ∷ 1 ∷ 6 ∷ 0 ∷ []) ∷ call 2 1 (200001 ∷ 1 ∷ 6 ∷ 65536 ∷ [])
+    ∷ call 2 1 (100000 ∷ 9 ∷ 6 ∷ 2049 ∷ []) ∷ call 2 1 (200001 ∷ 1 ∷ 6 ∷ 65535 ∷ []) ∷ [])
     ≡ no_ ∷ no_ ∷ no_ ∷ no_ ∷ yes ∷ []
 
 -- UNSET of version 2, which covers tcp and udp
 abbrev pub OwnersRemove : Type 0
 OwnersRemove =
     results_of (
-    asks_as 500 2 1 (200001 ∷ 1 ∷ 6 ∷ 2049 ∷ []) ∷ asks_as 1000 2 1 (200001 ∷ 1 ∷ 17 ∷ 2049 ∷ [])
-    ∷ asks 2 2 (200001 ∷ 1 ∷ 17 ∷ 0 ∷ []) ∷ asks_as 500 2 2 (200001 ∷ 1 ∷ 17 ∷ 0 ∷ [])
-    ∷ asks 2 3 (200001 ∷ 1 ∷ 6 ∷ 0 ∷ []) ∷ asks 2 3 (200001 ∷ 1 ∷ 17 ∷ 0 ∷ [])
-    ∷ asks_as 0 2 2 (200001 ∷ 1 ∷ 17 ∷ 0 ∷ []) ∷ asks_as 0 2 2 (200001 ∷ 1 ∷ 17 ∷ 0 ∷ [])
-    ∷ asks_as 0 2 2 (100000 ∷ 2 ∷ 6 ∷ 0 ∷ []) ∷ [])
+    call_as 500 2 1 (200001 ∷ 1 ∷ 6 ∷ 2049 ∷ []) ∷ call_as 1000 2 1 (200001 ∷ 1 ∷ 17 ∷ 2049 ∷ [])
+    ∷ call 2 2 (200001 ∷ 1 ∷ 17 ∷ 0 ∷ []) ∷ call_as 500 2 2 (200001 ∷ 1 ∷ 17 ∷ 0 ∷ [])
+    ∷ call 2 3 (200001 ∷ 1 ∷ 6 ∷ 0 ∷ []) ∷ call 2 3 (200001 ∷ 1 ∷ 17 ∷ 0 ∷ [])
+    ∷ call_as 0 2 2 (200001 ∷ 1 ∷ 17 ∷ 0 ∷ []) ∷ call_as 0 2 2 (200001 ∷ 1 ∷ 17 ∷ 0 ∷ [])
+    ∷ call_as 0 2 2 (100000 ∷ 2 ∷ 6 ∷ 0 ∷ []) ∷ [])
     ≡ yes ∷ yes ∷ no_ ∷ yes ∷ no_ ∷ says (2049 ∷ []) ∷ yes ∷ no_ ∷ no_ ∷ []
 
 -- ---- versions 3 and 4
@@ -147,30 +153,30 @@ text_8_1 = 0xb ∷ 0x302e302e ∷ 0x302e302e ∷ 0x382e3100 ∷ []
 abbrev pub UnsetByOwner : Type 0
 UnsetByOwner =
     results_of (
-    asks_as 500 4 1 (0x30d41 ∷ 1 ∷ 3 ∷ 0x74637000 ∷ text_8_1 ++ 0 ∷ [])
-    ∷ asks_as 1000 4 2 (0x30d41 ∷ 1 ∷ 0 ∷ 0 ∷ 0 ∷ []) ∷ asks_as 0 4 2 (0x30d41 ∷ 1 ∷ 0 ∷ 0 ∷ 0 ∷ [])
-    ∷ asks 2 3 (0x30d41 ∷ 1 ∷ 6 ∷ 0 ∷ []) ∷ asks_as 0 4 2 (0x30d41 ∷ 1 ∷ 0 ∷ 0 ∷ 0 ∷ []) ∷ [])
+    call_as 500 4 1 (0x30d41 ∷ 1 ∷ 3 ∷ 0x74637000 ∷ text_8_1 ++ 0 ∷ [])
+    ∷ call_as 1000 4 2 (0x30d41 ∷ 1 ∷ 0 ∷ 0 ∷ 0 ∷ []) ∷ call_as 0 4 2 (0x30d41 ∷ 1 ∷ 0 ∷ 0 ∷ 0 ∷ [])
+    ∷ call 2 3 (0x30d41 ∷ 1 ∷ 6 ∷ 0 ∷ []) ∷ call_as 0 4 2 (0x30d41 ∷ 1 ∷ 0 ∷ 0 ∷ 0 ∷ []) ∷ [])
     ≡ yes ∷ no_ ∷ yes ∷ no_ ∷ no_ ∷ []
 
 -- an rpcb without an owner
 abbrev pub rpcb_args : ℕ → ℕ → List ℕ → List ℕ → List ℕ
 rpcb_args prog vers netid addr = words (prog ∷ vers ∷ []) ++ opaque netid ++ opaque addr ++ opaque []
 
--- netids that there are not, texts that are no address, and port 0
+-- unknown netids, texts that are no address, and port 0
 abbrev pub OtherAddressesRefused : Type 0
 OtherAddressesRefused =
     results_of (
-    asks_as 500 4 1 (0x30d41 ∷ 1 ∷ 4 ∷ 0x74637036 ∷ text_8_1 ++ 0 ∷ [])
-    ∷ asks_as 500 4 1 (0x30d41 ∷ 1 ∷ 3 ∷ 0x74637000 ∷ 0xb ∷ 0x302e302e ∷ 0x302e302e ∷ 0x302e3000 ∷ 0 ∷ [])
-    ∷ asks_with (credentials.Sys 500) 4 1 (rpcb_args 200001 1 (codes "tcp") (codes "::1.0.111"))
-    ∷ asks_with (credentials.Sys 500) 4 1 (rpcb_args 200001 1 (codes "sctp") (codes "0.0.0.0.8.1"))
-    ∷ asks_with (credentials.Sys 500) 4 1 (rpcb_args 200001 1 [] (codes "0.0.0.0.8.1"))
-    ∷ asks_with (credentials.Sys 0) 4 1 (rpcb_args 100000 5 (codes "tcp") (codes "0.0.0.0.8.1"))
-    ∷ asks_with (credentials.Sys 0) 4 2 (rpcb_args 100000 4 (codes "sctp") []) ∷ [])
+    call_as 500 4 1 (0x30d41 ∷ 1 ∷ 4 ∷ 0x74637036 ∷ text_8_1 ++ 0 ∷ [])
+    ∷ call_as 500 4 1 (0x30d41 ∷ 1 ∷ 3 ∷ 0x74637000 ∷ 0xb ∷ 0x302e302e ∷ 0x302e302e ∷ 0x302e3000 ∷ 0 ∷ [])
+    ∷ call_with (credentials.Sys 500) 4 1 (rpcb_args 200001 1 (codes "tcp") (codes "::1.0.111"))
+    ∷ call_with (credentials.Sys 500) 4 1 (rpcb_args 200001 1 (codes "sctp") (codes "0.0.0.0.8.1"))
+    ∷ call_with (credentials.Sys 500) 4 1 (rpcb_args 200001 1 [] (codes "0.0.0.0.8.1"))
+    ∷ call_with (credentials.Sys 0) 4 1 (rpcb_args 100000 5 (codes "tcp") (codes "0.0.0.0.8.1"))
+    ∷ call_with (credentials.Sys 0) 4 2 (rpcb_args 100000 4 (codes "sctp") []) ∷ [])
     ≡ replicate 7 no_
 
-abbrev pub set_udp : Ask
-set_udp = asks_as 500 4 1 (0x30d41 ∷ 1 ∷ 3 ∷ 0x75647000 ∷ text_8_1 ++ 0 ∷ [])
+abbrev pub set_udp : Message
+set_udp = call_as 500 4 1 (0x30d41 ∷ 1 ∷ 3 ∷ 0x75647000 ∷ text_8_1 ++ 0 ∷ [])
 
 -- the text `192.0.2.1.8.1`
 abbrev pub merged_8_1 : List ℕ
@@ -180,23 +186,23 @@ merged_8_1 = 0xd ∷ 0x3139322e ∷ 0x302e322e ∷ 0x312e382e ∷ 0x31000000 ∷
 abbrev pub GetaddrByTransport : Type 0
 GetaddrByTransport =
     results_of (
-    set_udp ∷ asks 3 3 (0x30d41 ∷ 1 ∷ 3 ∷ 0x74637000 ∷ 0 ∷ 0 ∷ []) ∷ asks 4 3 (0x30d41 ∷ 7 ∷ 3 ∷ 0x74637000 ∷ 0 ∷ 0 ∷ [])
-    ∷ asks 4 9 (0x30d41 ∷ 7 ∷ 3 ∷ 0x74637000 ∷ 0 ∷ 0 ∷ [])
-    ∷ record (asks 3 3 (0x30d41 ∷ 1 ∷ 3 ∷ 0x75647000 ∷ 0 ∷ 0 ∷ [])) { caller = Tcp 1 (record { host = loopback; port = 900 }) } ∷ [])
+    set_udp ∷ call 3 3 (0x30d41 ∷ 1 ∷ 3 ∷ 0x74637000 ∷ 0 ∷ 0 ∷ []) ∷ call 4 3 (0x30d41 ∷ 7 ∷ 3 ∷ 0x74637000 ∷ 0 ∷ 0 ∷ [])
+    ∷ call 4 9 (0x30d41 ∷ 7 ∷ 3 ∷ 0x74637000 ∷ 0 ∷ 0 ∷ [])
+    ∷ record (call 3 3 (0x30d41 ∷ 1 ∷ 3 ∷ 0x75647000 ∷ 0 ∷ 0 ∷ [])) { caller = Tcp 1 (record { host = loopback; port = 900 }) } ∷ [])
     ≡ yes ∷ says merged_8_1 ∷ says merged_8_1 ∷ no_ ∷ no_ ∷ []
 
 abbrev pub Getaddrlist : Type 0
 Getaddrlist =
-    results_of (set_udp ∷ asks 4 11 (0x30d41 ∷ 1 ∷ 0 ∷ 0 ∷ 0 ∷ []) ∷ asks 4 11 (200009 ∷ 1 ∷ 0 ∷ 0 ∷ 0 ∷ []) ∷ [])
+    results_of (set_udp ∷ call 4 11 (0x30d41 ∷ 1 ∷ 0 ∷ 0 ∷ 0 ∷ []) ∷ call 4 11 (200009 ∷ 1 ∷ 0 ∷ 0 ∷ 0 ∷ []) ∷ [])
     ≡ yes ∷ says (1 ∷ merged_8_1 ++ 3 ∷ 0x75647000 ∷ 1 ∷ 4 ∷ 0x696e6574 ∷ 3 ∷ 0x75647000 ∷ 0 ∷ []) ∷ no_ ∷ []
 
 -- of `127.0.0.1.0.111`, back, and of what is no address
 abbrev pub AddressTransportForm : Type 0
 AddressTransportForm =
     results_of (
-    asks 3 7 (0xf ∷ 0x3132372e ∷ 0x302e302e ∷ 0x312e302e ∷ 0x31313100 ∷ [])
-    ∷ asks 3 8 (0x10 ∷ 0x10 ∷ 0x0200006f ∷ 0x7f000001 ∷ 0 ∷ 0 ∷ [])
-    ∷ asks_with credentials.None 3 7 (opaque (codes "01.2.3.4.5.6")) ∷ asks 4 8 (0 ∷ 0 ∷ []) ∷ [])
+    call 3 7 (0xf ∷ 0x3132372e ∷ 0x302e302e ∷ 0x312e302e ∷ 0x31313100 ∷ [])
+    ∷ call 3 8 (0x10 ∷ 0x10 ∷ 0x0200006f ∷ 0x7f000001 ∷ 0 ∷ 0 ∷ [])
+    ∷ call_with credentials.None 3 7 (opaque (codes "01.2.3.4.5.6")) ∷ call 4 8 (0 ∷ 0 ∷ []) ∷ [])
     ≡ says (0x10 ∷ 0x10 ∷ 0x0200006f ∷ 0x7f000001 ∷ 0 ∷ 0 ∷ [])
     ∷ says (0xf ∷ 0x3132372e ∷ 0x302e302e ∷ 0x312e302e ∷ 0x31313100 ∷ [])
     ∷ says (0 ∷ 0 ∷ []) ∷ no_ ∷ []
@@ -205,18 +211,18 @@ AddressTransportForm =
 abbrev pub LocalityAndGettime : Type 0
 LocalityAndGettime =
     results_of (
-    record (asks 2 1 (0x30d41 ∷ 1 ∷ 6 ∷ 0x801 ∷ [])) { caller = from (198 ∷ 51 ∷ 100 ∷ 7 ∷ []) }
-    ∷ record (asks 2 1 (0x30d41 ∷ 1 ∷ 6 ∷ 0x801 ∷ [])) { caller = from listener.host }
-    ∷ record (asks 2 2 (0x30d41 ∷ 1 ∷ 6 ∷ 0x801 ∷ [])) { caller = from (198 ∷ 51 ∷ 100 ∷ 7 ∷ []) }
-    ∷ record (asks 3 6 []) { clock = 1000000000500 } ∷ record (asks 4 6 []) { clock = 4294967296000 } ∷ [])
+    record (call 2 1 (0x30d41 ∷ 1 ∷ 6 ∷ 0x801 ∷ [])) { caller = from (198 ∷ 51 ∷ 100 ∷ 7 ∷ []) }
+    ∷ record (call 2 1 (0x30d41 ∷ 1 ∷ 6 ∷ 0x801 ∷ [])) { caller = from listener.host }
+    ∷ record (call 2 2 (0x30d41 ∷ 1 ∷ 6 ∷ 0x801 ∷ [])) { caller = from (198 ∷ 51 ∷ 100 ∷ 7 ∷ []) }
+    ∷ record (call 3 6 []) { clock = 1000000000500 } ∷ record (call 4 6 []) { clock = 4294967296000 } ∷ [])
     ≡ no_ ∷ yes ∷ no_ ∷ says (0x3b9aca00 ∷ []) ∷ says (0xffffffff ∷ []) ∷ []
 
--- procedures that there are not, and arguments that are cut short or longer than they need be
+-- unknown procedures, and arguments that are cut short or longer than they need be
 abbrev pub RefusalsOfAcceptedCalls : Type 0
 RefusalsOfAcceptedCalls =
     results_of (
-    asks 2 5 [] ∷ asks 2 6 [] ∷ asks 3 5 [] ∷ asks 3 9 [] ∷ asks 4 10 [] ∷ asks 4 12 []
-    ∷ asks 2 1 (1 ∷ 2 ∷ 3 ∷ []) ∷ asks 2 0 (1 ∷ 2 ∷ 3 ∷ []) ∷ [])
+    call 2 5 [] ∷ call 2 6 [] ∷ call 3 5 [] ∷ call 3 9 [] ∷ call 4 10 [] ∷ call 4 12 []
+    ∷ call 2 1 (1 ∷ 2 ∷ 3 ∷ []) ∷ call 2 0 (1 ∷ 2 ∷ 3 ∷ []) ∷ [])
     ≡ replicate 6 (Err ProcUnavail) ++ Err GarbageArgs ∷ Ok [] ∷ []
 
 -- ---- long lists
@@ -227,13 +233,13 @@ size (Ok bytes) = length bytes
 size (Err fault) = 0
 
 -- SETs by uid 0 of so many programs, from this one on
-abbrev pub sets : ℕ → ℕ → List Ask
+abbrev pub sets : ℕ → ℕ → List Message
 sets zero prog = []
-sets (suc k) prog = asks_as 0 2 1 (prog ∷ 1 ∷ 6 ∷ 2049 ∷ []) ∷ sets k (prog + 1)
+sets (suc k) prog = call_as 0 2 1 (prog ∷ 1 ∷ 6 ∷ 2049 ∷ []) ∷ sets k (prog + 1)
 
 -- DUMP of version 3 with 166 rows more than the listener's own: with the reply's head 8,996 bytes
 abbrev pub LongDump : Type 0
-LongDump = map size (results_behind 166 (sets 166 200001 ++ asks 3 4 [] ∷ [])) ≡ 8972 ∷ []
+LongDump = map size (results_behind 166 (sets 166 200001 ++ call 3 4 [] ∷ [])) ≡ 8972 ∷ []
 
 -- so many rows on tcp, of programs from this one on
 abbrev pub more_rows : ℕ → ℕ → List Row

@@ -1,6 +1,5 @@
 //! rpcb_entry (RFC 1833 section 2.1).
-ghost use Rattle.rb_proto.specs.Types.{IsEntry, entry_spelling, max_entry, read_entry};
-ghost use Rattle.rb_proto.specs.Readings.{entry_sound, entry_complete, entry_bounded};
+ghost use Rattle.rb_proto.specs.Types.{IsEntry, entry_spelling, max_entry, entry_form, read_entry};
 
 use rb_xdr::{Kept, Meter, Text, Xdr, XdrFault};
 
@@ -24,6 +23,10 @@ impl Xdr for Entry {
     ghost max_spelling = { max_entry };
 
     ghost reads = { read_entry };
+
+    ghost form = { entry_form };
+
+    fn laws() {}
 
     fn room_after(&self, room: usize) -> Option<usize> {
         let room = self.maddr.room_after(room)?;
@@ -64,10 +67,4 @@ impl Xdr for Entry {
             used,
         ))
     }
-
-    ghost sound = { entry_sound };
-
-    ghost complete = { entry_complete };
-
-    ghost bounded = { entry_bounded };
 }

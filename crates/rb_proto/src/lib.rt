@@ -2,7 +2,8 @@
 #![tactic(auto)]
 
 mod answers;
-mod asker;
+mod call;
+mod context;
 mod entry;
 mod items;
 mod laws;
@@ -16,20 +17,21 @@ mod put;
 mod request;
 mod rows;
 mod rpcb;
-mod serve;
 mod sets;
 #[cfg(test)]
 mod tests;
 mod worked;
 
 pub use answers::{Answer, Listing, Value};
+pub use call::{Call, answer};
+pub use context::Context;
 pub use entry::Entry;
 pub use laws::requests_are_of_the_grammar;
 pub use listener::{Listener, own_rows};
 pub use mapping::Mapping;
 pub use netbuf::Netbuf;
+pub use procedure::{MappingProcedure, RpcbProcedure, VoidProcedure};
 pub use put::{put_answer, put_row};
 pub use request::{ArgumentFault, Request, read_args};
 pub use rpcb::Rpcb;
-pub use serve::answer;
 pub use worked::worked_examples;

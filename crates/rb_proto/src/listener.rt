@@ -3,8 +3,7 @@ ghost use Rattle.std.specs.Prelude.{◌≡◌};
 ghost use Rattle.rb_registry.specs.Registry.{AreOwn};
 ghost use Rattle.rb_proto.specs.Callers.{own_row, own_rows, is_local};
 
-use rb_registry::row::RPCB_PROG;
-use rb_registry::{Netid, Owner, Row};
+use rb_registry::{Netid, Owner, RPCB_PROG, Row};
 use rb_rpc::Peer;
 use rb_uaddr::Uaddr;
 use rb_xdr::Text;

@@ -2,10 +2,9 @@
 ghost use Rattle.std.specs.Prelude.{◌≡◌, ◌+◌, ◌*◌, length};
 ghost use Rattle.rb_xdr.specs.Meter.{PaysAtMost};
 ghost use Rattle.rb_registry.specs.Registry.{rows_of};
-ghost use Rattle.rb_proto.specs.Answers.{shown_text, shown_port, row_of_getport, row_of_getaddr, row_of_getversaddr, port_found, addr_found, seconds, taddr_of, uaddr_of};
-ghost use Rattle.rb_proto.specs.Asked.{sees};
+ghost use Rattle.rb_proto.specs.Answers.{shown_text, shown_port, getport, getaddr, getversaddr, seconds, taddr_of, uaddr_of};
 
-use crate::asker::Asker;
+use crate::context::Context;
 use crate::mapping::Mapping;
 use crate::netbuf::Netbuf;
 use crate::netids::netid_of_prot;
@@ -37,10 +36,10 @@ pub(crate) fn shown_port(addr: &Text<128>) -> u32
 }
 
 /// PMAPPROC_GETPORT (RFC 1833 section 3.2): the port is ignored, and 0 says that there is no row.
-#[tactic(auto, unfolding(crate::specs::Answers::row_of_getport))]
+#[tactic(auto, unfolding(crate::specs::Answers::getport))]
 pub(crate) fn getport(registry: &Registry, mapping: &Mapping, meter: &mut Meter) -> u32
     requires { meter.old.tie ≡ registry.now.tie }
-    ensures port { result ≡ port_found (row_of_getport (rows_of registry.now) mapping.now) }
+    ensures port { result ≡ getport mapping.now (rows_of registry.now) }
     ensures cost { PaysAtMost meter.old meter.new (4 * length (rows_of registry.now) + 4) }
 {
     let Some(netid) = netid_of_prot(mapping.prot) else {
@@ -53,37 +52,37 @@ pub(crate) fn getport(registry: &Registry, mapping: &Mapping, meter: &mut Meter)
 }
 
 /// RPCBPROC_GETADDR (RFC 1833 section 2.2.1), on the transport of the call: the netid of the argument is ignored.
+#[tactic(auto, unfolding(crate::specs::Answers::getaddr))]
 pub(crate) fn getaddr(
     registry: &Registry,
-    asker: &Asker,
+    context: &Context,
     rpcb: &Rpcb,
     meter: &mut Meter,
 ) -> Text<128>
     requires { meter.old.tie ≡ registry.now.tie }
-    ensures addr { result ≡ addr_found asker.now.listener.host
-        (row_of_getaddr (sees asker.now registry.now) rpcb.now) }
+    ensures addr { result ≡ getaddr context.now rpcb.now (rows_of registry.now) }
     ensures cost { PaysAtMost meter.old meter.new (4 * length (rows_of registry.now) + 4) }
 {
-    match registry.find(rpcb.prog, rpcb.vers, asker.netid(), meter) {
-        Some(row) => shown_text(asker.listener.host, &row.addr),
+    match registry.find(rpcb.prog, rpcb.vers, context.netid(), meter) {
+        Some(row) => shown_text(context.listener.host, &row.addr),
         None => Text::new(&[]),
     }
 }
 
 /// RPCBPROC_GETVERSADDR (RFC 1833 section 2.2.2): as GETADDR, but of the exact version alone.
+#[tactic(auto, unfolding(crate::specs::Answers::getversaddr))]
 pub(crate) fn getversaddr(
     registry: &Registry,
-    asker: &Asker,
+    context: &Context,
     rpcb: &Rpcb,
     meter: &mut Meter,
 ) -> Text<128>
     requires { meter.old.tie ≡ registry.now.tie }
-    ensures addr { result ≡ addr_found asker.now.listener.host
-        (row_of_getversaddr (sees asker.now registry.now) rpcb.now) }
+    ensures addr { result ≡ getversaddr context.now rpcb.now (rows_of registry.now) }
     ensures cost { PaysAtMost meter.old meter.new (4 * length (rows_of registry.now) + 4) }
 {
-    match registry.find_exact(rpcb.prog, rpcb.vers, asker.netid(), meter) {
-        Some(row) => shown_text(asker.listener.host, &row.addr),
+    match registry.find_exact(rpcb.prog, rpcb.vers, context.netid(), meter) {
+        Some(row) => shown_text(context.listener.host, &row.addr),
         None => Text::new(&[]),
     }
 }

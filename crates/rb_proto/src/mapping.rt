@@ -1,6 +1,5 @@
 //! mapping (RFC 1833 section 3.1).
-ghost use Rattle.rb_proto.specs.Types.{IsMapping, mapping_spelling, max_mapping, read_mapping};
-ghost use Rattle.rb_proto.specs.Readings.{mapping_sound, mapping_complete, mapping_bounded};
+ghost use Rattle.rb_proto.specs.Types.{IsMapping, mapping_spelling, max_mapping, mapping_form, read_mapping};
 
 use rb_xdr::{Kept, Meter, Xdr, XdrFault};
 
@@ -21,6 +20,10 @@ impl Xdr for Mapping {
     ghost max_spelling = { max_mapping };
 
     ghost reads = { read_mapping };
+
+    ghost form = { mapping_form };
+
+    fn laws() {}
 
     fn room_after(&self, room: usize) -> Option<usize> {
         let room = self.prog.room_after(room)?;
@@ -56,10 +59,4 @@ impl Xdr for Mapping {
             used,
         ))
     }
-
-    ghost sound = { mapping_sound };
-
-    ghost complete = { mapping_complete };
-
-    ghost bounded = { mapping_bounded };
 }

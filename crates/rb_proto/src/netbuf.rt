@@ -1,6 +1,5 @@
 //! netbuf (RFC 1833 section 2.1).
-ghost use Rattle.rb_proto.specs.Types.{IsNetbuf, netbuf_spelling, max_netbuf, read_netbuf};
-ghost use Rattle.rb_proto.specs.Readings.{netbuf_sound, netbuf_complete, netbuf_bounded};
+ghost use Rattle.rb_proto.specs.Types.{IsNetbuf, netbuf_spelling, max_netbuf, netbuf_form, read_netbuf};
 
 use rb_xdr::{Kept, Meter, Opaque, Xdr, XdrFault};
 
@@ -21,6 +20,10 @@ impl Xdr for Netbuf {
 
     ghost reads = { read_netbuf };
 
+    ghost form = { netbuf_form };
+
+    fn laws() {}
+
     fn room_after(&self, room: usize) -> Option<usize> {
         let room = self.maxlen.room_after(room)?;
         self.buf.room_after(room)
@@ -37,10 +40,4 @@ impl Xdr for Netbuf {
         let (buf, second) = Opaque::read(&bytes[first..])?;
         Ok((Netbuf { maxlen, buf }, first + second))
     }
-
-    ghost sound = { netbuf_sound };
-
-    ghost complete = { netbuf_complete };
-
-    ghost bounded = { netbuf_bounded };
 }

@@ -1,8 +1,10 @@
 //! Results, written behind the head of a reply.
-ghost use Rattle.std.specs.Prelude.{◌≡◌, ◌+◌, ◌-◌, ◌*◌, ◌≤◌, ◌↔◌, ◌++◌, length, IsOk, OnOk, OnErr};
+ghost use Rattle.std.specs.Prelude.{◌≡◌, ◌≤◌, length};
 ghost use Rattle.rb_xdr.specs.Meter.{PaysAtMost};
 ghost use Rattle.rb_registry.specs.Registry.{rows_of};
-ghost use Rattle.rb_proto.specs.Results.{value_bytes, result_bytes, row_bytes, rows_bytes};
+ghost use Rattle.rb_xdr.specs.Puts.{Puts};
+ghost use Rattle.rb_proto.specs.Puts.{put_cost, list_cost};
+ghost use Rattle.rb_proto.specs.Results.{value_bytes, results_at, row_bytes, rows_bytes};
 
 use crate::answers::{Answer, Listing, Value};
 use crate::listener::Listener;
@@ -19,14 +21,8 @@ fn put_within<T: Xdr>(
 ) -> Result<(), Full>
     requires tie { meter.old.tie ≡ out.old.tie }
     requires limit { limit ≤ out.old.cap }
-    ensures room { IsOk result ↔ (length out.old.bytes + length (T.spelling value.now) ≤ limit) }
-    ensures ok { OnOk result (out.new
-        ≡ record out.old { bytes = out.old.bytes ++ T.spelling value.now }) }
-    ensures err { OnErr result (out.new ≡ out.old) }
-    ensures cap { out.new.cap ≡ out.old.cap }
-    ensures tie { out.new.tie ≡ out.old.tie }
-    ensures cost { PaysAtMost meter.old meter.new
-        (1 + (length out.new.bytes - length out.old.bytes)) }
+    ensures puts { Puts (T.spelling value.now) limit out.old out.new result }
+    ensures cost { PaysAtMost meter.old meter.new (put_cost out.old out.new) }
 {
     let Some(room) = limit.checked_sub(out.len(meter)) else {
         return Err(Full { value: () });
@@ -51,23 +47,16 @@ pub fn put_row(
 ) -> Result<(), Full>
     requires tie { meter.old.tie ≡ out.old.tie }
     requires limit { limit ≤ out.old.cap }
-    ensures room { IsOk result ↔
-        (length out.old.bytes + length (row_bytes listener.now.host list row.now) ≤ limit) }
-    ensures ok { OnOk result (out.new
-        ≡ record out.old { bytes = out.old.bytes ++ row_bytes listener.now.host list row.now }) }
-    ensures err { OnErr result (out.new ≡ out.old) }
-    ensures cap { out.new.cap ≡ out.old.cap }
-    ensures tie { out.new.tie ≡ out.old.tie }
-    ensures cost { PaysAtMost meter.old meter.new
-        (1 + (length out.new.bytes - length out.old.bytes)) }
+    ensures puts { Puts (row_bytes listener.now.host list row.now) limit out.old out.new result }
+    ensures cost { PaysAtMost meter.old meter.new (put_cost out.old out.new) }
 {
     let Some(room) = limit.checked_sub(out.len(meter)) else {
         return Err(Full { value: () });
     };
-    if room_after_row(list, row, listener, room).is_none() {
+    if room_after_row(list, row, listener.host, room).is_none() {
         return Err(Full { value: () });
     }
-    write_row(list, row, listener, out, meter);
+    write_row(list, row, listener.host, out, meter);
     Ok(())
 }
 
@@ -75,14 +64,8 @@ pub fn put_row(
 fn put_value(value: &Value, limit: usize, out: &mut Kept, meter: &mut Meter) -> Result<(), Full>
     requires tie { meter.old.tie ≡ out.old.tie }
     requires limit { limit ≤ out.old.cap }
-    ensures room { IsOk result ↔ (length out.old.bytes + length (value_bytes value.now) ≤ limit) }
-    ensures ok { OnOk result (out.new
-        ≡ record out.old { bytes = out.old.bytes ++ value_bytes value.now }) }
-    ensures err { OnErr result (out.new ≡ out.old) }
-    ensures cap { out.new.cap ≡ out.old.cap }
-    ensures tie { out.new.tie ≡ out.old.tie }
-    ensures cost { PaysAtMost meter.old meter.new
-        (1 + (length out.new.bytes - length out.old.bytes)) }
+    ensures puts { Puts (value_bytes value.now) limit out.old out.new result }
+    ensures cost { PaysAtMost meter.old meter.new (put_cost out.old out.new) }
 {
     match value {
         Value::Void if out.len(meter) <= limit => Ok(()),
@@ -98,7 +81,7 @@ fn put_value(value: &Value, limit: usize, out: &mut Kept, meter: &mut Meter) -> 
 fn put_rows(
     list: Listing,
     registry: &Registry,
-    listener: &Listener,
+    host: [u8; 4],
     limit: usize,
     out: &mut Kept,
     meter: &mut Meter,
@@ -106,27 +89,16 @@ fn put_rows(
     requires registry { meter.old.tie ≡ registry.now.tie }
     requires out { meter.old.tie ≡ out.old.tie }
     requires limit { limit ≤ out.old.cap }
-    ensures room { IsOk result ↔
-        (length out.old.bytes + length
-        (rows_bytes listener.now.host (rows_of registry.now) list) ≤ limit) }
-    ensures ok { OnOk result (out.new
-        ≡ record out.old {
-          bytes = out.old.bytes ++ rows_bytes listener.now.host
-              (rows_of registry.now) list;
-        }) }
-    ensures err { OnErr result (out.new ≡ out.old) }
-    ensures cap { out.new.cap ≡ out.old.cap }
-    ensures tie { out.new.tie ≡ out.old.tie }
-    ensures cost { PaysAtMost meter.old meter.new
-        (4 * length (rows_of registry.now) + (length out.new.bytes - length out.old.bytes) + 5) }
+    ensures puts { Puts (rows_bytes host (rows_of registry.now) list) limit out.old out.new result }
+    ensures cost { PaysAtMost meter.old meter.new (list_cost registry.now out.old out.new) }
 {
     let Some(room) = limit.checked_sub(out.len(meter)) else {
         return Err(Full { value: () });
     };
-    if room_after_rows(list, registry, listener, room, meter).is_none() {
+    if room_after_rows(list, registry, host, room, meter).is_none() {
         return Err(Full { value: () });
     }
-    write_rows(list, registry, listener, out, meter);
+    write_rows(list, registry, host, out, meter);
     Ok(())
 }
 
@@ -146,23 +118,13 @@ pub fn put_answer(
     requires registry { meter.old.tie ≡ registry.now.tie }
     requires out { meter.old.tie ≡ out.old.tie }
     requires limit { limit ≤ out.old.cap }
-    ensures room { IsOk result ↔
-        (length out.old.bytes + length
-        (result_bytes listener.now.host (rows_of registry.now) answer.now) ≤ limit) }
-    ensures ok { OnOk result (out.new
-        ≡ record out.old {
-          bytes = out.old.bytes ++ result_bytes listener.now.host
-              (rows_of registry.now) answer.now;
-        }) }
-    ensures err { OnErr result (out.new ≡ out.old) }
+    ensures puts { Puts (results_at listener.now registry.now answer.now) limit
+        out.old out.new result }
     ensures within { length out.old.bytes ≤ limit → length out.new.bytes ≤ limit }
-    ensures cap { out.new.cap ≡ out.old.cap }
-    ensures tie { out.new.tie ≡ out.old.tie }
-    ensures cost { PaysAtMost meter.old meter.new
-        (4 * length (rows_of registry.now) + (length out.new.bytes - length out.old.bytes) + 5) }
+    ensures cost { PaysAtMost meter.old meter.new (list_cost registry.now out.old out.new) }
 {
     match answer {
         Answer::Results(value) => put_value(value, limit, out, meter),
-        Answer::Rows(list) => put_rows(*list, registry, listener, limit, out, meter),
+        Answer::Rows(list) => put_rows(*list, registry, listener.host, limit, out, meter),
     }
 }

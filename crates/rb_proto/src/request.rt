@@ -4,28 +4,19 @@ ghost use Rattle.rb_proto.specs.Arguments.{read_request};
 
 use crate::mapping::Mapping;
 use crate::netbuf::Netbuf;
-use crate::procedure::Procedure;
+use crate::procedure::{MappingProcedure, Procedure, RpcbProcedure, VoidProcedure};
 use crate::rpcb::Rpcb;
 use rb_xdr::Text;
 use thiserror::Error;
 
-/// A procedure with its arguments. Those of version 2 begin with `Pmap`, but for GETPORT, which it alone has.
+/// A procedure with its argument.
 #[derive(PartialEq, Eq, Debug, Drop)]
 pub enum Request {
-    Null,
-    PmapSet(Mapping),
-    PmapUnset(Mapping),
-    Getport(Mapping),
-    PmapDump,
-    Set(Rpcb),
-    Unset(Rpcb),
-    Getaddr(Rpcb),
-    Dump,
-    Gettime,
+    Void(VoidProcedure),
+    Mapping(MappingProcedure, Mapping),
+    Rpcb(RpcbProcedure, Rpcb),
     Uaddr2taddr(Text<128>),
     Taddr2uaddr(Netbuf),
-    Getversaddr(Rpcb),
-    Getaddrlist(Rpcb),
 }
 
 /// Why a call asks for nothing.

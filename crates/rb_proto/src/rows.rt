@@ -1,12 +1,13 @@
 //! Rows as a list shows them: the room that they want, and their bytes.
-ghost use Rattle.std.specs.Prelude.{◌≡◌, ◌+◌, ◌*◌, ◌<◌, ◌≤◌, ◌++◌, length, MatchOption};
+ghost use Rattle.std.specs.Prelude.{◌≡◌, ◌+◌, ◌*◌, length};
 ghost use Rattle.rb_xdr.specs.Meter.{PaysAtMost};
 ghost use Rattle.rb_registry.specs.Registry.{rows_of};
+ghost use Rattle.rb_xdr.specs.Puts.{Appends, HasRoom};
+ghost use Rattle.rb_proto.specs.Puts.{Leaves, write_cost};
 ghost use Rattle.rb_proto.specs.Results.{is_shown, row_bytes, rows_bytes};
 
 use crate::answers::Listing;
 use crate::items::{entry_of, mapping_of, rpcb_of};
-use crate::listener::Listener;
 use rb_registry::{Cursor, Registry, Row, Which};
 use rb_xdr::{Kept, Meter, Xdr};
 
@@ -23,14 +24,8 @@ fn is_shown(list: Listing, row: &Row) -> bool
 
 /// The room that is left of so much behind what a row adds to a list, if that fits.
 #[tactic(auto, unfolding(crate::specs::Results::row_bytes))]
-pub(crate) fn room_after_row(
-    list: Listing,
-    row: &Row,
-    listener: &Listener,
-    room: usize,
-) -> Option<usize>
-    ensures { MatchOption result (room < length (row_bytes listener.now.host list row.now))
-        (λ left. left + length (row_bytes listener.now.host list row.now) ≡ room) }
+pub(crate) fn room_after_row(list: Listing, row: &Row, host: [u8; 4], room: usize) -> Option<usize>
+    ensures { Leaves (row_bytes host list row.now) room result }
 {
     if !is_shown(list, row) {
         return Some(room);
@@ -38,28 +33,17 @@ pub(crate) fn room_after_row(
     match list {
         Listing::Mappings => (true, mapping_of(row)).room_after(room),
         Listing::Rpcbs => (true, rpcb_of(row)).room_after(room),
-        Listing::Entries(..) => (true, entry_of(listener.host, row)).room_after(room),
+        Listing::Entries(..) => (true, entry_of(host, row)).room_after(room),
     }
 }
 
 /// Writes what a row adds to a list: TRUE and the item, or nothing where the list doesn't show the row.
 #[tactic(auto, unfolding(crate::specs::Results::row_bytes))]
-pub(crate) fn write_row(
-    list: Listing,
-    row: &Row,
-    listener: &Listener,
-    out: &mut Kept,
-    meter: &mut Meter,
-)
+pub(crate) fn write_row(list: Listing, row: &Row, host: [u8; 4], out: &mut Kept, meter: &mut Meter)
     requires tie { meter.old.tie ≡ out.old.tie }
-    requires room { length out.old.bytes
-        + length (row_bytes listener.now.host list row.now) ≤ out.old.cap }
-    ensures written { out.new ≡ record out.old {
-      bytes = out.old.bytes ++ row_bytes
-          listener.now.host list row.now;
-    } }
-    ensures cost { PaysAtMost meter.old meter.new
-        (length (row_bytes listener.now.host list row.now)) }
+    requires room { HasRoom (row_bytes host list row.now) out.old }
+    ensures written { Appends (row_bytes host list row.now) out.old out.new }
+    ensures cost { PaysAtMost meter.old meter.new (length (row_bytes host list row.now)) }
 {
     if !is_shown(list, row) {
         return;
@@ -67,7 +51,7 @@ pub(crate) fn write_row(
     match list {
         Listing::Mappings => (true, mapping_of(row)).write(out, meter),
         Listing::Rpcbs => (true, rpcb_of(row)).write(out, meter),
-        Listing::Entries(..) => (true, entry_of(listener.host, row)).write(out, meter),
+        Listing::Entries(..) => (true, entry_of(host, row)).write(out, meter),
     }
 }
 
@@ -75,14 +59,12 @@ pub(crate) fn write_row(
 pub(crate) fn room_after_rows(
     list: Listing,
     registry: &Registry,
-    listener: &Listener,
+    host: [u8; 4],
     room: usize,
     meter: &mut Meter,
 ) -> Option<usize>
     requires { meter.old.tie ≡ registry.now.tie }
-    ensures room { MatchOption result
-        (room < length (rows_bytes listener.now.host (rows_of registry.now) list))
-        (λ left. left + length (rows_bytes listener.now.host (rows_of registry.now) list) ≡ room) }
+    ensures room { Leaves (rows_bytes host (rows_of registry.now) list) room result }
     ensures cost { PaysAtMost meter.old meter.new (2 * length (rows_of registry.now) + 2) }
 {
     let stamp = registry.stamp();
@@ -90,7 +72,7 @@ pub(crate) fn room_after_rows(
     let mut left = room;
     'rows: while let Some(found) = registry.next_row(stamp, cursor, meter) {
         let (next, row) = found;
-        left = room_after_row(list, row, listener, left)?;
+        left = room_after_row(list, row, host, left)?;
         cursor = next;
     }
     false.room_after(left)
@@ -100,27 +82,21 @@ pub(crate) fn room_after_rows(
 pub(crate) fn write_rows(
     list: Listing,
     registry: &Registry,
-    listener: &Listener,
+    host: [u8; 4],
     out: &mut Kept,
     meter: &mut Meter,
 )
     requires registry { meter.old.tie ≡ registry.now.tie }
     requires tie { meter.old.tie ≡ out.old.tie }
-    requires room { length out.old.bytes
-        + length (rows_bytes listener.now.host (rows_of registry.now) list) ≤ out.old.cap }
-    ensures written { out.new ≡ record out.old {
-      bytes = out.old.bytes ++ rows_bytes
-          listener.now.host (rows_of registry.now) list;
-    } }
-    ensures cost { PaysAtMost meter.old meter.new
-        (2 * length (rows_of registry.now)
-        + length (rows_bytes listener.now.host (rows_of registry.now) list) + 2) }
+    requires room { HasRoom (rows_bytes host (rows_of registry.now) list) out.old }
+    ensures written { Appends (rows_bytes host (rows_of registry.now) list) out.old out.new }
+    ensures cost { PaysAtMost meter.old meter.new (write_cost registry.now out.old out.new) }
 {
     let stamp = registry.stamp();
     let mut cursor = Cursor::start();
     'rows: while let Some(found) = registry.next_row(stamp, cursor, meter) {
         let (next, row) = found;
-        write_row(list, row, listener, out, meter);
+        write_row(list, row, host, out, meter);
         cursor = next;
     }
     false.write(out, meter);

@@ -1,6 +1,5 @@
 //! rpcb (RFC 1833 section 2.1).
-ghost use Rattle.rb_proto.specs.Types.{IsRpcb, rpcb_spelling, max_rpcb, read_rpcb};
-ghost use Rattle.rb_proto.specs.Readings.{rpcb_sound, rpcb_complete, rpcb_bounded};
+ghost use Rattle.rb_proto.specs.Types.{IsRpcb, rpcb_spelling, max_rpcb, rpcb_form, read_rpcb};
 
 use rb_xdr::{Kept, Meter, Text, Xdr, XdrFault};
 
@@ -22,6 +21,10 @@ impl Xdr for Rpcb {
     ghost max_spelling = { max_rpcb };
 
     ghost reads = { read_rpcb };
+
+    ghost form = { rpcb_form };
+
+    fn laws() {}
 
     fn room_after(&self, room: usize) -> Option<usize> {
         let room = self.prog.room_after(room)?;
@@ -62,10 +65,4 @@ impl Xdr for Rpcb {
             used,
         ))
     }
-
-    ghost sound = { rpcb_sound };
-
-    ghost complete = { rpcb_complete };
-
-    ghost bounded = { rpcb_bounded };
 }

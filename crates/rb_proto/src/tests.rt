@@ -1,8 +1,9 @@
 ghost use Rattle.std.specs.Prelude.{◌≡◌, ◌≤◌};
+ghost use Rattle.rb_proto.specs.Ledger.{SameFrame};
 
 use crate::{
-    ArgumentFault, Entry, Listener, Listing, Mapping, Netbuf, Rpcb, answer, own_rows, put_answer,
-    put_row, read_args, requests_are_of_the_grammar, worked_examples,
+    ArgumentFault, Call, Context, Entry, Listener, Listing, Mapping, Netbuf, Rpcb, answer,
+    own_rows, put_answer, put_row, read_args, requests_are_of_the_grammar, worked_examples,
 };
 use rb_registry::{Cursor, Registry};
 use rb_rpc::{CallHead, Caller, Credential, Peer};
@@ -24,6 +25,15 @@ const NO_TEXTS: &[u8] = b"\x00\x03\x0d\x41\0\0\0\x01\0\0\0\0\0\0\0\0\0\0\0\0";
 const ENTRIES: &[u8] =
     b"\0\0\0\x01\0\0\0\x0d192.0.2.1.8.1\0\0\0\0\0\0\x03udp\0\0\0\0\x01\0\0\0\x04inet\0\0\0\x03udp\0\0\0\0\0";
 
+// the own rows as version 2's DUMP shows them
+const OWN_ROWS: &[u8] =
+    b"\0\0\0\x01\0\x01\x86\xa0\0\0\0\x04\0\0\0\x06\0\0\0\x6f\0\0\0\x01\0\x01\x86\xa0\0\0\0\x03\0\0\0\x06\0\0\0\x6f\
+\0\0\0\x01\0\x01\x86\xa0\0\0\0\x02\0\0\0\x06\0\0\0\x6f\0\0\0\x01\0\x01\x86\xa0\0\0\0\x04\0\0\0\x11\0\0\0\x6f\
+\0\0\0\x01\0\x01\x86\xa0\0\0\0\x03\0\0\0\x11\0\0\0\x6f\0\0\0\x01\0\x01\x86\xa0\0\0\0\x02\0\0\0\x11\0\0\0\x6f\
+\0\0\0\0";
+
+const LIMIT: usize = 8;
+
 // Puts the results of a call of uid 500 from 127.0.0.1, in a datagram, into the empty buffer.
 fn serve(
     registry: &mut Registry,
@@ -34,9 +44,10 @@ fn serve(
     meter: &mut Meter,
 ) -> Result<(), Fail>
     requires registry { meter.old.tie ≡ registry.old.tie }
+    requires limit { registry.old.limit ≡ 8 }
     requires out { meter.old.tie ≡ out.old.tie }
     requires room { 1000 ≤ out.old.cap }
-    ensures registry { registry.new.tie ≡ registry.old.tie }
+    ensures registry { SameFrame registry.old registry.new }
     ensures out { out.new.tie ≡ out.old.tie }
     ensures room { out.new.cap ≡ out.old.cap }
     ensures meter { meter.new.tie ≡ meter.old.tie }
@@ -52,19 +63,16 @@ fn serve(
         proc,
         cred: Credential::Sys(500),
     };
+    let context = Context {
+        listener: LISTENER,
+        limit: LIMIT,
+        clock: 1_000_000_000_500,
+        caller: Caller::Udp(peer),
+    };
     let request = read_args(vers, proc, args)?;
-    let now = 1_000_000_000_500;
-    let told = answer(
-        registry,
-        &LISTENER,
-        &Caller::Udp(peer),
-        &head,
-        request,
-        now,
-        meter,
-    );
+    let results = answer(registry, &context, Call { head, request }, meter);
     out.clear(meter);
-    put_answer(&told, registry, &LISTENER, 1000, out, meter)?;
+    put_answer(&results, registry, &LISTENER, 1000, out, meter)?;
     Ok(())
 }
 
@@ -74,7 +82,7 @@ fn calls_are_read_answered_and_put(rt: HostRuntime) -> Result<(), Fail> {
     worked_examples();
     let mut meter = Meter::new();
     let mut out = Kept::new(rt.alloc(), 1000, &mut meter)?;
-    let mut registry = Registry::new(rt.alloc(), 8, own_rows(&LISTENER), &mut meter)?;
+    let mut registry = Registry::new(rt.alloc(), LIMIT, own_rows(&LISTENER), &mut meter)?;
 
     serve(&mut registry, 4, 1, UDP_ROW, &mut out, &mut meter)?;
     let len = out.len(&mut meter);
@@ -90,7 +98,8 @@ fn calls_are_read_answered_and_put(rt: HostRuntime) -> Result<(), Fail> {
     );
     serve(&mut registry, 4, 2, NO_TEXTS, &mut out, &mut meter)?;
     serve(&mut registry, 2, 4, b"", &mut out, &mut meter)?;
-    assert_eq!(rt; out.len(&mut meter), 124);
+    let len = out.len(&mut meter);
+    assert_eq!(rt; out.lend(0..len, &mut meter), OWN_ROWS);
 
     assert_eq!(rt; read_args(2, 5, b""), Err(ArgumentFault::ProcUnavail));
     assert_eq!(rt; read_args(2, 1, &[0; 12]), Err(ArgumentFault::GarbageArgs));
@@ -101,14 +110,16 @@ fn calls_are_read_answered_and_put(rt: HostRuntime) -> Result<(), Fail> {
 fn rows_are_put_within_the_limit(rt: HostRuntime) -> Result<(), Fail> {
     let mut meter = Meter::new();
     let mut out = Kept::new(rt.alloc(), 40, &mut meter)?;
-    let registry = Registry::new(rt.alloc(), 8, own_rows(&LISTENER), &mut meter)?;
+    let registry = Registry::new(rt.alloc(), LIMIT, own_rows(&LISTENER), &mut meter)?;
     let first = registry.next_row(registry.stamp(), Cursor::start(), &mut meter);
     if let Some((_, row)) = first {
         put_row(Listing::Mappings, row, &LISTENER, 39, &mut out, &mut meter)?;
         let refused = put_row(Listing::Mappings, row, &LISTENER, 39, &mut out, &mut meter);
         assert!(rt; refused.is_err());
     }
-    assert_eq!(rt; out.len(&mut meter), 20);
+    let (first_row, _) = OWN_ROWS.split_at(20);
+    let len = out.len(&mut meter);
+    assert_eq!(rt; out.lend(0..len, &mut meter), first_row);
     Ok(())
 }
 
@@ -132,10 +143,13 @@ fn types_go_both_ways(rt: HostRuntime) -> Result<(), Fail> {
     let len = out.len(&mut meter);
     assert_eq!(rt; out.lend(0..len, &mut meter), UDP_ROW);
     again::<Mapping>(NO_TEXTS, &mut out, &mut meter)?;
-    assert_eq!(rt; out.len(&mut meter), 16);
-    let (_, entry) = ENTRIES.split_at(4);
+    let (mapping, _) = NO_TEXTS.split_at(16);
+    let len = out.len(&mut meter);
+    assert_eq!(rt; out.lend(0..len, &mut meter), mapping);
+    let (entry, _) = ENTRIES[4..].split_at(48);
     again::<Entry>(entry, &mut out, &mut meter)?;
-    assert_eq!(rt; out.len(&mut meter), 48);
+    let len = out.len(&mut meter);
+    assert_eq!(rt; out.lend(0..len, &mut meter), entry);
     let buf = b"\0\0\0\x10\0\0\0\x03abc\0";
     again::<Netbuf>(buf.as_slice(), &mut out, &mut meter)?;
     let len = out.len(&mut meter);

@@ -45,7 +45,7 @@ no_room limit entries stamp row full =
     rw (fits, and_false (not (list_any (is_of_key row) (values_of entries)))) refl
 
 pub after_set : (kept : Registry) (key : ℕ) (row : Row) (own : List Row) (changes : List Change) → StandsForChanges kept own changes
-    → StandsForChanges (record { entries = kept.entries ++ (key, row) ∷ []; limit = kept.limit; stamp = kept.stamp + 1; tie = kept.tie }) own (changes ++ Added row ∷ [])
+    → StandsForChanges (record { entries = kept.entries ++ (key, row) ∷ []; limit = kept.limit; memory = kept.memory; stamp = kept.stamp + 1; tie = kept.tie }) own (changes ++ Added row ∷ [])
 after_set kept key row own changes h = record {
   are_own = h.are_own;
   rows = values_of-push kept.entries key row ∙ rw (h.rows, left_by-added changes row) (append_assoc own (left_by changes) (row ∷ []));
@@ -71,7 +71,7 @@ own_stay (row ∷ own) prog vers which owner h =
 
 pub after_unset : (kept : Registry) (prog vers : ℕ) (which : Which) (owner : Owner) (own : List Row) (changes : List Change) → StandsForChanges kept own changes
     → StandsForChanges
-    (record { entries = filter (λ e. not (covers e.1 (Removed prog vers which owner))) kept.entries; limit = kept.limit; stamp = kept.stamp + 1; tie = kept.tie })
+    (record { entries = filter (λ e. not (covers e.1 (Removed prog vers which owner))) kept.entries; limit = kept.limit; memory = kept.memory; stamp = kept.stamp + 1; tie = kept.tie })
     own (changes ++ Removed prog vers which owner ∷ [])
 after_unset kept prog vers which owner own changes h =
     let gone = Removed prog vers which owner in
@@ -97,6 +97,6 @@ removal_made entries stamp change removed left is_any =
     rw (left, ← list_any-values_of (λ (row : Row). covers row change) entries, ← is_any) (and_true removed)
 
 -- where nothing is covered, the table stays as it is
-pub unchanged : (change : Change) (old new : Pool Row) → new ≡ record { entries = filter (λ e. not (covers e.1 change)) old.entries; cap = old.cap; tie = old.tie }
+pub unchanged : (change : Change) (old new : Pool Row) → new ≡ record { entries = filter (λ e. not (covers e.1 change)) old.entries; cap = old.cap; memory = old.memory; tie = old.tie }
     → list_any (λ e. covers e.1 change) old.entries ≡ false → new ≡ old
 unchanged change old new is_filtered none_covered = is_filtered ∙ rw (filter-none (λ (row : Row). covers row change) old.entries none_covered) refl

@@ -1,6 +1,6 @@
 //! A place in the list of rows.
 ghost use Rattle.std.specs.Prelude.{◌≡◌, ℕ, Some};
-ghost use Rattle.rb_registry.specs.Registry.{Registry as Kept, StandsIn, rows_passed};
+ghost use Rattle.rb_registry.specs.Registry.{Registry, StandsIn, rows_passed};
 
 use std::marker::Model;
 
@@ -24,9 +24,9 @@ impl Model for Cursor {
 impl Cursor {
     /// The place before the first row.
     pub fn start() -> Cursor
-        ensures place { (rows : Kept) (stamp : ℕ) → stamp ≡ rows.stamp
+        ensures place { (rows : Registry) (stamp : ℕ) → stamp ≡ rows.stamp
             → StandsIn rows stamp result }
-        ensures passed { (rows : Kept) (stamp : ℕ) → rows_passed rows stamp result ≡ 0 }
+        ensures passed { (rows : Registry) (stamp : ℕ) → rows_passed rows stamp result ≡ 0 }
     {
         Cursor { passed: None }
     }

@@ -1,12 +1,12 @@
 //! The registry's rows: how they are set, removed, found and listed (RFC 1833 sections 2.2.1 and 3.2).
 #![tactic(auto)]
 
-pub mod cursor;
-pub mod fault;
+mod cursor;
+mod fault;
 mod laws;
-pub mod registry;
+mod registry;
 mod removal;
-pub mod row;
+mod row;
 #[cfg(test)]
 mod tests;
 mod walk;

@@ -6,7 +6,7 @@ use crate::cursor::Cursor;
 use crate::fault::RegistryFault;
 use crate::removal::Removal;
 use crate::row::{Netid, Owner, Row, Which};
-use crate::walk::{exact_or_greatest, find_exact, has_key, remove_covered};
+use crate::walk::{find_exact, find_row, has_key, remove_covered};
 use rb_xdr::{Meter, Pool};
 use std::alloc::Global;
 use std::marker::Model;
@@ -19,14 +19,15 @@ pub struct Registry {
 }
 
 impl Model for Registry {
-    ghost use Rattle.rb_registry.specs.Registry.{Registry as Kept};
+    ghost use Rattle.rb_registry.specs.Registry.{Registry as Contents};
     ghost use Rattle.rb_xdr.specs.Pool.{HasDistinctKeys};
 
-    ghost Value = { Kept };
+    ghost Value = { Contents };
 
     ghost view = { λ r. record {
       entries = r.rows.entries;
       limit = r.rows.cap;
+      memory = r.rows.memory;
       stamp = r.changes;
       tie = r.rows.tie;
     } };
@@ -44,13 +45,13 @@ fn is_change_left(changes: u64) -> bool
 }
 
 impl Registry {
-    ghost use Rattle.std.specs.Prelude.{◌≡◌, ◌≤◌, ◌<◌, ◌+◌, ◌*◌, ℕ, List, [], ◌∷◌, ◌++◌, length, take, slice_get, Some, None, Ok, Err, IfOk, OnOk, OnErr, IfSome, IfNone, IsErrOf, ◌↔◌, option_copied, if◌then◌else◌};
+    ghost use Rattle.std.specs.Prelude.{◌≡◌, ◌≤◌, ◌<◌, ◌+◌, ◌*◌, [], length, Some, None, Ok, Err, IfOk, OnOk, OnErr, IfSome, IfNone, IsErrOf, ◌↔◌, option_copied, if◌then◌else◌};
     ghost use Rattle.std.specs.Bool.{OnFalse};
     ghost use Rattle.rb_xdr.specs.Meter.{Pays, PaysAtMost};
     ghost use Rattle.rb_registry.specs.declared.row.Row.{Row};
-    ghost use Rattle.rb_registry.specs.Rows.{Change, has_place, removes_some, find_exact, find_row, live};
+    ghost use Rattle.rb_registry.specs.Rows.{has_place, removes_some, find_exact, find_row, live};
     ghost use Rattle.rb_registry.specs.Rows.Change.{Added, Removed};
-    ghost use Rattle.rb_registry.specs.Registry.{rows_of, AreOwn, StandsForChanges, StandsIn, rows_at, rows_passed};
+    ghost use Rattle.rb_registry.specs.Registry.{rows_of, AreOwn, StandsForChanges, StandsForMore, RowsAreLive, StandsIn, rows_at, rows_passed, row_behind};
 
     /// A registry of these rows, with room for `cap` rows in all, for calls that this meter counts.
     ///
@@ -90,14 +91,12 @@ impl Registry {
     pub fn set(&mut self, row: Row, meter: &mut Meter) -> bool
         requires { meter.old.tie ≡ self.old.tie }
         ensures taken { result ≡ has_place self.old.limit (rows_of self.old) self.old.stamp row }
-        ensures changes { (own : List Row) (changes : List Change)
-            → StandsForChanges self.old own changes
-            → StandsForChanges self.new own
-            (if result then changes ++ Added row ∷ [] else changes) }
+        ensures changes { StandsForMore self.old self.new result (Added row) }
         ensures rejected { OnFalse result (self.new ≡ self.old) }
         ensures limit { self.new.limit ≡ self.old.limit }
+        ensures memory { self.new.memory ≡ self.old.memory }
         ensures tie { self.new.tie ≡ self.old.tie }
-        ensures cost { PaysAtMost meter.old meter.new (2 * length (rows_of self.old) + 3) }
+        ensures cost { PaysAtMost meter.old meter.new (2 * length (rows_of self.old) + 2) }
     {
         if !is_change_left(self.changes) || has_key(&self.rows, &row, meter) {
             return false;
@@ -125,14 +124,13 @@ impl Registry {
         requires { meter.old.tie ≡ self.old.tie }
         ensures taken { result ≡ removes_some (rows_of self.old) self.old.stamp
             (Removed prog vers which owner) }
-        ensures changes { (own : List Row) (changes : List Change)
-            → StandsForChanges self.old own changes
-            → StandsForChanges self.new own
-            (if result then changes ++ Removed prog vers which owner ∷ [] else changes) }
+        ensures changes { StandsForMore self.old self.new result
+            (Removed prog vers which owner) }
         ensures rejected { OnFalse result (self.new ≡ self.old) }
         ensures limit { self.new.limit ≡ self.old.limit }
+        ensures memory { self.new.memory ≡ self.old.memory }
         ensures tie { self.new.tie ≡ self.old.tie }
-        ensures cost { PaysAtMost meter.old meter.new (3 * length (rows_of self.old) + 2) }
+        ensures cost { PaysAtMost meter.old meter.new (3 * length (rows_of self.old) + 1) }
     {
         let removal = Removal {
             prog,
@@ -155,12 +153,9 @@ impl Registry {
     pub fn find(&self, prog: u32, vers: u32, netid: Netid, meter: &mut Meter) -> Option<&Row>
         requires { meter.old.tie ≡ self.now.tie }
         ensures found { option_copied result ≡ find_row prog vers netid (rows_of self.now) }
-        ensures cost { PaysAtMost meter.old meter.new (4 * length (rows_of self.now) + 4) }
+        ensures cost { PaysAtMost meter.old meter.new (2 * length (rows_of self.now) + 1) }
     {
-        match exact_or_greatest(&self.rows, prog, vers, netid, meter) {
-            Ok(row) => Some(row),
-            Err(newest) => find_exact(&self.rows, prog, newest, netid, meter),
-        }
+        find_row(&self.rows, prog, vers, netid, meter)
     }
 
     /// The row of exactly this version of the program on the netid (RFC 1833 section 2.2.2,
@@ -168,7 +163,7 @@ impl Registry {
     pub fn find_exact(&self, prog: u32, vers: u32, netid: Netid, meter: &mut Meter) -> Option<&Row>
         requires { meter.old.tie ≡ self.now.tie }
         ensures found { option_copied result ≡ find_exact prog vers netid (rows_of self.now) }
-        ensures cost { PaysAtMost meter.old meter.new (2 * length (rows_of self.now) + 2) }
+        ensures cost { PaysAtMost meter.old meter.new (2 * length (rows_of self.now) + 1) }
     {
         find_exact(&self.rows, prog, vers, netid, meter)
     }
@@ -197,9 +192,7 @@ impl Registry {
     pub fn next_row(&self, stamp: u64, cursor: Cursor, meter: &mut Meter) -> Option<(Cursor, &Row)>
         requires tie { meter.old.tie ≡ self.now.tie }
         requires place { StandsIn self.now stamp cursor }
-        ensures row { IfSome result
-            (λ next. slice_get (rows_at self.now stamp) (rows_passed self.now stamp cursor)
-            ≡ Some next.1.now) }
+        ensures row { IfSome result (λ next. row_behind self.now stamp cursor ≡ Some next.1.now) }
         ensures place { IfSome result (λ next. StandsIn self.now stamp next.0) }
         ensures passed { IfSome result
             (λ next. rows_passed self.now stamp next.0 ≡ rows_passed self.now stamp cursor + 1) }
@@ -207,9 +200,7 @@ impl Registry {
             (λ next. rows_passed self.now stamp next.0 ≤ length (rows_at self.now stamp)) }
         ensures end { IfNone result
             (rows_passed self.now stamp cursor ≡ length (rows_at self.now stamp)) }
-        ensures rows { (own : List Row) (changes : List Change)
-            → StandsForChanges self.now own changes
-            → rows_at self.now stamp ≡ live own (take stamp changes) }
+        ensures rows { RowsAreLive self.now stamp }
         ensures cost { PaysAtMost meter.old meter.new 2 }
     {
         match self.rows.entry_after(cursor.key(), meter) {

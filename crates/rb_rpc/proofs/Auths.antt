@@ -85,14 +85,13 @@ sys_complete fields rest fit =
     let e0 = bind_again read_number after_stamp (number s) t1 s fields _ (number_complete s t1 fit.stamp) e1 in
     ap (λ (xs : List ℕ). uid_of (body_of_sys xs)) whole ∙ ap uid_of e0
 
-some_is : (a b : ℕ) → Some a ≡ Some b → a ≡ b
-some_is a b e = cc
-
 pub sys_there : (body : List ℕ) (uid : ℕ) → AreBytes body → uid_of (body_of_sys body) ≡ Some uid → SaysUid uid body
 sys_there body uid are e = by_value (body_of_sys body) refl e
   where
     by_value : (r : Reading SysBody) → body_of_sys body ≡ r → uid_of r ≡ Some uid → SaysUid uid body
-    by_value (Ok x) was e = subst (λ (u : ℕ). SaysUid u body) (some_is x.0.uid uid e) (sys_sound body x.0 x.1 are was)
+    by_value (Ok x) was e =
+        let same : x.0.uid ≡ uid = cc in
+        subst (λ (u : ℕ). SaysUid u body) same (sys_sound body x.0 x.1 are was)
     by_value (Err d) was e = absurd cc
 
 pub sys_again : (body : List ℕ) (uid : ℕ) → SaysUid uid body → uid_of (body_of_sys body) ≡ Some uid
@@ -115,6 +114,9 @@ pub record AuthThere (place : ℕ) (bytes : List ℕ) : Type 0 where
 pub or_parts : (a b : Bool) → (a || b) ≡ false → (a ≡ false) × (b ≡ false)
 or_parts true b e = absurd cc
 or_parts false b e = (refl, e)
+
+pub or_no : (a b : Bool) → a ≡ false → b ≡ false → (a || b) ≡ false
+or_no a b e f = rw (e, f) refl
 
 not_over : (len place n : ℕ) → place + 8 ≤ len → (not (ltb len (place + 8)) && ltb max_auth_body n) ≡ false → n ≤ max_auth_body
 not_over len place n long e =

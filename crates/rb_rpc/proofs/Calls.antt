@@ -1,5 +1,5 @@
 -- The verdict and the grammar of calls agree.
-use Rattle.std.proofs.Common.{◌≡◌, zero, suc, append-nil, ◌≤◌, ◌+◌, ℕ, Bool, true, false, not, cond, eqb, ◌&&◌, ◌||◌, List, [], ◌∷◌, ◌++◌, length, drop, Option, Some, None, refl, sym, ap, subst, ◌∙◌, append_assoc, arith, length-append}
+use Rattle.std.proofs.Common.{◌≡◌, zero, suc, append-nil, ◌≤◌, ◌+◌, ℕ, Bool, true, false, not, cond, eqb, ltb, ◌&&◌, List, [], ◌∷◌, ◌++◌, length, drop, Option, Some, None, refl, sym, ap, subst, ◌∙◌, append_assoc, arith, length-append}
 use Rattle.std.specs.Option.{is_some}
 use Rattle.std.proofs.lemmas.Bool.{eqb-true, eq-eqb, ltb-false, le-ltb, not-false, cond-false}
 use Rattle.std.proofs.lemmas.Nat.{from_be_bytes-to_be_bytes_4}
@@ -8,9 +8,10 @@ use Rattle.rb_rpc.specs.Messages.{CallHead, Credential, AuthStat, auth, auth_non
 use Rattle.rb_rpc.specs.Verdict.{Verdict, auth_end, is_over_long, is_broken, credential_end, verifier_end, sys_uid, caller_of, head_of, verdict}
 use Rattle.rb_rpc.specs.declared.call.Verdict.TheVariants.{NoCall, RpcMismatch, AuthError, Call}
 use Rattle.rb_rpc.specs.declared.call.Credential.TheVariants as credentials
-use Rattle.rb_rpc.specs.Grammar.{IsAuth, SaysUid, SaysCaller, IsHead, BeginsWithCall, VerdictIsOfTheGrammar, IsCaller, WrittenCallsAreRead}
+use Rattle.rb_rpc.specs.declared.auth.AuthStat.TheVariants as stats
+use Rattle.rb_rpc.specs.Grammar.{IsAuth, SaysUid, SaysCaller, IsHead, BeginsWithCall, BeginsWithWords, HasAuths, VerdictIsOfTheGrammar, IsCaller, WrittenCallsAreRead}
 use Rattle.rb_xdr.proofs.Words.{AreBytes-drop, AreBytes-take, number_at_small, split_number}
-use Rattle.rb_rpc.proofs.Auths.{sys_there, sys_again, body_of, auth_there, AuthAgain, auth_again, or_parts}
+use Rattle.rb_rpc.proofs.Auths.{sys_there, sys_again, body_of, auth_there, AuthAgain, auth_again, or_parts, or_no}
 
 -- ---- from the verdict to the grammar
 
@@ -29,8 +30,8 @@ past_auth false x s v head place e = (refl, e)
 call_parts : (h k : CallHead) (p q : ℕ) → Call h p ≡ Call k q → (h ≡ k) × (p ≡ q)
 call_parts h k p q e = (cc, cc)
 
-is : (a b : ℕ) → not (eqb a b) ≡ false → a ≡ b
-is a b e = eqb-true a b (not-false (eqb a b) e)
+pub equal : (a b : ℕ) → not (eqb a b) ≡ false → a ≡ b
+equal a b e = eqb-true a b (not-false (eqb a b) e)
 
 -- what the lines say that do not hold
 record Passed (bytes : List ℕ) (head : CallHead) (place : ℕ) : Type 0 where
@@ -60,8 +61,8 @@ passed bytes head place e =
     let j = past_auth _ _ _ _ head place i.1 in
     let parts = call_parts (head_of bytes) head (verifier_end bytes) place j.1 in
     record {
-      is_call = is _ _ (or_parts _ _ a.0).1;
-      version = is _ _ b.0;
+      is_call = equal _ _ (or_parts _ _ a.0).1;
+      version = equal _ _ b.0;
       long = ltb-false _ _ c.0;
       credential_few = d.0;
       credential_whole = f.0;
@@ -96,7 +97,7 @@ caller_there flavor body said are e known readable = by_test (eqb flavor 0) refl
         one_left : (k : ℕ) → k ≤ 1 → eqb k 0 ≡ false → k ≡ 1
         one_left k le h = grind (arith, le, h)
 
-six_words : (bytes : List ℕ) → AreBytes bytes → 24 ≤ length bytes
+pub six_words : (bytes : List ℕ) → AreBytes bytes → 24 ≤ length bytes
     → bytes ≡ number (word 0 bytes) ++ (number (word 1 bytes) ++ (number (word 2 bytes) ++ (number (word 3 bytes) ++ (number (word 4 bytes) ++ (number (word 5 bytes) ++ drop 24 bytes)))))
 six_words bytes are long =
     let s0 : bytes ≡ number (word 0 bytes) ++ drop 4 bytes = split_number 0 bytes are (omega (arith, long)) in
@@ -145,15 +146,15 @@ begins bytes head place are p =
 
 -- ---- from the grammar to the verdict
 
-record WordsAgain (head : CallHead) (bytes : List ℕ) : Type 0 where
-  w0 : word 0 bytes ≡ head.xid
-  w1 : word 1 bytes ≡ 0
-  w2 : word 2 bytes ≡ 2
-  w3 : word 3 bytes ≡ head.prog
-  w4 : word 4 bytes ≡ head.vers
-  w5 : word 5 bytes ≡ head.proc
+pub record WordsAgain (head : CallHead) (bytes : List ℕ) : Type 0 where
+  pub w0 : word 0 bytes ≡ head.xid
+  pub w1 : word 1 bytes ≡ 0
+  pub w2 : word 2 bytes ≡ 2
+  pub w3 : word 3 bytes ≡ head.prog
+  pub w4 : word 4 bytes ≡ head.vers
+  pub w5 : word 5 bytes ≡ head.proc
 
-words_again : (head : CallHead) (tail : List ℕ) → IsHead head → WordsAgain head (call_words head ++ tail)
+pub words_again : (head : CallHead) (tail : List ℕ) → IsHead head → WordsAgain head (call_words head ++ tail)
 unfolding number number_at
 words_again head tail is = record {
   w0 = from_be_bytes-to_be_bytes_4 head.xid is.xid;
@@ -164,6 +165,62 @@ words_again head tail is = record {
   w5 = from_be_bytes-to_be_bytes_4 head.proc is.proc;
 }
 
+-- the verdict from the flavor on, from the verifier on, and from the credential on
+abbrev pub from_flavor : ℕ → List ℕ → Verdict
+from_flavor xid bytes =
+    cond (ltb 1 (word 6 bytes)) (AuthError xid stats.RejectedCredential)
+    (cond (eqb (word 6 bytes) 1 && not (is_some (sys_uid bytes))) (AuthError xid stats.BadCredential) (Call (head_of bytes) (verifier_end bytes)))
+
+abbrev pub from_verifier : ℕ → List ℕ → Verdict
+from_verifier xid bytes = cond (is_over_long (credential_end bytes) bytes) (AuthError xid stats.BadVerifier) (cond (is_broken (credential_end bytes) bytes) NoCall (from_flavor xid bytes))
+
+abbrev pub from_credential : ℕ → List ℕ → Verdict
+from_credential xid bytes = cond (is_over_long 24 bytes) (AuthError xid stats.BadCredential) (cond (is_broken 24 bytes) NoCall (from_verifier xid bytes))
+
+pub at_credential : (xid : ℕ) (rest bytes : List ℕ) → BeginsWithWords xid rest bytes → verdict bytes ≡ from_credential xid bytes
+unfolding verdict
+at_credential xid rest bytes w =
+    let words_are : WordsAgain w.head bytes = subst (λ (xs : List ℕ). WordsAgain w.head xs) (sym w.whole) (words_again w.head rest w.head_fits) in
+    let long : 24 ≤ length bytes = omega (arith, ap length w.whole, length-call_words w.head, length-append (call_words w.head) rest) in
+    cond-false _ _ _ (or_no _ _ (le-ltb (length bytes) 12 (omega (arith, long))) (ap (λ (k : ℕ). not (eqb k 0)) words_are.w1))
+    ∙ cond-false _ _ _ (ap (λ (k : ℕ). not (eqb k 2)) words_are.w2)
+    ∙ cond-false _ _ _ (le-ltb (length bytes) 24 long)
+    ∙ ap (λ (k : ℕ). from_credential k bytes) (words_are.w0 ∙ w.xid_is)
+
+pub credential_again : (xid flavor : ℕ) (body rest bytes : List ℕ) → IsAuth flavor body → BeginsWithWords xid (auth flavor body ++ rest) bytes → AuthAgain 24 flavor body bytes
+credential_again xid flavor body rest bytes fits w =
+    subst (λ (xs : List ℕ). AuthAgain 24 flavor body xs) (sym w.whole) (auth_again (call_words w.head) rest 24 flavor body (length-call_words w.head) fits)
+
+-- the words and the credential in front
+pub behind_credential : (xid flavor : ℕ) (body rest bytes : List ℕ) (w : BeginsWithWords xid (auth flavor body ++ rest) bytes)
+    → (bytes ≡ (call_words w.head ++ auth flavor body) ++ rest) × (length (call_words w.head ++ auth flavor body) ≡ 24 + length (auth flavor body))
+behind_credential xid flavor body rest bytes w = (
+  w.whole ∙ sym (append_assoc (call_words w.head) (auth flavor body) rest),
+  length-append (call_words w.head) (auth flavor body) ∙ ap (λ (k : ℕ). k + length (auth flavor body)) (length-call_words w.head),
+)
+
+pub at_verifier : (xid flavor : ℕ) (body rest bytes : List ℕ) → IsAuth flavor body → BeginsWithWords xid (auth flavor body ++ rest) bytes → verdict bytes ≡ from_verifier xid bytes
+at_verifier xid flavor body rest bytes fits w =
+    let cred = credential_again xid flavor body rest bytes fits w in
+    at_credential xid (auth flavor body ++ rest) bytes w ∙ cond-false _ _ _ cred.not_long ∙ cond-false _ _ _ cred.not_broken
+
+pub verifier_again : (xid flavor : ℕ) (body bytes : List ℕ) (h : HasAuths xid flavor body bytes) → AuthAgain (24 + length (auth flavor body)) h.verifier_flavor h.verifier_body bytes
+verifier_again xid flavor body bytes h =
+    let v : List ℕ = auth h.verifier_flavor h.verifier_body in
+    let front = behind_credential xid flavor body (v ++ h.rest) bytes h.words in
+    subst (λ (xs : List ℕ). AuthAgain (24 + length (auth flavor body)) h.verifier_flavor h.verifier_body xs) (sym front.0)
+    (auth_again (call_words h.words.head ++ auth flavor body) h.rest (24 + length (auth flavor body)) h.verifier_flavor h.verifier_body front.1 h.verifier_fits)
+
+pub at_flavor : (xid flavor : ℕ) (body bytes : List ℕ) → HasAuths xid flavor body bytes → verdict bytes ≡ from_flavor xid bytes
+unfolding credential_end
+at_flavor xid flavor body bytes h =
+    let v : List ℕ = auth h.verifier_flavor h.verifier_body in
+    let cred = credential_again xid flavor body (v ++ h.rest) bytes h.credential_fits h.words in
+    let verf = verifier_again xid flavor body bytes h in
+    at_verifier xid flavor body (v ++ h.rest) bytes h.credential_fits h.words
+    ∙ cond-false _ _ _ (ap (λ (k : ℕ). is_over_long k bytes) cred.end_is ∙ verf.not_long)
+    ∙ cond-false _ _ _ (ap (λ (k : ℕ). is_broken k bytes) cred.end_is ∙ verf.not_broken)
+
 record CallerAgain (cred : Credential) (said : Option ℕ) (flavor : ℕ) : Type 0 where
   known : flavor ≤ 1
   readable : (eqb flavor 1 && not (is_some said)) ≡ false
@@ -173,40 +230,35 @@ caller_again : (cred : Credential) (flavor : ℕ) (body : List ℕ) (said : Opti
 caller_again credentials.None flavor body said e zero_is = rw zero_is (record { known = omega arith; readable = refl; cred_is = refl })
 caller_again (credentials.Sys uid) flavor body said e one = rw (one.0, sym e ∙ sys_again body uid one.1) (record { known = omega arith; readable = refl; cred_is = refl })
 
-neither : (a b : Bool) → a ≡ false → b ≡ false → (a || b) ≡ false
-neither a b e f = rw (e, f) refl
-
 made : (head : CallHead) (x p v c : ℕ) (o : Credential) (place q : ℕ) → x ≡ head.xid → p ≡ head.prog → v ≡ head.vers → c ≡ head.proc → o ≡ head.cred → q ≡ place
     → Call (record { xid = x; prog = p; vers = v; proc = c; cred = o }) q ≡ Call head place
 made head x p v c o place q e0 e1 e2 e3 e4 e5 = rw (e0, e1, e2, e3, e4, e5) refl
 
-again : (bytes : List ℕ) (head : CallHead) (place : ℕ) → BeginsWithCall head place bytes → verdict bytes ≡ Call head place
-unfolding verdict credential_end verifier_end sys_uid
+pub again : (bytes : List ℕ) (head : CallHead) (place : ℕ) → BeginsWithCall head place bytes → verdict bytes ≡ Call head place
+unfolding credential_end verifier_end sys_uid
 again bytes head place b =
     let text : List ℕ = call_words head in
     let a : List ℕ = auth b.flavor b.body in
     let v : List ℕ = auth b.verifier_flavor b.verifier_body in
-    let ce : ℕ = 24 + length a in
-    let len : length text ≡ 24 = length-call_words head in
-    let w1 : bytes ≡ text ++ (a ++ (v ++ b.rest)) = b.whole ∙ append_assoc (text ++ a) v b.rest ∙ append_assoc text a (v ++ b.rest) in
-    let w2 : bytes ≡ (text ++ a) ++ (v ++ b.rest) = b.whole ∙ append_assoc (text ++ a) v b.rest in
-    let words_are : WordsAgain head bytes = subst (λ (xs : List ℕ). WordsAgain head xs) (sym w1) (words_again head (a ++ (v ++ b.rest)) b.head_fits) in
-    let cred : AuthAgain 24 b.flavor b.body bytes = subst (λ (xs : List ℕ). AuthAgain 24 b.flavor b.body xs) (sym w1) (auth_again text (v ++ b.rest) 24 b.flavor b.body len b.credential_fits) in
-    let verf : AuthAgain ce b.verifier_flavor b.verifier_body bytes = subst (λ (xs : List ℕ). AuthAgain ce b.verifier_flavor b.verifier_body xs) (sym w2)
-    (auth_again (text ++ a) b.rest ce b.verifier_flavor b.verifier_body (length-append text a ∙ ap (λ (k : ℕ). k + length a) len) b.verifier_fits) in
+    let whole : bytes ≡ text ++ (a ++ (v ++ b.rest)) = b.whole ∙ append_assoc (text ++ a) v b.rest ∙ append_assoc text a (v ++ b.rest) in
+    let words : BeginsWithWords head.xid (a ++ (v ++ b.rest)) bytes = record { head = head; head_fits = b.head_fits; xid_is = refl; whole = whole } in
+    let auths : HasAuths head.xid b.flavor b.body bytes = record {
+      verifier_flavor = b.verifier_flavor;
+      verifier_body = b.verifier_body;
+      rest = b.rest;
+      credential_fits = b.credential_fits;
+      verifier_fits = b.verifier_fits;
+      words = words;
+    } in
+    let words_are : WordsAgain head bytes = subst (λ (xs : List ℕ). WordsAgain head xs) (sym whole) (words_again head (a ++ (v ++ b.rest)) b.head_fits) in
+    let cred = credential_again head.xid b.flavor b.body (v ++ b.rest) bytes b.credential_fits words in
+    let verf = verifier_again head.xid b.flavor b.body bytes auths in
     let said : Option ℕ = uid_of (body_of_sys (body_of 24 bytes)) in
     let caller : CallerAgain head.cred said b.flavor = caller_again head.cred b.flavor b.body said (ap (λ (xs : List ℕ). uid_of (body_of_sys xs)) (sym cred.body_is)) b.caller in
-    let long : 24 ≤ length bytes = omega (arith, ap length w1, len, length-append text (a ++ (v ++ b.rest))) in
     let known : word 6 bytes ≤ 1 = omega (arith, cred.flavor_is, caller.known) in
     let end_is : auth_end (auth_end 24 bytes) bytes ≡ place =
-    ap (λ (k : ℕ). auth_end k bytes) cred.end_is ∙ verf.end_is ∙ omega (arith, b.place_is, len, length-append (text ++ a) v, length-append text a) in
-    cond-false _ _ _ (neither _ _ (le-ltb (length bytes) 12 (omega (arith, long))) (ap (λ (k : ℕ). not (eqb k 0)) words_are.w1))
-    ∙ cond-false _ _ _ (ap (λ (k : ℕ). not (eqb k 2)) words_are.w2)
-    ∙ cond-false _ _ _ (le-ltb (length bytes) 24 long)
-    ∙ cond-false _ _ _ cred.not_long
-    ∙ cond-false _ _ _ cred.not_broken
-    ∙ cond-false _ _ _ (ap (λ (k : ℕ). is_over_long k bytes) cred.end_is ∙ verf.not_long)
-    ∙ cond-false _ _ _ (ap (λ (k : ℕ). is_broken k bytes) cred.end_is ∙ verf.not_broken)
+    ap (λ (k : ℕ). auth_end k bytes) cred.end_is ∙ verf.end_is ∙ omega (arith, b.place_is, length-call_words head, length-append (text ++ a) v, length-append text a) in
+    at_flavor head.xid b.flavor b.body bytes auths
     ∙ cond-false _ _ _ (le-ltb 1 (word 6 bytes) known)
     ∙ cond-false _ _ _ (ap (λ (k : ℕ). eqb k 1 && not (is_some said)) cred.flavor_is ∙ caller.readable)
     ∙ made head _ _ _ _ _ place _ words_are.w0 words_are.w3 words_are.w4 words_are.w5 (ap (λ (k : ℕ). cond (eqb k 0) credentials.None (caller_of said)) cred.flavor_is ∙ caller.cred_is) end_is
@@ -224,7 +276,7 @@ verdict_agrees bytes are head place = (
 
 -- ---- what is written
 
-AreBytes-append : (xs ys : List ℕ) → AreBytes xs → AreBytes ys → AreBytes (xs ++ ys)
+pub AreBytes-append : (xs ys : List ℕ) → AreBytes xs → AreBytes ys → AreBytes (xs ++ ys)
 AreBytes-append [] ys is_x is_y i = is_y i
 AreBytes-append (x ∷ xs) ys is_x is_y zero = is_x zero
 AreBytes-append (x ∷ xs) ys is_x is_y (suc i) = AreBytes-append xs ys (λ j. is_x (suc j)) is_y i
@@ -232,7 +284,7 @@ AreBytes-append (x ∷ xs) ys is_x is_y (suc i) = AreBytes-append xs ys (λ j. i
 AreBytes-nil : AreBytes []
 AreBytes-nil i = omega arith
 
-AreBytes-number : (n : ℕ) → AreBytes (number n)
+pub AreBytes-number : (n : ℕ) → AreBytes (number n)
 unfolding number
 AreBytes-number n zero = omega arith
 AreBytes-number n (suc zero) = omega arith

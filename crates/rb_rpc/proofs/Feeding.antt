@@ -1,5 +1,5 @@
 -- What a reader of records makes of the bytes that it is fed.
-use Rattle.std.proofs.Common.{◌≡◌, ◌<◌, ◌≤◌, ◌+◌, ◌-◌, ◌*◌, ◌%◌, ◌^◌, ℕ, zero, suc, Bool, true, false, not, cond, eqb, ltb, List, [], ◌∷◌, ◌++◌, length, take, drop, get_or, Option, Some, None, refl, sym, ap, subst, ◌∙◌, append_assoc, append-nil, zero-add, arith, length-append}
+use Rattle.std.proofs.Common.{◌≡◌, ◌<◌, ◌≤◌, ◌+◌, ◌-◌, ◌*◌, ◌%◌, ◌^◌, ℕ, zero, suc, Bool, true, false, not, cond, eqb, ltb, List, [], ◌∷◌, ◌++◌, length, take, drop, Option, Some, None, refl, sym, ap, subst, ◌∙◌, append_assoc, append-nil, zero-add, arith, length-append}
 use Rattle.std.specs.Prelude.{option_map, slice_range}
 use Rattle.std.proofs.lemmas.List.{length-take, length-drop, drop_at, take_all, nil_from_length}
 use Rattle.std.proofs.lemmas.List.Concat.{flat_map-append}
@@ -7,11 +7,13 @@ use Rattle.std.proofs.lemmas.List.Sums.{fold-append}
 use Rattle.std.proofs.lemmas.Bool.{eqb-true, ltb-false, ltb-true, lt-ltb, cond-true, cond-false}
 use Rattle.rb_xdr.specs.Xdr.{AreBytes, number, number_at}
 use Rattle.rb_xdr.proofs.Words.{number-number_at, number_at_small}
-use Rattle.rb_rpc.specs.Records.{Fragment, fragment_header, marking, markings, joined, is_empty, AreFragments, IsMarkedAs, is_last, fragment_end, is_cut, record_of, first_record, data_in, data_of}
-use Rattle.rb_rpc.specs.Marks.{Marks, Place, Part, AreOpen, number_so_far, IsInHeader, IsAt, StandsForFed, data_among, behind, behind_header, NoRecordEnded}
+use Rattle.rb_rpc.specs.Records.{Fragment, fragment_header, marking, markings, joined, is_empty, AreFragments, IsMarked, IsMarkedAs, is_last, fragment_end, is_cut, record_of, first_record, data_in, data_of}
+use Rattle.rb_rpc.specs.RecordLaws.{Records}
+use Rattle.rb_rpc.specs.Marks.{Marks, Place, Part, AreOpen, number_so_far, IsInHeader, IsAt, StandsForFed, StandsForStream, RecordEnds, ArePart, StandsForMore, StreamGoesOn, RecordData, no_data, more_data, data_among, behind, behind_header, NoRecordEnded}
 use Rattle.rb_rpc.specs.declared.marks.Place.TheVariants.{Header, Data}
 use Rattle.rb_rpc.specs.declared.marks.Part.TheVariants as parts
-use Rattle.rb_rpc.proofs.Markings.{header_says, length-header, record_step, record_again, data_step, at_least}
+use Rattle.rb_rpc.proofs.Markings.{header_says, length-header, record_step, record_again, data_again, data_step, at_least, has_none}
+use Rattle.rb_rpc.proofs.Streams.{no_bytes, one_more, goes_on}
 
 -- ---- fragments that ended, in front of other bytes
 
@@ -60,11 +62,11 @@ open_data (suc k) j (f ∷ more) rest are e =
 -- ---- the data of what is no whole fragment
 
 -- a header at most has none
-no_data : (j : ℕ) (rest : List ℕ) → length rest ≤ 4 → data_in j rest ≡ []
-no_data zero rest short = refl
-no_data (suc j) rest short =
+none_yet : (j : ℕ) (rest : List ℕ) → length rest ≤ 4 → data_in j rest ≡ []
+none_yet zero rest short = refl
+none_yet (suc j) rest short =
     by_test (is_last rest) (nil_from_length (slice_range rest 4 (fragment_end rest)) (omega (arith, short, length-drop 4 rest, length-take (fragment_end rest - 4) (drop 4 rest))))
-    (no_data j (drop (fragment_end rest) rest) (omega (arith, short, length-drop (fragment_end rest) rest)))
+    (none_yet j (drop (fragment_end rest) rest) (omega (arith, short, length-drop (fragment_end rest) rest)))
   where
     by_test : {s t : List ℕ} (b : Bool) → s ≡ [] → t ≡ [] → cond b s (s ++ t) ≡ []
     by_test true e f = e
@@ -75,7 +77,7 @@ unfolding data_of
 header_data fragments front are short =
     let j : ℕ = length (markings fragments ++ front) - length fragments in
     open_data (length (markings fragments ++ front)) j fragments front are (omega (arith, at_least fragments, length-append (markings fragments) front))
-    ∙ ap (λ (xs : List ℕ). joined fragments ++ xs) (no_data j front short) ∙ append-nil (joined fragments)
+    ∙ ap (λ (xs : List ℕ). joined fragments ++ xs) (none_yet j front short) ∙ append-nil (joined fragments)
 
 -- behind a header, the data as far as it goes
 some_data : (j len : ℕ) (last : Bool) (content : List ℕ) → length content ≤ len → len < 2 ^ 31 → data_in (suc j) (fragment_header len last ++ content) ≡ content
@@ -87,7 +89,7 @@ some_data j len last content few small =
     let content_is : slice_range bytes 4 (fragment_end bytes) ≡ content =
     ap (λ (k : ℕ). slice_range bytes 4 k) says.0 ∙ ap (λ (k : ℕ). take k (drop 4 bytes)) size ∙ ap (λ (xs : List ℕ). take len xs) (drop_at header content 4 (length-header len last)) ∙ take_all len content few in
     let nothing : drop (fragment_end bytes) bytes ≡ [] = nil_from_length (drop (fragment_end bytes) bytes) (omega (arith, says.0, few, length-drop (fragment_end bytes) bytes, length-append header content, length-header len last)) in
-    rw (content_is, nothing, no_data j [] (omega arith)) (by_flag (is_last bytes))
+    rw (content_is, nothing, none_yet j [] (omega arith)) (by_flag (is_last bytes))
   where
     by_flag : (b : Bool) → cond b content (content ++ []) ≡ content
     by_flag true = refl
@@ -123,6 +125,7 @@ closed (g ∷ more) f are small last = (are.0, are.1 ∙ sym (not_empty more f),
 
 pub record Reached (reached : Place × Bool) (fed : List ℕ) : Type 0 where
   ends : first_record fed ≡ cond reached.1 (Some (length fed)) None
+  is_record : reached.1 ≡ true → IsMarked fed (data_of fed)
   stands : StandsForFed (record { place = reached.0 }) (cond reached.1 [] fed)
 
 at_start : IsInHeader 0 0 []
@@ -140,6 +143,11 @@ at_end fragments true content are small =
     let is : IsMarkedAs all bytes = record { some = not_empty fragments f; fragmented = closed fragments f are small refl; spelled = sym (markings_more fragments f) } in
     record {
       ends = ap first_record (sym (append-nil bytes)) ∙ record_again all bytes [] is;
+      is_record = λ e. record {
+        fragments = all;
+        marked = is;
+        content_is = ap data_of (sym (append-nil bytes)) ∙ data_again bytes (joined all) [] (record { fragments = all; marked = is; content_is = refl });
+      };
       stands = record { fragments = []; front = []; open_still = tt; fed_is = refl; place = at_start };
     }
 at_end fragments false content are small =
@@ -149,6 +157,7 @@ at_end fragments false content are small =
     let text : markings fragments ++ marking f ≡ markings all ++ [] = sym (markings_more fragments f) ∙ sym (append-nil (markings all)) in
     record {
       ends = ap first_record text ∙ first_open all [] are_all (cut_short [] (omega arith));
+      is_record = λ e. absurd cc;
       stands = record { fragments = all; front = []; open_still = are_all; fed_is = text; place = at_start };
     }
 
@@ -171,6 +180,7 @@ at_data fragments left last content are small = by_test (eqb left 0) refl
         let some : 0 < left = grind (arith, e) in
         record {
           ends = first_open fragments (fragment_header (length content + left) last ++ content) are (cut some);
+          is_record = λ ended. absurd cc;
           stands = record {
             fragments = fragments;
             front = fragment_header (length content + left) last ++ content;
@@ -182,7 +192,7 @@ at_data fragments left last content are small = by_test (eqb left 0) refl
 
 -- ---- a header
 
-AreBytes-more : (xs : List ℕ) (b : ℕ) → AreBytes xs → b < 256 → AreBytes (xs ++ b ∷ [])
+pub AreBytes-more : (xs : List ℕ) (b : ℕ) → AreBytes xs → b < 256 → AreBytes (xs ++ b ∷ [])
 AreBytes-more [] b are small zero = small
 AreBytes-more [] b are small (suc i) = omega arith
 AreBytes-more (x ∷ xs) b are small zero = are zero
@@ -197,7 +207,7 @@ few_small (a ∷ b ∷ c ∷ []) are few = let a0 = are 0 in let b0 = are 1 in l
 few_small (a ∷ b ∷ c ∷ d ∷ more) are few = absurd (omega (arith, few))
 
 -- four bytes spell the number of a header
-four_are : (xs : List ℕ) → length xs ≡ 4 → number_so_far xs ≡ number_at 0 xs
+pub four_are : (xs : List ℕ) → length xs ≡ 4 → number_so_far xs ≡ number_at 0 xs
 unfolding number_at
 four_are [] e = absurd (omega (arith, e))
 four_are (a ∷ []) e = absurd (omega (arith, e))
@@ -207,7 +217,7 @@ four_are (a ∷ b ∷ c ∷ d ∷ []) e = omega arith
 four_are (a ∷ b ∷ c ∷ d ∷ x ∷ more) e = absurd (omega (arith, e))
 
 -- one byte more
-so_far_more : (xs : List ℕ) (b : ℕ) → AreBytes xs → length xs < 4 → number_so_far xs * 256 % 2 ^ 32 + b ≡ number_so_far (xs ++ b ∷ [])
+pub so_far_more : (xs : List ℕ) (b : ℕ) → AreBytes xs → length xs < 4 → number_so_far xs * 256 % 2 ^ 32 + b ≡ number_so_far (xs ++ b ∷ [])
 so_far_more xs b are few = omega (arith, few_small xs are few) ∙ sym (fold-append (λ n b. n * 256 + b) 0 xs (b ∷ []))
 
 header_of : (n : ℕ) → n < 2 ^ 32 → fragment_header (n % 2 ^ 31) (not (ltb n (2 ^ 31))) ≡ number n
@@ -231,22 +241,42 @@ at_header : (fragments : List Fragment) (left : ℕ) (last : Bool) → AreOpen f
 at_header fragments left last are small =
     subst (λ (k : ℕ). Reached (behind left last) (markings fragments ++ (fragment_header k last ++ []))) (zero-add left) (at_data fragments left last [] are (omega (arith, small)))
 
--- ---- what a run of bytes is, and where it leads
+-- ---- what bytes are, and where they lead
 
 -- whatever was fed before
 pub record Ran (old : Marks) (reached : Place × Bool) (part : Part) (run : List ℕ) : Type 0 where
-  pub ends : (fed : List ℕ) → StandsForFed old fed → first_record (fed ++ run) ≡ cond reached.1 (Some (length fed + length run)) None
-  pub content : (fed : List ℕ) → StandsForFed old fed → data_of (fed ++ run) ≡ data_of fed ++ data_among part run
-  pub stands : (fed : List ℕ) → StandsForFed old fed → StandsForFed (record { place = reached.0 }) (cond reached.1 [] (fed ++ run))
+  pub ends : RecordEnds old run reached.1
+  pub content : ArePart old part run
+  pub stands : StandsForMore old run reached.1 (record { place = reached.0 })
+  pub stream : StreamGoesOn old part run reached.1 (record { place = reached.0 })
 
 abbrev Step : Place × Bool → Part → List ℕ → List ℕ → Type 0
 Step reached part run fed = Reached reached (fed ++ run) × (data_of (fed ++ run) ≡ data_of fed ++ data_among part run)
+
+streamed : (old : Marks) (place : Place) (ended : Bool) (part : Part) (bytes run : List ℕ) (read : RecordData) (h : StandsForStream old bytes read) → Step (place, ended) part run h.rest
+    → StandsForStream (record { place = place }) (bytes ++ run) (more_data (data_among part run) ended read)
+unfolding data_of
+streamed old place true part bytes run read h step = record {
+  rest = [];
+  records =
+      subst (λ (xs : List ℕ). Records (bytes ++ run) (read.contents ++ xs ∷ []) []) (step.1 ∙ ap (λ (xs : List ℕ). xs ++ data_among part run) (sym h.unfinished_is))
+      (one_more bytes run h.rest (data_of (h.rest ++ run)) read.contents h.records (step.0.is_record refl));
+  unfinished_is = refl;
+  stands = step.0.stands;
+}
+streamed old place false part bytes run read h step = record {
+  rest = h.rest ++ run;
+  records = goes_on bytes run h.rest read.contents h.records (has_none (h.rest ++ run) step.0.ends);
+  unfinished_is = ap (λ (xs : List ℕ). xs ++ data_among part run) h.unfinished_is ∙ sym step.1;
+  stands = step.0.stands;
+}
 
 ran : (old : Marks) (reached : Place × Bool) (part : Part) (run : List ℕ) → ((fed : List ℕ) → StandsForFed old fed → Step reached part run fed) → Ran old reached part run
 ran old reached part run step = record {
   ends = λ fed h. (step fed h).0.ends ∙ ap (λ (k : ℕ). cond reached.1 (Some k) None) (length-append fed run);
   content = λ fed h. (step fed h).1;
   stands = λ fed h. (step fed h).0.stands;
+  stream = λ bytes read h. streamed old reached.0 reached.1 part bytes run read h (step h.rest h.stands);
 }
 
 header_step : (seen number byte : ℕ) (fed : List ℕ) → byte < 256 → StandsForFed (record { place = Header seen number }) fed → Step (behind_header seen number byte) parts.Header (byte ∷ []) fed
@@ -274,6 +304,7 @@ header_step seen number byte fed small h =
         let short : length (h.front ++ byte ∷ []) < 4 = omega (arith, len, seen_is, ltb-true _ _ e) in
         record {
           ends = first_open h.fragments (h.front ++ byte ∷ []) h.open_still (cut_short (h.front ++ byte ∷ []) short);
+          is_record = λ ended. absurd cc;
           stands = record {
             fragments = h.fragments;
             front = h.front ++ byte ∷ [];
@@ -288,10 +319,11 @@ header_step seen number byte fed small h =
         subst (λ (xs : List ℕ). Reached (behind (n % 2 ^ 31) (not (ltb n (2 ^ 31)))) (markings h.fragments ++ xs)) (sym (whole_header (h.front ++ byte ∷ []) are four))
         (at_header h.fragments (n % 2 ^ 31) (not (ltb n (2 ^ 31))) h.open_still (omega arith))
 
-pub header_ran : (old : Marks) (seen number byte : ℕ) → byte < 256 → old.place ≡ Header seen number → Ran old (behind_header seen number byte) parts.Header (byte ∷ [])
-header_ran old seen number byte small is =
-    ran old (behind_header seen number byte) parts.Header (byte ∷ [])
-    (λ fed h. header_step seen number byte fed small (subst (λ (p : Place). StandsForFed (record { place = p }) fed) is h))
+pub header_ran : (old : Marks) (reached : Place × Bool) (seen number byte : ℕ) → byte < 256 → old.place ≡ Header seen number → reached ≡ behind_header seen number byte → Ran old reached parts.Header (byte ∷ [])
+header_ran old reached seen number byte small is reached_is =
+    subst (λ (r : Place × Bool). Ran old r parts.Header (byte ∷ [])) (sym reached_is)
+    (ran old (behind_header seen number byte) parts.Header (byte ∷ [])
+    (λ fed h. header_step seen number byte fed small (subst (λ (p : Place). StandsForFed (record { place = p }) fed) is h)))
 
 -- ---- data
 
@@ -314,45 +346,14 @@ data_steps left last run fed few h =
           ∙ ap (λ (xs : List ℕ). xs ++ run) (sym (ap data_of before ∙ fragment_data h.fragments len last content h.open_still (omega arith) small)),
     )
 
-pub data_ran : (old : Marks) (left : ℕ) (last : Bool) (run : List ℕ) → old.place ≡ Data left last → (0 < left → length run ≤ left) → Ran old (behind (left - length run) last) parts.Data run
-data_ran old left last run is few =
-    ran old (behind (left - length run) last) parts.Data run
+pub data_ran : (old : Marks) (reached : Place × Bool) (left rest count : ℕ) (last : Bool) (run : List ℕ) → length run ≡ count → (0 < left → count ≤ left)
+    → old.place ≡ Data left last → rest ≡ left - count → reached ≡ behind rest last → Ran old reached parts.Data run
+data_ran old reached left rest count last run len few is rest_is reached_is =
+    subst (λ (r : Place × Bool). Ran old r parts.Data run) (ap (λ (k : ℕ). behind (left - k) last) len ∙ ap (λ (k : ℕ). behind k last) (sym rest_is) ∙ sym reached_is)
+    (ran old (behind (left - length run) last) parts.Data run
     (λ fed h.
     let at : StandsForFed (record { place = Data left last }) fed = subst (λ (p : Place). StandsForFed (record { place = p }) fed) is h in
-    data_steps left last run fed (few at.place.some_left) at)
-
--- ---- the front of a piece
-
-pub record RanFront (old : Marks) (reached : Place × Bool) (part : Part) (count : ℕ) (bytes : List ℕ) : Type 0 where
-  pub ends : (fed : List ℕ) → StandsForFed old fed → first_record (fed ++ take count bytes) ≡ cond reached.1 (Some (length fed + count)) None
-  pub content : (fed : List ℕ) → StandsForFed old fed → data_of (fed ++ take count bytes) ≡ data_of fed ++ data_among part (take count bytes)
-  pub stands : (fed : List ℕ) → StandsForFed old fed → StandsForFed (record { place = reached.0 }) (cond reached.1 [] (fed ++ take count bytes))
-
-front_ran : (old : Marks) (reached : Place × Bool) (part : Part) (count : ℕ) (bytes : List ℕ) → length (take count bytes) ≡ count → Ran old reached part (take count bytes) → RanFront old reached part count bytes
-front_ran old reached part count bytes len ran = record {
-  ends = λ fed h. ran.ends fed h ∙ ap (λ (k : ℕ). cond reached.1 (Some (length fed + k)) None) len;
-  content = ran.content;
-  stands = ran.stands;
-}
-
-take_one : (bytes : List ℕ) → 0 < length bytes → get_or bytes 0 0 ∷ [] ≡ take 1 bytes
-take_one [] some = absurd (omega (arith, some))
-take_one (b ∷ more) some = refl
-
-pub header_front : (old : Marks) (reached : Place × Bool) (seen number : ℕ) (bytes : List ℕ) → 0 < length bytes → get_or bytes 0 0 < 256
-    → old.place ≡ Header seen number → reached ≡ behind_header seen number (get_or bytes 0 0) → RanFront old reached parts.Header 1 bytes
-header_front old reached seen number bytes some small is reached_is =
-    front_ran old reached parts.Header 1 bytes (omega (arith, some, length-take 1 bytes))
-    (subst (λ (xs : List ℕ). Ran old reached parts.Header xs) (take_one bytes some)
-    (subst (λ (r : Place × Bool). Ran old r parts.Header (get_or bytes 0 0 ∷ [])) (sym reached_is) (header_ran old seen number (get_or bytes 0 0) small is)))
-
-pub data_front : (old : Marks) (reached : Place × Bool) (left rest count : ℕ) (last : Bool) (bytes : List ℕ) → count ≤ length bytes → (0 < left → count ≤ left)
-    → old.place ≡ Data left last → rest ≡ left - count → reached ≡ behind rest last → RanFront old reached parts.Data count bytes
-data_front old reached left rest count last bytes within few is rest_is reached_is =
-    let len : length (take count bytes) ≡ count = omega (arith, within, length-take count bytes) in
-    let same : behind (left - length (take count bytes)) last ≡ reached = ap (λ (k : ℕ). behind (left - k) last) len ∙ ap (λ (k : ℕ). behind k last) (sym rest_is) ∙ sym reached_is in
-    front_ran old reached parts.Data count bytes len
-    (subst (λ (r : Place × Bool). Ran old r parts.Data (take count bytes)) same (data_ran old left last (take count bytes) is (λ some. let under : count ≤ left = few some in omega (arith, len, under))))
+    data_steps left last run fed (omega (arith, len, few at.place.some_left)) at))
 
 -- ---- nothing ended
 
@@ -364,3 +365,14 @@ none_ended marks fed h = ap first_record h.fed_is ∙ first_open h.fragments h.f
     by_place (Data left last) is =
         ap is_cut is.front_is
         ∙ lt-ltb _ _ (omega (arith, is.some_left, (header_says (length is.content + left) last is.content is.fits).0, length-append (fragment_header (length is.content + left) last) is.content, length-header (length is.content + left) last))
+
+-- ---- before the first byte
+
+pub stream_begins : StandsForStream (record { place = Header 0 0 }) [] no_data
+unfolding data_of
+stream_begins = record {
+  rest = [];
+  records = no_bytes;
+  unfinished_is = refl;
+  stands = record { fragments = []; front = []; open_still = tt; fed_is = refl; place = at_start };
+}

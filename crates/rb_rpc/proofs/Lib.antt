@@ -1,9 +1,10 @@
-mod Auths
+pub mod Auths
 pub mod Calls
 mod Replies
+mod Refusals
 pub mod Markings
-mod Numbers
-mod SysBodies
+pub mod Numbers
+pub mod SysBodies
 pub mod Feeding
 pub mod RecordCuts
-mod Streams
+pub mod Streams

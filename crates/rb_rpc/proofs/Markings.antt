@@ -7,7 +7,7 @@ use Rattle.std.proofs.lemmas.List.Elements.{All-cons, All-nil}
 use Rattle.std.proofs.Math.Seq.{take-add}
 use Rattle.rb_xdr.specs.Xdr.{AreBytes, number, number_at}
 use Rattle.rb_rpc.specs.Records.{Fragment, fragment_header, marking, markings, joined, is_empty, AreFragments, IsMarked, IsMarkedAs, is_last, fragment_end, is_cut, record_of, first_record, data_in, data_of, fragment_size, cut_up, reply_fragments, marked}
-use Rattle.rb_rpc.specs.RecordLaws.{FirstRecordIsLeast, NoneWhereNoFrontIsOne, DataIsJoined, NoRecordBeginsAnother, IsReplyFragment, AreReplyFragments, RepliesAreMarked}
+use Rattle.rb_rpc.specs.RecordLaws.{HasNoRecord, FirstRecordIsLeast, NoneWhereNoFrontIsOne, DataIsJoined, NoRecordBeginsAnother, IsReplyFragment, AreReplyFragments, RepliesAreMarked}
 use Rattle.rb_xdr.proofs.Words.{AreBytes-drop, length-number, number_at-number, number-number_at, number_at_small}
 
 pub length-header : (len : ℕ) (last : Bool) → length (fragment_header len last) ≡ 4
@@ -131,14 +131,14 @@ fragment_front bytes are long =
     by_bit true e = omega (arith, ltb-true _ _ e)
     by_bit false e = omega (arith, ltb-false _ _ e, number_at_small 0 bytes are)
 
-not_cut : (b : Bool) (x : Option ℕ) (n : ℕ) → cond b None x ≡ Some n → (b ≡ false) × (x ≡ Some n)
+pub not_cut : (b : Bool) (x : Option ℕ) (n : ℕ) → cond b None x ≡ Some n → (b ≡ false) × (x ≡ Some n)
 not_cut true x n e = absurd cc
 not_cut false x n e = (refl, e)
 
-some_is : (a b : ℕ) → Some a ≡ Some b → a ≡ b
+pub some_is : (a b : ℕ) → Some a ≡ Some b → a ≡ b
 some_is a b e = cc
 
-mapped : (d n : ℕ) (x : Option ℕ) → option_map (λ k. d + k) x ≡ Some n → (m : ℕ) × (x ≡ Some m) × (d + m ≡ n)
+pub mapped : (d n : ℕ) (x : Option ℕ) → option_map (λ k. d + k) x ≡ Some n → (m : ℕ) × (x ≡ Some m) × (d + m ≡ n)
 mapped d n None e = absurd cc
 mapped d n (Some m) e = (m, refl, some_is _ _ e)
 
@@ -208,9 +208,13 @@ first_is_least bytes are n = (
 no_some : (n : ℕ) → Some n ≡ None → ⊥
 no_some n e = cc
 
+-- where the first record isn't there, none is
+pub has_none : (bytes : List ℕ) → first_record bytes ≡ None → HasNoRecord bytes
+has_none bytes e n content within is = no_some n (sym (whole_again n bytes content within is) ∙ e)
+
 pub none_where_no_front : NoneWhereNoFrontIsOne
 none_where_no_front bytes are = (
-  λ e n content within is. no_some n (sym (whole_again n bytes content within is) ∙ e),
+  λ e. has_none bytes e,
   λ h. by_value (first_record bytes) refl h,
 )
   where

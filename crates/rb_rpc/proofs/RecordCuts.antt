@@ -6,14 +6,7 @@ use Rattle.std.proofs.lemmas.Bool.{ltb-true, ltb-false, le-ltb, cond-false, case
 use Rattle.rb_xdr.specs.Xdr.{number_at}
 use Rattle.rb_rpc.specs.Records.{record_of, is_cut, is_last, fragment_end, first_record}
 use Rattle.rb_rpc.specs.RecordLaws.{RecordsStay, RecordsEndLater}
-
-not_cut : (b : Bool) (x : Option ℕ) (n : ℕ) → cond b None x ≡ Some n → (b ≡ false) × (x ≡ Some n)
-not_cut true x n e = absurd cc
-not_cut false x n e = (refl, e)
-
-mapped : (d n : ℕ) (x : Option ℕ) → option_map (λ k. d + k) x ≡ Some n → (m : ℕ) × (x ≡ Some m) × (d + m ≡ n)
-mapped d n None e = absurd cc
-mapped d n (Some m) e = (m, refl, cc)
+use Rattle.rb_rpc.proofs.Markings.{not_cut, mapped}
 
 unmapped : (d : ℕ) (x : Option ℕ) → option_map (λ k. d + k) x ≡ None → x ≡ None
 unmapped d None e = refl

@@ -1,5 +1,5 @@
 -- The reading of replies and their grammar agree.
-use Rattle.std.proofs.Common.{◌≡◌, ◌<◌, ◌≤◌, ◌+◌, ◌^◌, ℕ, Bool, true, false, not, cond, eqb, ◌||◌, List, [], ◌∷◌, ◌++◌, length, drop, Option, Some, None, refl, sym, ap, subst, ◌∙◌, append_assoc, arith, length-append, inl, inr, ◌⊎◌}
+use Rattle.std.proofs.Common.{◌≡◌, ◌<◌, ◌≤◌, ◌+◌, ◌^◌, ℕ, Bool, true, false, not, cond, eqb, List, [], ◌∷◌, ◌++◌, length, drop, Option, Some, None, refl, sym, ap, subst, ◌∙◌, append_assoc, arith, length-append, inl, inr, ◌⊎◌}
 use Rattle.std.specs.Prelude.{find}
 use Rattle.std.proofs.lemmas.Bool.{eqb-true, ltb-false, le-ltb, not-false, cond-false, cond-true}
 use Rattle.std.proofs.lemmas.List.{drop_at}
@@ -12,7 +12,7 @@ use Rattle.rb_rpc.specs.declared.reply.ReplyStatus.TheVariants.{Success, ProgUna
 use Rattle.rb_rpc.specs.declared.auth.AuthStat.TheVariants as stats
 use Rattle.rb_rpc.specs.Grammar.{IsAuth, IsReplyStatus, BeginsWithReply, RepliesAreOfTheGrammar, WrittenRepliesAreRead}
 use Rattle.rb_xdr.proofs.Words.{length-number, number_at-number, number_at-append, number_at-drop, number_at_small, split_number}
-use Rattle.rb_rpc.proofs.Auths.{body_of, auth_there, AuthAgain, auth_again, or_parts}
+use Rattle.rb_rpc.proofs.Auths.{body_of, auth_there, AuthAgain, auth_again, or_parts, or_no}
 
 -- ---- from the reading to the grammar
 
@@ -247,9 +247,6 @@ there bytes r are e =
 
 -- ---- from the grammar to the reading
 
-neither : (a b : Bool) → a ≡ false → b ≡ false → (a || b) ≡ false
-neither a b e f = rw (e, f) refl
-
 abbrev accepted_words : ℕ → List ℕ
 accepted_words xid = number xid ++ number 1 ++ number 0
 
@@ -298,9 +295,9 @@ stat_again xid stat flavor body tail bytes small stat_small is whole =
       behind = behind;
       long = total;
       was =
-          cond-false _ _ _ (neither _ _ (le-ltb (length bytes) 12 (omega (arith, total))) (ap (λ (k : ℕ). not (eqb k 1)) words_are.w1))
+          cond-false _ _ _ (or_no _ _ (le-ltb (length bytes) 12 (omega (arith, total))) (ap (λ (k : ℕ). not (eqb k 1)) words_are.w1))
           ∙ cond-true _ _ _ (ap (λ (k : ℕ). eqb k 0) words_are.w2)
-          ∙ cond-false _ _ _ (neither _ _ there.not_long there.not_broken)
+          ∙ cond-false _ _ _ (or_no _ _ there.not_long there.not_broken)
           ∙ ap (λ (p : ℕ). read_accept_stat p bytes) there.end_is
           ∙ cond-false _ _ _ (le-ltb (length bytes) (place + 4) (omega (arith, total)))
           ∙ ap (λ (s : ℕ). by_accept_stat s place bytes) stat_is;
@@ -401,7 +398,7 @@ rpc_again xid low high place verifier rest bytes small low_fits high_fits whole 
     let tail_len : length tail ≡ 8 + length rest = omega (arith, length-append (number low) (number high ++ rest), length-append (number high) rest, length-number low, length-number high) in
     let low_is : word 4 bytes ≡ low = behind_at 16 0 low bytes [] (number high ++ rest) low_fits refl d.behind in
     let high_is : word 5 bytes ≡ high = behind_at 16 4 high bytes (number low) rest high_fits (length-number low) d.behind in
-    cond-false _ _ _ (neither _ _ (le-ltb (length bytes) 12 (omega (arith, d.long))) (ap (λ (k : ℕ). not (eqb k 1)) d.words_are.w1))
+    cond-false _ _ _ (or_no _ _ (le-ltb (length bytes) 12 (omega (arith, d.long))) (ap (λ (k : ℕ). not (eqb k 1)) d.words_are.w1))
     ∙ cond-false _ _ _ (ap (λ (k : ℕ). eqb k 0) d.words_are.w2)
     ∙ cond-true _ _ _ (ap (λ (k : ℕ). eqb k 1) d.words_are.w2)
     ∙ cond-false _ _ _ (le-ltb (length bytes) 20 (omega (arith, d.long, tail_len)))
@@ -419,7 +416,7 @@ error_again xid place stat verifier rest bytes small whole place_is =
     let d : DeniedWords xid 1 bytes tail = subst (λ (xs : List ℕ). DeniedWords xid 1 xs tail) (sym w) (denied_words xid 1 tail small (omega arith)) in
     let tail_len : length tail ≡ 4 + length rest = omega (arith, length-append (number n) rest, length-number n) in
     let stat_is : word 4 bytes ≡ n = behind_at 16 0 n bytes [] rest (omega (arith, few_stats stat)) refl d.behind in
-    cond-false _ _ _ (neither _ _ (le-ltb (length bytes) 12 (omega (arith, d.long))) (ap (λ (k : ℕ). not (eqb k 1)) d.words_are.w1))
+    cond-false _ _ _ (or_no _ _ (le-ltb (length bytes) 12 (omega (arith, d.long))) (ap (λ (k : ℕ). not (eqb k 1)) d.words_are.w1))
     ∙ cond-false _ _ _ (ap (λ (k : ℕ). eqb k 0) d.words_are.w2)
     ∙ cond-true _ _ _ (ap (λ (k : ℕ). eqb k 1) d.words_are.w2)
     ∙ cond-false _ _ _ (le-ltb (length bytes) 20 (omega (arith, d.long, tail_len)))

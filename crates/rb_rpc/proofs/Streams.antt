@@ -1,16 +1,14 @@
 -- The records of a byte stream.
-use Rattle.std.proofs.Common.{◌≡◌, ℕ, List, [], ◌∷◌, ◌++◌, length, take, drop, Some, refl, sym, ap, subst, ◌∙◌, append_assoc, arith, length-append}
+use Rattle.std.proofs.Common.{◌≡◌, ℕ, List, [], ◌∷◌, ◌++◌, length, take, drop, Some, refl, sym, ap, subst, ◌∙◌, append_assoc, append-nil, arith, length-append}
 use Rattle.std.specs.List.{flat_map}
 use Rattle.std.proofs.lemmas.List.{take-append-drop, take_at, drop_at}
+use Rattle.std.proofs.lemmas.List.Concat.{flat_map-append}
 use Rattle.rb_rpc.specs.Records.{IsMarked, first_record, data_of}
-use Rattle.rb_rpc.specs.RecordLaws.{AreMarked, HasNoRecord, RecordsAreFirstOnes, RecordsEnd, RecordsAreUnique}
-use Rattle.rb_rpc.proofs.Markings.{record_again, data_again, first_is_least, none_where_no_front}
+use Rattle.rb_rpc.specs.RecordLaws.{AreMarked, HasNoRecord, Records, RecordsAreFirstOnes, RecordsEnd, RecordsAreUnique}
+use Rattle.rb_rpc.proofs.Markings.{some_is, record_again, data_again, first_is_least, has_none, none_where_no_front}
 
 abbrev all_of : List (List ℕ) → List ℕ
 all_of texts = flat_map (λ text. text) texts
-
-some_is : (a b : ℕ) → Some a ≡ Some b → a ≡ b
-some_is a b e = cc
 
 -- a marked record in front of bytes is their first
 first_text : (text content more : List ℕ) → IsMarked text content → first_record (text ++ more) ≡ Some (length text)
@@ -67,3 +65,39 @@ are_first_ones bytes n contents rest are is later =
       whole = sym (take-append-drop n bytes) ∙ ap (λ (xs : List ℕ). take n bytes ++ xs) later.whole ∙ sym (append_assoc (take n bytes) (all_of later.texts) rest);
       none_more = later.none_more;
     }
+
+-- ---- more bytes
+
+marked_more : (texts contents : List (List ℕ)) (text content : List ℕ) → AreMarked texts contents → IsMarked text content → AreMarked (texts ++ text ∷ []) (contents ++ content ∷ [])
+marked_more [] [] text content are is = (is, tt)
+marked_more (t ∷ ts) (c ∷ cs) text content are is = (are.0, marked_more ts cs text content are.1 is)
+marked_more [] (c ∷ cs) text content are is = absurd are
+marked_more (t ∷ ts) [] text content are is = absurd are
+
+none_in_none : HasNoRecord []
+unfolding first_record
+none_in_none = has_none [] refl
+
+pub no_bytes : Records [] [] []
+no_bytes = record { texts = []; are_marked = tt; whole = refl; none_more = none_in_none }
+
+-- with the last of them a record ends
+pub one_more : (bytes run rest content : List ℕ) (contents : List (List ℕ)) → Records bytes contents rest → IsMarked (rest ++ run) content → Records (bytes ++ run) (contents ++ content ∷ []) []
+one_more bytes run rest content contents r is = record {
+  texts = r.texts ++ (rest ++ run) ∷ [];
+  are_marked = marked_more r.texts contents (rest ++ run) content r.are_marked is;
+  whole =
+      ap (λ (xs : List ℕ). xs ++ run) r.whole ∙ append_assoc (all_of r.texts) rest run
+      ∙ ap (λ (xs : List ℕ). all_of r.texts ++ xs) (sym (append-nil (rest ++ run)))
+      ∙ sym (flat_map-append (λ text. text) r.texts ((rest ++ run) ∷ [])) ∙ sym (append-nil (all_of (r.texts ++ (rest ++ run) ∷ [])));
+  none_more = none_in_none;
+}
+
+-- no record ends
+pub goes_on : (bytes run rest : List ℕ) (contents : List (List ℕ)) → Records bytes contents rest → HasNoRecord (rest ++ run) → Records (bytes ++ run) contents (rest ++ run)
+goes_on bytes run rest contents r none = record {
+  texts = r.texts;
+  are_marked = r.are_marked;
+  whole = ap (λ (xs : List ℕ). xs ++ run) r.whole ∙ append_assoc (all_of r.texts) rest run;
+  none_more = none;
+}

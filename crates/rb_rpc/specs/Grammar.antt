@@ -1,12 +1,15 @@
 -- Calls and replies by what they are spelled from.
-use Rattle.std.specs.Prelude.{◌≡◌, ℕ, ◌≤◌, ◌↔◌, List, ◌++◌, length, ⊤}
-use Rattle.rb_xdr.specs.Xdr.{AreBytes, IsNumber, AreNumbers, IsContent}
-use Rattle.rb_rpc.specs.Messages.{CallHead, Credential, SysBody, auth, max_auth_body, max_machine, max_gids, call_words, call_bytes, sys_bytes}
+use Rattle.std.specs.Prelude.{◌≡◌, ℕ, ◌<◌, ◌≤◌, ◌↔◌, ◌⊎◌, List, ◌++◌, length, ⊤}
+use Rattle.rb_xdr.specs.Xdr.{AreBytes, IsNumber, AreNumbers, IsContent, number}
+use Rattle.rb_rpc.specs.Messages.{CallHead, Credential, AuthStat, SysBody, auth, max_auth_body, max_machine, max_gids, call_words, call_bytes, sys_bytes}
 use Rattle.rb_rpc.specs.Verdict.{verdict}
-use Rattle.rb_rpc.specs.declared.call.Verdict.TheVariants.{Call}
+use Rattle.rb_rpc.specs.declared.call.Verdict.TheVariants as verdicts
+use Rattle.rb_rpc.specs.declared.auth.AuthStat.TheVariants as stats
 use Rattle.rb_rpc.specs.declared.call.Credential.TheVariants as credentials
 use Rattle.rb_rpc.specs.Replies.{ReplyStatus, says, reply_with, reply_head, read_reply}
 use Rattle.rb_rpc.specs.declared.reply.ReplyStatus.TheVariants.{Success, ProgUnavail, ProgMismatch, ProcUnavail, GarbageArgs, SystemErr, RpcMismatch, AuthError}
+
+-- ---- parts of calls and replies
 
 -- a flavor, and a body of at most 400 bytes
 pub record IsAuth (flavor : ℕ) (body : List ℕ) : Type 0 where
@@ -40,6 +43,8 @@ pub record IsHead (head : CallHead) : Type 0 where
   pub vers : IsNumber head.vers
   pub proc : IsNumber head.proc
 
+-- ---- calls
+
 -- The bytes begin with a call of this head, which ends at the place: its words, a credential and a verifier.
 pub record BeginsWithCall (head : CallHead) (place : ℕ) (bytes : List ℕ) : Type 0 where
   pub flavor : ℕ
@@ -56,7 +61,98 @@ pub record BeginsWithCall (head : CallHead) (place : ℕ) (bytes : List ℕ) : T
 
 abbrev pub VerdictIsOfTheGrammar : Type 0
 VerdictIsOfTheGrammar =
-    (bytes : List ℕ) → AreBytes bytes → (head : CallHead) (place : ℕ) → (verdict bytes ≡ Call head place) ↔ BeginsWithCall head place bytes
+    (bytes : List ℕ) → AreBytes bytes → (head : CallHead) (place : ℕ) → (verdict bytes ≡ verdicts.Call head place) ↔ BeginsWithCall head place bytes
+
+-- ---- refusals, in their order
+
+-- The bytes begin with xid, CALL, and another version of RPC than 2.
+pub record BeginsWithOtherVersion (xid : ℕ) (bytes : List ℕ) : Type 0 where
+  pub version : ℕ
+  pub rest : List ℕ
+  pub xid_fits : IsNumber xid
+  pub version_fits : IsNumber version
+  pub other : version ≡ 2 → ⊥
+  pub whole : bytes ≡ (number xid ++ number 0 ++ number version) ++ rest
+
+-- They begin with the six words of a call by this xid, and these bytes are behind them.
+pub record BeginsWithWords (xid : ℕ) (rest bytes : List ℕ) : Type 0 where
+  pub head : CallHead
+  pub head_fits : IsHead head
+  pub xid_is : head.xid ≡ xid
+  pub whole : bytes ≡ call_words head ++ rest
+
+-- They begin with a flavor and a length of more than 400.
+pub record BeginsOverLong (bytes : List ℕ) : Type 0 where
+  pub flavor : ℕ
+  pub len : ℕ
+  pub rest : List ℕ
+  pub flavor_fits : IsNumber flavor
+  pub len_fits : IsNumber len
+  pub over : max_auth_body < len
+  pub whole : bytes ≡ (number flavor ++ number len) ++ rest
+
+-- a call's words, and a credential that is over-long
+pub record HasLongCredential (xid : ℕ) (bytes : List ℕ) : Type 0 where
+  pub rest : List ℕ
+  pub words : BeginsWithWords xid rest bytes
+  pub credential : BeginsOverLong rest
+
+-- a call's words, a credential of any flavor, and a verifier that is over-long
+pub record HasLongVerifier (xid : ℕ) (bytes : List ℕ) : Type 0 where
+  pub flavor : ℕ
+  pub body : List ℕ
+  pub rest : List ℕ
+  pub credential_fits : IsAuth flavor body
+  pub words : BeginsWithWords xid (auth flavor body ++ rest) bytes
+  pub verifier : BeginsOverLong rest
+
+-- a call's words, a credential of this flavor and body, and a verifier
+pub record HasAuths (xid flavor : ℕ) (body bytes : List ℕ) : Type 0 where
+  pub verifier_flavor : ℕ
+  pub verifier_body : List ℕ
+  pub rest : List ℕ
+  pub credential_fits : IsAuth flavor body
+  pub verifier_fits : IsAuth verifier_flavor verifier_body
+  pub words : BeginsWithWords xid (auth flavor body ++ (auth verifier_flavor verifier_body ++ rest)) bytes
+
+-- these, where the flavor is neither AUTH_NONE nor AUTH_SYS
+pub record HasOtherFlavor (xid : ℕ) (bytes : List ℕ) : Type 0 where
+  pub flavor : ℕ
+  pub body : List ℕ
+  pub auths : HasAuths xid flavor body bytes
+  pub other : 1 < flavor
+
+-- these, where the flavor is AUTH_SYS, and the body begins with no fields of AUTH_SYS
+pub record HasUnreadableBody (xid : ℕ) (bytes : List ℕ) : Type 0 where
+  pub body : List ℕ
+  pub auths : HasAuths xid 1 body bytes
+  pub unreadable : (uid : ℕ) → SaysUid uid body → ⊥
+
+-- the calls that are answered by AUTH_ERROR, by the reason
+abbrev pub HasBadAuth : ℕ → AuthStat → List ℕ → Type 0
+HasBadAuth xid stats.BadCredential bytes = HasLongCredential xid bytes ⊎ HasUnreadableBody xid bytes
+HasBadAuth xid stats.BadVerifier bytes = HasLongVerifier xid bytes
+HasBadAuth xid stats.RejectedCredential bytes = HasOtherFlavor xid bytes
+HasBadAuth xid stat bytes = ⊥
+
+abbrev pub MismatchesAreOfTheGrammar : Type 0
+MismatchesAreOfTheGrammar =
+    (bytes : List ℕ) → AreBytes bytes → (xid : ℕ) → (verdict bytes ≡ verdicts.RpcMismatch xid) ↔ BeginsWithOtherVersion xid bytes
+
+abbrev pub AuthErrorsAreOfTheGrammar : Type 0
+AuthErrorsAreOfTheGrammar =
+    (bytes : List ℕ) → AreBytes bytes → (xid : ℕ) (stat : AuthStat) → (verdict bytes ≡ verdicts.AuthError xid stat) ↔ HasBadAuth xid stat bytes
+
+-- neither a call nor one of these
+pub record IsNoCall (bytes : List ℕ) : Type 0 where
+  pub no_mismatch : (xid : ℕ) → BeginsWithOtherVersion xid bytes → ⊥
+  pub no_bad_auth : (xid : ℕ) (stat : AuthStat) → HasBadAuth xid stat bytes → ⊥
+  pub no_call : (head : CallHead) (place : ℕ) → BeginsWithCall head place bytes → ⊥
+
+abbrev pub TheRestIsNoCall : Type 0
+TheRestIsNoCall = (bytes : List ℕ) → AreBytes bytes → (verdict bytes ≡ verdicts.NoCall) ↔ IsNoCall bytes
+
+-- ---- replies
 
 -- the numbers that a reply's status carries
 abbrev pub IsReplyStatus : ReplyStatus → Type 0
@@ -99,4 +195,4 @@ IsCaller (credentials.Sys uid) = IsNumber uid
 abbrev pub WrittenCallsAreRead : Type 0
 WrittenCallsAreRead =
     (head : CallHead) (arguments : List ℕ) → IsHead head → IsCaller head.cred
-    → verdict (call_bytes head ++ arguments) ≡ Call head (length (call_bytes head))
+    → verdict (call_bytes head ++ arguments) ≡ verdicts.Call head (length (call_bytes head))

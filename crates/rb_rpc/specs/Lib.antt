@@ -1,3 +1,4 @@
+pub mod Puts
 pub mod Messages
 pub mod Verdict
 pub mod Replies

@@ -30,6 +30,9 @@ reply_with verifier xid (AuthError stat) = denied xid 1 ++ number (auth_stat_num
 unfoldable pub reply_head : ℕ → ReplyStatus → List ℕ
 reply_head xid status = reply_with auth_none xid status
 
+abbrev pub reply_bytes : ReplyHead → List ℕ
+reply_bytes head = reply_head head.xid head.status
+
 -- what is read: the head of a reply, and the place behind it, where its results begin
 abbrev pub Read : Type 0
 Read = Option (ReplyHead × ℕ)

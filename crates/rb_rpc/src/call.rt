@@ -1,14 +1,15 @@
-//! Calls, and what the bytes of one are worth (RFC 5531 sections 8.2 and 9).
+//! Calls, and the verdict on a message (RFC 5531 sections 8.2 and 9).
 ghost use Rattle.std.specs.Prelude.{◌≡◌, ◌+◌, ◌*◌, ◌<◌, ◌≤◌, ◌↔◌, ◌++◌, length, not, IsTrue, IsOk, OnOk, OnErr};
 ghost use Rattle.std.specs.Result.{result_ok};
 ghost use Rattle.rb_xdr.specs.Meter.{Pays};
+ghost use Rattle.rb_rpc.specs.Puts.{Appends, HasRoom};
 ghost use Rattle.rb_rpc.specs.Messages.{call_bytes};
 ghost use Rattle.rb_rpc.specs.Verdict.{is_broken, auth_end, sys_uid, head_of, verdict, EndsWithin};
 
 use crate::auth::AuthStat;
+use crate::integers::{number_at, put_numbers};
 use crate::opaque_auth::{AUTH_NONE, AUTH_SYS, auth_end, body_length, is_broken, is_over_long};
 use crate::sys::uid_of;
-use crate::words::{number_at, put_words};
 use rb_xdr::{Full, Kept, Meter};
 
 /// Who calls, as the credential says. It proves nothing.
@@ -30,7 +31,7 @@ pub struct CallHead {
     pub cred: Credential,
 }
 
-/// What the data of a record, or a datagram, is worth before its program is looked at.
+/// What a message is, before its program is looked at: the data of a record, or a datagram.
 #[derive(Clone, Copy, PartialEq, Eq, Debug)]
 pub enum Verdict {
     /// Nothing that can be answered.
@@ -80,7 +81,7 @@ fn head_of(bytes: &[u8]) -> CallHead
     }
 }
 
-/// What the bytes are worth: the first refusal that holds of the whole list, else the call.
+/// The verdict on a message: the first refusal that holds of all its bytes, else the call.
 #[tactic(auto, unfolding(crate::specs::Verdict::verdict, crate::specs::Verdict::credential_end, crate::specs::Verdict::verifier_end))]
 pub fn read_call(bytes: &[u8]) -> Verdict
     ensures verdict { result ≡ verdict bytes.now }
@@ -124,10 +125,8 @@ pub fn read_call(bytes: &[u8]) -> Verdict
 #[tactic(auto, unfolding(crate::specs::Messages::call_bytes, rb_xdr::specs::Xdr::number, rb_xdr::specs::Xdr::opaque))]
 pub fn put_call(head: &CallHead, out: &mut Kept, meter: &mut Meter) -> Result<(), Full>
     requires { meter.old.tie ≡ out.old.tie }
-    ensures room { IsOk result ↔
-        (length out.old.bytes + length (call_bytes head.now) ≤ out.old.cap) }
-    ensures ok { OnOk result (out.new
-        ≡ record out.old { bytes = out.old.bytes ++ call_bytes head.now }) }
+    ensures room { IsOk result ↔ HasRoom (call_bytes head.now) out.old }
+    ensures ok { OnOk result (Appends (call_bytes head.now) out.old out.new) }
     ensures err { OnErr result (out.new ≡ out.old) }
     ensures cap { out.new.cap ≡ out.old.cap }
     ensures tie { out.new.tie ≡ out.old.tie }
@@ -143,9 +142,9 @@ pub fn put_call(head: &CallHead, out: &mut Kept, meter: &mut Meter) -> Result<()
     } = *head;
     match cred {
         // xid, CALL, the version of RPC, what is called; credential and verifier AUTH_NONE, empty
-        Credential::None => put_words(&[xid, 0, 2, prog, vers, proc, 0, 0, 0, 0], out, meter),
+        Credential::None => put_numbers(&[xid, 0, 2, prog, vers, proc, 0, 0, 0, 0], out, meter),
         // the credential AUTH_SYS, of 20 bytes: stamp, name, uid, gid, gids
-        Credential::Sys(uid) => put_words(
+        Credential::Sys(uid) => put_numbers(
             &[xid, 0, 2, prog, vers, proc, 1, 20, 0, 0, uid, 0, 0, 0, 0],
             out,
             meter,

@@ -1,6 +1,6 @@
 ghost use Rattle.rb_rpc.specs.RecordLaws.{FirstRecordIsLeast, NoneWhereNoFrontIsOne, RecordsStay, RecordsEndLater, RecordsAreFirstOnes, RecordsEnd, RecordsAreUnique, DataIsJoined, NoRecordBeginsAnother, RepliesAreMarked};
 ghost use Rattle.rb_rpc.specs.Marks.{NoRecordEnded};
-ghost use Rattle.rb_rpc.specs.Grammar.{VerdictIsOfTheGrammar, RepliesAreOfTheGrammar, WrittenRepliesAreRead, WrittenCallsAreRead};
+ghost use Rattle.rb_rpc.specs.Grammar.{VerdictIsOfTheGrammar, MismatchesAreOfTheGrammar, AuthErrorsAreOfTheGrammar, TheRestIsNoCall, RepliesAreOfTheGrammar, WrittenRepliesAreRead, WrittenCallsAreRead};
 
 /// The first record is the least front that is a marked record; there is none where no front is one.
 pub fn first_record_is_least()
@@ -44,6 +44,15 @@ pub fn replies_are_marked()
 /// The verdict is a call exactly where the bytes begin with one.
 pub fn verdict_is_of_the_grammar()
     ensures { VerdictIsOfTheGrammar }
+{}
+
+/// A message is refused exactly where it begins with what the refusal says: another version of RPC;
+/// an over-long credential, or one of AUTH_SYS that can't be read; an over-long verifier; another
+/// flavor. It is no call exactly where it begins with none of these and with no call.
+pub fn refusals_are_of_the_grammar()
+    ensures mismatch { MismatchesAreOfTheGrammar }
+    ensures auth_error { AuthErrorsAreOfTheGrammar }
+    ensures no_call { TheRestIsNoCall }
 {}
 
 /// A reply is read exactly where the bytes begin with one.

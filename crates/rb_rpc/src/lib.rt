@@ -3,6 +3,7 @@
 
 mod auth;
 mod call;
+mod integers;
 mod laws;
 mod marks;
 mod opaque_auth;
@@ -11,17 +12,17 @@ mod reply;
 mod sys;
 #[cfg(test)]
 mod tests;
-mod words;
 mod worked;
 
 pub use auth::AuthStat;
 pub use call::{CallHead, Credential, Verdict, put_call, read_call};
 pub use laws::{
     data_is_joined, fed_bytes_have_no_record, first_record_is_least, first_record_of_more,
-    no_record_begins_another, records_are_unique, replies_are_marked, replies_are_of_the_grammar,
-    verdict_is_of_the_grammar, written_calls_are_read, written_replies_are_read,
+    no_record_begins_another, records_are_unique, refusals_are_of_the_grammar, replies_are_marked,
+    replies_are_of_the_grammar, verdict_is_of_the_grammar, written_calls_are_read,
+    written_replies_are_read,
 };
 pub use marks::{Marks, Part, fragment_header};
 pub use peer::{Caller, Peer};
 pub use reply::{BadReply, ReplyHead, ReplyStatus, put_reply, read_reply};
-pub use worked::worked_examples;
+pub use worked::{worked_calls, worked_records, worked_replies};

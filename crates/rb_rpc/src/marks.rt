@@ -1,6 +1,6 @@
 //! Record marking (RFC 5531 section 11).
-ghost use Rattle.std.specs.Prelude.{◌≡◌, ℕ, ◌+◌, ◌≤◌, ◌<◌, [], ◌∷◌, ◌++◌, if◌then◌else◌, List, length, take, Some, None, slice_index};
-ghost use Rattle.rb_rpc.specs.Records.{fragment_header, first_record, data_of};
+ghost use Rattle.std.specs.Prelude.{◌≡◌, ◌≤◌};
+ghost use Rattle.rb_rpc.specs.Records.{fragment_header};
 ghost use Rattle.rb_rpc.specs.Marks.{behind, behind_header};
 
 /// What a byte of a record is.
@@ -59,58 +59,58 @@ fn behind_header(seen: u8, number: u32, byte: u8) -> (Place, bool)
 }
 
 impl Marks {
-    ghost use Rattle.std.specs.Prelude.{◌≡◌, ℕ, ◌+◌, ◌≤◌, ◌<◌, [], ◌∷◌, ◌++◌, if◌then◌else◌, List, length, take, Some, None};
-    ghost use Rattle.rb_rpc.specs.Records.{first_record, data_of};
-    ghost use Rattle.rb_rpc.specs.Marks.{StandsForFed, data_among};
+    ghost use Rattle.std.specs.Prelude.{◌≡◌, [], ◌∷◌, length, take, min};
+    ghost use Rattle.rb_rpc.specs.declared.marks.Part.TheVariants.{Data};
+    ghost use Rattle.rb_rpc.specs.Marks.{StandsForFed, StandsForStream, RecordEnds, ArePart, StandsForMore, StreamGoesOn, no_data, data_left};
 
     /// Before the first byte of a record.
     pub fn new() -> Marks
-        ensures { StandsForFed result [] }
+        ensures fed { StandsForFed result [] }
+        ensures stream { StandsForStream result [] no_data }
     {
         Marks { place: START }
     }
 
-    /// Takes the front of the bytes that is all header or all data, or ends the record. It says
-    /// what they are, how many, and whether the record ends with the last of them.
-    pub fn feed_run(&mut self, bytes: &[u8]) -> (Part, usize, bool)
-        requires { 0 < length bytes.now }
-        ensures some { 0 < result.1 }
-        ensures within { result.1 ≤ length bytes.now }
-        ensures ends { (fed : List ℕ) → StandsForFed self.old fed
-            → first_record (fed ++ take result.1 bytes.now)
-            ≡ (if result.2 then Some (length fed + result.1) else None) }
-        ensures data { (fed : List ℕ) → StandsForFed self.old fed
-            → data_of (fed ++ take result.1 bytes.now)
-            ≡ data_of fed ++ data_among result.0 (take result.1 bytes.now) }
-        ensures after { (fed : List ℕ) → StandsForFed self.old fed
-            → StandsForFed self.new (if result.2 then [] else fed ++ take result.1 bytes.now) }
+    /// Takes one byte. It says what the byte is, and whether the record ends with it.
+    pub fn feed(&mut self, byte: u8) -> (Part, bool)
+        ensures ends { RecordEnds self.old (byte ∷ []) result.1 }
+        ensures data { ArePart self.old result.0 (byte ∷ []) }
+        ensures after { StandsForMore self.old (byte ∷ []) result.1 self.new }
+        ensures stream { StreamGoesOn self.old result.0 (byte ∷ []) result.1 self.new }
     {
         match self.place {
             Place::Header { seen, number } => {
-                let (place, ended) = behind_header(seen, number, bytes[0]);
+                let (place, ended) = behind_header(seen, number, byte);
                 self.place = place;
-                (Part::Header, 1, ended)
+                (Part::Header, ended)
             }
             Place::Data { left, last } => {
-                let count = bytes.len().min(left as usize).max(1);
-                let (place, ended) = behind(left.saturating_sub(count as u32), last);
+                let (place, ended) = behind(left.saturating_sub(1), last);
                 self.place = place;
-                (Part::Data, count, ended)
+                (Part::Data, ended)
             }
         }
     }
 
-    /// Takes one byte. It says what the byte is, and whether the record ends with it.
-    pub fn feed(&mut self, byte: u8) -> (Part, bool)
-        ensures ends { (fed : List ℕ) → StandsForFed self.old fed
-            → first_record (fed ++ byte ∷ []) ≡ (if result.1 then Some (length fed + 1) else None) }
-        ensures data { (fed : List ℕ) → StandsForFed self.old fed
-            → data_of (fed ++ byte ∷ []) ≡ data_of fed ++ data_among result.0 (byte ∷ []) }
-        ensures after { (fed : List ℕ) → StandsForFed self.old fed
-            → StandsForFed self.new (if result.1 then [] else fed ++ byte ∷ []) }
+    /// Takes the bytes in front that are data of the fragment that was begun: as many as it still
+    /// has, or the whole piece. It says how many, and whether the record ends with the last of
+    /// them. None are where a header begins or goes on.
+    pub fn feed_data(&mut self, piece: &[u8]) -> (usize, bool)
+        ensures count { result.0 ≡ min (length piece.now) (data_left self.old.place) }
+        ensures ends { RecordEnds self.old (take result.0 piece.now) result.1 }
+        ensures data { ArePart self.old Data (take result.0 piece.now) }
+        ensures after { StandsForMore self.old (take result.0 piece.now) result.1 self.new }
+        ensures stream { StreamGoesOn self.old Data (take result.0 piece.now) result.1 self.new }
     {
-        let (part, _, ended) = self.feed_run(&[byte]);
-        (part, ended)
+        match self.place {
+            Place::Header { .. } => (0, false),
+            Place::Data { left, last } => {
+                let count = piece.len().min(left as usize);
+                let (place, ended) = behind(left - count as u32, last);
+                self.place = place;
+                (count, ended)
+            }
+        }
     }
 }
 

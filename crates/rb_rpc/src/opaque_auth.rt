@@ -4,7 +4,7 @@ ghost use Rattle.std.specs.Prelude.{◌≡◌, ◌+◌, ◌^◌, ◌<◌, ◌≤
 ghost use Rattle.rb_xdr.specs.Xdr.{residue, are_zero};
 ghost use Rattle.rb_rpc.specs.Verdict.{body_length, auth_end, is_over_long, is_broken};
 
-use crate::words::number_at;
+use crate::integers::number_at;
 
 // flavors
 pub(crate) const AUTH_NONE: u32 = 0;

@@ -25,7 +25,7 @@ impl fmt::Display for Peer {
     }
 }
 
-/// Whence a call came: from a connection, by its number, or in a datagram.
+/// Where a call came from: a connection, by its number, or a datagram.
 #[derive(Clone, Copy, PartialEq, Eq, Debug)]
 pub enum Caller {
     Tcp(u64, Peer),

@@ -3,11 +3,12 @@ ghost use Rattle.std.specs.Prelude.{◌≡◌, ◌+◌, ◌<◌, ◌≤◌, ◌�
 ghost use Rattle.std.specs.Result.{result_ok};
 ghost use Rattle.rb_xdr.specs.Meter.{Pays};
 ghost use Rattle.rb_rpc.specs.Messages.{auth_none};
-ghost use Rattle.rb_rpc.specs.Replies.{accepted, reply_head, read_prog_mismatch, read_accept_stat, read_accepted, read_rpc_mismatch, read_denied, read_reply};
+ghost use Rattle.rb_rpc.specs.Puts.{Appends, HasRoom};
+ghost use Rattle.rb_rpc.specs.Replies.{accepted, reply_bytes, read_prog_mismatch, read_accept_stat, read_accepted, read_rpc_mismatch, read_denied, read_reply};
 
 use crate::auth::AuthStat;
+use crate::integers::{number_at, put_numbers};
 use crate::opaque_auth::{AUTH_NONE, auth_end, is_broken, is_over_long};
-use crate::words::{number_at, put_words};
 use rb_xdr::{Full, Kept, Meter};
 use thiserror::Error;
 
@@ -71,31 +72,27 @@ const AUTH_ERROR: u32 = 1;
 #[tactic(auto, unfolding(rb_xdr::specs::Xdr::number, rb_xdr::specs::Xdr::opaque))]
 fn put_accepted(xid: u32, stat: u32, out: &mut Kept, meter: &mut Meter) -> Result<(), Full>
     requires { meter.old.tie ≡ out.old.tie }
-    ensures room { IsOk result ↔ (length out.old.bytes + 24 ≤ out.old.cap) }
-    ensures ok { OnOk result (out.new
-        ≡ record out.old { bytes = out.old.bytes ++ accepted xid auth_none stat }) }
+    ensures room { IsOk result ↔ HasRoom (accepted xid auth_none stat) out.old }
+    ensures ok { OnOk result (Appends (accepted xid auth_none stat) out.old out.new) }
     ensures err { OnErr result (out.new ≡ out.old) }
     ensures cap { out.new.cap ≡ out.old.cap }
     ensures tie { out.new.tie ≡ out.old.tie }
     ensures cost { OnOk result (Pays meter.old meter.new 25) }
     ensures cost_of_refusal { OnErr result (Pays meter.old meter.new 1) }
 {
-    put_words(&[xid, REPLY, ACCEPTED, AUTH_NONE, 0, stat], out, meter)
+    put_numbers(&[xid, REPLY, ACCEPTED, AUTH_NONE, 0, stat], out, meter)
 }
 
 /// Puts the head of a reply, or nothing. The verifier of an accepted one is AUTH_NONE, empty.
 #[tactic(auto, unfolding(crate::specs::Replies::reply_head, rb_xdr::specs::Xdr::number, rb_xdr::specs::Xdr::opaque))]
 pub fn put_reply(head: &ReplyHead, out: &mut Kept, meter: &mut Meter) -> Result<(), Full>
     requires { meter.old.tie ≡ out.old.tie }
-    ensures room { IsOk result ↔
-        (length out.old.bytes + length (reply_head head.now.xid head.now.status) ≤ out.old.cap) }
-    ensures ok { OnOk result (out.new
-        ≡ record out.old { bytes = out.old.bytes ++ reply_head head.now.xid head.now.status }) }
+    ensures room { IsOk result ↔ HasRoom (reply_bytes head.now) out.old }
+    ensures ok { OnOk result (Appends (reply_bytes head.now) out.old out.new) }
     ensures err { OnErr result (out.new ≡ out.old) }
     ensures cap { out.new.cap ≡ out.old.cap }
     ensures tie { out.new.tie ≡ out.old.tie }
-    ensures cost { OnOk result
-        (Pays meter.old meter.new (1 + length (reply_head head.now.xid head.now.status))) }
+    ensures cost { OnOk result (Pays meter.old meter.new (1 + length (reply_bytes head.now))) }
     ensures cost_of_refusal { OnErr result (Pays meter.old meter.new 1) }
 {
     let ReplyHead { xid, status } = *head;
@@ -104,16 +101,16 @@ pub fn put_reply(head: &ReplyHead, out: &mut Kept, meter: &mut Meter) -> Result<
         ReplyStatus::ProgUnavail => put_accepted(xid, PROG_UNAVAIL, out, meter),
         ReplyStatus::ProgMismatch(low, high) => {
             let words = [xid, REPLY, ACCEPTED, AUTH_NONE, 0, PROG_MISMATCH, low, high];
-            put_words(&words, out, meter)
+            put_numbers(&words, out, meter)
         }
         ReplyStatus::ProcUnavail => put_accepted(xid, PROC_UNAVAIL, out, meter),
         ReplyStatus::GarbageArgs => put_accepted(xid, GARBAGE_ARGS, out, meter),
         ReplyStatus::SystemErr => put_accepted(xid, SYSTEM_ERR, out, meter),
         ReplyStatus::RpcMismatch(low, high) => {
-            put_words(&[xid, REPLY, DENIED, RPC_MISMATCH, low, high], out, meter)
+            put_numbers(&[xid, REPLY, DENIED, RPC_MISMATCH, low, high], out, meter)
         }
         ReplyStatus::AuthError(stat) => {
-            put_words(&[xid, REPLY, DENIED, AUTH_ERROR, stat.number()], out, meter)
+            put_numbers(&[xid, REPLY, DENIED, AUTH_ERROR, stat.number()], out, meter)
         }
     }
 }

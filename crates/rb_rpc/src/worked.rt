@@ -1,7 +1,7 @@
 ghost use Rattle.rb_rpc.specs.Worked.{NullCall, NullCallAndMore, NullCallBySys, OtherRpcVersion, TooShort, GreatestCredential, OverlongCredential, HugeCredential, OtherFlavor, SysBodyCutShort, OverlongVerifier, BadResidue, GoodResidue, CutCalls, CutMismatches, CutCredentials, WritesNone, WritesSys, WritesRpcMismatch, WritesSuccess, WritesAuthError, WritesProgMismatch, WritesFaults, ReadsSuccess, ReadsNoneShort, ReadsProgMismatch, ReadsDenied, ReadsAuthStat, ReadsNoOtherAuthStat, ReadsVerifier, ManyFragments, ManyFragmentsData, OneByteLess, FirstOfTwo, ShortRecord, HugeFragment, MarkedReply, MarkedInNine, LongRecord, LongRecordVerdict};
 
-/// The definitions give what the worked examples say.
-pub fn worked_examples()
+/// The verdicts on worked messages, and calls as they are written.
+pub fn worked_calls()
     ensures null_call { NullCall }
     ensures null_call_and_more { NullCallAndMore }
     ensures null_call_by_sys { NullCallBySys }
@@ -20,6 +20,10 @@ pub fn worked_examples()
     ensures cut_credentials { CutCredentials }
     ensures writes_none { WritesNone }
     ensures writes_sys { WritesSys }
+{}
+
+/// Worked replies, as they are written and read.
+pub fn worked_replies()
     ensures writes_rpc_mismatch { WritesRpcMismatch }
     ensures writes_success { WritesSuccess }
     ensures writes_auth_error { WritesAuthError }
@@ -32,6 +36,10 @@ pub fn worked_examples()
     ensures reads_auth_stat { ReadsAuthStat }
     ensures reads_no_other_auth_stat { ReadsNoOtherAuthStat }
     ensures reads_verifier { ReadsVerifier }
+{}
+
+/// Worked records of fragments.
+pub fn worked_records()
     ensures many_fragments { ManyFragments }
     ensures many_fragments_data { ManyFragmentsData }
     ensures one_byte_less { OneByteLess }

@@ -15,9 +15,6 @@ pub record IsBytes (n : ℕ) (bytes : List ℕ) : Type 0 where
 abbrev pub IsUaddr : Uaddr → Type 0
 IsUaddr (V4 host port) = IsBytes 4 host × (port < 2 ^ 16)
 
-unfoldable pub host_of : Uaddr → List ℕ
-host_of (V4 host port) = host
-
 unfoldable pub port_of : Uaddr → ℕ
 port_of (V4 host port) = port
 

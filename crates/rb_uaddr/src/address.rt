@@ -1,7 +1,6 @@
 ghost use Rattle.std.specs.Prelude.{◌≡◌, ◌+◌, ◌*◌, slice_index};
-ghost use Rattle.rb_uaddr.specs.Uaddr.{any_host, port_bytes, host_of, port_of, merged};
+ghost use Rattle.rb_uaddr.specs.Uaddr.{any_host, port_bytes, port_of, merged};
 
-use std::fmt;
 use thiserror::Error;
 
 const ANY_HOST: [u8; 4] = [0; 4];
@@ -24,16 +23,6 @@ impl Uaddr {
         ensures { result ≡ Uaddr.V4 any_host port }
     {
         Uaddr::V4(ANY_HOST, port)
-    }
-
-    /// The host's bytes, the most significant first.
-    #[tactic(auto, unfolding(crate::specs::Uaddr::host_of))]
-    pub fn host(&self) -> &[u8]
-        ensures { result.now ≡ host_of self.now }
-    {
-        match self {
-            Uaddr::V4(host, _) => host,
-        }
     }
 
     /// The port of TCP or UDP.

@@ -8,24 +8,7 @@ fn any_host_is_merged(rt: HostRuntime) -> Result<(), Fail> {
     let merged = address.merge([192, 0, 2, 1]);
     assert_eq!(rt; merged.text().as_slice(), b"192.0.2.1.8.1".as_slice());
     assert_eq!(rt; merged.merge([198, 51, 100, 7]), merged);
-    assert_eq!(rt; merged.host(), [192, 0, 2, 1].as_slice());
     assert_eq!(rt; merged.port(), 2049);
-    assert_eq!(rt;
-        format!(in rt.alloc(); "{merged}")?.as_str(),
-        merged.text().as_str()
-    );
-    Ok(())
-}
-
-#[test]
-fn greatest_and_least_numbers(rt: HostRuntime) -> Result<(), Fail> {
-    let greatest = Uaddr::parse(b"255.255.255.255.255.255")?;
-    assert_eq!(rt; greatest, Uaddr::V4([255; 4], 65_535));
-    assert_eq!(rt;
-        greatest.text().as_slice(),
-        b"255.255.255.255.255.255".as_slice()
-    );
-    assert_eq!(rt; Uaddr::parse(b"0.0.0.0.0.111")?.port(), 111);
     Ok(())
 }
 

@@ -26,34 +26,18 @@ impl Model for UaddrText {
 }
 
 impl UaddrText {
-    /// The text.
-    pub fn as_str(&self) -> &str
-        ensures value { result.now ≡ self.now }
-        ensures short { length result.now ≤ MAX_TEXT }
-    {
-        self.text.as_str()
-    }
-
     /// The bytes of the text.
     pub fn as_slice(&self) -> &[u8]
         ensures value { result.now ≡ self.now }
         ensures short { length result.now ≤ MAX_TEXT }
     {
-        self.as_str().as_bytes()
-    }
-}
-
-impl fmt::Display for UaddrText {
-    ghost output = { λ t. Some t };
-
-    fn fmt<W: fmt::Write>(&self, f: &mut fmt::Formatter<W>) -> fmt::Result {
-        f.pad(self.as_str())
+        self.text.as_str().as_bytes()
     }
 }
 
 impl fmt::Debug for UaddrText {
     fn fmt<W: fmt::Write>(&self, f: &mut fmt::Formatter<W>) -> fmt::Result {
-        fmt::Debug::fmt(&self.as_str(), f)
+        fmt::Debug::fmt(&self.text.as_str(), f)
     }
 }
 
@@ -69,14 +53,6 @@ impl Uaddr {
                 text: ipv4_text(host, *port),
             },
         }
-    }
-}
-
-impl fmt::Display for Uaddr {
-    ghost output = { λ u. Some (text_of u) };
-
-    fn fmt<W: fmt::Write>(&self, f: &mut fmt::Formatter<W>) -> fmt::Result {
-        fmt::Display::fmt(&self.text(), f)
     }
 }
 

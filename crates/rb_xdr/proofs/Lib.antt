@@ -1,4 +1,5 @@
 pub mod Chains
+pub mod FormLaws
 pub mod PoolLemmas
 pub mod Walks
 pub mod Readers

@@ -3,13 +3,12 @@ pub mod Kept
 pub mod Links
 pub mod Meter
 pub mod Pool
+pub mod Puts
 pub mod PoolLends
 pub mod Places
 pub mod Slots
 pub mod Xdr
+pub mod Forms
 pub mod XdrLaws
 pub mod XdrLends
-pub mod Words
 pub mod Worked
-pub mod Readers
-pub mod Types

@@ -1,5 +1,6 @@
 -- Places in a table whose entries stand in order.
-use Rattle.std.specs.Prelude.{ℕ, ◌+◌, ◌==◌, if◌then◌else◌, List, [], ◌∷◌, Option, Some, None, option_map}
+use Rattle.std.specs.Borrow.{Bor}
+use Rattle.std.specs.Prelude.{◌≡◌, ℕ, ◌+◌, ◌==◌, if◌then◌else◌, List, [], ◌∷◌, Option, Some, None, option_map}
 
 module _ {T : Type 0} where
   -- the entries behind that of a key
@@ -21,3 +22,13 @@ module _ {T : Type 0} where
   abbrev pub count_passed : List (ℕ × T) → Option ℕ → Option ℕ
   count_passed entries None = Some 0
   count_passed entries (Some key) = count_to entries key
+
+-- the entry behind a place is this one, or there is none
+abbrev pub IsNextEntry : {T : Type 0} → List (ℕ × T) → Option ℕ → Option (ℕ × Bor T) → Type 0
+IsNextEntry entries place None = to_come entries place ≡ []
+IsNextEntry entries place (Some next) = to_come entries place ≡ (next.0, next.1.now) ∷ to_come entries (Some next.0)
+
+-- what a look behind a place costs: 1 step, and 1 more where an entry is found
+abbrev pub look_cost : {A : Type 0} → Option A → ℕ
+look_cost None = 1
+look_cost (Some _) = 2

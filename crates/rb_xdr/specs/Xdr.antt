@@ -6,6 +6,12 @@ use Rattle.rb_xdr.specs.declared.fault.XdrFault.TheVariants.{Short, TooLong, Bad
 -- why no front of the bytes is a spelling
 pub use Rattle.rb_xdr.specs.declared.fault.XdrFault.{XdrFault}
 
+abbrev pub fault_number : XdrFault → ℕ
+fault_number Short = 1
+fault_number TooLong = 2
+fault_number BadBool = 3
+fault_number BadPadding = 4
+
 -- ---- numbers
 
 -- an unsigned int is four bytes, the most significant first (section 4.2); so is an enum (4.3)
@@ -156,6 +162,10 @@ AreBytes bytes = (i : ℕ) → slice_index bytes i < 256
 -- The text is a spelling of the value.
 abbrev pub Spells : {A : Type 0} → (A → Type 0) → (A → List ℕ) → A → List ℕ → Type 0
 Spells is_value spelling x text = is_value x × (text ≡ spelling x)
+
+-- the bytes begin with a spelling of the value, of so many bytes
+abbrev pub BeginsWith : {A : Type 0} → (A → Type 0) → (A → List ℕ) → List ℕ → A × ℕ → Type 0
+BeginsWith is_value spelling bytes read = (read.1 ≤ length bytes) × Spells is_value spelling read.0 (take read.1 bytes)
 
 abbrev pub IsNumber : ℕ → Type 0
 IsNumber n = n < 2 ^ 32

@@ -21,6 +21,10 @@ ReadsExactly {A} is_value spelling reads =
 abbrev pub IsPrefixFree : {A : Type 0} → (A → Type 0) → (A → List ℕ) → Type 0
 IsPrefixFree {A} is_value spelling = (x y : A) (more : List ℕ) → is_value x → is_value y → spelling x ++ more ≡ spelling y → (x ≡ y) × (more ≡ [])
 
+-- No spelling is a proper front of another.
+abbrev pub IsNoFront : {A : Type 0} → (A → Type 0) → (A → List ℕ) → List ℕ → List ℕ → Type 0
+IsNoFront {A} is_value spelling text more = (x y : A) → Spells is_value spelling x text → Spells is_value spelling y (text ++ more) → more ≡ []
+
 abbrev pub IsBounded : {A : Type 0} → (A → Type 0) → (A → List ℕ) → ℕ → Type 0
 IsBounded {A} is_value spelling max = (x : A) → is_value x → length (spelling x) ≤ max
 

@@ -1,34 +1,47 @@
 //! A byte buffer of fixed capacity, whose calls are counted.
-ghost use Rattle.std.specs.Prelude.{◌≡◌, ◌+◌, ◌-◌, ◌<◌, ◌≤◌, ◌↔◌, [], ◌∷◌, ◌++◌, length, OnOk, OnErr, IfOk, IsOk, slice_range};
+ghost use Rattle.std.specs.Prelude.{◌≡◌, ◌+◌, ◌-◌, ◌<◌, ◌≤◌, [], ◌∷◌, ◌++◌, length, IfOk, slice_range, vec_len, vec_capacity};
+ghost use Rattle.rb_xdr.specs.Puts.{Puts};
 ghost use Rattle.rb_xdr.specs.Meter.{Pays};
 
 use crate::full::Full;
 use crate::memory::NoMemory;
 use crate::meter::Meter;
-use std::alloc::{AllocError, Global};
+use std::alloc::Global;
 use std::marker::Model;
 use std::ops::Range;
 use std::snapshot::Snapshot;
 
-/// At most `cap` bytes, all in memory that `new` took: no later call takes any.
+/// Bytes in memory for `cap` of them, which `new` took. No call changes `cap`, so none takes memory.
 ///
 /// Each call raises the meter by its cost, and wants the meter that the buffer was made with.
 #[derive(Drop)]
 pub struct Kept {
     bytes: Vec<u8>,
-    cap: usize,
     made_with: Snapshot<Meter>,
 }
 
 impl Model for Kept {
-    ghost use Rattle.std.specs.Prelude.{◌≤◌, vec_len, vec_capacity};
+    ghost use Rattle.std.specs.Prelude.{vec_capacity};
     ghost use Rattle.rb_xdr.specs.Kept.{Kept as Buffer};
 
     ghost Value = { Buffer };
 
-    ghost view = { λ k. record { bytes = k.bytes.items; cap = k.cap; tie = k.made_with.value.tie } };
+    ghost view = { λ k. record {
+      bytes = k.bytes.items;
+      cap = vec_capacity k.bytes;
+      tie = k.made_with.value.tie;
+    } };
+}
 
-    ghost invariant = { λ k. (vec_len k.bytes ≤ k.cap) × (k.cap ≤ vec_capacity k.bytes) };
+// Adds bytes for which there is memory. `Vec::extend_from_slice` does not promise to take none.
+fn append(to: &mut Vec<u8>, bytes: &[u8])
+    requires { vec_len to.old + length bytes.now ≤ vec_capacity to.old }
+    ensures items { to.new.items ≡ to.old.items ++ bytes.now }
+    ensures memory { vec_capacity to.new ≡ vec_capacity to.old }
+{
+    'bytes: for byte in bytes {
+        to.push_reserved(*byte);
+    }
 }
 
 impl Kept {
@@ -41,7 +54,6 @@ impl Kept {
     {
         Ok(Kept {
             bytes: Vec::with_capacity(alloc, cap)?,
-            cap,
             made_with: Snapshot::of(meter),
         })
     }
@@ -49,16 +61,11 @@ impl Kept {
     /// Adds a byte at the end, in 1 step.
     pub fn push(&mut self, byte: u8, meter: &mut Meter) -> Result<(), Full>
         requires { meter.old.tie ≡ self.old.tie }
-        ensures room { IsOk result ↔ (length self.old.bytes < self.old.cap) }
-        ensures ok { OnOk result (self.new
-            ≡ record self.old { bytes = self.old.bytes ++ byte ∷ [] }) }
-        ensures err { OnErr result (self.new ≡ self.old) }
-        ensures cap { self.new.cap ≡ self.old.cap }
-        ensures tie { self.new.tie ≡ self.old.tie }
+        ensures puts { Puts (byte ∷ []) self.old.cap self.old self.new result }
         ensures cost { Pays meter.old meter.new 1 }
     {
         meter.pay(1);
-        if self.bytes.len() == self.cap {
+        if self.bytes.len() == self.bytes.capacity() {
             return Err(Full { value: () });
         }
         self.bytes.push_reserved(byte);
@@ -69,22 +76,15 @@ impl Kept {
     /// do not fit.
     pub fn extend(&mut self, bytes: &[u8], meter: &mut Meter) -> Result<(), Full>
         requires { meter.old.tie ≡ self.old.tie }
-        ensures room { IsOk result ↔ (length self.old.bytes + length bytes.now ≤ self.old.cap) }
-        ensures ok { OnOk result (self.new
-            ≡ record self.old { bytes = self.old.bytes ++ bytes.now }) }
-        ensures err { OnErr result (self.new ≡ self.old) }
-        ensures cap { self.new.cap ≡ self.old.cap }
-        ensures tie { self.new.tie ≡ self.old.tie }
+        ensures puts { Puts bytes.now self.old.cap self.old self.new result }
         ensures cost { Pays meter.old meter.new (length bytes.now) }
     {
         meter.pay(bytes.len() as u64);
-        if self.cap - self.bytes.len() < bytes.len() {
+        if self.bytes.capacity() - self.bytes.len() < bytes.len() {
             return Err(Full { value: () });
         }
-        match self.bytes.extend_from_slice(bytes) {
-            Ok(()) => Ok(()),
-            Err(AllocError) => unreachable!(),
-        }
+        append(&mut self.bytes, bytes);
+        Ok(())
     }
 
     /// The bytes from `range.start` up to `range.end`, in as many steps as they are.
@@ -117,7 +117,7 @@ impl Kept {
         ensures cost { Pays meter.old meter.new 1 }
     {
         meter.pay(1);
-        self.cap - self.bytes.len()
+        self.bytes.capacity() - self.bytes.len()
     }
 
     /// Removes every byte, in 1 step.

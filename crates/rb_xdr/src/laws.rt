@@ -1,7 +1,7 @@
 //! What holds of the spellings of every type.
-ghost use Rattle.std.specs.Prelude.{◌≡◌, ℕ, ◌≤◌, ◌++◌, List, [], length};
+ghost use Rattle.std.specs.Prelude.{◌≡◌, ℕ, ◌≤◌, List, length};
 ghost use Rattle.rb_xdr.specs.Xdr.{Spells};
-ghost use Rattle.rb_xdr.specs.XdrLaws.{NumberIsType, SignedIsType, BooleanIsType, OpaqueIsType};
+ghost use Rattle.rb_xdr.specs.XdrLaws.{IsNoFront, NumberIsType, SignedIsType, BooleanIsType, OpaqueIsType};
 
 use crate::xdr::Xdr;
 
@@ -10,14 +10,14 @@ use crate::xdr::Xdr;
 pub fn spelling_laws<T: Xdr>()
     ensures one_spelling { (v : T) (a b : List ℕ)
         → Spells T.is_value T.spelling v a → Spells T.is_value T.spelling v b → a ≡ b }
-    ensures no_proper_prefix { (v w : T) (a more : List ℕ)
-        → Spells T.is_value T.spelling v a → Spells T.is_value T.spelling w (a ++ more)
-        → more ≡ [] }
+    ensures no_proper_prefix { (a more : List ℕ) → IsNoFront T.is_value T.spelling a more }
     ensures one_value { (v w : T) (a : List ℕ)
         → Spells T.is_value T.spelling v a → Spells T.is_value T.spelling w a → v ≡ w }
     ensures bounded { (v : T) (a : List ℕ)
         → Spells T.is_value T.spelling v a → length a ≤ T.max_spelling }
-{}
+{
+    T::laws();
+}
 
 /// Numbers, ints, bools and opaque data are read exactly where they are spelled; no spelling begins
 /// another; each has its greatest length.

@@ -2,23 +2,23 @@
 #![tactic(auto)]
 
 mod chain;
-pub mod fault;
-pub mod full;
-pub mod kept;
+mod fault;
+mod full;
+mod kept;
 mod laws;
 mod links;
-pub mod memory;
-pub mod meter;
+mod memory;
+mod meter;
 mod numbers;
-pub mod opaque;
+mod opaque;
 mod pairs;
-pub mod pool;
+mod pool;
 mod tally;
 #[cfg(test)]
 mod tests;
-pub mod text;
+mod text;
 mod worked;
-pub mod xdr;
+mod xdr;
 
 pub use fault::XdrFault;
 pub use full::Full;

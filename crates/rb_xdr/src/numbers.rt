@@ -1,8 +1,7 @@
 //! Numbers and bools (RFC 4506, sections 4.1, 4.2 and 4.4).
+ghost use Rattle.rb_xdr.specs.Forms.Form.{Number, Flag};
 ghost use Rattle.rb_xdr.specs.Xdr.{IsNumber, number, signed, boolean, read_number, read_signed, read_bool, max_number};
 ghost use Rattle.rb_xdr.specs.XdrLaws.{anything};
-ghost use Rattle.rb_xdr.specs.Readers.{number_sound, number_complete};
-ghost use Rattle.rb_xdr.specs.Types.{number_bounded, signed_sound, signed_complete, signed_bounded, bool_sound, bool_complete, bool_bounded};
 
 use crate::fault::XdrFault;
 use crate::kept::Kept;
@@ -17,6 +16,10 @@ impl Xdr for u32 {
     ghost max_spelling = { max_number };
 
     ghost reads = { read_number };
+
+    ghost form = { Number };
+
+    fn laws() {}
 
     #[tactic(auto, using(crate::proofs::XdrSets::lengths))]
     fn room_after(&self, room: usize) -> Option<usize> {
@@ -36,12 +39,6 @@ impl Xdr for u32 {
         let number = u32::from_be_bytes([bytes[0], bytes[1], bytes[2], bytes[3]]);
         Ok((number, 4))
     }
-
-    ghost sound = { number_sound };
-
-    ghost complete = { number_complete };
-
-    ghost bounded = { number_bounded };
 }
 
 impl Xdr for i32 {
@@ -55,6 +52,10 @@ impl Xdr for i32 {
     ghost max_spelling = { max_number };
 
     ghost reads = { read_signed };
+
+    ghost form = { Number };
+
+    fn laws() {}
 
     #[tactic(auto, using(crate::proofs::XdrSets::lengths))]
     fn room_after(&self, room: usize) -> Option<usize> {
@@ -72,12 +73,6 @@ impl Xdr for i32 {
         let (number, used) = u32::read(bytes)?;
         Ok((number.cast_signed(), used))
     }
-
-    ghost sound = { signed_sound };
-
-    ghost complete = { signed_complete };
-
-    ghost bounded = { signed_bounded };
 }
 
 impl Xdr for bool {
@@ -88,6 +83,10 @@ impl Xdr for bool {
     ghost max_spelling = { max_number };
 
     ghost reads = { read_bool };
+
+    ghost form = { Flag };
+
+    fn laws() {}
 
     #[tactic(auto, using(crate::proofs::XdrSets::lengths))]
     fn room_after(&self, room: usize) -> Option<usize> {
@@ -108,10 +107,4 @@ impl Xdr for bool {
             _ => Err(XdrFault::BadBool),
         }
     }
-
-    ghost sound = { bool_sound };
-
-    ghost complete = { bool_complete };
-
-    ghost bounded = { bool_bounded };
 }

@@ -1,9 +1,9 @@
 //! Opaque data (RFC 4506, section 4.10).
-ghost use Rattle.std.specs.Prelude.{◌≡◌, ℕ, ◌+◌, ◌-◌, ◌^◌, ◌<◌, ◌≤◌, List, length, take, replicate, IfOk, OnErr, Result, Ok};
-ghost use Rattle.rb_xdr.specs.Xdr.{Spells, IsContent, opaque, residue, are_zero, read_content, read_opaque, max_opaque};
+ghost use Rattle.std.specs.Prelude.{◌≡◌, ℕ, ◌+◌, ◌-◌, ◌^◌, ◌<◌, ◌≤◌, List, length, replicate, IfOk, IfErr, OnErr, Result, Ok};
+ghost use Rattle.rb_xdr.specs.Forms.{FirstFault};
+ghost use Rattle.rb_xdr.specs.Forms.Form.{Content};
+ghost use Rattle.rb_xdr.specs.Xdr.{BeginsWith, IsContent, opaque, residue, are_zero, read_content, read_opaque, max_opaque};
 ghost use Rattle.rb_xdr.specs.XdrLends.{lent};
-ghost use Rattle.rb_xdr.specs.Readers.{opaque_sound, opaque_complete};
-ghost use Rattle.rb_xdr.specs.Types.{opaque_bounded};
 
 use crate::fault::XdrFault;
 use crate::kept::Kept;
@@ -75,13 +75,12 @@ fn lend_opaque(bytes: &[u8], limit: usize) -> Result<(&[u8], usize), XdrFault>
 /// A count that is cut short is Short, one over the limit TooLong; then content or residual bytes
 /// that are missing are Short, and a residual byte that is not zero is BadPadding.
 pub fn take_opaque(bytes: &[u8], limit: usize) -> Result<(&[u8], usize), XdrFault>
-    ensures found { IfOk result (λ read. (read.1 ≤ length bytes.now)
-        × Spells (IsContent limit) opaque read.0.now (take read.1 bytes.now)) }
-    ensures only { (content : List ℕ) (n : ℕ) → n ≤ length bytes.now
-        → Spells (IsContent limit) opaque content (take n bytes.now)
-        → lent result ≡ Ok (content, n) }
-    ensures none { OnErr result ((content : List ℕ) (n : ℕ) → n ≤ length bytes.now
-        → ¬ Spells (IsContent limit) opaque content (take n bytes.now)) }
+    ensures found { IfOk (lent result) (BeginsWith (IsContent limit) opaque bytes.now) }
+    ensures only { (v : List ℕ) (n : ℕ)
+        → BeginsWith (IsContent limit) opaque bytes.now (v, n) → lent result ≡ Ok (v, n) }
+    ensures none { OnErr result ((v : List ℕ) (n : ℕ)
+        → ¬ BeginsWith (IsContent limit) opaque bytes.now (v, n)) }
+    ensures fault { IfErr result (FirstFault (Content limit) bytes.now) }
     ensures exact { lent result ≡ read_opaque limit bytes.now }
 {
     lend_opaque(bytes, limit)
@@ -136,6 +135,10 @@ impl<const N: usize> Xdr for Opaque<N> {
 
     ghost reads = { read_opaque N };
 
+    ghost form = { Content N };
+
+    fn laws() {}
+
     #[tactic(auto, using(crate::proofs::XdrSets::lengths))]
     fn room_after(&self, room: usize) -> Option<usize> {
         let count = self.as_slice().len();
@@ -156,17 +159,10 @@ impl<const N: usize> Xdr for Opaque<N> {
         let (content, used) = take_opaque(bytes, N)?;
         Ok((Opaque::new(content), used))
     }
-
-    ghost sound = { opaque_sound N };
-
-    ghost complete = { opaque_complete N };
-
-    ghost bounded = { opaque_bounded N };
 }
 
 impl<const N: usize> PartialEq for Opaque<N> {
     ghost use Rattle.std.specs.Str.{bytes_eq};
-    ghost use Rattle.std.specs.Cmp.Lexicographic.{lists_per};
     ghost use Rattle.std.proofs.Common.{rules};
     ghost use Rattle.std.specs.Cmp.Rules.{comparing};
 

@@ -1,8 +1,8 @@
 //! Pairs and options (RFC 4506, sections 4.14 and 4.19).
 ghost use Rattle.std.specs.Prelude.{◌+◌};
+ghost use Rattle.rb_xdr.specs.Forms.Form.{Then, Optional};
 ghost use Rattle.rb_xdr.specs.Xdr.{optional, read_pair, read_optional, max_optional};
 ghost use Rattle.rb_xdr.specs.XdrLaws.{both, pair, if_there};
-ghost use Rattle.rb_xdr.specs.Types.{pair_sound, pair_complete, pair_bounded, optional_sound, optional_complete, optional_bounded};
 
 use crate::fault::XdrFault;
 use crate::kept::Kept;
@@ -17,6 +17,13 @@ impl<A: Xdr, B: Xdr> Xdr for (A, B) {
     ghost max_spelling = { A.max_spelling + B.max_spelling };
 
     ghost reads = { read_pair A.reads B.reads };
+
+    ghost form = { Then A.form B.form };
+
+    fn laws() {
+        A::laws();
+        B::laws();
+    }
 
     fn room_after(&self, room: usize) -> Option<usize> {
         let left = self.0.room_after(room)?;
@@ -34,12 +41,6 @@ impl<A: Xdr, B: Xdr> Xdr for (A, B) {
         let (second, more) = B::read(&bytes[used..])?;
         Ok(((first, second), used + more))
     }
-
-    ghost sound = { pair_sound A.is_value A.spelling A.reads B.is_value B.spelling B.reads A.sound B.sound };
-
-    ghost complete = { pair_complete A.is_value A.spelling A.reads B.is_value B.spelling B.reads A.complete B.complete };
-
-    ghost bounded = { pair_bounded A.is_value A.spelling A.max_spelling B.is_value B.spelling B.max_spelling A.bounded B.bounded };
 }
 
 impl<A: Xdr> Xdr for Option<A> {
@@ -50,6 +51,12 @@ impl<A: Xdr> Xdr for Option<A> {
     ghost max_spelling = { max_optional A.max_spelling };
 
     ghost reads = { read_optional A.reads };
+
+    ghost form = { Optional A.form };
+
+    fn laws() {
+        A::laws();
+    }
 
     #[tactic(auto, using(crate::proofs::XdrSets::lengths), unfolding(crate::specs::Xdr::optional))]
     fn room_after(&self, room: usize) -> Option<usize> {
@@ -79,10 +86,4 @@ impl<A: Xdr> Xdr for Option<A> {
         let (item, more) = A::read(&bytes[used..])?;
         Ok((Some(item), used + more))
     }
-
-    ghost sound = { optional_sound A.is_value A.spelling A.reads A.sound };
-
-    ghost complete = { optional_complete A.is_value A.spelling A.reads A.complete };
-
-    ghost bounded = { optional_bounded A.is_value A.spelling A.max_spelling A.bounded };
 }

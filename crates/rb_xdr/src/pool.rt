@@ -1,9 +1,9 @@
 //! A table of fixed capacity whose keys are kept in order of insertion, and whose calls are counted.
-ghost use Rattle.std.specs.Prelude.{◌≡◌, ◌<◌, ◌≤◌, ◌+◌, ◌↔◌, [], ◌∷◌, ◌++◌, length, IsTrue, IsOk, IsSome, IfOk, IfErr, OnErr, MatchOption, option_copied, Some, None};
+ghost use Rattle.std.specs.Prelude.{◌≡◌, ◌<◌, ◌≤◌, ◌+◌, ◌↔◌, [], ◌∷◌, ◌++◌, length, IsTrue, IsOk, IsSome, IfOk, IfErr, OnErr, option_copied, Some, None};
 ghost use Rattle.std.specs.Option.{option_copied_mut};
 ghost use Rattle.std.specs.Borrow.{sem};
-ghost use Rattle.rb_xdr.specs.Meter.{Pays, PaysAtMost};
-ghost use Rattle.rb_xdr.specs.Places.{to_come};
+ghost use Rattle.rb_xdr.specs.Meter.{Pays};
+ghost use Rattle.rb_xdr.specs.Places.{to_come, IsNextEntry, look_cost};
 ghost use Rattle.rb_xdr.specs.Pool.{value_at, without, first_key, key_after, HasDistinctKeys};
 
 use crate::chain::Chain;
@@ -15,7 +15,8 @@ use std::alloc::Global;
 use std::marker::Model;
 use std::snapshot::Snapshot;
 
-/// At most `cap` values, each under a key, all in memory that `new` took: no later call takes any.
+/// At most `cap` values, each under a key, in memory that `new` took. No call changes `memory`, so
+/// none takes more.
 ///
 /// Each call costs 1 step, but for `entry_after`, and wants the meter that the table was made with.
 #[derive(Drop)]
@@ -38,6 +39,7 @@ impl<T> Model for Pool<T> {
     ghost view = { λ p. record {
       entries = entries_at p.values.slots p.keys.order;
       cap = p.cap;
+      memory = (p.values.capacity, p.keys.memory);
       tie = p.made_with.value.tie;
     } };
 
@@ -76,6 +78,7 @@ impl<T> Pool<T> {
         ensures fresh { IfOk result (λ key. value_at self.old.entries key ≡ None) }
         ensures err { OnErr result (self.new ≡ self.old) }
         ensures cap { self.new.cap ≡ self.old.cap }
+        ensures memory { self.new.memory ≡ self.old.memory }
         ensures tie { self.new.tie ≡ self.old.tie }
         ensures returned { IfErr result (λ full. full.value ≡ value) }
         ensures cost { Pays meter.old meter.new 1 }
@@ -167,14 +170,12 @@ impl<T> Pool<T> {
         }
     }
 
-    /// The value inserted next after that of `place`, of those that are there, or the first at None, with its key.
-    /// It costs at most 2 steps.
+    /// The value inserted next after that of `place`, of those that are there, or the first at None,
+    /// with its key, in 2 steps; or None in 1 step.
     pub fn entry_after(&self, place: Option<usize>, meter: &mut Meter) -> Option<(usize, &T)>
         requires { meter.old.tie ≡ self.now.tie }
-        ensures next { MatchOption result (to_come self.now.entries place ≡ [])
-            (λ next. to_come self.now.entries place
-            ≡ (next.0, next.1.now) ∷ to_come self.now.entries (Some next.0)) }
-        ensures cost { PaysAtMost meter.old meter.new 2 }
+        ensures next { IsNextEntry self.now.entries place result }
+        ensures cost { Pays meter.old meter.new (look_cost result) }
     {
         let Some(key) = self.key_after(place, meter) else {
             return None;

@@ -14,16 +14,24 @@ fn pool_has_memory(rt: HostRuntime) -> Result<(), Fail> {
     assert_eq!(rt; pool.first(&mut meter), Some(first));
     assert_eq!(rt; pool.next(first, &mut meter), Some(second));
     assert_eq!(rt; pool.next(second, &mut meter), None);
-    if let Some(value) = pool.get_mut(second, &mut meter) {
+    assert_eq!(rt; pool.len(&mut meter), 2);
+    assert_eq!(rt; meter.count(), 7);
+    Ok(())
+}
+
+#[test]
+fn pool_values_are_written_and_removed(rt: HostRuntime) -> Result<(), Fail> {
+    let mut meter = Meter::new();
+    let mut pool: Pool<u32> = Pool::new(rt.alloc(), 2, &mut meter)?;
+    let first = pool.insert(10, &mut meter)?;
+    if let Some(value) = pool.get_mut(first, &mut meter) {
         *value += 1;
     }
-    assert_eq!(rt; pool.get(second, &mut meter).copied(), Some(21));
-    assert_eq!(rt; pool.remove(first, &mut meter), Some(10));
-    let third = pool.insert(40, &mut meter)?;
-    assert_eq!(rt; pool.first(&mut meter), Some(second));
-    assert_eq!(rt; pool.next(second, &mut meter), Some(third));
-    assert_eq!(rt; pool.len(&mut meter), 2);
-    assert_eq!(rt; meter.count(), 13);
+    assert_eq!(rt; pool.get(first, &mut meter).copied(), Some(11));
+    assert!(rt; matches!(pool.entry_after(None, &mut meter), Some((_, 11))));
+    assert!(rt; pool.entry_after(Some(first), &mut meter).is_none());
+    assert_eq!(rt; pool.remove(first, &mut meter), Some(11));
+    assert_eq!(rt; meter.count(), 7);
     Ok(())
 }
 
@@ -79,7 +87,7 @@ fn goes_both_ways<T: Xdr + PartialEq>(
 type File = (Text<255>, (u32, (Text<255>, (Text<32>, Opaque<65535>))));
 
 #[test]
-fn values_are_spelled_and_read(rt: HostRuntime) -> Result<(), Fail> {
+fn file_is_spelled_and_read(rt: HostRuntime) -> Result<(), Fail> {
     let file: File = (
         Text::new(b"sillyprog"),
         (
@@ -93,6 +101,14 @@ fn values_are_spelled_and_read(rt: HostRuntime) -> Result<(), Fail> {
     let text =
         b"\x00\x00\x00\x09sillyprog\x00\x00\x00\x00\x00\x00\x02\x00\x00\x00\x04lisp\x00\x00\x00\x04john\x00\x00\x00\x06(quit)\x00\x00";
     assert!(rt; goes_both_ways(&rt, &file, text)?);
+    spelling_laws::<File>();
+    types_are_read_exactly();
+    worked_examples();
+    Ok(())
+}
+
+#[test]
+fn options_are_spelled_and_read(rt: HostRuntime) -> Result<(), Fail> {
     let options = (Some(true), (None::<u32>, -2));
     let text = b"\x00\x00\x00\x01\x00\x00\x00\x01\x00\x00\x00\x00\xff\xff\xff\xfe";
     assert!(rt; goes_both_ways(&rt, &options, text)?);
@@ -100,8 +116,6 @@ fn values_are_spelled_and_read(rt: HostRuntime) -> Result<(), Fail> {
         take_opaque(b"\x00\x00\x00\x02ab\x00\x01", 2),
         Err(XdrFault::BadPadding)
     );
-    spelling_laws::<File>();
-    types_are_read_exactly();
-    worked_examples();
+    assert_eq!(rt; XdrFault::BadPadding.number(), 4);
     Ok(())
 }

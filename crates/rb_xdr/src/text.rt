@@ -1,8 +1,7 @@
 //! Strings (RFC 4506, section 4.11).
 ghost use Rattle.std.specs.Prelude.{◌≡◌, ◌^◌, ◌<◌, ◌≤◌, length};
+ghost use Rattle.rb_xdr.specs.Forms.Form.{Content};
 ghost use Rattle.rb_xdr.specs.Xdr.{IsContent, opaque, read_opaque, max_opaque};
-ghost use Rattle.rb_xdr.specs.Readers.{opaque_sound, opaque_complete};
-ghost use Rattle.rb_xdr.specs.Types.{opaque_bounded};
 
 use crate::fault::XdrFault;
 use crate::kept::Kept;
@@ -58,6 +57,10 @@ impl<const N: usize> Xdr for Text<N> {
 
     ghost reads = { read_opaque N };
 
+    ghost form = { Content N };
+
+    fn laws() {}
+
     fn room_after(&self, room: usize) -> Option<usize> {
         self.content.room_after(room)
     }
@@ -70,12 +73,6 @@ impl<const N: usize> Xdr for Text<N> {
         let (content, used) = Opaque::read(bytes)?;
         Ok((Text { content }, used))
     }
-
-    ghost sound = { opaque_sound N };
-
-    ghost complete = { opaque_complete N };
-
-    ghost bounded = { opaque_bounded N };
 }
 
 impl<const N: usize> fmt::Debug for Text<N> {

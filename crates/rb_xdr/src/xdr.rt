@@ -1,7 +1,9 @@
 //! Values that are spelled in bytes (RFC 4506).
-ghost use Rattle.std.specs.Prelude.{◌≡◌, ℕ, ◌+◌, ◌≤◌, ◌<◌, ◌↔◌, List, ◌++◌, length, take, Result, Ok, IsOk, OnOk, OnErr, IfOk, MatchOption};
+ghost use Rattle.std.specs.Prelude.{◌≡◌, ℕ, ◌+◌, ◌≤◌, ◌<◌, List, length, take, Result, Ok, OnOk, OnErr, IfOk, IfErr, MatchOption};
+ghost use Rattle.rb_xdr.specs.Puts.{Appends, HasRoom, Puts};
 ghost use Rattle.rb_xdr.specs.Meter.{Pays};
-ghost use Rattle.rb_xdr.specs.Xdr.{Reader, Spells};
+ghost use Rattle.rb_xdr.specs.Forms.{Form, FirstFault, HasForm};
+ghost use Rattle.rb_xdr.specs.Xdr.{Reader, BeginsWith};
 ghost use Rattle.rb_xdr.specs.XdrLaws.{IsSound, IsComplete, IsBounded};
 
 use crate::fault::XdrFault;
@@ -11,7 +13,7 @@ use crate::meter::Meter;
 
 /// A type whose values each have one spelling in bytes, none a proper prefix of another.
 ///
-/// An impl gives `room_after`, `write` and `read`; callers use `take` and `put`.
+/// An impl gives `laws`, `room_after`, `write` and `read`; callers use `take` and `put`.
 pub trait Xdr: Drop {
     /// Holds of the values of the type: a number is in range, a text within its limit.
     ghost is_value: { Self → Type 0 };
@@ -26,6 +28,20 @@ pub trait Xdr: Drop {
     /// fault.
     ghost reads: { Reader Self };
 
+    /// What a spelling is made of: it says which fault comes first.
+    ghost form: { Form };
+
+    /// What holds of the type. It does nothing.
+    ///
+    /// What is read is a value whose spelling stands in front of what is left, and its spelling is
+    /// read as that value, whatever follows it. No spelling is longer than the greatest, and the
+    /// faults are those of the form.
+    fn laws()
+        ensures sound { IsSound is_value spelling reads }
+        ensures complete { IsComplete is_value spelling reads }
+        ensures bounded { IsBounded is_value spelling max_spelling }
+        ensures faults { HasForm form reads };
+
     /// The room that is left of so much once the value is spelled, if its spelling fits.
     fn room_after(&self, room: usize) -> Option<usize>
         ensures { MatchOption result (room < length (spelling self.now))
@@ -34,9 +50,9 @@ pub trait Xdr: Drop {
     /// Adds the spelling at the end of a buffer that has room for it.
     fn write(&self, out: &mut Kept, meter: &mut Meter)
         requires tie { meter.old.tie ≡ out.old.tie }
-        requires room { length out.old.bytes + length (spelling self.now) ≤ out.old.cap }
+        requires room { HasRoom (spelling self.now) out.old }
         ensures value { is_value self.now }
-        ensures written { out.new ≡ record out.old { bytes = out.old.bytes ++ spelling self.now } }
+        ensures written { Appends (spelling self.now) out.old out.new }
         ensures cost { Pays meter.old meter.new (length (spelling self.now)) };
 
     /// Reads the front of the bytes.
@@ -47,30 +63,25 @@ pub trait Xdr: Drop {
     /// Reads a value from the front of the bytes, and says how many of them spell it. Bytes behind
     /// them count for nothing.
     ///
-    /// It fails exactly where no front of the bytes is a spelling, with the first fault from the left.
+    /// It fails exactly where no front of the bytes is a spelling, with the first fault of the form.
     final fn take(bytes: &[u8]) -> Result<(Self, usize), XdrFault>
-        ensures found { IfOk result (λ read. (read.1 ≤ length bytes.now)
-            × Spells is_value spelling read.0 (take read.1 bytes.now)) }
-        ensures only { (v : Self) (n : ℕ) → n ≤ length bytes.now
-            → Spells is_value spelling v (take n bytes.now) → result ≡ Ok (v, n) }
-        ensures none { OnErr result ((v : Self) (n : ℕ) → n ≤ length bytes.now
-            → ¬ Spells is_value spelling v (take n bytes.now)) }
+        ensures found { IfOk result (BeginsWith is_value spelling bytes.now) }
+        ensures only { (v : Self) (n : ℕ)
+            → BeginsWith is_value spelling bytes.now (v, n) → result ≡ Ok (v, n) }
+        ensures none { OnErr result ((v : Self) (n : ℕ)
+            → ¬ BeginsWith is_value spelling bytes.now (v, n)) }
+        ensures fault { IfErr result (FirstFault form bytes.now) }
         ensures exact { result ≡ reads bytes.now }
     {
+        Self::laws();
         Self::read(bytes)
     }
 
     /// Adds the spelling at the end of a buffer, or nothing where it does not fit.
     final fn put(&self, out: &mut Kept, meter: &mut Meter) -> Result<(), Full>
         requires { meter.old.tie ≡ out.old.tie }
-        ensures room { IsOk result ↔
-            (length out.old.bytes + length (spelling self.now) ≤ out.old.cap) }
+        ensures puts { Puts (spelling self.now) out.old.cap out.old out.new result }
         ensures value { OnOk result (is_value self.now) }
-        ensures ok { OnOk result (out.new
-            ≡ record out.old { bytes = out.old.bytes ++ spelling self.now }) }
-        ensures err { OnErr result (out.new ≡ out.old) }
-        ensures cap { out.new.cap ≡ out.old.cap }
-        ensures tie { out.new.tie ≡ out.old.tie }
         ensures cost { OnOk result (Pays meter.old meter.new (1 + length (spelling self.now))) }
         ensures cost_of_refusal { OnErr result (Pays meter.old meter.new 1) }
     {
@@ -80,13 +91,4 @@ pub trait Xdr: Drop {
         self.write(out, meter);
         Ok(())
     }
-
-    /// What is read is a value whose spelling stands in front of what is left.
-    ghost sound: { IsSound is_value spelling reads };
-
-    /// The spelling of a value is read as that value, whatever follows it.
-    ghost complete: { IsComplete is_value spelling reads };
-
-    /// No spelling of a value is longer than the greatest.
-    ghost bounded: { IsBounded is_value spelling max_spelling };
 }

@@ -4,3 +4,4 @@ pub mod Printing
 pub mod Running
 pub mod Worked
 pub mod LineLaws
+pub mod LineGrammar

@@ -5,7 +5,8 @@ use Rattle.std.specs.Option.{option_map}
 use Rattle.std.specs.Str.{bytes_eq}
 use Rattle.rb_core.specs.Step.{Event}
 use Rattle.rb_core.specs.Step.Event.{Datagram, Open, Bytes, Pending, Gave, Closed, NextLost}
-use Rattle.rb_core.specs.StandsFor.{event_of}
+use Rattle.rb_core.specs.declared.run.Event as event_type
+use Rattle.rb_core.specs.StandsFor.{event_of, events_of}
 use Rattle.rpcbind.specs.declared.lines.Line as line_type
 use Rattle.rpcbind.specs.declared.lines.Line.TheVariants as lines
 use Rattle.rpcbind.specs.declared.lines.ReadFault.{ReadFault}
@@ -131,6 +132,12 @@ Gives events (Err fault) given = Fails fault given
 abbrev pub with_front : List Event → Result (List Event) ReadFault → Result (List Event) ReadFault
 with_front front (Ok events) = Ok (front ++ events)
 with_front front (Err fault) = Err fault
+
+-- The events grew by what the line of this number says.
+abbrev pub Adds : ℕ → Line → List event_type.Event → List event_type.Event → Type 0
+Adds k said old new =
+    (rest : Result (List Event) ReadFault)
+    → with_front (events_of new) rest ≡ with_front (events_of old) (onto k said rest)
 
 -- what may be wrong with the line of this number
 abbrev pub IsFaultOf : ℕ → Line → ReadFault → Type 0

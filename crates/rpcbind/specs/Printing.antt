@@ -1,10 +1,13 @@
 -- What is printed.
-use Rattle.std.specs.Prelude.{ℕ, List, [], ◌∷◌, ◌++◌, codes, Some, None}
+use Rattle.std.specs.Prelude.{ℕ, List, [], ◌∷◌, ◌++◌, codes, Option, Some, None}
 use Rattle.std.specs.List.{flat_map}
 use Rattle.std.specs.Fmt.{decimal}
+use Rattle.std.specs.Io.KnownBytes.{Appends}
 use Rattle.hex.specs.Hex.{encode_lower}
 use Rattle.rb_core.specs.declared.types.CoreFault.{CoreFault}
 use Rattle.rb_core.specs.declared.types.CoreFault.TheVariants.{NoMemory, BadLimits, Full, Spent, Gone}
+use Rattle.rb_core.specs.declared.run.Output as output_type
+use Rattle.rb_core.specs.StandsFor.{outputs_of}
 use Rattle.rb_core.specs.Step.{Output}
 use Rattle.rb_core.specs.Step.Output.{Replied, Silent, Opened, Refused, Took, TookAndClosed, IsPending, Done, TooMuch, LostIs}
 
@@ -21,15 +24,19 @@ refusal_text Gone = codes "gone\n"
 refusal_text NoMemory = codes "no memory\n"
 refusal_text BadLimits = codes "bad limits\n"
 
+-- a word and bytes
+abbrev pub bytes_line : List ℕ → List ℕ → List ℕ
+bytes_line word bytes = word ++ (hex_text bytes ++ codes "\n")
+
 -- the line of an output
 abbrev pub text_of : Output → List ℕ
-text_of (Replied bytes) = codes "reply " ++ (hex_text bytes ++ codes "\n")
+text_of (Replied bytes) = bytes_line (codes "reply ") bytes
 text_of Silent = codes "silent\n"
 text_of (Opened id) = codes "open " ++ (decimal id ++ codes "\n")
 text_of (Refused fault) = refusal_text fault
 text_of (Took n) = codes "took " ++ (decimal n ++ codes "\n")
 text_of (TookAndClosed n) = codes "took " ++ (decimal n ++ codes " closed\n")
-text_of (IsPending bytes) = codes "pending " ++ (hex_text bytes ++ codes "\n")
+text_of (IsPending bytes) = bytes_line (codes "pending ") bytes
 text_of Done = codes "ok\n"
 text_of TooMuch = codes "toomuch\n"
 text_of (LostIs None) = codes "lost -\n"
@@ -37,3 +44,12 @@ text_of (LostIs (Some id)) = codes "lost " ++ (decimal id ++ codes "\n")
 
 unfoldable pub report_of : List Output → List ℕ
 report_of outputs = flat_map text_of outputs
+
+-- ---- as the code has them
+
+abbrev pub report : List output_type.Output → List ℕ
+report outputs = report_of (outputs_of outputs)
+
+-- Where what a writer holds is known, it has grown by this text and by nothing else.
+abbrev pub Writes : {T : Type 0} → (T → Option (List ℕ)) → T → T → List ℕ → Type 0
+Writes contents old new text = Appends (contents old) (contents new) text

@@ -1,16 +1,17 @@
 -- What `rpcbind replay` does with its words and its input.
-use Rattle.std.specs.Prelude.{ℕ, Bool, false, List, [], ◌∷◌, codes, Option, Result, Ok, Err}
+use Rattle.std.specs.Prelude.{◌≡◌, ℕ, ◌+◌, Bool, false, IsTrue, List, [], ◌∷◌, map, take, codes, string_bytes, String, Option, IfSome, Result, Ok, Err}
 use Rattle.std.specs.Str.{bytes_eq}
-use Rattle.std.specs.Io.KnownBytes.{Appends}
+use Rattle.std.specs.Io.Buffered.{writer_contents}
+use Rattle.std.specs.declared.io.buffered.BufWriter.{BufWriter}
 use Rattle.rb_core.specs.State.{State, opening}
 use Rattle.rb_core.specs.Step.{Event}
 use Rattle.rb_core.specs.Run.{run}
 use Rattle.rpcbind.specs.declared.lines.ReadFault.{ReadFault}
-use Rattle.rpcbind.specs.declared.lines.ReadFault.TheVariants as read
+use Rattle.rpcbind.specs.declared.lines.ReadFault.TheVariants as reading
 use Rattle.rpcbind.specs.declared.running.Fault.{Fault}
 use Rattle.rpcbind.specs.declared.running.Fault.TheVariants.{Usage, Lines, NoMemory, BadLimits, ReadFailed, WriteFailed}
-use Rattle.rpcbind.specs.Lines.{Fails}
-use Rattle.rpcbind.specs.Printing.{report_of}
+use Rattle.rpcbind.specs.Lines.{Fails, read, longest_input}
+use Rattle.rpcbind.specs.Printing.{report_of, Writes}
 
 -- the word `replay` alone
 abbrev pub is_replay : List (List ℕ) → Bool
@@ -18,36 +19,65 @@ is_replay [] = false
 is_replay (word ∷ []) = bytes_eq word (codes "replay")
 is_replay (word ∷ more ∷ words) = false
 
+abbrev pub IsReplay : {A : Type 0} → List (String A) → Type 0
+IsReplay words = IsTrue (is_replay (map string_bytes words))
+
 -- the core with which a replay begins
 abbrev pub first : State
-first = opening (record { conns = 4; rows = 300; forwards = 4 }) (record { host = 192 ∷ 0 ∷ 2 ∷ 1 ∷ []; port = 111 }) 1000 0
+first = opening (record { conns = 4; rows = 300; forwards = 4 })
+    (record { host = 192 ∷ 0 ∷ 2 ∷ 1 ∷ []; port = 111 }) 1000 0
 
 -- the exit status
 abbrev pub status_of : Fault → ℕ
 status_of Usage = 2
-status_of (Lines (read.BadLine k)) = 2
-status_of (Lines read.TooLong) = 2
-status_of (Lines read.NoMemory) = 1
+status_of (Lines (reading.BadLine k)) = 2
+status_of (Lines reading.TooLong) = 2
+status_of (Lines reading.NoMemory) = 1
 status_of NoMemory = 1
 status_of BadLimits = 1
 status_of ReadFailed = 1
 status_of WriteFailed = 1
 
--- what is wrong with an input that reads as this
-abbrev pub IsFaultOf : Fault → Result (List Event) ReadFault → Type 0
-IsFaultOf Usage given = ⊥
-IsFaultOf (Lines fault) given = Fails fault given
-IsFaultOf NoMemory given = Unit {0}
-IsFaultOf BadLimits given = Unit {0}
-IsFaultOf ReadFailed given = Unit {0}
-IsFaultOf WriteFailed given = Unit {0}
+-- the text is event lines
+abbrev pub IsRead : Result (List Event) ReadFault → Type 0
+IsRead (Ok events) = Unit {0}
+IsRead (Err fault) = ⊥
 
 -- the text is no event lines
 abbrev pub IsRefused : Result (List Event) ReadFault → Type 0
 IsRefused (Ok events) = ⊥
 IsRefused (Err fault) = Unit {0}
 
--- known contents grow by the printed outputs of the run of these events, and by nothing else
-abbrev pub PrintsTo : Option (List ℕ) → Option (List ℕ) → Result (List Event) ReadFault → Type 0
-PrintsTo old new (Ok events) = Appends old new (report_of (run first events))
-PrintsTo old new (Err fault) = ⊥
+-- How a replay of a text that reads as this may fail: by what is wrong with the text, and where nothing is, by want of
+-- memory or by the writer.
+abbrev pub IsFaultOf : Fault → Result (List Event) ReadFault → Type 0
+IsFaultOf Usage given = ⊥
+IsFaultOf (Lines fault) given = Fails fault given
+IsFaultOf NoMemory given = IsRead given
+IsFaultOf BadLimits given = ⊥
+IsFaultOf ReadFailed given = ⊥
+IsFaultOf WriteFailed given = IsRead given
+
+-- The same as `Writes`, with what is in the writer's buffer.
+abbrev pub BufWrites : {W A : Type 0} → (W → Option (List ℕ)) → BufWriter W A → BufWriter W A
+    → List ℕ → Type 0
+BufWrites contents old new text = Writes (writer_contents contents) old new text
+
+-- The printed outputs of the run of these events were written, and nothing else.
+abbrev pub Prints : {W A : Type 0} → (W → Option (List ℕ)) → BufWriter W A → BufWriter W A
+    → Result (List Event) ReadFault → Type 0
+Prints contents old new (Ok events) = BufWrites contents old new (report_of (run first events))
+Prints contents old new (Err fault) = ⊥
+
+-- Where the bytes that a reader has left are known, this holds of what they read as.
+abbrev pub Reads : {R : Type 0} → (R → Option (List ℕ)) → R
+    → (Result (List Event) ReadFault → Type 0) → Type 0
+Reads remaining reader Holds = IfSome (remaining reader) (λ input. Holds (read input))
+
+-- What was read of an input is all of it, or enough to show that it is too long.
+abbrev pub IsEnoughOf : Option (List ℕ) → List ℕ → Type 0
+IsEnoughOf left text = IfSome left (λ input. text ≡ take (longest_input + 1) input)
+
+-- Where nothing was run, the fault is what is wrong with the input.
+abbrev pub Refuses : {R : Type 0} → (R → Option (List ℕ)) → R → Fault → Type 0
+Refuses remaining reader fault = status_of fault ≡ 2 → Reads remaining reader (IsFaultOf fault)

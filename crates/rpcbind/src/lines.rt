@@ -1,10 +1,8 @@
 //! Event lines, one event in each.
-ghost use Rattle.std.specs.Prelude.{◌≡◌, ◌≤◌, ◌+◌, length, IfOk, IfErr, OnOk, Result, List};
+ghost use Rattle.std.specs.Prelude.{◌≡◌, ◌≤◌, IfOk, IfErr, OnOk};
 ghost use Rattle.std.specs.Option.{option_map};
 ghost use Rattle.rb_core.specs.StandsFor.{event_of, events_of};
-ghost use Rattle.rb_core.specs.Step.{Event as Happening};
-ghost use Rattle.rpcbind.specs.declared.lines.ReadFault.{ReadFault};
-ghost use Rattle.rpcbind.specs.Lines.{with_front, onto, events_from, lines_of, IsFaultOf, datagram_line, open_line, bytes_line, gave_line, event, lone_event, line, line_of, longest_input, Gives, read};
+ghost use Rattle.rpcbind.specs.Lines.{Adds, events_from, lines_of, IsFaultOf, datagram_line, open_line, bytes_line, gave_line, event, lone_event, line, line_of, longest_input, Gives, read};
 
 use crate::fields::{cut, decimal, hex_bytes, peer};
 use rb_core::{Event, NoMemory};
@@ -171,9 +169,7 @@ fn take_line(
     number: usize,
     text: &[u8],
 ) -> Result<(), ReadFault>
-    ensures ok { OnOk result ((rest : Result (List Happening) ReadFault) →
-        with_front (events_of events.new.items) rest
-        ≡ with_front (events_of events.old.items) (onto number (line text.now) rest)) }
+    ensures ok { OnOk result (Adds number (line text.now) events.old.items events.new.items) }
     ensures err { IfErr result (λ fault. IsFaultOf number (line text.now) fault) }
 {
     match read_line(alloc, text) {

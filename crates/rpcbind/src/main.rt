@@ -1,6 +1,8 @@
 //! `rpcbind replay` reads event lines from standard input and prints what each event gives.
 #![tactic(auto)]
 
+ghost use Rattle.std.specs.Prelude.{◌≤◌};
+
 mod fields;
 mod laws;
 mod lines;
@@ -15,13 +17,17 @@ use std::io::{BufWriter, ErrorKind};
 use std::process::ExitCode;
 use std::{env, io};
 
-/// The words behind the program's name.
+/// The words behind the program's name, where each is text.
 fn command_words(rt: &HostRuntime) -> io::Result<Vec<String>> {
     let words = env::args(rt)?.skip(1).collect(rt.alloc())?;
     Ok(words)
 }
 
-fn run(rt: &HostRuntime) -> u8 {
+/// Runs the command that the words behind the program's name give. The answer is the exit status. Words that are no
+/// text can't be read.
+fn run(rt: &HostRuntime) -> u8
+    ensures { result ≤ 2 }
+{
     let mut faults = rt.stderr();
     let words = match command_words(rt) {
         Ok(words) => words,

@@ -1,21 +1,25 @@
 //! The lines that outputs are printed as.
-ghost use Rattle.std.specs.Prelude.{◌≡◌, ◌++◌, codes, OnOk};
-ghost use Rattle.std.specs.Io.KnownBytes.{Appends};
+ghost use Rattle.std.specs.Prelude.{OnOk};
 ghost use Rattle.hex.specs.Hex.{encode_lower};
-ghost use Rattle.rb_core.specs.StandsFor.{output_of, outputs_of};
-ghost use Rattle.rpcbind.specs.Printing.{hex_text, refusal_text, text_of, report_of};
+ghost use Rattle.rb_core.specs.StandsFor.{output_of};
+ghost use Rattle.rpcbind.specs.Printing.{hex_text, bytes_line, refusal_text, text_of, report, Writes};
 
 use rb_core::{CoreFault, Output};
 use std::io;
 use std::io::Write;
+use thiserror::Error;
 
 /// How many bytes are printed at a time.
 const PIECE: usize = 512;
 
+/// The writer refused. How much of a line went out is not known.
+#[derive(Clone, Copy, Debug, Drop, Error, PartialEq, Eq)]
+#[error("write failed")]
+pub struct WriteFailed;
+
 /// Writes bytes as two hexadecimal digits each, in lower case.
 fn print_digits<W: Write>(bytes: &[u8], writer: &mut W) -> io::Result<()>
-    ensures { OnOk result (Appends (W.contents writer.old) (W.contents writer.new)
-        (encode_lower bytes.now)) }
+    ensures { OnOk result (Writes W.contents writer.old writer.new (encode_lower bytes.now)) }
 {
     let mut digits = [0; 2 * PIECE];
     let mut rest = bytes;
@@ -31,8 +35,7 @@ fn print_digits<W: Write>(bytes: &[u8], writer: &mut W) -> io::Result<()>
 
 /// Writes bytes in hexadecimal digits, or `-` for none.
 fn print_hex<W: Write>(bytes: &[u8], writer: &mut W) -> io::Result<()>
-    ensures { OnOk result (Appends (W.contents writer.old) (W.contents writer.new)
-        (hex_text bytes.now)) }
+    ensures { OnOk result (Writes W.contents writer.old writer.new (hex_text bytes.now)) }
 {
     if bytes.is_empty() {
         return writer.write_all(b"-");
@@ -42,8 +45,7 @@ fn print_hex<W: Write>(bytes: &[u8], writer: &mut W) -> io::Result<()>
 
 /// Writes a line of a word and bytes.
 fn print_bytes<W: Write>(word: &str, bytes: &[u8], writer: &mut W) -> io::Result<()>
-    ensures { OnOk result (Appends (W.contents writer.old) (W.contents writer.new)
-        (word.now ++ (hex_text bytes.now ++ codes "\n"))) }
+    ensures { OnOk result (Writes W.contents writer.old writer.new (bytes_line word.now bytes.now)) }
 {
     writer.write_all(word.as_bytes())?;
     print_hex(bytes, writer)?;
@@ -52,8 +54,7 @@ fn print_bytes<W: Write>(word: &str, bytes: &[u8], writer: &mut W) -> io::Result
 
 /// Writes the line of a refused call.
 fn print_refusal<W: Write>(fault: CoreFault, writer: &mut W) -> io::Result<()>
-    ensures { OnOk result (Appends (W.contents writer.old) (W.contents writer.new)
-        (refusal_text fault)) }
+    ensures { OnOk result (Writes W.contents writer.old writer.new (refusal_text fault)) }
 {
     match fault {
         CoreFault::Full => writer.write_all(b"full\n"),
@@ -64,10 +65,9 @@ fn print_refusal<W: Write>(fault: CoreFault, writer: &mut W) -> io::Result<()>
     }
 }
 
-/// Writes the line of an output. An `Err` does not tell how much of it went out.
-pub fn print_output<W: Write>(output: &Output, writer: &mut W) -> io::Result<()>
-    ensures { OnOk result (Appends (W.contents writer.old) (W.contents writer.new)
-        (text_of (output_of output.now))) }
+/// Writes the line of an output.
+fn write_output<W: Write>(output: &Output, writer: &mut W) -> io::Result<()>
+    ensures { OnOk result (Writes W.contents writer.old writer.new (text_of (output_of output.now))) }
 {
     match output {
         Output::Replied(bytes) => print_bytes("reply ", bytes, writer),
@@ -84,10 +84,20 @@ pub fn print_output<W: Write>(output: &Output, writer: &mut W) -> io::Result<()>
     }
 }
 
+/// Writes the line of an output. `WriteFailed` where the writer refuses, and then it is not told how much of the
+/// line went out.
+pub fn print_output<W: Write>(output: &Output, writer: &mut W) -> Result<(), WriteFailed>
+    ensures { OnOk result (Writes W.contents writer.old writer.new (text_of (output_of output.now))) }
+{
+    match write_output(output, writer) {
+        Ok(()) => Ok(()),
+        Err(_) => Err(WriteFailed),
+    }
+}
+
 /// Writes the lines of the outputs.
-pub fn print_outputs<W: Write>(outputs: &[Output], writer: &mut W) -> io::Result<()>
-    ensures { OnOk result (Appends (W.contents writer.old) (W.contents writer.new)
-        (report_of (outputs_of outputs.now))) }
+pub fn print_outputs<W: Write>(outputs: &[Output], writer: &mut W) -> Result<(), WriteFailed>
+    ensures { OnOk result (Writes W.contents writer.old writer.new (report outputs.now)) }
 {
     for output in outputs {
         print_output(output, writer)?;

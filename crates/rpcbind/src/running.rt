@@ -1,19 +1,19 @@
 //! The command `replay`.
-ghost use Rattle.std.specs.Prelude.{◌≡◌, ◌≤◌, ◌+◌, ◌↔◌, IsTrue, false, map, string_bytes, IfOk, IfErr, OnOk, OnErr, IfSome, Ok, take};
-ghost use Rattle.std.specs.Io.KnownBytes.{Appends};
+ghost use Rattle.std.specs.Prelude.{◌≡◌, ◌≤◌, ◌⊎◌, [], map, string_bytes, IfOk, IfErr, OnOk};
+ghost use Rattle.std.specs.Io.Buffered.{writer_buffer};
 ghost use Rattle.rb_core.specs.Run.{run};
 ghost use Rattle.rb_core.specs.StandsFor.{events_of, outputs_of};
-ghost use Rattle.rpcbind.specs.Lines.{read, longest_input};
-ghost use Rattle.rpcbind.specs.Printing.{report_of};
-ghost use Rattle.rpcbind.specs.Running.{first, is_replay, status_of, IsFaultOf, IsRefused, PrintsTo};
+ghost use Rattle.rpcbind.specs.Lines.{read};
+ghost use Rattle.rpcbind.specs.Printing.{report};
+ghost use Rattle.rpcbind.specs.Running.{first, is_replay, status_of, BufWrites, IsEnoughOf, IsFaultOf, IsRefused, IsReplay, Prints, Reads, Refuses};
 
 use crate::lines::{ReadFault, longest_input, read_events};
-use crate::printing::print_outputs;
+use crate::printing::{WriteFailed, print_outputs};
 use rb_core::{Core, CoreFault, Event, Limits, Listener, Output, replay};
 use rb_xdr::Meter;
 use std::alloc::Global;
 use std::io;
-use std::io::{Read, Write};
+use std::io::{BufWriter, Read, Write};
 use thiserror::Error;
 
 const LIMITS: Limits = Limits {
@@ -68,10 +68,8 @@ impl Fault {
 
 /// The first bytes of what the reader has left: as many as an input may have, and one more.
 fn read_input<R: Read>(alloc: Global, reader: &mut R) -> Result<Vec<u8>, Fault>
-    ensures bytes { IfOk result
-        (λ text. IfSome (R.remaining reader.old)
-        (λ input. text.items ≡ take (longest_input + 1) input)) }
-    ensures err { IfErr result (λ fault. status_of fault ≡ 1) }
+    ensures bytes { IfOk result (λ text. IsEnoughOf (R.remaining reader.old) text.items) }
+    ensures err { IfErr result (λ fault. (fault ≡ Fault.NoMemory) ⊎ (fault ≡ Fault.ReadFailed)) }
 {
     let mut text = Vec::new(alloc);
     let limit = longest_input() as u64 + 1;
@@ -82,31 +80,17 @@ fn read_input<R: Read>(alloc: Global, reader: &mut R) -> Result<Vec<u8>, Fault>
     }
 }
 
-/// The events of what the reader has left.
-fn read_all<R: Read>(alloc: Global, reader: &mut R) -> Result<Vec<Event>, Fault>
-    ensures ok { IfOk result (λ events. IfSome (R.remaining reader.old)
-        (λ input. read input ≡ Ok (events_of events.items))) }
-    ensures err { IfErr result
-        (λ fault. IfSome (R.remaining reader.old) (λ input. IsFaultOf fault (read input))) }
-{
-    let text = read_input(alloc, reader)?;
-    match read_events(alloc, &text) {
-        Ok(events) => Ok(events),
-        Err(fault) => Err(Fault::Lines(fault)),
-    }
-}
-
 /// The outputs of the events, from a new core.
 fn outputs_from(alloc: Global, events: &[Event]) -> Result<Vec<Output>, Fault>
     ensures ok { IfOk result (λ outputs. outputs_of outputs.items
         ≡ run first (events_of events.now)) }
-    ensures err { IfErr result (λ fault. status_of fault ≡ 1) }
+    ensures err { IfErr result (λ fault. fault ≡ Fault.NoMemory) }
 {
     let mut meter = Meter::new();
     let mut core = match Core::new(alloc, LIMITS, LISTENER, FIRST_XID, 0, &mut meter) {
         Ok(core) => core,
-        Err(CoreFault::NoMemory) => return Err(Fault::NoMemory),
-        Err(_) => return Err(Fault::BadLimits),
+        Err(CoreFault::BadLimits) => return Err(Fault::BadLimits),
+        Err(_) => return Err(Fault::NoMemory),
     };
     let mut outputs = Vec::new(alloc);
     match replay(alloc, &mut core, events, &mut outputs, &mut meter) {
@@ -116,32 +100,56 @@ fn outputs_from(alloc: Global, events: &[Event]) -> Result<Vec<Output>, Fault>
 }
 
 /// Writes what the outputs are printed as, to the last byte.
-fn put_outputs<W: Write>(outputs: &[Output], writer: &mut W) -> Result<(), Fault>
-    ensures ok { OnOk result (Appends (W.contents writer.old) (W.contents writer.new)
-        (report_of (outputs_of outputs.now))) }
-    ensures err { IfErr result (λ fault. status_of fault ≡ 1) }
+fn put_outputs<W: Write + Drop>(
+    outputs: &[Output],
+    writer: &mut BufWriter<W>,
+) -> Result<(), WriteFailed>
+    ensures ok { OnOk result (BufWrites W.contents writer.old writer.new (report outputs.now)) }
+    ensures flushed { OnOk result (writer_buffer writer.new ≡ []) }
 {
-    let Ok(()) = print_outputs(outputs, writer) else {
-        return Err(Fault::WriteFailed);
-    };
+    print_outputs(outputs, writer)?;
     match writer.flush() {
         Ok(()) => Ok(()),
-        Err(_) => Err(Fault::WriteFailed),
+        Err(_) => Err(WriteFailed),
+    }
+}
+
+/// Runs the events of a text and writes what they give.
+fn replay_text<W: Write + Drop>(
+    alloc: Global,
+    text: &[u8],
+    writer: &mut BufWriter<W>,
+) -> Result<(), Fault>
+    ensures ok { OnOk result (Prints W.contents writer.old writer.new (read text.now)) }
+    ensures flushed { OnOk result (writer_buffer writer.new ≡ []) }
+    ensures err { IfErr result (λ fault. IsFaultOf fault (read text.now)) }
+    ensures unwritten { IfErr result (λ fault. status_of fault ≡ 2 → writer.new ≡ writer.old) }
+{
+    let events = match read_events(alloc, text) {
+        Ok(events) => events,
+        Err(fault) => return Err(Fault::Lines(fault)),
+    };
+    let outputs = outputs_from(alloc, &events)?;
+    match put_outputs(&outputs, writer) {
+        Ok(()) => Ok(()),
+        Err(WriteFailed) => Err(Fault::WriteFailed),
     }
 }
 
 /// Reads all there is, runs its events and writes what they give.
-fn replay_all<R: Read, W: Write>(alloc: Global, reader: &mut R, writer: &mut W) -> Result<(), Fault>
-    ensures ok { OnOk result (IfSome (R.remaining reader.old)
-        (λ input. PrintsTo (W.contents writer.old) (W.contents writer.new) (read input))) }
-    ensures refused { IfErr result
-        (λ fault. status_of fault ≡ 2
-        → IfSome (R.remaining reader.old) (λ input. IsRefused (read input))) }
+fn replay_all<R: Read, W: Write + Drop>(
+    alloc: Global,
+    reader: &mut R,
+    writer: &mut BufWriter<W>,
+) -> Result<(), Fault>
+    ensures ok { OnOk result
+        (Reads R.remaining reader.old (Prints W.contents writer.old writer.new)) }
+    ensures flushed { OnOk result (writer_buffer writer.new ≡ []) }
+    ensures refused { IfErr result (Refuses R.remaining reader.old) }
     ensures unwritten { IfErr result (λ fault. status_of fault ≡ 2 → writer.new ≡ writer.old) }
 {
-    let events = read_all(alloc, reader)?;
-    let outputs = outputs_from(alloc, &events)?;
-    put_outputs(&outputs, writer)
+    let text = read_input(alloc, reader)?;
+    replay_text(alloc, &text, writer)
 }
 
 /// Whether the words of the command line are `replay` alone.
@@ -155,25 +163,25 @@ fn is_replay(words: &[String]) -> bool
 }
 
 /// Runs the command that the words name: `replay` reads event lines to the end, runs their events
-/// on a new core and writes a line for each. The answer is the exit status. Hand in a writer with a
-/// buffer: each part of a line is written by a call of its own.
+/// on a new core and writes a line for each. The answer is the exit status.
 ///
-/// 0 says that all went well. 2 says that the words cannot be read, or that the input is no event
-/// lines, and nothing was run or written. 1 says that reading, writing or memory failed. What is
-/// wrong is written to `faults`.
-pub fn run_replay<R: Read, W: Write, E: Write>(
+/// 0 says that all went well and that the writer's buffer was written out. 2 says that the words cannot be read, or
+/// that the input is no event lines, and nothing was run or written. 1 says that reading, writing or memory failed.
+/// What is wrong is written to `faults`; at 0 nothing is.
+pub fn run_replay<R: Read, W: Write + Drop, E: Write>(
     alloc: Global,
     words: &[String],
     reader: &mut R,
-    writer: &mut W,
+    writer: &mut BufWriter<W>,
     faults: &mut E,
 ) -> u8
     ensures status { result ≤ 2 }
-    ensures usage { is_replay (map string_bytes words.now) ≡ false → result ≡ 2 }
-    ensures done { result ≡ 0 → IfSome (R.remaining reader.old)
-        (λ input. PrintsTo (W.contents writer.old) (W.contents writer.new) (read input)) }
-    ensures refused { result ≡ 2 → IsTrue (is_replay (map string_bytes words.now))
-        → IfSome (R.remaining reader.old) (λ input. IsRefused (read input)) }
+    ensures usage { (IsReplay words.now → ⊥) → result ≡ 2 }
+    ensures done { result ≡ 0
+        → Reads R.remaining reader.old (Prints W.contents writer.old writer.new) }
+    ensures flushed { result ≡ 0 → writer_buffer writer.new ≡ [] }
+    ensures quiet { result ≡ 0 → faults.new ≡ faults.old }
+    ensures refused { result ≡ 2 → IsReplay words.now → Reads R.remaining reader.old IsRefused }
     ensures unwritten { result ≡ 2 → writer.new ≡ writer.old }
 {
     if !is_replay(words) {

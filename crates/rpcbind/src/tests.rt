@@ -1,8 +1,10 @@
 use crate::lines::{ReadFault, read_events};
 use crate::running::{Fault, explain, run_replay};
+use rb_core::{Core, Event, Limits, Listener};
+use rb_xdr::Meter;
 use std::alloc::{AllocError, Global};
 use std::io;
-use std::io::{ErrorKind, Read};
+use std::io::{BufWriter, ErrorKind, Read};
 use std::test::Fail;
 
 /// Gives no byte, but an error of this kind.
@@ -15,32 +17,28 @@ impl Read for Failing {
     }
 }
 
-fn words_of(alloc: Global, texts: &[&str]) -> Result<Vec<String>, AllocError> {
+/// The word `replay` alone.
+fn words(alloc: Global) -> Result<Vec<String>, AllocError> {
     let mut words = Vec::new(alloc);
-    for text in texts {
-        words.push(String::from_str(alloc, text)?)?;
-    }
+    words.push(String::from_str(alloc, "replay")?)?;
     Ok(words)
 }
 
 /// The status, what is printed and what is said of faults.
-fn ran<R: Read>(
-    alloc: Global,
-    words: &[&str],
-    reader: &mut R,
-) -> Result<(u8, Vec<u8>, Vec<u8>), AllocError> {
-    let words = words_of(alloc, words)?;
-    let mut printed = Vec::new(alloc);
+fn ran<R: Read>(alloc: Global, reader: &mut R) -> Result<(u8, Vec<u8>, Vec<u8>), AllocError> {
+    let words = words(alloc)?;
+    let mut output = BufWriter::new(alloc, Vec::new(alloc)).map_err(|_| AllocError)?;
     let mut faults = Vec::new(alloc);
-    let status = run_replay(alloc, &words, reader, &mut printed, &mut faults);
+    let status = run_replay(alloc, &words, reader, &mut output, &mut faults);
+    let (printed, _) = output.into_parts();
     Ok((status, printed, faults))
 }
 
 #[test]
 fn read_events_has_memory(rt: HostRuntime) -> Result<(), Fail> {
     let alloc = rt.alloc();
-    let read = read_events(alloc, b"datagram 0 127.0.0.1:900 -\n").map_err(|_| "refused")?;
-    assert_eq!(rt; read.len(), 1);
+    let read = read_events(alloc, b"datagram 7 127.0.0.1:900 -\n").map_err(|_| "refused")?;
+    assert!(rt; matches!(read.as_slice(), [Event::Datagram(7, _, _)]));
     let refused = read_events(alloc, b"datagram 0 127.0.0.1:900 0g");
     assert!(rt; matches!(refused, Err(ReadFault::BadLine(1))));
     Ok(())
@@ -50,7 +48,7 @@ fn read_events_has_memory(rt: HostRuntime) -> Result<(), Fail> {
 fn run_replay_has_memory(rt: HostRuntime) -> Result<(), Fail> {
     let mut input =
         b"datagram 0 127.0.0.1:900 000000040000000000000002000186a000000002000000030000000000000000000000000000000000030d41000000010000000600000000\ndatagram 0 127.0.0.1:900 -".as_slice();
-    let (status, printed, faults) = ran(rt.alloc(), &["replay"], &mut input)?;
+    let (status, printed, faults) = ran(rt.alloc(), &mut input)?;
     assert_eq!(rt; status, 0);
     let wanted = b"reply 00000004000000010000000000000000000000000000000000000000\nsilent\n";
     assert_eq!(rt; printed.as_slice(), wanted.as_slice());
@@ -59,68 +57,41 @@ fn run_replay_has_memory(rt: HostRuntime) -> Result<(), Fail> {
 }
 
 #[test]
-fn says_which_input_is_refused(rt: HostRuntime) -> Result<(), Fail> {
-    let alloc = rt.alloc();
-    let mut longest = Vec::new(alloc);
-    longest.resize(16_777_216, b'\n')?;
-    let (status, printed, faults) = ran(alloc, &["replay"], &mut longest.as_slice())?;
-    assert_eq!(rt; (status, printed.len(), faults.len()), (0, 0, 0));
-    longest.push(b'\n')?;
-    let (status, printed, faults) = ran(alloc, &["replay"], &mut longest.as_slice())?;
-    assert_eq!(rt; (status, printed.len()), (2, 0));
-    assert_eq!(rt; faults.as_slice(), b"rpcbind: input too long\n".as_slice());
-    let mut bad = b"datagram 0 127.0.0.1:900 -\n\nnothing 1".as_slice();
-    let (status, printed, faults) = ran(alloc, &["replay"], &mut bad)?;
-    assert_eq!(rt; (status, printed.len()), (2, 0));
-    assert_eq!(rt;
-        faults.as_slice(),
-        b"rpcbind: line 3: bad event\n".as_slice()
-    );
-    Ok(())
-}
-
-fn shows_the_usage(alloc: Global, words: &[&str]) -> Result<bool, AllocError> {
-    let mut input = b"datagram 0 127.0.0.1:900 -\n".as_slice();
-    let (status, printed, faults) = ran(alloc, words, &mut input)?;
-    Ok(
-        status == 2
-            && printed.is_empty()
-            && faults.as_slice() == b"usage: rpcbind replay\n".as_slice(),
-    )
-}
-
-#[test]
-fn other_words_show_the_usage(rt: HostRuntime) -> Result<(), Fail> {
-    assert!(rt; shows_the_usage(rt.alloc(), &[])?);
-    assert!(rt; shows_the_usage(rt.alloc(), &["serve"])?);
-    assert!(rt; shows_the_usage(rt.alloc(), &["replay", "replay"])?);
-    Ok(())
-}
-
-#[test]
-fn says_what_failed(rt: HostRuntime) -> Result<(), Fail> {
-    let alloc = rt.alloc();
-    let (status, _, faults) = ran(alloc, &["replay"], &mut Failing(ErrorKind::Other))?;
+fn says_that_reading_failed(rt: HostRuntime) -> Result<(), Fail> {
+    let (status, _, faults) = ran(rt.alloc(), &mut Failing(ErrorKind::Other))?;
     assert_eq!(rt; status, 1);
     assert_eq!(rt; faults.as_slice(), b"rpcbind: read failed\n".as_slice());
-    let (status, _, faults) = ran(alloc, &["replay"], &mut Failing(ErrorKind::OutOfMemory))?;
+    Ok(())
+}
+
+#[test]
+fn says_that_memory_is_refused(rt: HostRuntime) -> Result<(), Fail> {
+    let (status, _, faults) = ran(rt.alloc(), &mut Failing(ErrorKind::OutOfMemory))?;
     assert_eq!(rt; status, 1);
     assert_eq!(rt; faults.as_slice(), b"rpcbind: no memory\n".as_slice());
-    let words = words_of(alloc, &["replay"])?;
-    let mut faults = Vec::new(alloc);
-    let mut input = b"datagram 0 127.0.0.1:900 -\n".as_slice();
-    let mut room = [0; 6];
-    let status = run_replay(
-        alloc,
-        &words,
-        &mut input,
-        &mut room.as_mut_slice(),
-        &mut faults,
-    );
-    assert_eq!(rt; status, 1);
-    assert_eq!(rt; faults.as_slice(), b"rpcbind: write failed\n".as_slice());
-    let mut faults = Vec::new(alloc);
+    Ok(())
+}
+
+/// The words for limits out of their range. The limits of a replay never are, as its contract says.
+#[test]
+fn says_that_limits_are_bad(rt: HostRuntime) -> Result<(), Fail> {
+    let mut faults = Vec::new(rt.alloc());
     assert_eq!(rt; explain(Fault::BadLimits, &mut faults), 1);
     assert_eq!(rt; faults.as_slice(), b"rpcbind: bad limits\n".as_slice());
     Ok(())
+}
+
+#[test]
+fn greatest_limits_have_memory(rt: HostRuntime) {
+    let limits = Limits {
+        conns: 256,
+        rows: 4096,
+        forwards: 64,
+    };
+    let listener = Listener {
+        host: [192, 0, 2, 1],
+        port: 111,
+    };
+    let made = Core::new(rt.alloc(), limits, listener, 1000, 0, &mut Meter::new());
+    assert!(rt; made.is_ok());
 }

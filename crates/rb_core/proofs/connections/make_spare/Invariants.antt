@@ -1,4 +1,4 @@
-use Rattle.std.proofs.Common.{◌≡◌, length}
+use Rattle.std.proofs.Common.{◌≡◌, ◌*◌, length}
 use Rattle.std.specs.Prelude.{All}
 use Rattle.std.specs.Map.{values_of}
 use Rattle.rb_xdr.specs.Pool.{HasDistinctKeys}
@@ -13,5 +13,5 @@ invariant-loop-i l = record {
   cap : l.spare.cap ≡ l.conns;
   tie : l.spare.tie ≡ l.fn.meter.tie;
   buffers : All (AreSpare l.fn.meter.tie) (values_of l.spare.entries);
-  cost : PaysAtMost l.fn.meter l.meter l._i;
+  cost : PaysAtMost l.fn.meter l.meter (3 * l._i);
 }

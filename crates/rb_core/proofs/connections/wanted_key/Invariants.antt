@@ -8,6 +8,7 @@ abbrev pub invariant-slots : goal.invariant-slots
 invariant-slots l = record {
   found : find (λ e. is_wanted_slot l.wanted e.1) (to_come l.slots.entries l.place) ≡ find (λ e. is_wanted_slot l.wanted e.1) l.slots.entries;
   tie : l.meter.tie ≡ l.fn.meter.tie;
+  rises : l.fn.meter.steps ≤ l.meter.steps;
   steps : l.meter.steps + 2 * length (to_come l.slots.entries l.place) ≤ l.fn.meter.steps + 2 * length l.slots.entries;
 }
 

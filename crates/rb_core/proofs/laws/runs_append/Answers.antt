@@ -1,4 +1,4 @@
-use Rattle.rb_core.proofs.Runs.{run-append, after-append}
+use Rattle.rb_core.proofs.RunLaws.{run-append, after-append}
 use Rattle.rb_core.proofs.laws.runs_append.Goals as goal
 
 pub returns-clause-outputs : goal.returns-clause-outputs

@@ -1,7 +1,7 @@
 use Rattle.std.proofs.Common.{◌≡◌, take}
 use Rattle.rb_xdr.specs.Meter.{PaysAtMost}
 use Rattle.rb_core.specs.State.{State}
-use Rattle.rb_core.specs.RunCosts.{run_cost}
+use Rattle.rb_core.specs.Costs.{run_cost}
 use Rattle.rb_core.specs.StandsFor.{StandsFor, events_of, outputs_of, Happened}
 use Rattle.rb_core.proofs.run.replay.Given as goal
 

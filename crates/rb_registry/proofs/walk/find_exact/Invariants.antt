@@ -9,6 +9,7 @@ abbrev pub invariant-rows : goal.invariant-rows
 invariant-rows l = record {
   found : find (is_row l.prog l.vers l.netid) (values_of (to_come l.rows.entries l.place)) ≡ find (is_row l.prog l.vers l.netid) (values_of l.rows.entries);
   tie : l.meter.tie ≡ l.fn.meter.tie;
+  rises : l.fn.meter.steps ≤ l.meter.steps;
   steps : l.meter.steps + 2 * length (to_come l.rows.entries l.place) ≤ l.fn.meter.steps + 2 * length l.rows.entries;
 }
 

@@ -10,8 +10,10 @@ abbrev pub invariant-rows : goal.invariant-rows
 invariant-rows l = record {
   removing : Removing (λ (row : Row). covers row (change_of l.fn.removal)) l.fn.rows.entries l.rows.entries l.place l.removed;
   cap : l.rows.cap ≡ l.fn.rows.cap;
+  memory : l.rows.memory ≡ l.fn.rows.memory;
   tie : l.rows.tie ≡ l.fn.rows.tie;
   meter : l.meter.tie ≡ l.fn.meter.tie;
+  rises : l.fn.meter.steps ≤ l.meter.steps;
   steps : l.meter.steps + 3 * length (to_come l.rows.entries l.place) ≤ l.fn.meter.steps + 3 * length l.fn.rows.entries;
 }
 

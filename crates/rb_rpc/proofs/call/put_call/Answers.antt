@@ -5,5 +5,5 @@ use Rattle.rb_rpc.proofs.call.put_call.Goals as goal
 
 pub returns-in-Sys-clause-ok : goal.returns-in-Sys-clause-ok
 returns-in-Sys-clause-ok c =
-    subst (λ (text : List ℕ). OnOk c.put_words-in-Sys.result (c.put_words-in-Sys.new.out ≡ record c.args.out.now { bytes = c.args.out.now.bytes ++ text }))
-    (call_by_sys c.args.head.now c.in-Sys.uid c.in-Sys.is) c.put_words-in-Sys.ensures.ok
+    subst (λ (text : List ℕ). OnOk c.put_numbers-in-Sys.result (c.put_numbers-in-Sys.new.out ≡ record c.args.out.now { bytes = c.args.out.now.bytes ++ text }))
+    (call_by_sys c.args.head.now c.in-Sys.uid c.in-Sys.is) c.put_numbers-in-Sys.ensures.ok

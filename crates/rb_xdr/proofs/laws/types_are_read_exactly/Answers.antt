@@ -1,4 +1,4 @@
-use Rattle.rb_xdr.specs.Types.{number_is, signed_is_type, bool_is, opaque_is_type}
+use Rattle.rb_xdr.proofs.Types.{number_is, signed_is_type, bool_is, opaque_is_type}
 use Rattle.rb_xdr.proofs.laws.types_are_read_exactly.Goals as goal
 
 pub returns-clause-number : goal.returns-clause-number

@@ -1,21 +1,18 @@
-use Rattle.std.proofs.Common.{[], sym, subst, ◌∙◌, arith}
+use Rattle.std.proofs.Common.{[], Err, sym, subst, ◌∙◌, arith}
 use Rattle.std.specs.Prelude.{All}
 use Rattle.std.specs.Map.{values_of}
 use Rattle.rb_xdr.proofs.PoolLemmas.{All-value_at, All-without}
-use Rattle.rb_core.specs.Slots.{StandsForConnections, HasBuffers, AreSpare}
-use Rattle.rb_core.proofs.Slots.{none_removed, all_stay, one_removed, others_stay, slot_is_there, distinct-without, length-without, numbered-without}
+use Rattle.rb_core.specs.contracts.connections.Connections.{the_view}
+use Rattle.rb_core.specs.declared.types.CoreFault.TheVariants.{Gone}
+use Rattle.rb_core.specs.Connections.{closing_of}
+use Rattle.rb_core.specs.Slots.{Acts, StandsForConnections, HasBuffers, AreSpare}
+use Rattle.rb_core.proofs.Slots.{acts_from, none_closed, one_closed, slot_is_there, distinct-without, length-without, numbered-without}
 use Rattle.rb_core.proofs.connections.Connections.close.Goals as goal
 
-pub returns-in_default-clause-there : goal.returns-in_default-clause-there
-returns-in_default-clause-there c = λ o h.
-    let z = subst (λ t. StandsForConnections t o) (sym c.self.view_is) h in
-    sym (none_removed c.args.id c.self.inside.given c.self.inside.slots.entries o.all z.all (sym c.in_default.ensures.key))
-
-pub returns-in_default-clause-gone : goal.returns-in_default-clause-gone
-returns-in_default-clause-gone c = λ o h.
-    let z = subst (λ t. StandsForConnections t o) (sym c.self.view_is) h in
-    let nobody = none_removed c.args.id c.self.inside.given c.self.inside.slots.entries o.all z.all (sym c.in_default.ensures.key) in
-    rw (all_stay c.args.id c.self.inside.given c.self.inside.slots.entries o.all nobody) h
+pub returns-in_default-clause-acts : goal.returns-in_default-clause-acts
+returns-in_default-clause-acts c =
+    subst (λ t. Acts StandsForConnections (closing_of c.args.id) t t (Err Gone)) c.self.view_is
+    (none_closed c.args.id (the_view c.self.inside) (sym c.in_default.ensures.key))
 
 pub unreachable-requires : goal.unreachable-requires
 unreachable-requires c = slot_is_there _ c.self.inside.slots.entries [] c.in-Some.key (sym c.in-Some.ensures.key) (sym c.in_default-remove.ensures.value)
@@ -41,15 +38,8 @@ invariant_of-self c =
       numbers = numbered-without c.self.inside.given es c.in-Some.key c.self.invariant.numbers;
     })
 
-pub returns-clause-there : goal.returns-clause-there
-returns-clause-there c = λ o h.
-    let z = subst (λ t. StandsForConnections t o) (sym c.self.view_is) h in
-    sym (one_removed c.args.id c.self.inside.given c.self.inside.slots.entries o.all c.in-Some.key c.in-Some-remove.slot c.self.invariant.distinct z.all (sym c.in-Some.ensures.key) (sym c.in-Some-remove.ensures.value))
-
-pub returns-clause-gone : goal.returns-clause-gone
-returns-clause-gone c = λ o h.
-    let z = subst (λ t. StandsForConnections t o) (sym c.self.view_is) h in
-    rw c.remove.ensures.entries (record {
-      all = others_stay c.args.id c.self.inside.given c.self.inside.slots.entries o.all c.in-Some.key c.in-Some-remove.slot c.self.invariant.distinct c.self.invariant.numbers z.all (sym c.in-Some.ensures.key);
-      next = z.next;
-    })
+pub returns-clause-acts : goal.returns-clause-acts
+returns-clause-acts c =
+    rw c.remove.ensures.entries (
+    acts_from (closing_of c.args.id) (the_view c.self.inside) c.args.self.now _ _ c.self.view_is
+    (one_closed c.args.id (the_view c.self.inside) c.in-Some.key c.in-Some-remove.slot c.self.invariant.distinct c.self.invariant.numbers (sym c.in-Some.ensures.key) (sym c.in-Some-remove.ensures.value)))

@@ -9,11 +9,11 @@ pub returns-in-Some-clause-lost : goal.returns-in-Some-clause-lost
 unfolding first_lost is_wanted
 returns-in-Some-clause-lost c = λ o h.
     let f = c.in-Some.ensures.found o h in
-    let e : first_lost o.all ≡ Some f.connection.number = ap (option_map (λ (x : Connection). x.number)) f.found in
+    let e : first_lost o ≡ Some f.connection.number = ap (option_map (λ (x : Connection). x.number)) f.found in
     ap (λ (n : ℕ). Some n) f.stands.number ∙ sym e
 
 pub returns-in-None-clause-lost : goal.returns-in-None-clause-lost
 unfolding first_lost is_wanted
 returns-in-None-clause-lost c = λ o h.
-    let e : first_lost o.all ≡ None = ap (option_map (λ (x : Connection). x.number)) (c.in-None.ensures.found o h) in
+    let e : first_lost o ≡ None = ap (option_map (λ (x : Connection). x.number)) (c.in-None.ensures.found o h) in
     sym e

@@ -1,31 +1,23 @@
-use Rattle.std.proofs.Common.{Ok, ◌+◌, sym, subst, refl, ap, ◌∙◌, arith}
+use Rattle.std.proofs.Common.{Err, sym, subst, refl, ap, ◌∙◌, arith}
 use Rattle.std.specs.Prelude.{All}
 use Rattle.std.specs.Map.{values_of}
 use Rattle.std.proofs.lemmas.List.Elements.{All-push}
-use Rattle.rb_core.specs.Slots.{StandsForConnection, StandsForConnections, HasBuffers, AreBuffers, AreSpare}
-use Rattle.rb_core.proofs.Slots.{as_many, no_place, no_number, next_number, one_more_each, numbered-more, reads_nothing}
+use Rattle.rb_core.specs.contracts.connections.Connections.{the_view}
+use Rattle.rb_core.specs.declared.types.CoreFault.TheVariants.{Full, Spent}
+use Rattle.rb_core.specs.Connections.{opening_of}
+use Rattle.rb_core.specs.Slots.{Acts, StandsForConnections, HasBuffers, AreBuffers, AreSpare}
+use Rattle.rb_core.proofs.Slots.{acts_from, full_acts, spent_acts, opened_acts, numbered-more}
 use Rattle.rb_core.proofs.connections.Connections.open.Goals as goal
 
-pub returns-then-len-self-clause-number : goal.returns-then-len-self-clause-number
-returns-then-len-self-clause-number c = λ o h.
-    let z = subst (λ t. StandsForConnections t o) (sym c.self.view_is) h in
-    let many = as_many c.self.inside.slots.entries o.all z.all in
-    let conns = ap (λ t. t.conns) c.self.view_is in
-    no_place c.args.self.now.conns o.all o.next (omega (arith, many, conns, c.len.ensures.len, c.if-len-self.true))
+pub returns-then-len-self-clause-acts : goal.returns-then-len-self-clause-acts
+returns-then-len-self-clause-acts c =
+    subst (λ t. Acts StandsForConnections (opening_of t.conns c.args.peer c.args.clock) t t (Err Full)) c.self.view_is
+    (full_acts c.self.inside.conns c.args.peer c.args.clock (the_view c.self.inside) (omega (arith, c.len.ensures.len, c.if-len-self.true)))
 
-pub returns-then-self-clause-number : goal.returns-then-self-clause-number
-returns-then-self-clause-number c = λ o h.
-    let z = subst (λ t. StandsForConnections t o) (sym c.self.view_is) h in
-    let many = as_many c.self.inside.slots.entries o.all z.all in
-    let conns = ap (λ t. t.conns) c.self.view_is in
-    no_number c.args.self.now.conns o.all o.next (omega (arith, many, conns, c.len.ensures.len, c.if-len-self.false)) (omega (arith, z.next, c.if-self.true))
-
-pub returns-clause-number : goal.returns-clause-number
-returns-clause-number c = λ o h.
-    let z = subst (λ t. StandsForConnections t o) (sym c.self.view_is) h in
-    let many = as_many c.self.inside.slots.entries o.all z.all in
-    let conns = ap (λ t. t.conns) c.self.view_is in
-    ap Ok (sym z.next) ∙ next_number c.args.self.now.conns o.all o.next (omega (arith, many, conns, c.len.ensures.len, c.if-len-self.false)) (omega (arith, z.next, c.if-self.false))
+pub returns-then-self-clause-acts : goal.returns-then-self-clause-acts
+returns-then-self-clause-acts c =
+    subst (λ t. Acts StandsForConnections (opening_of t.conns c.args.peer c.args.clock) t t (Err Spent)) c.self.view_is
+    (spent_acts c.self.inside.conns c.args.peer c.args.clock (the_view c.self.inside) (omega (arith, c.len.ensures.len, c.if-len-self.false)) c.if-self.true)
 
 pub invariant_of-self : goal.invariant_of-self
 invariant_of-self c = record {
@@ -38,22 +30,21 @@ invariant_of-self c = record {
   buffers =
       subst (λ t. All (HasBuffers t) (values_of c.put_slot.new.slots.entries)) (sym c.put_slot.ensures.tie)
       (rw c.put_slot.ensures.last (All-push (HasBuffers c.self.inside.slots.tie) (values_of c.self.inside.slots.entries) _ c.self.invariant.buffers
-      (subst (λ t. AreBuffers t c.take_buffers-buffer.result.buffer c.take_buffers-buffer.result.window) c.self.invariant.tie c.take_buffers-buffer.ensures.made)));
+      (subst (λ t. AreBuffers t c.take_buffers-buffer.result.buffer c.take_buffers-buffer.result.window) c.self.invariant.tie c.take_buffers-buffer.ensures.made.buffers)));
   spare_buffers =
       subst (λ t. All (AreSpare t) (values_of c.take_buffers-buffer.new.spare.entries)) (c.self.invariant.tie ∙ sym c.put_slot.ensures.tie)
       c.take_buffers-buffer.ensures.buffers;
   numbers = rw c.put_slot.ensures.last (numbered-more c.self.inside.given (values_of c.self.inside.slots.entries) _ c.self.invariant.numbers refl);
 }
 
-pub returns-clause-ok : goal.returns-clause-ok
-returns-clause-ok c = λ o h.
-    let z = subst (λ t. StandsForConnections t o) (sym c.self.view_is) h in
-    record {
-      all = rw c.put_slot.ensures.last (one_more_each StandsForConnection (values_of c.self.inside.slots.entries) o.all _ _ z.all (record {
-        number = sym z.next;
-        peer = refl;
-        mark = refl;
-        phase = (refl, reads_nothing c.new.result c.take_buffers-buffer.result.buffer c.new.ensures c.take_buffers-buffer.ensures.empty c.take_buffers-buffer.ensures.made.buffer_cap);
-      }));
-      next = ap (λ n. n + 1) z.next;
-    }
+pub returns-clause-acts : goal.returns-clause-acts
+returns-clause-acts c =
+    let conns = ap (λ t. t.conns) c.self.view_is in
+    acts_from (opening_of c.args.self.now.conns c.args.peer c.args.clock) (the_view c.self.inside) c.args.self.now _ _ c.self.view_is
+    (opened_acts c.args.self.now.conns c.args.peer c.args.clock (the_view c.self.inside) _ _ (omega (arith, conns, c.len.ensures.len, c.if-len-self.false)) (omega (arith, c.if-self.false)) c.put_slot.ensures.last refl
+    (record {
+      number = refl;
+      peer = refl;
+      mark = refl;
+      phase = (c.take_buffers-buffer.ensures.made.buffer_empty, c.take_buffers-buffer.ensures.made.window_empty);
+    }))

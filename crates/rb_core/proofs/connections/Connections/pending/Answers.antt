@@ -1,15 +1,15 @@
 use Rattle.std.proofs.Common.{Ok, ap, sym, ◌∙◌}
 use Rattle.rb_core.specs.Connections.{live_connection}
-use Rattle.rb_core.specs.Pending.{lent}
+use Rattle.rb_core.specs.Step.{pending_on}
 use Rattle.rb_core.specs.Slots.{is_wanted}
 use Rattle.rb_core.proofs.connections.Connections.pending.Goals as goal
 
 pub returns-in_default-clause-lent : goal.returns-in_default-clause-lent
 unfolding is_wanted live_connection
-returns-in_default-clause-lent c = λ o h. ap lent (c.in_default.ensures.found o h)
+returns-in_default-clause-lent c = λ o h. ap pending_on (c.in_default.ensures.found o h)
 
 pub returns-clause-lent : goal.returns-clause-lent
 unfolding is_wanted live_connection
 returns-clause-lent c = λ o h.
     let f = c.in-Some.ensures.found o h in
-    ap lent f.found ∙ ap Ok (sym (c.pending_of.ensures.pending f.connection f.stands))
+    ap pending_on f.found ∙ ap Ok (sym (c.pending.ensures.pending f.connection f.stands))

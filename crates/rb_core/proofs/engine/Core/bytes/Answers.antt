@@ -1,16 +1,47 @@
-use Rattle.std.proofs.Common.{sym, subst}
-use Rattle.rb_proto.specs.Callers.{own_rows}
-use Rattle.rb_core.specs.StandsFor.{StandsFor}
-use Rattle.rb_core.proofs.Calls.{bytes_took, bytes_gone}
+use Rattle.std.proofs.Common.{◌+◌, Ok, Some, None, length, sym, subst}
+use Rattle.std.proofs.lemmas.Result.{err_from_is_err_and}
+use Rattle.rb_core.specs.contracts.engine.Core.{the_view}
+use Rattle.rb_xdr.specs.Meter.{PaysAtMost}
+use Rattle.rb_registry.specs.Registry.{rows_of}
+use Rattle.rb_core.specs.Costs.{find_cost, answer_cost}
+use Rattle.rb_core.specs.StandsFor.{Held, StandsFor}
+use Rattle.rb_core.proofs.Spending.{answered_cost}
+use Rattle.rb_core.specs.Slots.{Acts, StandsForConnections, feeding}
+use Rattle.rb_core.specs.Connections.{on_live}
+use Rattle.rb_core.proofs.Steps.{acts_from, bytes_refused, quiet_acts, heard_acts, nothing_heard, with_heard}
 use Rattle.rb_core.proofs.engine.Core.bytes.Goals as goal
 
-pub returns-in-Ok-clause-step : goal.returns-in-Ok-clause-step
-returns-in-Ok-clause-step c = λ s h.
-    let z = subst (λ held. StandsFor held s) (sym c.self.view_is) h in
-    bytes_took _ s c.args.now c.max-clock.result c.args.id c.args.piece.now c.take-taken.new.self c.take-taken.new.registry c.in-Ok.taken z c.max-clock.ensures c.take-taken.ensures.limit c.take-taken.ensures.conns
-    (c.in-Ok.ensures.taken s.connections (own_rows s.setting.listener) s.changes z.connections z.registry)
+pub returns-in_err-count-clause-acts : goal.returns-in_err-count-clause-acts
+returns-in_err-count-clause-acts c =
+    let p = err_from_is_err_and c.from_residual.result c.from_residual.ensures.1 in
+    rw (p.1, p.2, c.in_err-count.ensures.refused) (
+    acts_from _ (the_view c.self.inside) c.args.self.now _ _ c.self.view_is
+    (bytes_refused (the_view c.self.inside) c.args.now c.max-clock.result c.args.id c.args.piece.now c.take.new.self _ c.in_err-count.ensures.acts))
 
-pub returns-in-Err-clause-step : goal.returns-in-Err-clause-step
-returns-in-Err-clause-step c = λ s h.
+pub returns-in_default-clause-acts : goal.returns-in_default-clause-acts
+returns-in_default-clause-acts c =
+    acts_from _ (the_view c.self.inside) c.args.self.now _ _ c.self.view_is
+    (quiet_acts (the_view c.self.inside) c.args.now c.max-clock.result c.args.id c.args.piece.now c.max-clock.ensures c.take.new.self c.in_ok-count.ensures.stays c.in_ok-count.field-0.count
+    (with_heard c.args.id c.max-clock.result c.args.piece.now c.self.inside.connections c.take.new.self c.in_ok-count.field-0 None c.in_default.is c.in_ok-count.ensures.acts))
+
+heard : (c : goal.After-answer-closed) → Acts StandsForConnections (on_live c.args.id (feeding c.max-clock.result c.args.piece.now)) c.self.inside.connections c.take.new.self (Ok (record { count = c.in_ok-count.field-0.count; heard = Some c.in-Some.heard }))
+heard c = with_heard c.args.id c.max-clock.result c.args.piece.now c.self.inside.connections c.take.new.self c.in_ok-count.field-0 (Some c.in-Some.heard) c.in-Some.is c.in_ok-count.ensures.acts
+
+pub returns-clause-acts : goal.returns-clause-acts
+returns-clause-acts c =
+    acts_from _ (the_view c.self.inside) c.args.self.now _ _ c.self.view_is
+    (heard_acts (the_view c.self.inside) c.args.now c.max-clock.result c.args.id c.args.piece.now c.max-clock.ensures c.take.new.self c.in_ok-count.ensures.stays c.in_ok-count.field-0.count c.in-Some.heard c.answer-closed.new.self c.answer-closed.result
+    (heard c) c.answer-closed.ensures.acts)
+
+pub returns-clause-cost : goal.returns-clause-cost
+returns-clause-cost c =
+    subst (λ (held : Held). PaysAtMost c.args.meter.now c.answer-closed.new.meter
+    (find_cost (length held.connections.slots) + c.in_ok-count.field-0.count + answer_cost (length held.connections.slots) (length (rows_of held.registry)) (length (rows_of c.answer-closed.new.self.registry))))
+    c.self.view_is
+    (answered_cost c.args.meter.now c.take.new.meter c.answer-closed.new.meter (length c.self.inside.connections.slots) (length c.take.new.self.slots) (length (rows_of c.self.inside.registry)) (length (rows_of c.answer-closed.new.self.registry)) c.in_ok-count.field-0.count c.in_ok-count.field-0.heard c.in-Some.heard c.in-Some.is c.in_ok-count.ensures.as_many
+    c.in_ok-count.ensures.cost c.answer-closed.ensures.cost)
+
+pub returns-clause-cheap : goal.returns-clause-cheap
+returns-clause-cheap c = λ s h none.
     let z = subst (λ held. StandsFor held s) (sym c.self.view_is) h in
-    rw (c.in-Err.ensures.refused.0, c.in-Err.ensures.refused.1, c.in-Err.ensures.fault) (bytes_gone _ s c.args.now c.args.id c.args.piece.now z (c.in-Err.ensures.gone s.connections z.connections))
+    absurd (nothing_heard c.max-clock.result c.args.id c.in_ok-count.field-0.count c.args.piece.now c.in-Some.heard (the_view c.self.inside) c.take.new.self (heard c) s z none)

@@ -1,14 +1,16 @@
-use Rattle.std.proofs.Common.{sym, subst}
-use Rattle.rb_core.specs.StandsFor.{StandsFor}
-use Rattle.rb_core.proofs.Calls.{gave_done, gave_gone}
+use Rattle.std.proofs.lemmas.Result.{err_from_is_err_and}
+use Rattle.rb_core.specs.contracts.engine.Core.{the_view}
+use Rattle.rb_core.proofs.Steps.{acts_from, gave_done, gave_refused}
 use Rattle.rb_core.proofs.engine.Core.gave.Goals as goal
 
-pub returns-in-Ok-clause-step : goal.returns-in-Ok-clause-step
-returns-in-Ok-clause-step c = λ s h few.
-    let z = subst (λ held. StandsFor held s) (sym c.self.view_is) h in
-    gave_done _ s c.args.now c.max-clock.result c.args.id c.args.n c.give.new.self z c.max-clock.ensures c.give.ensures.conns few (c.in-Ok.ensures.given s.connections z.connections)
+pub returns-in_err-give-clause-acts : goal.returns-in_err-give-clause-acts
+returns-in_err-give-clause-acts c =
+    let p = err_from_is_err_and c.from_residual.result c.from_residual.ensures.1 in
+    rw (p.1, p.2, c.in_err-give.ensures.refused) (
+    acts_from _ (the_view c.self.inside) c.args.self.now _ _ c.self.view_is
+    (gave_refused (the_view c.self.inside) c.args.now c.max-clock.result c.max-clock.ensures c.give.new.self c.args.id c.args.n _ c.in_err-give.ensures.acts))
 
-pub returns-in-Err-clause-step : goal.returns-in-Err-clause-step
-returns-in-Err-clause-step c = λ s h few.
-    let z = subst (λ held. StandsFor held s) (sym c.self.view_is) h in
-    rw (c.in-Err.ensures.refused, c.in-Err.ensures.fault) (gave_gone _ s c.args.now c.args.id c.args.n z (c.in-Err.ensures.gone s.connections z.connections))
+pub returns-clause-acts : goal.returns-clause-acts
+returns-clause-acts c =
+    acts_from _ (the_view c.self.inside) c.args.self.now _ _ c.self.view_is
+    (gave_done (the_view c.self.inside) c.args.now c.max-clock.result c.max-clock.ensures c.give.new.self c.args.id c.args.n _ c.in_ok-give.ensures.stays c.in_ok-give.ensures.acts)

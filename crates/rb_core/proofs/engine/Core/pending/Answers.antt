@@ -1,5 +1,5 @@
 use Rattle.std.proofs.Common.{sym, subst}
-use Rattle.rb_core.specs.Pending.{pending}
+use Rattle.rb_core.specs.Step.{pending}
 use Rattle.rb_core.specs.StandsFor.{StandsFor}
 use Rattle.rb_core.proofs.engine.Core.pending.Goals as goal
 

@@ -1,0 +1,297 @@
+-- A live connection becomes Lost by the end of a record that is no call, and is gone by its close.
+use Rattle.std.proofs.Common.{◌≡◌, inl, inr, ◌<◌, ◌≤◌, ℕ, ◌+◌, max, Bool, true, false, cond, not, ◌&&◌, ◌||◌, eqb, Some, None, Result, Ok, Err, List, [], ◌∷◌, ◌++◌, take, refl, sym, ap, subst, ◌∙◌, append-nil, arith}
+use Rattle.std.specs.Prelude.{find}
+use Rattle.std.specs.List.{list_any}
+use Rattle.std.proofs.lemmas.Bool.{and_parts, eqb-true, eq-eqb, ne_eqb}
+use Rattle.rb_rpc.specs.Records.{first_record, data_of}
+use Rattle.rb_rpc.specs.declared.peer.Caller.TheVariants.{Tcp}
+use Rattle.rb_proto.specs.declared.context.Context.{Context}
+use Rattle.rb_proto.specs.Ledger.{Ledger}
+use Rattle.rb_core.specs.declared.message.Message.{Message}
+use Rattle.rb_core.specs.declared.message.Message.TheVariants as says
+use Rattle.rb_core.specs.declared.types.CoreFault.{CoreFault}
+use Rattle.rb_core.specs.declared.types.CoreFault.TheVariants.{Gone}
+use Rattle.rb_core.specs.Calls.{Outcome, message_of, outcome}
+use Rattle.rb_core.specs.Calls.Outcome.{NoCall, Reply}
+use Rattle.rb_core.specs.State.{State, Connection, Connections, at_moment}
+use Rattle.rb_core.specs.State.Phase.{Idle}
+use Rattle.rb_core.specs.Connections.{is_lost, has_number, is_live, live_connection, is_there, fed_in, change_first, changed_at, reading, settled, giving, without_number, closing_of}
+use Rattle.rb_core.specs.Step.{Event, Output, Taken, serve, bytes, close_connection, output_or, show_taken, show_done, step}
+use Rattle.rb_core.specs.Step.Event.{Bytes, Closed}
+use Rattle.rb_core.specs.Laws.{IsReached, IsLive, EndsNoCall, ClosesExactly, ConnectionsCloseExactly}
+use Rattle.rb_core.proofs.Cuts.{IsFeeding, find-changed, find-holds, number-is, reading-feeds}
+use Rattle.rb_core.proofs.ExactTaking.{fed-none}
+use Rattle.rb_core.proofs.Happenings.{Arriving, arriving, Happening, happening, said_in}
+use Rattle.rb_core.proofs.Happenings.Arriving.{NotThere, NotTaken, ReadOn, Ended}
+use Rattle.rb_core.proofs.Happenings.Happening.{Stays, Opens, Reads, Ends, Gives, Closes}
+use Rattle.rb_core.proofs.Live.{without, changed-other, closed-other, find-before, replying-feeds, giving-feeds}
+use Rattle.rb_core.proofs.Reached.{AreSound, SoundIn, live-sound, reached-sound, step-sound, giving-keeps, settled-keeps}
+
+-- ---- lists of connections
+
+abbrev lost_in : ℕ → List Connection → Bool
+lost_in id all = list_any (λ (c : Connection). eqb c.number id && is_lost c.phase) all
+
+abbrev there_in : ℕ → List Connection → Bool
+there_in id all = list_any (has_number id) all
+
+both-false : (b : Bool) → (b && false) ≡ false
+both-false true = refl
+both-false false = refl
+
+either-true : (b : Bool) → (b || true) ≡ true
+either-true true = refl
+either-true false = refl
+
+-- those of greater numbers
+lost-above : (id least next : ℕ) (all : List Connection) → AreSound least next all → id < least → lost_in id all ≡ false
+lost-above id least next [] a low = refl
+lost-above id least next (d ∷ all) a low =
+    let other : eqb d.number id ≡ false = ne_eqb d.number id (λ e. omega (arith, e, a.0, low)) in
+    rw other (lost-above id (d.number + 1) next all a.2 (omega (arith, a.0, low)))
+
+found-above : (p : Connection → Bool) (least next : ℕ) (all : List Connection) (c : Connection) → AreSound least next all → find p all ≡ Some c → least ≤ c.number
+found-above p least next [] c a is = absurd cc
+found-above p least next (d ∷ all) c a is = by_test (p d) is (found-above p (d.number + 1) next all c a.2)
+  where
+    by_test : (b : Bool) → cond b (Some d) (find p all) ≡ Some c → (find p all ≡ Some c → d.number + 1 ≤ c.number) → least ≤ c.number
+    by_test true e later = let same : d ≡ c = cc in subst (λ (x : Connection). least ≤ x.number) same a.0
+    by_test false e later = let more = later e in omega (arith, more, a.0)
+
+is-false : (b : Bool) → not b ≡ true → b ≡ false
+is-false true h = absurd cc
+is-false false h = refl
+
+not-lost : (id : ℕ) (d : Connection) → is_live id d ≡ true → is_lost d.phase ≡ false
+unfolding is_live
+not-lost id d e = is-false (is_lost d.phase) (and_parts (eqb d.number id) (not (is_lost d.phase)) e).1
+
+-- where one of the number is live, none is Lost, and one is there
+live-not-lost : (id least next : ℕ) (all : List Connection) (c : Connection) → AreSound least next all → find (is_live id) all ≡ Some c → lost_in id all ≡ false
+live-not-lost id least next [] c a is = refl
+live-not-lost id least next (d ∷ all) c a is = by_test (is_live id d) refl is (live-not-lost id (d.number + 1) next all c a.2)
+  where
+    by_test : (b : Bool) → is_live id d ≡ b → cond b (Some d) (find (is_live id) all) ≡ Some c → (find (is_live id) all ≡ Some c → lost_in id all ≡ false)
+        → ((eqb d.number id && is_lost d.phase) || lost_in id all) ≡ false
+    by_test true e h later =
+        rw (not-lost id d e, both-false (eqb d.number id)) (lost-above id (d.number + 1) next all a.2 (omega (arith, number-is id d e)))
+    by_test false e h later =
+        let here : c.number ≡ id = number-is id c (find-holds (is_live id) all c h) in
+        let more : d.number + 1 ≤ c.number = found-above (is_live id) (d.number + 1) next all c a.2 h in
+        let other : eqb d.number id ≡ false = ne_eqb d.number id (λ q. omega (arith, q, here, more)) in
+        rw other (later h)
+
+live-there : (id : ℕ) (all : List Connection) (c : Connection) → find (is_live id) all ≡ Some c → there_in id all ≡ true
+live-there id [] c is = absurd cc
+live-there id (d ∷ all) c is = by_test (is_live id d) refl is (live-there id all c)
+  where
+    by_test : (b : Bool) → is_live id d ≡ b → cond b (Some d) (find (is_live id) all) ≡ Some c → (find (is_live id) all ≡ Some c → there_in id all ≡ true) → (eqb d.number id || there_in id all) ≡ true
+    by_test true e h later = rw (eq-eqb d.number id (number-is id d e)) refl
+    by_test false e h later = rw (later h) (either-true (eqb d.number id))
+
+-- the live one becomes Lost
+record IsLosing (f : Connection → Connection) : Type 0 where
+  number : (c : Connection) → (f c).number ≡ c.number
+  lost : (c : Connection) → is_lost (f c).phase ≡ true
+
+losing : (clock : ℕ) → IsLosing (settled clock NoCall)
+unfolding settled
+losing clock = record { number = λ c. refl; lost = λ c. refl }
+
+now-lost : (id : ℕ) (f : Connection → Connection) → IsLosing f → (all : List Connection) (c : Connection) → find (is_live id) all ≡ Some c
+    → (lost_in id (change_first (is_live id) f all) ≡ true) × (there_in id (change_first (is_live id) f all) ≡ true)
+now-lost id f loses [] c is = absurd cc
+now-lost id f loses (d ∷ all) c is = by_test (is_live id d) refl is (now-lost id f loses all c)
+  where
+    by_test : (b : Bool) → is_live id d ≡ b → cond b (Some d) (find (is_live id) all) ≡ Some c
+        → (find (is_live id) all ≡ Some c → (lost_in id (change_first (is_live id) f all) ≡ true) × (there_in id (change_first (is_live id) f all) ≡ true))
+        → (lost_in id (cond b (f d ∷ all) (d ∷ change_first (is_live id) f all)) ≡ true) × (there_in id (cond b (f d ∷ all) (d ∷ change_first (is_live id) f all)) ≡ true)
+    by_test true e h later =
+        let same : eqb (f d).number id ≡ true = eq-eqb (f d).number id (loses.number d ∙ number-is id d e) in
+        (rw (same, loses.lost d) refl, rw same refl)
+    by_test false e h later =
+        let more = later h in
+        (rw more.0 (either-true (eqb d.number id && is_lost d.phase)), rw more.1 (either-true (eqb d.number id)))
+
+-- none of the number is left
+none-left : (id : ℕ) (all : List Connection) → (lost_in id (without id all) ≡ false) × (there_in id (without id all) ≡ false)
+none-left id [] = (refl, refl)
+none-left id (d ∷ all) = by_test (eqb d.number id) refl (none-left id all)
+  where
+    by_test : (b : Bool) → eqb d.number id ≡ b → (lost_in id (without id all) ≡ false) × (there_in id (without id all) ≡ false)
+        → (lost_in id (cond (not b) (d ∷ without id all) (without id all)) ≡ false) × (there_in id (cond (not b) (d ∷ without id all) (without id all)) ≡ false)
+    by_test true e later = later
+    by_test false e later = (rw e later.0, rw e later.1)
+
+-- ---- what a message is answered with
+
+no-call-says : (context : Context) (message : Message) (ledger : Ledger) → (outcome context message ledger).0 ≡ NoCall → message ≡ says.NoCall
+unfolding outcome
+no-call-says context says.NoCall ledger is = refl
+no-call-says context (says.Refused head) ledger is = absurd cc
+no-call-says context (says.Garbage head) ledger is = absurd cc
+no-call-says context (says.Asked call) ledger is = absurd cc
+
+said-none : (s : State) (at id : ℕ) (c : Connection) (record_bytes : List ℕ) → said_in s at id c record_bytes ≡ NoCall → message_of (data_of record_bytes) ≡ says.NoCall
+unfolding serve
+said-none s at id c record_bytes is = no-call-says _ (message_of (data_of record_bytes)) _ is
+
+none-said : (s : State) (at id : ℕ) (c : Connection) (record_bytes : List ℕ) → message_of (data_of record_bytes) ≡ says.NoCall → said_in s at id c record_bytes ≡ NoCall
+unfolding serve outcome
+none-said s at id c record_bytes is = ap (λ (m : Message). (serve (at_moment at s) (Tcp id c.peer) m).0) is
+
+-- ---- what becomes of the live connection of a number
+
+data Fate (id : ℕ) (c : Connection) (event : Event) (now : Connections) : Type 0 where
+  Lives : (d : Connection) → find (is_live id) now.all ≡ Some d → Fate id c event now
+  Loses : EndsNoCall id c event → there_in id now.all ≡ true → Fate id c event now
+  Leaves : event ≡ Closed id → lost_in id now.all ≡ false → Fate id c event now
+
+module _ (s : State) (id : ℕ) (c : Connection) (there : find (is_live id) s.connections.all ≡ Some c) where
+  same-one : (k : ℕ) (d : Connection) → live_connection k s.connections.all ≡ Some d → k ≡ id → d ≡ c
+  unfolding live_connection
+  same-one k d here e =
+      let one : Some d ≡ Some c = sym here ∙ ap (λ (j : ℕ). find (is_live j) s.connections.all) e ∙ there in
+      cc
+
+  on-another : (event : Event) (k : ℕ) (f : Connection → Connection) (now : Connections) → ((d : Connection) → (f d).number ≡ d.number) → eqb k id ≡ false → now ≡ changed_at k f s.connections → Fate id c event now
+  on-another event k f now keeps e same = Lives c (ap (λ (x : Connections). find (is_live id) x.all) same ∙ changed-other id k f keeps e s.connections.all ∙ there)
+
+  on-this : (event : Event) (f : Connection → Connection) (now : Connections) → IsFeeding id f → now ≡ changed_at id f s.connections → Fate id c event now
+  on-this event f now feeds same = Lives (f c) (ap (λ (x : Connections). find (is_live id) x.all) same ∙ find-changed id f feeds s.connections.all c there)
+
+  ends-here : (at : ℕ) (piece fed : List ℕ) (n : ℕ) (now : Connections) → fed_in c.phase ≡ Some fed → first_record (fed ++ piece) ≡ Some n → (said : Outcome) → said_in s at id c (take n (fed ++ piece)) ≡ said
+      → now ≡ changed_at id (settled (max s.clock at) said) s.connections → Fate id c (Bytes at id piece) now
+  ends-here at piece fed n now feeds some (Reply reply) says_so same = on-this (Bytes at id piece) (settled (max s.clock at) (Reply reply)) now (replying-feeds id (max s.clock at) reply) same
+  ends-here at piece fed n now feeds some NoCall says_so same =
+      Loses (record { now = at; piece = piece; is = refl; fed = fed; takes = feeds; n = n; ends = some; no_call = said-none s at id c (take n (fed ++ piece)) says_so })
+      (ap (λ (x : Connections). there_in id x.all) same ∙ (now-lost id (settled (max s.clock at) NoCall) (losing (max s.clock at)) s.connections.all c there).1)
+
+  reads-at : (at k : ℕ) (piece fed : List ℕ) (now : Connections) → now ≡ changed_at k (reading (max s.clock at) (fed ++ piece)) s.connections → (b : Bool) → eqb k id ≡ b → (event : Event) → Fate id c event now
+  unfolding reading
+  reads-at at k piece fed now same false e event = on-another event k (reading (max s.clock at) (fed ++ piece)) now (λ x. refl) e same
+  reads-at at k piece fed now same true e event =
+      on-this event (reading (max s.clock at) (fed ++ piece)) now (reading-feeds id (max s.clock at) (fed ++ piece))
+      (same ∙ ap (λ (j : ℕ). changed_at j (reading (max s.clock at) (fed ++ piece)) s.connections) (eqb-true k id e))
+
+  ends-at : (at k : ℕ) (piece : List ℕ) (d : Connection) (fed : List ℕ) (n : ℕ) (now : Connections) → live_connection k s.connections.all ≡ Some d → fed_in d.phase ≡ Some fed → first_record (fed ++ piece) ≡ Some n
+      → now ≡ changed_at k (settled (max s.clock at) (said_in s at k d (take n (fed ++ piece)))) s.connections → (b : Bool) → eqb k id ≡ b → Fate id c (Bytes at k piece) now
+  ends-at at k piece d fed n now here feeds some same false e =
+      on-another (Bytes at k piece) k (settled (max s.clock at) (said_in s at k d (take n (fed ++ piece)))) now (settled-keeps (max s.clock at) (said_in s at k d (take n (fed ++ piece)))).number e same
+  ends-at at k piece d fed n now here feeds some same true e =
+      let number : k ≡ id = eqb-true k id e in
+      let one : d ≡ c = same-one k d here number in
+      subst (λ (j : ℕ). Fate id c (Bytes at j piece) now) (sym number)
+      (ends-here at piece fed n now (ap (λ (x : Connection). fed_in x.phase) (sym one) ∙ feeds) some (said_in s at id c (take n (fed ++ piece))) refl
+      (same ∙ ap (λ (j : ℕ). changed_at j (settled (max s.clock at) (said_in s at j d (take n (fed ++ piece)))) s.connections) number
+      ∙ ap (λ (x : Connection). changed_at id (settled (max s.clock at) (said_in s at id x (take n (fed ++ piece)))) s.connections) one))
+
+  gives-at : (at k n : ℕ) (now : Connections) → now ≡ changed_at k (λ x. (giving (max s.clock at) n x).1) s.connections → (b : Bool) → eqb k id ≡ b → (event : Event) → Fate id c event now
+  gives-at at k n now same false e event = on-another event k (λ x. (giving (max s.clock at) n x).1) now (giving-keeps (max s.clock at) n).number e same
+  gives-at at k n now same true e event =
+      on-this event (λ x. (giving (max s.clock at) n x).1) now (giving-feeds id (max s.clock at) n)
+      (same ∙ ap (λ (j : ℕ). changed_at j (λ x. (giving (max s.clock at) n x).1) s.connections) (eqb-true k id e))
+
+  closes-at : (k : ℕ) (now : Connections) → now.all ≡ without k s.connections.all → (b : Bool) → eqb k id ≡ b → Fate id c (Closed k) now
+  closes-at k now same false e = Lives c (ap (λ (xs : List Connection). find (is_live id) xs) same ∙ closed-other id k e s.connections.all ∙ there)
+  closes-at k now same true e =
+      let number : k ≡ id = eqb-true k id e in
+      Leaves (ap Closed number) (ap (lost_in id) (same ∙ ap (λ (j : ℕ). without j s.connections.all) number) ∙ (none-left id s.connections.all).0)
+
+  fate : (event : Event) (output : Output) (now : Connections) → Happening s event output now → Fate id c event now
+  unfolding without_number
+  fate event output now (Stays q same) = Lives c (ap (λ (x : Connections). find (is_live id) x.all) same ∙ there)
+  fate event output now (Opens at peer is out same) =
+      Lives c (ap (λ (x : Connections). find (is_live id) x.all) same
+      ∙ find-before (is_live id) s.connections.all c (record { number = s.connections.next; peer = peer; phase = Idle; mark = max s.clock at }) there)
+  fate event output now (Reads at k piece d fed is here feeds none out same) = reads-at at k piece fed now same (eqb k id) refl event
+  fate event output now (Ends at k piece d fed n is here feeds some out same) =
+      subst (λ (ev : Event). Fate id c ev now) (sym is) (ends-at at k piece d fed n now here feeds some same (eqb k id) refl)
+  fate event output now (Gives at k n d is here few out same) = gives-at at k n now same (eqb k id) refl event
+  fate event output now (Closes k is out here same) =
+      subst (λ (ev : Event). Fate id c ev now) (sym is) (closes-at k now (ap (λ (x : Connections). x.all) same) (eqb k id) refl)
+
+-- ---- and back
+
+module _ (s : State) (reached : IsReached s) (id : ℕ) (c : Connection) (there : IsLive s id c) where
+  found : find (is_live id) s.connections.all ≡ Some c
+  unfolding live_connection
+  found = there
+
+  one : (d : Connection) → live_connection id s.connections.all ≡ Some d → d ≡ c
+  one d here = let both : Some d ≡ Some c = sym here ∙ there in cc
+
+  none-some : {A : Type 0} (x : A) → None ≡ Some x → ⊥
+  none-some x e = cc
+
+  some-is : {A : Type 0} (x y : A) → Some x ≡ Some y → x ≡ y
+  some-is x y e = cc
+
+  loses : (now : ℕ) (piece fed : List ℕ) (n : ℕ) → fed_in c.phase ≡ Some fed → first_record (fed ++ piece) ≡ Some n → message_of (data_of (take n (fed ++ piece))) ≡ says.NoCall
+      → (r : Result Taken CoreFault × State) → Arriving s now id piece r → lost_in id (output_or show_taken r).1.connections.all ≡ true
+  unfolding serve
+  loses now piece fed n takes ends no_call r (NotThere gone is) = absurd (none-some c (sym gone ∙ there))
+  loses now piece fed n takes ends no_call r (NotTaken d here (inl none) is) =
+      absurd (none-some fed (sym none ∙ ap (λ (x : Connection). fed_in x.phase) (one d here) ∙ takes))
+  loses now piece fed n takes ends no_call r (NotTaken d here (inr empty) is) =
+      let none : first_record fed ≡ None = fed-none c.phase (live-sound s reached id c there) fed takes in
+      absurd (none-some n (sym none ∙ ap first_record (sym (ap (λ (xs : List ℕ). fed ++ xs) empty ∙ append-nil fed)) ∙ ends))
+  loses now piece fed n takes ends no_call r (ReadOn d other here feeds none is) =
+      let same : other ≡ fed = some-is other fed (sym feeds ∙ ap (λ (x : Connection). fed_in x.phase) (one d here) ∙ takes) in
+      absurd (none-some n (sym none ∙ ap (λ (xs : List ℕ). first_record (xs ++ piece)) same ∙ ends))
+  loses now piece fed n takes ends no_call r (Ended d other m here feeds some is) =
+      let who : d ≡ c = one d here in
+      let same : other ≡ fed = some-is other fed (sym feeds ∙ ap (λ (x : Connection). fed_in x.phase) who ∙ takes) in
+      let count : m ≡ n = some-is m n (sym some ∙ ap (λ (xs : List ℕ). first_record (xs ++ piece)) same ∙ ends) in
+      let bytes_are : take m (other ++ piece) ≡ take n (fed ++ piece) = ap (λ (k : ℕ). take k (other ++ piece)) count ∙ ap (λ (xs : List ℕ). take n (xs ++ piece)) same in
+      let said : said_in s now id d (take m (other ++ piece)) ≡ NoCall =
+      ap (λ (xs : List ℕ). said_in s now id d xs) bytes_are ∙ none-said s now id d (take n (fed ++ piece)) no_call in
+      ap (λ (x : Result Taken CoreFault × State). lost_in id (output_or show_taken x).1.connections.all) is
+      ∙ ap (λ (o : Outcome). lost_in id (change_first (is_live id) (settled (max s.clock now) o) s.connections.all)) said
+      ∙ (now-lost id (settled (max s.clock now) NoCall) (losing (max s.clock now)) s.connections.all c found).0
+
+  lost-at : (now : ℕ) (piece fed : List ℕ) (n : ℕ) → fed_in c.phase ≡ Some fed → first_record (fed ++ piece) ≡ Some n → message_of (data_of (take n (fed ++ piece))) ≡ says.NoCall
+      → lost_in id (step s (Bytes now id piece)).1.connections.all ≡ true
+  unfolding step
+  lost-at now piece fed n takes ends no_call = loses now piece fed n takes ends no_call (bytes s now id piece) (arriving s now id piece)
+
+  lost-by : (event : Event) → EndsNoCall id c event → lost_in id (step s event).1.connections.all ≡ true
+  lost-by event e = subst (λ (ev : Event). lost_in id (step s ev).1.connections.all ≡ true) (sym e.is) (lost-at e.now e.piece e.fed e.n e.takes e.ends e.no_call)
+
+  abbrev closed_or : Bool → Result (Unit {0}) CoreFault × Connections
+  closed_or b = cond b (Ok tt, without_number id s.connections) (Err Gone, s.connections)
+
+  gone-where : (b : Bool) → is_there id s.connections ≡ b → there_in id (output_or show_done ((closed_or b).0, record s { connections = (closed_or b).1 })).1.connections.all ≡ false
+  unfolding is_there without_number
+  gone-where true e = (none-left id s.connections.all).1
+  gone-where false e = e
+
+  gone-at : there_in id (step s (Closed id)).1.connections.all ≡ false
+  unfolding step close_connection closing_of
+  gone-at = gone-where (is_there id s.connections) refl
+
+  gone-by : (event : Event) → event ≡ Closed id → there_in id (step s event).1.connections.all ≡ false
+  gone-by event is = subst (λ (ev : Event). there_in id (step s ev).1.connections.all ≡ false) (sym is) gone-at
+
+  lost-only : (event : Event) (now : Connections) → SoundIn now → Fate id c event now → lost_in id now.all ≡ true → EndsNoCall id c event
+  lost-only event now sound (Lives d live) lost = let none = live-not-lost id 0 now.next now.all d sound live in absurd cc
+  lost-only event now sound (Loses e t) lost = e
+  lost-only event now sound (Leaves is none) lost = absurd cc
+
+  gone-only : (event : Event) (now : Connections) → Fate id c event now → there_in id now.all ≡ false → event ≡ Closed id
+  gone-only event now (Lives d live) gone = let some = live-there id now.all d live in absurd cc
+  gone-only event now (Loses e t) gone = absurd cc
+  gone-only event now (Leaves is none) gone = is
+
+  fate-of : (event : Event) → Fate id c event (step s event).1.connections
+  fate-of event = fate s id c found event (step s event).0 (step s event).1.connections (happening s event)
+
+  closes : (event : Event) → ClosesExactly s event id c
+  unfolding is_there
+  closes event = record {
+    lost = (lost-only event (step s event).1.connections (step-sound s event (reached-sound s reached)) (fate-of event), lost-by event);
+    gone = (gone-only event (step s event).1.connections (fate-of event), gone-by event);
+  }
+
+pub connections_close_exactly : ConnectionsCloseExactly
+connections_close_exactly s reached event id c there = closes s reached id c there event

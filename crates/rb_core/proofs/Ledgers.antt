@@ -1,0 +1,242 @@
+-- What is remembered of the calls, in each state that a run reaches.
+use Rattle.std.proofs.Common.{◌≡◌, ℕ, ◌<◌, ◌≤◌, Bool, true, false, cond, not, ◌&&◌, nat_le, Option, Some, None, Result, Ok, Err, List, [], ◌∷◌, ◌++◌, length, refl, sym, ap, subst, ◌∙◌, append_assoc, append-nil, length-append, arith}
+use Rattle.std.specs.Prelude.{filter}
+use Rattle.std.proofs.lemmas.Bool.{ltb-true, leb-true}
+use Rattle.rb_rpc.specs.declared.peer.Caller.{Caller}
+use Rattle.rb_rpc.specs.declared.peer.Caller.TheVariants.{Udp}
+use Rattle.rb_registry.specs.declared.row.Row.{Row}
+use Rattle.rb_registry.specs.declared.row.Which.{Which}
+use Rattle.rb_registry.specs.declared.row.Owner.{Owner}
+use Rattle.rb_registry.specs.Rows.{Change, live, covers, is_netid, is_on, is_row, are_distinct, has_place, removes_some}
+use Rattle.rb_registry.specs.Rows.Change.{Added, Removed}
+use Rattle.rb_registry.specs.Registry.{AreOwn}
+use Rattle.rb_registry.specs.Laws.{is_accepted, are_accepted}
+use Rattle.rb_registry.proofs.RowLaws.{set_appends, unset_filters, keys_are_distinct}
+use Rattle.rb_proto.specs.declared.listener.Listener.{Listener}
+use Rattle.rb_proto.specs.declared.context.Context.{Context}
+use Rattle.rb_rpc.specs.declared.call.CallHead.{CallHead}
+use Rattle.rb_proto.specs.declared.procedure.VoidProcedure.TheVariants as voids
+use Rattle.rb_proto.specs.declared.procedure.MappingProcedure.TheVariants as mappings
+use Rattle.rb_proto.specs.declared.procedure.RpcbProcedure.TheVariants as rpcbs
+use Rattle.rb_proto.specs.declared.request.Request.{Request}
+use Rattle.rb_proto.specs.declared.request.Request.TheVariants as requests
+use Rattle.rb_proto.specs.Callers.{own_rows}
+use Rattle.rb_proto.specs.Ledger.{Ledger, rows_in}
+use Rattle.rb_proto.specs.Answers.{comes_from_here, can_be_set, accepts_row, set_row, accepts_removal, unset_rows, change_if, answer_to, answer}
+use Rattle.rb_core.specs.declared.message.Message.{Message}
+use Rattle.rb_core.specs.declared.message.Message.TheVariants as says
+use Rattle.rb_core.specs.declared.types.CoreFault.{CoreFault}
+use Rattle.rb_core.specs.declared.types.Limits.{Limits}
+use Rattle.rb_core.specs.Calls.{Outcome, Outcome as outcomes, message_of, outcome}
+use Rattle.rb_core.specs.State.{State, Connections, at_moment, opening, are_good}
+use Rattle.rb_core.specs.Connections.{closing_of}
+use Rattle.rb_core.specs.Step.{Event, Output, Taken, context_in, serve, moved, bytes, pending, gave, is_too_much, open_connection, close_connection, with_reply, datagram, output_or, show_taken, show_done, show_outcome, step}
+use Rattle.rb_core.specs.Step.Event.{Open, Bytes, Pending, Gave, Closed, NextLost, Datagram}
+use Rattle.rb_core.specs.Step.Output.{Opened, TooMuch, IsPending}
+use Rattle.rb_core.specs.Run.{after}
+use Rattle.rb_core.specs.Laws.{LedgersAreWellKept}
+use Rattle.rb_core.proofs.Happenings.{Arriving, arriving}
+use Rattle.rb_core.proofs.Happenings.Arriving.{NotThere, NotTaken, ReadOn, Ended}
+
+both : (a b : Bool) → (a && b) ≡ true → (a ≡ true) × (b ≡ true)
+both true true e = (refl, refl)
+both true false e = absurd cc
+both false b e = absurd cc
+
+-- ---- what a call leaves behind
+
+-- as it was, or with one more change, which was accepted
+data Grows (limit : ℕ) (old new : Ledger) : Type 0 where
+  Same : new ≡ old → Grows limit old new
+  More : (change : Change) → is_accepted limit old.own old.changes change ≡ true → new ≡ record old { changes = old.changes ++ change ∷ [] } → Grows limit old new
+
+change-grows : (limit : ℕ) (change : Change) (l : Ledger) (b : Bool) → (b ≡ true → is_accepted limit l.own l.changes change ≡ true) → Grows limit l (change_if b change l).1
+change-grows limit change l true accepted = More change (accepted refl) refl
+change-grows limit change l false accepted = Same refl
+
+set-grows : (context : Context) (o : Option Row) (l : Ledger) → Grows context.limit l (set_row context o l).1
+unfolding set_row accepts_row
+set-grows context None l = Same refl
+set-grows context (Some row) l = change-grows context.limit (Added row) l (accepts_row context l row) (λ e. last (comes_from_here context) (can_be_set row) (has_place context.limit (rows_in l) (length l.changes) row) e)
+  where
+    last : (a b c : Bool) → (a && b && c) ≡ true → c ≡ true
+    last true true true e = refl
+    last true true false e = absurd cc
+    last true false c e = absurd cc
+    last false b c e = absurd cc
+
+unset-grows : (context : Context) (owner : Owner) (prog vers : ℕ) (o : Option Which) (l : Ledger) → Grows context.limit l (unset_rows context owner prog vers o l).1
+unfolding unset_rows accepts_removal
+unset-grows context owner prog vers None l = Same refl
+unset-grows context owner prog vers (Some which) l =
+    change-grows context.limit (Removed prog vers which owner) l (accepts_removal context l (Removed prog vers which owner))
+    (λ e. (both (comes_from_here context) (removes_some (rows_in l) (length l.changes) (Removed prog vers which owner)) e).1)
+
+answer-grows : (context : Context) (head : CallHead) (request : Request) (l : Ledger) → Grows context.limit l (answer_to context head request l).1
+answer-grows context head (requests.Mapping mappings.Set m) l = set-grows context _ l
+answer-grows context head (requests.Mapping mappings.Unset m) l = unset-grows context _ m.prog m.vers _ l
+answer-grows context head (requests.Mapping mappings.Getport m) l = Same refl
+answer-grows context head (requests.Rpcb rpcbs.Set r) l = set-grows context _ l
+answer-grows context head (requests.Rpcb rpcbs.Unset r) l = unset-grows context _ r.prog r.vers _ l
+answer-grows context head (requests.Rpcb rpcbs.Getaddr r) l = Same refl
+answer-grows context head (requests.Rpcb rpcbs.Getversaddr r) l = Same refl
+answer-grows context head (requests.Rpcb rpcbs.Getaddrlist r) l = Same refl
+answer-grows context head (requests.Void voids.Null) l = Same refl
+answer-grows context head (requests.Void voids.PmapDump) l = Same refl
+answer-grows context head (requests.Void voids.Dump) l = Same refl
+answer-grows context head (requests.Void voids.Gettime) l = Same refl
+answer-grows context head (requests.Uaddr2taddr text) l = Same refl
+answer-grows context head (requests.Taddr2uaddr netbuf) l = Same refl
+
+outcome-grows : (context : Context) (message : Message) (l : Ledger) → Grows context.limit l (outcome context message l).1
+unfolding outcome answer
+outcome-grows context says.NoCall l = Same refl
+outcome-grows context (says.Refused head) l = Same refl
+outcome-grows context (says.Garbage head) l = Same refl
+outcome-grows context (says.Asked call) l = answer-grows context call.head call.request l
+
+-- ---- what an event leaves behind
+
+record Follows (s u : State) : Type 0 where
+  setting : u.setting ≡ s.setting
+  grows : Grows s.setting.limits.rows s.ledger u.ledger
+
+stays : (s : State) → Follows s s
+stays s = record { setting = refl; grows = Same refl }
+
+serve-follows : (s : State) (now : ℕ) (caller : Caller) (message : Message) → Follows s (serve (at_moment now s) caller message).1
+unfolding serve
+serve-follows s now caller message = record { setting = refl; grows = outcome-grows (context_in (at_moment now s) caller) message s.ledger }
+
+moved-follows : {A : Type 0} (s : State) (now : ℕ) (show : A → Output) (r : Result A CoreFault × Connections) → Follows s (output_or show (moved now s r)).1
+moved-follows s now show (Ok x, c) = record { setting = refl; grows = Same refl }
+moved-follows s now show (Err fault, c) = stays s
+
+bytes-follow : (s : State) (now id : ℕ) (piece : List ℕ) (r : Result Taken CoreFault × State) → Arriving s now id piece r → Follows s (output_or show_taken r).1
+unfolding serve
+bytes-follow s now id piece r (NotThere none is) = rw is (stays s)
+bytes-follow s now id piece r (NotTaken c there why is) = rw is (record { setting = refl; grows = Same refl })
+bytes-follow s now id piece r (ReadOn c fed there feeds none is) = rw is (record { setting = refl; grows = Same refl })
+bytes-follow s now id piece r (Ended c fed n there feeds some is) = rw is (record { setting = refl; grows = outcome-grows _ _ s.ledger })
+
+shown-follows : {A : Type 0} (s : State) (show : A → Output) (r : Result A CoreFault) (u : State) → Follows s u → Follows s (output_or show (r, u)).1
+shown-follows s show (Ok x) u f = f
+shown-follows s show (Err fault) u f = f
+
+outcome-follows : (s : State) (r : Outcome × State) → Follows s r.1 → Follows s (show_outcome (with_reply r)).1
+outcome-follows s (outcomes.NoCall, u) f = record { setting = f.setting; grows = f.grows }
+outcome-follows s (outcomes.Reply reply, u) f = record { setting = f.setting; grows = f.grows }
+
+either : (s : State) (b : Bool) (x y : Output × State) → Follows s x.1 → Follows s y.1 → Follows s (cond b x y).1
+either s true x y left right = left
+either s false x y left right = right
+
+step-follows : (s : State) (event : Event) → Follows s (step s event).1
+unfolding step open_connection gave close_connection datagram
+step-follows s (Open now peer) = moved-follows s now Opened _
+step-follows s (Bytes now id piece) = bytes-follow s now id piece (bytes s now id piece) (arriving s now id piece)
+step-follows s (Pending id) = shown-follows s IsPending (pending s id) s (stays s)
+step-follows s (Gave now id n) = either s (is_too_much n (pending s id)) (TooMuch, s) (output_or show_done (gave s now id n)) (stays s) (moved-follows s now show_done _)
+step-follows s (Closed id) = shown-follows s show_done (closing_of id s.connections).0 (record s { connections = (closing_of id s.connections).1 }) (record { setting = refl; grows = Same refl })
+step-follows s NextLost = stays s
+step-follows s (Datagram now peer content) =
+    outcome-follows s (serve (at_moment now s) (Udp peer) (message_of content)) (serve-follows s now (Udp peer) (message_of content))
+
+-- ---- what stays so
+
+accepted_more : (limit : ℕ) (own : List Row) (before changes : List Change) (change : Change) → are_accepted limit own before changes ≡ true → is_accepted limit own (before ++ changes) change ≡ true
+    → are_accepted limit own before (changes ++ change ∷ []) ≡ true
+accepted_more limit own before [] change h e = rw (← ap (λ (cs : List Change). is_accepted limit own cs change) (append-nil before), e) refl
+accepted_more limit own before (first ∷ later) change h e =
+    let parts = both (is_accepted limit own before first) _ h in
+    let more = accepted_more limit own (before ++ first ∷ []) later change parts.1 (ap (λ (cs : List Change). is_accepted limit own cs change) (append_assoc before (first ∷ []) later) ∙ e) in
+    rw (parts.0, more) refl
+
+has_room : (limit : ℕ) (rows : List Row) (count : ℕ) (row : Row) → has_place limit rows count row ≡ true → length rows < limit
+unfolding has_place
+has_room limit rows count row e = ltb-true _ _ (both _ _ (both _ _ e).0).1
+
+no_longer-filter : (p : Row → Bool) (rows : List Row) → length (filter p rows) ≤ length rows
+no_longer-filter p [] = omega arith
+no_longer-filter p (row ∷ rows) = by_test (p row) (no_longer-filter p rows)
+  where
+    by_test : (b : Bool) → length (filter p rows) ≤ length rows → length (cond b (row ∷ filter p rows) (filter p rows)) ≤ length (row ∷ rows)
+    by_test true h = omega (arith, h)
+    by_test false h = omega (arith, h)
+
+fit_after : (limit : ℕ) (own : List Row) (before : List Change) (change : Change) → AreOwn own → length (live own before) ≤ limit → is_accepted limit own before change ≡ true
+    → length (live own (before ++ change ∷ [])) ≤ limit
+fit_after limit own before (Added row) are_own h e =
+    let room = has_room limit (live own before) (length before) row e in
+    rw (set_appends own before row) (omega (arith, room, length-append (live own before) (row ∷ [])))
+fit_after limit own before (Removed prog vers which owner) are_own h e =
+    let fewer = no_longer-filter (λ row. not (covers row (Removed prog vers which owner))) (live own before) in
+    rw (unset_filters own before prog vers which owner are_own) (omega (arith, h, fewer))
+
+-- the own rows
+are-own : (listener : Listener) → AreOwn (own_rows listener)
+unfolding own_rows
+are-own listener = refl
+
+own-distinct : (listener : Listener) → are_distinct (own_rows listener) ≡ true
+unfolding own_rows is_row is_on is_netid
+own-distinct listener = refl
+
+six-own : (listener : Listener) → length (own_rows listener) ≡ 6
+unfolding own_rows
+six-own listener = refl
+
+-- what holds of the ledger
+record KeepsLedger (limit : ℕ) (listener : Listener) (l : Ledger) : Type 0 where
+  own : l.own ≡ own_rows listener
+  accepted : are_accepted limit l.own [] l.changes ≡ true
+  fit : 6 ≤ limit → length (rows_in l) ≤ limit
+
+grown : (limit : ℕ) (listener : Listener) (old new : Ledger) → Grows limit old new → KeepsLedger limit listener old → KeepsLedger limit listener new
+grown limit listener old new (Same same) k = subst (KeepsLedger limit listener) (sym same) k
+grown limit listener old new (More change accepted same) k = subst (KeepsLedger limit listener) (sym same) (record {
+  own = k.own;
+  accepted = accepted_more limit old.own [] old.changes change k.accepted accepted;
+  fit = λ six. fit_after limit old.own old.changes change (subst AreOwn (sym k.own) (are-own listener)) (k.fit six) accepted;
+})
+
+abbrev KeepsIn : State → Type 0
+KeepsIn s = KeepsLedger s.setting.limits.rows s.setting.listener s.ledger
+
+step-keeps : (s : State) (event : Event) → KeepsIn s → KeepsIn (step s event).1
+step-keeps s event k =
+    let f = step-follows s event in
+    rw f.setting (grown s.setting.limits.rows s.setting.listener s.ledger (step s event).1.ledger f.grows k)
+
+after-keeps : (s : State) (events : List Event) → KeepsIn s → KeepsIn (after s events)
+after-keeps s [] k = k
+after-keeps s (event ∷ events) k = after-keeps (step s event).1 events (step-keeps s event k)
+
+opening-keeps : (limits : Limits) (listener : Listener) (first_xid now : ℕ) → KeepsIn (opening limits listener first_xid now)
+opening-keeps limits listener first_xid now = record {
+  own = refl;
+  accepted = refl;
+  fit = λ six. omega (arith, six, six-own listener, length-append (own_rows listener) []);
+}
+
+eight : (limits : Limits) → are_good limits ≡ true → 6 ≤ limits.rows
+eight limits good =
+    let a = both _ (nat_le limits.forwards 64) good in
+    let b = both _ (nat_le limits.rows 4096) a.0 in
+    let c = both _ (nat_le 8 limits.rows) b.0 in
+    let more : 8 ≤ limits.rows = leb-true 8 limits.rows c.1 in
+    omega (arith, more)
+
+pub ledgers_are_well_kept : LedgersAreWellKept
+ledgers_are_well_kept s r =
+    let start : State = opening r.limits r.listener r.first_xid r.now in
+    let k : KeepsIn s = subst KeepsIn (sym r.is) (after-keeps start r.events (opening-keeps r.limits r.listener r.first_xid r.now)) in
+    let distinct : are_distinct s.ledger.own ≡ true = rw k.own (own-distinct s.setting.listener) in
+    let own : AreOwn s.ledger.own = subst AreOwn (sym k.own) (are-own s.setting.listener) in
+    record {
+      own = k.own;
+      accepted = k.accepted;
+      own_distinct = distinct;
+      distinct = keys_are_distinct s.setting.limits.rows s.ledger.own s.ledger.changes own distinct k.accepted;
+      fit = λ good. k.fit (eight s.setting.limits good);
+    }

@@ -1,0 +1,97 @@
+-- What calls pay, added up.
+use Rattle.std.proofs.Common.{◌≡◌, ◌≤◌, ℕ, ◌+◌, List, length, Option, Some, None, Result, Ok, Err, refl, sym, ap, subst, ◌∙◌, arith}
+use Rattle.rb_xdr.specs.Meter.{Meter, PaysAtMost}
+use Rattle.rb_core.specs.declared.slot.Heard.{Heard}
+use Rattle.rb_registry.specs.Registry.{rows_of}
+use Rattle.rb_core.specs.declared.types.CoreFault.{CoreFault}
+use Rattle.rb_core.specs.State.{State, Connection}
+use Rattle.rb_core.specs.Connections.{Taking, taking, live_connection}
+use Rattle.rb_core.specs.Connections.Taking.{TakesNone, GoesOn, Ends}
+use Rattle.rb_core.specs.Step.{Taken, bytes, bytes_to}
+use Rattle.rb_core.specs.Slots.{Acts}
+use Rattle.rb_core.specs.StandsFor.{Held, StandsFor}
+use Rattle.rb_core.specs.Costs.{find_cost, heard_cost, read_cost, serve_cost, settle_cost, answer_cost, connection_count, row_count, NoRecordEnds, count_taken, piece_cost, ended_cost}
+use Rattle.rb_core.proofs.Slots.{as_many}
+
+-- a record ended, and it was answered
+pub answered_cost : (m0 m1 m2 : Meter) (n other rows left count : ℕ) (h : Option Heard) (x : Heard) → h ≡ Some x → other ≡ n
+    → PaysAtMost m0 m1 (find_cost n + (count + heard_cost h)) → PaysAtMost m1 m2 (serve_cost rows left + settle_cost other)
+    → PaysAtMost m0 m2 (find_cost n + count + answer_cost n rows left)
+answered_cost m0 m1 m2 n other rows left count h x is same first second =
+    let taken : PaysAtMost m0 m1 (find_cost n + (count + read_cost)) = rw is at first in
+    record {
+      steps = omega (arith, taken.steps, second.steps, same);
+      rises = omega (arith, taken.rises, second.rises);
+      tie = second.tie ∙ taken.tie;
+    }
+
+-- ---- what is held by what is plain
+
+module _ (held : Held) (s : State) (h : StandsFor held s) where
+  pub connections_held : length held.connections.slots ≡ connection_count s
+  connections_held = sym (as_many held.connections.slots s.connections.all h.connections.all)
+
+  pub rows_held : length (rows_of held.registry) ≡ row_count s
+  rows_held = ap length h.ledger.rows
+
+-- a bound by what is held is one by what is plain
+pub by_count : (f : ℕ → ℕ) (held : Held) (s : State) (a b : Meter) → StandsFor held s → PaysAtMost a b (f (length held.connections.slots)) → PaysAtMost a b (f (connection_count s))
+by_count f held s a b h pays = subst (λ n. PaysAtMost a b (f n)) (connections_held held s h) pays
+
+pub by_rows : (f : ℕ → ℕ → ℕ) (old new : Held) (s t : State) (a b : Meter) → StandsFor old s → StandsFor new t
+    → PaysAtMost a b (f (length (rows_of old.registry)) (length (rows_of new.registry))) → PaysAtMost a b (f (row_count s) (row_count t))
+by_rows f old new s t a b h k pays =
+    subst (λ n. PaysAtMost a b (f n (row_count t))) (rows_held old s h) (subst (λ n. PaysAtMost a b (f (length (rows_of old.registry)) n)) (rows_held new t k) pays)
+
+pub by_all : (f : ℕ → ℕ → ℕ → ℕ) (old new : Held) (s t : State) (a b : Meter) → StandsFor old s → StandsFor new t
+    → PaysAtMost a b (f (length old.connections.slots) (length (rows_of old.registry)) (length (rows_of new.registry))) → PaysAtMost a b (f (connection_count s) (row_count s) (row_count t))
+by_all f old new s t a b h k pays =
+    subst (λ n. PaysAtMost a b (f n (row_count s) (row_count t))) (connections_held old s h)
+    (by_rows (f (length old.connections.slots)) old new s t a b h k pays)
+
+-- so many steps more are allowed
+pub at_most : (a b : Meter) (less more : ℕ) → less ≤ more → PaysAtMost a b less → PaysAtMost a b more
+at_most a b less more le pays = record { steps = omega (arith, pays.steps, le); rises = pays.rises; tie = pays.tie }
+
+-- ---- a piece of bytes
+
+module _ (old new : Held) (s : State) (h : StandsFor old s) (a b : Meter) (now id : ℕ) (piece : List ℕ) (result : Result Taken CoreFault)
+    (acts : Acts StandsFor (λ t. bytes t now id piece) old new result)
+    (cheap : (t : State) → StandsFor old t → NoRecordEnds t id piece → PaysAtMost a b (find_cost (length old.connections.slots) + count_taken result)) where
+  abbrev IsPaid : Option Connection → Type 0
+  IsPaid m = PaysAtMost a b (find_cost (connection_count s) + piece_cost s (bytes s now id piece).1 piece m)
+
+  cheaply : (m : ℕ) → count_taken result ≤ m → NoRecordEnds s id piece → PaysAtMost a b (find_cost (connection_count s) + m)
+  cheaply m few none = at_most a b (find_cost (connection_count s) + count_taken result) (find_cost (connection_count s) + m) (omega (arith, few)) (by_count (λ n. find_cost n + count_taken result) old s a b h (cheap s h none))
+
+  pub gone_cost : (f : CoreFault) → result ≡ Err f → IsPaid (live_connection id s.connections.all)
+  unfolding bytes
+  gone_cost f is = by_there (live_connection id s.connections.all) refl (sym is ∙ acts.gives s h)
+    where
+      by_there : (m : Option Connection) → live_connection id s.connections.all ≡ m → Err f ≡ (bytes_to s now id piece m).0 → IsPaid m
+      by_there None e g = cheaply 0 (rw is (omega arith)) (rw e tt)
+      by_there (Some c) e g = absurd cc
+
+  no_one : (m : Option Connection) → m ≡ None → (taken : Taken) → Ok taken ≡ (bytes_to s now id piece m).0 → ⊥
+  no_one None e taken g = absurd cc
+  no_one (Some c) e taken g = absurd cc
+
+  pub taken_cost_of : (taken : Taken) → result ≡ Ok taken → taken.count ≤ length piece
+      → PaysAtMost a b (find_cost (length old.connections.slots) + taken.count + answer_cost (length old.connections.slots) (length (rows_of old.registry)) (length (rows_of new.registry)))
+      → IsPaid (live_connection id s.connections.all)
+  unfolding bytes
+  taken_cost_of taken is within cost = by_there (live_connection id s.connections.all) refl
+    where
+      all_cost : PaysAtMost a b (find_cost (connection_count s) + (length piece + answer_cost (connection_count s) (row_count s) (row_count (bytes s now id piece).1)))
+      all_cost =
+          at_most a b (find_cost (connection_count s) + taken.count + answer_cost (connection_count s) (row_count s) (row_count (bytes s now id piece).1)) _ (omega (arith, within))
+          (by_all (λ n r l. find_cost n + taken.count + answer_cost n r l) old new s (bytes s now id piece).1 a b h (acts.stands s h) cost)
+
+      by_taking : (c : Connection) (t : Taking) → live_connection id s.connections.all ≡ Some c → taking c.phase piece ≡ t → PaysAtMost a b (find_cost (connection_count s) + (length piece + ended_cost s (bytes s now id piece).1 t))
+      by_taking c TakesNone e t = cheaply (length piece + 0) (rw is (omega (arith, within))) (rw e (rw t refl))
+      by_taking c (GoesOn fed) e t = cheaply (length piece + 0) (rw is (omega (arith, within))) (rw e (rw t refl))
+      by_taking c (Ends n content) e t = all_cost
+
+      by_there : (m : Option Connection) → live_connection id s.connections.all ≡ m → IsPaid m
+      by_there None e = absurd (no_one (live_connection id s.connections.all) e taken (sym is ∙ acts.gives s h))
+      by_there (Some c) e = by_taking c (taking c.phase piece) e refl

@@ -1,0 +1,35 @@
+use Rattle.std.proofs.Common.{[], ap, sym, subst, ◌∙◌}
+use Rattle.rb_xdr.specs.Meter.{Meter}
+use Rattle.rb_xdr.proofs.PoolLemmas.{All-value_at}
+use Rattle.rb_core.specs.contracts.connections.Connections.{the_view}
+use Rattle.rb_core.specs.Connections.{changed_at, settled}
+use Rattle.rb_core.specs.StandsFor.{outcome_with}
+use Rattle.rb_core.specs.Slots.{StandsForConnections, HasBuffers}
+use Rattle.rb_core.proofs.Slots.{gone_stays, live_changed, slot_is_there, table_changed}
+use Rattle.rb_core.proofs.connections.Connections.settle.Goals as goal
+
+pub returns-in_default-clause-stands : goal.returns-in_default-clause-stands
+returns-in_default-clause-stands c = λ o h.
+    let z = subst (λ t. StandsForConnections t o) (sym c.self.view_is) h in
+    subst (λ t. StandsForConnections t (changed_at c.args.id (settled c.args.clock (outcome_with c.args.outcome c.args.reply.now.bytes)) o)) c.self.view_is
+    (gone_stays c.args.id (settled c.args.clock (outcome_with c.args.outcome c.args.reply.now.bytes)) (the_view c.self.inside) (sym c.in_default.ensures.key) o z)
+
+pub unreachable-requires : goal.unreachable-requires
+unreachable-requires c = slot_is_there _ c.self.inside.slots.entries [] c.in-Some.key (sym c.in-Some.ensures.key) (sym c.in_default-get_mut.ensures.value)
+
+pub settle-requires-clause-buffers : goal.settle-requires-clause-buffers
+settle-requires-clause-buffers c =
+    let tie = ap (λ (m : Meter). m.tie) c.get_mut.ensures.cost ∙ c.wanted_key.ensures.cost.tie ∙ c.requires.tie ∙ sym (ap (λ t. t.tie) c.self.view_is) in
+    subst (λ t. HasBuffers t c.in-Some-get_mut.slot.now) (sym tie)
+    (All-value_at (HasBuffers c.self.inside.slots.tie) c.self.inside.slots.entries c.in-Some.key c.in-Some-get_mut.slot.now c.self.invariant.buffers (sym c.in-Some-get_mut.ensures.value))
+
+pub invariant_of-self : goal.invariant_of-self
+invariant_of-self c =
+    let tie = ap (λ (m : Meter). m.tie) c.get_mut.ensures.cost ∙ c.wanted_key.ensures.cost.tie ∙ c.requires.tie ∙ sym (ap (λ t. t.tie) c.self.view_is) in
+    table_changed c.self.inside.slots c.self.inside.spare c.self.inside.given c.self.inside.conns c.in-Some.key c.in-Some-get_mut.slot.now c.settle.new.self c.self.invariant (sym c.in-Some-get_mut.ensures.value)
+    c.settle.ensures.stays.number (subst (λ t. HasBuffers t c.settle.new.self) tie c.settle.ensures.stays.buffers)
+
+pub returns-clause-stands : goal.returns-clause-stands
+returns-clause-stands c = λ o h.
+    let z = subst (λ t. StandsForConnections t o) (sym c.self.view_is) h in
+    live_changed c.args.id (settled c.args.clock (outcome_with c.args.outcome c.args.reply.now.bytes)) (the_view c.self.inside) c.in-Some.key c.in-Some-get_mut.slot.now c.settle.new.self c.self.invariant.distinct (sym c.in-Some.ensures.key) (sym c.in-Some-get_mut.ensures.value) c.settle.ensures.stands o z

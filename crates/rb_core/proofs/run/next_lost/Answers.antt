@@ -1,0 +1,15 @@
+use Rattle.std.proofs.Common.{refl, ap}
+use Rattle.rb_core.specs.Costs.{find_cost}
+use Rattle.rb_core.specs.Step.{step}
+use Rattle.rb_core.specs.Step.Output.{LostIs}
+use Rattle.rb_core.proofs.Spending.{by_count}
+use Rattle.rb_core.proofs.run.next_lost.Goals as goal
+
+pub returns : goal.returns
+unfolding step
+returns c = record {
+  step = λ s h. (ap LostIs (c.next_lost.ensures.lost s h), h);
+  cost = λ s h. by_count find_cost c.args.core.now s _ _ h c.next_lost.ensures.cost;
+  tie = refl;
+  meter = c.next_lost.ensures.cost.tie;
+}

@@ -1,0 +1,19 @@
+use Rattle.std.proofs.Common.{refl, subst}
+use Rattle.rb_xdr.specs.Kept.{Kept}
+use Rattle.rb_core.specs.Connections.{settled}
+use Rattle.rb_core.specs.Giving.{IsGiving, owed_of}
+use Rattle.rb_core.proofs.slot.Slot.settle.Goals as goal
+
+pub returns-in-NoCall-clause-stands : goal.returns-in-NoCall-clause-stands
+unfolding settled
+returns-in-NoCall-clause-stands c = λ x h. rw c.in-NoCall.is (record { number = h.number; peer = h.peer; mark = refl; phase = tt })
+
+pub returns-in-Reply-clause-stands : goal.returns-in-Reply-clause-stands
+unfolding settled
+returns-in-Reply-clause-stands c = λ x h.
+    rw c.in-Reply.is (record {
+      number = h.number;
+      peer = h.peer;
+      mark = refl;
+      phase = subst (λ (k : Kept). IsGiving c.swap.new.x.bytes c.begin.new.window 0 (owed_of k.bytes 0)) c.swap.ensures.x_after c.begin.ensures.giving;
+    })

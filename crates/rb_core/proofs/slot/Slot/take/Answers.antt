@@ -1,0 +1,72 @@
+use Rattle.std.proofs.Common.{◌≡◌, [], ◌∷◌, true, false, List, ℕ, length, eqb, arith, inl, inr, refl, sym, ap, ◌∙◌}
+use Rattle.std.proofs.lemmas.Bool.Decides.{nat_tests}
+use Rattle.rb_core.specs.Connections.{taking_on, fed_in}
+use Rattle.rb_core.specs.Connections.Taking.{TakesNone}
+use Rattle.rb_core.specs.Slots.{IsBeforePiece}
+use Rattle.rb_core.proofs.Slots.{reads_nothing}
+use Rattle.rb_core.proofs.OneSlot.{idle_phase, reading_phase, owing_phase, lost_phase, feeding_acts, nothing_of_nothing, nothing_where_owing, nothing_where_lost, some_where_fed, mark_of_idle, mark_of_reading}
+use Rattle.rb_core.proofs.slot.Slot.take.Goals as goal
+
+no_bytes : (piece : List ℕ) → eqb (length piece) 0 ≡ true → piece ≡ []
+no_bytes [] h = refl
+no_bytes (b ∷ piece) h = let none : length (b ∷ piece) ≡ 0 = grind (arith, nat_tests) in absurd (omega (arith, none))
+
+some_bytes : (piece : List ℕ) → eqb (length piece) 0 ≡ false → piece ≡ [] → ⊥
+some_bytes piece h e = let clash : true ≡ false = sym (ap (λ (xs : List ℕ). eqb (length xs) 0) e) ∙ h in absurd cc
+
+pub returns-then-is_empty-clause-acts : goal.returns-then-is_empty-clause-acts
+returns-then-is_empty-clause-acts c =
+    let piece = c.args.piece.now in
+    let nothing = no_bytes piece (sym c.is_empty.ensures ∙ c.if-is_empty.true) in
+    feeding_acts c.args.self.now _ c.args.clock piece _ (λ x h. record {
+      taken = TakesNone;
+      is = rw nothing (nothing_of_nothing x.phase);
+      gives = c.nothing.ensures;
+      stands = h;
+    })
+
+pub returns-in-Idle-clause-acts : goal.returns-in-Idle-clause-acts
+returns-in-Idle-clause-acts c =
+    let piece = c.args.piece.now in
+    let some = some_bytes piece (sym c.is_empty.ensures ∙ c.if-is_empty.false) in
+    feeding_acts c.args.self.now _ c.args.clock piece _ (λ x h.
+    let p = idle_phase _ _ _ x.phase c.in-Idle.is h.phase in
+    let before : IsBeforePiece _ c.new.result c.args.clock x [] = record {
+      number = h.number;
+      peer = h.peer;
+      mark = sym (mark_of_idle c.args.clock x.mark x.phase p.0);
+      reads = reads_nothing c.new.result _ c.new.ensures.fed p.1 c.requires.buffer_cap;
+      window = p.2;
+    } in
+    record {
+      taken = taking_on [] piece;
+      is = some_where_fed x.phase [] piece (ap fed_in p.0) some;
+      gives = c.feed.ensures.received x [] before;
+      stands = c.feed.ensures.stands x [] before;
+    })
+
+pub returns-in-Reading-clause-acts : goal.returns-in-Reading-clause-acts
+returns-in-Reading-clause-acts c =
+    let piece = c.args.piece.now in
+    let some = some_bytes piece (sym c.is_empty.ensures ∙ c.if-is_empty.false) in
+    feeding_acts c.args.self.now _ c.args.clock piece _ (λ x h.
+    let p = reading_phase c.in-Reading.marks _ _ _ x.phase c.in-Reading.is h.phase in
+    let before : IsBeforePiece _ c.in-Reading.marks c.args.clock x p.0 = record { number = h.number; peer = h.peer; mark = h.mark ∙ sym (mark_of_reading c.args.clock x.mark x.phase p.0 p.1); reads = p.2; window = p.3 } in
+    record {
+      taken = taking_on p.0 piece;
+      is = some_where_fed x.phase p.0 piece (ap fed_in p.1) some;
+      gives = c.feed-in-Reading.ensures.received x p.0 before;
+      stands = c.feed-in-Reading.ensures.stands x p.0 before;
+    })
+
+pub returns-in-Owing-clause-acts : goal.returns-in-Owing-clause-acts
+returns-in-Owing-clause-acts c =
+    feeding_acts c.args.self.now _ c.args.clock c.args.piece.now _ (λ x h. record {
+      taken = TakesNone;
+      is = elim c.in-Owing.is [
+        | inl o ↦ (let p = owing_phase o.0 _ _ _ x.phase o.1 h.phase in nothing_where_owing x.phase p.0 c.args.piece.now p.1)
+        | inr l ↦ nothing_where_lost x.phase c.args.piece.now (lost_phase _ _ _ x.phase l h.phase)
+      ];
+      gives = c.nothing-in-Owing.ensures;
+      stands = h;
+    })

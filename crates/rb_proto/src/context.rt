@@ -1,0 +1,47 @@
+//! What a call sees.
+ghost use Rattle.std.specs.Prelude.{◌≡◌};
+ghost use Rattle.rb_proto.specs.Callers.{peer_of, netid_of};
+ghost use Rattle.rb_proto.specs.Answers.{comes_from_here};
+
+use crate::listener::{Listener, is_local};
+use rb_registry::Netid;
+use rb_rpc::{Caller, Peer};
+
+/// What a call sees beside what is remembered: where it came to, and from whom.
+#[derive(Clone, Copy, PartialEq, Eq, Debug)]
+pub struct Context {
+    pub listener: Listener,
+    /// The greatest number of rows.
+    pub limit: usize,
+    /// Milliseconds since the start of 1970.
+    pub clock: u64,
+    pub caller: Caller,
+}
+
+fn peer_of(caller: &Caller) -> Peer
+    ensures { result ≡ peer_of caller.now }
+{
+    match caller {
+        Caller::Tcp(_, peer) | Caller::Udp(peer) => *peer,
+    }
+}
+
+impl Context {
+    /// Whether the caller is on this machine.
+    #[tactic(auto, unfolding(crate::specs::Answers::comes_from_here))]
+    pub(crate) fn comes_from_here(&self) -> bool
+        ensures { result ≡ comes_from_here self.now }
+    {
+        is_local(&self.listener, &peer_of(&self.caller))
+    }
+
+    /// The transport on which the call came.
+    pub(crate) fn netid(&self) -> Netid
+        ensures { result ≡ netid_of self.now.caller }
+    {
+        match self.caller {
+            Caller::Tcp(..) => Netid::Tcp,
+            Caller::Udp(_) => Netid::Udp,
+        }
+    }
+}

@@ -1,0 +1,19 @@
+-- Bytes that are put at the end of a buffer.
+use Rattle.std.specs.Prelude.{◌≡◌, ℕ, ◌+◌, ◌≤◌, ◌↔◌, List, ◌++◌, length, Result, IsOk, OnOk, OnErr}
+use Rattle.rb_xdr.specs.Kept.{Kept}
+
+-- the bytes stand behind those that were there
+abbrev pub Appends : List ℕ → Kept → Kept → Type 0
+Appends bytes old new = new ≡ record old { bytes = old.bytes ++ bytes }
+
+-- the bytes fit behind those that are there
+abbrev pub HasRoom : List ℕ → Kept → Type 0
+HasRoom bytes kept = length kept.bytes + length bytes ≤ kept.cap
+
+-- The bytes are put where the buffer then has at most `limit` bytes. Else they are refused, and it stays as it was.
+pub record Puts {A E : Type 0} (bytes : List ℕ) (limit : ℕ) (old new : Kept) (result : Result A E) : Type 0 where
+  pub room : IsOk result ↔ (length old.bytes + length bytes ≤ limit)
+  pub ok : OnOk result (Appends bytes old new)
+  pub err : OnErr result (new ≡ old)
+  pub cap : new.cap ≡ old.cap
+  pub tie : new.tie ≡ old.tie
