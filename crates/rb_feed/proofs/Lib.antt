@@ -1,0 +1,6 @@
+mod ContentWalks
+mod SysWalks
+mod AuthWalks
+mod WordVerdicts
+mod CallsStay
+mod CallFeeds

@@ -1,0 +1,18 @@
+use Rattle.std.proofs.Common.{ℕ, ◌≡◌, ◌<◌, ◌%◌, sym, subst, refl, arith}
+use Rattle.rb_feed.specs.Stages.{Stage}
+use Rattle.rb_feed.specs.Feeds.{CallFeed, StandsForCall}
+use Rattle.rb_feed.specs.Saved.{loaded, stage_saved_as}
+use Rattle.rb_feed.proofs.feed.CallFeed.save.Goals as goal
+
+feed_is : (feed : CallFeed) (seen number : ℕ) (stage : Stage) → seen ≡ feed.seen → number ≡ feed.number → stage ≡ feed.stage → ◌≡◌ {A = CallFeed} (record { seen = seen; number = number; stage = stage }) feed
+feed_is feed seen number stage a b c = rw (a, b, c) refl
+
+pub returns-clause-same : goal.returns-clause-same
+unfolding loaded stage_saved_as
+returns-clause-same c =
+    let small : c.args.self.now.seen < 256 = omega arith in
+    let seen_is : c.from.result % 256 ≡ c.args.self.now.seen = omega (arith, c.from.ensures) in
+    feed_is c.args.self.now _ _ _ seen_is refl c.stage_words.ensures
+
+pub returns-clause-stands : goal.returns-clause-stands
+returns-clause-stands c = λ fed h. subst (λ (f : CallFeed). StandsForCall f fed) (sym (returns-clause-same c)) h

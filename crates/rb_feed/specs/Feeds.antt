@@ -1,0 +1,80 @@
+-- The bytes that a reader of calls was fed, and what they are as a call (RFC 5531 section 9).
+use Rattle.std.specs.Prelude.{◌≡◌, ℕ, ◌<◌, ◌≤◌, Bool, false, not, nat_lt, if◌then◌else◌, List, [], ◌++◌, length, take, drop, fold}
+use Rattle.rb_xdr.specs.Xdr.{AreBytes, AreNumbers, words}
+use Rattle.rb_rpc.specs.declared.call.CallHead.{CallHead}
+use Rattle.rb_rpc.specs.declared.call.Verdict.{Verdict}
+use Rattle.rb_rpc.specs.Marks.{number_so_far}
+use Rattle.rb_rpc.specs.Verdict.{verdict}
+use Rattle.rb_rpc.specs.declared.call.Verdict.TheVariants as verdicts
+use Rattle.rb_feed.specs.declared.stage.Stage.TheVariants as stages
+use Rattle.rb_feed.specs.Stages.{stage_after, verdict_at, is_call}
+pub use Rattle.rb_feed.specs.declared.feed.CallFeed.{CallFeed}
+
+-- ---- the bytes that a feed was fed
+
+-- the front of one more word, and the number that it spells as far as it goes
+pub record HasPart (feed : CallFeed) (front : List ℕ) : Type 0 where
+  pub few : length front < 4
+  pub bytes : AreBytes front
+  pub seen_is : feed.seen ≡ length front
+  pub number_is : feed.number ≡ number_so_far front
+
+-- The feed was fed these bytes: whole words, and the front of one more, or behind the head of a call any bytes.
+pub record StandsForCall (feed : CallFeed) (fed : List ℕ) : Type 0 where
+  pub numbers : List ℕ
+  pub front : List ℕ
+  pub fed_is : fed ≡ words numbers ++ front
+  pub fit : AreNumbers numbers
+  pub stage_is : feed.stage ≡ fold stage_after stages.Xid numbers
+  pub part : is_call (verdict_at feed.stage) ≡ false → HasPart feed front
+
+-- ---- calls and what follows their heads
+
+-- the bytes behind the head of a call
+abbrev pub behind_head : Verdict → List ℕ → List ℕ
+behind_head (verdicts.Call head place) bytes = drop place bytes
+behind_head verdicts.NoCall bytes = []
+behind_head (verdicts.RpcMismatch xid) bytes = []
+behind_head (verdicts.AuthError xid stat) bytes = []
+
+-- the arguments of a call as far as they have come; nothing where the bytes are no call yet, or none that is taken
+unfoldable pub arguments_of : List ℕ → List ℕ
+arguments_of bytes = behind_head (verdict bytes) bytes
+
+-- ---- what is said of the bytes that a feed was fed, and of more
+
+-- whether they are a call
+abbrev pub AreCall : CallFeed → Bool → Type 0
+AreCall feed answer = (fed : List ℕ) → StandsForCall feed fed → answer ≡ is_call (verdict fed)
+
+-- Behind more bytes this feed stands for all of them.
+abbrev pub StandsForMore : CallFeed → List ℕ → CallFeed → Type 0
+StandsForMore feed more behind = (fed : List ℕ) → StandsForCall feed fed → StandsForCall behind (fed ++ more)
+
+-- whether more bytes are arguments; where they are not, no arguments have come with them either
+abbrev pub AreArguments : CallFeed → List ℕ → Bool → Type 0
+AreArguments feed more answer =
+    (fed : List ℕ) → StandsForCall feed fed → arguments_of (fed ++ more) ≡ (if answer then arguments_of fed ++ more else [])
+
+-- ---- laws of calls
+
+-- the greatest head: six words, and a credential and a verifier of a flavor, a length word and 400 bytes (section 8.2)
+abbrev pub max_head : ℕ
+max_head = 840
+
+-- a call is the same call whatever follows it
+abbrev pub CallsStay : Type 0
+CallsStay =
+    (bytes more : List ℕ) → AreBytes bytes → (head : CallHead) (place : ℕ)
+    → verdict bytes ≡ verdicts.Call head place → verdict (bytes ++ more) ≡ verdicts.Call head place
+
+-- The head of a call ends at the place: with fewer bytes it is no call yet.
+pub record EndsAtThePlace (bytes : List ℕ) (place : ℕ) : Type 0 where
+  pub within : place ≤ length bytes
+  pub short : place ≤ max_head
+  pub from_there : (n : ℕ) → n ≤ length bytes → is_call (verdict (take n bytes)) ≡ not (nat_lt n place)
+
+abbrev pub HeadsEndAtThePlace : Type 0
+HeadsEndAtThePlace =
+    (bytes : List ℕ) → AreBytes bytes → (head : CallHead) (place : ℕ)
+    → verdict bytes ≡ verdicts.Call head place → EndsAtThePlace bytes place

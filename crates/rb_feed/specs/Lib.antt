@@ -1,0 +1,4 @@
+pub mod SysFields
+pub mod Stages
+pub mod Saved
+pub mod Feeds

@@ -1,0 +1,151 @@
+//! Calls that are read byte by byte, as their bytes come.
+
+use crate::saved::{stage_saved_as, stage_words};
+use crate::stage::Stage;
+use rb_rpc::Verdict;
+
+/// Reads a call byte by byte (RFC 5531 section 9). It keeps what decides of the head, and no bytes
+/// of bodies and arguments.
+#[derive(Clone, Copy, PartialEq, Eq, Debug)]
+pub struct CallFeed {
+    /// So many bytes of the next word have come, and they spell this number as far as they go.
+    seen: u8,
+    number: u32,
+    stage: Stage,
+}
+
+impl CallFeed {
+    ghost use Rattle.std.specs.Prelude.{◌≡◌, ℕ, true, [], ◌∷◌, List, length, IsTrue};
+    ghost use Rattle.rb_rpc.specs.Verdict.{verdict, EndsWithin};
+    ghost use Rattle.rb_feed.specs.Feeds.{StandsForCall, AreCall, StandsForMore, AreArguments, max_head};
+    ghost use Rattle.rb_feed.specs.Saved.{loaded};
+
+    /// Before the first byte.
+    pub fn new() -> CallFeed
+        ensures { StandsForCall result [] }
+    {
+        CallFeed {
+            seen: 0,
+            number: 0,
+            stage: Stage::Xid,
+        }
+    }
+
+    /// Whether the bytes so far are a call. Then all that follow are arguments, and need not be
+    /// fed: the feed stands for them as it is.
+    pub fn is_in_arguments(&self) -> bool
+        ensures call { AreCall self.now result }
+        ensures stays { IsTrue result → (more : List ℕ) → StandsForMore self.now more self.now }
+        ensures arguments { IsTrue result → (more : List ℕ) → AreArguments self.now more true }
+    {
+        self.stage.is_call()
+    }
+
+    /// Takes one byte, and says whether it is one of a call's arguments.
+    pub fn feed(&mut self, byte: u8) -> bool
+        ensures after { StandsForMore self.old (byte ∷ []) self.new }
+        ensures call { AreCall self.old result }
+        ensures arguments { AreArguments self.old (byte ∷ []) result }
+    {
+        if self.is_in_arguments() {
+            return true;
+        }
+        let number = self.number.wrapping_mul(256) + u32::from(byte);
+        if self.seen < 3 {
+            self.seen += 1;
+            self.number = number;
+        } else {
+            self.seen = 0;
+            self.number = 0;
+            self.stage = self.stage.after(number);
+        }
+        false
+    }
+
+    /// What the bytes so far are worth, as `read_call` says of them. The head of a call has at
+    /// most 840 bytes.
+    pub fn end(&self) -> Verdict
+        ensures verdict { (fed : List ℕ) → StandsForCall self.now fed → result ≡ verdict fed }
+        ensures within { (fed : List ℕ) → StandsForCall self.now fed
+            → EndsWithin result (length fed) }
+        ensures short { (fed : List ℕ) → StandsForCall self.now fed → EndsWithin result max_head }
+    {
+        self.stage.verdict()
+    }
+
+    /// All that it keeps, as words: `load` of them is this feed.
+    pub fn save(&self) -> [u32; 16]
+        ensures same { loaded result ≡ self.now }
+        ensures stands { (fed : List ℕ) → StandsForCall self.now fed
+            → StandsForCall (loaded result) fed }
+    {
+        let CallFeed {
+            seen,
+            number,
+            stage,
+        } = *self;
+        let [
+            kind,
+            xid,
+            prog,
+            vers,
+            proc,
+            flavor,
+            len,
+            left,
+            said,
+            uid,
+            more,
+        ] = stage_words(stage);
+        [
+            u32::from(seen),
+            number,
+            kind,
+            xid,
+            prog,
+            vers,
+            proc,
+            flavor,
+            len,
+            left,
+            said,
+            uid,
+            more,
+            0,
+            0,
+            0,
+        ]
+    }
+
+    /// The feed that was saved as these words; of other words some feed.
+    #[tactic(auto, unfolding(crate::specs::Saved::loaded))]
+    pub fn load(words: [u32; 16]) -> CallFeed
+        ensures { result ≡ loaded words }
+    {
+        let [
+            seen,
+            number,
+            kind,
+            xid,
+            prog,
+            vers,
+            proc,
+            flavor,
+            len,
+            left,
+            said,
+            uid,
+            more,
+            _,
+            _,
+            _,
+        ] = words;
+        CallFeed {
+            seen: (seen % 256) as u8,
+            number,
+            stage: stage_saved_as(&[
+                kind, xid, prog, vers, proc, flavor, len, left, said, uid, more,
+            ]),
+        }
+    }
+}

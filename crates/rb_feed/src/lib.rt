@@ -1,0 +1,13 @@
+//! The head of a call read byte by byte, as it comes over a connection (RFC 5531 section 9).
+#![tactic(auto)]
+
+mod feed;
+mod laws;
+mod saved;
+mod stage;
+mod sys;
+#[cfg(test)]
+mod tests;
+
+pub use feed::CallFeed;
+pub use laws::calls_stay_calls;

@@ -1,0 +1,116 @@
+//! The body of an AUTH_SYS credential word by word: authsys_parms of RFC 5531 appendix A.
+ghost use Rattle.std.specs.Prelude.{◌≡◌, ◌≤◌};
+ghost use Rattle.rb_xdr.specs.Xdr.{are_zero};
+ghost use Rattle.rb_feed.specs.SysFields.{ends_in_zeros, name_before, name_after, gids_before, field_after};
+
+/// Which field comes next, and what those before it say that matters.
+#[derive(Clone, Copy, PartialEq, Eq, Debug)]
+pub(crate) enum SysField {
+    Stamp,
+    /// The length word of machinename.
+    NameLength,
+    /// So many more bytes of machinename, and its residual bytes.
+    Name { left: u32 },
+    Uid,
+    Gid { uid: u32 },
+    /// The length word of gids.
+    GidCount { uid: u32 },
+    /// So many more gids.
+    Gids { uid: u32, left: u32 },
+    /// None: every field was read, and what follows them counts for nothing.
+    Whole { uid: u32 },
+    /// None: a field can't be read.
+    Unreadable,
+}
+
+/// The greatest machinename, in bytes.
+const MAX_MACHINE: u32 = 255;
+
+/// The most gids.
+const MAX_GIDS: u32 = 16;
+
+/// Whether the bytes of a word behind so many of them are zeros, as residual bytes are (RFC 4506
+/// section 3).
+#[tactic(auto, unfolding(crate::specs::SysFields::ends_in_zeros, rb_xdr::specs::Xdr::number))]
+pub(crate) fn ends_in_zeros(content: usize, word: u32) -> bool
+    requires { content ≤ 4 }
+    ensures { result ≡ ends_in_zeros content word }
+{
+    let bytes = word.to_be_bytes();
+    are_zero(&bytes[content..])
+}
+
+fn are_zero(bytes: &[u8]) -> bool
+    ensures { result ≡ are_zero bytes.now }
+{
+    bytes.iter().all(|byte| *byte == 0)
+}
+
+/// Behind the length word of machinename.
+#[tactic(auto, unfolding(crate::specs::SysFields::name_before))]
+fn name_before(len: u32) -> SysField
+    ensures { result ≡ name_before len }
+{
+    if len > MAX_MACHINE {
+        SysField::Unreadable
+    } else if len == 0 {
+        SysField::Uid
+    } else {
+        SysField::Name { left: len }
+    }
+}
+
+/// Before so many gids.
+#[tactic(auto, unfolding(crate::specs::SysFields::gids_before))]
+fn gids_before(uid: u32, left: u32) -> SysField
+    ensures { result ≡ gids_before uid left }
+{
+    if left == 0 {
+        SysField::Whole { uid }
+    } else {
+        SysField::Gids { uid, left }
+    }
+}
+
+/// Behind a word of machinename, of which so many bytes were to come.
+#[tactic(auto, unfolding(crate::specs::SysFields::name_after))]
+fn name_after(left: u32, word: u32) -> SysField
+    ensures { result ≡ name_after left word }
+{
+    if left > 4 {
+        SysField::Name { left: left - 4 }
+    } else if ends_in_zeros(left as usize, word) {
+        SysField::Uid
+    } else {
+        SysField::Unreadable
+    }
+}
+
+impl SysField {
+    ghost use Rattle.std.specs.Prelude.{◌≡◌};
+    ghost use Rattle.rb_feed.specs.SysFields.{field_after};
+
+    /// Behind one more word.
+    #[tactic(auto, unfolding(crate::specs::SysFields::field_after))]
+    pub(crate) fn after(self, word: u32) -> SysField
+        ensures { result ≡ field_after self word }
+    {
+        match self {
+            SysField::Stamp => SysField::NameLength,
+            SysField::NameLength => name_before(word),
+            SysField::Name { left } => name_after(left, word),
+            SysField::Uid => SysField::Gid { uid: word },
+            SysField::Gid { uid } => SysField::GidCount { uid },
+            SysField::GidCount { uid } => {
+                if word > MAX_GIDS {
+                    SysField::Unreadable
+                } else {
+                    gids_before(uid, word)
+                }
+            }
+            SysField::Gids { uid, left } => gids_before(uid, left.saturating_sub(1)),
+            SysField::Whole { uid } => SysField::Whole { uid },
+            SysField::Unreadable => SysField::Unreadable,
+        }
+    }
+}
