@@ -1,0 +1,6 @@
+pub mod Keys
+pub mod Items
+pub mod Entries
+pub mod Writing
+pub mod Sizes
+pub mod Histories

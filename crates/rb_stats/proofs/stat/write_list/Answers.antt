@@ -1,0 +1,26 @@
+use Rattle.std.proofs.Common.{length, get_or, None, true, false, ap, arith, length-append}
+use Rattle.rb_xdr.specs.Xdr.{boolean, listed}
+use Rattle.rb_xdr.specs.Kept.{Kept}
+use Rattle.rb_registry.specs.declared.row.Netid.TheVariants.{Tcp}
+use Rattle.rb_stats.specs.declared.key.Version.TheVariants.{Two}
+use Rattle.rb_stats.specs.declared.item.Item.{Item}
+use Rattle.rb_stats.specs.Statistics.{item_spelling}
+use Rattle.rb_stats.proofs.Writing.{behind_true, item_fits}
+use Rattle.rb_stats.proofs.stat.write_list.Goals as goal
+
+abbrev blank : Item
+blank = record { key = record { version = Two; target = record { prog = 0; vers = 0; netid = Tcp }; proc = None }; success = 0; failure = 0; indirect = 0 }
+
+pub write-requires-clause-room : goal.write-requires-clause-room
+unfolding listed
+write-requires-clause-room c =
+    let fits = item_fits (behind_true item_spelling) c.args.items.now c.loop-item.item-index c.args.out.now c.loop-item.out c.args.meter.now c.loop-item.meter c.loop-item.invariant blank c.loop-item-test.true (boolean false) c.requires.room in
+    omega (arith, fits, length-append (boolean true) (item_spelling (get_or c.args.items.now c.loop-item.item-index blank)))
+
+pub write-requires-in-loop-item-clause-room : goal.write-requires-in-loop-item-clause-room
+unfolding listed
+write-requires-in-loop-item-clause-room c =
+    let fits = item_fits (behind_true item_spelling) c.args.items.now c.loop-item.item-index c.args.out.now c.loop-item.out c.args.meter.now c.loop-item.meter c.loop-item.invariant blank c.loop-item-test.true (boolean false) c.requires.room in
+    let bytes = ap (λ (k : Kept). length k.bytes) c.write.ensures.written in
+    let cap = ap (λ (k : Kept). k.cap) c.write.ensures.written in
+    omega (arith, fits, bytes, cap, length-append c.loop-item.out.bytes (boolean true), length-append (boolean true) (item_spelling (get_or c.args.items.now c.loop-item.item-index blank)))

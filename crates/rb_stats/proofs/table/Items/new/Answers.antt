@@ -1,0 +1,6 @@
+use Rattle.std.proofs.Common.{length, sym, ap}
+use Rattle.rb_stats.proofs.Entries.{empty_table}
+use Rattle.rb_stats.proofs.table.Items.new.Goals as goal
+
+pub invariant_of-result : goal.invariant_of-result
+invariant_of-result c = (empty_table c.in_ok-new.field-0 c.in_ok-new.ensures.empty c.in_ok-new.ensures.cap, sym (ap (λ es. length es) c.in_ok-new.ensures.empty))

@@ -1,0 +1,6 @@
+pub mod Statistics
+pub mod Stats
+pub mod Table
+pub mod Lists
+pub mod Laws
+pub mod Worked

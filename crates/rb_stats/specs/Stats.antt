@@ -1,0 +1,36 @@
+-- What a contract sees of `Stats`, and what it stands for.
+use Rattle.std.specs.Prelude.{◌≡◌, ℕ, ◌+◌, List, ◌++◌, length}
+use Rattle.rb_stats.specs.declared.key.Version.{Version}
+use Rattle.rb_stats.specs.declared.key.Version.TheVariants.{Two, Three, Four}
+use Rattle.rb_stats.specs.Statistics.{Note, Stat, stat, stat_spelling}
+
+-- rpcb_stat of each version, the memory that the table of items holds (as of a `Pool`), and the number of the meter
+-- that counts the calls
+pub record Stats : Type 0 where
+  pub two : Stat
+  pub three : Stat
+  pub four : Stat
+  pub memory : ℕ × ℕ
+  pub tie : ℕ
+
+abbrev pub stat_at : Version → Stats → Stat
+stat_at Two kept = kept.two
+stat_at Three kept = kept.three
+stat_at Four kept = kept.four
+
+-- Statistics that keep this stand for these calls.
+pub record StandsForHistory (kept : Stats) (notes : List Note) : Type 0 where
+  pub two : kept.two ≡ stat Two notes
+  pub three : kept.three ≡ stat Three notes
+  pub four : kept.four ≡ stat Four notes
+
+unfoldable pub spelling : Stats → List ℕ
+spelling kept = stat_spelling kept.two ++ (stat_spelling kept.three ++ stat_spelling kept.four)
+
+-- the number of items of a version
+abbrev pub stat_len : Stat → ℕ
+stat_len s = length s.addrinfo + length s.rmtinfo
+
+-- the number of all keys
+abbrev pub key_count : Stats → ℕ
+key_count kept = stat_len kept.two + stat_len kept.three + stat_len kept.four

@@ -1,0 +1,94 @@
+//! An item of the statistics.
+ghost use Rattle.std.specs.Prelude.{◌≡◌, ◌+◌, ◌≤◌, ◌++◌, length};
+ghost use Rattle.rb_xdr.specs.Meter.{Pays};
+ghost use Rattle.rb_stats.specs.Statistics.{one_more, item_spelling};
+ghost use Rattle.rb_stats.specs.Table.{new_item, counted};
+
+use crate::key::{Key, Target, Version};
+use rb_registry::Netid;
+use rb_xdr::{Kept, Meter, Text, Xdr};
+
+/// The greatest number of type int (RFC 4506 section 4.1), at which counts stop.
+const GREATEST_INT: u32 = 0x7fff_ffff;
+
+/// Counts one more, as far as an int goes.
+pub(crate) fn count_one(number: &mut u32)
+    ensures { number.new ≡ one_more number.old }
+{
+    *number = number.saturating_add(1).min(GREATEST_INT);
+}
+
+/// A key with its numbers.
+#[derive(Clone, Copy)]
+pub(crate) struct Item {
+    pub key: Key,
+    pub success: u32,
+    pub failure: u32,
+    /// How many came by INDIRECT.
+    pub indirect: u32,
+}
+
+impl Item {
+    pub(crate) fn new(key: Key) -> Item
+        ensures { result ≡ new_item key }
+    {
+        Item {
+            key,
+            success: 0,
+            failure: 0,
+            indirect: 0,
+        }
+    }
+
+    /// Counts one more of the key, also at its INDIRECT calls where it is one.
+    pub(crate) fn count(&mut self, passed: bool, indirect: bool)
+        ensures { self.new ≡ counted passed indirect self.old }
+    {
+        if passed {
+            count_one(&mut self.success);
+        } else {
+            count_one(&mut self.failure);
+        }
+        if indirect {
+            count_one(&mut self.indirect);
+        }
+    }
+
+    /// Writes it as an item of addrinfo, or of rmtinfo where its key has a procedure.
+    #[tactic(auto, unfolding(crate::specs::Statistics::item_spelling))]
+    pub(crate) fn write(&self, out: &mut Kept, meter: &mut Meter)
+        requires tie { meter.old.tie ≡ out.old.tie }
+        requires room { length out.old.bytes + length (item_spelling self.now) ≤ out.old.cap }
+        ensures written { out.new
+            ≡ record out.old { bytes = out.old.bytes ++ item_spelling self.now } }
+        ensures cost { Pays meter.old meter.new (length (item_spelling self.now)) }
+    {
+        let Target { prog, vers, netid } = self.key.target;
+        let netid: Text<3> = Text::new(netid.text());
+        match self.key.proc {
+            None => {
+                (prog, (vers, (self.success, (self.failure, netid)))).write(out, meter);
+            }
+            Some(proc) => {
+                let numbers = (self.success, (self.failure, (self.indirect, netid)));
+                (prog, (vers, (proc, numbers))).write(out, meter);
+            }
+        }
+    }
+}
+
+/// Of no key: what fills a list's room.
+impl Default for Item {
+    fn default() -> Item {
+        let target = Target {
+            prog: 0,
+            vers: 0,
+            netid: Netid::Tcp,
+        };
+        Item::new(Key {
+            version: Version::Two,
+            target,
+            proc: None,
+        })
+    }
+}

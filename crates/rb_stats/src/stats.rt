@@ -1,0 +1,223 @@
+//! The statistics of a daemon.
+use crate::counts::Counts;
+use crate::key::{Key, Target, Version};
+use crate::stat::{AllLists, write_stat};
+use crate::table::Items;
+use rb_xdr::{Full, Kept, Meter, NoMemory};
+use std::alloc::Global;
+use std::marker::Model;
+
+/// What was called, by versions (RFC 1833 section 2.1, rpcb_stat_byvers): how often each procedure,
+/// how many SETs and UNSETs answered TRUE, which addresses were looked up, and where calls were
+/// forwarded to.
+///
+/// Each count stops at 2^31 - 1. Each of the two lists of a version has the first 32 keys; later ones
+/// are in no count. `new` takes the memory for all 192.
+#[derive(Drop)]
+pub struct Stats {
+    two: Counts,
+    three: Counts,
+    four: Counts,
+    items: Items,
+}
+
+impl Model for Stats {
+    ghost use Rattle.rb_stats.specs.declared.key.Version.TheVariants.{Two, Three, Four};
+    ghost use Rattle.rb_stats.specs.Stats.{Stats as Contents};
+    ghost use Rattle.rb_stats.specs.Table.{stat_in, HasProcedures};
+
+    ghost Value = { Contents };
+
+    ghost view = { λ s. record {
+      two = stat_in Two s.two s.items.all;
+      three = stat_in Three s.three s.items.all;
+      four = stat_in Four s.four s.items.all;
+      memory = s.items.memory;
+      tie = s.items.tie;
+    } };
+
+    ghost invariant = { λ s. HasProcedures s.two × HasProcedures s.three × HasProcedures s.four };
+}
+
+impl Stats {
+    ghost use Rattle.std.specs.Prelude.{◌≡◌, ◌≤◌, ◌+◌, ◌-◌, ◌*◌, ◌++◌, ◌∷◌, [], ◌↔◌, length, slice_index, List, IfOk, IsOk, OnOk, OnErr};
+    ghost use Rattle.rb_xdr.specs.Meter.{Pays, PaysAtMost};
+    ghost use Rattle.rb_stats.specs.Lists.{AreListsOf, lists_size};
+    ghost use Rattle.rb_stats.specs.Statistics.{Note, statistics, greatest_int};
+    ghost use Rattle.rb_stats.specs.Statistics.Note.{Called, WasSet, WasUnset, LookedUp, Forwarded};
+    ghost use Rattle.rb_stats.specs.Stats.{StandsForHistory, spelling, key_count, stat_at};
+
+    /// Nothing was called. NoMemory where the memory for the keys is refused.
+    pub fn new(alloc: Global, meter: &mut Meter) -> Result<Stats, NoMemory>
+        ensures made { IfOk result (λ made. StandsForHistory made []) }
+        ensures tie { IfOk result (λ made. made.tie ≡ meter.old.tie) }
+        ensures free { meter.new ≡ meter.old }
+    {
+        Ok(Stats {
+            two: Counts::new(),
+            three: Counts::new(),
+            four: Counts::new(),
+            items: Items::new(alloc, meter)?,
+        })
+    }
+
+    /// Notes a call of a procedure of the version, whatever its arguments.
+    ///
+    /// A procedure above 12 is in no count; a count of 2^31 - 1 stays.
+    pub fn note_call(&mut self, version: Version, proc: u32)
+        ensures history { (notes : List Note) → StandsForHistory self.old notes
+            → StandsForHistory self.new (notes ++ Called version proc ∷ []) }
+        ensures full { slice_index (stat_at version self.old).info proc ≡ greatest_int
+            → self.new ≡ self.old }
+        ensures memory { self.new.memory ≡ self.old.memory }
+        ensures tie { self.new.tie ≡ self.old.tie }
+    {
+        match version {
+            Version::Two => self.two.count_call(proc),
+            Version::Three => self.three.count_call(proc),
+            Version::Four => self.four.count_call(proc),
+        }
+    }
+
+    /// Notes a SET of the version that answered TRUE.
+    pub fn note_set(&mut self, version: Version)
+        ensures history { (notes : List Note) → StandsForHistory self.old notes
+            → StandsForHistory self.new (notes ++ WasSet version ∷ []) }
+        ensures memory { self.new.memory ≡ self.old.memory }
+        ensures tie { self.new.tie ≡ self.old.tie }
+    {
+        match version {
+            Version::Two => self.two.count_set(),
+            Version::Three => self.three.count_set(),
+            Version::Four => self.four.count_set(),
+        }
+    }
+
+    /// Notes an UNSET of the version that answered TRUE.
+    pub fn note_unset(&mut self, version: Version)
+        ensures history { (notes : List Note) → StandsForHistory self.old notes
+            → StandsForHistory self.new (notes ++ WasUnset version ∷ []) }
+        ensures memory { self.new.memory ≡ self.old.memory }
+        ensures tie { self.new.tie ≡ self.old.tie }
+    {
+        match version {
+            Version::Two => self.two.count_unset(),
+            Version::Three => self.three.count_unset(),
+            Version::Four => self.four.count_unset(),
+        }
+    }
+
+    /// Notes a GETPORT, GETADDR or GETVERSADDR of the version: what it asked for, and whether a row
+    /// was found.
+    ///
+    /// It costs at most 2 steps for each key and 2.
+    pub fn note_addr(&mut self, version: Version, target: Target, found: bool, meter: &mut Meter)
+        requires { meter.old.tie ≡ self.old.tie }
+        ensures history { (notes : List Note) → StandsForHistory self.old notes
+            → StandsForHistory self.new (notes ++ LookedUp version target found ∷ []) }
+        ensures memory { self.new.memory ≡ self.old.memory }
+        ensures tie { self.new.tie ≡ self.old.tie }
+        ensures cost { PaysAtMost meter.old meter.new (2 * key_count self.old + 2) }
+    {
+        let key = Key {
+            version,
+            target,
+            proc: None,
+        };
+        self.items.count(key, found, false, meter);
+    }
+
+    /// Notes a forwarding call of the version at its outcome: the procedure that it called there,
+    /// whether it passed, and whether it came by INDIRECT.
+    ///
+    /// It costs at most 2 steps for each key and 2.
+    pub fn note_remote(
+        &mut self,
+        version: Version,
+        target: Target,
+        proc: u32,
+        passed: bool,
+        indirect: bool,
+        meter: &mut Meter,
+    )
+        requires { meter.old.tie ≡ self.old.tie }
+        ensures history { (notes : List Note) → StandsForHistory self.old notes
+            → StandsForHistory self.new
+            (notes ++ Forwarded version target proc passed indirect ∷ []) }
+        ensures memory { self.new.memory ≡ self.old.memory }
+        ensures tie { self.new.tie ≡ self.old.tie }
+        ensures cost { PaysAtMost meter.old meter.new (2 * key_count self.old + 2) }
+    {
+        let key = Key {
+            version,
+            target,
+            proc: Some(proc),
+        };
+        self.items.count(key, passed, indirect, meter);
+    }
+
+    /// Puts the statistics of versions 2, 3 and 4 behind what the buffer has (RFC 1833 section
+    /// 2.2.2, RPCBPROC_GETSTAT).
+    ///
+    /// They are refused where the buffer would then have more than `limit` bytes, and nothing is
+    /// put. It costs at most 6 steps for each key, the number of bytes put, and 4.
+    pub fn put(&self, limit: usize, out: &mut Kept, meter: &mut Meter) -> Result<(), Full>
+        requires tie { meter.old.tie ≡ self.now.tie }
+        requires out { meter.old.tie ≡ out.old.tie }
+        requires limit { limit ≤ out.old.cap }
+        ensures history { (notes : List Note) → StandsForHistory self.now notes
+            → spelling self.now ≡ statistics notes }
+        ensures room { IsOk result ↔
+            (length out.old.bytes + length (spelling self.now) ≤ limit) }
+        ensures ok { OnOk result (out.new
+            ≡ record out.old { bytes = out.old.bytes ++ spelling self.now }) }
+        ensures err { OnErr result (out.new ≡ out.old) }
+        ensures within { length out.old.bytes ≤ limit → length out.new.bytes ≤ limit }
+        ensures cap { out.new.cap ≡ out.old.cap }
+        ensures tie { out.new.tie ≡ out.old.tie }
+        ensures cost { PaysAtMost meter.old meter.new
+            (6 * key_count self.now + (length out.new.bytes - length out.old.bytes) + 4) }
+    {
+        let lists = self.lists(meter);
+        if limit.saturating_sub(out.len(meter)) < lists.size() {
+            return Err(Full { value: () });
+        }
+        self.write(&lists, out, meter);
+        Ok(())
+    }
+
+    fn lists(&self, meter: &mut Meter) -> AllLists
+        requires { meter.old.tie ≡ self.now.tie }
+        ensures lists { AreListsOf self.now result }
+        ensures size { length (spelling self.now) ≡ lists_size result }
+        ensures cost { PaysAtMost meter.old meter.new (6 * key_count self.now + 3) }
+    {
+        AllLists {
+            two: self.items.lists(Version::Two, meter),
+            three: self.items.lists(Version::Three, meter),
+            four: self.items.lists(Version::Four, meter),
+        }
+    }
+
+    #[tactic(auto, unfolding(crate::specs::Stats::spelling))]
+    fn write(&self, lists: &AllLists, out: &mut Kept, meter: &mut Meter)
+        requires tie { meter.old.tie ≡ out.old.tie }
+        requires lists { AreListsOf self.now lists.now }
+        requires room { length out.old.bytes + length (spelling self.now) ≤ out.old.cap }
+        ensures written { out.new
+            ≡ record out.old { bytes = out.old.bytes ++ spelling self.now } }
+        ensures cost { Pays meter.old meter.new (length (spelling self.now)) }
+    {
+        write_stat(&self.two, &lists.two, out, meter);
+        write_stat(&self.three, &lists.three, out, meter);
+        write_stat(&self.four, &lists.four, out, meter);
+    }
+
+    /// The bytes that are held: 48 for each key, at most 9,216.
+    pub fn held(&self) -> u64
+        ensures held { result ≡ 48 * key_count self.now }
+        ensures within { result ≤ 48 * 192 }
+    {
+        48 * self.items.len()
+    }
+}

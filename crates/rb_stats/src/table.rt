@@ -1,0 +1,178 @@
+//! The table of items.
+ghost use Rattle.std.specs.Prelude.{◌≡◌, ◌+◌, ◌*◌, ◌<◌, ◌≤◌, ◌++◌, [], ◌∷◌, length, find, map, MatchResult, IfOk, List, Some, None};
+ghost use Rattle.std.specs.Map.{values_of};
+ghost use Rattle.std.specs.Option.{option_map};
+ghost use Rattle.rb_xdr.specs.Meter.{Pays, PaysAtMost};
+ghost use Rattle.rb_xdr.specs.Pool.{HasDistinctKeys};
+ghost use Rattle.rb_xdr.specs.Places.{to_come};
+ghost use Rattle.rb_stats.specs.Statistics.{info_of, greatest_list};
+ghost use Rattle.rb_stats.specs.Table.{items_in, is_item, IsTable, after_count, counted, new_item};
+
+use crate::item::Item;
+use crate::key::{Key, Version};
+use crate::stat::{GREATEST_LIST, Lists, lists_of};
+use rb_xdr::{Meter, NoMemory, Pool};
+use std::alloc::Global;
+use std::marker::Model;
+
+/// Two lists of each of three versions.
+const GREATEST_TABLE: usize = 192;
+
+/// The place of the key's item, or, where there is none, how many items its list has.
+#[tactic(auto, unfolding(crate::specs::Table::items_in))]
+fn place_of(items: &Pool<Item>, key: Key, meter: &mut Meter) -> Result<usize, usize>
+    requires tie { meter.old.tie ≡ items.now.tie }
+    requires distinct { HasDistinctKeys items.now.entries }
+    requires few { length
+        (items_in key.version (info_of key.proc) (values_of items.now.entries)) ≤ greatest_list }
+    ensures found { MatchResult result
+        (λ place. option_map (λ e. e.0) (find (λ e. is_item key e.1) items.now.entries)
+        ≡ Some place)
+        (λ count. (find (λ e. is_item key e.1) items.now.entries ≡ None)
+        × (count ≡ length
+        (items_in key.version (info_of key.proc) (values_of items.now.entries)))) }
+    ensures cost { PaysAtMost meter.old meter.new (2 * length items.now.entries + 1) }
+{
+    let info = key.info();
+    let mut count = 0;
+    let mut place = None;
+    'items: while let Some((next, item)) = items.entry_after(place, meter) {
+        if item.key.is(key) {
+            return Ok(next);
+        }
+        if item.key.is_in(key.version, info) {
+            count += 1;
+        }
+        place = Some(next);
+    }
+    Err(count)
+}
+
+/// Counts one more at the place of the key's item.
+fn count_at(
+    items: &mut Pool<Item>,
+    place: usize,
+    key: Key,
+    passed: bool,
+    indirect: bool,
+    meter: &mut Meter,
+)
+    requires tie { meter.old.tie ≡ items.old.tie }
+    requires table { IsTable items.old }
+    requires found { option_map (λ e. e.0) (find (λ e. is_item key e.1) items.old.entries)
+        ≡ Some place }
+    ensures items { values_of items.new.entries
+        ≡ map (after_count (record { key = key; passed = passed; indirect = indirect }))
+        (values_of items.old.entries) }
+    ensures table { IsTable items.new }
+    ensures memory { items.new.memory ≡ items.old.memory }
+    ensures tie { items.new.tie ≡ items.old.tie }
+    ensures cost { Pays meter.old meter.new 1 }
+{
+    let Some(item) = items.get_mut(place, meter) else {
+        unreachable!()
+    };
+    item.count(passed, indirect);
+}
+
+/// Adds the first item of a key behind the others, with one count.
+fn add_item(items: &mut Pool<Item>, key: Key, passed: bool, indirect: bool, meter: &mut Meter)
+    requires tie { meter.old.tie ≡ items.old.tie }
+    requires table { IsTable items.old }
+    requires missing { find (λ e. is_item key e.1) items.old.entries ≡ None }
+    requires room { length (items_in key.version (info_of key.proc)
+        (values_of items.old.entries)) < greatest_list }
+    ensures items { values_of items.new.entries
+        ≡ values_of items.old.entries ++ counted passed indirect (new_item key) ∷ [] }
+    ensures table { IsTable items.new }
+    ensures memory { items.new.memory ≡ items.old.memory }
+    ensures tie { items.new.tie ≡ items.old.tie }
+    ensures cost { Pays meter.old meter.new 1 }
+{
+    let mut item = Item::new(key);
+    item.count(passed, indirect);
+    let Ok(_) = items.insert(item, meter) else {
+        unreachable!()
+    };
+}
+
+/// The items of every list, in the order of their keys' first counts.
+#[derive(Drop)]
+pub(crate) struct Items {
+    items: Pool<Item>,
+    len: u64,
+}
+
+impl Model for Items {
+    ghost use Rattle.std.specs.Prelude.{◌≡◌, length};
+    ghost use Rattle.std.specs.Map.{values_of};
+    ghost use Rattle.rb_stats.specs.Table.{Table, IsTable};
+
+    ghost Value = { Table };
+
+    ghost view = { λ t. record {
+      all = values_of t.items.entries;
+      memory = t.items.memory;
+      tie = t.items.tie;
+    } };
+
+    ghost invariant = { λ t. IsTable t.items × (t.len ≡ length t.items.entries) };
+}
+
+impl Items {
+    ghost use Rattle.std.specs.Prelude.{◌≡◌, ◌≤◌, ◌+◌, ◌*◌, ◌++◌, ◌∷◌, [], length, List, IfOk};
+    ghost use Rattle.rb_xdr.specs.Meter.{PaysAtMost};
+    ghost use Rattle.rb_stats.specs.Statistics.{Count};
+    ghost use Rattle.rb_stats.specs.Table.{Holds, items_in};
+    ghost use Rattle.rb_stats.specs.declared.key.Info.TheVariants.{Addr, Rmt};
+
+    /// No items yet. The memory for all that there may be is taken.
+    pub(crate) fn new(alloc: Global, meter: &mut Meter) -> Result<Items, NoMemory>
+        ensures empty { IfOk result (λ t. t.all ≡ []) }
+        ensures tie { IfOk result (λ t. t.tie ≡ meter.old.tie) }
+        ensures free { meter.new ≡ meter.old }
+    {
+        Ok(Items {
+            items: Pool::new(alloc, GREATEST_TABLE, meter)?,
+            len: 0,
+        })
+    }
+
+    /// How many there are.
+    pub(crate) fn len(&self) -> u64
+        ensures len { result ≡ length self.now.all }
+        ensures within { result ≤ 192 }
+    {
+        self.len
+    }
+
+    /// The items of a version.
+    pub(crate) fn lists(&self, version: Version, meter: &mut Meter) -> Lists
+        requires { meter.old.tie ≡ self.now.tie }
+        ensures addrinfo { result.addrinfo.items ≡ items_in version Addr self.now.all }
+        ensures rmtinfo { result.rmtinfo.items ≡ items_in version Rmt self.now.all }
+        ensures cost { PaysAtMost meter.old meter.new (2 * length self.now.all + 1) }
+    {
+        lists_of(&self.items, version, meter)
+    }
+
+    /// Counts one more of the key: at its item, or at a new one where its list has room for it.
+    pub(crate) fn count(&mut self, key: Key, passed: bool, indirect: bool, meter: &mut Meter)
+        requires { meter.old.tie ≡ self.old.tie }
+        ensures holds { (counts : List Count) → Holds self.old.all counts
+            → Holds self.new.all
+            (counts ++ record { key = key; passed = passed; indirect = indirect } ∷ []) }
+        ensures memory { self.new.memory ≡ self.old.memory }
+        ensures tie { self.new.tie ≡ self.old.tie }
+        ensures cost { PaysAtMost meter.old meter.new (2 * length self.old.all + 2) }
+    {
+        match place_of(&self.items, key, meter) {
+            Ok(place) => count_at(&mut self.items, place, key, passed, indirect, meter),
+            Err(count) if count < GREATEST_LIST => {
+                add_item(&mut self.items, key, passed, indirect, meter);
+                self.len += 1;
+            }
+            Err(_) => {}
+        }
+    }
+}

@@ -1,0 +1,46 @@
+use crate::{Stats, Target, Version};
+use rb_registry::Netid;
+use rb_xdr::{Kept, Meter};
+use std::test::Fail;
+
+const TARGET: Target = Target {
+    prog: 200_001,
+    vers: 1,
+    netid: Netid::Tcp,
+};
+
+// A call of procedure 1 and a SET in version 2, an UNSET in version 4, a look-up that found its row
+// in version 2, and a call of procedure 0 by INDIRECT in version 4 that failed (RFC 1833 section 2.1).
+const NOTED: &[u8] = b"\
+    \0\0\0\0\0\0\0\x01\0\0\0\0\0\0\0\0\0\0\0\0\0\0\0\0\0\0\0\0\
+    \0\0\0\0\0\0\0\0\0\0\0\0\0\0\0\0\0\0\0\0\0\0\0\0\
+    \0\0\0\x01\0\0\0\0\
+    \0\0\0\x01\0\x03\x0d\x41\0\0\0\x01\0\0\0\x01\0\0\0\0\0\0\0\x03\x74\x63\x70\0\0\0\0\0\
+    \0\0\0\0\
+    \0\0\0\0\0\0\0\0\0\0\0\0\0\0\0\0\0\0\0\0\0\0\0\0\0\0\0\0\
+    \0\0\0\0\0\0\0\0\0\0\0\0\0\0\0\0\0\0\0\0\0\0\0\0\
+    \0\0\0\0\0\0\0\0\0\0\0\0\0\0\0\0\
+    \0\0\0\0\0\0\0\0\0\0\0\0\0\0\0\0\0\0\0\0\0\0\0\0\0\0\0\0\
+    \0\0\0\0\0\0\0\0\0\0\0\0\0\0\0\0\0\0\0\0\0\0\0\0\
+    \0\0\0\0\0\0\0\x01\
+    \0\0\0\0\
+    \0\0\0\x01\0\x03\x0d\x41\0\0\0\x01\0\0\0\0\
+    \0\0\0\0\0\0\0\x01\0\0\0\x01\0\0\0\x03\x74\x63\x70\0\0\0\0\0";
+
+#[test]
+fn stats_has_memory(rt: HostRuntime) -> Result<(), Fail> {
+    let mut meter = Meter::new();
+    let mut stats = Stats::new(rt.alloc(), &mut meter)?;
+    let mut out = Kept::new(rt.alloc(), 1000, &mut meter)?;
+    stats.note_call(Version::Two, 1);
+    stats.note_set(Version::Two);
+    stats.note_unset(Version::Four);
+    stats.note_addr(Version::Two, TARGET, true, &mut meter);
+    stats.note_remote(Version::Four, TARGET, 0, false, true, &mut meter);
+    assert_eq!(rt; stats.held(), 96);
+    assert!(rt; stats.put(267, &mut out, &mut meter).is_err());
+    assert!(rt; stats.put(268, &mut out, &mut meter).is_ok());
+    let len = out.len(&mut meter);
+    assert_eq!(rt; out.lend(0..len, &mut meter), NOTED);
+    Ok(())
+}
