@@ -1,0 +1,7 @@
+pub mod Costs
+pub mod Ends
+pub mod Forwards
+pub mod Laws
+pub mod Outcomes
+pub mod Table
+pub mod Worked

@@ -1,0 +1,146 @@
+-- What the slots of entries hold, and the entries that they stand for.
+use Rattle.std.specs.Prelude.{◌≡◌, ℕ, ◌+◌, ◌^◌, ◌≤◌, ◌<◌, ◌==◌, nat_le, nat_lt, not, Bool, false, ◌&&◌, List, [], ◌∷◌, Option, Some, None, find, length, All, ⊤}
+use Rattle.std.specs.List.{AllZip, list_any, sum_by}
+use Rattle.std.specs.Map.{values_of}
+use Rattle.rb_xdr.specs.Kept.{Kept}
+use Rattle.rb_xdr.specs.Pool.{Pool, HasDistinctKeys}
+use Rattle.rb_rpc.specs.declared.peer.Caller.{Caller}
+use Rattle.rb_rpc.specs.declared.peer.Caller.TheVariants.{Tcp, Udp}
+use Rattle.rb_forward.specs.declared.types.Unsent.{Unsent as Lent}
+use Rattle.rb_forward.specs.declared.types.Outcome.{Outcome}
+use Rattle.rb_forward.specs.declared.types.Ended.{Ended}
+use Rattle.rb_forward.specs.declared.entries.Slot.{Slot}
+use Rattle.rb_forward.specs.declared.entries.Wanted.{Wanted}
+use Rattle.rb_forward.specs.declared.entries.Wanted.TheVariants as wanted
+use Rattle.rb_forward.specs.Forwards.{Entry, Forwards, Unsent, with_end, xid_of, held_call, is_same_peer, is_answered, is_due, is_connection, is_of_connection, is_unsent}
+
+unfoldable pub longest_arguments : ℕ
+longest_arguments = 8800
+
+-- the longest unsent call: a head of 40 bytes and the arguments
+abbrev pub longest_call : ℕ
+longest_call = 40 + longest_arguments
+
+pub record StandsForEntry (first_xid : ℕ) (slot : Slot) (e : Entry) : Type 0 where
+  pub number : slot.number ≡ e.number
+  pub forward : slot.forward ≡ e.forward
+  pub xid : slot.xid ≡ xid_of first_xid e.number
+  pub deadline : slot.deadline ≡ e.deadline
+  pub sent : slot.sent ≡ e.sent
+  pub call : slot.call.bytes ≡ held_call first_xid e
+
+-- ---- the table
+
+-- the slots of entries with their keys, in the order of their calls, how many numbers were given, the xid of the first
+-- entry, how many entries there may be, and the number of the meter that counts the calls
+pub record Table : Type 0 where
+  pub slots : List (ℕ × Slot)
+  pub given : ℕ
+  pub first_xid : ℕ
+  pub cap : ℕ
+  pub tie : ℕ
+
+pub record StandsForForwards (table : Table) (f : Forwards) : Type 0 where
+  pub all : AllZip (StandsForEntry table.first_xid) (values_of table.slots) f.all
+  pub next : f.next ≡ table.given + 1
+
+-- what the old table stands for becomes, by this change, what the new one stands for
+abbrev pub Becomes : Table → Table → (Forwards → Forwards) → Type 0
+Becomes old new change = (f : Forwards) → StandsForForwards old f → StandsForForwards new (change f)
+
+-- ---- what is looked for
+
+unfoldable pub is_wanted_slot : Wanted → Slot → Bool
+is_wanted_slot wanted.AnyUnsent slot = not slot.sent
+is_wanted_slot (wanted.Unsent number) slot = slot.number == number && not slot.sent
+is_wanted_slot (wanted.Answered xid from clock) slot =
+    slot.sent && is_same_peer slot.forward.target from && slot.xid == xid && nat_lt clock slot.deadline
+is_wanted_slot (wanted.Due clock) slot = nat_le slot.deadline clock
+is_wanted_slot (wanted.OfConnection id) slot = is_connection id slot.forward.caller
+
+unfoldable pub is_wanted : ℕ → Wanted → Entry → Bool
+is_wanted first_xid wanted.AnyUnsent e = not e.sent
+is_wanted first_xid (wanted.Unsent number) e = is_unsent number e
+is_wanted first_xid (wanted.Answered xid from clock) e = is_answered first_xid clock from xid e
+is_wanted first_xid (wanted.Due clock) e = is_due clock e
+is_wanted first_xid (wanted.OfConnection id) e = is_of_connection id e
+
+-- the first entry that is wanted ends so
+abbrev pub end_of : ℕ → Wanted → Outcome → Forwards → Option Ended × Forwards
+end_of first_xid sought outcome f = with_end (is_wanted first_xid sought) outcome f
+
+-- the key and the slot of the first entry that is wanted
+unfoldable pub wanted_slot : Wanted → List (ℕ × Slot) → Option (ℕ × Slot)
+wanted_slot sought slots = find (λ (e : ℕ × Slot). is_wanted_slot sought e.1) slots
+
+-- ---- what is lent
+
+-- without where its bytes lie in memory
+abbrev pub seen : Option Lent → Option Unsent
+seen None = None
+seen (Some lent) = Some (record { number = lent.id.number; target = lent.target; call = lent.call.now })
+
+-- how many bytes are lent
+abbrev pub count_lent : Option Lent → ℕ
+count_lent None = 0
+count_lent (Some lent) = length lent.call.now
+
+-- ---- callers
+
+-- one of the slots is of this connection
+abbrev pub is_waiting : ℕ → List Slot → Bool
+is_waiting id slots = list_any (λ (slot : Slot). is_connection id slot.forward.caller) slots
+
+-- none of the slots is of the connection of this caller, if it has one
+abbrev pub IsNew : Caller → List Slot → Type 0
+IsNew (Tcp id peer) slots = is_waiting id slots ≡ false
+IsNew (Udp peer) slots = ⊤
+
+-- each connection of which one is now had one before
+abbrev pub NoneWaitsAnew : List Slot → List Slot → Type 0
+NoneWaitsAnew before now = (id : ℕ) → is_waiting id before ≡ false → is_waiting id now ≡ false
+
+-- or it is that of this caller
+abbrev pub OnlyWaitsAnew : Caller → List Slot → List Slot → Type 0
+OnlyWaitsAnew caller before now =
+    (id : ℕ) → is_connection id caller ≡ false → is_waiting id before ≡ false → is_waiting id now ≡ false
+
+-- no two slots are of one connection
+abbrev pub AreOfDistinctCallers : List Slot → Type 0
+AreOfDistinctCallers [] = ⊤
+AreOfDistinctCallers (slot ∷ rest) = IsNew slot.forward.caller rest × AreOfDistinctCallers rest
+
+-- ---- buffers
+
+-- a buffer for an unsent call, made with this meter
+pub record IsBuffer (meter : ℕ) (buffer : Kept) : Type 0 where
+  pub tie : buffer.tie ≡ meter
+  pub cap : buffer.cap ≡ longest_call
+  pub within : length buffer.bytes ≤ longest_call
+
+pub record IsSpare (meter : ℕ) (buffer : Kept) : Type 0 where
+  pub tie : buffer.tie ≡ meter
+  pub cap : buffer.cap ≡ longest_call
+  pub empty : buffer.bytes ≡ []
+
+abbrev pub HasBuffer : ℕ → Slot → Type 0
+HasBuffer meter slot = IsBuffer meter slot.call
+
+-- the bytes of a slot count, and 128 for its fixed part
+abbrev pub held_in : List Slot → ℕ
+held_in slots = sum_by (λ (slot : Slot). 128 + length slot.call.bytes) slots
+
+-- What is true of all that is kept of entries: there are as many buffers as there may be entries, and each that no entry has
+-- is spare.
+pub record IsTable (slots : Pool Slot) (spare : Pool Kept) (cap held : ℕ) : Type 0 where
+  pub distinct : HasDistinctKeys slots.entries
+  pub spare_distinct : HasDistinctKeys spare.entries
+  pub few : cap < 2 ^ 32
+  pub room : length slots.entries + length spare.entries ≡ cap
+  pub slots_cap : slots.cap ≡ cap
+  pub spare_cap : spare.cap ≡ cap
+  pub tie : spare.tie ≡ slots.tie
+  pub buffers : All (HasBuffer slots.tie) (values_of slots.entries)
+  pub spare_buffers : All (IsSpare slots.tie) (values_of spare.entries)
+  pub callers : AreOfDistinctCallers (values_of slots.entries)
+  pub is_held : held ≡ held_in (values_of slots.entries)

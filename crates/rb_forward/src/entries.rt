@@ -1,0 +1,119 @@
+//! What is kept of entries, in the order of their calls.
+ghost use Rattle.std.specs.Prelude.{◌≡◌, ◌≤◌, ◌<◌, ◌+◌, ◌∷◌, [], ◌++◌, length};
+ghost use Rattle.std.specs.Option.{option_map};
+ghost use Rattle.std.specs.Map.{values_of};
+ghost use Rattle.rb_xdr.specs.Meter.{PaysAtMost};
+ghost use Rattle.rb_xdr.specs.Pool.{HasDistinctKeys};
+ghost use Rattle.rb_xdr.specs.Places.{to_come};
+ghost use Rattle.rb_forward.specs.Costs.{find_cost};
+ghost use Rattle.rb_forward.specs.Table.{is_wanted_slot, wanted_slot};
+
+use crate::types::Forward;
+use rb_rpc::{Caller, Peer};
+use rb_xdr::{Kept, Meter, Pool};
+
+/// What is kept of an entry.
+#[derive(Drop)]
+pub struct Slot {
+    pub number: u64,
+    pub forward: Forward,
+    /// The xid of the call to the target.
+    pub xid: u32,
+    /// The moment at which the entry ends at the latest, in milliseconds.
+    pub deadline: u64,
+    pub sent: bool,
+    /// The call's bytes until it is sent, and then none.
+    pub call: Kept,
+}
+
+/// Which entry is looked for: the first of these.
+#[derive(Clone, Copy, Debug, PartialEq, Eq)]
+pub enum Wanted {
+    /// Those that were not sent.
+    AnyUnsent,
+    /// Those of this number that were not sent.
+    Unsent(u64),
+    /// Those that were sent and that a reply of this xid from there answers at this moment.
+    Answered(u32, Peer, u64),
+    /// Those whose deadline has come at this moment.
+    Due(u64),
+    /// Those whose caller is this connection.
+    OfConnection(u64),
+}
+
+impl Slot {
+    ghost use Rattle.std.specs.Prelude.{◌≡◌};
+    ghost use Rattle.rb_forward.specs.Forwards.{is_same_peer, is_connection};
+    ghost use Rattle.rb_forward.specs.Table.{is_wanted_slot};
+
+    #[tactic(auto, unfolding(crate::specs::Table::is_wanted_slot, crate::specs::Forwards::is_same_peer))]
+    fn is_wanted(&self, wanted: Wanted) -> bool
+        ensures { result ≡ is_wanted_slot wanted self.now }
+    {
+        match wanted {
+            Wanted::AnyUnsent => !self.sent,
+            Wanted::Unsent(number) => self.number == number && !self.sent,
+            Wanted::Answered(xid, from, clock) => {
+                self.sent && self.forward.target == from && self.xid == xid && clock < self.deadline
+            }
+            Wanted::Due(clock) => self.deadline <= clock,
+            Wanted::OfConnection(id) => match self.forward.caller {
+                Caller::Tcp(number, _) => number == id,
+                Caller::Udp(_) => false,
+            },
+        }
+    }
+}
+
+impl Slot {
+    ghost use Rattle.std.specs.Prelude.{true};
+
+    /// Notes that the call was sent, and empties its buffer, which had so many bytes.
+    pub(crate) fn empty(&mut self, meter: &mut Meter) -> usize
+        requires { meter.old.tie ≡ self.old.call.tie }
+        ensures count { result ≡ length self.old.call.bytes }
+        ensures sent { self.new
+            ≡ record self.old { sent = true; call = record self.old.call { bytes = [] } } }
+        ensures cost { PaysAtMost meter.old meter.new 2 }
+    {
+        let count = self.call.len(meter);
+        self.call.clear(meter);
+        self.sent = true;
+        count
+    }
+}
+
+/// The key of the first slot that is wanted.
+#[tactic(auto, unfolding(crate::specs::Table::wanted_slot))]
+pub(crate) fn wanted_key(slots: &Pool<Slot>, wanted: Wanted, meter: &mut Meter) -> Option<usize>
+    requires tie { meter.old.tie ≡ slots.now.tie }
+    requires distinct { HasDistinctKeys slots.now.entries }
+    ensures key { result ≡ option_map (λ e. e.0) (wanted_slot wanted slots.now.entries) }
+    ensures cost { PaysAtMost meter.old meter.new (find_cost (length slots.now.entries)) }
+{
+    let mut place = None;
+    'slots: while let Some((key, slot)) = slots.entry_after(place, meter) {
+        if slot.is_wanted(wanted) {
+            return Some(key);
+        }
+        place = Some(key);
+    }
+    None
+}
+
+/// Adds a slot behind the others.
+pub(crate) fn put_slot(slots: &mut Pool<Slot>, slot: Slot, meter: &mut Meter)
+    requires tie { meter.old.tie ≡ slots.old.tie }
+    requires room { length slots.old.entries < slots.old.cap }
+    requires distinct { HasDistinctKeys slots.old.entries }
+    ensures last { values_of slots.new.entries ≡ values_of slots.old.entries ++ slot ∷ [] }
+    ensures more { length slots.new.entries ≡ length slots.old.entries + 1 }
+    ensures distinct { HasDistinctKeys slots.new.entries }
+    ensures cap { slots.new.cap ≡ slots.old.cap }
+    ensures tie { slots.new.tie ≡ slots.old.tie }
+    ensures cost { PaysAtMost meter.old meter.new 1 }
+{
+    let Ok(_) = slots.insert(slot, meter) else {
+        unreachable!()
+    };
+}

@@ -1,0 +1,301 @@
+//! The calls that are forwarded, in the order in which they came.
+ghost use Rattle.std.specs.Prelude.{◌≡◌, ◌+◌, ◌*◌, ◌%◌, ◌^◌, ◌<◌, ◌≤◌, ◌↔◌, ℕ, length, Some, None, IfOk, IsTrue};
+ghost use Rattle.std.specs.Map.{values_of};
+ghost use Rattle.rb_forward.specs.Forwards.{head_of};
+
+use crate::buffers::{make_spare, put_buffer, take_buffer, write_call};
+use crate::entries::{Slot, Wanted, put_slot, wanted_key};
+use crate::outcome::{outcome_of, xid_of};
+use crate::types::{Ended, Forward, FwdId, Gone, Outcome, Unsent};
+use rb_rpc::{CallHead, Credential, Peer};
+use rb_xdr::{Full, Kept, Meter, NoMemory, Pool};
+use std::alloc::Global;
+use std::marker::Model;
+
+/// What the fixed part of an entry counts as, in bytes.
+const CHARGE: u64 = 128;
+
+/// A call's head with AUTH_NONE, in bytes.
+const HEAD: u64 = 40;
+
+/// A target's time to answer, in milliseconds.
+const PATIENCE: u64 = 5000;
+
+/// The calls that are forwarded, in the order in which they came, and the buffers that no call is in.
+#[derive(Drop)]
+pub struct Forwards {
+    slots: Pool<Slot>,
+    spare: Pool<Kept>,
+    given: u64,
+    first_xid: u32,
+    cap: u32,
+    held: u64,
+}
+
+/// The head of the call behind so many.
+#[tactic(auto, unfolding(crate::specs::Forwards::xid_of), using(crate::proofs::Xids::xids))]
+fn head_of(first_xid: u32, given: u64, forward: &Forward) -> CallHead
+    ensures { result ≡ head_of first_xid (given + 1) forward.now }
+{
+    CallHead {
+        xid: first_xid.wrapping_add((given % (1 << 32)) as u32),
+        prog: forward.prog,
+        vers: forward.vers,
+        proc: forward.proc,
+        cred: Credential::None,
+    }
+}
+
+impl Model for Forwards {
+    ghost use Rattle.rb_forward.specs.Table.{Table, IsTable};
+
+    ghost Value = { Table };
+
+    ghost view = { λ f. record {
+      slots = f.slots.entries;
+      given = f.given;
+      first_xid = f.first_xid;
+      cap = f.cap;
+      tie = f.slots.tie;
+    } };
+
+    ghost invariant = { λ f. IsTable f.slots f.spare f.cap f.held };
+}
+
+impl Forwards {
+    ghost use Rattle.std.specs.Prelude.{◌≡◌, ◌≤◌, ◌<◌, ◌+◌, ◌*◌, ◌↔◌, [], ◌∷◌, length, false, OnOk, OnErr, IfOk, IsOk, IfSome, IsTrue};
+    ghost use Rattle.std.specs.Map.{values_of};
+    ghost use Rattle.rb_xdr.specs.Meter.{PaysAtMost};
+    ghost use Rattle.rb_forward.specs.Costs.{start_cost, end_cost, sent_cost, unsent_cost};
+    ghost use Rattle.rb_forward.specs.Forwards.{Forwards as Entries, no_forwards, reply, due, drop_caller, can_start, started, can_be_sent, sent, unsent, held, without_first};
+    ghost use Rattle.rb_forward.specs.Outcomes.{PassesWithin};
+    ghost use Rattle.rb_forward.specs.Table.{StandsForForwards, Becomes, end_of, longest_arguments, longest_call, held_in, IsNew, NoneWaitsAnew, OnlyWaitsAnew, is_waiting, AreOfDistinctCallers, is_wanted_slot, seen, count_lent};
+
+    /// No entries yet, of at most `cap`, the first of which will have this xid. All of their memory is taken.
+    pub fn new(
+        alloc: Global,
+        cap: u32,
+        first_xid: u32,
+        meter: &mut Meter,
+    ) -> Result<Forwards, NoMemory>
+        ensures made { IfOk result (λ made. StandsForForwards made no_forwards) }
+        ensures empty { IfOk result (λ made. made.slots ≡ []) }
+        ensures first_xid { IfOk result (λ made. made.first_xid ≡ first_xid) }
+        ensures cap { IfOk result (λ made. made.cap ≡ cap) }
+        ensures tie { IfOk result (λ made. made.tie ≡ meter.old.tie) }
+        ensures cost { PaysAtMost meter.old meter.new (2 * cap) }
+    {
+        let spare = make_spare(alloc, cap as usize, meter)?;
+        Ok(Forwards {
+            slots: Pool::new(alloc, cap as usize, meter)?,
+            spare,
+            given: 0,
+            first_xid,
+            cap,
+            held: 0,
+        })
+    }
+
+    /// Begins an entry at this moment, and gives its number. It waits for 5,000 ms. The content of the arguments has at
+    /// most 8,800 bytes.
+    ///
+    /// `Full` where there are as many entries as there may be, or no number is left: then nothing changes. A
+    /// connection may have one entry at a time.
+    pub fn start(
+        &mut self,
+        clock: u64,
+        forward: &Forward,
+        args: &[u8],
+        meter: &mut Meter,
+    ) -> Result<FwdId, Full>
+        requires tie { meter.old.tie ≡ self.old.tie }
+        requires args { length args.now ≤ longest_arguments }
+        requires caller { IsNew forward.now.caller (values_of self.old.slots) }
+        ensures room { (f : Entries) → StandsForForwards self.old f
+            → (IsOk result ↔ IsTrue (can_start self.old.cap f)) }
+        ensures number { (f : Entries) → StandsForForwards self.old f
+            → IfOk result (λ id. id.number ≡ f.next) }
+        ensures ok { OnOk result
+            (Becomes self.old self.new (started clock forward.now args.now)) }
+        ensures waiting { OnlyWaitsAnew forward.now.caller
+            (values_of self.old.slots) (values_of self.new.slots) }
+        ensures err { OnErr result (self.new ≡ self.old) }
+        ensures first_xid { self.new.first_xid ≡ self.old.first_xid }
+        ensures cap { self.new.cap ≡ self.old.cap }
+        ensures tie { self.new.tie ≡ self.old.tie }
+        ensures cost { PaysAtMost meter.old meter.new (start_cost (length args.now)) }
+    {
+        if self.slots.len(meter) >= self.cap as usize {
+            return Err(Full { value: () });
+        }
+        if self.given == u64::MAX {
+            return Err(Full { value: () });
+        }
+        let mut call = take_buffer(&mut self.spare, meter);
+        let head = head_of(self.first_xid, self.given, forward);
+        write_call(&mut call, &head, args, meter);
+        self.given += 1;
+        self.held += CHARGE + HEAD + args.len() as u64;
+        let slot = Slot {
+            number: self.given,
+            forward: *forward,
+            xid: head.xid,
+            deadline: clock.saturating_add(PATIENCE),
+            sent: false,
+            call,
+        };
+        put_slot(&mut self.slots, slot, meter);
+        Ok(FwdId { number: self.given })
+    }
+
+    /// The unsent entry of least number, whether or not its deadline has come.
+    pub fn unsent(&self, meter: &mut Meter) -> Option<Unsent<'_>>
+        requires { meter.old.tie ≡ self.now.tie }
+        ensures unsent { (f : Entries) → StandsForForwards self.now f
+            → seen result ≡ unsent self.now.first_xid f }
+        ensures few { IfSome result (λ lent. length lent.call.now ≤ longest_call) }
+        ensures cost { PaysAtMost meter.old meter.new
+            (unsent_cost self.now.cap (count_lent result)) }
+    {
+        let Some(key) = wanted_key(&self.slots, Wanted::AnyUnsent, meter) else {
+            return None;
+        };
+        let Some(slot) = self.slots.get(key, meter) else {
+            unreachable!()
+        };
+        let count = slot.call.len(meter);
+        Some(Unsent {
+            id: FwdId {
+                number: slot.number,
+            },
+            target: slot.forward.target,
+            call: slot.call.lend(0..count, meter),
+        })
+    }
+
+    /// Notes that the call of this entry was sent: from now on a reply counts, and its bytes are held no longer. `Gone`
+    /// where no such entry is there, or it was sent before: then nothing changes.
+    pub fn sent(&mut self, id: FwdId, meter: &mut Meter) -> Result<(), Gone>
+        requires { meter.old.tie ≡ self.old.tie }
+        ensures there { (f : Entries) → StandsForForwards self.old f
+            → (IsOk result ↔ IsTrue (can_be_sent id.number f)) }
+        ensures sent { OnOk result (Becomes self.old self.new (sent id.number)) }
+        ensures waiting { NoneWaitsAnew (values_of self.old.slots) (values_of self.new.slots) }
+        ensures err { OnErr result (self.new ≡ self.old) }
+        ensures first_xid { self.new.first_xid ≡ self.old.first_xid }
+        ensures cap { self.new.cap ≡ self.old.cap }
+        ensures tie { self.new.tie ≡ self.old.tie }
+        ensures cost { PaysAtMost meter.old meter.new (sent_cost self.old.cap) }
+    {
+        let Some(key) = wanted_key(&self.slots, Wanted::Unsent(id.number), meter) else {
+            return Err(Gone);
+        };
+        let Some(slot) = self.slots.get_mut(key, meter) else {
+            unreachable!()
+        };
+        self.held -= slot.empty(meter) as u64;
+        Ok(())
+    }
+
+    /// Takes a datagram that came from there at this moment. The sent entry of least number ends to which it is a reply: its
+    /// host, port and xid are right, and the entry's deadline is later. Every other datagram changes nothing.
+    pub fn reply(
+        &mut self,
+        clock: u64,
+        from: Peer,
+        bytes: &[u8],
+        meter: &mut Meter,
+    ) -> Option<Ended>
+        requires { meter.old.tie ≡ self.old.tie }
+        ensures ended { (f : Entries) → StandsForForwards self.old f
+            → result ≡ (reply self.old.first_xid clock from bytes.now f).0 }
+        ensures left { Becomes self.old self.new
+            (λ f. (reply self.old.first_xid clock from bytes.now f).1) }
+        ensures within { IfSome result (λ ended. PassesWithin ended.outcome (length bytes.now)) }
+        ensures alone { IfSome result
+            (λ ended. IsNew ended.forward.caller (values_of self.new.slots)) }
+        ensures waiting { NoneWaitsAnew (values_of self.old.slots) (values_of self.new.slots) }
+        ensures first_xid { self.new.first_xid ≡ self.old.first_xid }
+        ensures cap { self.new.cap ≡ self.old.cap }
+        ensures tie { self.new.tie ≡ self.old.tie }
+        ensures cost { PaysAtMost meter.old meter.new (end_cost self.old.cap) }
+    {
+        let Some(xid) = xid_of(bytes) else {
+            return None;
+        };
+        self.end(Wanted::Answered(xid, from, clock), outcome_of(bytes), meter)
+    }
+
+    /// The entry of least number whose deadline has come at this moment ends, as Failed.
+    pub fn due(&mut self, clock: u64, meter: &mut Meter) -> Option<Ended>
+        requires { meter.old.tie ≡ self.old.tie }
+        ensures ended { (f : Entries) → StandsForForwards self.old f → result ≡ (due clock f).0 }
+        ensures left { Becomes self.old self.new (λ f. (due clock f).1) }
+        ensures alone { IfSome result
+            (λ ended. IsNew ended.forward.caller (values_of self.new.slots)) }
+        ensures waiting { NoneWaitsAnew (values_of self.old.slots) (values_of self.new.slots) }
+        ensures first_xid { self.new.first_xid ≡ self.old.first_xid }
+        ensures cap { self.new.cap ≡ self.old.cap }
+        ensures tie { self.new.tie ≡ self.old.tie }
+        ensures cost { PaysAtMost meter.old meter.new (end_cost self.old.cap) }
+    {
+        self.end(Wanted::Due(clock), Outcome::Failed, meter)
+    }
+
+    /// The entry of the connection of this number ends, as Dropped.
+    pub fn drop_caller(&mut self, id: u64, meter: &mut Meter) -> Option<Ended>
+        requires { meter.old.tie ≡ self.old.tie }
+        ensures ended { (f : Entries) → StandsForForwards self.old f
+            → result ≡ (drop_caller id f).0 }
+        ensures left { Becomes self.old self.new (λ f. (drop_caller id f).1) }
+        ensures none_left { is_waiting id (values_of self.new.slots) ≡ false }
+        ensures waiting { NoneWaitsAnew (values_of self.old.slots) (values_of self.new.slots) }
+        ensures first_xid { self.new.first_xid ≡ self.old.first_xid }
+        ensures cap { self.new.cap ≡ self.old.cap }
+        ensures tie { self.new.tie ≡ self.old.tie }
+        ensures cost { PaysAtMost meter.old meter.new (end_cost self.old.cap) }
+    {
+        self.end(Wanted::OfConnection(id), Outcome::Dropped, meter)
+    }
+
+    /// How many bytes are held: those of each unsent call, and 128 for the rest of each entry.
+    pub fn held(&self) -> u64
+        ensures held { result ≡ held_in (values_of self.now.slots) }
+        ensures entries { (f : Entries) → StandsForForwards self.now f
+            → result ≡ held self.now.first_xid f }
+        ensures bound { result ≤ (128 + longest_call) * self.now.cap }
+    {
+        self.held
+    }
+
+    /// The first entry that is wanted ends so.
+    fn end(&mut self, wanted: Wanted, outcome: Outcome, meter: &mut Meter) -> Option<Ended>
+        requires { meter.old.tie ≡ self.old.tie }
+        ensures ended { (f : Entries) → StandsForForwards self.old f
+            → result ≡ (end_of self.old.first_xid wanted outcome f).0 }
+        ensures left { Becomes self.old self.new
+            (λ f. (end_of self.old.first_xid wanted outcome f).1) }
+        ensures outcome { IfSome result (λ ended. ended.outcome ≡ outcome) }
+        ensures slots { values_of self.new.slots
+            ≡ without_first (is_wanted_slot wanted) (values_of self.old.slots) }
+        ensures callers { AreOfDistinctCallers (values_of self.old.slots) }
+        ensures alone { IfSome result
+            (λ ended. IsNew ended.forward.caller (values_of self.new.slots)) }
+        ensures waiting { NoneWaitsAnew (values_of self.old.slots) (values_of self.new.slots) }
+        ensures first_xid { self.new.first_xid ≡ self.old.first_xid }
+        ensures cap { self.new.cap ≡ self.old.cap }
+        ensures tie { self.new.tie ≡ self.old.tie }
+        ensures cost { PaysAtMost meter.old meter.new (end_cost self.old.cap) }
+    {
+        let Some(key) = wanted_key(&self.slots, wanted, meter) else {
+            return None;
+        };
+        let Some(slot) = self.slots.remove(key, meter) else {
+            unreachable!()
+        };
+        let Slot { forward, call, .. } = slot;
+        self.held -= CHARGE + call.len(meter) as u64;
+        put_buffer(&mut self.spare, call, meter);
+        Some(Ended { forward, outcome })
+    }
+}

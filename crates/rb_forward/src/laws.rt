@@ -1,0 +1,19 @@
+//! What holds of the definitions.
+ghost use Rattle.rb_forward.specs.Ends.{RepliesEndTheirOwn, DeadlinesEnd, ClosingsEnd};
+ghost use Rattle.rb_forward.specs.Laws.{NumbersNeverRecur, EachEndsOnce, EntriesAreInOrder, EndsAreTold};
+
+/// A call ends the first entry that is meant, and leaves the others as they are: a datagram that was sent, whose xid, host
+/// and port are right, before its deadline; a deadline that has come; the caller's connection.
+pub fn calls_end_the_first()
+    ensures replies { RepliesEndTheirOwn }
+    ensures deadlines { DeadlinesEnd }
+    ensures closings { ClosingsEnd }
+    ensures told { EndsAreTold }
+{}
+
+/// In each run each entry that begins ends once, or is still there; numbers never recur, and entries stand in their order.
+pub fn each_entry_ends_once()
+    ensures once { EachEndsOnce }
+    ensures numbers { NumbersNeverRecur }
+    ensures in_order { EntriesAreInOrder }
+{}

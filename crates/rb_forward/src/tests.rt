@@ -1,0 +1,42 @@
+ghost use Rattle.std.specs.Prelude.{List};
+ghost use Rattle.rb_forward.specs.declared.entries.Slot.{Slot};
+ghost use Rattle.rb_forward.specs.Table.{IsNew};
+
+use crate::forwards::Forwards;
+use crate::types::{Forward, Kind};
+use rb_rpc::{Caller, Peer};
+use rb_xdr::Meter;
+use std::test::Fail;
+
+const TARGET: Peer = Peer {
+    host: [127, 0, 0, 1],
+    port: 2049,
+};
+
+// Procedure 0 of program 200001, version 1, for a datagram of xid 15.
+fn forward() -> Forward
+    ensures { (slots : List Slot) → IsNew result.caller slots }
+{
+    Forward {
+        caller: Caller::Udp(Peer {
+            host: [127, 0, 0, 1],
+            port: 900,
+        }),
+        xid: 15,
+        kind: Kind::Indirect,
+        target: TARGET,
+        shown: TARGET,
+        prog: 200_001,
+        vers: 1,
+        proc: 0,
+    }
+}
+
+#[test]
+fn forwards_has_memory(rt: HostRuntime) -> Result<(), Fail> {
+    let mut meter = Meter::new();
+    let mut forwards = Forwards::new(rt.alloc(), 1, 7, &mut meter)?;
+    assert!(rt; forwards.start(0, &forward(), b"", &mut meter).is_ok());
+    assert!(rt; forwards.start(0, &forward(), b"", &mut meter).is_err());
+    Ok(())
+}

@@ -1,0 +1,72 @@
+//! What is forwarded, and how it ends.
+use rb_rpc::{Caller, Peer, ReplyStatus};
+use thiserror::Error;
+
+/// The procedures that forward a call.
+#[derive(Clone, Copy, PartialEq, Eq, Debug)]
+pub enum Kind {
+    /// PMAPPROC_CALLIT of version 2 (RFC 1833 section 3.2).
+    Callit2,
+    /// RPCBPROC_CALLIT of version 3 (section 2.2.1).
+    Callit3,
+    /// RPCBPROC_BCAST of version 4 (section 2.2.1).
+    Bcast,
+    /// RPCBPROC_INDIRECT of version 4 (section 2.2.1).
+    Indirect,
+}
+
+/// What is asked of which target, and what its caller is told.
+#[derive(Clone, Copy, PartialEq, Eq, Debug)]
+pub struct Forward {
+    pub caller: Caller,
+    /// The xid of the caller's own call.
+    pub xid: u32,
+    pub kind: Kind,
+    /// Where the call is sent, and whence its reply comes.
+    pub target: Peer,
+    /// The host and the port that the answer shows.
+    pub shown: Peer,
+    pub prog: u32,
+    pub vers: u32,
+    pub proc: u32,
+}
+
+/// The number of an entry, from 1. It never recurs.
+#[derive(Clone, Copy, PartialEq, Eq, Debug)]
+pub struct FwdId {
+    pub number: u64,
+}
+
+/// A call that is yet to be sent.
+#[derive(Clone, Copy)]
+pub struct Unsent<'a> {
+    pub id: FwdId,
+    pub target: Peer,
+    /// The datagram: the call's head and its arguments, at most 8,840 bytes.
+    pub call: &'a [u8],
+}
+
+/// How a forwarded call ended.
+#[derive(Clone, Copy, PartialEq, Eq, Debug)]
+pub enum Outcome {
+    /// The target's results are the bytes of the datagram from this place on, at most 8,800.
+    Passed(usize),
+    /// The target refused the call itself, by an accept_stat of 1 to 5 (RFC 5531 section 9).
+    Refused(ReplyStatus),
+    /// The deadline came, or the reply was denied, unreadable, or had more than 8,800 bytes of results.
+    Failed,
+    /// The connection of the caller is closed.
+    Dropped,
+}
+
+/// The end of a forwarded call.
+#[derive(Clone, Copy, PartialEq, Eq, Debug)]
+pub struct Ended {
+    pub forward: Forward,
+    pub outcome: Outcome,
+}
+
+/// No call of this number is there to be sent.
+#[derive(Clone, Copy, PartialEq, Eq, Debug, Error)]
+#[error("no such call is there to be sent")]
+pub struct Gone;
