@@ -5,7 +5,8 @@ use Rattle.std.specs.Int.{cast_signed, w32, from_be_bytes}
 use Rattle.std.proofs.lemmas.List.{take-take, take_all, drop-take, length-take}
 use Rattle.std.proofs.lemmas.Bool.{cases_lt, le-ltb, ltb-false}
 use Rattle.rb_xdr.specs.declared.fault.XdrFault.{XdrFault}
-use Rattle.rb_xdr.specs.Xdr.{Reading, Reader, behind, read_on, ◌>>=◌, give, refuse, number_at, residue, are_zero, max_number, max_opaque, max_optional, read_number, read_signed, read_bool, read_content, read_opaque, read_pair, read_item, read_optional, read_numbers, read_array}
+use Rattle.rb_xdr.specs.Xdr.{Reading, Reader, behind, read_on, ◌>>=◌, give, refuse, number_at, residue, are_zero, max_number, max_opaque, read_number, read_bool, read_content, read_opaque, read_numbers, read_array}
+use Rattle.rb_xdr.specs.XdrTypes.{max_optional, read_signed, read_pair, read_item, read_optional}
 use Rattle.rb_xdr.specs.declared.fault.XdrFault.TheVariants.{Short, TooLong, BadBool, BadPadding}
 use Rattle.rb_xdr.proofs.Readers.{ok_is, bind_ok}
 

@@ -27,5 +27,3 @@ pub use reading::kept_bytes_say_the_record;
 pub use run::{Event, Output, replay};
 pub use types::{CoreFault, Limits, Outcome, Taken};
 
-#[cfg(test)]
-mod tests;

@@ -5,7 +5,8 @@ use Rattle.std.proofs.lemmas.Bool.{ltb-false, ltb-true, not-false}
 use Rattle.std.proofs.Math.Seq.{take-add}
 use Rattle.rb_xdr.specs.Xdr.{AreBytes}
 use Rattle.rb_xdr.proofs.Words.{AreBytes-take}
-use Rattle.rb_rpc.specs.Messages.{call_words, auth}
+use Rattle.rb_rpc.specs.Messages.{auth}
+use Rattle.rb_rpc.specs.CallBytes.{call_words}
 use Rattle.rb_rpc.specs.Verdict.{verdict}
 use Rattle.rb_rpc.specs.declared.call.CallHead.{CallHead}
 use Rattle.rb_rpc.specs.declared.call.Verdict.{Verdict}

@@ -45,6 +45,10 @@ body_in ws =
 abbrev pub arguments_in : List ℕ → Stage
 arguments_in ws = stages.Arguments (head_of (call_words_in ws) (credential_saved_as (slice_index ws 8) (slice_index ws 9))) (slice_index ws 6)
 
+abbrev pub stage_words : ℕ → CallWords → ℕ × ℕ × ℕ → ℕ × ℕ × ℕ → List ℕ
+stage_words number call body credential =
+    number ∷ call.xid ∷ call.prog ∷ call.vers ∷ call.proc ∷ body.0 ∷ body.1 ∷ body.2 ∷ credential.0 ∷ credential.1 ∷ credential.2 ∷ []
+
 -- A stage as eleven words: its number, xid, prog, vers and proc, the flavor, a length or the arguments' place, the bytes left of a body, and three on the credential.
 unfoldable pub stage_saved_as : List ℕ → Stage
 stage_saved_as ws =

@@ -6,8 +6,6 @@ mod laws;
 mod saved;
 mod stage;
 mod sys;
-#[cfg(test)]
-mod tests;
 
 pub use feed::CallFeed;
 pub use laws::calls_stay_calls;

@@ -2,7 +2,7 @@
 //! arguments' place, the bytes left of a body, and three words on the credential.
 ghost use Rattle.std.specs.Prelude.{◌≡◌, ℕ, [], ◌∷◌, List};
 ghost use Rattle.rb_feed.specs.declared.stage.Stage.TheVariants.{CredentialBody, Arguments};
-ghost use Rattle.rb_feed.specs.Saved.{field_saved_as, credential_saved_as, claim_saved_as, call_words_in, body_in, arguments_in, stage_saved_as};
+ghost use Rattle.rb_feed.specs.Saved.{field_saved_as, credential_saved_as, claim_saved_as, call_words_in, stage_words, body_in, arguments_in, stage_saved_as};
 
 use crate::stage::{CallWords, Claim, Stage, head_of};
 use crate::sys::SysField;
@@ -104,8 +104,7 @@ fn words_of(
     body: (u32, u32, u32),
     credential: (u32, u32, u32),
 ) -> StageWords
-    ensures { result ≡ number ∷ call.xid ∷ call.prog ∷ call.vers ∷ call.proc
-        ∷ body.0 ∷ body.1 ∷ body.2 ∷ credential.0 ∷ credential.1 ∷ credential.2 ∷ [] }
+    ensures { result ≡ stage_words number call body credential }
 {
     let CallWords {
         xid,

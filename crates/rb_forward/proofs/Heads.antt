@@ -1,7 +1,7 @@
 -- The head of a call with AUTH_NONE.
 use Rattle.std.proofs.Common.{◌≡◌, length, refl}
 use Rattle.rb_xdr.specs.Xdr.{number, opaque}
-use Rattle.rb_rpc.specs.Messages.{call_bytes}
+use Rattle.rb_rpc.specs.CallBytes.{call_bytes}
 use Rattle.rb_rpc.specs.declared.call.CallHead.{CallHead}
 use Rattle.rb_rpc.specs.declared.call.Credential.TheVariants as credentials
 

@@ -8,7 +8,7 @@ use Rattle.std.proofs.lemmas.List.{take_all}
 use Rattle.rb_xdr.specs.Kept.{Kept}
 use Rattle.rb_xdr.specs.Pool.{HasDistinctKeys, value_at, without, with_value}
 use Rattle.rb_xdr.specs.Xdr.{word}
-use Rattle.rb_rpc.specs.Messages.{call_bytes}
+use Rattle.rb_rpc.specs.CallBytes.{call_bytes}
 use Rattle.rb_rpc.specs.declared.peer.Peer.{Peer}
 use Rattle.rb_rpc.specs.declared.call.CallHead.{CallHead}
 use Rattle.rb_forward.specs.declared.types.Forward.{Forward}
@@ -17,8 +17,9 @@ use Rattle.rb_forward.specs.declared.entries.Slot.{Slot}
 use Rattle.rb_forward.specs.declared.entries.Wanted.{Wanted}
 use Rattle.rb_forward.specs.declared.entries.Wanted.TheVariants as wanted
 use Rattle.rb_forward.specs.Forwards.{Entry, Forwards, is_answered, is_unsent, as_sent, without_first, ended_by, with_end, reply, counts_for, outcome_of, xid_of, head_of, question, held_call, held, unsent, unsent_call, can_be_sent, sent, can_start, started, next_entry, later, patience, greatest_number}
-use Rattle.rb_forward.specs.Table.{StandsForEntry, is_wanted_slot, is_wanted, wanted_slot, held_in}
-use Rattle.rb_forward.proofs.Tables.{none_some, IsFirst, is_first, nothing_found, found_any, found_none, all_stay, Beside, found_beside, none_beside, without_beside, changed_beside, one_more_each, same_length, same_sum, length-values}
+use Rattle.rb_forward.specs.Table.{emptied, StandsForEntry, is_wanted_slot, is_wanted, wanted_slot, held_in}
+use Rattle.rb_forward.proofs.Tables.{none_some, IsFirst, is_first, nothing_found, found_any, found_none, all_stay, Beside, found_beside, none_beside, without_beside, changed_beside, one_more_each, same_length, same_sum}
+use Rattle.std.proofs.lemmas.Map.Entries.{length-values_of}
 
 -- an entry is wanted as its slot is
 pub wanted_alike : (first_xid : ℕ) (sought : Wanted) (slot : Slot) (e : Entry) → StandsForEntry first_xid slot e → is_wanted_slot sought slot ≡ is_wanted first_xid sought e
@@ -108,9 +109,6 @@ unfolding can_be_sent
 sendable number f e h = found_any (is_unsent number) f.all e h
 
 -- the slot of a call that was sent
-abbrev pub emptied : Slot → Slot
-emptied slot = record slot { sent = true; call = record slot.call { bytes = [] } }
-
 stands_sent : (first_xid : ℕ) (slot : Slot) (e : Entry) → StandsForEntry first_xid slot e → StandsForEntry first_xid (emptied slot) (as_sent e)
 unfolding held_call
 stands_sent first_xid slot e h = record { number = h.number; forward = h.forward; xid = h.xid; deadline = h.deadline; sent = refl; call = refl }
@@ -214,7 +212,7 @@ module _ (cap : ℕ) (f : Forwards) where
       rw (room, number) refl
 
 pub as_many : (first_xid : ℕ) (slots : List (ℕ × Slot)) (f : Forwards) → AllZip (StandsForEntry first_xid) (values_of slots) f.all → length f.all ≡ length slots
-as_many first_xid slots f z = sym (same_length (StandsForEntry first_xid) (values_of slots) f.all z) ∙ length-values slots
+as_many first_xid slots f z = sym (same_length (StandsForEntry first_xid) (values_of slots) f.all z) ∙ length-values_of slots
 
 pub stands_new : (first_xid given clock : ℕ) (forward : Forward) (args : List ℕ) (f : Forwards) (head : CallHead) (call : Kept) (deadline : ℕ) → f.next ≡ given + 1
     → head ≡ head_of first_xid (given + 1) forward → deadline ≡ later clock patience → call.bytes ≡ call_bytes head ++ args

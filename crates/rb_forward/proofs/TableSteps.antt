@@ -14,9 +14,12 @@ use Rattle.rb_xdr.specs.Pool.{HasDistinctKeys, value_at, without, with_value}
 use Rattle.rb_xdr.proofs.PoolLemmas.{All-value_at, All-with_value, All-without}
 use Rattle.rb_forward.specs.declared.entries.Wanted.{Wanted}
 use Rattle.rb_forward.specs.Table.{IsSpare, wanted_slot, is_wanted_slot, IsNew}
-use Rattle.rb_forward.proofs.Tables.{some_is, length-values, distinct-without, length-without, distinct-with, length-with, sum-without, sum-changed}
+use Rattle.std.proofs.lemmas.Map.Entries.{length-values_of}
+use Rattle.rb_xdr.proofs.PoolLemmas.{distinct-without, length-without, distinct-with, length-with}
+use Rattle.rb_forward.proofs.Tables.{some_is, sum-without, sum-changed}
 use Rattle.rb_forward.proofs.Callers.{callers-without, callers-changed, callers-more}
-use Rattle.rb_forward.proofs.Stands.{first_wanted, found_first, emptied}
+use Rattle.rb_forward.proofs.Stands.{first_wanted, found_first}
+use Rattle.rb_forward.specs.Table.{emptied}
 
 all_within : (meter : ℕ) (slots : List Slot) → All (HasBuffer meter) slots → All (λ (s : Slot). 128 + length s.call.bytes ≤ 128 + longest_call) slots
 all_within meter slots h = λ k slot lt. let here = (h k slot lt).within in omega (arith, here)
@@ -25,7 +28,7 @@ module _ (slots : Pool Slot) (spare : Pool Kept) (cap held : ℕ) (t : IsTable s
   pub held_few : held ≤ length slots.entries * (128 + longest_call)
   held_few =
       let sum = sum_by-le (λ (s : Slot). 128 + length s.call.bytes) (128 + longest_call) (values_of slots.entries) (all_within slots.tie (values_of slots.entries) t.buffers) in
-      rw (t.is_held, ← length-values slots.entries) sum
+      rw (t.is_held, ← length-values_of slots.entries) sum
 
   pub held_within : held ≤ (128 + longest_call) * cap
   held_within =

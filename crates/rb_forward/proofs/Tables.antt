@@ -6,6 +6,7 @@ use Rattle.std.specs.Map.{values_of}
 use Rattle.std.proofs.lemmas.Bool.{eqb-true}
 use Rattle.std.proofs.lemmas.List.Sums.{sum_by-cons}
 use Rattle.rb_xdr.specs.Pool.{value_at, without, with_value, HasDistinctKeys}
+use Rattle.rb_xdr.specs.Search.{key_of}
 use Rattle.rb_forward.specs.Forwards.{without_first, change_first}
 
 pub some_is : {X : Type 0} (x y : X) → Some x ≡ Some y → x ≡ y
@@ -17,10 +18,6 @@ none_some x h = absurd cc
 -- ---- a table and the list of its values
 
 module _ {A : Type 0} (p : A → Bool) where
-  -- the key of the first entry whose value passes
-  abbrev pub key_of : List (ℕ × A) → Option ℕ
-  key_of es = option_map (λ e. e.0) (find (λ e. p e.1) es)
-
   -- the entry of that key is the first whose value passes
   pub record IsFirst (es : List (ℕ × A)) (k : ℕ) : Type 0 where
     pub value : A
@@ -30,11 +27,11 @@ module _ {A : Type 0} (p : A → Bool) where
     pub taken_out : values_of (without es k) ≡ without_first p (values_of es)
     pub changed : (b : A) → values_of (with_value es k b) ≡ change_first p (λ a. b) (values_of es)
 
-  pub is_first : (es : List (ℕ × A)) (k : ℕ) → HasDistinctKeys es → key_of es ≡ Some k → IsFirst es k
+  pub is_first : (es : List (ℕ × A)) (k : ℕ) → HasDistinctKeys es → key_of p es ≡ Some k → IsFirst es k
   is_first [] k d h = absurd (none_some k h)
   is_first (e ∷ es) k d h = by_cases (p e.1) refl (is_first es k d.1)
     where
-      by_cases : (t : Bool) → p e.1 ≡ t → (key_of es ≡ Some k → IsFirst es k) → IsFirst (e ∷ es) k
+      by_cases : (t : Bool) → p e.1 ≡ t → (key_of p es ≡ Some k → IsFirst es k) → IsFirst (e ∷ es) k
       by_cases true t further =
           let is : e.0 ≡ k = some_is e.0 k (rw t at h) in
           let test : eqb e.0 k ≡ true = eq-eqb e.0 k is in
@@ -64,11 +61,11 @@ module _ {A : Type 0} (p : A → Bool) where
               absurd (none_some f.value (sym (rw key at d.0) ∙ f.here))
           apart false y f = y
 
-  pub nothing_found : (es : List (ℕ × A)) → key_of es ≡ None → find p (values_of es) ≡ None
+  pub nothing_found : (es : List (ℕ × A)) → key_of p es ≡ None → find p (values_of es) ≡ None
   nothing_found [] h = refl
   nothing_found (e ∷ es) h = by_cases (p e.1) refl (nothing_found es)
     where
-      by_cases : (t : Bool) → p e.1 ≡ t → (key_of es ≡ None → find p (values_of es) ≡ None) → find p (values_of (e ∷ es)) ≡ None
+      by_cases : (t : Bool) → p e.1 ≡ t → (key_of p es ≡ None → find p (values_of es) ≡ None) → find p (values_of (e ∷ es)) ≡ None
       by_cases true t further = absurd (none_some e.0 (sym (rw t at h)))
       by_cases false t further = rw t (further (rw t at h))
 
@@ -211,56 +208,3 @@ module _ {A B : Type 0} (R : A → B → Type 0) where
       let rest = same_sum f g same xs bs z.1 in
       let here = same x b z.0 in
       sum_by-cons f x xs ∙ omega (arith, rest, here, sum_by-cons g b bs)
-
--- ---- keys
-
-pub length-values : {A : Type 0} (es : List (ℕ × A)) → length (values_of es) ≡ length es
-length-values [] = refl
-length-values (e ∷ es) = ap suc (length-values es)
-
-module _ {A : Type 0} where
-  missing-without : (es : List (ℕ × A)) (k a : ℕ) → value_at es a ≡ None → value_at (without es k) a ≡ None
-  missing-without [] k a h = h
-  missing-without (e ∷ es) k a h = by_cases (eqb e.0 a) refl (missing-without es k a)
-    where
-      by_cases : (b : Bool) → eqb e.0 a ≡ b → (value_at es a ≡ None → value_at (without es k) a ≡ None) → value_at (without (e ∷ es) k) a ≡ None
-      by_cases true t further = absurd (none_some e.1 (sym (rw t at h)))
-      by_cases false t further =
-          elim (eqb e.0 k) as (λ b. value_at (cond b es (e ∷ without es k)) a ≡ None)
-          [ true ↦ rw t at h | false ↦ rw t (further (rw t at h)) ]
-
-  pub distinct-without : (es : List (ℕ × A)) (k : ℕ) → HasDistinctKeys es → HasDistinctKeys (without es k)
-  distinct-without [] k d = tt
-  distinct-without (e ∷ es) k d =
-      elim (eqb e.0 k) as (λ b. HasDistinctKeys (cond b es (e ∷ without es k)))
-      [ true ↦ d.1 | false ↦ (missing-without es k e.0 d.0, distinct-without es k d.1) ]
-
-  pub length-without : (es : List (ℕ × A)) (k : ℕ) (a : A) → value_at es k ≡ Some a → length es ≡ length (without es k) + 1
-  length-without [] k a h = absurd (none_some a h)
-  length-without (e ∷ es) k a h = by_cases (eqb e.0 k) refl (length-without es k a)
-    where
-      by_cases : (b : Bool) → eqb e.0 k ≡ b → (value_at es k ≡ Some a → length es ≡ length (without es k) + 1) → length (e ∷ es) ≡ length (without (e ∷ es) k) + 1
-      by_cases true t further = rw t (omega arith)
-      by_cases false t further = let l = further (rw t at h) in rw t (omega (arith, l))
-
-  missing-with : (es : List (ℕ × A)) (k a : ℕ) (v : A) → value_at es a ≡ None → value_at (with_value es k v) a ≡ None
-  missing-with [] k a v h = h
-  missing-with (e ∷ es) k a v h = by_cases (eqb e.0 a) refl (missing-with es k a v)
-    where
-      by_cases : (b : Bool) → eqb e.0 a ≡ b → (value_at es a ≡ None → value_at (with_value es k v) a ≡ None) → value_at (with_value (e ∷ es) k v) a ≡ None
-      by_cases true t further = absurd (none_some e.1 (sym (rw t at h)))
-      by_cases false t further =
-          elim (eqb e.0 k) as (λ b. value_at (cond b ((e.0, v) ∷ es) (e ∷ with_value es k v)) a ≡ None)
-          [ true ↦ rw t (rw t at h) | false ↦ rw t (further (rw t at h)) ]
-
-  pub distinct-with : (es : List (ℕ × A)) (k : ℕ) (v : A) → HasDistinctKeys es → HasDistinctKeys (with_value es k v)
-  distinct-with [] k v d = tt
-  distinct-with (e ∷ es) k v d =
-      elim (eqb e.0 k) as (λ b. HasDistinctKeys (cond b ((e.0, v) ∷ es) (e ∷ with_value es k v)))
-      [ true ↦ d | false ↦ (missing-with es k e.0 v d.0, distinct-with es k v d.1) ]
-
-  pub length-with : (es : List (ℕ × A)) (k : ℕ) (v : A) → length (with_value es k v) ≡ length es
-  length-with [] k v = refl
-  length-with (e ∷ es) k v =
-      elim (eqb e.0 k) as (λ b. length (cond b ((e.0, v) ∷ es) (e ∷ with_value es k v)) ≡ length (e ∷ es))
-      [ true ↦ refl | false ↦ ap suc (length-with es k v) ]

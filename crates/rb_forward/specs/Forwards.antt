@@ -3,8 +3,8 @@ use Rattle.std.specs.Prelude.{ℕ, ◌+◌, ◌-◌, ◌%◌, ◌^◌, ◌==◌,
 use Rattle.std.specs.List.{list_any, sum_by}
 use Rattle.std.specs.Option.{option_map}
 use Rattle.rb_xdr.specs.Xdr.{word}
-use Rattle.rb_rpc.specs.Messages.{call_bytes}
-use Rattle.rb_rpc.specs.Replies.{read_reply}
+use Rattle.rb_rpc.specs.CallBytes.{call_bytes}
+use Rattle.rb_rpc.specs.ReadReplies.{read_reply}
 use Rattle.rb_rpc.specs.declared.call.CallHead.{CallHead}
 use Rattle.rb_rpc.specs.declared.reply.ReplyStatus.{ReplyStatus}
 use Rattle.rb_rpc.specs.declared.reply.ReplyHead.{ReplyHead}

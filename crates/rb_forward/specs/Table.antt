@@ -1,5 +1,5 @@
 -- What the slots of entries hold, and the entries that they stand for.
-use Rattle.std.specs.Prelude.{◌≡◌, ℕ, ◌+◌, ◌^◌, ◌≤◌, ◌<◌, ◌==◌, nat_le, nat_lt, not, Bool, false, ◌&&◌, List, [], ◌∷◌, Option, Some, None, find, length, All, ⊤}
+use Rattle.std.specs.Prelude.{◌≡◌, ℕ, ◌+◌, ◌^◌, ◌≤◌, ◌<◌, ◌==◌, nat_le, nat_lt, not, Bool, true, false, ◌&&◌, List, [], ◌∷◌, Option, Some, None, find, length, All, ⊤}
 use Rattle.std.specs.List.{AllZip, list_any, sum_by}
 use Rattle.std.specs.Map.{values_of}
 use Rattle.rb_xdr.specs.Kept.{Kept}
@@ -44,9 +44,28 @@ pub record StandsForForwards (table : Table) (f : Forwards) : Type 0 where
   pub all : AllZip (StandsForEntry table.first_xid) (values_of table.slots) f.all
   pub next : f.next ≡ table.given + 1
 
+abbrev pub slots_of : Table → List Slot
+slots_of table = values_of table.slots
+
+-- this holds of whatever the table stands for
+abbrev pub Whatever : Table → (Forwards → Type 0) → Type 0
+Whatever table holds = (f : Forwards) → StandsForForwards table f → holds f
+
 -- what the old table stands for becomes, by this change, what the new one stands for
 abbrev pub Becomes : Table → Table → (Forwards → Forwards) → Type 0
 Becomes old new change = (f : Forwards) → StandsForForwards old f → StandsForForwards new (change f)
+
+-- this act gives this result
+abbrev pub GivenBy : {A : Type 0} → (Forwards → A × Forwards) → Table → A → Type 0
+GivenBy act table result = Whatever table (λ f. result ≡ (act f).0)
+
+-- the new table stands for what it leaves
+abbrev pub LeftBy : {A : Type 0} → (Forwards → A × Forwards) → Table → Table → Type 0
+LeftBy act old new = Becomes old new (λ f. (act f).1)
+
+-- a slot whose call was sent
+abbrev pub emptied : Slot → Slot
+emptied slot = record slot { sent = true; call = record slot.call { bytes = [] } }
 
 -- ---- what is looked for
 

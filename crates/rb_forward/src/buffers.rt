@@ -3,7 +3,7 @@ ghost use Rattle.std.specs.Prelude.{◌≡◌, ◌≤◌, ◌<◌, ◌+◌, ◌*
 ghost use Rattle.std.specs.Map.{values_of};
 ghost use Rattle.rb_xdr.specs.Meter.{PaysAtMost};
 ghost use Rattle.rb_xdr.specs.Pool.{HasDistinctKeys};
-ghost use Rattle.rb_rpc.specs.Messages.{call_bytes};
+ghost use Rattle.rb_rpc.specs.CallBytes.{call_bytes};
 ghost use Rattle.rb_rpc.specs.declared.call.Credential.TheVariants as credentials;
 ghost use Rattle.rb_forward.specs.Table.{IsBuffer, IsSpare, longest_arguments, longest_call};
 

@@ -66,14 +66,13 @@ impl Slot {
 }
 
 impl Slot {
-    ghost use Rattle.std.specs.Prelude.{true};
+    ghost use Rattle.rb_forward.specs.Table.{emptied};
 
     /// Notes that the call was sent, and empties its buffer, which had so many bytes.
     pub(crate) fn empty(&mut self, meter: &mut Meter) -> usize
         requires { meter.old.tie ≡ self.old.call.tie }
         ensures count { result ≡ length self.old.call.bytes }
-        ensures sent { self.new
-            ≡ record self.old { sent = true; call = record self.old.call { bytes = [] } } }
+        ensures sent { self.new ≡ emptied self.old }
         ensures cost { PaysAtMost meter.old meter.new 2 }
     {
         let count = self.call.len(meter);
@@ -87,18 +86,10 @@ impl Slot {
 #[tactic(auto, unfolding(crate::specs::Table::wanted_slot))]
 pub(crate) fn wanted_key(slots: &Pool<Slot>, wanted: Wanted, meter: &mut Meter) -> Option<usize>
     requires tie { meter.old.tie ≡ slots.now.tie }
-    requires distinct { HasDistinctKeys slots.now.entries }
     ensures key { result ≡ option_map (λ e. e.0) (wanted_slot wanted slots.now.entries) }
     ensures cost { PaysAtMost meter.old meter.new (find_cost (length slots.now.entries)) }
 {
-    let mut place = None;
-    'slots: while let Some((key, slot)) = slots.entry_after(place, meter) {
-        if slot.is_wanted(wanted) {
-            return Some(key);
-        }
-        place = Some(key);
-    }
-    None
+    slots.find_key(|slot| slot.is_wanted(wanted), meter)
 }
 
 /// Adds a slot behind the others.

@@ -67,9 +67,9 @@ impl Forwards {
     ghost use Rattle.std.specs.Map.{values_of};
     ghost use Rattle.rb_xdr.specs.Meter.{PaysAtMost};
     ghost use Rattle.rb_forward.specs.Costs.{start_cost, end_cost, sent_cost, unsent_cost};
-    ghost use Rattle.rb_forward.specs.Forwards.{Forwards as Entries, no_forwards, reply, due, drop_caller, can_start, started, can_be_sent, sent, unsent, held, without_first};
+    ghost use Rattle.rb_forward.specs.Forwards.{no_forwards, reply, due, drop_caller, can_start, started, can_be_sent, sent, unsent, held, without_first};
     ghost use Rattle.rb_forward.specs.Outcomes.{PassesWithin};
-    ghost use Rattle.rb_forward.specs.Table.{StandsForForwards, Becomes, end_of, longest_arguments, longest_call, held_in, IsNew, NoneWaitsAnew, OnlyWaitsAnew, is_waiting, AreOfDistinctCallers, is_wanted_slot, seen, count_lent};
+    ghost use Rattle.rb_forward.specs.Table.{StandsForForwards, Whatever, Becomes, GivenBy, LeftBy, slots_of, end_of, longest_arguments, longest_call, held_in, IsNew, NoneWaitsAnew, OnlyWaitsAnew, is_waiting, AreOfDistinctCallers, is_wanted_slot, seen, count_lent};
 
     /// No entries yet, of at most `cap`, the first of which will have this xid. All of their memory is taken.
     pub fn new(
@@ -110,15 +110,13 @@ impl Forwards {
     ) -> Result<FwdId, Full>
         requires tie { meter.old.tie ≡ self.old.tie }
         requires args { length args.now ≤ longest_arguments }
-        requires caller { IsNew forward.now.caller (values_of self.old.slots) }
-        ensures room { (f : Entries) → StandsForForwards self.old f
-            → (IsOk result ↔ IsTrue (can_start self.old.cap f)) }
-        ensures number { (f : Entries) → StandsForForwards self.old f
-            → IfOk result (λ id. id.number ≡ f.next) }
+        requires caller { IsNew forward.now.caller (slots_of self.old) }
+        ensures room { Whatever self.old (λ f. IsOk result ↔ IsTrue (can_start self.old.cap f)) }
+        ensures number { Whatever self.old (λ f. IfOk result (λ id. id.number ≡ f.next)) }
         ensures ok { OnOk result
             (Becomes self.old self.new (started clock forward.now args.now)) }
         ensures waiting { OnlyWaitsAnew forward.now.caller
-            (values_of self.old.slots) (values_of self.new.slots) }
+            (slots_of self.old) (slots_of self.new) }
         ensures err { OnErr result (self.new ≡ self.old) }
         ensures first_xid { self.new.first_xid ≡ self.old.first_xid }
         ensures cap { self.new.cap ≡ self.old.cap }
@@ -151,8 +149,7 @@ impl Forwards {
     /// The unsent entry of least number, whether or not its deadline has come.
     pub fn unsent(&self, meter: &mut Meter) -> Option<Unsent<'_>>
         requires { meter.old.tie ≡ self.now.tie }
-        ensures unsent { (f : Entries) → StandsForForwards self.now f
-            → seen result ≡ unsent self.now.first_xid f }
+        ensures unsent { Whatever self.now (λ f. seen result ≡ unsent self.now.first_xid f) }
         ensures few { IfSome result (λ lent. length lent.call.now ≤ longest_call) }
         ensures cost { PaysAtMost meter.old meter.new
             (unsent_cost self.now.cap (count_lent result)) }
@@ -177,10 +174,9 @@ impl Forwards {
     /// where no such entry is there, or it was sent before: then nothing changes.
     pub fn sent(&mut self, id: FwdId, meter: &mut Meter) -> Result<(), Gone>
         requires { meter.old.tie ≡ self.old.tie }
-        ensures there { (f : Entries) → StandsForForwards self.old f
-            → (IsOk result ↔ IsTrue (can_be_sent id.number f)) }
+        ensures there { Whatever self.old (λ f. IsOk result ↔ IsTrue (can_be_sent id.number f)) }
         ensures sent { OnOk result (Becomes self.old self.new (sent id.number)) }
-        ensures waiting { NoneWaitsAnew (values_of self.old.slots) (values_of self.new.slots) }
+        ensures waiting { NoneWaitsAnew (slots_of self.old) (slots_of self.new) }
         ensures err { OnErr result (self.new ≡ self.old) }
         ensures first_xid { self.new.first_xid ≡ self.old.first_xid }
         ensures cap { self.new.cap ≡ self.old.cap }
@@ -207,14 +203,12 @@ impl Forwards {
         meter: &mut Meter,
     ) -> Option<Ended>
         requires { meter.old.tie ≡ self.old.tie }
-        ensures ended { (f : Entries) → StandsForForwards self.old f
-            → result ≡ (reply self.old.first_xid clock from bytes.now f).0 }
-        ensures left { Becomes self.old self.new
-            (λ f. (reply self.old.first_xid clock from bytes.now f).1) }
+        ensures ended { GivenBy (reply self.old.first_xid clock from bytes.now) self.old result }
+        ensures left { LeftBy (reply self.old.first_xid clock from bytes.now) self.old self.new }
         ensures within { IfSome result (λ ended. PassesWithin ended.outcome (length bytes.now)) }
         ensures alone { IfSome result
-            (λ ended. IsNew ended.forward.caller (values_of self.new.slots)) }
-        ensures waiting { NoneWaitsAnew (values_of self.old.slots) (values_of self.new.slots) }
+            (λ ended. IsNew ended.forward.caller (slots_of self.new)) }
+        ensures waiting { NoneWaitsAnew (slots_of self.old) (slots_of self.new) }
         ensures first_xid { self.new.first_xid ≡ self.old.first_xid }
         ensures cap { self.new.cap ≡ self.old.cap }
         ensures tie { self.new.tie ≡ self.old.tie }
@@ -229,11 +223,11 @@ impl Forwards {
     /// The entry of least number whose deadline has come at this moment ends, as Failed.
     pub fn due(&mut self, clock: u64, meter: &mut Meter) -> Option<Ended>
         requires { meter.old.tie ≡ self.old.tie }
-        ensures ended { (f : Entries) → StandsForForwards self.old f → result ≡ (due clock f).0 }
-        ensures left { Becomes self.old self.new (λ f. (due clock f).1) }
+        ensures ended { GivenBy (due clock) self.old result }
+        ensures left { LeftBy (due clock) self.old self.new }
         ensures alone { IfSome result
-            (λ ended. IsNew ended.forward.caller (values_of self.new.slots)) }
-        ensures waiting { NoneWaitsAnew (values_of self.old.slots) (values_of self.new.slots) }
+            (λ ended. IsNew ended.forward.caller (slots_of self.new)) }
+        ensures waiting { NoneWaitsAnew (slots_of self.old) (slots_of self.new) }
         ensures first_xid { self.new.first_xid ≡ self.old.first_xid }
         ensures cap { self.new.cap ≡ self.old.cap }
         ensures tie { self.new.tie ≡ self.old.tie }
@@ -245,11 +239,10 @@ impl Forwards {
     /// The entry of the connection of this number ends, as Dropped.
     pub fn drop_caller(&mut self, id: u64, meter: &mut Meter) -> Option<Ended>
         requires { meter.old.tie ≡ self.old.tie }
-        ensures ended { (f : Entries) → StandsForForwards self.old f
-            → result ≡ (drop_caller id f).0 }
-        ensures left { Becomes self.old self.new (λ f. (drop_caller id f).1) }
-        ensures none_left { is_waiting id (values_of self.new.slots) ≡ false }
-        ensures waiting { NoneWaitsAnew (values_of self.old.slots) (values_of self.new.slots) }
+        ensures ended { GivenBy (drop_caller id) self.old result }
+        ensures left { LeftBy (drop_caller id) self.old self.new }
+        ensures none_left { is_waiting id (slots_of self.new) ≡ false }
+        ensures waiting { NoneWaitsAnew (slots_of self.old) (slots_of self.new) }
         ensures first_xid { self.new.first_xid ≡ self.old.first_xid }
         ensures cap { self.new.cap ≡ self.old.cap }
         ensures tie { self.new.tie ≡ self.old.tie }
@@ -260,9 +253,8 @@ impl Forwards {
 
     /// How many bytes are held: those of each unsent call, and 128 for the rest of each entry.
     pub fn held(&self) -> u64
-        ensures held { result ≡ held_in (values_of self.now.slots) }
-        ensures entries { (f : Entries) → StandsForForwards self.now f
-            → result ≡ held self.now.first_xid f }
+        ensures held { result ≡ held_in (slots_of self.now) }
+        ensures entries { Whatever self.now (λ f. result ≡ held self.now.first_xid f) }
         ensures bound { result ≤ (128 + longest_call) * self.now.cap }
     {
         self.held
@@ -271,17 +263,15 @@ impl Forwards {
     /// The first entry that is wanted ends so.
     fn end(&mut self, wanted: Wanted, outcome: Outcome, meter: &mut Meter) -> Option<Ended>
         requires { meter.old.tie ≡ self.old.tie }
-        ensures ended { (f : Entries) → StandsForForwards self.old f
-            → result ≡ (end_of self.old.first_xid wanted outcome f).0 }
-        ensures left { Becomes self.old self.new
-            (λ f. (end_of self.old.first_xid wanted outcome f).1) }
+        ensures ended { GivenBy (end_of self.old.first_xid wanted outcome) self.old result }
+        ensures left { LeftBy (end_of self.old.first_xid wanted outcome) self.old self.new }
         ensures outcome { IfSome result (λ ended. ended.outcome ≡ outcome) }
-        ensures slots { values_of self.new.slots
-            ≡ without_first (is_wanted_slot wanted) (values_of self.old.slots) }
-        ensures callers { AreOfDistinctCallers (values_of self.old.slots) }
+        ensures slots { slots_of self.new
+            ≡ without_first (is_wanted_slot wanted) (slots_of self.old) }
+        ensures callers { AreOfDistinctCallers (slots_of self.old) }
         ensures alone { IfSome result
-            (λ ended. IsNew ended.forward.caller (values_of self.new.slots)) }
-        ensures waiting { NoneWaitsAnew (values_of self.old.slots) (values_of self.new.slots) }
+            (λ ended. IsNew ended.forward.caller (slots_of self.new)) }
+        ensures waiting { NoneWaitsAnew (slots_of self.old) (slots_of self.new) }
         ensures first_xid { self.new.first_xid ≡ self.old.first_xid }
         ensures cap { self.new.cap ≡ self.old.cap }
         ensures tie { self.new.tie ≡ self.old.tie }

@@ -6,8 +6,6 @@ mod entries;
 mod forwards;
 mod laws;
 mod outcome;
-#[cfg(test)]
-mod tests;
 mod types;
 mod worked;
 

@@ -1,11 +1,7 @@
--- What is said of results that are put: the room that they leave, and what their putting costs.
-use Rattle.std.specs.Prelude.{◌≡◌, ℕ, ◌+◌, ◌-◌, ◌*◌, ◌<◌, List, length, Option, MatchOption}
+-- What it costs to put results.
+use Rattle.std.specs.Prelude.{ℕ, ◌+◌, ◌-◌, ◌*◌, length}
 use Rattle.rb_xdr.specs.Kept.{Kept}
 use Rattle.rb_registry.specs.Registry.{Registry, rows_of}
-
--- the room that is left of so much behind the bytes, None where they don't fit
-abbrev pub Leaves : List ℕ → ℕ → Option ℕ → Type 0
-Leaves bytes room result = MatchOption result (room < length bytes) (λ left. left + length bytes ≡ room)
 
 -- one step for the length, and one for each byte that was put
 abbrev pub put_cost : Kept → Kept → ℕ

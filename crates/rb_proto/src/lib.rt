@@ -18,8 +18,6 @@ mod request;
 mod rows;
 mod rpcb;
 mod sets;
-#[cfg(test)]
-mod tests;
 mod worked;
 
 pub use answers::{Answer, Listing, Value};

@@ -2,8 +2,8 @@
 ghost use Rattle.std.specs.Prelude.{◌≡◌, ◌+◌, ◌*◌, length};
 ghost use Rattle.rb_xdr.specs.Meter.{PaysAtMost};
 ghost use Rattle.rb_registry.specs.Registry.{rows_of};
-ghost use Rattle.rb_xdr.specs.Puts.{Appends, HasRoom};
-ghost use Rattle.rb_proto.specs.Puts.{Leaves, write_cost};
+ghost use Rattle.rb_xdr.specs.Puts.{Appends, HasRoom, Leaves};
+ghost use Rattle.rb_proto.specs.Puts.{write_cost};
 ghost use Rattle.rb_proto.specs.Results.{is_shown, row_bytes, rows_bytes};
 
 use crate::answers::Listing;

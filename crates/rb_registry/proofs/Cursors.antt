@@ -7,7 +7,8 @@ use Rattle.std.proofs.lemmas.Map.Entries.{length-values_of}
 use Rattle.rb_xdr.specs.Pool.{first_key, HasDistinctKeys}
 use Rattle.rb_registry.specs.declared.row.Row.{Row}
 use Rattle.rb_xdr.specs.Places.{behind, count_to, to_come, count_passed}
-use Rattle.rb_registry.specs.Registry.{Registry, StandsIn, rows_at, rows_passed}
+use Rattle.rb_registry.specs.Registry.{Registry}
+use Rattle.rb_registry.specs.Cursors.{StandsIn, rows_at, rows_passed}
 use Rattle.rb_xdr.proofs.Walks.{step, up_to, passed}
 use Rattle.rb_registry.proofs.Removing.{passed-to_come}
 

@@ -1,5 +1,6 @@
 pub mod Rows
 pub mod Registry
+pub mod Cursors
 pub mod Removals
 pub mod Laws
 pub mod Worked

@@ -1,10 +1,9 @@
 -- What a contract sees of a `Registry`, and what it stands for.
-use Rattle.std.specs.Prelude.{◌≡◌, ℕ, ◌==◌, Bool, if◌then◌else◌, List, [], ◌∷◌, ◌++◌, take, length, IsTrue, Option, IsSome, unwrap_or, slice_get}
+use Rattle.std.specs.Prelude.{◌≡◌, ℕ, ◌==◌, Bool, if◌then◌else◌, List, [], ◌∷◌, ◌++◌, length, IsTrue}
 use Rattle.std.specs.List.{list_all}
 use Rattle.std.specs.Map.{values_of}
 use Rattle.rb_registry.specs.declared.row.Row.{Row}
 use Rattle.rb_registry.specs.Rows.{Change, rpcb_prog, live}
-use Rattle.rb_xdr.specs.Places.{count_passed}
 
 -- the rows under their keys, how many there may be, the memory that the table holds (as of a `Pool`), how many changes
 -- were accepted, and the number of the meter that counts the calls
@@ -32,24 +31,3 @@ pub record StandsForChanges (kept : Registry) (own : List Row) (changes : List C
 abbrev pub StandsForMore : Registry → Registry → Bool → Change → Type 0
 StandsForMore old new accepted change = (own : List Row) (changes : List Change) → StandsForChanges old own changes
     → StandsForChanges new own (if accepted then changes ++ change ∷ [] else changes)
-
--- The rows that were live after so many changes. A registry tells those of its own stamp alone: they are its rows.
-abbrev pub rows_at : Registry → ℕ → List Row
-rows_at kept stamp = rows_of kept
-
--- they are the rows that those changes left
-abbrev pub RowsAreLive : Registry → ℕ → Type 0
-RowsAreLive kept stamp = (own : List Row) (changes : List Change) → StandsForChanges kept own changes → rows_at kept stamp ≡ live own (take stamp changes)
-
--- A cursor stands among the rows of the registry's own stamp, before all of them or behind one.
-pub record StandsIn (kept : Registry) (stamp : ℕ) (cursor : Option ℕ) : Type 0 where
-  pub present : stamp ≡ kept.stamp
-  pub place : IsSome (count_passed kept.entries cursor)
-
--- how many of them a cursor has passed that stands there
-abbrev pub rows_passed : Registry → ℕ → Option ℕ → ℕ
-rows_passed kept stamp cursor = unwrap_or (count_passed kept.entries cursor) 0
-
--- the row behind it
-abbrev pub row_behind : Registry → ℕ → Option ℕ → Option Row
-row_behind kept stamp cursor = slice_get (rows_at kept stamp) (rows_passed kept stamp cursor)

@@ -1,6 +1,7 @@
 //! A place in the list of rows.
 ghost use Rattle.std.specs.Prelude.{◌≡◌, ℕ, Some};
-ghost use Rattle.rb_registry.specs.Registry.{Registry, StandsIn, rows_passed};
+ghost use Rattle.rb_registry.specs.Registry.{Registry};
+ghost use Rattle.rb_registry.specs.Cursors.{StandsIn, rows_passed};
 
 use std::marker::Model;
 

@@ -7,8 +7,6 @@ mod laws;
 mod registry;
 mod removal;
 mod row;
-#[cfg(test)]
-mod tests;
 mod walk;
 mod worked;
 

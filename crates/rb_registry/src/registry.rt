@@ -49,9 +49,11 @@ impl Registry {
     ghost use Rattle.std.specs.Bool.{OnFalse};
     ghost use Rattle.rb_xdr.specs.Meter.{Pays, PaysAtMost};
     ghost use Rattle.rb_registry.specs.declared.row.Row.{Row};
-    ghost use Rattle.rb_registry.specs.Rows.{has_place, removes_some, find_exact, find_row, live};
+    ghost use Rattle.rb_registry.specs.Rows.{has_place, find_exact, find_row, live};
     ghost use Rattle.rb_registry.specs.Rows.Change.{Added, Removed};
-    ghost use Rattle.rb_registry.specs.Registry.{rows_of, AreOwn, StandsForChanges, StandsForMore, RowsAreLive, StandsIn, rows_at, rows_passed, row_behind};
+    ghost use Rattle.rb_registry.specs.Registry.{rows_of, AreOwn, StandsForChanges, StandsForMore};
+    ghost use Rattle.rb_registry.specs.Removals.{takes_removal};
+    ghost use Rattle.rb_registry.specs.Cursors.{RowsAreLive, StandsIn, PassesOne, IsWithin, rows_at, rows_passed, row_behind};
 
     /// A registry of these rows, with room for `cap` rows in all, for calls that this meter counts.
     ///
@@ -122,8 +124,7 @@ impl Registry {
         meter: &mut Meter,
     ) -> bool
         requires { meter.old.tie ≡ self.old.tie }
-        ensures taken { result ≡ removes_some (rows_of self.old) self.old.stamp
-            (Removed prog vers which owner) }
+        ensures taken { result ≡ takes_removal self.old (Removed prog vers which owner) }
         ensures changes { StandsForMore self.old self.new result
             (Removed prog vers which owner) }
         ensures rejected { OnFalse result (self.new ≡ self.old) }
@@ -194,10 +195,8 @@ impl Registry {
         requires place { StandsIn self.now stamp cursor }
         ensures row { IfSome result (λ next. row_behind self.now stamp cursor ≡ Some next.1.now) }
         ensures place { IfSome result (λ next. StandsIn self.now stamp next.0) }
-        ensures passed { IfSome result
-            (λ next. rows_passed self.now stamp next.0 ≡ rows_passed self.now stamp cursor + 1) }
-        ensures within { IfSome result
-            (λ next. rows_passed self.now stamp next.0 ≤ length (rows_at self.now stamp)) }
+        ensures passed { IfSome result (λ next. PassesOne self.now stamp cursor next.0) }
+        ensures within { IfSome result (λ next. IsWithin self.now stamp next.0) }
         ensures end { IfNone result
             (rows_passed self.now stamp cursor ≡ length (rows_at self.now stamp)) }
         ensures rows { RowsAreLive self.now stamp }

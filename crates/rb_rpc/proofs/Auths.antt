@@ -4,7 +4,8 @@ use Rattle.std.specs.Prelude.{replicate, slice_range}
 use Rattle.std.proofs.lemmas.List.{drop-drop, length-take, length-drop, take_at, drop_at, length-replicate}
 use Rattle.std.proofs.lemmas.Bool.{ltb-false, le-ltb, not-false, and_cases}
 use Rattle.rb_xdr.specs.Xdr.{Reading, Reader, ◌>>=◌, give, AreBytes, number, number_at, opaque, array, residue, are_zero, read_number, read_opaque, read_array}
-use Rattle.rb_rpc.specs.Messages.{SysBody, auth, max_auth_body, max_machine, max_gids, sys_bytes, body_of_sys, uid_of}
+use Rattle.rb_rpc.specs.Messages.{SysBody, auth, max_auth_body, max_machine, max_gids, body_of_sys, uid_of}
+use Rattle.rb_rpc.specs.CallBytes.{sys_bytes}
 use Rattle.rb_rpc.specs.Verdict.{body_at, body_length, auth_end, is_over_long, is_broken}
 use Rattle.rb_rpc.specs.Grammar.{IsAuth, IsSysBody, SaysUid}
 use Rattle.rb_xdr.proofs.Words.{AreBytes-drop, AreBytes-take, length-number, number_at-number, number_at-append, number_at_small, split_number}

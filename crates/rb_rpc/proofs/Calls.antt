@@ -4,7 +4,8 @@ use Rattle.std.specs.Option.{is_some}
 use Rattle.std.proofs.lemmas.Bool.{eqb-true, eq-eqb, ltb-false, le-ltb, not-false, cond-false}
 use Rattle.std.proofs.lemmas.Nat.{from_be_bytes-to_be_bytes_4}
 use Rattle.rb_xdr.specs.Xdr.{AreBytes, IsNumber, number, opaque, array, number_at, word}
-use Rattle.rb_rpc.specs.Messages.{CallHead, Credential, AuthStat, auth, auth_none, credential, call_words, call_bytes, sys_body, body_of_sys, uid_of}
+use Rattle.rb_rpc.specs.Messages.{CallHead, Credential, AuthStat, auth, auth_none, body_of_sys, uid_of}
+use Rattle.rb_rpc.specs.CallBytes.{credential, call_words, call_bytes, sys_body}
 use Rattle.rb_rpc.specs.Verdict.{Verdict, auth_end, is_over_long, is_broken, credential_end, verifier_end, sys_uid, caller_of, head_of, verdict}
 use Rattle.rb_rpc.specs.declared.call.Verdict.TheVariants.{NoCall, RpcMismatch, AuthError, Call}
 use Rattle.rb_rpc.specs.declared.call.Credential.TheVariants as credentials

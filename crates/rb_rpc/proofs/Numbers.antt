@@ -5,7 +5,8 @@ use Rattle.std.proofs.lemmas.List.Concat.{flat_map-append}
 use Rattle.rb_xdr.specs.Kept.{Kept}
 use Rattle.rb_xdr.specs.Meter.{Meter, Pays}
 use Rattle.rb_xdr.specs.Xdr.{number, opaque, words}
-use Rattle.rb_rpc.specs.Messages.{CallHead, call_bytes}
+use Rattle.rb_rpc.specs.Messages.{CallHead}
+use Rattle.rb_rpc.specs.CallBytes.{call_bytes}
 use Rattle.rb_rpc.specs.declared.call.Credential.TheVariants as credentials
 use Rattle.rb_xdr.proofs.Words.{length-number}
 

@@ -5,7 +5,8 @@ use Rattle.std.proofs.lemmas.Bool.{eqb-true, eq-eqb, ltb-true, ltb-false, lt-ltb
 use Rattle.std.proofs.lemmas.Nat.{from_be_bytes-to_be_bytes_4}
 use Rattle.rb_xdr.specs.Xdr.{AreBytes, number, number_at, word}
 use Rattle.rb_xdr.proofs.Words.{number_at_small, split_number, number_at-append, number_at-number, length-number}
-use Rattle.rb_rpc.specs.Messages.{AuthStat, auth, max_auth_body, body_of_sys, uid_of, call_words}
+use Rattle.rb_rpc.specs.Messages.{AuthStat, auth, max_auth_body, body_of_sys, uid_of}
+use Rattle.rb_rpc.specs.CallBytes.{call_words}
 use Rattle.rb_rpc.specs.Verdict.{Verdict, body_length, auth_end, is_over_long, is_broken, credential_end, sys_uid, head_of, verdict}
 use Rattle.rb_rpc.specs.declared.call.Verdict.TheVariants.{NoCall, RpcMismatch, AuthError, Call}
 use Rattle.rb_rpc.specs.declared.auth.AuthStat.TheVariants as stats

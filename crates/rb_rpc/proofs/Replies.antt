@@ -7,7 +7,8 @@ use Rattle.std.proofs.lemmas.Nat.{from_be_bytes-to_be_bytes_4}
 use Rattle.rb_xdr.specs.Xdr.{AreBytes, IsNumber, number, number_at, word}
 use Rattle.rb_rpc.specs.Messages.{AuthStat, auth, auth_stat_number, auth_stats, auth_stat_of}
 use Rattle.rb_rpc.specs.Verdict.{auth_end}
-use Rattle.rb_rpc.specs.Replies.{ReplyStatus, ReplyHead, accepted, denied, reply_with, reply_head, Read, says, refused_by, by_accept_stat, read_prog_mismatch, read_accept_stat, read_accepted, read_rpc_mismatch, read_denied, read_reply}
+use Rattle.rb_rpc.specs.Replies.{ReplyStatus, ReplyHead, accepted, denied, reply_with, reply_head}
+use Rattle.rb_rpc.specs.ReadReplies.{Read, says, refused_by, by_accept_stat, read_prog_mismatch, read_accept_stat, read_accepted, read_rpc_mismatch, read_denied, read_reply}
 use Rattle.rb_rpc.specs.declared.reply.ReplyStatus.TheVariants.{Success, ProgUnavail, ProgMismatch, ProcUnavail, GarbageArgs, SystemErr, RpcMismatch, AuthError}
 use Rattle.rb_rpc.specs.declared.auth.AuthStat.TheVariants as stats
 use Rattle.rb_rpc.specs.Grammar.{IsAuth, IsReplyStatus, BeginsWithReply, RepliesAreOfTheGrammar, WrittenRepliesAreRead}

@@ -1,12 +1,14 @@
 -- Calls and replies by what they are spelled from.
 use Rattle.std.specs.Prelude.{◌≡◌, ℕ, ◌<◌, ◌≤◌, ◌↔◌, ◌⊎◌, List, ◌++◌, length, ⊤}
 use Rattle.rb_xdr.specs.Xdr.{AreBytes, IsNumber, AreNumbers, IsContent, number}
-use Rattle.rb_rpc.specs.Messages.{CallHead, Credential, AuthStat, SysBody, auth, max_auth_body, max_machine, max_gids, call_words, call_bytes, sys_bytes}
+use Rattle.rb_rpc.specs.Messages.{CallHead, Credential, AuthStat, SysBody, auth, max_auth_body, max_machine, max_gids}
+use Rattle.rb_rpc.specs.CallBytes.{call_words, call_bytes, sys_bytes}
 use Rattle.rb_rpc.specs.Verdict.{verdict}
 use Rattle.rb_rpc.specs.declared.call.Verdict.TheVariants as verdicts
 use Rattle.rb_rpc.specs.declared.auth.AuthStat.TheVariants as stats
 use Rattle.rb_rpc.specs.declared.call.Credential.TheVariants as credentials
-use Rattle.rb_rpc.specs.Replies.{ReplyStatus, says, reply_with, reply_head, read_reply}
+use Rattle.rb_rpc.specs.Replies.{ReplyStatus, reply_with, reply_head}
+use Rattle.rb_rpc.specs.ReadReplies.{says, read_reply}
 use Rattle.rb_rpc.specs.declared.reply.ReplyStatus.TheVariants.{Success, ProgUnavail, ProgMismatch, ProcUnavail, GarbageArgs, SystemErr, RpcMismatch, AuthError}
 
 -- ---- parts of calls and replies

@@ -1,10 +1,12 @@
-pub mod Puts
 pub mod Messages
+pub mod CallBytes
 pub mod Verdict
 pub mod Replies
+pub mod ReadReplies
 pub mod Records
 pub mod RecordLaws
 pub mod Grammar
 pub mod Worked
 pub mod Peers
 pub mod Marks
+pub mod Streams

@@ -1,7 +1,7 @@
--- Calls, credentials and verifiers (RFC 5531 sections 8.2 and 9, appendix A).
+-- Credentials and verifiers (RFC 5531 sections 8.2 and 9, appendix A).
 use Rattle.std.specs.Prelude.{ℕ, ◌==◌, List, [], ◌∷◌, ◌++◌, Option, Some, None, Ok, Err}
 use Rattle.std.specs.Prelude.{find}
-use Rattle.rb_xdr.specs.Xdr.{Reading, ◌>>=◌, give, number, opaque, array, read_number, read_opaque, read_array}
+use Rattle.rb_xdr.specs.Xdr.{Reading, ◌>>=◌, give, number, opaque, read_number, read_opaque, read_array}
 use Rattle.rb_rpc.specs.declared.call.Credential.TheVariants as credentials
 use Rattle.rb_rpc.specs.declared.auth.AuthStat.TheVariants as stats
 pub use Rattle.rb_rpc.specs.declared.call.CallHead.{CallHead}
@@ -21,24 +21,6 @@ max_auth_body = 400
 abbrev pub auth_none : List ℕ
 auth_none = auth 0 []
 
--- the body of AUTH_SYS with stamp 0, an empty name, gid 0 and no gids (appendix A)
-abbrev pub sys_body : ℕ → List ℕ
-sys_body uid = number 0 ++ opaque [] ++ number uid ++ number 0 ++ number 0
-
-abbrev pub credential : Credential → List ℕ
-credential credentials.None = auth_none
-credential (credentials.Sys uid) = auth 1 (sys_body uid)
-
--- ---- calls
-
--- xid, CALL, RPC version 2, the program, its version, and the procedure (section 9)
-abbrev pub call_words : CallHead → List ℕ
-call_words head = number head.xid ++ number 0 ++ number 2 ++ number head.prog ++ number head.vers ++ number head.proc
-
--- The head of a call as these programs write it: these words, the credential, and the null verifier.
-unfoldable pub call_bytes : CallHead → List ℕ
-call_bytes head = call_words head ++ credential head.cred ++ auth_none
-
 -- ---- the body of AUTH_SYS (appendix A)
 
 pub record SysBody : Type 0 where
@@ -47,9 +29,6 @@ pub record SysBody : Type 0 where
   pub uid : ℕ
   pub gid : ℕ
   pub gids : List ℕ
-
-abbrev pub sys_bytes : SysBody → List ℕ
-sys_bytes body = number body.stamp ++ opaque body.machine ++ number body.uid ++ number body.gid ++ array body.gids
 
 abbrev pub max_machine : ℕ
 max_machine = 255

@@ -1,9 +1,11 @@
 -- Worked examples, word by word.
 use Rattle.std.specs.Prelude.{◌≡◌, ℕ, List, [], ◌∷◌, ◌++◌, length, take, replicate, map, Some, None}
 use Rattle.rb_xdr.specs.Xdr.{words}
-use Rattle.rb_rpc.specs.Messages.{CallHead, Credential, call_bytes}
+use Rattle.rb_rpc.specs.Messages.{CallHead, Credential}
+use Rattle.rb_rpc.specs.CallBytes.{call_bytes}
 use Rattle.rb_rpc.specs.Verdict.{verdict}
-use Rattle.rb_rpc.specs.Replies.{says, reply_head, read_reply}
+use Rattle.rb_rpc.specs.Replies.{reply_head}
+use Rattle.rb_rpc.specs.ReadReplies.{says, read_reply}
 use Rattle.rb_rpc.specs.declared.call.Verdict.TheVariants as verdicts
 use Rattle.rb_rpc.specs.declared.call.Credential.TheVariants as credentials
 use Rattle.rb_rpc.specs.declared.auth.AuthStat.TheVariants as stats

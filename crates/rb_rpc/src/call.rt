@@ -2,8 +2,8 @@
 ghost use Rattle.std.specs.Prelude.{◌≡◌, ◌+◌, ◌*◌, ◌<◌, ◌≤◌, ◌↔◌, ◌++◌, length, not, IsTrue, IsOk, OnOk, OnErr};
 ghost use Rattle.std.specs.Result.{result_ok};
 ghost use Rattle.rb_xdr.specs.Meter.{Pays};
-ghost use Rattle.rb_rpc.specs.Puts.{Appends, HasRoom};
-ghost use Rattle.rb_rpc.specs.Messages.{call_bytes};
+ghost use Rattle.rb_xdr.specs.Puts.{Appends, HasRoom};
+ghost use Rattle.rb_rpc.specs.CallBytes.{call_bytes};
 ghost use Rattle.rb_rpc.specs.Verdict.{is_broken, auth_end, sys_uid, head_of, verdict, EndsWithin};
 
 use crate::auth::AuthStat;
@@ -122,7 +122,7 @@ pub fn read_call(bytes: &[u8]) -> Verdict
 
 /// Puts the head of a call, or nothing: these words, AUTH_NONE or AUTH_SYS with stamp 0, an empty
 /// name, gid 0 and no gids, and the null verifier.
-#[tactic(auto, unfolding(crate::specs::Messages::call_bytes, rb_xdr::specs::Xdr::number, rb_xdr::specs::Xdr::opaque))]
+#[tactic(auto, unfolding(crate::specs::CallBytes::call_bytes, rb_xdr::specs::Xdr::number, rb_xdr::specs::Xdr::opaque))]
 pub fn put_call(head: &CallHead, out: &mut Kept, meter: &mut Meter) -> Result<(), Full>
     requires { meter.old.tie ≡ out.old.tie }
     ensures room { IsOk result ↔ HasRoom (call_bytes head.now) out.old }

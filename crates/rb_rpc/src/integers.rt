@@ -2,7 +2,7 @@
 ghost use Rattle.std.specs.Prelude.{◌≡◌, ◌+◌, ◌*◌, ◌^◌, ◌<◌, ◌≤◌, ◌↔◌, ◌++◌, length, IsOk, OnOk, OnErr};
 ghost use Rattle.rb_xdr.specs.Meter.{Pays};
 ghost use Rattle.rb_xdr.specs.Xdr.{number_at, words};
-ghost use Rattle.rb_rpc.specs.Puts.{Appends};
+ghost use Rattle.rb_xdr.specs.Puts.{Appends};
 
 use rb_xdr::{Full, Kept, Meter, Xdr};
 

@@ -1,5 +1,5 @@
 ghost use Rattle.rb_rpc.specs.RecordLaws.{FirstRecordIsLeast, NoneWhereNoFrontIsOne, RecordsStay, RecordsEndLater, RecordsAreFirstOnes, RecordsEnd, RecordsAreUnique, DataIsJoined, NoRecordBeginsAnother, RepliesAreMarked};
-ghost use Rattle.rb_rpc.specs.Marks.{NoRecordEnded};
+ghost use Rattle.rb_rpc.specs.Streams.{NoRecordEnded};
 ghost use Rattle.rb_rpc.specs.Grammar.{VerdictIsOfTheGrammar, MismatchesAreOfTheGrammar, AuthErrorsAreOfTheGrammar, TheRestIsNoCall, RepliesAreOfTheGrammar, WrittenRepliesAreRead, WrittenCallsAreRead};
 
 /// The first record is the least front that is a marked record; there is none where no front is one.

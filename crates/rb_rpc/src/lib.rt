@@ -10,8 +10,6 @@ mod opaque_auth;
 mod peer;
 mod reply;
 mod sys;
-#[cfg(test)]
-mod tests;
 mod worked;
 
 pub use auth::AuthStat;

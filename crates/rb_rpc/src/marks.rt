@@ -1,7 +1,7 @@
 //! Record marking (RFC 5531 section 11).
 ghost use Rattle.std.specs.Prelude.{◌≡◌, ◌≤◌};
 ghost use Rattle.rb_rpc.specs.Records.{fragment_header};
-ghost use Rattle.rb_rpc.specs.Marks.{behind, behind_header};
+ghost use Rattle.rb_rpc.specs.Streams.{behind, behind_header};
 
 /// What a byte of a record is.
 #[derive(Clone, Copy, PartialEq, Eq, Debug)]
@@ -33,7 +33,7 @@ pub struct Marks {
 }
 
 /// Before so many more bytes of a fragment, and whether the record ended.
-#[tactic(auto, unfolding(crate::specs::Marks::behind))]
+#[tactic(auto, unfolding(crate::specs::Streams::behind))]
 fn behind(left: u32, last: bool) -> (Place, bool)
     ensures { result ≡ behind left last }
 {
@@ -45,7 +45,7 @@ fn behind(left: u32, last: bool) -> (Place, bool)
 }
 
 /// Behind one more byte of a header.
-#[tactic(auto, unfolding(crate::specs::Marks::behind_header))]
+#[tactic(auto, unfolding(crate::specs::Streams::behind_header))]
 fn behind_header(seen: u8, number: u32, byte: u8) -> (Place, bool)
     ensures { result ≡ behind_header seen number byte }
 {
@@ -61,7 +61,8 @@ fn behind_header(seen: u8, number: u32, byte: u8) -> (Place, bool)
 impl Marks {
     ghost use Rattle.std.specs.Prelude.{◌≡◌, [], ◌∷◌, length, take, min};
     ghost use Rattle.rb_rpc.specs.declared.marks.Part.TheVariants.{Data};
-    ghost use Rattle.rb_rpc.specs.Marks.{StandsForFed, StandsForStream, RecordEnds, ArePart, StandsForMore, StreamGoesOn, no_data, data_left};
+    ghost use Rattle.rb_rpc.specs.Marks.{StandsForFed};
+    ghost use Rattle.rb_rpc.specs.Streams.{StandsForStream, RecordEnds, ArePart, StandsForMore, StreamGoesOn, no_data, data_left};
 
     /// Before the first byte of a record.
     pub fn new() -> Marks

@@ -3,8 +3,9 @@ ghost use Rattle.std.specs.Prelude.{◌≡◌, ◌+◌, ◌<◌, ◌≤◌, ◌�
 ghost use Rattle.std.specs.Result.{result_ok};
 ghost use Rattle.rb_xdr.specs.Meter.{Pays};
 ghost use Rattle.rb_rpc.specs.Messages.{auth_none};
-ghost use Rattle.rb_rpc.specs.Puts.{Appends, HasRoom};
-ghost use Rattle.rb_rpc.specs.Replies.{accepted, reply_bytes, read_prog_mismatch, read_accept_stat, read_accepted, read_rpc_mismatch, read_denied, read_reply};
+ghost use Rattle.rb_xdr.specs.Puts.{Appends, HasRoom};
+ghost use Rattle.rb_rpc.specs.Replies.{accepted, reply_bytes};
+ghost use Rattle.rb_rpc.specs.ReadReplies.{read_prog_mismatch, read_accept_stat, read_accepted, read_rpc_mismatch, read_denied, read_reply};
 
 use crate::auth::AuthStat;
 use crate::integers::{number_at, put_numbers};
@@ -116,7 +117,7 @@ pub fn put_reply(head: &ReplyHead, out: &mut Kept, meter: &mut Meter) -> Result<
 }
 
 /// PROG_MISMATCH at a place, with the versions.
-#[tactic(auto, unfolding(crate::specs::Replies::read_prog_mismatch))]
+#[tactic(auto, unfolding(crate::specs::ReadReplies::read_prog_mismatch))]
 fn read_prog_mismatch(bytes: &[u8], place: usize) -> Result<(ReplyHead, usize), BadReply>
     requires { place ≤ length bytes.now }
     ensures read { result_ok result ≡ read_prog_mismatch place bytes.now }
@@ -134,7 +135,7 @@ fn read_prog_mismatch(bytes: &[u8], place: usize) -> Result<(ReplyHead, usize), 
 }
 
 /// What accept_stat at a place says, with what belongs to it.
-#[tactic(auto, unfolding(crate::specs::Replies::read_accept_stat))]
+#[tactic(auto, unfolding(crate::specs::ReadReplies::read_accept_stat))]
 fn read_accept_stat(bytes: &[u8], place: usize) -> Result<(ReplyHead, usize), BadReply>
     requires head { 12 ≤ length bytes.now }
     requires place { place ≤ length bytes.now }
@@ -158,7 +159,7 @@ fn read_accept_stat(bytes: &[u8], place: usize) -> Result<(ReplyHead, usize), Ba
 }
 
 /// An accepted reply, whose verifier stands behind three words, and accept_stat behind the verifier.
-#[tactic(auto, unfolding(crate::specs::Replies::read_accepted))]
+#[tactic(auto, unfolding(crate::specs::ReadReplies::read_accepted))]
 fn read_accepted(bytes: &[u8]) -> Result<(ReplyHead, usize), BadReply>
     requires { 12 ≤ length bytes.now }
     ensures read { result_ok result ≡ read_accepted bytes.now }
@@ -171,7 +172,7 @@ fn read_accepted(bytes: &[u8]) -> Result<(ReplyHead, usize), BadReply>
 }
 
 /// RPC_MISMATCH, with the versions.
-#[tactic(auto, unfolding(crate::specs::Replies::read_rpc_mismatch))]
+#[tactic(auto, unfolding(crate::specs::ReadReplies::read_rpc_mismatch))]
 fn read_rpc_mismatch(bytes: &[u8]) -> Result<(ReplyHead, usize), BadReply>
     ensures read { result_ok result ≡ read_rpc_mismatch bytes.now }
     ensures within { IfOk result (λ read. read.1 ≤ length bytes.now) }
@@ -185,7 +186,7 @@ fn read_rpc_mismatch(bytes: &[u8]) -> Result<(ReplyHead, usize), BadReply>
 }
 
 /// A denied reply, whose reject_stat is the fourth word.
-#[tactic(auto, unfolding(crate::specs::Replies::read_denied))]
+#[tactic(auto, unfolding(crate::specs::ReadReplies::read_denied))]
 fn read_denied(bytes: &[u8]) -> Result<(ReplyHead, usize), BadReply>
     ensures read { result_ok result ≡ read_denied bytes.now }
     ensures within { IfOk result (λ read. read.1 ≤ length bytes.now) }
@@ -207,7 +208,7 @@ fn read_denied(bytes: &[u8]) -> Result<(ReplyHead, usize), BadReply>
 
 /// Reads the head of a reply from the front of the bytes, and says where its results begin, or
 /// where it ends. A verifier may have any flavor and at most 400 bytes.
-#[tactic(auto, unfolding(crate::specs::Replies::read_reply))]
+#[tactic(auto, unfolding(crate::specs::ReadReplies::read_reply))]
 pub fn read_reply(bytes: &[u8]) -> Result<(ReplyHead, usize), BadReply>
     ensures read { result_ok result ≡ read_reply bytes.now }
     ensures within { IfOk result (λ read. read.1 ≤ length bytes.now) }

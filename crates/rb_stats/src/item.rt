@@ -1,6 +1,7 @@
 //! An item of the statistics.
 ghost use Rattle.std.specs.Prelude.{◌≡◌, ◌+◌, ◌≤◌, ◌++◌, length};
 ghost use Rattle.rb_xdr.specs.Meter.{Pays};
+ghost use Rattle.rb_xdr.specs.Puts.{Appends, HasRoom};
 ghost use Rattle.rb_stats.specs.Statistics.{one_more, item_spelling};
 ghost use Rattle.rb_stats.specs.Table.{new_item, counted};
 
@@ -58,9 +59,8 @@ impl Item {
     #[tactic(auto, unfolding(crate::specs::Statistics::item_spelling))]
     pub(crate) fn write(&self, out: &mut Kept, meter: &mut Meter)
         requires tie { meter.old.tie ≡ out.old.tie }
-        requires room { length out.old.bytes + length (item_spelling self.now) ≤ out.old.cap }
-        ensures written { out.new
-            ≡ record out.old { bytes = out.old.bytes ++ item_spelling self.now } }
+        requires room { HasRoom (item_spelling self.now) out.old }
+        ensures written { Appends (item_spelling self.now) out.old out.new }
         ensures cost { Pays meter.old meter.new (length (item_spelling self.now)) }
     {
         let Target { prog, vers, netid } = self.key.target;

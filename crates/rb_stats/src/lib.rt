@@ -8,8 +8,6 @@ mod laws;
 mod stat;
 mod stats;
 mod table;
-#[cfg(test)]
-mod tests;
 mod worked;
 
 pub use key::{Target, Version};

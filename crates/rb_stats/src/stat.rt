@@ -1,12 +1,12 @@
 //! rpcb_stat of a version.
 ghost use Rattle.std.specs.Prelude.{◌≡◌, ◌+◌, ◌*◌, ◌≤◌, ◌++◌, length};
 ghost use Rattle.std.specs.Map.{values_of};
-ghost use Rattle.arrayvec.specs.ArrayVec.{array_vec_len};
 ghost use Rattle.rb_xdr.specs.Meter.{Pays, PaysAtMost};
+ghost use Rattle.rb_xdr.specs.Puts.{Appends, HasRoom};
 ghost use Rattle.rb_xdr.specs.Xdr.{listed, words};
 ghost use Rattle.rb_stats.specs.Statistics.{item_spelling, stat_spelling, greatest_list};
-ghost use Rattle.rb_stats.specs.Table.{items_in, stat_of, stat_size};
-ghost use Rattle.rb_stats.specs.Lists.{lists_size};
+ghost use Rattle.rb_stats.specs.Table.{items_in, stat_size};
+ghost use Rattle.rb_stats.specs.Lists.{size_of, stat_with, lists_size};
 ghost use Rattle.rb_stats.specs.declared.key.Info.TheVariants.{Addr, Rmt};
 
 use crate::counts::Counts;
@@ -28,8 +28,7 @@ pub(crate) struct Lists {
 impl Lists {
     /// How many bytes rpcb_stat has with them.
     pub(crate) fn stat_size(&self) -> usize
-        ensures size { result
-            ≡ stat_size (array_vec_len self.now.addrinfo) (array_vec_len self.now.rmtinfo) }
+        ensures size { result ≡ size_of self.now }
         ensures most { result ≤ stat_size greatest_list greatest_list }
     {
         68 + 28 * self.addrinfo.len() + 36 * self.rmtinfo.len()
@@ -85,9 +84,8 @@ pub(crate) fn lists_of(items: &Pool<Item>, version: Version, meter: &mut Meter) 
 #[tactic(auto, unfolding(rb_xdr::specs::Xdr::listed))]
 pub(crate) fn write_list(items: &[Item], out: &mut Kept, meter: &mut Meter)
     requires tie { meter.old.tie ≡ out.old.tie }
-    requires room { length out.old.bytes + length (listed item_spelling items.now) ≤ out.old.cap }
-    ensures written { out.new
-        ≡ record out.old { bytes = out.old.bytes ++ listed item_spelling items.now } }
+    requires room { HasRoom (listed item_spelling items.now) out.old }
+    ensures written { Appends (listed item_spelling items.now) out.old out.new }
     ensures cost { Pays meter.old meter.new (length (listed item_spelling items.now)) }
 {
     for item in items {
@@ -99,8 +97,8 @@ pub(crate) fn write_list(items: &[Item], out: &mut Kept, meter: &mut Meter)
 
 fn write_numbers(numbers: &[u32], out: &mut Kept, meter: &mut Meter)
     requires tie { meter.old.tie ≡ out.old.tie }
-    requires room { length out.old.bytes + length (words numbers.now) ≤ out.old.cap }
-    ensures written { out.new ≡ record out.old { bytes = out.old.bytes ++ words numbers.now } }
+    requires room { HasRoom (words numbers.now) out.old }
+    ensures written { Appends (words numbers.now) out.old out.new }
     ensures cost { Pays meter.old meter.new (length (words numbers.now)) }
 {
     for number in numbers {
@@ -112,14 +110,10 @@ fn write_numbers(numbers: &[u32], out: &mut Kept, meter: &mut Meter)
 #[tactic(auto, unfolding(crate::specs::Statistics::stat_spelling))]
 pub(crate) fn write_stat(counts: &Counts, lists: &Lists, out: &mut Kept, meter: &mut Meter)
     requires tie { meter.old.tie ≡ out.old.tie }
-    requires room { length out.old.bytes + length (stat_spelling
-        (stat_of counts.now lists.now.addrinfo.items lists.now.rmtinfo.items)) ≤ out.old.cap }
-    ensures written { out.new ≡ record out.old {
-      bytes = out.old.bytes ++ stat_spelling
-          (stat_of counts.now lists.now.addrinfo.items lists.now.rmtinfo.items);
-    } }
-    ensures cost { Pays meter.old meter.new (length (stat_spelling
-        (stat_of counts.now lists.now.addrinfo.items lists.now.rmtinfo.items))) }
+    requires room { HasRoom (stat_spelling (stat_with counts.now lists.now)) out.old }
+    ensures written { Appends (stat_spelling (stat_with counts.now lists.now)) out.old out.new }
+    ensures cost { Pays meter.old meter.new
+        (length (stat_spelling (stat_with counts.now lists.now))) }
 {
     write_numbers(&counts.info, out, meter);
     counts.setinfo.write(out, meter);

@@ -40,12 +40,12 @@ impl Model for Stats {
 }
 
 impl Stats {
-    ghost use Rattle.std.specs.Prelude.{◌≡◌, ◌≤◌, ◌+◌, ◌-◌, ◌*◌, ◌++◌, ◌∷◌, [], ◌↔◌, length, slice_index, List, IfOk, IsOk, OnOk, OnErr};
+    ghost use Rattle.std.specs.Prelude.{◌≡◌, ◌≤◌, ◌+◌, ◌*◌, ◌++◌, [], ◌↔◌, length, IfOk, IsOk, OnOk, OnErr};
     ghost use Rattle.rb_xdr.specs.Meter.{Pays, PaysAtMost};
     ghost use Rattle.rb_stats.specs.Lists.{AreListsOf, lists_size};
-    ghost use Rattle.rb_stats.specs.Statistics.{Note, statistics, greatest_int};
+    ghost use Rattle.rb_stats.specs.Statistics.{greatest_int};
     ghost use Rattle.rb_stats.specs.Statistics.Note.{Called, WasSet, WasUnset, LookedUp, Forwarded};
-    ghost use Rattle.rb_stats.specs.Stats.{StandsForHistory, spelling, key_count, stat_at};
+    ghost use Rattle.rb_stats.specs.Stats.{StandsForHistory, HasNoted, SpellsHistory, spelling, key_count, put_cost, calls_at};
 
     /// Nothing was called. NoMemory where the memory for the keys is refused.
     pub fn new(alloc: Global, meter: &mut Meter) -> Result<Stats, NoMemory>
@@ -65,10 +65,8 @@ impl Stats {
     ///
     /// A procedure above 12 is in no count; a count of 2^31 - 1 stays.
     pub fn note_call(&mut self, version: Version, proc: u32)
-        ensures history { (notes : List Note) → StandsForHistory self.old notes
-            → StandsForHistory self.new (notes ++ Called version proc ∷ []) }
-        ensures full { slice_index (stat_at version self.old).info proc ≡ greatest_int
-            → self.new ≡ self.old }
+        ensures history { HasNoted (Called version proc) self.old self.new }
+        ensures full { calls_at version proc self.old ≡ greatest_int → self.new ≡ self.old }
         ensures memory { self.new.memory ≡ self.old.memory }
         ensures tie { self.new.tie ≡ self.old.tie }
     {
@@ -81,8 +79,7 @@ impl Stats {
 
     /// Notes a SET of the version that answered TRUE.
     pub fn note_set(&mut self, version: Version)
-        ensures history { (notes : List Note) → StandsForHistory self.old notes
-            → StandsForHistory self.new (notes ++ WasSet version ∷ []) }
+        ensures history { HasNoted (WasSet version) self.old self.new }
         ensures memory { self.new.memory ≡ self.old.memory }
         ensures tie { self.new.tie ≡ self.old.tie }
     {
@@ -95,8 +92,7 @@ impl Stats {
 
     /// Notes an UNSET of the version that answered TRUE.
     pub fn note_unset(&mut self, version: Version)
-        ensures history { (notes : List Note) → StandsForHistory self.old notes
-            → StandsForHistory self.new (notes ++ WasUnset version ∷ []) }
+        ensures history { HasNoted (WasUnset version) self.old self.new }
         ensures memory { self.new.memory ≡ self.old.memory }
         ensures tie { self.new.tie ≡ self.old.tie }
     {
@@ -113,8 +109,7 @@ impl Stats {
     /// It costs at most 2 steps for each key and 2.
     pub fn note_addr(&mut self, version: Version, target: Target, found: bool, meter: &mut Meter)
         requires { meter.old.tie ≡ self.old.tie }
-        ensures history { (notes : List Note) → StandsForHistory self.old notes
-            → StandsForHistory self.new (notes ++ LookedUp version target found ∷ []) }
+        ensures history { HasNoted (LookedUp version target found) self.old self.new }
         ensures memory { self.new.memory ≡ self.old.memory }
         ensures tie { self.new.tie ≡ self.old.tie }
         ensures cost { PaysAtMost meter.old meter.new (2 * key_count self.old + 2) }
@@ -141,9 +136,7 @@ impl Stats {
         meter: &mut Meter,
     )
         requires { meter.old.tie ≡ self.old.tie }
-        ensures history { (notes : List Note) → StandsForHistory self.old notes
-            → StandsForHistory self.new
-            (notes ++ Forwarded version target proc passed indirect ∷ []) }
+        ensures history { HasNoted (Forwarded version target proc passed indirect) self.old self.new }
         ensures memory { self.new.memory ≡ self.old.memory }
         ensures tie { self.new.tie ≡ self.old.tie }
         ensures cost { PaysAtMost meter.old meter.new (2 * key_count self.old + 2) }
@@ -165,8 +158,7 @@ impl Stats {
         requires tie { meter.old.tie ≡ self.now.tie }
         requires out { meter.old.tie ≡ out.old.tie }
         requires limit { limit ≤ out.old.cap }
-        ensures history { (notes : List Note) → StandsForHistory self.now notes
-            → spelling self.now ≡ statistics notes }
+        ensures history { SpellsHistory self.now }
         ensures room { IsOk result ↔
             (length out.old.bytes + length (spelling self.now) ≤ limit) }
         ensures ok { OnOk result (out.new
@@ -175,8 +167,7 @@ impl Stats {
         ensures within { length out.old.bytes ≤ limit → length out.new.bytes ≤ limit }
         ensures cap { out.new.cap ≡ out.old.cap }
         ensures tie { out.new.tie ≡ out.old.tie }
-        ensures cost { PaysAtMost meter.old meter.new
-            (6 * key_count self.now + (length out.new.bytes - length out.old.bytes) + 4) }
+        ensures cost { PaysAtMost meter.old meter.new (put_cost self.now out.old out.new) }
     {
         let lists = self.lists(meter);
         if limit.saturating_sub(out.len(meter)) < lists.size() {

@@ -1,12 +1,11 @@
 //! The table of items.
-ghost use Rattle.std.specs.Prelude.{◌≡◌, ◌+◌, ◌*◌, ◌<◌, ◌≤◌, ◌++◌, [], ◌∷◌, length, find, map, MatchResult, IfOk, List, Some, None};
+ghost use Rattle.std.specs.Prelude.{◌≡◌, ◌+◌, ◌*◌, ◌<◌, ◌≤◌, length, IfOk, IfErr, Some};
 ghost use Rattle.std.specs.Map.{values_of};
-ghost use Rattle.std.specs.Option.{option_map};
 ghost use Rattle.rb_xdr.specs.Meter.{Pays, PaysAtMost};
 ghost use Rattle.rb_xdr.specs.Pool.{HasDistinctKeys};
-ghost use Rattle.rb_xdr.specs.Places.{to_come};
-ghost use Rattle.rb_stats.specs.Statistics.{info_of, greatest_list};
-ghost use Rattle.rb_stats.specs.Table.{items_in, is_item, IsTable, after_count, counted, new_item};
+ghost use Rattle.rb_xdr.specs.Search.{key_of};
+ghost use Rattle.rb_stats.specs.Statistics.{greatest_list};
+ghost use Rattle.rb_stats.specs.Table.{list_len, is_item, HasNone, IsTable, count_with, HasCounted, HasAdded};
 
 use crate::item::Item;
 use crate::key::{Key, Version};
@@ -23,14 +22,10 @@ const GREATEST_TABLE: usize = 192;
 fn place_of(items: &Pool<Item>, key: Key, meter: &mut Meter) -> Result<usize, usize>
     requires tie { meter.old.tie ≡ items.now.tie }
     requires distinct { HasDistinctKeys items.now.entries }
-    requires few { length
-        (items_in key.version (info_of key.proc) (values_of items.now.entries)) ≤ greatest_list }
-    ensures found { MatchResult result
-        (λ place. option_map (λ e. e.0) (find (λ e. is_item key e.1) items.now.entries)
-        ≡ Some place)
-        (λ count. (find (λ e. is_item key e.1) items.now.entries ≡ None)
-        × (count ≡ length
-        (items_in key.version (info_of key.proc) (values_of items.now.entries)))) }
+    requires few { list_len key (values_of items.now.entries) ≤ greatest_list }
+    ensures found { IfOk result (λ place. key_of (is_item key) items.now.entries ≡ Some place) }
+    ensures missing { IfErr result (λ count. HasNone key items.now.entries) }
+    ensures count { IfErr result (λ count. count ≡ list_len key (values_of items.now.entries)) }
     ensures cost { PaysAtMost meter.old meter.new (2 * length items.now.entries + 1) }
 {
     let info = key.info();
@@ -59,11 +54,8 @@ fn count_at(
 )
     requires tie { meter.old.tie ≡ items.old.tie }
     requires table { IsTable items.old }
-    requires found { option_map (λ e. e.0) (find (λ e. is_item key e.1) items.old.entries)
-        ≡ Some place }
-    ensures items { values_of items.new.entries
-        ≡ map (after_count (record { key = key; passed = passed; indirect = indirect }))
-        (values_of items.old.entries) }
+    requires found { key_of (is_item key) items.old.entries ≡ Some place }
+    ensures items { HasCounted (count_with key passed indirect) items.old items.new }
     ensures table { IsTable items.new }
     ensures memory { items.new.memory ≡ items.old.memory }
     ensures tie { items.new.tie ≡ items.old.tie }
@@ -79,11 +71,9 @@ fn count_at(
 fn add_item(items: &mut Pool<Item>, key: Key, passed: bool, indirect: bool, meter: &mut Meter)
     requires tie { meter.old.tie ≡ items.old.tie }
     requires table { IsTable items.old }
-    requires missing { find (λ e. is_item key e.1) items.old.entries ≡ None }
-    requires room { length (items_in key.version (info_of key.proc)
-        (values_of items.old.entries)) < greatest_list }
-    ensures items { values_of items.new.entries
-        ≡ values_of items.old.entries ++ counted passed indirect (new_item key) ∷ [] }
+    requires missing { HasNone key items.old.entries }
+    requires room { list_len key (values_of items.old.entries) < greatest_list }
+    ensures items { HasAdded (count_with key passed indirect) items.old items.new }
     ensures table { IsTable items.new }
     ensures memory { items.new.memory ≡ items.old.memory }
     ensures tie { items.new.tie ≡ items.old.tie }
@@ -120,10 +110,9 @@ impl Model for Items {
 }
 
 impl Items {
-    ghost use Rattle.std.specs.Prelude.{◌≡◌, ◌≤◌, ◌+◌, ◌*◌, ◌++◌, ◌∷◌, [], length, List, IfOk};
+    ghost use Rattle.std.specs.Prelude.{◌≡◌, ◌≤◌, ◌+◌, ◌*◌, [], length, IfOk};
     ghost use Rattle.rb_xdr.specs.Meter.{PaysAtMost};
-    ghost use Rattle.rb_stats.specs.Statistics.{Count};
-    ghost use Rattle.rb_stats.specs.Table.{Holds, items_in};
+    ghost use Rattle.rb_stats.specs.Table.{items_in, count_with, HoldsOneMore};
     ghost use Rattle.rb_stats.specs.declared.key.Info.TheVariants.{Addr, Rmt};
 
     /// No items yet. The memory for all that there may be is taken.
@@ -159,9 +148,7 @@ impl Items {
     /// Counts one more of the key: at its item, or at a new one where its list has room for it.
     pub(crate) fn count(&mut self, key: Key, passed: bool, indirect: bool, meter: &mut Meter)
         requires { meter.old.tie ≡ self.old.tie }
-        ensures holds { (counts : List Count) → Holds self.old.all counts
-            → Holds self.new.all
-            (counts ++ record { key = key; passed = passed; indirect = indirect } ∷ []) }
+        ensures holds { HoldsOneMore (count_with key passed indirect) self.old.all self.new.all }
         ensures memory { self.new.memory ≡ self.old.memory }
         ensures tie { self.new.tie ≡ self.old.tie }
         ensures cost { PaysAtMost meter.old meter.new (2 * length self.old.all + 2) }

@@ -5,8 +5,6 @@
 mod address;
 mod laws;
 mod parse;
-#[cfg(test)]
-mod tests;
 mod text;
 mod transport;
 

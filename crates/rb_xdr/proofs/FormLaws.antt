@@ -2,7 +2,8 @@
 use Rattle.std.proofs.Common.{◌≡◌, ℕ, Bool, true, false, cond, List, drop, Ok, Err, refl, sym, ap, ◌∙◌, arith, Some}
 use Rattle.std.specs.Prelude.{⊤, IfErr}
 use Rattle.std.specs.Int.{cast_signed, w32}
-use Rattle.rb_xdr.specs.Xdr.{Reading, Reader, behind, read_on, ◌>>=◌, give, read_number, read_signed, read_bool, read_pair, read_item, read_optional}
+use Rattle.rb_xdr.specs.Xdr.{Reading, Reader, behind, read_on, ◌>>=◌, give, read_number, read_bool}
+use Rattle.rb_xdr.specs.XdrTypes.{read_signed, read_pair, read_item, read_optional}
 use Rattle.rb_xdr.specs.Forms.{Form, extent, extent_of, FirstFault, HasForm}
 use Rattle.rb_xdr.specs.Forms.Form.{Number, Then, Optional}
 

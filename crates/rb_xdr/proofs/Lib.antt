@@ -3,6 +3,7 @@ pub mod FormLaws
 pub mod PoolLemmas
 pub mod Walks
 pub mod Readers
+pub mod Searches
 pub mod Tables
 pub mod Taking
 pub mod Types

@@ -2,7 +2,8 @@
 use Rattle.std.proofs.Common.{◌≡◌, ℕ, List, Ok, Err, Result, sym, ◌∙◌}
 use Rattle.std.specs.Prelude.{IfOk, OnErr}
 use Rattle.std.specs.Borrow.{Bor}
-use Rattle.rb_xdr.specs.Xdr.{XdrFault, Reading, Reader, AreBytes, BeginsWith}
+use Rattle.rb_xdr.specs.Xdr.{XdrFault, Reading, Reader, AreBytes}
+use Rattle.rb_xdr.specs.XdrLaws.{BeginsWith}
 use Rattle.rb_xdr.specs.XdrLaws.{ReadsExactly}
 use Rattle.rb_xdr.specs.XdrLends.{lent}
 

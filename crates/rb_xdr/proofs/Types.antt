@@ -6,7 +6,8 @@ use Rattle.std.proofs.Math.Facts.{sfits_to_z, Fits-of_z}
 use Rattle.std.proofs.lemmas.Int.{of_z-to_z, to_z-of_z}
 use Rattle.std.specs.Prelude.{FitsSigned, ℤ}
 use Rattle.std.specs.Int.{cast_signed, cast_unsigned, w32}
-use Rattle.rb_xdr.specs.Xdr.{Reader, ◌>>=◌, give, refuse, IsNumber, IsContent, number, signed, boolean, opaque, residue, read_number, read_signed, read_bool, read_opaque, read_pair, optional, read_optional, read_item, max_number, max_opaque, max_optional}
+use Rattle.rb_xdr.specs.Xdr.{Reader, ◌>>=◌, give, refuse, IsNumber, IsContent, number, boolean, opaque, residue, read_number, read_bool, read_opaque, max_number, max_opaque}
+use Rattle.rb_xdr.specs.XdrTypes.{signed, read_signed, read_pair, optional, read_optional, read_item, max_optional}
 use Rattle.rb_xdr.specs.declared.fault.XdrFault.TheVariants.{BadBool}
 use Rattle.rb_xdr.specs.XdrLaws.{IsBounded, if_there, ReadsExactly, IsPrefixFree, anything, both, pair, SignedIsType, NumberIsType, BooleanIsType, OpaqueIsType}
 use Rattle.rb_xdr.proofs.Words.{AreBytes-drop, length-number}

@@ -6,8 +6,10 @@ pub mod Pool
 pub mod Puts
 pub mod PoolLends
 pub mod Places
+pub mod Search
 pub mod Slots
 pub mod Xdr
+pub mod XdrTypes
 pub mod Forms
 pub mod XdrLaws
 pub mod XdrLends

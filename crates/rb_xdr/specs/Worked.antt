@@ -1,7 +1,8 @@
 -- Worked examples of the definitions, byte by byte.
 use Rattle.std.specs.Prelude.{◌≡◌, ℕ, List, [], ◌∷◌, ◌++◌, Some, None, Ok, Err, codes, pos, negsuc}
 use Rattle.rb_xdr.specs.declared.fault.XdrFault.TheVariants.{Short, TooLong, BadBool, BadPadding}
-use Rattle.rb_xdr.specs.Xdr.{XdrFault, Reading, number, words, signed, opaque, array, optional, listed, read_number, read_signed, read_bool, read_opaque, read_pair, read_optional, read_array}
+use Rattle.rb_xdr.specs.Xdr.{XdrFault, Reading, number, words, opaque, array, listed, read_number, read_bool, read_opaque, read_array}
+use Rattle.rb_xdr.specs.XdrTypes.{signed, optional, read_signed, read_pair, read_optional}
 
 abbrev pub WritesNumbers : Type 0
 WritesNumbers = number 1 ++ number 100000 ++ number 4294967295 ≡ 0 ∷ 0 ∷ 0 ∷ 1 ∷ 0 ∷ 1 ∷ 134 ∷ 160 ∷ 255 ∷ 255 ∷ 255 ∷ 255 ∷ []

@@ -1,7 +1,7 @@
 -- External data representation (RFC 4506): the bytes that spell a value, and what is read from the front of bytes.
-use Rattle.std.specs.Prelude.{◌≡◌, ℕ, zero, suc, ◌+◌, ◌-◌, ◌*◌, ◌%◌, ◌^◌, ◌<◌, ◌≤◌, ◌==◌, nat_lt, if◌then◌else◌, Bool, true, false, List, [], ◌∷◌, ◌++◌, length, take, drop, replicate, Option, Some, None, Result, Ok, Err, slice_index, slice_range, ℤ, ⊤}
+use Rattle.std.specs.Prelude.{ℕ, zero, suc, ◌+◌, ◌-◌, ◌*◌, ◌%◌, ◌^◌, ◌<◌, ◌≤◌, ◌==◌, nat_lt, if◌then◌else◌, Bool, true, false, List, [], ◌∷◌, ◌++◌, length, take, drop, replicate, Result, Ok, Err, slice_index, slice_range, ⊤}
 use Rattle.std.specs.List.{list_all, flat_map}
-use Rattle.std.specs.Int.{cast_signed, cast_unsigned, w32, to_be_bytes, from_be_bytes}
+use Rattle.std.specs.Int.{w32, to_be_bytes, from_be_bytes}
 use Rattle.rb_xdr.specs.declared.fault.XdrFault.TheVariants.{Short, TooLong, BadBool, BadPadding}
 -- why no front of the bytes is a spelling
 pub use Rattle.rb_xdr.specs.declared.fault.XdrFault.{XdrFault}
@@ -30,10 +30,6 @@ number_at place bytes = from_be_bytes w32 (take 4 (drop place bytes))
 abbrev pub word : ℕ → List ℕ → ℕ
 word k bytes = number_at (4 * k) bytes
 
--- an int is the same in two's complement (section 4.1)
-unfoldable pub signed : ℤ → List ℕ
-signed z = number (cast_unsigned w32 z)
-
 -- a bool is the number 0 or 1 (section 4.4)
 unfoldable pub boolean : Bool → List ℕ
 boolean b = if b then number 1 else number 0
@@ -55,12 +51,7 @@ are_zero bytes = list_all (λ b. b == 0) bytes
 unfoldable pub array : List ℕ → List ℕ
 array numbers = number (length numbers) ++ words numbers
 
--- ---- options and lists
-
--- optional data is TRUE and the item, or FALSE (section 4.19)
-unfoldable pub optional : {A : Type 0} → (A → List ℕ) → Option A → List ℕ
-optional spelling (Some x) = boolean true ++ spelling x
-optional spelling None = boolean false
+-- ---- lists
 
 -- a linked list is TRUE and the item for each item, then FALSE (section 4.19)
 unfoldable pub listed : {A : Type 0} → (A → List ℕ) → List A → List ℕ
@@ -100,11 +91,6 @@ refuse fault = λ bytes. Err fault
 unfoldable pub read_number : Reader ℕ
 read_number bytes = if nat_lt (length bytes) 4 then Err Short else Ok (number_at 0 bytes, 4)
 
-unfoldable pub read_signed : Reader ℤ
-read_signed = do
-  n ← read_number
-  give (cast_signed w32 n)
-
 unfoldable pub read_bool : Reader Bool
 read_bool = do
   n ← read_number
@@ -123,23 +109,6 @@ read_opaque limit = do
   count ← read_number
   if nat_lt limit count then refuse TooLong else read_content count
 
-unfoldable pub read_pair : {A B : Type 0} → Reader A → Reader B → Reader (A × B)
-read_pair first second = do
-  a ← first
-  b ← second
-  give (a, b)
-
-abbrev pub read_item : {A : Type 0} → Reader A → Bool → Reader (Option A)
-read_item reads true = do
-  x ← reads
-  give (Some x)
-read_item reads false = give None
-
-unfoldable pub read_optional : {A : Type 0} → Reader A → Reader (Option A)
-read_optional reads = do
-  there ← read_bool
-  read_item reads there
-
 -- so many numbers
 abbrev pub read_numbers : ℕ → Reader (List ℕ)
 read_numbers zero = give []
@@ -154,18 +123,10 @@ read_array limit = do
   count ← read_number
   if nat_lt limit count then refuse TooLong else read_numbers count
 
--- ---- which text spells which value
+-- ---- which values have a spelling
 
 abbrev pub AreBytes : List ℕ → Type 0
 AreBytes bytes = (i : ℕ) → slice_index bytes i < 256
-
--- The text is a spelling of the value.
-abbrev pub Spells : {A : Type 0} → (A → Type 0) → (A → List ℕ) → A → List ℕ → Type 0
-Spells is_value spelling x text = is_value x × (text ≡ spelling x)
-
--- the bytes begin with a spelling of the value, of so many bytes
-abbrev pub BeginsWith : {A : Type 0} → (A → Type 0) → (A → List ℕ) → List ℕ → A × ℕ → Type 0
-BeginsWith is_value spelling bytes read = (read.1 ≤ length bytes) × Spells is_value spelling read.0 (take read.1 bytes)
 
 abbrev pub IsNumber : ℕ → Type 0
 IsNumber n = n < 2 ^ 32
@@ -185,6 +146,3 @@ max_number = 4
 
 abbrev pub max_opaque : ℕ → ℕ
 max_opaque limit = 4 + limit + residue limit
-
-abbrev pub max_optional : ℕ → ℕ
-max_optional max = 4 + max

@@ -1,7 +1,36 @@
 -- What reading has to do with spelling.
 use Rattle.std.specs.Prelude.{◌≡◌, ℕ, ◌≤◌, ◌↔◌, List, [], ◌++◌, length, take, drop, Option, IfSome, Ok, ⊤, FitsSigned}
 use Rattle.std.specs.Int.{w32}
-use Rattle.rb_xdr.specs.Xdr.{Reader, AreBytes, Spells, IsNumber, IsContent, number, signed, boolean, opaque, read_number, read_signed, read_bool, read_opaque, max_number, max_opaque}
+use Rattle.rb_xdr.specs.Xdr.{Reading, Reader, AreBytes, IsNumber, IsContent, number, boolean, opaque, read_number, read_bool, read_opaque, max_number, max_opaque}
+use Rattle.rb_xdr.specs.XdrTypes.{signed, read_signed}
+
+-- The text is a spelling of the value.
+abbrev pub Spells : {A : Type 0} → (A → Type 0) → (A → List ℕ) → A → List ℕ → Type 0
+Spells is_value spelling x text = is_value x × (text ≡ spelling x)
+
+-- the bytes begin with a spelling of the value, of so many bytes
+abbrev pub BeginsWith : {A : Type 0} → (A → Type 0) → (A → List ℕ) → List ℕ → A × ℕ → Type 0
+BeginsWith is_value spelling bytes read = (read.1 ≤ length bytes) × Spells is_value spelling read.0 (take read.1 bytes)
+
+-- what the bytes begin with is what was read
+abbrev pub IsOnlyRead : {A : Type 0} → (A → Type 0) → (A → List ℕ) → List ℕ → Reading A → Type 0
+IsOnlyRead {A} is_value spelling bytes result = (x : A) (n : ℕ) → BeginsWith is_value spelling bytes (x, n) → result ≡ Ok (x, n)
+
+-- no front of the bytes is a spelling
+abbrev pub BeginsWithNone : {A : Type 0} → (A → Type 0) → (A → List ℕ) → List ℕ → Type 0
+BeginsWithNone {A} is_value spelling bytes = (x : A) (n : ℕ) → ¬ BeginsWith is_value spelling bytes (x, n)
+
+-- a value has one spelling
+abbrev pub HasOneSpelling : {A : Type 0} → (A → Type 0) → (A → List ℕ) → Type 0
+HasOneSpelling {A} is_value spelling = (x : A) (a b : List ℕ) → Spells is_value spelling x a → Spells is_value spelling x b → a ≡ b
+
+-- a text spells one value
+abbrev pub SpellsOneValue : {A : Type 0} → (A → Type 0) → (A → List ℕ) → Type 0
+SpellsOneValue {A} is_value spelling = (x y : A) (text : List ℕ) → Spells is_value spelling x text → Spells is_value spelling y text → x ≡ y
+
+-- no spelling is longer than the greatest
+abbrev pub NoneIsLonger : {A : Type 0} → (A → Type 0) → (A → List ℕ) → ℕ → Type 0
+NoneIsLonger {A} is_value spelling max = (x : A) (text : List ℕ) → Spells is_value spelling x text → length text ≤ max
 
 -- what is read is a value whose spelling stands in front of what is left
 abbrev pub IsSound : {A : Type 0} → (A → Type 0) → (A → List ℕ) → Reader A → Type 0

@@ -1,20 +1,16 @@
 //! What holds of the spellings of every type.
-ghost use Rattle.std.specs.Prelude.{◌≡◌, ℕ, ◌≤◌, List, length};
-ghost use Rattle.rb_xdr.specs.Xdr.{Spells};
-ghost use Rattle.rb_xdr.specs.XdrLaws.{IsNoFront, NumberIsType, SignedIsType, BooleanIsType, OpaqueIsType};
+ghost use Rattle.std.specs.Prelude.{ℕ, List};
+ghost use Rattle.rb_xdr.specs.XdrLaws.{HasOneSpelling, SpellsOneValue, NoneIsLonger, IsNoFront, NumberIsType, SignedIsType, BooleanIsType, OpaqueIsType};
 
 use crate::xdr::Xdr;
 
 /// A value has one spelling, no spelling is a proper prefix of another, each spells one value, and
 /// none is longer than the greatest.
 pub fn spelling_laws<T: Xdr>()
-    ensures one_spelling { (v : T) (a b : List ℕ)
-        → Spells T.is_value T.spelling v a → Spells T.is_value T.spelling v b → a ≡ b }
+    ensures one_spelling { HasOneSpelling T.is_value T.spelling }
     ensures no_proper_prefix { (a more : List ℕ) → IsNoFront T.is_value T.spelling a more }
-    ensures one_value { (v w : T) (a : List ℕ)
-        → Spells T.is_value T.spelling v a → Spells T.is_value T.spelling w a → v ≡ w }
-    ensures bounded { (v : T) (a : List ℕ)
-        → Spells T.is_value T.spelling v a → length a ≤ T.max_spelling }
+    ensures one_value { SpellsOneValue T.is_value T.spelling }
+    ensures bounded { NoneIsLonger T.is_value T.spelling T.max_spelling }
 {
     T::laws();
 }

@@ -14,8 +14,6 @@ mod opaque;
 mod pairs;
 mod pool;
 mod tally;
-#[cfg(test)]
-mod tests;
 mod text;
 mod worked;
 mod xdr;

@@ -1,6 +1,7 @@
 //! Numbers and bools (RFC 4506, sections 4.1, 4.2 and 4.4).
 ghost use Rattle.rb_xdr.specs.Forms.Form.{Number, Flag};
-ghost use Rattle.rb_xdr.specs.Xdr.{IsNumber, number, signed, boolean, read_number, read_signed, read_bool, max_number};
+ghost use Rattle.rb_xdr.specs.Xdr.{IsNumber, number, boolean, read_number, read_bool, max_number};
+ghost use Rattle.rb_xdr.specs.XdrTypes.{signed, read_signed};
 ghost use Rattle.rb_xdr.specs.XdrLaws.{anything};
 
 use crate::fault::XdrFault;
@@ -62,13 +63,13 @@ impl Xdr for i32 {
         room.checked_sub(4)
     }
 
-    #[tactic(auto, using(crate::proofs::XdrSets::lengths), unfolding(crate::specs::Xdr::signed))]
+    #[tactic(auto, using(crate::proofs::XdrSets::lengths), unfolding(crate::specs::XdrTypes::signed))]
     fn write(&self, out: &mut Kept, meter: &mut Meter) {
         let value = *self;
         value.cast_unsigned().write(out, meter);
     }
 
-    #[tactic(auto, unfolding(crate::specs::Xdr::read_signed))]
+    #[tactic(auto, unfolding(crate::specs::XdrTypes::read_signed))]
     fn read(bytes: &[u8]) -> Result<(Self, usize), XdrFault> {
         let (number, used) = u32::read(bytes)?;
         Ok((number.cast_signed(), used))

@@ -2,7 +2,8 @@
 ghost use Rattle.std.specs.Prelude.{◌≡◌, ℕ, ◌+◌, ◌-◌, ◌^◌, ◌<◌, ◌≤◌, List, length, replicate, IfOk, IfErr, OnErr, Result, Ok};
 ghost use Rattle.rb_xdr.specs.Forms.{FirstFault};
 ghost use Rattle.rb_xdr.specs.Forms.Form.{Content};
-ghost use Rattle.rb_xdr.specs.Xdr.{BeginsWith, IsContent, opaque, residue, are_zero, read_content, read_opaque, max_opaque};
+ghost use Rattle.rb_xdr.specs.Xdr.{IsContent, opaque, residue, are_zero, read_content, read_opaque, max_opaque};
+ghost use Rattle.rb_xdr.specs.XdrLaws.{BeginsWith, IsOnlyRead, BeginsWithNone};
 ghost use Rattle.rb_xdr.specs.XdrLends.{lent};
 
 use crate::fault::XdrFault;
@@ -76,10 +77,8 @@ fn lend_opaque(bytes: &[u8], limit: usize) -> Result<(&[u8], usize), XdrFault>
 /// that are missing are Short, and a residual byte that is not zero is BadPadding.
 pub fn take_opaque(bytes: &[u8], limit: usize) -> Result<(&[u8], usize), XdrFault>
     ensures found { IfOk (lent result) (BeginsWith (IsContent limit) opaque bytes.now) }
-    ensures only { (v : List ℕ) (n : ℕ)
-        → BeginsWith (IsContent limit) opaque bytes.now (v, n) → lent result ≡ Ok (v, n) }
-    ensures none { OnErr result ((v : List ℕ) (n : ℕ)
-        → ¬ BeginsWith (IsContent limit) opaque bytes.now (v, n)) }
+    ensures only { IsOnlyRead (IsContent limit) opaque bytes.now (lent result) }
+    ensures none { OnErr result (BeginsWithNone (IsContent limit) opaque bytes.now) }
     ensures fault { IfErr result (FirstFault (Content limit) bytes.now) }
     ensures exact { lent result ≡ read_opaque limit bytes.now }
 {

@@ -1,7 +1,7 @@
 //! Pairs and options (RFC 4506, sections 4.14 and 4.19).
 ghost use Rattle.std.specs.Prelude.{◌+◌};
 ghost use Rattle.rb_xdr.specs.Forms.Form.{Then, Optional};
-ghost use Rattle.rb_xdr.specs.Xdr.{optional, read_pair, read_optional, max_optional};
+ghost use Rattle.rb_xdr.specs.XdrTypes.{optional, read_pair, read_optional, max_optional};
 ghost use Rattle.rb_xdr.specs.XdrLaws.{both, pair, if_there};
 
 use crate::fault::XdrFault;
@@ -35,7 +35,7 @@ impl<A: Xdr, B: Xdr> Xdr for (A, B) {
         self.1.write(out, meter);
     }
 
-    #[tactic(auto, unfolding(crate::specs::Xdr::read_pair))]
+    #[tactic(auto, unfolding(crate::specs::XdrTypes::read_pair))]
     fn read(bytes: &[u8]) -> Result<(Self, usize), XdrFault> {
         let (first, used) = A::read(bytes)?;
         let (second, more) = B::read(&bytes[used..])?;
@@ -58,7 +58,7 @@ impl<A: Xdr> Xdr for Option<A> {
         A::laws();
     }
 
-    #[tactic(auto, using(crate::proofs::XdrSets::lengths), unfolding(crate::specs::Xdr::optional))]
+    #[tactic(auto, using(crate::proofs::XdrSets::lengths), unfolding(crate::specs::XdrTypes::optional))]
     fn room_after(&self, room: usize) -> Option<usize> {
         match self {
             Some(item) => item.room_after(room.checked_sub(4)?),
@@ -66,7 +66,7 @@ impl<A: Xdr> Xdr for Option<A> {
         }
     }
 
-    #[tactic(auto, using(crate::proofs::XdrSets::lengths), unfolding(crate::specs::Xdr::optional))]
+    #[tactic(auto, using(crate::proofs::XdrSets::lengths), unfolding(crate::specs::XdrTypes::optional))]
     fn write(&self, out: &mut Kept, meter: &mut Meter) {
         match self {
             Some(item) => {
@@ -77,7 +77,7 @@ impl<A: Xdr> Xdr for Option<A> {
         }
     }
 
-    #[tactic(auto, unfolding(crate::specs::Xdr::read_optional))]
+    #[tactic(auto, unfolding(crate::specs::XdrTypes::read_optional))]
     fn read(bytes: &[u8]) -> Result<(Self, usize), XdrFault> {
         let (is_there, used) = bool::read(bytes)?;
         if !is_there {

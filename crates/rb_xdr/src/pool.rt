@@ -1,10 +1,11 @@
 //! A table of fixed capacity whose keys are kept in order of insertion, and whose calls are counted.
-ghost use Rattle.std.specs.Prelude.{◌≡◌, ◌<◌, ◌≤◌, ◌+◌, ◌↔◌, [], ◌∷◌, ◌++◌, length, IsTrue, IsOk, IsSome, IfOk, IfErr, OnErr, option_copied, Some, None};
+ghost use Rattle.std.specs.Prelude.{◌≡◌, ◌<◌, ◌≤◌, ◌+◌, ◌*◌, ◌↔◌, Bool, [], length, IsTrue, IsOk, IsSome, IfOk, IfErr, OnErr, option_copied, Some, None};
 ghost use Rattle.std.specs.Option.{option_copied_mut};
 ghost use Rattle.std.specs.Borrow.{sem};
-ghost use Rattle.rb_xdr.specs.Meter.{Pays};
+ghost use Rattle.rb_xdr.specs.Meter.{Pays, PaysAtMost};
 ghost use Rattle.rb_xdr.specs.Places.{to_come, IsNextEntry, look_cost};
-ghost use Rattle.rb_xdr.specs.Pool.{value_at, without, first_key, key_after, HasDistinctKeys};
+ghost use Rattle.rb_xdr.specs.Search.{IsTestOf, key_of};
+ghost use Rattle.rb_xdr.specs.Pool.{with_entry, value_at, without, first_key, key_after, HasDistinctKeys};
 
 use crate::chain::Chain;
 use crate::full::Full;
@@ -18,7 +19,7 @@ use std::snapshot::Snapshot;
 /// At most `cap` values, each under a key, in memory that `new` took. No call changes `memory`, so
 /// none takes more.
 ///
-/// Each call costs 1 step, but for `entry_after`, and wants the meter that the table was made with.
+/// Each call costs 1 step, but for `entry_after` and `find_key`, and wants the meter that the table was made with.
 #[derive(Drop)]
 pub struct Pool<T> {
     values: Slab<T>,
@@ -73,8 +74,7 @@ impl<T> Pool<T> {
     pub fn insert(&mut self, value: T, meter: &mut Meter) -> Result<usize, Full<T>>
         requires { meter.old.tie ≡ self.old.tie }
         ensures room { IsOk result ↔ (length self.old.entries < self.old.cap) }
-        ensures ok { IfOk result (λ key.
-            self.new ≡ record self.old { entries = self.old.entries ++ (key, value) ∷ [] }) }
+        ensures ok { IfOk result (λ key. self.new ≡ with_entry self.old key value) }
         ensures fresh { IfOk result (λ key. value_at self.old.entries key ≡ None) }
         ensures err { OnErr result (self.new ≡ self.old) }
         ensures cap { self.new.cap ≡ self.old.cap }
@@ -196,6 +196,24 @@ impl<T> Pool<T> {
             None => self.first(meter),
             Some(key) => self.next(key, meter),
         }
+    }
+
+    /// The key of the first value, in the order of insertion, that passes the test. It costs at most 2
+    /// steps for each value and 1.
+    pub fn find_key<F: Fn(&T) -> bool>(&self, test: F, meter: &mut Meter) -> Option<usize>
+        requires tie { meter.old.tie ≡ self.now.tie }
+        requires callable { F.IsAlwaysCallable test }
+        ensures key { (p : T → Bool) → IsTestOf F.Fn test p → result ≡ key_of p self.now.entries }
+        ensures cost { PaysAtMost meter.old meter.new (2 * length self.now.entries + 1) }
+    {
+        let mut place = None;
+        'entries: while let Some((key, value)) = self.entry_after(place, meter) {
+            if test(value) {
+                return Some(key);
+            }
+            place = Some(key);
+        }
+        None
     }
 
     /// How many values there are.

@@ -1,10 +1,10 @@
 //! Values that are spelled in bytes (RFC 4506).
 ghost use Rattle.std.specs.Prelude.{◌≡◌, ℕ, ◌+◌, ◌≤◌, ◌<◌, List, length, take, Result, Ok, OnOk, OnErr, IfOk, IfErr, MatchOption};
-ghost use Rattle.rb_xdr.specs.Puts.{Appends, HasRoom, Puts};
+ghost use Rattle.rb_xdr.specs.Puts.{Appends, HasRoom, Leaves, Puts};
 ghost use Rattle.rb_xdr.specs.Meter.{Pays};
 ghost use Rattle.rb_xdr.specs.Forms.{Form, FirstFault, HasForm};
-ghost use Rattle.rb_xdr.specs.Xdr.{Reader, BeginsWith};
-ghost use Rattle.rb_xdr.specs.XdrLaws.{IsSound, IsComplete, IsBounded};
+ghost use Rattle.rb_xdr.specs.Xdr.{Reader};
+ghost use Rattle.rb_xdr.specs.XdrLaws.{BeginsWith, IsOnlyRead, BeginsWithNone, IsSound, IsComplete, IsBounded};
 
 use crate::fault::XdrFault;
 use crate::full::Full;
@@ -44,8 +44,7 @@ pub trait Xdr: Drop {
 
     /// The room that is left of so much once the value is spelled, if its spelling fits.
     fn room_after(&self, room: usize) -> Option<usize>
-        ensures { MatchOption result (room < length (spelling self.now))
-            (λ left. left + length (spelling self.now) ≡ room) };
+        ensures { Leaves (spelling self.now) room result };
 
     /// Adds the spelling at the end of a buffer that has room for it.
     fn write(&self, out: &mut Kept, meter: &mut Meter)
@@ -66,10 +65,8 @@ pub trait Xdr: Drop {
     /// It fails exactly where no front of the bytes is a spelling, with the first fault of the form.
     final fn take(bytes: &[u8]) -> Result<(Self, usize), XdrFault>
         ensures found { IfOk result (BeginsWith is_value spelling bytes.now) }
-        ensures only { (v : Self) (n : ℕ)
-            → BeginsWith is_value spelling bytes.now (v, n) → result ≡ Ok (v, n) }
-        ensures none { OnErr result ((v : Self) (n : ℕ)
-            → ¬ BeginsWith is_value spelling bytes.now (v, n)) }
+        ensures only { IsOnlyRead is_value spelling bytes.now result }
+        ensures none { OnErr result (BeginsWithNone is_value spelling bytes.now) }
         ensures fault { IfErr result (FirstFault form bytes.now) }
         ensures exact { result ≡ reads bytes.now }
     {

@@ -1,9 +1,12 @@
 -- The definitions compute what the examples say.
 use Rattle.std.proofs.Common.{refl}
-use Rattle.rb_xdr.specs.Xdr.{number, number_at, signed, boolean, opaque, array, optional, listed, read_number, read_signed, read_bool, read_content, read_opaque, read_pair, read_optional, read_array}
-use Rattle.rb_rpc.specs.Messages.{call_bytes, body_of_sys, auth_stat_of}
+use Rattle.rb_xdr.specs.Xdr.{number, number_at, boolean, opaque, array, listed, read_number, read_bool, read_content, read_opaque, read_array}
+use Rattle.rb_xdr.specs.XdrTypes.{signed, optional, read_signed, read_pair, read_optional}
+use Rattle.rb_rpc.specs.Messages.{body_of_sys, auth_stat_of}
+use Rattle.rb_rpc.specs.CallBytes.{call_bytes}
 use Rattle.rb_rpc.specs.Records.{fragment_header, first_record, data_of, reply_fragments, marked}
-use Rattle.rb_rpc.specs.Replies.{reply_head, read_prog_mismatch, read_accept_stat, read_accepted, read_rpc_mismatch, read_denied, read_reply}
+use Rattle.rb_rpc.specs.Replies.{reply_head}
+use Rattle.rb_rpc.specs.ReadReplies.{read_prog_mismatch, read_accept_stat, read_accepted, read_rpc_mismatch, read_denied, read_reply}
 use Rattle.rb_rpc.specs.Verdict.{body_length, auth_end, is_over_long, is_broken, credential_end, verifier_end, sys_uid, verdict}
 use Rattle.rb_uaddr.specs.Uaddr.{port_of, port_bytes, text_of, octet, of_parts, parts_of, parse, merged, transport_of, from_transport}
 use Rattle.rb_registry.specs.Rows.{is_netid, is_among, may_remove, covers, is_on, is_row, is_change_left, has_place, removes_some, find_exact, versions, greatest, find_row}

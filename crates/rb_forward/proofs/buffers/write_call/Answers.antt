@@ -1,5 +1,5 @@
 use Rattle.std.proofs.Common.{length-append, arith}
-use Rattle.rb_rpc.specs.Messages.{call_bytes}
+use Rattle.rb_rpc.specs.CallBytes.{call_bytes}
 use Rattle.rb_forward.proofs.Heads.{length-head}
 use Rattle.rb_forward.proofs.buffers.write_call.Goals as goal
 

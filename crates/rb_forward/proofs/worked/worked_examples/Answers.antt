@@ -1,8 +1,9 @@
 use Rattle.std.proofs.Common.{refl}
 use Rattle.rb_xdr.specs.Xdr.{number, number_at, opaque, read_number, read_content, read_opaque, read_array}
-use Rattle.rb_rpc.specs.Messages.{body_of_sys, call_bytes, auth_stat_of}
+use Rattle.rb_rpc.specs.Messages.{body_of_sys, auth_stat_of}
+use Rattle.rb_rpc.specs.CallBytes.{call_bytes}
 use Rattle.rb_rpc.specs.Verdict.{body_length, auth_end, is_over_long, is_broken}
-use Rattle.rb_rpc.specs.Replies.{read_prog_mismatch, read_accept_stat, read_accepted, read_rpc_mismatch, read_denied, read_reply}
+use Rattle.rb_rpc.specs.ReadReplies.{read_prog_mismatch, read_accept_stat, read_accepted, read_rpc_mismatch, read_denied, read_reply}
 use Rattle.rb_forward.specs.Forwards.{xid_of, question, longest_results, outcome_of, is_same_peer, is_answered, reply, due, drop_caller, later, can_start, next_entry, started, unsent, can_be_sent, sent, held_call}
 use Rattle.rb_forward.proofs.worked.worked_examples.Goals as goal
 

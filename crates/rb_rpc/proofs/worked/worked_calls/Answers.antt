@@ -1,6 +1,7 @@
 use Rattle.std.proofs.Common.{refl}
 use Rattle.rb_xdr.specs.Xdr.{number, number_at, opaque, read_number, read_content, read_opaque, read_array}
-use Rattle.rb_rpc.specs.Messages.{body_of_sys, call_bytes}
+use Rattle.rb_rpc.specs.Messages.{body_of_sys}
+use Rattle.rb_rpc.specs.CallBytes.{call_bytes}
 use Rattle.rb_rpc.specs.Verdict.{body_length, auth_end, is_over_long, is_broken, credential_end, verifier_end, sys_uid, verdict}
 use Rattle.rb_rpc.proofs.worked.worked_calls.Goals as goal
 

@@ -2,7 +2,8 @@ use Rattle.std.proofs.Common.{refl}
 use Rattle.rb_xdr.specs.Xdr.{number, number_at, opaque}
 use Rattle.rb_rpc.specs.Messages.{auth_stat_of}
 use Rattle.rb_rpc.specs.Verdict.{body_length, auth_end, is_over_long, is_broken}
-use Rattle.rb_rpc.specs.Replies.{reply_head, read_prog_mismatch, read_accept_stat, read_accepted, read_rpc_mismatch, read_denied, read_reply}
+use Rattle.rb_rpc.specs.Replies.{reply_head}
+use Rattle.rb_rpc.specs.ReadReplies.{read_prog_mismatch, read_accept_stat, read_accepted, read_rpc_mismatch, read_denied, read_reply}
 use Rattle.rb_rpc.proofs.worked.worked_replies.Goals as goal
 
 pub returns-clause-writes_rpc_mismatch : goal.returns-clause-writes_rpc_mismatch

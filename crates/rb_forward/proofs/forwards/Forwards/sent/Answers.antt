@@ -2,7 +2,8 @@ use Rattle.std.proofs.Common.{refl, sym, subst, ap, ◌∙◌, arith, ◌≡◌,
 use Rattle.rb_xdr.specs.Meter.{Meter}
 use Rattle.rb_forward.specs.declared.entries.Wanted.TheVariants as wanted
 use Rattle.rb_forward.specs.Table.{StandsForForwards}
-use Rattle.rb_forward.proofs.Stands.{none_sent, one_sent, sent_stands, next_sent, is_there, first_wanted, found_first, emptied}
+use Rattle.rb_forward.proofs.Stands.{none_sent, one_sent, sent_stands, next_sent, is_there, first_wanted, found_first}
+use Rattle.rb_forward.specs.Table.{emptied}
 use Rattle.rb_forward.proofs.TableSteps.{its_buffer, fits_in_held, table_sent}
 use Rattle.std.specs.Map.{values_of}
 use Rattle.rb_forward.specs.declared.entries.Slot.{Slot}

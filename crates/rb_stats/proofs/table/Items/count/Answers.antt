@@ -11,7 +11,7 @@ pub overflow_add-self : goal.overflow_add-self
 overflow_add-self c =
     let one : Count = record { key = c.args.key; passed = c.args.passed; indirect = c.args.indirect } in
     let own = items_in c.args.key.version (info_of c.args.key.proc) (values_of c.self.inside.items.entries) in
-    let few : length own < greatest_list = subst (λ n. n < greatest_list) c.in-Err.ensures.found.1 c.if-count-lt-GREATEST_LIST.true in
+    let few : length own < greatest_list = subst (λ n. n < greatest_list) c.in-Err.ensures.count c.if-count-lt-GREATEST_LIST.true in
     omega (arith, room_left one c.self.inside.items c.self.invariant.0 few, c.self.invariant.0.cap, c.self.invariant.1)
 
 pub returns-in-Ok-clause-holds : goal.returns-in-Ok-clause-holds
@@ -28,9 +28,9 @@ returns-in-Err-clause-holds c = λ counts h.
     let entries = c.self.inside.items.entries in
     let before : Holds (values_of entries) counts = subst (λ (t : Table). Holds t.all counts) (sym c.self.view_is) h in
     let few : length (items_in c.args.key.version (info_of c.args.key.proc) (values_of entries)) < greatest_list =
-    subst (λ n. n < greatest_list) c.in-Err.ensures.found.1 c.if-count-lt-GREATEST_LIST.true in
+    subst (λ n. n < greatest_list) c.in-Err.ensures.count c.if-count-lt-GREATEST_LIST.true in
     subst (λ (items : List Item). Holds items (counts ++ one ∷ [])) (sym c.add_item.ensures.items)
-    (holds-new one (values_of entries) counts before (none-found (is_item c.args.key) entries c.in-Err.ensures.found.0) few)
+    (holds-new one (values_of entries) counts before (none-found (is_item c.args.key) entries c.in-Err.ensures.missing) few)
 
 pub returns-else-count-lt-GREATEST_LIST-clause-holds : goal.returns-else-count-lt-GREATEST_LIST-clause-holds
 returns-else-count-lt-GREATEST_LIST-clause-holds c = λ counts h.
@@ -38,6 +38,6 @@ returns-else-count-lt-GREATEST_LIST-clause-holds c = λ counts h.
     let entries = c.self.inside.items.entries in
     let before : Holds (values_of entries) counts = subst (λ (t : Table). Holds t.all counts) (sym c.self.view_is) h in
     let full : greatest_list ≤ length (items_in c.args.key.version (info_of c.args.key.proc) (values_of entries)) =
-    subst (λ n. greatest_list ≤ n) c.in-Err.ensures.found.1 c.if-count-lt-GREATEST_LIST.false in
+    subst (λ n. greatest_list ≤ n) c.in-Err.ensures.count c.if-count-lt-GREATEST_LIST.false in
     subst (λ (t : Table). Holds t.all (counts ++ one ∷ [])) c.self.view_is
-    (holds-full one (values_of entries) counts before (none-found (is_item c.args.key) entries c.in-Err.ensures.found.0) full)
+    (holds-full one (values_of entries) counts before (none-found (is_item c.args.key) entries c.in-Err.ensures.missing) full)

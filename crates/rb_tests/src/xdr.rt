@@ -1,4 +1,4 @@
-use crate::{
+use rb_xdr::{
     Full, Kept, Meter, NoMemory, Opaque, Pool, Text, Xdr, XdrFault, spelling_laws, take_opaque,
     types_are_read_exactly, worked_examples,
 };

@@ -1,5 +1,5 @@
-use crate::{Stats, Target, Version};
 use rb_registry::Netid;
+use rb_stats::{Stats, Target, Version};
 use rb_xdr::{Kept, Meter};
 use std::test::Fail;
 

@@ -1,9 +1,7 @@
 ghost use Rattle.std.specs.Prelude.{◌≡◌};
 ghost use Rattle.rb_registry.specs.Registry.{AreOwn};
 
-use crate::registry::Registry;
-use crate::row::{Netid, Owner, Row, Which};
-use crate::{Cursor, RegistryFault};
+use rb_registry::{Cursor, Netid, Owner, Registry, RegistryFault, Row, Which};
 use rb_xdr::{Meter, Text};
 use std::test::Fail;
 

@@ -1,4 +1,4 @@
-use crate::{
+use rb_rpc::{
     BadReply, CallHead, Credential, Marks, Part, Peer, ReplyHead, ReplyStatus, Verdict,
     fragment_header, put_call, put_reply, read_call, read_reply,
 };

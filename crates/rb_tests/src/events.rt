@@ -1,4 +1,4 @@
-use crate::{Core, CoreFault, Event, Limits, Listener, Outcome, Output, Peer, replay};
+use rb_core::{Core, CoreFault, Event, Limits, Listener, Outcome, Output, Peer, replay};
 use rb_xdr::Meter;
 use std::alloc::{AllocError, Global};
 use std::test::Fail;

@@ -1,4 +1,4 @@
-use crate::{NotAnAddress, Uaddr};
+use rb_uaddr::{NotAnAddress, Uaddr};
 use std::test::Fail;
 
 #[test]

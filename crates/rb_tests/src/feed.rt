@@ -1,4 +1,4 @@
-use crate::CallFeed;
+use rb_feed::CallFeed;
 use rb_rpc::{CallHead, Credential, Verdict, read_call};
 use std::test::Fail;
 

@@ -1,7 +1,7 @@
 ghost use Rattle.std.specs.Prelude.{◌≡◌, ◌≤◌};
 ghost use Rattle.rb_proto.specs.Ledger.{SameFrame};
 
-use crate::{
+use rb_proto::{
     ArgumentFault, Call, Context, Entry, Listener, Listing, Mapping, Netbuf, Rpcb, answer,
     own_rows, put_answer, put_row, read_args, requests_are_of_the_grammar, worked_examples,
 };
