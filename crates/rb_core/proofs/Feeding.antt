@@ -1,75 +1,113 @@
 -- What is read behind the first bytes of a piece.
-use Rattle.std.proofs.Common.{◌≡◌, ◌<◌, ◌≤◌, ◌+◌, ◌-◌, ℕ, Bool, true, false, cond, List, [], ◌∷◌, ◌++◌, length, take, drop, get_or, Option, Some, None, refl, sym, ap, subst, ◌∙◌, append_assoc, arith, length-append}
-use Rattle.std.proofs.lemmas.List.{take_more, take_all, take-append-drop, length-take-le, take_at}
+use Rattle.std.proofs.Common.{◌≡◌, ◌≤◌, ◌+◌, ◌-◌, ℕ, Bool, true, false, cond, List, [], ◌++◌, length, take, drop, Option, Some, None, refl, sym, ap, subst, ◌∙◌, append_assoc, append-nil, arith, length-append}
+use Rattle.std.proofs.Math.Seq.{take-add}
+use Rattle.std.proofs.lemmas.List.{take_all, take-append-drop, length-take-le, length-drop, take_at}
 use Rattle.rb_xdr.specs.Kept.{Kept}
 use Rattle.rb_rpc.specs.declared.marks.Marks.{Marks}
+use Rattle.rb_rpc.specs.declared.call.Verdict.{Verdict}
 use Rattle.rb_rpc.specs.Marks.{StandsForFed}
+use Rattle.rb_rpc.specs.Streams.{RecordEnds, StandsForMore}
 use Rattle.rb_rpc.specs.Records.{first_record, data_of}
+use Rattle.rb_rpc.specs.Verdict.{verdict}
 use Rattle.rb_rpc.proofs.RecordCuts.{stays}
 use Rattle.rb_rpc.proofs.Feeding.{none_ended}
-use Rattle.rb_core.specs.Reading.{Fed, longest_call, IsReading, fed_until, HasRecord, StandsBehind}
+use Rattle.rb_feed.specs.Feeds.{StandsForCall}
+use Rattle.rb_feed.specs.Saved.{loaded}
+use Rattle.rb_core.specs.Reading.{Fed, Intake, Reader, kept_of, IsReading, HasData, fed_until, StandsBehind}
 
--- Behind these bytes, where the reading began with the first marks and buffer.
-pub record IsBehind (first_marks : Marks) (first : Kept) (marks : Marks) (kept : Kept) (front : List ℕ) : Type 0 where
-  pub reads : (fed : List ℕ) → IsReading first_marks first fed → IsReading marks kept (fed ++ front)
+-- In the middle of a piece, behind these bytes of a record.
+pub record IsInside (marks : Marks) (intake : Intake) (kept : Kept) (fed : List ℕ) : Type 0 where
+  pub marks_are : StandsForFed marks fed
+  pub data_is : HasData intake kept (data_of fed)
+
+-- Behind this front of a piece, where the reading began with the first reader and buffer.
+pub record IsBehind (reader : Reader) (first : Kept) (marks : Marks) (intake : Intake) (kept : Kept) (front : List ℕ) : Type 0 where
+  pub inside : (fed : List ℕ) → IsReading reader first fed → IsInside marks intake kept (fed ++ front)
   pub cap : kept.cap ≡ first.cap
   pub tie : kept.tie ≡ first.tie
 
--- What a byte did that no record ended with, or that one did.
-pub record IsBehindByte (marks : Marks) (kept : Kept) (ended : Bool) (before : List ℕ) (byte : ℕ) : Type 0 where
-  pub ends : first_record (before ++ byte ∷ []) ≡ cond ended (Some (length before + 1)) None
-  pub stands : StandsForFed marks (cond ended [] (before ++ byte ∷ []))
-  pub keeps : kept.bytes ≡ take longest_call (data_of (before ++ byte ∷ []))
-  pub cap : kept.cap ≡ longest_call
+-- What a run of bytes did that no record ended with, or that one did.
+pub record IsBehindRun (marks : Marks) (intake : Intake) (kept : Kept) (ended : Bool) (before run : List ℕ) : Type 0 where
+  pub ends : first_record (before ++ run) ≡ cond ended (Some (length before + length run)) None
+  pub stands : StandsForFed marks (cond ended [] (before ++ run))
+  pub data_is : HasData intake kept (data_of (before ++ run))
 
 -- What is taken of a piece, and what stands behind it.
-pub record IsTaken (result : Fed) (marks : Marks) (kept : Kept) (fed piece : List ℕ) : Type 0 where
-  pub taken : result ≡ fed_until (length fed) (length piece) (first_record (fed ++ piece))
-  pub after : StandsBehind marks kept (fed ++ piece) (first_record (fed ++ piece))
+pub record IsTaken (result : Fed) (reader : Reader) (kept : Kept) (fed piece : List ℕ) : Type 0 where
+  pub taken : result ≡ fed_until fed piece (first_record (fed ++ piece))
+  pub after : StandsBehind reader kept (fed ++ piece) (first_record (fed ++ piece))
 
-taken_until : (result : Fed) (marks : Marks) (kept : Kept) (fed piece : List ℕ) (r : Option ℕ) → first_record (fed ++ piece) ≡ r
-    → result ≡ fed_until (length fed) (length piece) r → StandsBehind marks kept (fed ++ piece) r → IsTaken result marks kept fed piece
-taken_until result marks kept fed piece r is e stands = record {
-  taken = e ∙ ap (λ (x : Option ℕ). fed_until (length fed) (length piece) x) (sym is);
-  after = subst (λ (x : Option ℕ). StandsBehind marks kept (fed ++ piece) x) (sym is) stands;
+taken_until : (result : Fed) (reader : Reader) (kept : Kept) (fed piece : List ℕ) (r : Option ℕ) → first_record (fed ++ piece) ≡ r
+    → result ≡ fed_until fed piece r → StandsBehind reader kept (fed ++ piece) r → IsTaken result reader kept fed piece
+taken_until result reader kept fed piece r is e stands = record {
+  taken = e ∙ ap (λ (x : Option ℕ). fed_until fed piece x) (sym is);
+  after = subst (λ (x : Option ℕ). StandsBehind reader kept (fed ++ piece) x) (sym is) stands;
 }
 
 abbrev here : List ℕ → List ℕ → ℕ → List ℕ
 here fed piece i = fed ++ take i piece
 
-one_more : (fed piece : List ℕ) (i : ℕ) → i < length piece → here fed piece i ++ get_or piece i 0 ∷ [] ≡ here fed piece (i + 1)
-one_more fed piece i within =
-    append_assoc fed (take i piece) (get_or piece i 0 ∷ []) ∙ ap (λ (xs : List ℕ). fed ++ xs) (sym (take_more piece i 0 within))
+-- what a slice up to the end has
+abbrev rest_at : List ℕ → ℕ → List ℕ
+rest_at piece i = take (length piece - i) (drop i piece)
+
+pub rest_is : (piece : List ℕ) (i : ℕ) → rest_at piece i ≡ drop i piece
+rest_is piece i = take_all (length piece - i) (drop i piece) (omega (arith, length-drop i piece))
+
+pub length_of_rest : (piece : List ℕ) (i : ℕ) → length (rest_at piece i) ≡ length piece - i
+length_of_rest piece i = ap length (rest_is piece i) ∙ length-drop i piece
+
+abbrev run_at : List ℕ → ℕ → ℕ → List ℕ
+run_at piece i n = take n (rest_at piece i)
+
+more : (fed piece : List ℕ) (i n : ℕ) → here fed piece i ++ run_at piece i n ≡ here fed piece (i + n)
+more fed piece i n =
+    append_assoc fed (take i piece) (run_at piece i n)
+    ∙ ap (λ (xs : List ℕ). fed ++ xs) (ap (λ (xs : List ℕ). take i piece ++ take n xs) (rest_is piece i) ∙ sym (take-add i n piece))
 
 -- ---- no record ended
 
-pub nothing_fed : (marks : Marks) (kept : Kept) → IsBehind marks kept marks kept []
-nothing_fed marks kept = record {
-  reads = λ fed h. subst (λ (xs : List ℕ). IsReading marks kept xs) (sym (append_nil fed)) h;
+pub nothing_fed : (reader : Reader) (intake : Intake) (kept : Kept) → ((fed : List ℕ) → IsReading reader kept fed → HasData intake kept (data_of fed)) → IsBehind reader kept reader.marks intake kept []
+nothing_fed reader intake kept begins = record {
+  inside = λ fed h. subst (λ (xs : List ℕ). IsInside reader.marks intake kept xs) (sym (append-nil fed)) (record { marks_are = h.marks_are; data_is = begins fed h });
   cap = refl;
   tie = refl;
 }
-  where
-    append_nil : (xs : List ℕ) → xs ++ [] ≡ xs
-    append_nil [] = refl
-    append_nil (x ∷ xs) = ap (λ (ys : List ℕ). x ∷ ys) (append_nil xs)
 
-pub read_on : (marks : Marks) (kept : Kept) (fed piece : List ℕ) (i : ℕ) (ended : Bool) → i < length piece → ended ≡ false
-    → IsBehindByte marks kept ended (here fed piece i) (get_or piece i 0) → IsReading marks kept (here fed piece (i + 1))
-read_on marks kept fed piece i ended within e h =
-    subst (λ (xs : List ℕ). IsReading marks kept xs) (one_more fed piece i within)
+pub run_fed : (first_marks : Marks) (first : Intake) (was : Kept) (marks : Marks) (intake : Intake) (kept : Kept) (ended : Bool) (before run : List ℕ) → IsInside first_marks first was before
+    → RecordEnds first_marks run ended → StandsForMore first_marks run ended marks
+    → ((fed : List ℕ) → StandsForFed first_marks fed → HasData first was (data_of fed) → HasData intake kept (data_of (fed ++ run)))
+    → IsBehindRun marks intake kept ended before run
+run_fed first_marks first was marks intake kept ended before run h ends stands goes_on = record {
+  ends = ends before h.marks_are;
+  stands = stands before h.marks_are;
+  data_is = goes_on before h.marks_are h.data_is;
+}
+
+pub read_on : (marks : Marks) (intake : Intake) (kept : Kept) (fed piece : List ℕ) (i n : ℕ) (ended : Bool) → ended ≡ false
+    → IsBehindRun marks intake kept ended (here fed piece i) (run_at piece i n) → IsInside marks intake kept (here fed piece (i + n))
+read_on marks intake kept fed piece i n ended e h =
+    subst (λ (xs : List ℕ). IsInside marks intake kept xs) (more fed piece i n)
     (record {
-      marks_are = subst (λ (b : Bool). StandsForFed marks (cond b [] (here fed piece i ++ get_or piece i 0 ∷ []))) e h.stands;
-      kept_is = h.keeps;
-      cap = h.cap;
+      marks_are = subst (λ (b : Bool). StandsForFed marks (cond b [] (here fed piece i ++ run_at piece i n))) e h.stands;
+      data_is = h.data_is;
     })
 
 -- all of the piece was taken
-pub none_in : (marks : Marks) (kept : Kept) (fed piece : List ℕ) (i : ℕ) → length piece ≤ i → IsReading marks kept (here fed piece i)
-    → IsTaken (record { count = length piece; ended = false }) marks kept fed piece
-none_in marks kept fed piece i past h =
-    let all : IsReading marks kept (fed ++ piece) = subst (λ (xs : List ℕ). IsReading marks kept (fed ++ xs)) (take_all i piece past) h in
-    taken_until (record { count = length piece; ended = false }) marks kept fed piece None (none_ended marks (fed ++ piece) all.marks_are) refl all
+pub none_in : (reader : Reader) (intake : Intake) (kept : Kept) (fed piece : List ℕ) (i : ℕ) → i ≡ length piece → IsInside reader.marks intake kept (here fed piece i)
+    → ((content : List ℕ) → StandsForCall intake.head content → StandsForCall (loaded reader.head) content)
+    → IsTaken (record { count = i; verdict = None }) reader kept fed piece
+none_in reader intake kept fed piece i is h saved =
+    let all : IsInside reader.marks intake kept (fed ++ piece) = subst (λ (xs : List ℕ). IsInside reader.marks intake kept (fed ++ xs)) (take_all i piece (omega (arith, is))) h in
+    let reads : IsReading reader kept (fed ++ piece) =
+    record {
+      marks_are = all.marks_are;
+      head_is = saved (data_of (fed ++ piece)) all.data_is.head_is;
+      kept_is = all.data_is.kept_is;
+      cap = all.data_is.cap;
+    } in
+    taken_until (record { count = i; verdict = None }) reader kept fed piece None (none_ended reader.marks (fed ++ piece) all.marks_are)
+    (ap (λ (k : ℕ). record { count = k; verdict = None }) is) reads
 
 -- ---- a record ended
 
@@ -87,20 +125,22 @@ taken : (fed piece : List ℕ) (i : ℕ) → i ≤ length piece → take (length
 taken fed piece i within =
     ap (λ (xs : List ℕ). take (length fed + i) xs) (sym (whole fed piece i)) ∙ take_at (here fed piece i) (drop i piece) (length fed + i) (length_here fed piece i within)
 
-pub ended_in : (marks : Marks) (kept : Kept) (fed piece : List ℕ) (i : ℕ) (ended : Bool) → i < length piece → ended ≡ true
-    → IsBehindByte marks kept ended (here fed piece i) (get_or piece i 0)
-    → IsTaken (record { count = i + 1; ended = true }) marks kept fed piece
-ended_in marks kept fed piece i ended within e h =
-    let step = one_more fed piece i within in
-    let size : length (here fed piece i) + 1 ≡ length fed + (i + 1) = omega (arith, within, length_here fed piece i (omega (arith, within))) in
-    let ends : first_record (here fed piece i ++ get_or piece i 0 ∷ []) ≡ Some (length (here fed piece i) + 1) = h.ends ∙ ap (λ (b : Bool). cond b (Some (length (here fed piece i) + 1)) None) e in
-    let some : first_record (fed ++ piece) ≡ Some (length fed + (i + 1)) =
-    ends_at fed piece (i + 1) (length fed + (i + 1)) (ap first_record (sym step) ∙ ends ∙ ap (λ (k : ℕ). Some k) size) in
-    let front : here fed piece i ++ get_or piece i 0 ∷ [] ≡ take (length fed + (i + 1)) (fed ++ piece) = step ∙ sym (taken fed piece (i + 1) (omega (arith, within))) in
-    let read : HasRecord kept (take (length fed + (i + 1)) (fed ++ piece)) =
-    record {
-      kept_is = h.keeps ∙ ap (λ (xs : List ℕ). take longest_call (data_of xs)) front;
-      cap = h.cap;
-    } in
-    let size_too : length fed + (i + 1) - length fed ≡ i + 1 = omega arith in
-    taken_until (record { count = i + 1; ended = true }) marks kept fed piece (Some (length fed + (i + 1))) some (ap (λ (k : ℕ). record { count = k; ended = true }) (sym size_too)) read
+same : (a b : ℕ) (v w : Verdict) → a ≡ b → v ≡ w → ◌≡◌ {A = Fed} (record { count = a; verdict = Some v }) (record { count = b; verdict = Some w })
+same a b v w e f = rw (e, f) refl
+
+pub ended_in : (reader : Reader) (intake : Intake) (kept : Kept) (fed piece : List ℕ) (i n : ℕ) (ended : Bool) (said : Verdict) → i + n ≤ length piece → ended ≡ true
+    → IsBehindRun reader.marks intake kept ended (here fed piece i) (run_at piece i n)
+    → ((content : List ℕ) → StandsForCall intake.head content → said ≡ verdict content)
+    → IsTaken (record { count = i + n; verdict = Some said }) reader kept fed piece
+ended_in reader intake kept fed piece i n ended said within e h says =
+    let at : ℕ = length fed + (i + n) in
+    let size : length (here fed piece i) + length (run_at piece i n) ≡ at =
+    omega (arith, within, length_here fed piece i (omega (arith, within)), length-take-le n (rest_at piece i) (omega (arith, within, length_of_rest piece i))) in
+    let ends : first_record (here fed piece (i + n)) ≡ Some at =
+    ap first_record (sym (more fed piece i n)) ∙ h.ends ∙ ap (λ (b : Bool). cond b (Some (length (here fed piece i) + length (run_at piece i n))) None) e ∙ ap (λ (k : ℕ). Some k) size in
+    let some : first_record (fed ++ piece) ≡ Some at = ends_at fed piece (i + n) at ends in
+    let front : here fed piece i ++ run_at piece i n ≡ take at (fed ++ piece) = more fed piece i n ∙ sym (taken fed piece (i + n) within) in
+    let content : data_of (here fed piece i ++ run_at piece i n) ≡ data_of (take at (fed ++ piece)) = ap data_of front in
+    let count : i + n ≡ at - length fed = omega arith in
+    let verdict_is : said ≡ verdict (data_of (take at (fed ++ piece))) = says (data_of (here fed piece i ++ run_at piece i n)) h.data_is.head_is ∙ ap verdict content in
+    taken_until (record { count = i + n; verdict = Some said }) reader kept fed piece (Some at) some (same (i + n) (at - length fed) said (verdict (data_of (take at (fed ++ piece)))) count verdict_is) (h.data_is.kept_is ∙ ap kept_of content)

@@ -13,6 +13,7 @@ use Rattle.rb_rpc.specs.declared.reply.ReplyStatus.TheVariants as replies
 use Rattle.rb_rpc.specs.Verdict.{verdict}
 use Rattle.rb_rpc.specs.Grammar.{BeginsWithCall}
 use Rattle.rb_rpc.proofs.Calls.{verdict_agrees}
+use Rattle.rb_feed.specs.Feeds.{behind_head, arguments_of}
 use Rattle.rb_registry.specs.Rows.{rpcb_prog}
 use Rattle.rb_proto.specs.declared.call.Call.{Call}
 use Rattle.rb_proto.specs.declared.procedure.Procedure.{Procedure}
@@ -24,7 +25,7 @@ use Rattle.rb_proto.specs.Grammar.{Asks, procedure_of}
 use Rattle.rb_proto.proofs.Requests.{requests_are_of_the_grammar}
 use Rattle.rb_core.specs.declared.message.Message.{Message}
 use Rattle.rb_core.specs.declared.message.Message.TheVariants.{NoCall, Refused, Garbage, Asked}
-use Rattle.rb_core.specs.Calls.{is_served, refusal, request_of, call_of, message_by, message_of}
+use Rattle.rb_core.specs.Calls.{is_served, refusal, request_of, call_of, message_with, message_of}
 use Rattle.rb_core.specs.Grammar.{BeginsWithRequest, MessagesAreOfTheGrammar}
 
 -- ---- only served versions have procedures
@@ -102,10 +103,10 @@ from_call h arguments call e =
     (read.0, eqb-true h.prog rpcb_prog (not-false (h.prog == rpcb_prog) program.0), request_is (is_known h.vers h.proc) (request h.vers h.proc arguments) call.request read.1)
 
 spelled : (bytes : List ℕ) → AreBytes bytes → (call : Call) → message_of bytes ≡ Asked call → BeginsWithRequest call bytes
-unfolding message_of
+unfolding message_of arguments_of
 spelled bytes are call e = by_verdict (verdict bytes) refl e
   where
-    by_verdict : (v : Verdict) → verdict bytes ≡ v → message_by bytes v ≡ Asked call → BeginsWithRequest call bytes
+    by_verdict : (v : Verdict) → verdict bytes ≡ v → message_with v (behind_head v bytes) ≡ Asked call → BeginsWithRequest call bytes
     by_verdict verdicts.NoCall is e = absurd cc
     by_verdict (verdicts.RpcMismatch xid) is e = absurd cc
     by_verdict (verdicts.AuthError xid stat) is e = absurd cc
@@ -137,10 +138,10 @@ to_call call arguments are program is =
     rw (of_program, serves, known, read) refl
 
 read_back : (bytes : List ℕ) → AreBytes bytes → (call : Call) → BeginsWithRequest call bytes → message_of bytes ≡ Asked call
-unfolding message_of
+unfolding message_of arguments_of
 read_back bytes are call b =
     let is : verdict bytes ≡ verdicts.Call call.head b.place = (verdict_agrees bytes are call.head b.place).1 b.head in
-    ap (message_by bytes) is ∙ to_call call (drop b.place bytes) (AreBytes-drop b.place bytes are) b.program b.asks
+    ap (λ (v : Verdict). message_with v (behind_head v bytes)) is ∙ to_call call (drop b.place bytes) (AreBytes-drop b.place bytes are) b.program b.asks
 
 pub messages_are_of_the_grammar : MessagesAreOfTheGrammar
 messages_are_of_the_grammar bytes are call = (spelled bytes are call, read_back bytes are call)

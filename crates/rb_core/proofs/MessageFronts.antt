@@ -1,13 +1,12 @@
--- The first 9,656 bytes of a record decide what it says.
-use Rattle.std.proofs.Common.{◌≡◌, ◌≤◌, ◌+◌, ◌-◌, ℕ, cond, List, take, drop, Option, Some, None, Err, refl, ap, ◌∙◌, arith}
+-- The first 8,816 bytes of its arguments decide what a call says.
+use Rattle.std.proofs.Common.{◌≡◌, ◌≤◌, ℕ, cond, List, take, Option, Some, None, Err, refl, ap, arith}
 use Rattle.std.specs.Prelude.{option_map, option_and_then}
 use Rattle.rb_xdr.specs.Xdr.{Reading, read_number, read_opaque}
-use Rattle.rb_xdr.specs.Kept.{Kept}
 use Rattle.rb_rpc.specs.declared.call.CallHead.{CallHead}
-use Rattle.rb_rpc.specs.Records.{data_of}
-use Rattle.rb_rpc.specs.Verdict.{EndsWithin, verdict}
+use Rattle.rb_rpc.specs.Verdict.{verdict}
 use Rattle.rb_rpc.specs.declared.call.Verdict.{Verdict}
 use Rattle.rb_rpc.specs.declared.call.Verdict.TheVariants.{NoCall, RpcMismatch, AuthError, Call}
+use Rattle.rb_feed.specs.Feeds.{arguments_of}
 use Rattle.rb_proto.specs.declared.procedure.Procedure.{Procedure}
 use Rattle.rb_proto.specs.declared.procedure.Procedure.TheVariants as procedures
 use Rattle.rb_proto.specs.declared.request.ArgumentFault.TheVariants.{ProcUnavail}
@@ -15,10 +14,9 @@ use Rattle.rb_proto.specs.declared.request.Request.{Request}
 use Rattle.rb_proto.specs.declared.request.Request.TheVariants.{Mapping, Rpcb, Uaddr2taddr, Taddr2uaddr}
 use Rattle.rb_proto.specs.Types.{read_mapping, read_rpcb, read_netbuf}
 use Rattle.rb_proto.specs.Arguments.{procedure_at, is_known, value_of, front, arguments, request, or_garbage, read_request}
-use Rattle.rb_core.specs.Calls.{call_of, message_by, message_of}
-use Rattle.rb_core.specs.Reading.{longest_head, longest_arguments, longest_call, HasRecord, KeptSaysTheRecord}
-use Rattle.rb_core.proofs.ReaderFronts.{LooksAt, give_looks, bind_looks, number_looks, opaque_looks, drop_front}
-use Rattle.rb_core.proofs.Fronts.{front_decides, head_ends}
+use Rattle.rb_core.specs.Calls.{call_of, message_with, message_of}
+use Rattle.rb_core.specs.Reading.{longest_arguments, kept_of, KeptSaysTheRecord}
+use Rattle.rb_core.proofs.ReaderFronts.{LooksAt, give_looks, bind_looks, number_looks, opaque_looks}
 
 -- ---- the types of arguments
 
@@ -52,7 +50,7 @@ front_of_front : {A : Type 0} (made : A → Request) (reads : List ℕ → Readi
 front_of_front {A} made reads most n bytes looks enough = ap (λ (r : Reading A). option_map made (value_of r)) (looks.decided n bytes enough)
 
 arguments_of_front : (procedure : Procedure) (n : ℕ) (bytes : List ℕ) → longest_arguments ≤ n → arguments procedure (take n bytes) ≡ arguments procedure bytes
-unfolding arguments
+unfolding arguments longest_arguments
 arguments_of_front (procedures.Void procedure) n bytes enough = refl
 arguments_of_front (procedures.Mapping procedure) n bytes enough = front_of_front (Mapping procedure) read_mapping 16 n bytes mapping_looks (omega (arith, enough))
 arguments_of_front (procedures.Rpcb procedure) n bytes enough = front_of_front (Rpcb procedure) read_rpcb 308 n bytes rpcb_looks (omega (arith, enough))
@@ -75,23 +73,15 @@ call_of_front : (n : ℕ) (head : CallHead) (bytes : List ℕ) → longest_argum
 unfolding call_of
 call_of_front n head bytes enough = rw (request_of_front head.vers head.proc n bytes enough) refl
 
-message_of_front : (n : ℕ) (bytes : List ℕ) (v : Verdict) → longest_head + longest_arguments ≤ n → EndsWithin v longest_head → message_by (take n bytes) v ≡ message_by bytes v
-message_of_front n bytes NoCall enough within = refl
-message_of_front n bytes (RpcMismatch xid) enough within = refl
-message_of_front n bytes (AuthError xid stat) enough within = refl
-message_of_front n bytes (Call head place) enough within =
-    ap (λ (arguments : List ℕ). call_of head arguments) (drop_front place n bytes (omega (arith, enough, within)))
-    ∙ call_of_front (n - place) head (drop place bytes) (omega (arith, enough, within))
-
-pub front_says : (n : ℕ) (bytes : List ℕ) → longest_head + longest_arguments ≤ n → message_of (take n bytes) ≡ message_of bytes
-unfolding message_of
-front_says n bytes enough =
-    ap (λ (v : Verdict). message_by (take n bytes) v) (front_decides n bytes (omega (arith, enough)))
-    ∙ message_of_front n bytes (verdict bytes) enough (head_ends bytes)
+message_of_front : (v : Verdict) (n : ℕ) (arguments : List ℕ) → longest_arguments ≤ n → message_with v (take n arguments) ≡ message_with v arguments
+message_of_front NoCall n arguments enough = refl
+message_of_front (RpcMismatch xid) n arguments enough = refl
+message_of_front (AuthError xid stat) n arguments enough = refl
+message_of_front (Call head place) n arguments enough = call_of_front n head arguments enough
 
 pub kept_says : KeptSaysTheRecord
-unfolding longest_call
-kept_says bytes = front_says longest_call bytes (omega arith)
+unfolding kept_of message_of
+kept_says content = message_of_front (verdict content) longest_arguments (arguments_of content) (omega arith)
 
-pub record_says : (kept : Kept) (bytes : List ℕ) → HasRecord kept bytes → message_of kept.bytes ≡ message_of (data_of bytes)
-record_says kept bytes h = ap message_of h.kept_is ∙ kept_says (data_of bytes)
+pub record_says : (content kept : List ℕ) (v : Verdict) → v ≡ verdict content → kept ≡ kept_of content → message_with v kept ≡ message_of content
+record_says content kept v says is = rw (says, is) (kept_says content)

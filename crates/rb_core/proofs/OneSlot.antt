@@ -3,9 +3,10 @@ use Rattle.std.proofs.Common.{◌≡◌, ℕ, ◌+◌, ◌-◌, ◌<◌, Bool, t
 use Rattle.std.specs.Prelude.{min, take}
 use Rattle.std.proofs.lemmas.Bool.Decides.{nat_tests}
 use Rattle.rb_xdr.specs.Kept.{Kept}
-use Rattle.rb_rpc.specs.declared.marks.Marks.{Marks}
 use Rattle.rb_rpc.specs.declared.peer.Peer.{Peer}
 use Rattle.rb_rpc.specs.Records.{first_record, data_of}
+use Rattle.rb_rpc.specs.Verdict.{verdict}
+use Rattle.rb_rpc.specs.declared.call.Verdict.{Verdict}
 use Rattle.rb_core.specs.declared.message.Message.{Message}
 use Rattle.rb_core.specs.Calls.{message_of}
 use Rattle.rb_core.specs.declared.slot.Slot.{Slot}
@@ -17,7 +18,7 @@ use Rattle.rb_core.specs.State.Phase.{Idle, Reading, Owing, Lost}
 use Rattle.rb_core.specs.Connections.{Taking, taking, taking_on, mark_when_fed, fed_in, pending_in, phase_when_given, when_given, giving}
 use Rattle.rb_core.specs.Connections.Taking.{TakesNone}
 use Rattle.rb_core.specs.Giving.{IsGiving, pending_of}
-use Rattle.rb_core.specs.Reading.{Fed, fed_until, IsReading}
+use Rattle.rb_core.specs.Reading.{Fed, Reader, fed_until, IsReading}
 use Rattle.rb_core.specs.Slots.{Acts, StandsForPhase, StandsForConnection, received, fed_with, feeding}
 
 -- ---- the phase by the stage
@@ -32,11 +33,11 @@ idle_phase stage buffer window phase is h = at phase (subst (λ (s : Stage). Sta
     at (Owing o) h = absurd h
     at Lost h = absurd h
 
-pub reading_phase : (marks : Marks) (stage : Stage) (buffer window : Kept) (phase : Phase) → stage ≡ stages.Reading marks → StandsForPhase stage buffer window phase
-    → (fed : List ℕ) × (phase ≡ Reading fed) × IsReading marks buffer fed × (window.bytes ≡ [])
-reading_phase marks stage buffer window phase is h = at phase (subst (λ (s : Stage). StandsForPhase s buffer window phase) is h)
+pub reading_phase : (reader : Reader) (stage : Stage) (buffer window : Kept) (phase : Phase) → stage ≡ stages.Reading reader → StandsForPhase stage buffer window phase
+    → (fed : List ℕ) × (phase ≡ Reading fed) × IsReading reader buffer fed × (window.bytes ≡ [])
+reading_phase reader stage buffer window phase is h = at phase (subst (λ (s : Stage). StandsForPhase s buffer window phase) is h)
   where
-    at : (phase : Phase) → StandsForPhase (stages.Reading marks) buffer window phase → (fed : List ℕ) × (phase ≡ Reading fed) × IsReading marks buffer fed × (window.bytes ≡ [])
+    at : (phase : Phase) → StandsForPhase (stages.Reading reader) buffer window phase → (fed : List ℕ) × (phase ≡ Reading fed) × IsReading reader buffer fed × (window.bytes ≡ [])
     at Idle h = absurd h
     at (Reading fed) h = (fed, refl, h.0, h.1)
     at (Owing o) h = absurd h
@@ -101,23 +102,28 @@ some_where_fed phase fed (byte ∷ piece) is some = rw is refl
 
 -- ---- how a record ends in a piece
 
-pub not_ended : (before size : ℕ) (m : Option ℕ) (r : Fed) → r ≡ fed_until before size m → r.ended ≡ false → m ≡ None
-not_ended before size None r is ended = refl
-not_ended before size (Some n) r is ended = let clash : false ≡ true = sym ended ∙ ap (λ (f : Fed). f.ended) is in absurd cc
+pub not_ended : (fed piece : List ℕ) (m : Option ℕ) (r : Fed) → r ≡ fed_until fed piece m → r.verdict ≡ None → m ≡ None
+not_ended fed piece None r is ended = refl
+not_ended fed piece (Some n) r is ended = let clash : None ≡ Some (verdict (data_of (take n (fed ++ piece)))) = sym ended ∙ ap (λ (f : Fed). f.verdict) is in absurd cc
 
-pub record EndsAt (m : Option ℕ) : Type 0 where
+-- with this verdict on its data
+pub record EndsAt (fed piece : List ℕ) (m : Option ℕ) (said : Verdict) : Type 0 where
   pub at : ℕ
   pub is : m ≡ Some at
+  pub says : said ≡ verdict (data_of (take at (fed ++ piece)))
 
-pub has_ended : (before size : ℕ) (m : Option ℕ) (r : Fed) → r ≡ fed_until before size m → r.ended ≡ true → EndsAt m
-has_ended before size None r is ended = let clash : true ≡ false = sym ended ∙ ap (λ (f : Fed). f.ended) is in absurd cc
-has_ended before size (Some n) r is ended = record { at = n; is = refl }
+same_verdict : (a b : Verdict) → Some a ≡ Some b → a ≡ b
+same_verdict a b e = cc
 
-pub counts_all : (before size : ℕ) (m : Option ℕ) (r : Fed) → r ≡ fed_until before size m → m ≡ None → r.count ≡ size
-counts_all before size m r is none = ap (λ (f : Fed). f.count) (is ∙ ap (fed_until before size) none)
+pub has_ended : (fed piece : List ℕ) (m : Option ℕ) (r : Fed) (said : Verdict) → r ≡ fed_until fed piece m → r.verdict ≡ Some said → EndsAt fed piece m said
+has_ended fed piece None r said is ended = let clash : Some said ≡ None = sym ended ∙ ap (λ (f : Fed). f.verdict) is in absurd cc
+has_ended fed piece (Some n) r said is ended = record { at = n; is = refl; says = same_verdict said _ (sym ended ∙ ap (λ (f : Fed). f.verdict) is) }
 
-pub counts_to : (before size n : ℕ) (m : Option ℕ) (r : Fed) → r ≡ fed_until before size m → m ≡ Some n → r.count ≡ n - before
-counts_to before size n m r is some = ap (λ (f : Fed). f.count) (is ∙ ap (fed_until before size) some)
+pub counts_all : (fed piece : List ℕ) (m : Option ℕ) (r : Fed) → r ≡ fed_until fed piece m → m ≡ None → r.count ≡ length piece
+counts_all fed piece m r is none = ap (λ (f : Fed). f.count) (is ∙ ap (fed_until fed piece) none)
+
+pub counts_to : (fed piece : List ℕ) (n : ℕ) (m : Option ℕ) (r : Fed) → r ≡ fed_until fed piece m → m ≡ Some n → r.count ≡ n - length fed
+counts_to fed piece n m r is some = ap (λ (f : Fed). f.count) (is ∙ ap (fed_until fed piece) some)
 
 pub heard_then : (fed piece : List ℕ) (c : Connection) (count n : ℕ) (peer : Peer) (message : Message) → first_record (fed ++ piece) ≡ Some n → count ≡ n - length fed → peer ≡ c.peer
     → message ≡ message_of (data_of (take n (fed ++ piece))) → record { count = count; heard = Some (record { peer = peer; message = message }) } ≡ received piece c (taking_on fed piece)
@@ -145,10 +151,10 @@ nothing_pending stages.Idle buffer window Idle other h = refl
 nothing_pending stages.Idle buffer window (Reading fed) other h = absurd h
 nothing_pending stages.Idle buffer window (Owing o) other h = absurd h
 nothing_pending stages.Idle buffer window Lost other h = absurd h
-nothing_pending (stages.Reading marks) buffer window Idle other h = absurd h
-nothing_pending (stages.Reading marks) buffer window (Reading fed) other h = refl
-nothing_pending (stages.Reading marks) buffer window (Owing o) other h = absurd h
-nothing_pending (stages.Reading marks) buffer window Lost other h = absurd h
+nothing_pending (stages.Reading reader) buffer window Idle other h = absurd h
+nothing_pending (stages.Reading reader) buffer window (Reading fed) other h = refl
+nothing_pending (stages.Reading reader) buffer window (Owing o) other h = absurd h
+nothing_pending (stages.Reading reader) buffer window Lost other h = absurd h
 nothing_pending (stages.Owing given) buffer window phase other h = absurd (other given refl)
 nothing_pending stages.Lost buffer window Idle other h = absurd h
 nothing_pending stages.Lost buffer window (Reading fed) other h = absurd h

@@ -7,15 +7,8 @@ use Rattle.rb_core.specs.Costs.{event_cost, run_cost}
 use Rattle.rb_core.specs.State.{State}
 use Rattle.rb_core.specs.Step.{Event, Output, step}
 use Rattle.rb_core.specs.Run.{run, after}
+use Rattle.rb_core.proofs.RunLaws.{run-append, after-append}
 use Rattle.rb_core.specs.StandsFor.{Held, StandsFor, event_of, events_of, Happened}
-
-pub run-append : (s : State) (xs ys : List Event) → run s (xs ++ ys) ≡ run s xs ++ run (after s xs) ys
-run-append s [] ys = refl
-run-append s (x ∷ xs) ys = ap (λ (rest : List Output). (step s x).0 ∷ rest) (run-append (step s x).1 xs ys)
-
-pub after-append : (s : State) (xs ys : List Event) → after s (xs ++ ys) ≡ after (after s xs) ys
-after-append s [] ys = refl
-after-append s (x ∷ xs) ys = after-append (step s x).1 xs ys
 
 one_further : (events : List event.Event) (i : ℕ) (next : event.Event) → i < length events → next ≡ get_or events i next → take (i + 1) (events_of events) ≡ take i (events_of events) ++ event_of next ∷ []
 one_further events i next lt is =

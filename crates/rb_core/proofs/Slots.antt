@@ -7,12 +7,16 @@ use Rattle.std.proofs.lemmas.Bool.{eqb-true}
 use Rattle.std.proofs.lemmas.Bool.Decides.{nat_tests}
 use Rattle.std.proofs.lemmas.Bool.{le-ltb}
 use Rattle.rb_xdr.specs.Kept.{Kept}
-use Rattle.rb_rpc.specs.declared.marks.Marks.{Marks}
 use Rattle.rb_rpc.specs.Marks.{StandsForFed}
 use Rattle.rb_rpc.specs.Records.{data_of}
+use Rattle.rb_rpc.specs.Verdict.{verdict}
+use Rattle.rb_feed.specs.Feeds.{StandsForCall, arguments_of}
+use Rattle.rb_feed.specs.Saved.{loaded}
 use Rattle.rb_core.specs.declared.types.CoreFault.TheVariants.{Full, Spent, Gone}
-use Rattle.rb_core.specs.Reading.{longest_call, IsReading}
-use Rattle.rb_xdr.proofs.PoolLemmas.{All-with_value}
+use Rattle.rb_core.specs.Reading.{Reader, longest_arguments, buffer_size, kept_of, IsReading}
+use Rattle.std.proofs.lemmas.Map.Entries.{length-values_of}
+use Rattle.rb_xdr.specs.Search.{key_of}
+use Rattle.rb_xdr.proofs.PoolLemmas.{All-with_value, distinct-with, length-with}
 use Rattle.rb_core.specs.declared.slot.Buffers.{Buffers}
 use Rattle.rb_xdr.specs.Pool.{Pool, value_at, without, with_value, HasDistinctKeys}
 use Rattle.rb_core.specs.declared.slot.Slot.{Slot}
@@ -33,15 +37,11 @@ none_some : {X : Type 0} (x : X) → None ≡ Some x → ⊥
 none_some x h = absurd cc
 
 module _ {A : Type 0} (p : A → Bool) where
-  -- the key of the first entry whose value passes
-  abbrev pub key_of : List (ℕ × A) → Option ℕ
-  key_of es = option_map (λ e. e.0) (find (λ e. p e.1) es)
-
-  pub has_key : (es : List (ℕ × A)) (k : ℕ) → key_of es ≡ Some k → value_at es k ≡ None → ⊥
+  pub has_key : (es : List (ℕ × A)) (k : ℕ) → key_of p es ≡ Some k → value_at es k ≡ None → ⊥
   has_key [] k h n = none_some k h
   has_key (e ∷ es) k h n = by_cases (p e.1) refl (has_key es k)
     where
-      by_cases : (t : Bool) → p e.1 ≡ t → (key_of es ≡ Some k → value_at es k ≡ None → ⊥) → ⊥
+      by_cases : (t : Bool) → p e.1 ≡ t → (key_of p es ≡ Some k → value_at es k ≡ None → ⊥) → ⊥
       by_cases true t further =
           let here : e.0 ≡ k = some_is e.0 k (rw t at h) in
           let test : eqb e.0 k ≡ true = eq-eqb e.0 k here in
@@ -164,35 +164,6 @@ module _ (sought : Wanted) (entries : List (ℕ × Slot)) (all : List Connection
 
 -- ---- tables with one entry less
 
-length-values : {A : Type 0} (es : List (ℕ × A)) → length (values_of es) ≡ length es
-length-values [] = refl
-length-values (e ∷ es) = ap suc (length-values es)
-
-module _ {A : Type 0} where
-  missing-without : (es : List (ℕ × A)) (k a : ℕ) → value_at es a ≡ None → value_at (without es k) a ≡ None
-  missing-without [] k a h = h
-  missing-without (e ∷ es) k a h = by_cases (eqb e.0 a) refl (missing-without es k a)
-    where
-      by_cases : (b : Bool) → eqb e.0 a ≡ b → (value_at es a ≡ None → value_at (without es k) a ≡ None) → value_at (without (e ∷ es) k) a ≡ None
-      by_cases true t further = absurd (none_some e.1 (sym (rw t at h)))
-      by_cases false t further =
-          elim (eqb e.0 k) as (λ b. value_at (cond b es (e ∷ without es k)) a ≡ None)
-          [ true ↦ rw t at h | false ↦ rw t (further (rw t at h)) ]
-
-  pub distinct-without : (es : List (ℕ × A)) (k : ℕ) → HasDistinctKeys es → HasDistinctKeys (without es k)
-  distinct-without [] k d = tt
-  distinct-without (e ∷ es) k d =
-      elim (eqb e.0 k) as (λ b. HasDistinctKeys (cond b es (e ∷ without es k)))
-      [ true ↦ d.1 | false ↦ (missing-without es k e.0 d.0, distinct-without es k d.1) ]
-
-  pub length-without : (es : List (ℕ × A)) (k : ℕ) (a : A) → value_at es k ≡ Some a → length es ≡ length (without es k) + 1
-  length-without [] k a h = absurd (none_some a h)
-  length-without (e ∷ es) k a h = by_cases (eqb e.0 k) refl (length-without es k a)
-    where
-      by_cases : (b : Bool) → eqb e.0 k ≡ b → (value_at es k ≡ Some a → length es ≡ length (without es k) + 1) → length (e ∷ es) ≡ length (without (e ∷ es) k) + 1
-      by_cases true t further = rw t (omega arith)
-      by_cases false t further = let l = further (rw t at h) in rw t (omega (arith, l))
-
 any-without : (test : Slot → Bool) (es : List (ℕ × Slot)) (k : ℕ) → list_any test (values_of es) ≡ false → list_any test (values_of (without es k)) ≡ false
 any-without test [] k h = refl
 any-without test (e ∷ es) k h = by_cases (test e.1) refl (any-without test es k)
@@ -210,29 +181,6 @@ numbered-without given (e ∷ es) k n =
     [ true ↦ n.2 | false ↦ (n.0, any-without (is_numbered e.1.number) es k n.1, numbered-without given es k n.2) ]
 
 -- ---- a slot changed
-
-module _ {A : Type 0} where
-  missing-with : (es : List (ℕ × A)) (k a : ℕ) (v : A) → value_at es a ≡ None → value_at (with_value es k v) a ≡ None
-  missing-with [] k a v h = h
-  missing-with (e ∷ es) k a v h = by_cases (eqb e.0 a) refl (missing-with es k a v)
-    where
-      by_cases : (b : Bool) → eqb e.0 a ≡ b → (value_at es a ≡ None → value_at (with_value es k v) a ≡ None) → value_at (with_value (e ∷ es) k v) a ≡ None
-      by_cases true t further = absurd (none_some e.1 (sym (rw t at h)))
-      by_cases false t further =
-          elim (eqb e.0 k) as (λ b. value_at (cond b ((e.0, v) ∷ es) (e ∷ with_value es k v)) a ≡ None)
-          [ true ↦ rw t (rw t at h) | false ↦ rw t (further (rw t at h)) ]
-
-  pub distinct-with : (es : List (ℕ × A)) (k : ℕ) (v : A) → HasDistinctKeys es → HasDistinctKeys (with_value es k v)
-  distinct-with [] k v d = tt
-  distinct-with (e ∷ es) k v d =
-      elim (eqb e.0 k) as (λ b. HasDistinctKeys (cond b ((e.0, v) ∷ es) (e ∷ with_value es k v)))
-      [ true ↦ d | false ↦ (missing-with es k e.0 v d.0, distinct-with es k v d.1) ]
-
-  pub length-with : (es : List (ℕ × A)) (k : ℕ) (v : A) → length (with_value es k v) ≡ length es
-  length-with [] k v = refl
-  length-with (e ∷ es) k v =
-      elim (eqb e.0 k) as (λ b. length (cond b ((e.0, v) ∷ es) (e ∷ with_value es k v)) ≡ length (e ∷ es))
-      [ true ↦ refl | false ↦ ap suc (length-with es k v) ]
 
 any-with : (number : ℕ) (es : List (ℕ × Slot)) (k : ℕ) (old new : Slot) → value_at es k ≡ Some old → new.number ≡ old.number
     → list_any (is_numbered number) (values_of (with_value es k new)) ≡ list_any (is_numbered number) (values_of es)
@@ -435,16 +383,20 @@ take_nothing : (n : ℕ) → take {A = ℕ} n [] ≡ []
 take_nothing zero = refl
 take_nothing (suc n) = refl
 
-nothing_kept : take longest_call (data_of []) ≡ []
+nothing_kept : kept_of (data_of []) ≡ []
+unfolding data_of kept_of arguments_of verdict
+nothing_kept = take_nothing longest_arguments
+
+no_data : data_of [] ≡ []
 unfolding data_of
-nothing_kept = take_nothing longest_call
+no_data = refl
 
 -- an emptied buffer, between two records
-pub reads_nothing : (marks : Marks) (kept : Kept) → StandsForFed marks [] → kept.bytes ≡ [] → kept.cap ≡ longest_call → IsReading marks kept []
-reads_nothing marks kept m e c = record { marks_are = m; kept_is = e ∙ sym nothing_kept; cap = c }
+pub reads_nothing : (reader : Reader) (kept : Kept) → StandsForFed reader.marks [] → StandsForCall (loaded reader.head) [] → kept.bytes ≡ [] → kept.cap ≡ buffer_size → IsReading reader kept []
+reads_nothing reader kept m h e c = record { marks_are = m; head_is = rw no_data h; kept_is = e ∙ sym nothing_kept; cap = c }
 
 pub as_many : (es : List (ℕ × Slot)) (all : List Connection) → AllZip StandsForConnection (values_of es) all → length all ≡ length es
-as_many es all z = sym (same_length_of StandsForConnection (values_of es) all z) ∙ length-values es
+as_many es all z = sym (same_length_of StandsForConnection (values_of es) all z) ∙ length-values_of es
 
 module _ (conns : ℕ) (peer : Peer) (clock : ℕ) (table : Table) where
   pub full_acts : conns ≤ length table.slots → Acts StandsForConnections (opening_of conns peer clock) table table (Err Full)

@@ -1,5 +1,5 @@
 -- What a message says, by the order of refusals, and what it is answered with (RFC 5531 sections 8 and 9).
-use Rattle.std.specs.Prelude.{ℕ, ◌==◌, nat_lt, not, ◌||◌, Bool, true, false, if◌then◌else◌, List, ◌++◌, length, drop, Result, Ok, Err}
+use Rattle.std.specs.Prelude.{ℕ, ◌==◌, nat_lt, not, ◌||◌, Bool, true, false, if◌then◌else◌, List, ◌++◌, length, Result, Ok, Err}
 use Rattle.rb_rpc.specs.declared.call.CallHead.{CallHead}
 use Rattle.rb_rpc.specs.declared.call.Verdict.{Verdict}
 use Rattle.rb_rpc.specs.declared.call.Verdict.TheVariants as verdicts
@@ -7,6 +7,7 @@ use Rattle.rb_rpc.specs.Verdict.{verdict}
 use Rattle.rb_rpc.specs.declared.reply.ReplyStatus.{ReplyStatus}
 use Rattle.rb_rpc.specs.declared.reply.ReplyStatus.TheVariants as replies
 use Rattle.rb_rpc.specs.Replies.{reply_head}
+use Rattle.rb_feed.specs.Feeds.{arguments_of}
 use Rattle.rb_registry.specs.Rows.{rpcb_prog}
 use Rattle.rb_proto.specs.declared.request.ArgumentFault.{ArgumentFault}
 use Rattle.rb_proto.specs.declared.request.ArgumentFault.TheVariants as faults
@@ -43,15 +44,16 @@ call_of head arguments =
     else if not (is_served head.vers) then refusal head.xid (replies.ProgMismatch 2 4)
     else request_of head (read_request head.vers head.proc arguments)
 
-abbrev pub message_by : List ℕ → Verdict → Message
-message_by bytes verdicts.NoCall = says.NoCall
-message_by bytes (verdicts.RpcMismatch xid) = refusal xid (replies.RpcMismatch 2 2)
-message_by bytes (verdicts.AuthError xid stat) = refusal xid (replies.AuthError stat)
-message_by bytes (verdicts.Call head place) = call_of head (drop place bytes)
+-- a message of this verdict, with the bytes behind its head
+abbrev pub message_with : Verdict → List ℕ → Message
+message_with verdicts.NoCall arguments = says.NoCall
+message_with (verdicts.RpcMismatch xid) arguments = refusal xid (replies.RpcMismatch 2 2)
+message_with (verdicts.AuthError xid stat) arguments = refusal xid (replies.AuthError stat)
+message_with (verdicts.Call head place) arguments = call_of head arguments
 
 -- the data of a whole record, or a datagram
 unfoldable pub message_of : List ℕ → Message
-message_of bytes = message_by bytes (verdict bytes)
+message_of bytes = message_with (verdict bytes) (arguments_of bytes)
 
 -- ---- what it is answered with
 

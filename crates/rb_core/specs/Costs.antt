@@ -7,7 +7,7 @@ use Rattle.rb_core.specs.declared.types.CoreFault.{CoreFault}
 use Rattle.rb_core.specs.State.{State, Connection}
 use Rattle.rb_core.specs.Connections.{Taking, taking, live_connection}
 use Rattle.rb_core.specs.Connections.Taking.{TakesNone, GoesOn, Ends}
-use Rattle.rb_core.specs.Reading.{longest_call}
+use Rattle.rb_core.specs.Reading.{buffer_size}
 use Rattle.rb_core.specs.Step.{Taken, Event, step}
 use Rattle.rb_core.specs.Step.Event.{Open, Bytes, Pending, Gave, Closed, NextLost, Datagram}
 
@@ -38,9 +38,13 @@ give_cost = 3 + advance_cost
 abbrev pub find_cost : ℕ → ℕ
 find_cost connections = 2 * connections + 3
 
--- what it costs to read a record that ended: its length, its first bytes, and the buffer emptied
+-- what it costs to take so many bytes of a piece: the look at the room for arguments, and each byte may be kept
+abbrev pub take_cost : ℕ → ℕ
+take_cost count = count + 1
+
+-- what it costs to read a record that ended: the length of its arguments, they themselves, and the buffer emptied
 abbrev pub read_cost : ℕ
-read_cost = longest_call + 2
+read_cost = buffer_size + 2
 
 abbrev pub heard_cost : Option Heard → ℕ
 heard_cost None = 0
@@ -48,16 +52,16 @@ heard_cost (Some heard) = read_cost
 
 -- what it costs to take so many bytes of a piece, and to read the record that ended with them
 abbrev pub received_cost : Received → ℕ
-received_cost got = got.count + heard_cost got.heard
+received_cost got = take_cost got.count + heard_cost got.heard
 
 abbrev pub taken_cost : Result Received CoreFault → ℕ
 taken_cost (Ok got) = received_cost got
 taken_cost (Err fault) = 0
 
--- how many bytes were taken, none where the call was refused
-abbrev pub count_taken : Result Taken CoreFault → ℕ
-count_taken (Ok taken) = taken.count
-count_taken (Err fault) = 0
+-- what it costs to take bytes, nothing where the call was refused
+abbrev pub taking_cost : Result Taken CoreFault → ℕ
+taking_cost (Ok taken) = take_cost taken.count
+taking_cost (Err fault) = 0
 
 abbrev pub has_ended : Taking → Bool
 has_ended TakesNone = false
@@ -93,7 +97,7 @@ ended_cost s after (Ends n content) = answer_cost (connection_count s) (row_coun
 -- by whether a record ended
 abbrev pub piece_cost : State → State → List ℕ → Option Connection → ℕ
 piece_cost s after piece None = 0
-piece_cost s after piece (Some c) = length piece + ended_cost s after (taking c.phase piece)
+piece_cost s after piece (Some c) = take_cost (length piece) + ended_cost s after (taking c.phase piece)
 
 -- what an event costs from a state, where it leaves this one
 abbrev pub cost_between : State → State → Event → ℕ

@@ -1,6 +1,7 @@
 pub mod State
 pub mod Calls
 pub mod Giving
+pub mod Windows
 pub mod Connections
 pub mod Step
 pub mod Run

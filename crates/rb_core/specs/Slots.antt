@@ -4,7 +4,6 @@ use Rattle.std.specs.List.{AllZip, list_any}
 use Rattle.std.specs.Map.{values_of}
 use Rattle.rb_xdr.specs.Kept.{Kept}
 use Rattle.rb_xdr.specs.Pool.{Pool, HasDistinctKeys}
-use Rattle.rb_rpc.specs.declared.marks.Marks.{Marks}
 use Rattle.rb_core.specs.declared.slot.Slot.{Slot}
 use Rattle.rb_core.specs.declared.slot.Buffers.{Buffers}
 use Rattle.rb_core.specs.declared.slot.Stage.{Stage}
@@ -18,7 +17,7 @@ use Rattle.rb_core.specs.State.Phase.{Idle, Reading, Owing, Lost}
 use Rattle.rb_core.specs.Connections.{Taking, taking, mark_when_fed, reading, is_lost, is_live, has_number}
 use Rattle.rb_core.specs.Connections.Taking.{TakesNone, GoesOn, Ends}
 use Rattle.rb_core.specs.Giving.{longest_fragment, IsGiving}
-use Rattle.rb_core.specs.Reading.{longest_call, IsReading}
+use Rattle.rb_core.specs.Reading.{Reader, buffer_size, IsReading}
 
 -- An act on what something stands for, which gives a result: from whatever the old one stood for, this result came,
 -- and the new one stands for what is there after the act.
@@ -31,7 +30,7 @@ pub record Acts {Held Plain Result : Type 0} (StandsFor : Held → Plain → Typ
 -- The stage and the buffers hold what there is to know of the phase.
 abbrev pub StandsForPhase : Stage → Kept → Kept → Phase → Type 0
 StandsForPhase stages.Idle buffer window Idle = (buffer.bytes ≡ []) × (window.bytes ≡ [])
-StandsForPhase (stages.Reading marks) buffer window (Reading fed) = IsReading marks buffer fed × (window.bytes ≡ [])
+StandsForPhase (stages.Reading reader) buffer window (Reading fed) = IsReading reader buffer fed × (window.bytes ≡ [])
 StandsForPhase (stages.Owing given) buffer window (Owing o) = IsGiving buffer.bytes window given o
 StandsForPhase stages.Lost buffer window Lost = ⊤
 StandsForPhase stage buffer window phase = ⊥
@@ -43,11 +42,11 @@ pub record StandsForConnection (slot : Slot) (c : Connection) : Type 0 where
   pub phase : StandsForPhase slot.stage slot.buffer slot.window c.phase
 
 -- The slot is about to be fed a piece behind these bytes of a record.
-pub record IsBeforePiece (slot : Slot) (marks : Marks) (clock : ℕ) (c : Connection) (fed : List ℕ) : Type 0 where
+pub record IsBeforePiece (slot : Slot) (reader : Reader) (clock : ℕ) (c : Connection) (fed : List ℕ) : Type 0 where
   pub number : slot.number ≡ c.number
   pub peer : slot.peer ≡ c.peer
   pub mark : slot.mark ≡ mark_when_fed clock c.mark c.phase
-  pub reads : IsReading marks slot.buffer fed
+  pub reads : IsReading reader slot.buffer fed
   pub window : slot.window.bytes ≡ []
 
 -- what the core is told of a piece that a connection takes
@@ -85,7 +84,7 @@ pub record StandsForConnections (table : Table) (connections : Connections) : Ty
 abbrev pub is_lost_stage : Stage → Bool
 is_lost_stage stages.Lost = true
 is_lost_stage stages.Idle = false
-is_lost_stage (stages.Reading marks) = false
+is_lost_stage (stages.Reading reader) = false
 is_lost_stage (stages.Owing given) = false
 
 unfoldable pub is_wanted_slot : Wanted → Slot → Bool
@@ -122,7 +121,7 @@ AreNumbered given (slot ∷ rest) = (slot.number ≤ given) × (list_any (is_num
 pub record AreBuffers (tie : ℕ) (buffer window : Kept) : Type 0 where
   pub buffer_tie : buffer.tie ≡ tie
   pub window_tie : window.tie ≡ tie
-  pub buffer_cap : buffer.cap ≡ longest_call
+  pub buffer_cap : buffer.cap ≡ buffer_size
   pub window_cap : window.cap ≡ longest_fragment
 
 abbrev pub HasBuffers : ℕ → Slot → Type 0
@@ -137,7 +136,7 @@ pub record AreSpare (tie : ℕ) (b : Buffers) : Type 0 where
 -- a buffer to write a reply in, which a connection takes in exchange for its own
 pub record IsDraft (tie : ℕ) (kept : Kept) : Type 0 where
   pub tie_is : kept.tie ≡ tie
-  pub cap : kept.cap ≡ longest_call
+  pub cap : kept.cap ≡ buffer_size
 
 -- the slot goes on having its number, and buffers of this meter
 pub record StaysSlot (tie : ℕ) (old new : Slot) : Type 0 where

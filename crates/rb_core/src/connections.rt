@@ -6,6 +6,8 @@ ghost use Rattle.rb_xdr.specs.Meter.{PaysAtMost};
 ghost use Rattle.rb_xdr.specs.Pool.{HasDistinctKeys};
 ghost use Rattle.rb_core.specs.Slots.{wanted_slot, AreBuffers, AreSpare};
 
+use crate::reading::LONGEST_ARGUMENTS;
+use crate::serve::LONGEST_REPLY;
 use crate::slot::{Buffers, Received, Slot, Stage, Wanted};
 use crate::types::{CoreFault, Outcome};
 use rb_rpc::Peer;
@@ -13,8 +15,12 @@ use rb_xdr::{Kept, Meter, NoMemory, Pool};
 use std::alloc::Global;
 use std::marker::Model;
 
-/// So many first bytes of a record decide what it says, and every reply is shorter.
-pub const LONGEST_CALL: usize = 9656;
+/// A buffer has the arguments of the call that is read, and later the reply to it.
+pub const BUFFER_SIZE: usize = if LONGEST_ARGUMENTS < LONGEST_REPLY {
+    LONGEST_REPLY
+} else {
+    LONGEST_ARGUMENTS
+};
 
 /// A whole marked fragment of a reply.
 pub const LONGEST_FRAGMENT: usize = 1028;
@@ -100,7 +106,7 @@ fn put_slot(slots: &mut Pool<Slot>, slot: Slot, meter: &mut Meter)
 }
 
 /// As many buffers as there may be connections.
-#[tactic(auto, unfolding(crate::specs::Reading::longest_call, crate::specs::Giving::longest_fragment))]
+#[tactic(auto, unfolding(crate::specs::Reading::longest_arguments, crate::specs::Reading::buffer_size, crate::specs::Calls::longest_reply, crate::specs::Giving::longest_fragment))]
 fn make_spare(alloc: Global, conns: usize, meter: &mut Meter) -> Result<Pool<Buffers>, NoMemory>
     ensures distinct { IfOk result (λ spare. HasDistinctKeys spare.entries) }
     ensures all { IfOk result (λ spare. length spare.entries ≡ conns) }
@@ -112,7 +118,7 @@ fn make_spare(alloc: Global, conns: usize, meter: &mut Meter) -> Result<Pool<Buf
 {
     let mut spare = Pool::new(alloc, conns, meter)?;
     for _i in 0..conns {
-        let buffer = Kept::new(alloc, LONGEST_CALL, meter)?;
+        let buffer = Kept::new(alloc, BUFFER_SIZE, meter)?;
         let window = Kept::new(alloc, LONGEST_FRAGMENT, meter)?;
         put_buffers(&mut spare, Buffers { buffer, window }, meter);
     }
@@ -123,18 +129,10 @@ fn make_spare(alloc: Global, conns: usize, meter: &mut Meter) -> Result<Pool<Buf
 #[tactic(auto, unfolding(crate::specs::Slots::wanted_slot))]
 fn wanted_key(slots: &Pool<Slot>, wanted: Wanted, meter: &mut Meter) -> Option<usize>
     requires tie { meter.old.tie ≡ slots.now.tie }
-    requires distinct { HasDistinctKeys slots.now.entries }
     ensures key { result ≡ option_map (λ e. e.0) (wanted_slot wanted slots.now.entries) }
     ensures cost { PaysAtMost meter.old meter.new (2 * length slots.now.entries + 2) }
 {
-    let mut place = None;
-    'slots: while let Some((key, slot)) = slots.entry_after(place, meter) {
-        if slot.is_wanted(wanted) {
-            return Some(key);
-        }
-        place = Some(key);
-    }
-    None
+    slots.find_key(|slot| slot.is_wanted(wanted), meter)
 }
 
 impl Connections {

@@ -2,7 +2,7 @@
 ghost use Rattle.std.specs.Prelude.{◌≡◌, ◌≤◌, IsTrue};
 ghost use Rattle.rb_core.specs.State.{are_good};
 
-use crate::connections::{Connections, LONGEST_CALL};
+use crate::connections::{BUFFER_SIZE, Connections};
 use crate::message::read_message;
 use crate::serve::{LONGEST_REPLY, serve};
 use crate::slot::{Heard, Received};
@@ -67,12 +67,12 @@ impl Core {
     ghost use Rattle.rb_core.specs.Step.{datagram, open_connection, bytes, answering, pending, pending_count, gave, close_connection, next_lost};
     ghost use Rattle.rb_core.specs.Slots.{Acts};
     ghost use Rattle.rb_core.specs.StandsFor.{StandsFor, outcome_with};
-    ghost use Rattle.rb_core.specs.Costs.{find_cost, pending_cost, give_cost, serve_cost, settle_cost, answer_cost, count_taken, NoRecordEnds};
+    ghost use Rattle.rb_core.specs.Costs.{find_cost, pending_cost, give_cost, serve_cost, settle_cost, answer_cost, taking_cost, NoRecordEnds};
 
     /// A core with the daemon's own rows alone, at the moment `now` (milliseconds since the start of 1970).
     /// `first_xid` is the number of the first call that it forwards. `BadLimits` where a limit is out of its
     /// range, else `NoMemory` where an allocation is refused.
-    #[tactic(auto, unfolding(crate::specs::Calls::longest_reply, crate::specs::Reading::longest_call))]
+    #[tactic(auto, unfolding(crate::specs::Calls::longest_reply, crate::specs::Reading::longest_arguments, crate::specs::Reading::buffer_size))]
     pub fn new(
         alloc: Global,
         limits: Limits,
@@ -101,7 +101,7 @@ impl Core {
         let Ok(reply) = Kept::new(alloc, LONGEST_REPLY, meter) else {
             return Err(CoreFault::NoMemory);
         };
-        let Ok(draft) = Kept::new(alloc, LONGEST_CALL, meter) else {
+        let Ok(draft) = Kept::new(alloc, BUFFER_SIZE, meter) else {
             return Err(CoreFault::NoMemory);
         };
         Ok(Core {
@@ -197,12 +197,12 @@ impl Core {
         ensures refused { OnErr result (self.new ≡ self.old) }
         ensures tie { self.new.tie ≡ self.old.tie }
         ensures cost { PaysAtMost meter.old meter.new
-            (find_cost (length self.old.connections.slots) + count_taken result + answer_cost
+            (find_cost (length self.old.connections.slots) + taking_cost result + answer_cost
             (length self.old.connections.slots)
             (length (rows_of self.old.registry)) (length (rows_of self.new.registry))) }
         ensures cheap { (s : State) → StandsFor self.old s → NoRecordEnds s id piece.now
             → PaysAtMost meter.old meter.new
-            (find_cost (length self.old.connections.slots) + count_taken result) }
+            (find_cost (length self.old.connections.slots) + taking_cost result) }
     {
         let clock = self.clock.max(now);
         let Received { count, heard } = self.connections.take(id, piece, clock, meter)?;
@@ -218,7 +218,7 @@ impl Core {
     }
 
     /// Answers what a record on a connection said, and lets the connection go on. It says whether it is Lost now.
-    #[tactic(auto, unfolding(crate::specs::Calls::longest_reply, crate::specs::Reading::longest_call))]
+    #[tactic(auto, unfolding(crate::specs::Calls::longest_reply, crate::specs::Reading::longest_arguments, crate::specs::Reading::buffer_size))]
     fn answer(&mut self, id: u64, heard: Heard, meter: &mut Meter) -> bool
         requires { meter.old.tie ≡ self.old.tie }
         ensures acts { Acts StandsFor (λ s. answering s id heard.peer heard.message)

@@ -2,11 +2,11 @@
 //!
 //! The whole reply stays unmarked in one buffer. A window shows its current fragment, marked, and
 //! a number tells how many of all its marked bytes were given.
-ghost use Rattle.std.specs.Prelude.{◌≡◌, ◌+◌, ◌-◌, ◌%◌, ◌<◌, ◌≤◌, ◌^◌, ◌++◌, ℕ, List, length, take, drop, nat_lt, if◌then◌else◌, Some, None, IfSome};
+ghost use Rattle.std.specs.Prelude.{◌≡◌, ◌-◌, ◌%◌, ◌<◌, ◌≤◌, ◌^◌, length};
 ghost use Rattle.rb_xdr.specs.Meter.{Pays, PaysAtMost};
-ghost use Rattle.rb_rpc.specs.Records.{marked};
-ghost use Rattle.rb_core.specs.State.{Owed};
-ghost use Rattle.rb_core.specs.Giving.{longest_fragment, pending_of, IsGiving, owed_of};
+ghost use Rattle.rb_xdr.specs.Puts.{Appends, HasRoom};
+ghost use Rattle.rb_core.specs.Giving.{longest_fragment, IsGiving, owed_of};
+ghost use Rattle.rb_core.specs.Windows.{showing, OfPending, CountsOn, ShowsOn};
 ghost use Rattle.rb_core.specs.Costs.{show_cost, pending_cost, advance_cost};
 
 use rb_rpc::fragment_header;
@@ -21,8 +21,8 @@ const MARKED: usize = 1028;
 /// Appends bytes where there is room for them.
 fn put(window: &mut Kept, bytes: &[u8], meter: &mut Meter)
     requires tie { meter.old.tie ≡ window.old.tie }
-    requires room { length window.old.bytes + length bytes.now ≤ window.old.cap }
-    ensures written { window.new ≡ record window.old { bytes = window.old.bytes ++ bytes.now } }
+    requires room { HasRoom bytes.now window.old }
+    ensures written { Appends bytes.now window.old window.new }
     ensures cost { PaysAtMost meter.old meter.new (length bytes.now) }
 {
     let Ok(()) = window.extend(bytes, meter) else {
@@ -37,11 +37,7 @@ fn show(reply: &Kept, start: usize, window: &mut Kept, meter: &mut Meter)
     requires window_tie { meter.old.tie ≡ window.old.tie }
     requires start { start < length reply.now.bytes }
     requires cap { window.old.cap ≡ longest_fragment }
-    ensures shown { window.new
-        ≡ record window.old {
-          bytes = take longest_fragment
-              (marked (drop start reply.now.bytes));
-        } }
+    ensures shown { window.new ≡ showing window.old reply.now.bytes start }
     ensures cost { PaysAtMost meter.old meter.new show_cost }
 {
     let left = reply.len(meter) - start;
@@ -70,8 +66,7 @@ pub fn begin(reply: &Kept, window: &mut Kept, meter: &mut Meter)
 pub fn pending_len(window: &Kept, given: usize, meter: &mut Meter) -> usize
     requires tie { meter.old.tie ≡ window.now.tie }
     ensures left { result ≡ length window.now.bytes - given % longest_fragment }
-    ensures pending { (reply : List ℕ) (o : Owed) → IsGiving reply window.now given o
-        → result ≡ length (pending_of o) }
+    ensures pending { OfPending window.now given (λ bytes. result ≡ length bytes) }
     ensures cost { Pays meter.old meter.new 1 }
 {
     window.len(meter).saturating_sub(given % MARKED)
@@ -82,8 +77,7 @@ pub fn pending_len(window: &Kept, given: usize, meter: &mut Meter) -> usize
 pub fn pending<'a>(window: &'a Kept, given: usize, meter: &mut Meter) -> &'a [u8]
     requires tie { meter.old.tie ≡ window.now.tie }
     requires cap { window.now.cap ≡ longest_fragment }
-    ensures pending { (reply : List ℕ) (o : Owed) → IsGiving reply window.now given o
-        → result.now ≡ pending_of o }
+    ensures pending { OfPending window.now given (λ bytes. result.now ≡ bytes) }
     ensures few { length result.now ≤ longest_fragment }
     ensures cost { PaysAtMost meter.old meter.new pending_cost }
 {
@@ -107,12 +101,8 @@ pub fn advance(
     requires reply_cap { reply.now.cap < 2 ^ 32 }
     requires cap { window.old.cap ≡ longest_fragment }
     requires pending { more ≤ length window.old.bytes - given % longest_fragment }
-    ensures count { (o : Owed) → IsGiving reply.now.bytes window.old given o
-        → result ≡ (if nat_lt (o.given + more) (length o.marked) then Some
-        (o.given + more) else None) }
-    ensures giving { (o : Owed) → IsGiving reply.now.bytes window.old given o
-        → IfSome result (λ count. IsGiving reply.now.bytes window.new count
-        (record o { given = o.given + more })) }
+    ensures count { CountsOn reply.now.bytes window.old given more result }
+    ensures giving { ShowsOn reply.now.bytes window.old window.new given more result }
     ensures cap { window.new.cap ≡ window.old.cap }
     ensures tie { window.new.tie ≡ window.old.tie }
     ensures cost { PaysAtMost meter.old meter.new advance_cost }

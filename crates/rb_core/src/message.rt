@@ -1,6 +1,6 @@
 //! What the data of a record, or a datagram, says: the order of refusals.
 ghost use Rattle.std.specs.Prelude.{◌≡◌};
-ghost use Rattle.rb_core.specs.Calls.{is_served, request_of, call_of, message_of};
+ghost use Rattle.rb_core.specs.Calls.{is_served, request_of, call_of, message_with, message_of};
 
 use rb_proto::{ArgumentFault, Call, Request, read_args};
 use rb_registry::RPCB_PROG;
@@ -57,18 +57,27 @@ fn call_of(head: CallHead, arguments: &[u8]) -> Message
     request_of(head, read_args(head.vers, head.proc, arguments))
 }
 
-/// What the data of a record, or a datagram, says: the first line of the order of refusals that holds decides.
-#[tactic(auto, unfolding(crate::specs::Calls::message_of))]
-pub fn read_message(bytes: &[u8]) -> Message
-    ensures { result ≡ message_of bytes.now }
+/// What a message says on which this is the verdict, and these are the bytes behind its head.
+pub fn message_with(verdict: Verdict, arguments: &[u8]) -> Message
+    ensures { result ≡ message_with verdict arguments.now }
 {
-    match read_call(bytes) {
+    match verdict {
         Verdict::NoCall => Message::NoCall,
         Verdict::RpcMismatch(xid) => refusal(xid, ReplyStatus::RpcMismatch(2, 2)),
         Verdict::AuthError(xid, stat) => refusal(xid, ReplyStatus::AuthError(stat)),
-        Verdict::Call(head, place) => {
-            let (_, arguments) = bytes.split_at(place);
-            call_of(head, arguments)
-        }
+        Verdict::Call(head, _) => call_of(head, arguments),
     }
+}
+
+/// What the data of a record, or a datagram, says: the first line of the order of refusals that holds decides.
+#[tactic(auto, unfolding(crate::specs::Calls::message_of, rb_feed::specs::Feeds::arguments_of))]
+pub fn read_message(bytes: &[u8]) -> Message
+    ensures { result ≡ message_of bytes.now }
+{
+    let verdict = read_call(bytes);
+    let arguments = match verdict {
+        Verdict::Call(_, place) => &bytes[place..],
+        Verdict::NoCall | Verdict::RpcMismatch(_) | Verdict::AuthError(_, _) => &[],
+    };
+    message_with(verdict, arguments)
 }

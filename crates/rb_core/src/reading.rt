@@ -1,83 +1,218 @@
 //! Bytes that arrive on a connection.
-ghost use Rattle.std.specs.Prelude.{◌≡◌, ℕ, ◌+◌, ◌≤◌, [], ◌∷◌, ◌++◌, if◌then◌else◌, List, length, take, Some, None};
+ghost use Rattle.std.specs.Prelude.{◌≡◌, ℕ, ◌+◌, ◌-◌, ◌<◌, ◌≤◌, [], ◌∷◌, ◌++◌, if◌then◌else◌, List, length, take, drop, min, Some, None};
 ghost use Rattle.rb_xdr.specs.Meter.{Pays, PaysAtMost};
 ghost use Rattle.rb_rpc.specs.Marks.{StandsForFed};
+ghost use Rattle.rb_rpc.specs.Streams.{RecordEnds, ArePart, StandsForMore};
 ghost use Rattle.rb_rpc.specs.Records.{first_record, data_of};
-ghost use Rattle.rb_core.specs.Reading.{longest_call, IsReading, fed_until, StandsBehind, KeptSaysTheRecord};
+ghost use Rattle.rb_feed.specs.Feeds.{StandsForCall, StandsForMore as StandsForMoreOfCall};
+ghost use Rattle.rb_feed.specs.Saved.{loaded};
+ghost use Rattle.rb_core.specs.Reading.{longest_arguments, buffer_size, kept_of, IsReading, HasData, AreArgumentsIn, fed_until, StandsBehind, KeptSaysTheRecord};
 
-use rb_rpc::{Marks, Part};
+use rb_feed::CallFeed;
+use rb_rpc::{Marks, Part, Verdict};
 use rb_xdr::{Kept, Meter};
+
+/// The greatest length of arguments that are served.
+pub const LONGEST_ARGUMENTS: usize = 8_816;
+
+/// A record that is read, but for its call's arguments, which are in a buffer.
+#[derive(Clone, Copy, Debug, PartialEq, Eq)]
+pub struct Reader {
+    /// Where its next byte stands.
+    marks: Marks,
+    /// The head of its call as far as it came, saved.
+    head: [u32; 16],
+}
+
+/// A call whose data is being taken.
+#[derive(Clone, Copy)]
+struct Intake {
+    head: CallFeed,
+    /// How many more bytes of its arguments are kept.
+    room: usize,
+}
 
 /// How far a piece of bytes was taken.
 #[derive(Clone, Copy, Debug, PartialEq, Eq)]
 pub struct Fed {
     /// How many of its bytes were taken.
     pub count: usize,
-    /// Whether a record ended with the last of them.
-    pub ended: bool,
+    /// Where a record ended with the last of them, the verdict on its data.
+    pub verdict: Option<Verdict>,
 }
 
-/// Adds a byte at the end, or leaves it out where the buffer is full.
-fn keep(kept: &mut Kept, byte: u8, meter: &mut Meter)
-    requires { meter.old.tie ≡ kept.old.tie }
-    ensures front { (bytes : List ℕ) → kept.old.bytes ≡ take kept.old.cap bytes
-        → kept.new.bytes ≡ take kept.old.cap (bytes ++ byte ∷ []) }
-    ensures cap { kept.new.cap ≡ kept.old.cap }
-    ensures tie { kept.new.tie ≡ kept.old.tie }
-    ensures cost { Pays meter.old meter.new 1 }
-{
-    let _ = kept.push(byte, meter);
+/// The bytes in front of others that are of one kind.
+#[derive(Clone, Copy)]
+struct Run {
+    count: usize,
+    part: Part,
+    /// Whether the record ends with the last of them.
+    ended: bool,
 }
 
-/// Takes one byte. It says whether the record ends with it.
-fn feed_byte(marks: &mut Marks, kept: &mut Kept, byte: u8, meter: &mut Meter) -> bool
-    requires { meter.old.tie ≡ kept.old.tie }
-    ensures ends { (fed : List ℕ) → IsReading marks.old kept.old fed
-        → first_record (fed ++ byte ∷ []) ≡ (if result then Some (length fed + 1) else None) }
-    ensures marks { (fed : List ℕ) → IsReading marks.old kept.old fed
-        → StandsForFed marks.new (if result then [] else fed ++ byte ∷ []) }
-    ensures keeps { (fed : List ℕ) → IsReading marks.old kept.old fed
-        → kept.new.bytes ≡ take longest_call (data_of (fed ++ byte ∷ [])) }
-    ensures cap { kept.new.cap ≡ kept.old.cap }
-    ensures tie { kept.new.tie ≡ kept.old.tie }
-    ensures cost { PaysAtMost meter.old meter.new 1 }
+/// Takes the bytes in front that are data of one fragment, or else one byte.
+fn next_run(marks: &mut Marks, bytes: &[u8]) -> Run
+    requires { 0 < length bytes.now }
+    ensures some { 0 < result.count }
+    ensures within { result.count ≤ length bytes.now }
+    ensures ends { RecordEnds marks.old (take result.count bytes.now) result.ended }
+    ensures data { ArePart marks.old result.part (take result.count bytes.now) }
+    ensures after { StandsForMore marks.old (take result.count bytes.now) result.ended marks.new }
 {
-    let (part, ended) = marks.feed(byte);
-    match part {
-        Part::Data => keep(kept, byte, meter),
-        Part::Header => {}
+    let mut ahead = *marks;
+    let (count, ended) = ahead.feed_data(bytes);
+    if count > 0 {
+        *marks = ahead;
+        return Run {
+            count,
+            part: Part::Data,
+            ended,
+        };
     }
-    ended
+    let (part, ended) = marks.feed(bytes[0]);
+    Run {
+        count: 1,
+        part,
+        ended,
+    }
 }
 
-/// Takes bytes of the piece up to the one that ends the first record, or all of them, and keeps the first 9,656 bytes
-/// of the record's data (RFC 5531 section 11).
-pub fn feed(marks: &mut Marks, kept: &mut Kept, piece: &[u8], meter: &mut Meter) -> Fed
+/// Feeds data of a record to the head of its call. It says how many bytes of it come before the call's arguments.
+fn feed_head(head: &mut CallFeed, bytes: &[u8]) -> usize
+    ensures within { result ≤ length bytes.now }
+    ensures after { StandsForMoreOfCall head.old bytes.now head.new }
+    ensures arguments { AreArgumentsIn head.old bytes.now (drop result bytes.now) }
+{
+    for (i, byte) in bytes.iter().enumerate() {
+        if head.is_in_arguments() {
+            return i;
+        }
+        head.feed(*byte);
+    }
+    bytes.len()
+}
+
+/// Adds bytes of the arguments as far as there is room for them, and says how much room is left.
+fn keep(kept: &mut Kept, room: usize, arguments: &[u8], meter: &mut Meter) -> usize
     requires { meter.old.tie ≡ kept.old.tie }
-    ensures within { result.count ≤ length piece.now }
-    ensures taken { (fed : List ℕ) → IsReading marks.old kept.old fed
-        → result ≡ fed_until (length fed) (length piece.now) (first_record (fed ++ piece.now)) }
-    ensures after { (fed : List ℕ) → IsReading marks.old kept.old fed
-        → StandsBehind marks.new kept.new (fed ++ piece.now) (first_record (fed ++ piece.now)) }
+    ensures front { (bytes : List ℕ) → kept.old.bytes ≡ take longest_arguments bytes
+        → room + length kept.old.bytes ≡ longest_arguments → longest_arguments ≤ kept.old.cap
+        → kept.new.bytes ≡ take longest_arguments (bytes ++ arguments.now) }
+    ensures room { room + length kept.old.bytes ≡ longest_arguments → longest_arguments ≤ kept.old.cap
+        → result + length kept.new.bytes ≡ longest_arguments }
     ensures cap { kept.new.cap ≡ kept.old.cap }
     ensures tie { kept.new.tie ≡ kept.old.tie }
-    ensures cost { PaysAtMost meter.old meter.new result.count }
+    ensures cost { PaysAtMost meter.old meter.new (length arguments.now) }
 {
-    for (i, byte) in piece.iter().enumerate() {
-        if feed_byte(marks, kept, *byte, meter) {
-            return Fed {
-                count: i + 1,
-                ended: true,
-            };
+    let count = room.min(arguments.len());
+    let _ = kept.extend(&arguments[..count], meter);
+    room - count
+}
+
+impl Intake {
+    /// Goes on with a call whose head was saved, and whose arguments are in the buffer.
+    fn load(head: [u32; 16], kept: &Kept, meter: &mut Meter) -> Intake
+        requires { meter.old.tie ≡ kept.now.tie }
+        ensures data { (content : List ℕ) → StandsForCall (loaded head) content
+            → kept.now.bytes ≡ kept_of content → kept.now.cap ≡ buffer_size
+            → HasData result kept.now content }
+        ensures cost { Pays meter.old meter.new 1 }
+    {
+        Intake {
+            head: CallFeed::load(head),
+            room: LONGEST_ARGUMENTS.saturating_sub(kept.len(meter)),
         }
     }
-    Fed {
-        count: piece.len(),
-        ended: false,
+
+    /// Takes data of the record: of the arguments in it the first are kept.
+    fn feed_data(&mut self, kept: &mut Kept, bytes: &[u8], meter: &mut Meter)
+        requires { meter.old.tie ≡ kept.old.tie }
+        ensures data { (content : List ℕ) → HasData self.old kept.old content
+            → HasData self.new kept.new (content ++ bytes.now) }
+        ensures cap { kept.new.cap ≡ kept.old.cap }
+        ensures tie { kept.new.tie ≡ kept.old.tie }
+        ensures cost { PaysAtMost meter.old meter.new (length bytes.now) }
+    {
+        let count = feed_head(&mut self.head, bytes);
+        self.room = keep(kept, self.room, &bytes[count..], meter);
+    }
+
+    /// Takes the bytes in front that are data of one fragment, or else one byte.
+    fn feed_run(
+        &mut self,
+        marks: &mut Marks,
+        kept: &mut Kept,
+        bytes: &[u8],
+        meter: &mut Meter,
+    ) -> Run
+        requires tie { meter.old.tie ≡ kept.old.tie }
+        requires some { 0 < length bytes.now }
+        ensures some { 0 < result.count }
+        ensures within { result.count ≤ length bytes.now }
+        ensures ends { RecordEnds marks.old (take result.count bytes.now) result.ended }
+        ensures after { StandsForMore marks.old (take result.count bytes.now) result.ended marks.new }
+        ensures data { (fed : List ℕ) → StandsForFed marks.old fed
+            → HasData self.old kept.old (data_of fed)
+            → HasData self.new kept.new (data_of (fed ++ take result.count bytes.now)) }
+        ensures cap { kept.new.cap ≡ kept.old.cap }
+        ensures tie { kept.new.tie ≡ kept.old.tie }
+        ensures cost { PaysAtMost meter.old meter.new result.count }
+    {
+        let run = next_run(marks, bytes);
+        match run.part {
+            Part::Data => self.feed_data(kept, &bytes[..run.count], meter),
+            Part::Header => {}
+        }
+        run
     }
 }
 
-/// The first 9,656 bytes of a record, or of a datagram, decide what it says.
+impl Reader {
+    /// Before the first byte of a record.
+    pub fn new() -> Reader
+        ensures marks { StandsForFed result.marks [] }
+        ensures head { StandsForCall (loaded result.head) [] }
+    {
+        Reader {
+            marks: Marks::new(),
+            head: CallFeed::new().save(),
+        }
+    }
+
+    /// Takes bytes of the piece up to the one that ends the first record, or all of them, and keeps the first 8,816
+    /// bytes of its call's arguments (RFC 5531 sections 9 and 11).
+    pub fn feed(&mut self, kept: &mut Kept, piece: &[u8], meter: &mut Meter) -> Fed
+        requires { meter.old.tie ≡ kept.old.tie }
+        ensures within { result.count ≤ length piece.now }
+        ensures taken { (fed : List ℕ) → IsReading self.old kept.old fed
+            → result ≡ fed_until fed piece.now (first_record (fed ++ piece.now)) }
+        ensures after { (fed : List ℕ) → IsReading self.old kept.old fed
+            → StandsBehind self.new kept.new (fed ++ piece.now) (first_record (fed ++ piece.now)) }
+        ensures cap { kept.new.cap ≡ kept.old.cap }
+        ensures tie { kept.new.tie ≡ kept.old.tie }
+        ensures cost { PaysAtMost meter.old meter.new (result.count + 1) }
+    {
+        let mut intake = Intake::load(self.head, kept, meter);
+        let mut count = 0;
+        'runs: while count < piece.len() {
+            let run = intake.feed_run(&mut self.marks, kept, &piece[count..], meter);
+            count += run.count;
+            if run.ended {
+                return Fed {
+                    count,
+                    verdict: Some(intake.head.end()),
+                };
+            }
+        }
+        self.head = intake.head.save();
+        Fed {
+            count,
+            verdict: None,
+        }
+    }
+}
+
+/// The verdict on a record and the first 8,816 bytes behind the head of its call decide what it says.
 pub fn kept_bytes_say_the_record()
     ensures { KeptSaysTheRecord }
 {}

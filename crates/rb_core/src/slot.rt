@@ -1,13 +1,13 @@
 //! The slot of a connection: bytes that arrive on it, and bytes that are given on it.
 ghost use Rattle.std.specs.Prelude.{◌≡◌, ◌+◌, [], None};
 ghost use Rattle.rb_xdr.specs.Meter.{PaysAtMost};
-ghost use Rattle.rb_core.specs.Calls.{message_of};
+ghost use Rattle.rb_core.specs.Calls.{message_with};
 
 use crate::giving::{advance, begin, pending, pending_len};
-use crate::message::{Message, read_message};
-use crate::reading::feed;
+use crate::message::{Message, message_with};
+use crate::reading::{Fed, Reader};
 use crate::types::Outcome;
-use rb_rpc::{Marks, Peer};
+use rb_rpc::{Peer, Verdict};
 use rb_xdr::{Kept, Meter};
 use std::mem;
 
@@ -17,7 +17,7 @@ pub enum Stage {
     /// Between a reply and the next record.
     Idle,
     /// In the middle of a record.
-    Reading(Marks),
+    Reading(Reader),
     /// A reply is being given, and so many of its marked bytes were.
     Owing(usize),
     /// It takes and gives nothing more, and waits to be closed.
@@ -57,7 +57,7 @@ pub struct Slot {
     pub stage: Stage,
     /// The moment from which its deadline counts.
     pub mark: u64,
-    /// The front of the record that is read, or the whole reply.
+    /// The first bytes of the arguments of the call that is read, or the whole reply.
     pub buffer: Kept,
     /// The marked fragment of the reply that is being given.
     pub window: Kept,
@@ -79,16 +79,16 @@ fn nothing() -> Received
     }
 }
 
-/// Takes out what the record says whose first bytes the buffer has.
-fn take_message(buffer: &mut Kept, meter: &mut Meter) -> Message
-    requires { meter.old.tie ≡ buffer.old.tie }
-    ensures said { result ≡ message_of buffer.old.bytes }
-    ensures empty { buffer.new ≡ record buffer.old { bytes = [] } }
-    ensures cost { PaysAtMost meter.old meter.new (2 + buffer.old.cap) }
+/// Takes out what the record says on which this is the verdict, and the first bytes of whose arguments are kept.
+fn take_message(verdict: Verdict, arguments: &mut Kept, meter: &mut Meter) -> Message
+    requires { meter.old.tie ≡ arguments.old.tie }
+    ensures said { result ≡ message_with verdict arguments.old.bytes }
+    ensures empty { arguments.new ≡ record arguments.old { bytes = [] } }
+    ensures cost { PaysAtMost meter.old meter.new (2 + arguments.old.cap) }
 {
-    let len = buffer.len(meter);
-    let message = read_message(buffer.lend(0..len, meter));
-    buffer.clear(meter);
+    let len = arguments.len(meter);
+    let message = message_with(verdict, arguments.lend(0..len, meter));
+    arguments.clear(meter);
     message
 }
 
@@ -119,35 +119,32 @@ impl Slot {
     }
 
     /// Feeds the piece to the record that is read, up to the end of the record.
-    fn feed(&mut self, mut marks: Marks, piece: &[u8], clock: u64, meter: &mut Meter) -> Received
+    fn feed(&mut self, mut reader: Reader, piece: &[u8], clock: u64, meter: &mut Meter) -> Received
         requires { HasBuffers meter.old.tie self.old }
         ensures received { (c : Connection) (fed : List ℕ)
-            → IsBeforePiece self.old marks clock c fed
+            → IsBeforePiece self.old reader clock c fed
             → result ≡ received piece.now c (taking_on fed piece.now) }
         ensures stands { (c : Connection) (fed : List ℕ)
-            → IsBeforePiece self.old marks clock c fed
+            → IsBeforePiece self.old reader clock c fed
             → StandsForConnection self.new (fed_with clock c (taking_on fed piece.now)) }
         ensures within { result.count ≤ length piece.now }
         ensures stays { StaysSlot meter.old.tie self.old self.new }
         ensures cost { PaysAtMost meter.old meter.new (received_cost result) }
     {
-        let fed = feed(&mut marks, &mut self.buffer, piece, meter);
-        if fed.ended {
-            self.stage = Stage::Idle;
-            self.mark = clock;
-            let message = take_message(&mut self.buffer, meter);
-            return Received {
-                count: fed.count,
-                heard: Some(Heard {
-                    peer: self.peer,
-                    message,
-                }),
-            };
-        }
-        self.stage = Stage::Reading(marks);
+        let Fed { count, verdict } = reader.feed(&mut self.buffer, piece, meter);
+        let Some(verdict) = verdict else {
+            self.stage = Stage::Reading(reader);
+            return Received { count, heard: None };
+        };
+        self.stage = Stage::Idle;
+        self.mark = clock;
+        let message = take_message(verdict, &mut self.buffer, meter);
         Received {
-            count: fed.count,
-            heard: None,
+            count,
+            heard: Some(Heard {
+                peer: self.peer,
+                message,
+            }),
         }
     }
 
@@ -166,9 +163,9 @@ impl Slot {
         match self.stage {
             Stage::Idle => {
                 self.mark = clock;
-                self.feed(Marks::new(), piece, clock, meter)
+                self.feed(Reader::new(), piece, clock, meter)
             }
-            Stage::Reading(marks) => self.feed(marks, piece, clock, meter),
+            Stage::Reading(reader) => self.feed(reader, piece, clock, meter),
             Stage::Owing(_) | Stage::Lost => nothing(),
         }
     }

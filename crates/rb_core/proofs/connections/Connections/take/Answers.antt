@@ -5,7 +5,8 @@ use Rattle.rb_core.specs.contracts.connections.Connections.{the_view}
 use Rattle.rb_core.specs.declared.types.CoreFault.TheVariants.{Gone}
 use Rattle.rb_core.specs.Connections.{on_live}
 use Rattle.rb_core.specs.Slots.{Acts, StandsForConnections, HasBuffers, feeding}
-use Rattle.rb_core.proofs.Slots.{acts_from, gone_acts, live_acts, slot_is_there, table_changed, length-with}
+use Rattle.rb_core.proofs.Slots.{acts_from, gone_acts, live_acts, slot_is_there, table_changed}
+use Rattle.rb_xdr.proofs.PoolLemmas.{length-with}
 use Rattle.rb_core.proofs.connections.Connections.take.Goals as goal
 
 pub returns-in_default-clause-acts : goal.returns-in_default-clause-acts

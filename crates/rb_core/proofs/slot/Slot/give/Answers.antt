@@ -1,7 +1,8 @@
 use Rattle.std.proofs.Common.{◌≡◌, ℕ, Some, None, refl, sym, ap, ◌∙◌, arith}
 use Rattle.std.specs.Prelude.{min}
 use Rattle.rb_xdr.specs.Kept.{Kept}
-use Rattle.rb_core.specs.Reading.{longest_call}
+use Rattle.rb_core.specs.Calls.{longest_reply}
+use Rattle.rb_core.specs.Reading.{longest_arguments, buffer_size}
 use Rattle.rb_core.proofs.OneSlot.{none_given, some_given, nothing_pending, owing_phase}
 use Rattle.rb_core.proofs.slot.Slot.give.Goals as goal
 
@@ -22,7 +23,7 @@ returns-then-more-eq0-clause-acts c =
     rw w.1 (rw (← many) (sym c.min-more.ensures ∙ c.if-more-eq0.true)))
 
 pub advance-requires-clause-reply_cap : goal.advance-requires-clause-reply_cap
-unfolding longest_call
+unfolding buffer_size longest_arguments longest_reply
 advance-requires-clause-reply_cap c = omega (arith, c.requires.buffer_cap)
 
 pub returns-in-Some-clause-acts : goal.returns-in-Some-clause-acts

@@ -35,7 +35,7 @@ returns-in-Idle-clause-acts c =
       number = h.number;
       peer = h.peer;
       mark = sym (mark_of_idle c.args.clock x.mark x.phase p.0);
-      reads = reads_nothing c.new.result _ c.new.ensures.fed p.1 c.requires.buffer_cap;
+      reads = reads_nothing c.new.result _ c.new.ensures.marks c.new.ensures.head p.1 c.requires.buffer_cap;
       window = p.2;
     } in
     record {
@@ -50,8 +50,8 @@ returns-in-Reading-clause-acts c =
     let piece = c.args.piece.now in
     let some = some_bytes piece (sym c.is_empty.ensures ∙ c.if-is_empty.false) in
     feeding_acts c.args.self.now _ c.args.clock piece _ (λ x h.
-    let p = reading_phase c.in-Reading.marks _ _ _ x.phase c.in-Reading.is h.phase in
-    let before : IsBeforePiece _ c.in-Reading.marks c.args.clock x p.0 = record { number = h.number; peer = h.peer; mark = h.mark ∙ sym (mark_of_reading c.args.clock x.mark x.phase p.0 p.1); reads = p.2; window = p.3 } in
+    let p = reading_phase c.in-Reading.reader _ _ _ x.phase c.in-Reading.is h.phase in
+    let before : IsBeforePiece _ c.in-Reading.reader c.args.clock x p.0 = record { number = h.number; peer = h.peer; mark = h.mark ∙ sym (mark_of_reading c.args.clock x.mark x.phase p.0 p.1); reads = p.2; window = p.3 } in
     record {
       taken = taking_on p.0 piece;
       is = some_where_fed x.phase p.0 piece (ap fed_in p.1) some;

@@ -1,0 +1,27 @@
+-- What is said of a window on a reply, and of what is pending in it.
+use Rattle.std.specs.Prelude.{◌≡◌, ℕ, ◌+◌, nat_lt, if◌then◌else◌, List, length, take, drop, Option, Some, None, IfSome}
+use Rattle.rb_xdr.specs.Kept.{Kept}
+use Rattle.rb_rpc.specs.Records.{marked}
+use Rattle.rb_core.specs.State.{Owed}
+use Rattle.rb_core.specs.Giving.{longest_fragment, pending_of, IsGiving}
+
+-- the window shows the fragment that begins at a place of the reply
+abbrev pub showing : Kept → List ℕ → ℕ → Kept
+showing window reply start = record window { bytes = take longest_fragment (marked (drop start reply)) }
+
+-- this holds of what is pending, whatever the reply and what is owed of it
+abbrev pub OfPending : Kept → ℕ → (List ℕ → Type 0) → Type 0
+OfPending window given holds = (reply : List ℕ) (o : Owed) → IsGiving reply window given o → holds (pending_of o)
+
+-- how many are given in all behind so many more, None where that is the reply's end
+abbrev pub count_after : ℕ → Owed → Option ℕ
+count_after more o = if nat_lt (o.given + more) (length o.marked) then Some (o.given + more) else None
+
+abbrev pub CountsOn : List ℕ → Kept → ℕ → ℕ → Option ℕ → Type 0
+CountsOn reply window given more result = (o : Owed) → IsGiving reply window given o → result ≡ count_after more o
+
+-- unless that is the end, the new window shows the fragment in which the giving stands then
+abbrev pub ShowsOn : List ℕ → Kept → Kept → ℕ → ℕ → Option ℕ → Type 0
+ShowsOn reply old new given more result =
+    (o : Owed) → IsGiving reply old given o
+    → IfSome result (λ count. IsGiving reply new count (record o { given = o.given + more }))
