@@ -12,13 +12,7 @@ use Rattle.rb_rpc.specs.Verdict.{verdict}
 use Rattle.rb_rpc.proofs.RecordCuts.{stays}
 use Rattle.rb_rpc.proofs.Feeding.{none_ended}
 use Rattle.rb_feed.specs.Feeds.{StandsForCall}
-use Rattle.rb_feed.specs.Saved.{loaded}
-use Rattle.rb_core.specs.Reading.{Fed, Intake, Reader, kept_of, IsReading, HasData, fed_until, StandsBehind}
-
--- In the middle of a piece, behind these bytes of a record.
-pub record IsInside (marks : Marks) (intake : Intake) (kept : Kept) (fed : List ℕ) : Type 0 where
-  pub marks_are : StandsForFed marks fed
-  pub data_is : HasData intake kept (data_of fed)
+use Rattle.rb_core.specs.Reading.{Fed, Intake, Reader, kept_of, IsReading, HasData, IsInside, HasMoreData, fed_until, StandsBehind}
 
 -- Behind this front of a piece, where the reading began with the first reader and buffer.
 pub record IsBehind (reader : Reader) (first : Kept) (marks : Marks) (intake : Intake) (kept : Kept) (front : List ℕ) : Type 0 where
@@ -76,12 +70,12 @@ nothing_fed reader intake kept begins = record {
 
 pub run_fed : (first_marks : Marks) (first : Intake) (was : Kept) (marks : Marks) (intake : Intake) (kept : Kept) (ended : Bool) (before run : List ℕ) → IsInside first_marks first was before
     → RecordEnds first_marks run ended → StandsForMore first_marks run ended marks
-    → ((fed : List ℕ) → StandsForFed first_marks fed → HasData first was (data_of fed) → HasData intake kept (data_of (fed ++ run)))
+    → HasMoreData first_marks first was run intake kept
     → IsBehindRun marks intake kept ended before run
 run_fed first_marks first was marks intake kept ended before run h ends stands goes_on = record {
   ends = ends before h.marks_are;
   stands = stands before h.marks_are;
-  data_is = goes_on before h.marks_are h.data_is;
+  data_is = goes_on before h;
 }
 
 pub read_on : (marks : Marks) (intake : Intake) (kept : Kept) (fed piece : List ℕ) (i n : ℕ) (ended : Bool) → ended ≡ false
@@ -95,16 +89,18 @@ read_on marks intake kept fed piece i n ended e h =
 
 -- all of the piece was taken
 pub none_in : (reader : Reader) (intake : Intake) (kept : Kept) (fed piece : List ℕ) (i : ℕ) → i ≡ length piece → IsInside reader.marks intake kept (here fed piece i)
-    → ((content : List ℕ) → StandsForCall intake.head content → StandsForCall (loaded reader.head) content)
+    → reader.head ≡ intake.head
     → IsTaken (record { count = i; verdict = None }) reader kept fed piece
-none_in reader intake kept fed piece i is h saved =
+none_in reader intake kept fed piece i is h same_head =
     let all : IsInside reader.marks intake kept (fed ++ piece) = subst (λ (xs : List ℕ). IsInside reader.marks intake kept (fed ++ xs)) (take_all i piece (omega (arith, is))) h in
     let reads : IsReading reader kept (fed ++ piece) =
     record {
       marks_are = all.marks_are;
-      head_is = saved (data_of (fed ++ piece)) all.data_is.head_is;
-      kept_is = all.data_is.kept_is;
-      cap = all.data_is.cap;
+      data_is = record {
+        head_is = rw same_head all.data_is.head_is;
+        kept_is = all.data_is.kept_are.bytes_are;
+        cap = all.data_is.kept_are.cap;
+      };
     } in
     taken_until (record { count = i; verdict = None }) reader kept fed piece None (none_ended reader.marks (fed ++ piece) all.marks_are)
     (ap (λ (k : ℕ). record { count = k; verdict = None }) is) reads
@@ -143,4 +139,4 @@ ended_in reader intake kept fed piece i n ended said within e h says =
     let content : data_of (here fed piece i ++ run_at piece i n) ≡ data_of (take at (fed ++ piece)) = ap data_of front in
     let count : i + n ≡ at - length fed = omega arith in
     let verdict_is : said ≡ verdict (data_of (take at (fed ++ piece))) = says (data_of (here fed piece i ++ run_at piece i n)) h.data_is.head_is ∙ ap verdict content in
-    taken_until (record { count = i + n; verdict = Some said }) reader kept fed piece (Some at) some (same (i + n) (at - length fed) said (verdict (data_of (take at (fed ++ piece)))) count verdict_is) (h.data_is.kept_is ∙ ap kept_of content)
+    taken_until (record { count = i + n; verdict = Some said }) reader kept fed piece (Some at) some (same (i + n) (at - length fed) said (verdict (data_of (take at (fed ++ piece)))) count verdict_is) (h.data_is.kept_are.bytes_are ∙ ap kept_of content)

@@ -6,7 +6,6 @@ use Rattle.rb_rpc.specs.declared.peer.Caller.{Caller}
 use Rattle.rb_rpc.specs.declared.peer.Caller.TheVariants.{Udp}
 use Rattle.rb_registry.specs.declared.row.Row.{Row}
 use Rattle.rb_registry.specs.declared.row.Which.{Which}
-use Rattle.rb_registry.specs.declared.row.Owner.{Owner}
 use Rattle.rb_registry.specs.Rows.{Change, live, covers, is_netid, is_on, is_row, are_distinct, has_place, removes_some}
 use Rattle.rb_registry.specs.Rows.Change.{Added, Removed}
 use Rattle.rb_registry.specs.Registry.{AreOwn}
@@ -21,8 +20,13 @@ use Rattle.rb_proto.specs.declared.procedure.RpcbProcedure.TheVariants as rpcbs
 use Rattle.rb_proto.specs.declared.request.Request.{Request}
 use Rattle.rb_proto.specs.declared.request.Request.TheVariants as requests
 use Rattle.rb_proto.specs.Callers.{own_rows}
-use Rattle.rb_proto.specs.Ledger.{Ledger, rows_in}
-use Rattle.rb_proto.specs.Answers.{comes_from_here, can_be_set, accepts_row, set_row, accepts_removal, unset_rows, change_if, answer_to, answer}
+use Rattle.rb_proto.specs.Ledger.{Ledger, rows_in, version_of, called}
+use Rattle.rb_stats.specs.Statistics.{Note}
+use Rattle.rb_stats.specs.Statistics.Note.{WasSet, WasUnset}
+use Rattle.rb_registry.specs.declared.row.Netid.{Netid}
+use Rattle.rb_proto.specs.declared.mapping.Mapping.{Mapping}
+use Rattle.rb_proto.specs.Netids.{netid_of_prot}
+use Rattle.rb_proto.specs.Answers.{comes_from_here, can_be_set, accepts_row, set_row, accepts_removal, removal_of, unset_rows, change_if, port_on, getport, getaddr, getversaddr, answer_to, answer}
 use Rattle.rb_core.specs.declared.message.Message.{Message}
 use Rattle.rb_core.specs.declared.message.Message.TheVariants as says
 use Rattle.rb_core.specs.declared.types.CoreFault.{CoreFault}
@@ -45,19 +49,19 @@ both false b e = absurd cc
 
 -- ---- what a call leaves behind
 
--- as it was, or with one more change, which was accepted
+-- its changes as they were, or one more, which was accepted
 data Grows (limit : ℕ) (old new : Ledger) : Type 0 where
-  Same : new ≡ old → Grows limit old new
-  More : (change : Change) → is_accepted limit old.own old.changes change ≡ true → new ≡ record old { changes = old.changes ++ change ∷ [] } → Grows limit old new
+  Same : new.own ≡ old.own → new.changes ≡ old.changes → Grows limit old new
+  More : (change : Change) → is_accepted limit old.own old.changes change ≡ true → new.own ≡ old.own → new.changes ≡ old.changes ++ change ∷ [] → Grows limit old new
 
-change-grows : (limit : ℕ) (change : Change) (l : Ledger) (b : Bool) → (b ≡ true → is_accepted limit l.own l.changes change ≡ true) → Grows limit l (change_if b change l).1
-change-grows limit change l true accepted = More change (accepted refl) refl
-change-grows limit change l false accepted = Same refl
+change-grows : (limit : ℕ) (change : Change) (note : Note) (l : Ledger) (b : Bool) → (b ≡ true → is_accepted limit l.own l.changes change ≡ true) → Grows limit l (change_if b change note l).1
+change-grows limit change note l true accepted = More change (accepted refl) refl refl
+change-grows limit change note l false accepted = Same refl refl
 
-set-grows : (context : Context) (o : Option Row) (l : Ledger) → Grows context.limit l (set_row context o l).1
+set-grows : (context : Context) (head : CallHead) (o : Option Row) (l : Ledger) → Grows context.limit l (set_row context head o l).1
 unfolding set_row accepts_row
-set-grows context None l = Same refl
-set-grows context (Some row) l = change-grows context.limit (Added row) l (accepts_row context l row) (λ e. last (comes_from_here context) (can_be_set row) (has_place context.limit (rows_in l) (length l.changes) row) e)
+set-grows context head None l = Same refl refl
+set-grows context head (Some row) l = change-grows context.limit (Added row) (WasSet (version_of head.vers)) l (accepts_row context l row) (λ e. last (comes_from_here context) (can_be_set row) (has_place context.limit (rows_in l) (length l.changes) row) e)
   where
     last : (a b c : Bool) → (a && b && c) ≡ true → c ≡ true
     last true true true e = refl
@@ -65,35 +69,49 @@ set-grows context (Some row) l = change-grows context.limit (Added row) l (accep
     last true false c e = absurd cc
     last false b c e = absurd cc
 
-unset-grows : (context : Context) (owner : Owner) (prog vers : ℕ) (o : Option Which) (l : Ledger) → Grows context.limit l (unset_rows context owner prog vers o l).1
+unset-grows : (context : Context) (head : CallHead) (prog vers : ℕ) (o : Option Which) (l : Ledger) → Grows context.limit l (unset_rows context head prog vers o l).1
 unfolding unset_rows accepts_removal
-unset-grows context owner prog vers None l = Same refl
-unset-grows context owner prog vers (Some which) l =
-    change-grows context.limit (Removed prog vers which owner) l (accepts_removal context l (Removed prog vers which owner))
-    (λ e. (both (comes_from_here context) (removes_some (rows_in l) (length l.changes) (Removed prog vers which owner)) e).1)
+unset-grows context head prog vers None l = Same refl refl
+unset-grows context head prog vers (Some which) l =
+    change-grows context.limit (removal_of head prog vers which) (WasUnset (version_of head.vers)) l (accepts_removal context l (removal_of head prog vers which))
+    (λ e. (both (comes_from_here context) (removes_some (rows_in l) (length l.changes) (removal_of head prog vers which)) e).1)
+
+getport-grows : (limit : ℕ) (head : CallHead) (m : Mapping) (l : Ledger) → Grows limit l (getport head m l).1
+unfolding getport
+getport-grows limit head m l = by_netid (netid_of_prot m.prot)
+  where
+    by_netid : (o : Option Netid) → Grows limit l (port_on head m o l).1
+    by_netid None = Same refl refl
+    by_netid (Some netid) = Same refl refl
 
 answer-grows : (context : Context) (head : CallHead) (request : Request) (l : Ledger) → Grows context.limit l (answer_to context head request l).1
-answer-grows context head (requests.Mapping mappings.Set m) l = set-grows context _ l
-answer-grows context head (requests.Mapping mappings.Unset m) l = unset-grows context _ m.prog m.vers _ l
-answer-grows context head (requests.Mapping mappings.Getport m) l = Same refl
-answer-grows context head (requests.Rpcb rpcbs.Set r) l = set-grows context _ l
-answer-grows context head (requests.Rpcb rpcbs.Unset r) l = unset-grows context _ r.prog r.vers _ l
-answer-grows context head (requests.Rpcb rpcbs.Getaddr r) l = Same refl
-answer-grows context head (requests.Rpcb rpcbs.Getversaddr r) l = Same refl
-answer-grows context head (requests.Rpcb rpcbs.Getaddrlist r) l = Same refl
-answer-grows context head (requests.Void voids.Null) l = Same refl
-answer-grows context head (requests.Void voids.PmapDump) l = Same refl
-answer-grows context head (requests.Void voids.Dump) l = Same refl
-answer-grows context head (requests.Void voids.Gettime) l = Same refl
-answer-grows context head (requests.Uaddr2taddr text) l = Same refl
-answer-grows context head (requests.Taddr2uaddr netbuf) l = Same refl
+unfolding getaddr getversaddr
+answer-grows context head (requests.Mapping mappings.Set m) l = set-grows context head _ l
+answer-grows context head (requests.Mapping mappings.Unset m) l = unset-grows context head m.prog m.vers _ l
+answer-grows context head (requests.Mapping mappings.Getport m) l = getport-grows context.limit head m l
+answer-grows context head (requests.Rpcb rpcbs.Set r) l = set-grows context head _ l
+answer-grows context head (requests.Rpcb rpcbs.Unset r) l = unset-grows context head r.prog r.vers _ l
+answer-grows context head (requests.Rpcb rpcbs.Getaddr r) l = Same refl refl
+answer-grows context head (requests.Rpcb rpcbs.Getversaddr r) l = Same refl refl
+answer-grows context head (requests.Rpcb rpcbs.Getaddrlist r) l = Same refl refl
+answer-grows context head (requests.Void voids.Null) l = Same refl refl
+answer-grows context head (requests.Void voids.PmapDump) l = Same refl refl
+answer-grows context head (requests.Void voids.Dump) l = Same refl refl
+answer-grows context head (requests.Void voids.Gettime) l = Same refl refl
+answer-grows context head (requests.Void voids.Getstat) l = Same refl refl
+answer-grows context head (requests.Uaddr2taddr text) l = Same refl refl
+answer-grows context head (requests.Taddr2uaddr netbuf) l = Same refl refl
 
 outcome-grows : (context : Context) (message : Message) (l : Ledger) → Grows context.limit l (outcome context message l).1
-unfolding outcome answer
-outcome-grows context says.NoCall l = Same refl
-outcome-grows context (says.Refused head) l = Same refl
-outcome-grows context (says.Garbage head) l = Same refl
-outcome-grows context (says.Asked call) l = answer-grows context call.head call.request l
+unfolding outcome answer called
+outcome-grows context says.NoCall l = Same refl refl
+outcome-grows context (says.Refused head) l = Same refl refl
+outcome-grows context (says.Garbage head) l = Same refl refl
+outcome-grows context (says.Asked call) l = by_growth (answer_to context call.head call.request (called call.head l)).1 (answer-grows context call.head call.request (called call.head l))
+  where
+    by_growth : (new : Ledger) → Grows context.limit (called call.head l) new → Grows context.limit l new
+    by_growth new (Same own same) = Same own same
+    by_growth new (More change accepted own same) = More change accepted own same
 
 -- ---- what an event leaves behind
 
@@ -102,21 +120,21 @@ record Follows (s u : State) : Type 0 where
   grows : Grows s.setting.limits.rows s.ledger u.ledger
 
 stays : (s : State) → Follows s s
-stays s = record { setting = refl; grows = Same refl }
+stays s = record { setting = refl; grows = Same refl refl }
 
 serve-follows : (s : State) (now : ℕ) (caller : Caller) (message : Message) → Follows s (serve (at_moment now s) caller message).1
 unfolding serve
 serve-follows s now caller message = record { setting = refl; grows = outcome-grows (context_in (at_moment now s) caller) message s.ledger }
 
 moved-follows : {A : Type 0} (s : State) (now : ℕ) (show : A → Output) (r : Result A CoreFault × Connections) → Follows s (output_or show (moved now s r)).1
-moved-follows s now show (Ok x, c) = record { setting = refl; grows = Same refl }
+moved-follows s now show (Ok x, c) = record { setting = refl; grows = Same refl refl }
 moved-follows s now show (Err fault, c) = stays s
 
 bytes-follow : (s : State) (now id : ℕ) (piece : List ℕ) (r : Result Taken CoreFault × State) → Arriving s now id piece r → Follows s (output_or show_taken r).1
 unfolding serve
 bytes-follow s now id piece r (NotThere none is) = rw is (stays s)
-bytes-follow s now id piece r (NotTaken c there why is) = rw is (record { setting = refl; grows = Same refl })
-bytes-follow s now id piece r (ReadOn c fed there feeds none is) = rw is (record { setting = refl; grows = Same refl })
+bytes-follow s now id piece r (NotTaken c there why is) = rw is (record { setting = refl; grows = Same refl refl })
+bytes-follow s now id piece r (ReadOn c fed there feeds none is) = rw is (record { setting = refl; grows = Same refl refl })
 bytes-follow s now id piece r (Ended c fed n there feeds some is) = rw is (record { setting = refl; grows = outcome-grows _ _ s.ledger })
 
 shown-follows : {A : Type 0} (s : State) (show : A → Output) (r : Result A CoreFault) (u : State) → Follows s u → Follows s (output_or show (r, u)).1
@@ -137,7 +155,7 @@ step-follows s (Open now peer) = moved-follows s now Opened _
 step-follows s (Bytes now id piece) = bytes-follow s now id piece (bytes s now id piece) (arriving s now id piece)
 step-follows s (Pending id) = shown-follows s IsPending (pending s id) s (stays s)
 step-follows s (Gave now id n) = either s (is_too_much n (pending s id)) (TooMuch, s) (output_or show_done (gave s now id n)) (stays s) (moved-follows s now show_done _)
-step-follows s (Closed id) = shown-follows s show_done (closing_of id s.connections).0 (record s { connections = (closing_of id s.connections).1 }) (record { setting = refl; grows = Same refl })
+step-follows s (Closed id) = shown-follows s show_done (closing_of id s.connections).0 (record s { connections = (closing_of id s.connections).1 }) (record { setting = refl; grows = Same refl refl })
 step-follows s NextLost = stays s
 step-follows s (Datagram now peer content) =
     outcome-follows s (serve (at_moment now s) (Udp peer) (message_of content)) (serve-follows s now (Udp peer) (message_of content))
@@ -193,12 +211,16 @@ record KeepsLedger (limit : ℕ) (listener : Listener) (l : Ledger) : Type 0 whe
   fit : 6 ≤ limit → length (rows_in l) ≤ limit
 
 grown : (limit : ℕ) (listener : Listener) (old new : Ledger) → Grows limit old new → KeepsLedger limit listener old → KeepsLedger limit listener new
-grown limit listener old new (Same same) k = subst (KeepsLedger limit listener) (sym same) k
-grown limit listener old new (More change accepted same) k = subst (KeepsLedger limit listener) (sym same) (record {
-  own = k.own;
-  accepted = accepted_more limit old.own [] old.changes change k.accepted accepted;
-  fit = λ six. fit_after limit old.own old.changes change (subst AreOwn (sym k.own) (are-own listener)) (k.fit six) accepted;
-})
+grown limit listener old new (Same own same) k = record {
+  own = own ∙ k.own;
+  accepted = rw (own, same) k.accepted;
+  fit = rw (own, same) k.fit;
+}
+grown limit listener old new (More change accepted own same) k = record {
+  own = own ∙ k.own;
+  accepted = rw (own, same) (accepted_more limit old.own [] old.changes change k.accepted accepted);
+  fit = rw (own, same) (λ six. fit_after limit old.own old.changes change (subst AreOwn (sym k.own) (are-own listener)) (k.fit six) accepted);
+}
 
 abbrev KeepsIn : State → Type 0
 KeepsIn s = KeepsLedger s.setting.limits.rows s.setting.listener s.ledger

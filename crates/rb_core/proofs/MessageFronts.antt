@@ -80,7 +80,7 @@ message_of_front (AuthError xid stat) n arguments enough = refl
 message_of_front (Call head place) n arguments enough = call_of_front n head arguments enough
 
 pub kept_says : KeptSaysTheRecord
-unfolding kept_of message_of
+unfolding message_of
 kept_says content = message_of_front (verdict content) longest_arguments (arguments_of content) (omega arith)
 
 pub record_says : (content kept : List ℕ) (v : Verdict) → v ≡ verdict content → kept ≡ kept_of content → message_with v kept ≡ message_of content

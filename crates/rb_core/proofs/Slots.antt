@@ -11,7 +11,6 @@ use Rattle.rb_rpc.specs.Marks.{StandsForFed}
 use Rattle.rb_rpc.specs.Records.{data_of}
 use Rattle.rb_rpc.specs.Verdict.{verdict}
 use Rattle.rb_feed.specs.Feeds.{StandsForCall, arguments_of}
-use Rattle.rb_feed.specs.Saved.{loaded}
 use Rattle.rb_core.specs.declared.types.CoreFault.TheVariants.{Full, Spent, Gone}
 use Rattle.rb_core.specs.Reading.{Reader, longest_arguments, buffer_size, kept_of, IsReading}
 use Rattle.std.proofs.lemmas.Map.Entries.{length-values_of}
@@ -384,7 +383,7 @@ take_nothing zero = refl
 take_nothing (suc n) = refl
 
 nothing_kept : kept_of (data_of []) ≡ []
-unfolding data_of kept_of arguments_of verdict
+unfolding data_of arguments_of verdict
 nothing_kept = take_nothing longest_arguments
 
 no_data : data_of [] ≡ []
@@ -392,8 +391,8 @@ unfolding data_of
 no_data = refl
 
 -- an emptied buffer, between two records
-pub reads_nothing : (reader : Reader) (kept : Kept) → StandsForFed reader.marks [] → StandsForCall (loaded reader.head) [] → kept.bytes ≡ [] → kept.cap ≡ buffer_size → IsReading reader kept []
-reads_nothing reader kept m h e c = record { marks_are = m; head_is = rw no_data h; kept_is = e ∙ sym nothing_kept; cap = c }
+pub reads_nothing : (reader : Reader) (kept : Kept) → StandsForFed reader.marks [] → StandsForCall reader.head [] → kept.bytes ≡ [] → kept.cap ≡ buffer_size → IsReading reader kept []
+reads_nothing reader kept m h e c = record { marks_are = m; data_is = record { head_is = rw no_data h; kept_is = e ∙ sym nothing_kept; cap = c } }
 
 pub as_many : (es : List (ℕ × Slot)) (all : List Connection) → AllZip StandsForConnection (values_of es) all → length all ≡ length es
 as_many es all z = sym (same_length_of StandsForConnection (values_of es) all z) ∙ length-values_of es

@@ -31,20 +31,20 @@ module _ (held : Held) (s : State) (h : StandsFor held s) where
   pub connections_held : length held.connections.slots ≡ connection_count s
   connections_held = sym (as_many held.connections.slots s.connections.all h.connections.all)
 
-  pub rows_held : length (rows_of held.registry) ≡ row_count s
-  rows_held = ap length h.ledger.rows
+  pub rows_held : length (rows_of held.books.registry) ≡ row_count s
+  rows_held = ap length h.ledger.registry.rows
 
 -- a bound by what is held is one by what is plain
 pub by_count : (f : ℕ → ℕ) (held : Held) (s : State) (a b : Meter) → StandsFor held s → PaysAtMost a b (f (length held.connections.slots)) → PaysAtMost a b (f (connection_count s))
 by_count f held s a b h pays = subst (λ n. PaysAtMost a b (f n)) (connections_held held s h) pays
 
 pub by_rows : (f : ℕ → ℕ → ℕ) (old new : Held) (s t : State) (a b : Meter) → StandsFor old s → StandsFor new t
-    → PaysAtMost a b (f (length (rows_of old.registry)) (length (rows_of new.registry))) → PaysAtMost a b (f (row_count s) (row_count t))
+    → PaysAtMost a b (f (length (rows_of old.books.registry)) (length (rows_of new.books.registry))) → PaysAtMost a b (f (row_count s) (row_count t))
 by_rows f old new s t a b h k pays =
-    subst (λ n. PaysAtMost a b (f n (row_count t))) (rows_held old s h) (subst (λ n. PaysAtMost a b (f (length (rows_of old.registry)) n)) (rows_held new t k) pays)
+    subst (λ n. PaysAtMost a b (f n (row_count t))) (rows_held old s h) (subst (λ n. PaysAtMost a b (f (length (rows_of old.books.registry)) n)) (rows_held new t k) pays)
 
 pub by_all : (f : ℕ → ℕ → ℕ → ℕ) (old new : Held) (s t : State) (a b : Meter) → StandsFor old s → StandsFor new t
-    → PaysAtMost a b (f (length old.connections.slots) (length (rows_of old.registry)) (length (rows_of new.registry))) → PaysAtMost a b (f (connection_count s) (row_count s) (row_count t))
+    → PaysAtMost a b (f (length old.connections.slots) (length (rows_of old.books.registry)) (length (rows_of new.books.registry))) → PaysAtMost a b (f (connection_count s) (row_count s) (row_count t))
 by_all f old new s t a b h k pays =
     subst (λ n. PaysAtMost a b (f n (row_count s) (row_count t))) (connections_held old s h)
     (by_rows (f (length old.connections.slots)) old new s t a b h k pays)
@@ -77,7 +77,7 @@ module _ (old new : Held) (s : State) (h : StandsFor old s) (a b : Meter) (now i
   no_one (Some c) e taken g = absurd cc
 
   pub taken_cost_of : (taken : Taken) → result ≡ Ok taken → taken.count ≤ length piece
-      → PaysAtMost a b (find_cost (length old.connections.slots) + take_cost taken.count + answer_cost (length old.connections.slots) (length (rows_of old.registry)) (length (rows_of new.registry)))
+      → PaysAtMost a b (find_cost (length old.connections.slots) + take_cost taken.count + answer_cost (length old.connections.slots) (length (rows_of old.books.registry)) (length (rows_of new.books.registry)))
       → IsPaid (live_connection id s.connections.all)
   unfolding bytes
   taken_cost_of taken is within cost = by_there (live_connection id s.connections.all) refl

@@ -6,8 +6,8 @@ use Rattle.rb_rpc.specs.declared.peer.Peer.{Peer}
 use Rattle.rb_rpc.specs.declared.peer.Caller.{Caller}
 use Rattle.rb_rpc.specs.declared.peer.Caller.TheVariants.{Tcp, Udp}
 use Rattle.rb_proto.specs.declared.context.Context.{Context}
+use Rattle.rb_proto.specs.declared.books.Books.{Books}
 use Rattle.rb_proto.specs.Ledger.{Ledger, StandsForLedger, ActsAs, SameFrame}
-use Rattle.rb_registry.specs.Registry.{Registry}
 use Rattle.rb_core.specs.declared.message.Message.{Message}
 use Rattle.rb_core.specs.declared.slot.Heard.{Heard}
 use Rattle.rb_core.specs.declared.slot.Received.{Received}
@@ -125,45 +125,45 @@ closed_acts old id table r stays acts = record {
 -- ---- a message
 
 -- What serving a message did, where it came from this caller.
-pub record Served (old : Held) (caller : Caller) (message : Message) (registry : Registry) (given : Outcome) : Type 0 where
+pub record Served (old : Held) (caller : Caller) (message : Message) (books : Books) (given : Outcome) : Type 0 where
   pub context : Context
   pub is : context ≡ record { listener = old.setting.listener; limit = old.setting.limits.rows; clock = old.clock; caller = caller }
-  pub acts : ActsAs (outcome context message) old.registry registry given
-  pub frame : SameFrame old.registry registry
+  pub acts : ActsAs (outcome context message) old.books books given
+  pub frame : SameFrame old.books books
 
-module _ (old : Held) (caller : Caller) (message : Message) (registry : Registry) (given : Outcome) (served : Served old caller message registry given) (s : State) (h : StandsFor old s) where
+module _ (old : Held) (caller : Caller) (message : Message) (books : Books) (given : Outcome) (served : Served old caller message books given) (s : State) (h : StandsFor old s) where
   same_context : served.context ≡ context_in s caller
   same_context = served.is ∙ (rw (h.setting, h.clock) refl)
 
   pub serve_gives : given ≡ (outcome (context_in s caller) message s.ledger).0
   serve_gives = subst (λ (x : Context). given ≡ (outcome x message s.ledger).0) same_context (served.acts.gives s.ledger h.ledger)
 
-  pub serve_stands : StandsForLedger registry (outcome (context_in s caller) message s.ledger).1
-  serve_stands = subst (λ (x : Context). StandsForLedger registry (outcome x message s.ledger).1) same_context (served.acts.stands s.ledger h.ledger)
+  pub serve_stands : StandsForLedger books (outcome (context_in s caller) message s.ledger).1
+  serve_stands = subst (λ (x : Context). StandsForLedger books (outcome x message s.ledger).1) same_context (served.acts.stands s.ledger h.ledger)
 
 -- the connection on which it came goes on
-pub answer_acts : (old : Held) (id : ℕ) (peer : Peer) (message : Message) (registry : Registry) (given : Outcome) (table : Table)
-    → Served old (Tcp id peer) message registry given → StaysTable old.connections table
+pub answer_acts : (old : Held) (id : ℕ) (peer : Peer) (message : Message) (books : Books) (given : Outcome) (table : Table)
+    → Served old (Tcp id peer) message books given → StaysTable old.connections table
     → ((c : Connections) → StandsForConnections old.connections c → StandsForConnections table (changed_at id (settled old.clock given) c))
-    → Acts StandsFor (λ s. answering s id peer message) old (record old { connections = table; registry = registry }) (is_no_call given)
+    → Acts StandsFor (λ s. answering s id peer message) old (record old { connections = table; books = books }) (is_no_call given)
 unfolding answering serve
-answer_acts old id peer message registry given table served stays settles = record {
-  gives = λ s h. ap is_no_call (serve_gives old (Tcp id peer) message registry given served s h);
+answer_acts old id peer message books given table served stays settles = record {
+  gives = λ s h. ap is_no_call (serve_gives old (Tcp id peer) message books given served s h);
   stands = λ s h. record {
     setting = h.setting;
     clock = h.clock;
     conns = stays.conns ∙ h.conns;
     connections =
-        subst (λ (o : Outcome). StandsForConnections table (changed_at id (settled s.clock o) s.connections)) (serve_gives old (Tcp id peer) message registry given served s h)
+        subst (λ (o : Outcome). StandsForConnections table (changed_at id (settled s.clock o) s.connections)) (serve_gives old (Tcp id peer) message books given served s h)
         (subst (λ (n : ℕ). StandsForConnections table (changed_at id (settled n given) s.connections)) h.clock (settles s.connections h.connections));
     limit = served.frame.limit ∙ h.limit;
-    ledger = serve_stands old (Tcp id peer) message registry given served s h;
+    ledger = serve_stands old (Tcp id peer) message books given served s h;
     reply = h.reply;
   };
 }
 
 -- a datagram is answered
-module _ (old : Held) (now clock : ℕ) (peer : Peer) (content : List ℕ) (registry : Registry) (reply : List ℕ) (tie : ℕ) (is : clock ≡ max old.clock now) where
+module _ (old : Held) (now clock : ℕ) (peer : Peer) (content : List ℕ) (books : Books) (reply : List ℕ) (tie : ℕ) (is : clock ≡ max old.clock now) where
   moment : (s : State) → StandsFor old s → StandsFor (record old { clock = clock }) (at_moment now s)
   moment s h = record {
     setting = h.setting;
@@ -181,8 +181,8 @@ module _ (old : Held) (now clock : ℕ) (peer : Peer) (content : List ℕ) (regi
   same_reply : (a b : List ℕ) → said.Reply a ≡ said.Reply b → a ≡ b
   same_reply a b e = cc
 
-  silent_state : SameFrame old.registry registry → reply ≡ [] → (s : State) → StandsFor old s → (o : Outcome × Ledger) → said.NoCall ≡ o.0 → StandsForLedger registry o.1
-      → (said.NoCall ≡ (with_reply (with_ledger (at_moment now s) o)).0) × StandsFor (record old { clock = clock; registry = registry; reply = reply; tie = tie }) (with_reply (with_ledger (at_moment now s) o)).1
+  silent_state : SameFrame old.books books → reply ≡ [] → (s : State) → StandsFor old s → (o : Outcome × Ledger) → said.NoCall ≡ o.0 → StandsForLedger books o.1
+      → (said.NoCall ≡ (with_reply (with_ledger (at_moment now s) o)).0) × StandsFor (record old { clock = clock; books = books; reply = reply; tie = tie }) (with_reply (with_ledger (at_moment now s) o)).1
   silent_state frame none s h (said.NoCall, l) e z = (
     refl,
     record {
@@ -197,8 +197,8 @@ module _ (old : Held) (now clock : ℕ) (peer : Peer) (content : List ℕ) (regi
   )
   silent_state frame none s h (said.Reply bytes, l) e z = absurd cc
 
-  replied_state : SameFrame old.registry registry → (s : State) → StandsFor old s → (o : Outcome × Ledger) → said.Reply reply ≡ o.0 → StandsForLedger registry o.1
-      → (said.Reply reply ≡ (with_reply (with_ledger (at_moment now s) o)).0) × StandsFor (record old { clock = clock; registry = registry; reply = reply; tie = tie }) (with_reply (with_ledger (at_moment now s) o)).1
+  replied_state : SameFrame old.books books → (s : State) → StandsFor old s → (o : Outcome × Ledger) → said.Reply reply ≡ o.0 → StandsForLedger books o.1
+      → (said.Reply reply ≡ (with_reply (with_ledger (at_moment now s) o)).0) × StandsFor (record old { clock = clock; books = books; reply = reply; tie = tie }) (with_reply (with_ledger (at_moment now s) o)).1
   replied_state frame s h (said.NoCall, l) e z = absurd cc
   replied_state frame s h (said.Reply bytes, l) e z = (
     e,
@@ -213,23 +213,23 @@ module _ (old : Held) (now clock : ℕ) (peer : Peer) (content : List ℕ) (regi
     },
   )
 
-  pub silent_acts : Served (record old { clock = clock }) (Udp peer) (message_of content) registry said.NoCall → reply ≡ []
-      → Acts StandsFor (λ s. datagram s now peer content) old (record old { clock = clock; registry = registry; reply = reply; tie = tie }) said.NoCall
+  pub silent_acts : Served (record old { clock = clock }) (Udp peer) (message_of content) books said.NoCall → reply ≡ []
+      → Acts StandsFor (λ s. datagram s now peer content) old (record old { clock = clock; books = books; reply = reply; tie = tie }) said.NoCall
   unfolding datagram serve
   silent_acts served none = record { gives = λ s h. (goes s h).0; stands = λ s h. (goes s h).1 }
     where
-      goes : (s : State) → StandsFor old s → (said.NoCall ≡ (with_reply (with_ledger (at_moment now s) (answered s))).0) × StandsFor (record old { clock = clock; registry = registry; reply = reply; tie = tie }) (with_reply (with_ledger (at_moment now s) (answered s))).1
-      goes s h = silent_state served.frame none s h (answered s) (serve_gives (record old { clock = clock }) (Udp peer) (message_of content) registry said.NoCall served (at_moment now s) (moment s h))
-          (serve_stands (record old { clock = clock }) (Udp peer) (message_of content) registry said.NoCall served (at_moment now s) (moment s h))
+      goes : (s : State) → StandsFor old s → (said.NoCall ≡ (with_reply (with_ledger (at_moment now s) (answered s))).0) × StandsFor (record old { clock = clock; books = books; reply = reply; tie = tie }) (with_reply (with_ledger (at_moment now s) (answered s))).1
+      goes s h = silent_state served.frame none s h (answered s) (serve_gives (record old { clock = clock }) (Udp peer) (message_of content) books said.NoCall served (at_moment now s) (moment s h))
+          (serve_stands (record old { clock = clock }) (Udp peer) (message_of content) books said.NoCall served (at_moment now s) (moment s h))
 
-  pub replied_acts : Served (record old { clock = clock }) (Udp peer) (message_of content) registry (said.Reply reply)
-      → Acts StandsFor (λ s. datagram s now peer content) old (record old { clock = clock; registry = registry; reply = reply; tie = tie }) (said.Reply reply)
+  pub replied_acts : Served (record old { clock = clock }) (Udp peer) (message_of content) books (said.Reply reply)
+      → Acts StandsFor (λ s. datagram s now peer content) old (record old { clock = clock; books = books; reply = reply; tie = tie }) (said.Reply reply)
   unfolding datagram serve
   replied_acts served = record { gives = λ s h. (goes s h).0; stands = λ s h. (goes s h).1 }
     where
-      goes : (s : State) → StandsFor old s → (said.Reply reply ≡ (with_reply (with_ledger (at_moment now s) (answered s))).0) × StandsFor (record old { clock = clock; registry = registry; reply = reply; tie = tie }) (with_reply (with_ledger (at_moment now s) (answered s))).1
-      goes s h = replied_state served.frame s h (answered s) (serve_gives (record old { clock = clock }) (Udp peer) (message_of content) registry (said.Reply reply) served (at_moment now s) (moment s h))
-          (serve_stands (record old { clock = clock }) (Udp peer) (message_of content) registry (said.Reply reply) served (at_moment now s) (moment s h))
+      goes : (s : State) → StandsFor old s → (said.Reply reply ≡ (with_reply (with_ledger (at_moment now s) (answered s))).0) × StandsFor (record old { clock = clock; books = books; reply = reply; tie = tie }) (with_reply (with_ledger (at_moment now s) (answered s))).1
+      goes s h = replied_state served.frame s h (answered s) (serve_gives (record old { clock = clock }) (Udp peer) (message_of content) books (said.Reply reply) served (at_moment now s) (moment s h))
+          (serve_stands (record old { clock = clock }) (Udp peer) (message_of content) books (said.Reply reply) served (at_moment now s) (moment s h))
 
 -- ---- a piece of bytes
 

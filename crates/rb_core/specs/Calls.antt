@@ -14,10 +14,10 @@ use Rattle.rb_proto.specs.declared.request.ArgumentFault.TheVariants as faults
 use Rattle.rb_proto.specs.declared.request.Request.{Request}
 use Rattle.rb_proto.specs.declared.context.Context.{Context}
 use Rattle.rb_proto.specs.Arguments.{read_request}
-use Rattle.rb_proto.specs.Ledger.{Ledger, rows_in}
+use Rattle.rb_proto.specs.Ledger.{Ledger, called}
 use Rattle.rb_proto.specs.declared.answers.Answer.{Answer}
 use Rattle.rb_proto.specs.Answers.{answer}
-use Rattle.rb_proto.specs.Results.{result_bytes}
+use Rattle.rb_proto.specs.Results.{result_bytes, shown_of}
 use Rattle.rb_core.specs.declared.message.Message.{Message}
 use Rattle.rb_core.specs.declared.message.Message.TheVariants as says
 
@@ -74,14 +74,15 @@ longest_reply = 9000
 unfoldable pub fitting : ℕ → List ℕ → List ℕ
 fitting xid reply = if nat_lt longest_reply (length reply) then reply_head xid replies.SystemErr else reply
 
--- the reply with the results of an answer, where these rows are live after it
+-- the reply with the results of an answer, where this is remembered after it
 abbrev pub reply_with : Context → ℕ → Answer × Ledger → Outcome × Ledger
 reply_with context xid (given, ledger) =
-    (Reply (fitting xid (reply_head xid replies.Success ++ result_bytes context.listener.host (rows_in ledger) given)), ledger)
+    (Reply (fitting xid (reply_head xid replies.Success ++ result_bytes context.listener.host (shown_of ledger) given)), ledger)
 
--- What a message is answered with where a call sees this, and the ledger after it.
+-- What a message is answered with where a call sees this, and the ledger after it. A call of a procedure that is served is
+-- noted before it is answered, and one that is refused before that is not.
 unfoldable pub outcome : Context → Message → Ledger → Outcome × Ledger
 outcome context says.NoCall ledger = (NoCall, ledger)
 outcome context (says.Refused head) ledger = (Reply (reply_head head.xid head.status), ledger)
-outcome context (says.Garbage head) ledger = (Reply (reply_head head.xid replies.GarbageArgs), ledger)
-outcome context (says.Asked call) ledger = reply_with context call.head.xid (answer context call ledger)
+outcome context (says.Garbage head) ledger = (Reply (reply_head head.xid replies.GarbageArgs), called head ledger)
+outcome context (says.Asked call) ledger = reply_with context call.head.xid (answer context call (called call.head ledger))

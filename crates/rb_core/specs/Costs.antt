@@ -1,6 +1,7 @@
 -- What calls cost at most, in counted steps.
 use Rattle.std.specs.Prelude.{◌≡◌, ℕ, ◌+◌, ◌*◌, Bool, true, false, IfSome, List, [], ◌∷◌, length, Option, Some, None, Result, Ok, Err}
 use Rattle.rb_proto.specs.Ledger.{rows_in}
+use Rattle.rb_proto.specs.Puts.{note_cost, statistics_cost}
 use Rattle.rb_core.specs.declared.slot.Received.{Received}
 use Rattle.rb_core.specs.declared.slot.Heard.{Heard}
 use Rattle.rb_core.specs.declared.types.CoreFault.{CoreFault}
@@ -13,10 +14,14 @@ use Rattle.rb_core.specs.Step.Event.{Open, Bytes, Pending, Gave, Closed, NextLos
 
 -- ---- parts of calls
 
+-- what the statistics have part in it: a look-up is noted, and they are shown
+abbrev pub counting_cost : ℕ
+counting_cost = note_cost + statistics_cost
+
 -- what it costs to serve a message over so many rows, where so many are left: the procedure walks the rows, those of a
 -- list are walked twice, and a reply of 9,000 bytes is written
 abbrev pub serve_cost : ℕ → ℕ → ℕ
-serve_cost rows left = 4 * rows + 4 * left + 9043
+serve_cost rows left = 4 * rows + 4 * left + 9043 + counting_cost
 
 -- what it costs to show a fragment: the window is emptied, and a header of 4 bytes and at most 1,024 of data are written
 abbrev pub show_cost : ℕ

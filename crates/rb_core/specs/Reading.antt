@@ -7,7 +7,6 @@ use Rattle.rb_rpc.specs.Records.{data_of}
 use Rattle.rb_rpc.specs.Verdict.{verdict}
 use Rattle.rb_feed.specs.declared.feed.CallFeed.{CallFeed}
 use Rattle.rb_feed.specs.Feeds.{StandsForCall, arguments_of}
-use Rattle.rb_feed.specs.Saved.{loaded}
 use Rattle.rb_core.specs.Calls.{message_with, message_of, longest_reply}
 pub use Rattle.rb_core.specs.declared.reading.Fed.{Fed}
 pub use Rattle.rb_core.specs.declared.reading.Intake.{Intake}
@@ -22,17 +21,21 @@ unfoldable pub buffer_size : ℕ
 buffer_size = max longest_arguments longest_reply
 
 -- What is kept of a record with this data: the first bytes behind the head of its call, and of no call nothing.
-unfoldable pub kept_of : List ℕ → List ℕ
+abbrev pub kept_of : List ℕ → List ℕ
 kept_of content = take longest_arguments (arguments_of content)
 
 -- ---- a record that is read
 
--- The marking state, the head as it was saved and the buffer stand for the bytes fed since the last record's end.
+-- The head and the buffer stand for this data of a record.
+pub record IsHeld (head : CallFeed) (kept : Kept) (content : List ℕ) : Type 0 where
+  pub head_is : StandsForCall head content
+  pub kept_is : kept.bytes ≡ kept_of content
+  pub cap : kept.cap ≡ buffer_size
+
+-- The marking state besides stands for the bytes fed since the last record's end.
 pub record IsReading (reader : Reader) (kept : Kept) (fed : List ℕ) : Type 0 where
   pub marks_are : StandsForFed reader.marks fed
-  pub head_is : StandsForCall (loaded reader.head) (data_of fed)
-  pub kept_is : kept.bytes ≡ kept_of (data_of fed)
-  pub cap : kept.cap ≡ buffer_size
+  pub data_is : IsHeld reader.head kept (data_of fed)
 
 -- behind these bytes, a piece is taken up to the end of the first record, whose verdict is told, or whole
 abbrev pub fed_until : List ℕ → List ℕ → Option ℕ → Fed
@@ -46,17 +49,31 @@ StandsBehind reader kept all (Some n) = kept.bytes ≡ kept_of (data_of (take n 
 
 -- ---- while a piece is taken
 
--- The head that was loaded, the room that is left and the buffer stand for this data of a record.
+-- The first bytes of these arguments are kept, and there is room for so many more.
+pub record AreKept (kept : Kept) (room : ℕ) (arguments : List ℕ) : Type 0 where
+  pub bytes_are : kept.bytes ≡ take longest_arguments arguments
+  pub room_is : room + length kept.bytes ≡ longest_arguments
+  pub cap : kept.cap ≡ buffer_size
+
+-- They do, with the room that is left.
 pub record HasData (intake : Intake) (kept : Kept) (content : List ℕ) : Type 0 where
   pub head_is : StandsForCall intake.head content
-  pub kept_is : kept.bytes ≡ kept_of content
-  pub room_is : intake.room + length kept.bytes ≡ longest_arguments
-  pub cap : kept.cap ≡ buffer_size
+  pub kept_are : AreKept kept intake.room (arguments_of content)
+
+-- In the middle of a piece, behind these bytes of a record.
+pub record IsInside (marks : Marks) (intake : Intake) (kept : Kept) (fed : List ℕ) : Type 0 where
+  pub marks_are : StandsForFed marks fed
+  pub data_is : HasData intake kept (data_of fed)
 
 -- Of data that follows, these bytes are the call's arguments.
 abbrev pub AreArgumentsIn : CallFeed → List ℕ → List ℕ → Type 0
 AreArgumentsIn head more arguments =
     (content : List ℕ) → StandsForCall head content → arguments_of (content ++ more) ≡ arguments_of content ++ arguments
+
+-- Behind such bytes of the record, the head and the buffer have their data too.
+abbrev pub HasMoreData : Marks → Intake → Kept → List ℕ → Intake → Kept → Type 0
+HasMoreData marks intake kept run new now =
+    (fed : List ℕ) → IsInside marks intake kept fed → HasData new now (data_of (fed ++ run))
 
 -- ---- what is kept says enough
 

@@ -8,8 +8,8 @@ use Rattle.rb_core.specs.declared.run.Output as output
 use Rattle.rb_core.specs.declared.run.Output.TheVariants as outputs
 use Rattle.rb_core.specs.declared.types.Outcome as outcome
 use Rattle.rb_core.specs.declared.types.Outcome.TheVariants as outcomes
-use Rattle.rb_registry.specs.Registry.{Registry}
-use Rattle.rb_proto.specs.Ledger.{StandsForLedger}
+use Rattle.rb_proto.specs.declared.books.Books.{Books}
+use Rattle.rb_proto.specs.Ledger.{StandsForLedger, AreTied}
 use Rattle.rb_core.specs.State.{Setting, State}
 use Rattle.rb_core.specs.declared.types.Limits.{Limits}
 use Rattle.rb_core.specs.Calls.{Outcome, longest_reply}
@@ -26,24 +26,24 @@ pub record Held : Type 0 where
   pub setting : Setting
   pub clock : ℕ
   pub connections : Table
-  pub registry : Registry
+  pub books : Books
   pub reply : List ℕ
   pub tie : ℕ
 
--- Neither the changes nor any other history is held.
+-- Neither the changes nor the history of calls is held.
 pub record StandsFor (held : Held) (s : State) : Type 0 where
   pub setting : held.setting ≡ s.setting
   pub clock : held.clock ≡ s.clock
   pub conns : held.connections.conns ≡ s.setting.limits.conns
   pub connections : StandsForConnections held.connections s.connections
-  pub limit : held.registry.limit ≡ s.setting.limits.rows
-  pub ledger : StandsForLedger held.registry s.ledger
+  pub limit : held.books.registry.limit ≡ s.setting.limits.rows
+  pub ledger : StandsForLedger held.books s.ledger
   pub reply : held.reply ≡ s.reply
 
 -- What is true of all that a core holds: it has one meter, and its draft is empty between two events.
-pub record IsCore (limits : Limits) (connections : Table) (registry : Registry) (reply draft : Kept) : Type 0 where
-  pub limit : registry.limit ≡ limits.rows
-  pub registry_tie : registry.tie ≡ reply.tie
+pub record IsCore (limits : Limits) (connections : Table) (books : Books) (reply draft : Kept) : Type 0 where
+  pub limit : books.registry.limit ≡ limits.rows
+  pub tied : AreTied reply.tie books
   pub connections_tie : connections.tie ≡ reply.tie
   pub reply_cap : reply.cap ≡ longest_reply
   pub is_draft : IsDraft reply.tie draft

@@ -3,7 +3,7 @@ use Rattle.std.specs.Prelude.{ℕ, ◌-◌, ◌^◌, nat_le, max, Bool, ◌&&◌
 use Rattle.rb_rpc.specs.declared.peer.Peer.{Peer}
 use Rattle.rb_proto.specs.declared.listener.Listener.{Listener}
 use Rattle.rb_proto.specs.Callers.{own_rows}
-use Rattle.rb_proto.specs.Ledger.{Ledger}
+use Rattle.rb_proto.specs.Ledger.{Ledger, fresh_ledger}
 use Rattle.rb_core.specs.declared.types.Limits.{Limits}
 
 -- what no event changes: the first call that is forwarded has the first xid
@@ -58,7 +58,7 @@ opening limits listener first_xid now = record {
   setting = record { limits = limits; listener = listener; first_xid = first_xid };
   clock = now;
   connections = record { next = 1; all = [] };
-  ledger = record { own = own_rows listener; changes = [] };
+  ledger = fresh_ledger (own_rows listener);
   reply = [];
 }
 

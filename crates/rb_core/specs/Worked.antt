@@ -166,5 +166,19 @@ UnknownProcedure = answer_to (call_by_none 25 100000 2 6) ≡ refused_by 25 3 []
 abbrev pub GarbageArguments : Type 0
 GarbageArguments = answer_to (call_by_none 25 100000 2 1 ++ words (0 ∷ 0 ∷ 0 ∷ [])) ≡ refused_by 25 4 []
 
+-- GETSTAT as the first call: info[12] of version 4 is 1
+abbrev pub GetstatFirstCall : Type 0
+GetstatFirstCall = answer_to (call_by_none 23 100000 4 12) ≡ Replied (accepted 23 (replicate 46 0 ++ 1 ∷ replicate 4 0)) ∷ []
+
+-- a SET whose arguments are cut short is counted, and an unknown procedure and another version are not
+abbrev pub GetstatOfRefusals : Type 0
+GetstatOfRefusals =
+    run fresh
+    (Datagram 0 loopback (call_by_none 1 100000 2 1 ++ words (0 ∷ 0 ∷ 0 ∷ []))
+    ∷ Datagram 0 loopback (call_by_none 2 100000 2 6) ∷ Datagram 0 loopback (call_by_none 3 100000 5 1)
+    ∷ Datagram 0 loopback (call_by_none 4 100000 4 12) ∷ [])
+    ≡ refused_by 1 4 [] ++ refused_by 2 3 [] ++ refused_by 3 2 (2 ∷ 4 ∷ [])
+    ++ Replied (accepted 4 (0 ∷ 1 ∷ replicate 44 0 ++ 1 ∷ replicate 4 0)) ∷ []
+
 abbrev pub OtherProgram : Type 0
 OtherProgram = answer_to (call_by_none 25 200001 2 0) ≡ refused_by 25 1 []

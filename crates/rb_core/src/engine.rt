@@ -7,8 +7,7 @@ use crate::message::read_message;
 use crate::serve::{LONGEST_REPLY, serve};
 use crate::slot::{Heard, Received};
 use crate::types::{CoreFault, Limits, Outcome, Taken};
-use rb_proto::{Context, Listener, own_rows};
-use rb_registry::Registry;
+use rb_proto::{Books, Context, Listener};
 use rb_rpc::{Caller, Peer};
 use rb_xdr::{Kept, Meter};
 use std::alloc::Global;
@@ -22,7 +21,7 @@ pub struct Core {
     first_xid: u32,
     clock: u64,
     connections: Connections,
-    registry: Registry,
+    books: Books,
     /// The reply to the last datagram.
     reply: Kept,
     /// Where a reply on a connection is written, empty between two events: the connection takes it for its own.
@@ -38,12 +37,12 @@ impl Model for Core {
       setting = record { limits = c.limits; listener = c.listener; first_xid = c.first_xid };
       clock = c.clock;
       connections = c.connections;
-      registry = c.registry;
+      books = c.books;
       reply = c.reply.bytes;
       tie = c.reply.tie;
     } };
 
-    ghost invariant = { λ c. IsCore c.limits c.connections c.registry c.reply c.draft };
+    ghost invariant = { λ c. IsCore c.limits c.connections c.books c.reply c.draft };
 }
 
 fn are_good(limits: &Limits) -> bool
@@ -92,7 +91,7 @@ impl Core {
         if !are_good(&limits) {
             return Err(CoreFault::BadLimits);
         }
-        let Ok(registry) = Registry::new(alloc, limits.rows, own_rows(&listener), meter) else {
+        let Ok(books) = Books::new(alloc, limits.rows, &listener, meter) else {
             return Err(CoreFault::NoMemory);
         };
         let Ok(connections) = Connections::new(alloc, limits.conns, meter) else {
@@ -110,7 +109,7 @@ impl Core {
             first_xid,
             clock: now,
             connections,
-            registry,
+            books,
             reply,
             draft,
         })
@@ -141,13 +140,13 @@ impl Core {
         ensures tie { self.new.tie ≡ self.old.tie }
         ensures short { length self.new.reply ≤ longest_reply }
         ensures cost { PaysAtMost meter.old meter.new (1 + serve_cost
-            (length (rows_of self.old.registry)) (length (rows_of self.new.registry))) }
+            (length (rows_of self.old.books.registry)) (length (rows_of self.new.books.registry))) }
     {
         self.clock = self.clock.max(now);
         let context = self.context(Caller::Udp(peer));
         self.reply.clear(meter);
         serve(
-            &mut self.registry,
+            &mut self.books,
             &context,
             read_message(content),
             &mut self.reply,
@@ -199,7 +198,7 @@ impl Core {
         ensures cost { PaysAtMost meter.old meter.new
             (find_cost (length self.old.connections.slots) + taking_cost result + answer_cost
             (length self.old.connections.slots)
-            (length (rows_of self.old.registry)) (length (rows_of self.new.registry))) }
+            (length (rows_of self.old.books.registry)) (length (rows_of self.new.books.registry))) }
         ensures cheap { (s : State) → StandsFor self.old s → NoRecordEnds s id piece.now
             → PaysAtMost meter.old meter.new
             (find_cost (length self.old.connections.slots) + taking_cost result) }
@@ -225,12 +224,12 @@ impl Core {
             self.old self.new result }
         ensures tie { self.new.tie ≡ self.old.tie }
         ensures cost { PaysAtMost meter.old meter.new (serve_cost
-            (length (rows_of self.old.registry)) (length (rows_of self.new.registry))
+            (length (rows_of self.old.books.registry)) (length (rows_of self.new.books.registry))
             + settle_cost (length self.old.connections.slots)) }
     {
         let context = self.context(Caller::Tcp(id, heard.peer));
         let outcome = serve(
-            &mut self.registry,
+            &mut self.books,
             &context,
             heard.message,
             &mut self.draft,

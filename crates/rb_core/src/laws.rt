@@ -3,7 +3,7 @@ ghost use Rattle.rb_core.specs.Grammar.{MessagesAreOfTheGrammar};
 ghost use Rattle.rb_core.specs.Laws.{RunsAppend, StatesAppend, RefusedEventsChangeNothing, NumbersNeverRecur, CutsDoNotMatter, NextLostIsLeast, BytesAreTakenExactly, RepliesAreGivenWhole, OwedRepliesStay, ConnectionsCloseExactly, LedgersAreWellKept};
 ghost use Rattle.rb_core.specs.Sessions.{SessionsAreWhole};
 ghost use Rattle.rb_core.specs.WorkedConnections.{NoCallCloses, OtherRpcVersionOnTcp, CrumbsInOnePiece, CrumbsInSingleBytes, CrumbsInSevens, BytesBehindArguments, OneRecordAtATime, OneRecordAtATimePasses, NoCallPasses, GivenInParts, TooMuchIsRefused, GoodLimits, NumbersDoNotRecur};
-ghost use Rattle.rb_core.specs.Worked.{NullIsAnswered, SetThenAskThenSetAgain, GreatestVersionElse, OwnRowsAreAsked, LimitIsReached, LocalCallersSet, NothingIsSilent, NullBySys, OtherRpcVersion, TooShort, GreatestCredential, OverlongCredential, SysBodyCutShort, OverlongVerifier, BadResidue, GoodResidue, GssBeforeProgram, OtherVersion, UnknownProcedure, GarbageArguments, OtherProgram, NullOfThree, NullOfFour};
+ghost use Rattle.rb_core.specs.Worked.{NullIsAnswered, SetThenAskThenSetAgain, GreatestVersionElse, OwnRowsAreAsked, LimitIsReached, LocalCallersSet, NothingIsSilent, NullBySys, OtherRpcVersion, TooShort, GreatestCredential, OverlongCredential, SysBodyCutShort, OverlongVerifier, BadResidue, GoodResidue, GssBeforeProgram, OtherVersion, UnknownProcedure, GarbageArguments, OtherProgram, NullOfThree, NullOfFour, GetstatFirstCall, GetstatOfRefusals};
 
 /// For each connection in each run: the bytes taken on it are the marked records of its calls and an unfinished rest;
 /// those given on it, and then those still owed, are the marked replies to these calls, joined in order; and no byte is
@@ -37,6 +37,8 @@ pub fn worked_examples()
     ensures other_program { OtherProgram }
     ensures null_of_version_3 { NullOfThree }
     ensures null_of_version_4 { NullOfFour }
+    ensures getstat_first_call { GetstatFirstCall }
+    ensures getstat_of_refusals { GetstatOfRefusals }
 {}
 
 /// The definitions give what the worked examples of connections say.

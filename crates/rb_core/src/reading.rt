@@ -3,10 +3,9 @@ ghost use Rattle.std.specs.Prelude.{◌≡◌, ℕ, ◌+◌, ◌-◌, ◌<◌, �
 ghost use Rattle.rb_xdr.specs.Meter.{Pays, PaysAtMost};
 ghost use Rattle.rb_rpc.specs.Marks.{StandsForFed};
 ghost use Rattle.rb_rpc.specs.Streams.{RecordEnds, ArePart, StandsForMore};
-ghost use Rattle.rb_rpc.specs.Records.{first_record, data_of};
+ghost use Rattle.rb_rpc.specs.Records.{first_record};
 ghost use Rattle.rb_feed.specs.Feeds.{StandsForCall, StandsForMore as StandsForMoreOfCall};
-ghost use Rattle.rb_feed.specs.Saved.{loaded};
-ghost use Rattle.rb_core.specs.Reading.{longest_arguments, buffer_size, kept_of, IsReading, HasData, AreArgumentsIn, fed_until, StandsBehind, KeptSaysTheRecord};
+ghost use Rattle.rb_core.specs.Reading.{IsHeld, IsReading, AreKept, HasData, HasMoreData, AreArgumentsIn, fed_until, StandsBehind, KeptSaysTheRecord};
 
 use rb_feed::CallFeed;
 use rb_rpc::{Marks, Part, Verdict};
@@ -20,8 +19,8 @@ pub const LONGEST_ARGUMENTS: usize = 8_816;
 pub struct Reader {
     /// Where its next byte stands.
     marks: Marks,
-    /// The head of its call as far as it came, saved.
-    head: [u32; 16],
+    /// The head of its call as far as it came.
+    head: CallFeed,
 }
 
 /// A call whose data is being taken.
@@ -95,11 +94,8 @@ fn feed_head(head: &mut CallFeed, bytes: &[u8]) -> usize
 /// Adds bytes of the arguments as far as there is room for them, and says how much room is left.
 fn keep(kept: &mut Kept, room: usize, arguments: &[u8], meter: &mut Meter) -> usize
     requires { meter.old.tie ≡ kept.old.tie }
-    ensures front { (bytes : List ℕ) → kept.old.bytes ≡ take longest_arguments bytes
-        → room + length kept.old.bytes ≡ longest_arguments → longest_arguments ≤ kept.old.cap
-        → kept.new.bytes ≡ take longest_arguments (bytes ++ arguments.now) }
-    ensures room { room + length kept.old.bytes ≡ longest_arguments → longest_arguments ≤ kept.old.cap
-        → result + length kept.new.bytes ≡ longest_arguments }
+    ensures kept { (bytes : List ℕ) → AreKept kept.old room bytes
+        → AreKept kept.new result (bytes ++ arguments.now) }
     ensures cap { kept.new.cap ≡ kept.old.cap }
     ensures tie { kept.new.tie ≡ kept.old.tie }
     ensures cost { PaysAtMost meter.old meter.new (length arguments.now) }
@@ -110,16 +106,15 @@ fn keep(kept: &mut Kept, room: usize, arguments: &[u8], meter: &mut Meter) -> us
 }
 
 impl Intake {
-    /// Goes on with a call whose head was saved, and whose arguments are in the buffer.
-    fn load(head: [u32; 16], kept: &Kept, meter: &mut Meter) -> Intake
+    /// Goes on with a call whose head came so far, and whose arguments are in the buffer.
+    fn begin(head: CallFeed, kept: &Kept, meter: &mut Meter) -> Intake
         requires { meter.old.tie ≡ kept.now.tie }
-        ensures data { (content : List ℕ) → StandsForCall (loaded head) content
-            → kept.now.bytes ≡ kept_of content → kept.now.cap ≡ buffer_size
+        ensures data { (content : List ℕ) → IsHeld head kept.now content
             → HasData result kept.now content }
         ensures cost { Pays meter.old meter.new 1 }
     {
         Intake {
-            head: CallFeed::load(head),
+            head,
             room: LONGEST_ARGUMENTS.saturating_sub(kept.len(meter)),
         }
     }
@@ -151,9 +146,8 @@ impl Intake {
         ensures within { result.count ≤ length bytes.now }
         ensures ends { RecordEnds marks.old (take result.count bytes.now) result.ended }
         ensures after { StandsForMore marks.old (take result.count bytes.now) result.ended marks.new }
-        ensures data { (fed : List ℕ) → StandsForFed marks.old fed
-            → HasData self.old kept.old (data_of fed)
-            → HasData self.new kept.new (data_of (fed ++ take result.count bytes.now)) }
+        ensures data { HasMoreData marks.old self.old kept.old (take result.count bytes.now)
+            self.new kept.new }
         ensures cap { kept.new.cap ≡ kept.old.cap }
         ensures tie { kept.new.tie ≡ kept.old.tie }
         ensures cost { PaysAtMost meter.old meter.new result.count }
@@ -171,11 +165,11 @@ impl Reader {
     /// Before the first byte of a record.
     pub fn new() -> Reader
         ensures marks { StandsForFed result.marks [] }
-        ensures head { StandsForCall (loaded result.head) [] }
+        ensures head { StandsForCall result.head [] }
     {
         Reader {
             marks: Marks::new(),
-            head: CallFeed::new().save(),
+            head: CallFeed::new(),
         }
     }
 
@@ -192,7 +186,7 @@ impl Reader {
         ensures tie { kept.new.tie ≡ kept.old.tie }
         ensures cost { PaysAtMost meter.old meter.new (result.count + 1) }
     {
-        let mut intake = Intake::load(self.head, kept, meter);
+        let mut intake = Intake::begin(self.head, kept, meter);
         let mut count = 0;
         'runs: while count < piece.len() {
             let run = intake.feed_run(&mut self.marks, kept, &piece[count..], meter);
@@ -204,7 +198,7 @@ impl Reader {
                 };
             }
         }
-        self.head = intake.head.save();
+        self.head = intake.head;
         Fed {
             count,
             verdict: None,

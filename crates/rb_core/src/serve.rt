@@ -3,16 +3,16 @@ ghost use Rattle.std.specs.Prelude.{◌≡◌, ◌<◌, ◌≤◌, ◌+◌, ◌*
 ghost use Rattle.rb_rpc.specs.Replies.{reply_head};
 ghost use Rattle.rb_registry.specs.Registry.{rows_of};
 ghost use Rattle.rb_xdr.specs.Meter.{PaysAtMost};
-ghost use Rattle.rb_proto.specs.Ledger.{ActsAs, SameFrame};
-ghost use Rattle.rb_proto.specs.Results.{result_bytes};
+ghost use Rattle.rb_proto.specs.Ledger.{ActsAs, AreTied, Ledger, SameFrame, StandsForLedger};
+ghost use Rattle.rb_proto.specs.Results.{results_at, shown_in, shown_of};
+ghost use Rattle.rb_proto.specs.Puts.{statistics_cost};
 ghost use Rattle.rb_core.specs.Calls.{outcome, fitting, longest_reply};
 ghost use Rattle.rb_core.specs.StandsFor.{outcome_with};
 ghost use Rattle.rb_core.specs.Costs.{serve_cost};
 
 use crate::message::Message;
 use crate::types::Outcome;
-use rb_proto::{Answer, Context, Listener, answer, put_answer};
-use rb_registry::Registry;
+use rb_proto::{Answer, Books, Context, Listener, answer, put_answer};
 use rb_rpc::{ReplyHead, ReplyStatus, put_reply};
 use rb_xdr::{Kept, Meter};
 
@@ -40,23 +40,25 @@ fn put_head(out: &mut Kept, head: ReplyHead, meter: &mut Meter)
 fn put_results(
     answer: &Answer,
     xid: u32,
-    registry: &Registry,
+    books: &Books,
     listener: &Listener,
     out: &mut Kept,
     meter: &mut Meter,
 )
-    requires registry { meter.old.tie ≡ registry.now.tie }
+    requires tied { AreTied meter.old.tie books.now }
     requires tie { meter.old.tie ≡ out.old.tie }
     requires empty { out.old.bytes ≡ [] }
     requires room { longest_reply ≤ out.old.cap }
     ensures written { out.new ≡ record out.old {
-      bytes = fitting xid
-          (reply_head xid ReplyStatus.Success ++ result_bytes listener.now.host
-          (rows_of registry.now) answer.now);
+      bytes = fitting xid (reply_head xid ReplyStatus.Success
+          ++ results_at listener.now books.now answer.now);
     } }
+    ensures shows { (l : Ledger) → StandsForLedger books.now l
+        → shown_in books.now ≡ shown_of l }
     ensures short { length out.new.bytes ≤ longest_reply }
     ensures some { 0 < length out.new.bytes }
-    ensures cost { PaysAtMost meter.old meter.new (4 * length (rows_of registry.now) + 9038) }
+    ensures cost { PaysAtMost meter.old meter.new
+        (4 * length (rows_of books.now.registry) + 9038 + statistics_cost) }
 {
     put_head(
         out,
@@ -66,7 +68,7 @@ fn put_results(
         },
         meter,
     );
-    if put_answer(answer, registry, listener, LONGEST_REPLY, out, meter).is_err() {
+    if put_answer(answer, books, listener, LONGEST_REPLY, out, meter).is_err() {
         out.clear(meter);
         put_head(
             out,
@@ -82,43 +84,45 @@ fn put_results(
 /// Serves a message, and writes its reply into an empty buffer.
 #[tactic(auto, unfolding(crate::specs::Calls::outcome, crate::specs::Calls::longest_reply))]
 pub fn serve(
-    registry: &mut Registry,
+    books: &mut Books,
     context: &Context,
     message: Message,
     out: &mut Kept,
     meter: &mut Meter,
 ) -> Outcome
-    requires registry { meter.old.tie ≡ registry.old.tie }
-    requires limit { registry.old.limit ≡ context.now.limit }
+    requires tied { AreTied meter.old.tie books.old }
+    requires limit { books.old.registry.limit ≡ context.now.limit }
     requires tie { meter.old.tie ≡ out.old.tie }
     requires empty { out.old.bytes ≡ [] }
     requires room { longest_reply ≤ out.old.cap }
-    ensures acts { ActsAs (outcome context.now message) registry.old registry.new
+    ensures acts { ActsAs (outcome context.now message) books.old books.new
         (outcome_with result out.new.bytes) }
-    ensures frame { SameFrame registry.old registry.new }
+    ensures frame { SameFrame books.old books.new }
     ensures short { length out.new.bytes ≤ longest_reply }
     ensures some { result ≡ Outcome.Reply → 0 < length out.new.bytes }
     ensures none { result ≡ Outcome.NoCall → out.new.bytes ≡ [] }
     ensures out { (out.new.cap ≡ out.old.cap) × (out.new.tie ≡ out.old.tie) }
     ensures cost { PaysAtMost meter.old meter.new
-        (serve_cost (length (rows_of registry.old)) (length (rows_of registry.new))) }
+        (serve_cost (length (rows_of books.old.registry)) (length (rows_of books.new.registry))) }
 {
     match message {
-        Message::NoCall => return Outcome::NoCall,
-        Message::Refused(head) => put_head(out, head, meter),
-        Message::Garbage(head) => put_head(
-            out,
-            ReplyHead {
-                xid: head.xid,
-                status: ReplyStatus::GarbageArgs,
-            },
-            meter,
-        ),
+        Message::NoCall => Outcome::NoCall,
+        Message::Refused(head) => {
+            put_head(out, head, meter);
+            Outcome::Reply
+        }
+        Message::Garbage(head) => {
+            let (xid, status) = (head.xid, ReplyStatus::GarbageArgs);
+            books.note_call(&head);
+            put_head(out, ReplyHead { xid, status }, meter);
+            Outcome::Reply
+        }
         Message::Asked(call) => {
             let xid = call.head.xid;
-            let given = answer(registry, context, call, meter);
-            put_results(&given, xid, registry, &context.listener, out, meter);
+            books.note_call(&call.head);
+            let given = answer(books, context, call, meter);
+            put_results(&given, xid, books, &context.listener, out, meter);
+            Outcome::Reply
         }
     }
-    Outcome::Reply
 }

@@ -1,5 +1,5 @@
 //! The slot of a connection: bytes that arrive on it, and bytes that are given on it.
-ghost use Rattle.std.specs.Prelude.{◌≡◌, ◌+◌, [], None};
+ghost use Rattle.std.specs.Prelude.{◌≡◌, ◌+◌, [], Some, None};
 ghost use Rattle.rb_xdr.specs.Meter.{PaysAtMost};
 ghost use Rattle.rb_core.specs.Calls.{message_with};
 
@@ -92,6 +92,29 @@ fn take_message(verdict: Verdict, arguments: &mut Kept, meter: &mut Meter) -> Me
     message
 }
 
+/// What came of a piece with whose byte of this count a record ended.
+fn hear(
+    count: usize,
+    peer: Peer,
+    verdict: Verdict,
+    arguments: &mut Kept,
+    meter: &mut Meter,
+) -> Received
+    requires { meter.old.tie ≡ arguments.old.tie }
+    ensures heard { result ≡ record {
+      count = count;
+      heard = Some (record { peer = peer; message = message_with verdict arguments.old.bytes });
+    } }
+    ensures empty { arguments.new ≡ record arguments.old { bytes = [] } }
+    ensures cost { PaysAtMost meter.old meter.new (2 + arguments.old.cap) }
+{
+    let message = take_message(verdict, arguments, meter);
+    Received {
+        count,
+        heard: Some(Heard { peer, message }),
+    }
+}
+
 impl Slot {
     ghost use Rattle.std.specs.Prelude.{◌≡◌, ◌≤◌, ◌<◌, ◌+◌, ℕ, List, [], length};
     ghost use Rattle.rb_core.specs.State.{Connection};
@@ -138,14 +161,7 @@ impl Slot {
         };
         self.stage = Stage::Idle;
         self.mark = clock;
-        let message = take_message(verdict, &mut self.buffer, meter);
-        Received {
-            count,
-            heard: Some(Heard {
-                peer: self.peer,
-                message,
-            }),
-        }
+        hear(count, self.peer, verdict, &mut self.buffer, meter)
     }
 
     /// Takes bytes of the piece up to the one that ends a record, or all, and says what the record said; nothing while

@@ -1,3 +1,4 @@
 pub mod Readings
 pub mod Requests
 pub mod Lists
+pub mod Shown

@@ -17,7 +17,7 @@ use Rattle.rb_proto.specs.declared.answers.Answer.TheVariants.{Rows}
 use Rattle.rb_proto.specs.declared.answers.Listing.{Listing}
 use Rattle.rb_proto.specs.declared.answers.Listing.TheVariants.{Mappings, Rpcbs, Entries}
 use Rattle.rb_proto.specs.Types.{mapping_spelling, rpcb_spelling, entry_spelling}
-use Rattle.rb_proto.specs.Results.{is_inet, is_version, mapping_of, rpcb_of, entry_of, list_bytes, row_bytes, rows_bytes, result_bytes}
+use Rattle.rb_proto.specs.Results.{is_inet, is_version, mapping_of, rpcb_of, entry_of, list_bytes, row_bytes, rows_bytes, Shown, result_bytes}
 
 -- ---- a list is what its rows add
 
@@ -45,9 +45,9 @@ list-rows host rows Mappings = ap (λ (xs : List ℕ). xs ++ boolean false) (sho
 list-rows host rows Rpcbs = ap (λ (xs : List ℕ). xs ++ boolean false) (all_rows rpcb_spelling rpcb_of rows)
 list-rows host rows (Entries prog vers) = ap (λ (xs : List ℕ). xs ++ boolean false) (shown_rows entry_spelling (entry_of host) (is_version prog vers) rows)
 
-pub rows_result : (host : List ℕ) (rows : List Row) (list : Listing) (answer : Answer) → answer ≡ Rows list → result_bytes host rows answer ≡ rows_bytes host rows list
+pub rows_result : (host : List ℕ) (shown : Shown) (list : Listing) (answer : Answer) → answer ≡ Rows list → result_bytes host shown answer ≡ rows_bytes host shown.rows list
 unfolding result_bytes
-rows_result host rows list answer is = ap (λ (a : Answer). result_bytes host rows a) is ∙ list-rows host rows list
+rows_result host shown list answer is = ap (λ (a : Answer). result_bytes host shown a) is ∙ list-rows host shown.rows list
 
 -- ---- one row more
 

@@ -1,5 +1,5 @@
 -- What each procedure is answered, and the ledger after it (RFC 1833 sections 2.2 and 3.2).
-use Rattle.std.specs.Prelude.{ℕ, ◌/◌, ◌-◌, ◌^◌, ◌==◌, nat_le, min, Bool, false, not, ◌&&◌, if◌then◌else◌, List, [], ◌∷◌, ◌++◌, length, Option, Some, None, option_map, option_and_then}
+use Rattle.std.specs.Prelude.{ℕ, ◌/◌, ◌-◌, ◌^◌, ◌==◌, nat_le, min, Bool, false, not, ◌&&◌, if◌then◌else◌, List, [], ◌∷◌, ◌++◌, length, Option, Some, None, option_map, is_some}
 use Rattle.std.specs.Option.{option_map_or}
 use Rattle.rb_rpc.specs.declared.call.CallHead.{CallHead}
 use Rattle.rb_uaddr.specs.declared.address.Uaddr.TheVariants.{V4}
@@ -11,6 +11,9 @@ use Rattle.rb_registry.specs.declared.row.Which.{Which}
 use Rattle.rb_registry.specs.declared.row.Which.TheVariants.{Inet}
 use Rattle.rb_registry.specs.Rows.{Change, rpcb_prog, has_place, removes_some, find_exact, find_row}
 use Rattle.rb_registry.specs.Rows.Change.{Added, Removed}
+use Rattle.rb_stats.specs.declared.key.Target.{Target}
+use Rattle.rb_stats.specs.Statistics.{Note}
+use Rattle.rb_stats.specs.Statistics.Note.{WasSet, WasUnset, LookedUp}
 use Rattle.rb_proto.specs.declared.mapping.Mapping.{Mapping}
 use Rattle.rb_proto.specs.declared.rpcb.Rpcb.{Rpcb}
 use Rattle.rb_proto.specs.declared.netbuf.Netbuf.{Netbuf}
@@ -18,7 +21,7 @@ use Rattle.rb_proto.specs.declared.procedure.VoidProcedure.TheVariants as voids
 use Rattle.rb_proto.specs.declared.procedure.MappingProcedure.TheVariants as mappings
 use Rattle.rb_proto.specs.declared.procedure.RpcbProcedure.TheVariants as rpcbs
 use Rattle.rb_proto.specs.declared.request.Request.TheVariants as requests
-use Rattle.rb_proto.specs.declared.answers.Answer.TheVariants.{Results, Rows}
+use Rattle.rb_proto.specs.declared.answers.Answer.TheVariants.{Results, Rows, Statistics}
 use Rattle.rb_proto.specs.declared.answers.Listing.{Listing}
 use Rattle.rb_proto.specs.declared.answers.Listing.TheVariants.{Mappings, Rpcbs, Entries}
 use Rattle.rb_proto.specs.declared.answers.Value.{Value}
@@ -26,7 +29,7 @@ use Rattle.rb_proto.specs.declared.answers.Value.TheVariants as values
 use Rattle.rb_proto.specs.Arguments.{Request}
 use Rattle.rb_proto.specs.Callers.{is_local, peer_of, netid_of, owner_of}
 use Rattle.rb_proto.specs.Netids.{netid_named, netid_of_prot, which_of}
-use Rattle.rb_proto.specs.Ledger.{Ledger, rows_in}
+use Rattle.rb_proto.specs.Ledger.{Ledger, rows_in, version_of, noted}
 pub use Rattle.rb_proto.specs.declared.answers.Answer.{Answer}
 pub use Rattle.rb_proto.specs.declared.call.Call.{Call}
 pub use Rattle.rb_proto.specs.declared.context.Context.{Context}
@@ -37,9 +40,15 @@ pub use Rattle.rb_proto.specs.declared.context.Context.{Context}
 unfoldable pub comes_from_here : Context → Bool
 comes_from_here context = is_local context.listener (peer_of context.caller).host
 
--- the change behind the others, where it is accepted, and whether it is
-abbrev pub change_if : Bool → Change → Ledger → Bool × Ledger
-change_if accepted change l = (accepted, record l { changes = if accepted then l.changes ++ change ∷ [] else l.changes })
+-- the change and the note of it behind the others, where it is accepted, and whether it is
+abbrev pub change_if : Bool → Change → Note → Ledger → Bool × Ledger
+change_if accepted change note l = (
+  accepted,
+  record l {
+    changes = if accepted then l.changes ++ change ∷ [] else l.changes;
+    history = if accepted then l.history ++ note ∷ [] else l.history;
+  },
+)
 
 -- ---- SET (RPCBPROC_SET, PMAPPROC_SET)
 
@@ -67,10 +76,10 @@ can_be_set row = not (row.prog == rpcb_prog) && option_map_or (λ u. not (port_o
 unfoldable pub accepts_row : Context → Ledger → Row → Bool
 accepts_row context l row = comes_from_here context && can_be_set row && has_place context.limit (rows_in l) (length l.changes) row
 
--- A SET of the row that is asked for, if there is one: TRUE and the row added, else FALSE.
-unfoldable pub set_row : Context → Option Row → Ledger → Bool × Ledger
-set_row context None l = (false, l)
-set_row context (Some row) l = change_if (accepts_row context l row) (Added row) l
+-- A SET of the row that is asked for, if there is one: TRUE, the row added and the SET noted, else FALSE.
+unfoldable pub set_row : Context → CallHead → Option Row → Ledger → Bool × Ledger
+set_row context head None l = (false, l)
+set_row context head (Some row) l = change_if (accepts_row context l row) (Added row) (WasSet (version_of head.vers)) l
 
 -- ---- UNSET (RPCBPROC_UNSET, PMAPPROC_UNSET)
 
@@ -78,12 +87,16 @@ set_row context (Some row) l = change_if (accepts_row context l row) (Added row)
 unfoldable pub accepts_removal : Context → Ledger → Change → Bool
 accepts_removal context l removal = comes_from_here context && removes_some (rows_in l) (length l.changes) removal
 
--- An UNSET of a version of a program on these netids, if they are known, by this owner: TRUE where some row is removed,
--- else FALSE.
-unfoldable pub unset_rows : Context → Owner → ℕ → ℕ → Option Which → Ledger → Bool × Ledger
-unset_rows context owner prog vers None l = (false, l)
-unset_rows context owner prog vers (Some which) l =
-    change_if (accepts_removal context l (Removed prog vers which owner)) (Removed prog vers which owner) l
+-- the rows of a version of a program on these netids that the caller's owner may remove
+abbrev pub removal_of : CallHead → ℕ → ℕ → Which → Change
+removal_of head prog vers which = Removed prog vers which (owner_of head.cred)
+
+-- An UNSET of a version of a program on these netids, if they are known: TRUE where some row is removed, and the UNSET
+-- noted, else FALSE.
+unfoldable pub unset_rows : Context → CallHead → ℕ → ℕ → Option Which → Ledger → Bool × Ledger
+unset_rows context head prog vers None l = (false, l)
+unset_rows context head prog vers (Some which) l =
+    change_if (accepts_removal context l (removal_of head prog vers which)) (removal_of head prog vers which) (WasUnset (version_of head.vers)) l
 
 -- ---- rows that are asked for
 
@@ -103,17 +116,36 @@ port_found found = option_map_or (λ (row : Row). shown_port row.addr) found 0
 abbrev pub addr_found : List ℕ → Option Row → List ℕ
 addr_found host found = option_map_or (λ (row : Row). shown_text host row.addr) found []
 
--- PMAPPROC_GETPORT: by the netid of prot; port is ignored
-unfoldable pub getport : Mapping → List Row → ℕ
-getport m rows = port_found (option_and_then (λ netid. find_row m.prog m.vers netid rows) (netid_of_prot m.prot))
+-- a look-up of the target, in a call of this head, is noted with whether it found a row
+abbrev pub looked_up : CallHead → Target → Option Row → Ledger → Ledger
+looked_up head target found l = noted (LookedUp (version_of head.vers) target (is_some found)) l
 
--- RPCBPROC_GETADDR: by the transport on which the call came; r_netid, r_addr and r_owner are ignored
-unfoldable pub getaddr : Context → Rpcb → List Row → List ℕ
-getaddr context r rows = addr_found context.listener.host (find_row r.prog r.vers (netid_of context.caller) rows)
+-- the port of the row that was looked up
+abbrev pub port_told : CallHead → Target → Option Row → Ledger → ℕ × Ledger
+port_told head target found l = (port_found found, looked_up head target found l)
+
+abbrev pub port_on : CallHead → Mapping → Option Netid → Ledger → ℕ × Ledger
+port_on head m None l = (0, l)
+port_on head m (Some netid) l =
+    port_told head (record { prog = m.prog; vers = m.vers; netid = netid }) (find_row m.prog m.vers netid (rows_in l)) l
+
+-- PMAPPROC_GETPORT: by the netid of prot; port is ignored. Where prot has no netid, nothing is looked up.
+unfoldable pub getport : CallHead → Mapping → Ledger → ℕ × Ledger
+getport head m l = port_on head m (netid_of_prot m.prot) l
+
+-- the address of the row that was looked up, on the transport on which the call came; r_netid, r_addr and r_owner are
+-- ignored
+abbrev pub addr_told : Context → CallHead → Rpcb → Option Row → Ledger → List ℕ × Ledger
+addr_told context head r found l =
+    (addr_found context.listener.host found, looked_up head (record { prog = r.prog; vers = r.vers; netid = netid_of context.caller }) found l)
+
+-- RPCBPROC_GETADDR
+unfoldable pub getaddr : Context → CallHead → Rpcb → Ledger → List ℕ × Ledger
+getaddr context head r l = addr_told context head r (find_row r.prog r.vers (netid_of context.caller) (rows_in l)) l
 
 -- RPCBPROC_GETVERSADDR: the same, of the exact version alone
-unfoldable pub getversaddr : Context → Rpcb → List Row → List ℕ
-getversaddr context r rows = addr_found context.listener.host (find_exact r.prog r.vers (netid_of context.caller) rows)
+unfoldable pub getversaddr : Context → CallHead → Rpcb → Ledger → List ℕ × Ledger
+getversaddr context head r l = addr_told context head r (find_exact r.prog r.vers (netid_of context.caller) (rows_in l)) l
 
 -- ---- the rest
 
@@ -139,23 +171,25 @@ tell value l = (Results value, l)
 abbrev pub tell_rows : Listing → Ledger → Answer × Ledger
 tell_rows listing l = (Rows listing, l)
 
--- whether something was done, and the ledger after it
-abbrev pub tell_whether : Bool × Ledger → Answer × Ledger
-tell_whether done = (Results (values.Bool done.0), done.1)
+-- what was done, as a result, and the ledger after it
+abbrev pub tell_done : {A : Type 0} → (A → Value) → A × Ledger → Answer × Ledger
+tell_done value done = (Results (value done.0), done.1)
 
--- what a call of this head is answered that asks for this
+-- What a call of this head is answered that asks for this, and what it leaves behind. SET, UNSET and the look-ups note
+-- what they did.
 abbrev pub answer_to : Context → CallHead → Request → Ledger → Answer × Ledger
 answer_to context head (requests.Void voids.Null) l = tell values.Void l
 answer_to context head (requests.Void voids.PmapDump) l = tell_rows Mappings l
 answer_to context head (requests.Void voids.Dump) l = tell_rows Rpcbs l
 answer_to context head (requests.Void voids.Gettime) l = tell (values.Number (seconds context.clock)) l
-answer_to context head (requests.Mapping mappings.Set m) l = tell_whether (set_row context (row_of_mapping (owner_of head.cred) m) l)
-answer_to context head (requests.Mapping mappings.Unset m) l = tell_whether (unset_rows context (owner_of head.cred) m.prog m.vers (Some Inet) l)
-answer_to context head (requests.Mapping mappings.Getport m) l = tell (values.Number (getport m (rows_in l))) l
-answer_to context head (requests.Rpcb rpcbs.Set r) l = tell_whether (set_row context (row_of_rpcb (owner_of head.cred) r) l)
-answer_to context head (requests.Rpcb rpcbs.Unset r) l = tell_whether (unset_rows context (owner_of head.cred) r.prog r.vers (which_of r.netid) l)
-answer_to context head (requests.Rpcb rpcbs.Getaddr r) l = tell (values.Text (getaddr context r (rows_in l))) l
-answer_to context head (requests.Rpcb rpcbs.Getversaddr r) l = tell (values.Text (getversaddr context r (rows_in l))) l
+answer_to context head (requests.Void voids.Getstat) l = (Statistics, l)
+answer_to context head (requests.Mapping mappings.Set m) l = tell_done values.Bool (set_row context head (row_of_mapping (owner_of head.cred) m) l)
+answer_to context head (requests.Mapping mappings.Unset m) l = tell_done values.Bool (unset_rows context head m.prog m.vers (Some Inet) l)
+answer_to context head (requests.Mapping mappings.Getport m) l = tell_done values.Number (getport head m l)
+answer_to context head (requests.Rpcb rpcbs.Set r) l = tell_done values.Bool (set_row context head (row_of_rpcb (owner_of head.cred) r) l)
+answer_to context head (requests.Rpcb rpcbs.Unset r) l = tell_done values.Bool (unset_rows context head r.prog r.vers (which_of r.netid) l)
+answer_to context head (requests.Rpcb rpcbs.Getaddr r) l = tell_done values.Text (getaddr context head r l)
+answer_to context head (requests.Rpcb rpcbs.Getversaddr r) l = tell_done values.Text (getversaddr context head r l)
 answer_to context head (requests.Rpcb rpcbs.Getaddrlist r) l = tell_rows (Entries r.prog r.vers) l
 answer_to context head (requests.Uaddr2taddr text) l = tell (values.Netbuf (taddr_of text)) l
 answer_to context head (requests.Taddr2uaddr netbuf) l = tell (values.Text (uaddr_of netbuf)) l

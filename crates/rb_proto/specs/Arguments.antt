@@ -38,6 +38,7 @@ procedures =
     ∷ line 4 8 Taddr2uaddr
     ∷ line 4 9 (Rpcb rpcbs.Getversaddr)
     ∷ line 4 11 (Rpcb rpcbs.Getaddrlist)
+    ∷ line 4 12 (Void voids.Getstat)
     ∷ []
   where
     line : ℕ → ℕ → Procedure → ℕ × ℕ × Procedure

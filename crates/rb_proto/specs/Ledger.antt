@@ -1,29 +1,65 @@
 -- What the calls of procedures that were served left behind, and what a call on it is.
-use Rattle.std.specs.Prelude.{◌≡◌, List}
+use Rattle.std.specs.Prelude.{◌≡◌, ℕ, ◌==◌, if◌then◌else◌, List, [], ◌∷◌, ◌++◌}
+use Rattle.rb_rpc.specs.declared.call.CallHead.{CallHead}
 use Rattle.rb_registry.specs.declared.row.Row.{Row}
-use Rattle.rb_registry.specs.Registry.{Registry, StandsForChanges}
+use Rattle.rb_registry.specs.Registry.{StandsForChanges}
 use Rattle.rb_registry.specs.Rows.{Change, live}
+use Rattle.rb_stats.specs.declared.key.Version.{Version}
+use Rattle.rb_stats.specs.declared.key.Version.TheVariants.{Two, Three, Four}
+use Rattle.rb_stats.specs.Statistics.{Note}
+use Rattle.rb_stats.specs.Statistics.Note.{Called}
+use Rattle.rb_stats.specs.Stats.{StandsForHistory}
+pub use Rattle.rb_proto.specs.declared.books.Books.{Books}
 
--- the daemon's own rows, and the accepted changes, in their order
+-- the daemon's own rows, the accepted changes, and the history of the calls, in their order
 pub record Ledger : Type 0 where
   pub own : List Row
   pub changes : List Change
+  pub history : List Note
+
+-- nothing was called yet
+abbrev pub fresh_ledger : List Row → Ledger
+fresh_ledger own = record { own = own; changes = []; history = [] }
 
 -- the live rows
 abbrev pub rows_in : Ledger → List Row
 rows_in l = live l.own l.changes
 
-abbrev pub StandsForLedger : Registry → Ledger → Type 0
-StandsForLedger kept l = StandsForChanges kept l.own l.changes
+-- ---- the history
 
--- An act on a ledger that gives something. From each ledger that the registry stood for, it gives this result; the
--- registry stands for the ledger after it, and is as it was where the ledger is.
-pub record ActsAs {A : Type 0} (act : Ledger → A × Ledger) (old new : Registry) (result : A) : Type 0 where
+-- the version that counts a call (one of another number has no procedures)
+unfoldable pub version_of : ℕ → Version
+version_of vers = if vers == 2 then Two else if vers == 3 then Three else Four
+
+-- a note behind the others
+abbrev pub noted : Note → Ledger → Ledger
+noted note l = record l { history = l.history ++ note ∷ [] }
+
+-- a call of a procedure that its version has is noted before it is answered, whether its arguments can be read or not
+unfoldable pub called : CallHead → Ledger → Ledger
+called head l = noted (Called (version_of head.vers) head.proc) l
+
+-- ---- what stands for it
+
+-- each of the books stands for its part
+pub record StandsForLedger (books : Books) (l : Ledger) : Type 0 where
+  pub registry : StandsForChanges books.registry l.own l.changes
+  pub stats : StandsForHistory books.stats l.history
+
+-- An act on a ledger that gives something. From each ledger that the books stood for, it gives this result; they stand
+-- for the ledger after it, and the registry is as it was where the changes are.
+pub record ActsAs {A : Type 0} (act : Ledger → A × Ledger) (old new : Books) (result : A) : Type 0 where
   pub gives : (l : Ledger) → StandsForLedger old l → result ≡ (act l).0
   pub stands : (l : Ledger) → StandsForLedger old l → StandsForLedger new (act l).1
-  pub kept : (l : Ledger) → StandsForLedger old l → (act l).1 ≡ l → new ≡ old
+  pub kept : (l : Ledger) → StandsForLedger old l → (act l).1.changes ≡ l.changes → new.registry ≡ old.registry
 
--- the registry's limit of rows and its meter stay
-pub record SameFrame (old new : Registry) : Type 0 where
-  pub limit : new.limit ≡ old.limit
-  pub tie : new.tie ≡ old.tie
+-- the books were made with the meter of this number
+pub record AreTied (tie : ℕ) (books : Books) : Type 0 where
+  pub registry : tie ≡ books.registry.tie
+  pub stats : tie ≡ books.stats.tie
+
+-- the registry's limit of rows and the books' meter stay
+pub record SameFrame (old new : Books) : Type 0 where
+  pub limit : new.registry.limit ≡ old.registry.limit
+  pub registry : new.registry.tie ≡ old.registry.tie
+  pub stats : new.stats.tie ≡ old.stats.tie

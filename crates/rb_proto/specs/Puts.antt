@@ -1,7 +1,8 @@
--- What it costs to put results.
+-- What answering and putting results costs.
 use Rattle.std.specs.Prelude.{ℕ, ◌+◌, ◌-◌, ◌*◌, length}
 use Rattle.rb_xdr.specs.Kept.{Kept}
 use Rattle.rb_registry.specs.Registry.{Registry, rows_of}
+use Rattle.rb_stats.specs.Stats.{most_keys}
 
 -- one step for the length, and one for each byte that was put
 abbrev pub put_cost : Kept → Kept → ℕ
@@ -14,3 +15,11 @@ write_cost kept old new = 2 * length (rows_of kept) + 2 + (length new.bytes - le
 -- two walks over the rows beside it
 abbrev pub list_cost : Registry → Kept → Kept → ℕ
 list_cost kept old new = 4 * length (rows_of kept) + 4 + put_cost old new
+
+-- a walk over the keys of the statistics, which notes a look-up
+abbrev pub note_cost : ℕ
+note_cost = 2 * most_keys
+
+-- a walk over them for each version, which shows them
+abbrev pub statistics_cost : ℕ
+statistics_cost = 6 * most_keys

@@ -4,13 +4,15 @@ use Rattle.std.specs.List.{flat_map}
 use Rattle.rb_xdr.specs.Xdr.{number, boolean, opaque, listed}
 use Rattle.rb_registry.specs.declared.row.Row.{Row}
 use Rattle.rb_registry.specs.declared.row.Which.TheVariants.{Inet}
-use Rattle.rb_registry.specs.Registry.{Registry, rows_of}
+use Rattle.rb_registry.specs.Registry.{rows_of}
 use Rattle.rb_registry.specs.Rows.{netid_text, is_among}
+use Rattle.rb_stats.specs.Statistics.{statistics}
+use Rattle.rb_stats.specs.Stats.{spelling}
 use Rattle.rb_proto.specs.declared.listener.Listener.{Listener}
 use Rattle.rb_proto.specs.declared.mapping.Mapping.{Mapping}
 use Rattle.rb_proto.specs.declared.rpcb.Rpcb.{Rpcb}
 use Rattle.rb_proto.specs.declared.entry.Entry.{Entry}
-use Rattle.rb_proto.specs.declared.answers.Answer.TheVariants.{Results, Rows}
+use Rattle.rb_proto.specs.declared.answers.Answer.TheVariants.{Results, Rows, Statistics}
 use Rattle.rb_proto.specs.declared.answers.Listing.{Listing}
 use Rattle.rb_proto.specs.declared.answers.Listing.TheVariants.{Mappings, Rpcbs, Entries}
 use Rattle.rb_proto.specs.declared.answers.Value.{Value}
@@ -18,6 +20,7 @@ use Rattle.rb_proto.specs.declared.answers.Value.TheVariants as values
 use Rattle.rb_proto.specs.Types.{mapping_spelling, rpcb_spelling, netbuf_spelling, entry_spelling}
 use Rattle.rb_proto.specs.Callers.{owner_text}
 use Rattle.rb_proto.specs.Netids.{prot_of, semantics_of, family_text, proto_text}
+use Rattle.rb_proto.specs.Ledger.{Books, Ledger, rows_in}
 use Rattle.rb_proto.specs.Answers.{Answer, shown_text, shown_port}
 
 -- ---- one result
@@ -62,14 +65,26 @@ list_bytes host rows (Entries prog vers) = listed entry_spelling (map (entry_of 
 
 -- ---- all results
 
--- where the listener has this host and these rows are live
-unfoldable pub result_bytes : List ℕ → List Row → Answer → List ℕ
-result_bytes host rows (Results value) = value_bytes value
-result_bytes host rows (Rows list) = list_bytes host rows list
+-- what is remembered, as answers show it: the live rows, and the spelling of the statistics
+pub record Shown : Type 0 where
+  pub rows : List Row
+  pub statistics : List ℕ
 
--- where a registry keeps the rows
-abbrev pub results_at : Listener → Registry → Answer → List ℕ
-results_at listener kept answer = result_bytes listener.host (rows_of kept) answer
+abbrev pub shown_of : Ledger → Shown
+shown_of l = record { rows = rows_in l; statistics = statistics l.history }
+
+-- where the listener has this host and this is remembered
+unfoldable pub result_bytes : List ℕ → Shown → Answer → List ℕ
+result_bytes host shown (Results value) = value_bytes value
+result_bytes host shown (Rows list) = list_bytes host shown.rows list
+result_bytes host shown Statistics = shown.statistics
+
+-- what books show
+abbrev pub shown_in : Books → Shown
+shown_in books = record { rows = rows_of books.registry; statistics = spelling books.stats }
+
+abbrev pub results_at : Listener → Books → Answer → List ℕ
+results_at listener books answer = result_bytes listener.host (shown_in books) answer
 
 -- ---- one row
 

@@ -1,6 +1,7 @@
 -- Worked examples. The listener is 192.0.2.1, port 111; callers are at 127.0.0.1 and come by UDP unless it says otherwise.
 use Rattle.std.specs.Prelude.{◌≡◌, ℕ, zero, suc, ◌+◌, List, [], ◌∷◌, ◌++◌, length, map, drop, replicate, Result, Ok, Err, codes}
 use Rattle.rb_xdr.specs.Xdr.{words, opaque}
+use Rattle.rb_rpc.specs.declared.call.CallHead.{CallHead}
 use Rattle.rb_rpc.specs.declared.call.Credential.{Credential}
 use Rattle.rb_rpc.specs.declared.call.Credential.TheVariants as credentials
 use Rattle.rb_rpc.specs.declared.peer.Caller.{Caller}
@@ -15,9 +16,9 @@ use Rattle.rb_proto.specs.declared.request.ArgumentFault.TheVariants.{ProcUnavai
 use Rattle.rb_proto.specs.declared.answers.Listing.TheVariants.{Mappings}
 use Rattle.rb_proto.specs.Arguments.{Request, read_request}
 use Rattle.rb_proto.specs.Callers.{own_rows}
-use Rattle.rb_proto.specs.Ledger.{Ledger, rows_in}
+use Rattle.rb_proto.specs.Ledger.{Ledger, fresh_ledger, called}
 use Rattle.rb_proto.specs.Answers.{Answer, Call, Context, answer}
-use Rattle.rb_proto.specs.Results.{list_bytes, result_bytes}
+use Rattle.rb_proto.specs.Results.{list_bytes, result_bytes, shown_of}
 
 -- ---- calls one after another
 
@@ -54,17 +55,21 @@ call_as uid vers proc numbers = call_with (credentials.Sys uid) vers proc (words
 abbrev pub context_of : ℕ → Message → Context
 context_of limit m = record { listener = listener; limit = limit; clock = m.clock; caller = m.caller }
 
+abbrev pub head_of : Message → CallHead
+head_of m = record { xid = 1; prog = rpcb_prog; vers = m.vers; proc = m.proc; cred = m.cred }
+
 abbrev pub call_of : Message → Request → Call
-call_of m request = record { head = record { xid = 1; prog = rpcb_prog; vers = m.vers; proc = m.proc; cred = m.cred }; request = request }
+call_of m request = record { head = head_of m; request = request }
 
 -- the results of an answer, over the ledger that it left
 abbrev pub shown : Answer × Ledger → Result (List ℕ) ArgumentFault × Ledger
-shown given = (Ok (result_bytes listener.host (rows_in given.1) given.0), given.1)
+shown given = (Ok (result_bytes listener.host (shown_of given.1) given.0), given.1)
 
 -- the results, or why there are none, and the ledger after it
 abbrev pub outcome : ℕ → Message → Ledger → Result Request ArgumentFault → Result (List ℕ) ArgumentFault × Ledger
-outcome limit m l (Ok request) = shown (answer (context_of limit m) (call_of m request) l)
-outcome limit m l (Err fault) = (Err fault, l)
+outcome limit m l (Ok request) = shown (answer (context_of limit m) (call_of m request) (called (head_of m) l))
+outcome limit m l (Err GarbageArgs) = (Err GarbageArgs, called (head_of m) l)
+outcome limit m l (Err ProcUnavail) = (Err ProcUnavail, l)
 
 -- of calls one after another, over this limit of rows
 abbrev pub results_from : ℕ → Ledger → List Message → List (Result (List ℕ) ArgumentFault)
@@ -75,7 +80,7 @@ results_from limit l (m ∷ later) =
 
 -- of calls to a fresh daemon with this limit of rows
 abbrev pub results_within : ℕ → List Message → List (Result (List ℕ) ArgumentFault)
-results_within limit calls = results_from limit (record { own = own_rows listener; changes = [] }) calls
+results_within limit calls = results_from limit (fresh_ledger (own_rows listener)) calls
 
 abbrev pub results_of : List Message → List (Result (List ℕ) ArgumentFault)
 results_of calls = results_within 300 calls
@@ -92,6 +97,11 @@ yes = says (1 ∷ [])
 
 abbrev pub no_ : Result (List ℕ) ArgumentFault
 no_ = says (0 ∷ [])
+
+-- the number of bytes of the results
+abbrev pub size : Result (List ℕ) ArgumentFault → ℕ
+size (Ok bytes) = length bytes
+size (Err fault) = 0
 
 -- ---- version 2
 
@@ -221,16 +231,53 @@ LocalityAndGettime =
 abbrev pub RefusalsOfAcceptedCalls : Type 0
 RefusalsOfAcceptedCalls =
     results_of (
-    call 2 5 [] ∷ call 2 6 [] ∷ call 3 5 [] ∷ call 3 9 [] ∷ call 4 10 [] ∷ call 4 12 []
+    call 2 5 [] ∷ call 2 6 [] ∷ call 3 5 [] ∷ call 3 9 [] ∷ call 4 10 [] ∷ call 4 13 []
     ∷ call 2 1 (1 ∷ 2 ∷ 3 ∷ []) ∷ call 2 0 (1 ∷ 2 ∷ 3 ∷ []) ∷ [])
     ≡ replicate 6 (Err ProcUnavail) ++ Err GarbageArgs ∷ Ok [] ∷ []
 
--- ---- long lists
+-- ---- statistics
 
--- the number of bytes of the results
-abbrev pub size : Result (List ℕ) ArgumentFault → ℕ
-size (Ok bytes) = length bytes
-size (Err fault) = 0
+-- GETSTAT as the first call: info[12] of version 4 is 1
+abbrev pub GetstatFirstCall : Type 0
+GetstatFirstCall = results_of (call 4 12 [] ∷ []) ≡ says (replicate 46 0 ++ 1 ∷ replicate 4 0) ∷ []
+
+-- a GETPORT of version 1 of a program, by this protocol
+abbrev pub getport : ℕ → ℕ → Message
+getport prot prog = call 2 3 (prog ∷ 1 ∷ prot ∷ 0 ∷ [])
+
+-- SET, GETPORT, SET again, and a GETPORT by a protocol that there is not
+abbrev pub GetstatAfterCalls : Type 0
+GetstatAfterCalls =
+    results_behind 4 (
+    call 2 1 (0x30d41 ∷ 1 ∷ 6 ∷ 0x801 ∷ []) ∷ getport 6 0x30d41 ∷ call 2 1 (0x30d41 ∷ 1 ∷ 6 ∷ 0x801 ∷ [])
+    ∷ getport 5 0x30d42 ∷ call 4 12 [] ∷ [])
+    ≡ says (
+    0 ∷ 2 ∷ 0 ∷ 2 ∷ replicate 9 0 ++ 1 ∷ 0 ∷ 1 ∷ 0x30d41 ∷ 1 ∷ 1 ∷ 0 ∷ 3 ∷ 0x74637000 ∷ 0 ∷ 0 ∷ []
+    ++ replicate 17 0 ++ replicate 12 0 ++ 1 ∷ replicate 4 0) ∷ []
+
+-- Arguments that can't be read are counted, and refusals before that are not; an UNSET that answers TRUE is counted, and
+-- look-ups of versions 3 and 4 by the transport of the call, of what there is and of what there is not.
+abbrev pub GetstatOfOtherCalls : Type 0
+GetstatOfOtherCalls =
+    results_behind 7 (
+    call 2 1 (1 ∷ 2 ∷ 3 ∷ []) ∷ call 2 6 [] ∷ set_udp ∷ call 3 3 (0x30d41 ∷ 1 ∷ 0 ∷ 0 ∷ 0 ∷ [])
+    ∷ call 4 9 (0x30d41 ∷ 7 ∷ 0 ∷ 0 ∷ 0 ∷ []) ∷ call_as 500 4 2 (0x30d41 ∷ 1 ∷ 0 ∷ 0 ∷ 0 ∷ [])
+    ∷ call 3 3 (0x30d41 ∷ 1 ∷ 0 ∷ 0 ∷ 0 ∷ []) ∷ call 4 12 [] ∷ [])
+    ≡ says (
+    0 ∷ 1 ∷ replicate 15 0
+    ++ 0 ∷ 0 ∷ 0 ∷ 2 ∷ replicate 11 0 ++ 1 ∷ 0x30d41 ∷ 1 ∷ 1 ∷ 1 ∷ 3 ∷ 0x75647000 ∷ 0 ∷ 0 ∷ []
+    ++ 0 ∷ 1 ∷ 1 ∷ replicate 6 0 ++ 1 ∷ 0 ∷ 0 ∷ 1 ∷ 1 ∷ 1 ∷ 1 ∷ 0x30d41 ∷ 7 ∷ 0 ∷ 1 ∷ 3 ∷ 0x75647000 ∷ 0 ∷ 0 ∷ []) ∷ []
+
+-- GETPORTs on tcp of so many programs, from this one on
+abbrev pub getports : ℕ → ℕ → List Message
+getports zero prog = []
+getports (suc k) prog = getport 6 prog ∷ getports k (prog + 1)
+
+-- 33 look-ups that find nothing, of which the last is of no item
+abbrev pub GetstatFirstKeys : Type 0
+GetstatFirstKeys = map size (results_behind 33 (getports 33 200001 ++ call 4 12 [] ∷ [])) ≡ 1100 ∷ []
+
+-- ---- long lists
 
 -- SETs by uid 0 of so many programs, from this one on
 abbrev pub sets : ℕ → ℕ → List Message

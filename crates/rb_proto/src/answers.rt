@@ -8,6 +8,8 @@ pub enum Answer {
     Results(Value),
     /// Rows of the registry, which are yet to be shown.
     Rows(Listing),
+    /// The statistics, which are yet to be shown.
+    Statistics,
 }
 
 /// Results that are no list.

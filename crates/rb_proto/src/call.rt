@@ -2,19 +2,21 @@
 ghost use Rattle.std.specs.Prelude.{◌≡◌, ◌+◌, ◌*◌, length};
 ghost use Rattle.rb_xdr.specs.Meter.{PaysAtMost};
 ghost use Rattle.rb_registry.specs.Registry.{rows_of};
-ghost use Rattle.rb_proto.specs.Callers.{owner_of};
-ghost use Rattle.rb_proto.specs.Ledger.{ActsAs, SameFrame};
-ghost use Rattle.rb_proto.specs.Answers.{answer};
+ghost use Rattle.rb_proto.specs.Ledger.{Ledger, ActsAs, AreTied, SameFrame};
+ghost use Rattle.rb_proto.specs.Answers.{answer_to, answer};
+ghost use Rattle.rb_proto.specs.declared.request.Request.TheVariants.{Void};
+ghost use Rattle.rb_proto.specs.Puts.{note_cost};
 
 use crate::answers::{Answer, Listing, Value};
+use crate::books::{Books, owner_of};
 use crate::context::Context;
 use crate::lookups::{getaddr, getport, gettime, getversaddr, taddr2uaddr, uaddr2taddr};
 use crate::netids::which_of;
 use crate::procedure::{MappingProcedure, RpcbProcedure, VoidProcedure};
 use crate::request::Request;
 use crate::sets::{row_of_mapping, row_of_rpcb, set_row, unset_rows};
-use rb_registry::{Owner, Registry, Which};
-use rb_rpc::{CallHead, Credential};
+use rb_registry::Which;
+use rb_rpc::CallHead;
 use rb_xdr::Meter;
 
 /// A call of a procedure that is served, with arguments that could be read.
@@ -24,62 +26,69 @@ pub struct Call {
     pub request: Request,
 }
 
-/// Whom the credential names.
-fn owner_of(cred: Credential) -> Owner
-    ensures { result ≡ owner_of cred }
+/// What a procedure without arguments is answered. It leaves nothing behind.
+fn answer_void(context: &Context, procedure: VoidProcedure) -> Answer
+    ensures answer { (head : CallHead) (l : Ledger)
+        → result ≡ (answer_to context.now head (Void procedure) l).0 }
+    ensures same { (head : CallHead) (l : Ledger)
+        → (answer_to context.now head (Void procedure) l).1 ≡ l }
 {
-    match cred {
-        Credential::None => Owner::Unknown,
-        Credential::Sys(uid) => Owner::Uid(uid),
+    match procedure {
+        VoidProcedure::Null => Answer::Results(Value::Void),
+        VoidProcedure::PmapDump => Answer::Rows(Listing::Mappings),
+        VoidProcedure::Dump => Answer::Rows(Listing::Rpcbs),
+        VoidProcedure::Gettime => Answer::Results(Value::Number(gettime(context.clock))),
+        VoidProcedure::Getstat => Answer::Statistics,
     }
 }
 
-/// Does what a call asks for, and answers it.
+/// Does what a call asks for, and answers it. What the statistics count of it is noted, but that it was called at all,
+/// which `Books::note_call` does before.
 #[tactic(auto, unfolding(crate::specs::Answers::answer))]
-pub fn answer(registry: &mut Registry, context: &Context, call: Call, meter: &mut Meter) -> Answer
-    requires tie { meter.old.tie ≡ registry.old.tie }
-    requires limit { registry.old.limit ≡ context.now.limit }
-    ensures acts { ActsAs (answer context.now call) registry.old registry.new result }
-    ensures frame { SameFrame registry.old registry.new }
-    ensures cost { PaysAtMost meter.old meter.new (4 * length (rows_of registry.old) + 4) }
+pub fn answer(books: &mut Books, context: &Context, call: Call, meter: &mut Meter) -> Answer
+    requires tied { AreTied meter.old.tie books.old }
+    requires limit { books.old.registry.limit ≡ context.now.limit }
+    ensures acts { ActsAs (answer context.now call) books.old books.new result }
+    ensures frame { SameFrame books.old books.new }
+    ensures cost { PaysAtMost meter.old meter.new
+        (4 * length (rows_of books.old.registry) + 4 + note_cost) }
 {
-    let owner = owner_of(call.head.cred);
-    let value = match call.request {
-        Request::Void(VoidProcedure::Null) => Value::Void,
-        Request::Void(VoidProcedure::PmapDump) => return Answer::Rows(Listing::Mappings),
-        Request::Void(VoidProcedure::Dump) => return Answer::Rows(Listing::Rpcbs),
-        Request::Void(VoidProcedure::Gettime) => Value::Number(gettime(context.clock)),
+    let Call { head, request } = call;
+    match request {
+        Request::Void(procedure) => answer_void(context, procedure),
         Request::Mapping(MappingProcedure::Set, mapping) => {
-            let row = row_of_mapping(owner, &mapping);
-            Value::Bool(set_row(registry, context, row, meter))
+            let row = row_of_mapping(owner_of(head.cred), &mapping);
+            Answer::Results(Value::Bool(set_row(books, context, &head, row, meter)))
         }
         Request::Mapping(MappingProcedure::Unset, mapping) => {
-            let (prog, vers) = (mapping.prog, mapping.vers);
             let which = Some(Which::Inet);
-            Value::Bool(unset_rows(registry, context, owner, prog, vers, which, meter))
+            let (prog, vers) = (mapping.prog, mapping.vers);
+            let done = unset_rows(books, context, &head, prog, vers, which, meter);
+            Answer::Results(Value::Bool(done))
         }
         Request::Mapping(MappingProcedure::Getport, mapping) => {
-            Value::Number(getport(registry, &mapping, meter))
+            Answer::Results(Value::Number(getport(books, &head, &mapping, meter)))
         }
         Request::Rpcb(RpcbProcedure::Set, rpcb) => {
-            let row = row_of_rpcb(owner, rpcb);
-            Value::Bool(set_row(registry, context, row, meter))
+            let row = row_of_rpcb(owner_of(head.cred), rpcb);
+            Answer::Results(Value::Bool(set_row(books, context, &head, row, meter)))
         }
         Request::Rpcb(RpcbProcedure::Unset, rpcb) => {
+            let (prog, vers) = (rpcb.prog, rpcb.vers);
             let which = which_of(rpcb.netid.as_slice());
-            Value::Bool(unset_rows(registry, context, owner, rpcb.prog, rpcb.vers, which, meter))
+            let done = unset_rows(books, context, &head, prog, vers, which, meter);
+            Answer::Results(Value::Bool(done))
         }
         Request::Rpcb(RpcbProcedure::Getaddr, rpcb) => {
-            Value::Text(getaddr(registry, context, &rpcb, meter))
+            Answer::Results(Value::Text(getaddr(books, context, &head, &rpcb, meter)))
         }
         Request::Rpcb(RpcbProcedure::Getversaddr, rpcb) => {
-            Value::Text(getversaddr(registry, context, &rpcb, meter))
+            Answer::Results(Value::Text(getversaddr(books, context, &head, &rpcb, meter)))
         }
         Request::Rpcb(RpcbProcedure::Getaddrlist, rpcb) => {
-            return Answer::Rows(Listing::Entries(rpcb.prog, rpcb.vers));
+            Answer::Rows(Listing::Entries(rpcb.prog, rpcb.vers))
         }
-        Request::Uaddr2taddr(text) => Value::Netbuf(uaddr2taddr(&text)),
-        Request::Taddr2uaddr(netbuf) => Value::Text(taddr2uaddr(&netbuf)),
-    };
-    Answer::Results(value)
+        Request::Uaddr2taddr(text) => Answer::Results(Value::Netbuf(uaddr2taddr(&text))),
+        Request::Taddr2uaddr(netbuf) => Answer::Results(Value::Text(taddr2uaddr(&netbuf))),
+    }
 }

@@ -1,7 +1,8 @@
-//! The procedures of program 100000 (RFC 1833): their arguments, what they do to the registry, and their results.
+//! The procedures of program 100000 (RFC 1833): their arguments, what they do to what is remembered, and their results.
 #![tactic(auto)]
 
 mod answers;
+mod books;
 mod call;
 mod context;
 mod entry;
@@ -21,6 +22,7 @@ mod sets;
 mod worked;
 
 pub use answers::{Answer, Listing, Value};
+pub use books::Books;
 pub use call::{Call, answer};
 pub use context::Context;
 pub use entry::Entry;

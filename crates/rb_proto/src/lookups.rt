@@ -1,15 +1,23 @@
 //! The procedures that look something up, or turn an address into another form (RFC 1833 sections 2.2 and 3.2).
-ghost use Rattle.std.specs.Prelude.{◌≡◌, ◌+◌, ◌*◌, length};
+ghost use Rattle.std.specs.Prelude.{◌≡◌, ◌+◌, ◌*◌, ◌++◌, ◌∷◌, [], length, List, option_copied};
 ghost use Rattle.rb_xdr.specs.Meter.{PaysAtMost};
 ghost use Rattle.rb_registry.specs.Registry.{rows_of};
-ghost use Rattle.rb_proto.specs.Answers.{shown_text, shown_port, getport, getaddr, getversaddr, seconds, taddr_of, uaddr_of};
+ghost use Rattle.rb_proto.specs.Ledger.{ActsAs, AreTied, SameFrame, version_of};
+ghost use Rattle.rb_stats.specs.Statistics.{Note};
+ghost use Rattle.rb_stats.specs.Statistics.Note.{LookedUp};
+ghost use Rattle.rb_stats.specs.Stats.{StandsForHistory};
+ghost use Rattle.rb_proto.specs.Answers.{shown_text, shown_port, port_found, addr_found, getport, getaddr, getversaddr, seconds, taddr_of, uaddr_of};
+ghost use Rattle.rb_proto.specs.Puts.{note_cost};
 
+use crate::books::{Books, version_of};
 use crate::context::Context;
 use crate::mapping::Mapping;
 use crate::netbuf::Netbuf;
 use crate::netids::netid_of_prot;
 use crate::rpcb::Rpcb;
-use rb_registry::Registry;
+use rb_registry::Row;
+use rb_rpc::CallHead;
+use rb_stats::{Stats, Target};
 use rb_uaddr::Uaddr;
 use rb_xdr::{Meter, Opaque, Text};
 
@@ -35,56 +43,124 @@ pub(crate) fn shown_port(addr: &Text<128>) -> u32
     }
 }
 
-/// PMAPPROC_GETPORT (RFC 1833 section 3.2): the port is ignored, and 0 says that there is no row.
-#[tactic(auto, unfolding(crate::specs::Answers::getport))]
-pub(crate) fn getport(registry: &Registry, mapping: &Mapping, meter: &mut Meter) -> u32
-    requires { meter.old.tie ≡ registry.now.tie }
-    ensures port { result ≡ getport mapping.now (rows_of registry.now) }
-    ensures cost { PaysAtMost meter.old meter.new (4 * length (rows_of registry.now) + 4) }
+/// The port of a row that was looked up, 0 where there is none.
+fn port_found(found: Option<&Row>) -> u32
+    ensures { result ≡ port_found (option_copied found.entry) }
 {
-    let Some(netid) = netid_of_prot(mapping.prot) else {
-        return 0;
-    };
-    match registry.find(mapping.prog, mapping.vers, netid, meter) {
+    match found {
         Some(row) => shown_port(&row.addr),
         None => 0,
     }
 }
 
-/// RPCBPROC_GETADDR (RFC 1833 section 2.2.1), on the transport of the call: the netid of the argument is ignored.
+/// The address of a row that was looked up, the empty text where there is none.
+fn addr_found(host: [u8; 4], found: Option<&Row>) -> Text<128>
+    ensures { result ≡ addr_found host (option_copied found.entry) }
+{
+    match found {
+        Some(row) => shown_text(host, &row.addr),
+        None => Text::new(&[]),
+    }
+}
+
+/// Notes a look-up, in a call of this head, with whether it found a row.
+fn note_lookup(stats: &mut Stats, head: &CallHead, target: Target, found: bool, meter: &mut Meter)
+    requires { meter.old.tie ≡ stats.old.tie }
+    ensures history { (notes : List Note) → StandsForHistory stats.old notes
+        → StandsForHistory stats.new
+        (notes ++ LookedUp (version_of head.now.vers) target found ∷ []) }
+    ensures tie { stats.new.tie ≡ stats.old.tie }
+    ensures cost { PaysAtMost meter.old meter.new (note_cost + 2) }
+{
+    stats.note_addr(version_of(head.vers), target, found, meter);
+}
+
+/// PMAPPROC_GETPORT (RFC 1833 section 3.2): the port is ignored, and 0 says that there is no row. A look-up by a protocol
+/// that has a netid is noted.
+#[tactic(auto, unfolding(crate::specs::Answers::getport))]
+pub(crate) fn getport(
+    books: &mut Books,
+    head: &CallHead,
+    mapping: &Mapping,
+    meter: &mut Meter,
+) -> u32
+    requires { AreTied meter.old.tie books.old }
+    ensures acts { ActsAs (getport head.now mapping.now) books.old books.new result }
+    ensures frame { SameFrame books.old books.new }
+    ensures cost { PaysAtMost meter.old meter.new
+        (4 * length (rows_of books.old.registry) + 4 + note_cost) }
+{
+    let Some(netid) = netid_of_prot(mapping.prot) else {
+        return 0;
+    };
+    let target = Target {
+        prog: mapping.prog,
+        vers: mapping.vers,
+        netid,
+    };
+    let found = books
+        .registry
+        .find(mapping.prog, mapping.vers, netid, meter);
+    let port = port_found(found);
+    note_lookup(&mut books.stats, head, target, found.is_some(), meter);
+    port
+}
+
+/// RPCBPROC_GETADDR (RFC 1833 section 2.2.1), on the transport of the call: the netid of the argument is ignored. The
+/// look-up is noted.
 #[tactic(auto, unfolding(crate::specs::Answers::getaddr))]
 pub(crate) fn getaddr(
-    registry: &Registry,
+    books: &mut Books,
     context: &Context,
+    head: &CallHead,
     rpcb: &Rpcb,
     meter: &mut Meter,
 ) -> Text<128>
-    requires { meter.old.tie ≡ registry.now.tie }
-    ensures addr { result ≡ getaddr context.now rpcb.now (rows_of registry.now) }
-    ensures cost { PaysAtMost meter.old meter.new (4 * length (rows_of registry.now) + 4) }
+    requires { AreTied meter.old.tie books.old }
+    ensures acts { ActsAs (getaddr context.now head.now rpcb.now) books.old books.new result }
+    ensures frame { SameFrame books.old books.new }
+    ensures cost { PaysAtMost meter.old meter.new
+        (4 * length (rows_of books.old.registry) + 4 + note_cost) }
 {
-    match registry.find(rpcb.prog, rpcb.vers, context.netid(), meter) {
-        Some(row) => shown_text(context.listener.host, &row.addr),
-        None => Text::new(&[]),
-    }
+    let found = books
+        .registry
+        .find(rpcb.prog, rpcb.vers, context.netid(), meter);
+    let addr = addr_found(context.listener.host, found);
+    let target = Target {
+        prog: rpcb.prog,
+        vers: rpcb.vers,
+        netid: context.netid(),
+    };
+    note_lookup(&mut books.stats, head, target, found.is_some(), meter);
+    addr
 }
 
 /// RPCBPROC_GETVERSADDR (RFC 1833 section 2.2.2): as GETADDR, but of the exact version alone.
 #[tactic(auto, unfolding(crate::specs::Answers::getversaddr))]
 pub(crate) fn getversaddr(
-    registry: &Registry,
+    books: &mut Books,
     context: &Context,
+    head: &CallHead,
     rpcb: &Rpcb,
     meter: &mut Meter,
 ) -> Text<128>
-    requires { meter.old.tie ≡ registry.now.tie }
-    ensures addr { result ≡ getversaddr context.now rpcb.now (rows_of registry.now) }
-    ensures cost { PaysAtMost meter.old meter.new (4 * length (rows_of registry.now) + 4) }
+    requires { AreTied meter.old.tie books.old }
+    ensures acts { ActsAs (getversaddr context.now head.now rpcb.now) books.old books.new result }
+    ensures frame { SameFrame books.old books.new }
+    ensures cost { PaysAtMost meter.old meter.new
+        (4 * length (rows_of books.old.registry) + 4 + note_cost) }
 {
-    match registry.find_exact(rpcb.prog, rpcb.vers, context.netid(), meter) {
-        Some(row) => shown_text(context.listener.host, &row.addr),
-        None => Text::new(&[]),
-    }
+    let found = books
+        .registry
+        .find_exact(rpcb.prog, rpcb.vers, context.netid(), meter);
+    let addr = addr_found(context.listener.host, found);
+    let target = Target {
+        prog: rpcb.prog,
+        vers: rpcb.vers,
+        netid: context.netid(),
+    };
+    note_lookup(&mut books.stats, head, target, found.is_some(), meter);
+    addr
 }
 
 /// RPCBPROC_GETTIME (RFC 1833 section 2.2.1): whole seconds since the start of 1970, 2^32 - 1 where they are more.

@@ -13,6 +13,7 @@ pub enum VoidProcedure {
     PmapDump,
     Dump,
     Gettime,
+    Getstat,
 }
 
 /// A procedure of a mapping. They are of version 2.
@@ -44,7 +45,7 @@ pub enum Procedure {
 }
 
 /// Version, number and procedure (RFC 1833 sections 2.2 and 3.2).
-const PROCEDURES: [(u32, u32, Procedure); 23] = [
+const PROCEDURES: [(u32, u32, Procedure); 24] = [
     (2, 0, Procedure::Void(VoidProcedure::Null)),
     (2, 1, Procedure::Mapping(MappingProcedure::Set)),
     (2, 2, Procedure::Mapping(MappingProcedure::Unset)),
@@ -68,6 +69,7 @@ const PROCEDURES: [(u32, u32, Procedure); 23] = [
     (4, 8, Procedure::Taddr2uaddr),
     (4, 9, Procedure::Rpcb(RpcbProcedure::Getversaddr)),
     (4, 11, Procedure::Rpcb(RpcbProcedure::Getaddrlist)),
+    (4, 12, Procedure::Void(VoidProcedure::Getstat)),
 ];
 
 /// The value that stands in front of the bytes. What follows it counts for nothing.

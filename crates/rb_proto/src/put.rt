@@ -1,15 +1,19 @@
 //! Results, written behind the head of a reply.
-ghost use Rattle.std.specs.Prelude.{◌≡◌, ◌≤◌, length};
+ghost use Rattle.std.specs.Prelude.{◌≡◌, ◌≤◌, ◌+◌, length};
 ghost use Rattle.rb_xdr.specs.Meter.{PaysAtMost};
 ghost use Rattle.rb_registry.specs.Registry.{rows_of};
+ghost use Rattle.rb_stats.specs.Stats.{spelling};
+ghost use Rattle.rb_proto.specs.Ledger.{Ledger, StandsForLedger, AreTied};
 ghost use Rattle.rb_xdr.specs.Puts.{Puts};
-ghost use Rattle.rb_proto.specs.Puts.{put_cost, list_cost};
-ghost use Rattle.rb_proto.specs.Results.{value_bytes, results_at, row_bytes, rows_bytes};
+ghost use Rattle.rb_proto.specs.Puts.{put_cost, list_cost, statistics_cost};
+ghost use Rattle.rb_proto.specs.Results.{value_bytes, results_at, row_bytes, rows_bytes, shown_in, shown_of};
 
 use crate::answers::{Answer, Listing, Value};
+use crate::books::Books;
 use crate::listener::Listener;
 use crate::rows::{room_after_row, room_after_rows, write_row, write_rows};
 use rb_registry::{Registry, Row};
+use rb_stats::Stats;
 use rb_xdr::{Full, Kept, Meter, Xdr};
 
 /// Puts a value, unless the buffer would then have more than `limit` bytes.
@@ -102,29 +106,49 @@ fn put_rows(
     Ok(())
 }
 
-/// Puts the results of an answer behind what the buffer has, its head: rows are those of the registry.
+/// Puts the statistics: all or nothing.
+fn put_statistics(
+    stats: &Stats,
+    limit: usize,
+    out: &mut Kept,
+    meter: &mut Meter,
+) -> Result<(), Full>
+    requires stats { meter.old.tie ≡ stats.now.tie }
+    requires out { meter.old.tie ≡ out.old.tie }
+    requires limit { limit ≤ out.old.cap }
+    ensures puts { Puts (spelling stats.now) limit out.old out.new result }
+    ensures cost { PaysAtMost meter.old meter.new (statistics_cost + 3 + put_cost out.old out.new) }
+{
+    stats.put(limit, out, meter)
+}
+
+/// Puts the results of an answer behind what the buffer has, its head: rows and statistics are those of the books.
 ///
 /// They are refused where the buffer would then have more than `limit` bytes, and nothing is put. So the rows are walked
 /// twice: for the room that they want, and to be written.
-#[tactic(auto, unfolding(crate::specs::Results::result_bytes))]
+#[tactic(auto, using(crate::proofs::Shown::shown_where_standing), unfolding(crate::specs::Results::result_bytes))]
 pub fn put_answer(
     answer: &Answer,
-    registry: &Registry,
+    books: &Books,
     listener: &Listener,
     limit: usize,
     out: &mut Kept,
     meter: &mut Meter,
 ) -> Result<(), Full>
-    requires registry { meter.old.tie ≡ registry.now.tie }
+    requires tied { AreTied meter.old.tie books.now }
     requires out { meter.old.tie ≡ out.old.tie }
     requires limit { limit ≤ out.old.cap }
-    ensures puts { Puts (results_at listener.now registry.now answer.now) limit
+    ensures puts { Puts (results_at listener.now books.now answer.now) limit
         out.old out.new result }
+    ensures shows { (l : Ledger) → StandsForLedger books.now l
+        → shown_in books.now ≡ shown_of l }
     ensures within { length out.old.bytes ≤ limit → length out.new.bytes ≤ limit }
-    ensures cost { PaysAtMost meter.old meter.new (list_cost registry.now out.old out.new) }
+    ensures cost { PaysAtMost meter.old meter.new
+        (list_cost books.now.registry out.old out.new + statistics_cost) }
 {
     match answer {
         Answer::Results(value) => put_value(value, limit, out, meter),
-        Answer::Rows(list) => put_rows(*list, registry, listener.host, limit, out, meter),
+        Answer::Rows(list) => put_rows(*list, &books.registry, listener.host, limit, out, meter),
+        Answer::Statistics => put_statistics(&books.stats, limit, out, meter),
     }
 }

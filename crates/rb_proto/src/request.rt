@@ -31,8 +31,8 @@ pub enum ArgumentFault {
 /// Reads the arguments of a procedure of version 2, 3 or 4 from the front of the bytes (RFC 1833 sections 2.2 and 3.2).
 /// Bytes behind them count for nothing.
 ///
-/// ProcUnavail comes before GarbageArgs. The procedures that forward calls (5 of each version, 10 of version 4) and
-/// GETSTAT (12) are unavailable.
+/// ProcUnavail comes before GarbageArgs. The procedures that forward calls (5 of each version, 10 of version 4) are
+/// unavailable.
 #[tactic(auto, unfolding(crate::specs::Arguments::is_known, crate::specs::Arguments::request))]
 pub fn read_args(vers: u32, proc: u32, bytes: &[u8]) -> Result<Request, ArgumentFault>
     ensures { result ≡ read_request vers proc bytes.now }

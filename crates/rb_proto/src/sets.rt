@@ -2,14 +2,16 @@
 ghost use Rattle.std.specs.Prelude.{◌≡◌, ◌+◌, ◌*◌, length};
 ghost use Rattle.rb_xdr.specs.Meter.{PaysAtMost};
 ghost use Rattle.rb_registry.specs.Registry.{rows_of};
-ghost use Rattle.rb_proto.specs.Ledger.{ActsAs, SameFrame};
+ghost use Rattle.rb_proto.specs.Ledger.{ActsAs, AreTied, SameFrame};
 ghost use Rattle.rb_proto.specs.Answers.{row_of_mapping, row_of_rpcb, can_be_set, set_row, unset_rows};
 
+use crate::books::{Books, owner_of, version_of};
 use crate::context::Context;
 use crate::mapping::Mapping;
 use crate::netids::{netid_named, netid_of_prot};
 use crate::rpcb::Rpcb;
-use rb_registry::{Owner, RPCB_PROG, Registry, Row, Which};
+use rb_registry::{Owner, RPCB_PROG, Row, Which};
+use rb_rpc::CallHead;
 use rb_uaddr::Uaddr;
 use rb_xdr::{Meter, Text};
 
@@ -55,19 +57,20 @@ fn can_be_set(row: &Row) -> bool
     }
 }
 
-/// Adds the row that a SET asks for, if there is one and it is accepted, and answers whether it was.
+/// Adds the row that a SET asks for, if there is one and it is accepted, and answers whether it was: then the SET is noted.
 #[tactic(auto, unfolding(crate::specs::Answers::set_row, crate::specs::Answers::accepts_row))]
 pub(crate) fn set_row(
-    registry: &mut Registry,
+    books: &mut Books,
     context: &Context,
+    head: &CallHead,
     row: Option<Row>,
     meter: &mut Meter,
 ) -> bool
-    requires tie { meter.old.tie ≡ registry.old.tie }
-    requires limit { registry.old.limit ≡ context.now.limit }
-    ensures acts { ActsAs (set_row context.now row) registry.old registry.new result }
-    ensures frame { SameFrame registry.old registry.new }
-    ensures cost { PaysAtMost meter.old meter.new (4 * length (rows_of registry.old) + 4) }
+    requires tied { AreTied meter.old.tie books.old }
+    requires limit { books.old.registry.limit ≡ context.now.limit }
+    ensures acts { ActsAs (set_row context.now head.now row) books.old books.new result }
+    ensures frame { SameFrame books.old books.new }
+    ensures cost { PaysAtMost meter.old meter.new (4 * length (rows_of books.old.registry) + 4) }
 {
     let Some(row) = row else {
         return false;
@@ -75,26 +78,30 @@ pub(crate) fn set_row(
     if !context.comes_from_here() || !can_be_set(&row) {
         return false;
     }
-    registry.set(row, meter)
+    let added = books.registry.set(row, meter);
+    if added {
+        books.stats.note_set(version_of(head.vers));
+    }
+    added
 }
 
-/// Removes the rows of the program's version on these netids that the owner may remove, and answers
-/// whether there was one.
+/// Removes the rows of the program's version on these netids that the caller may remove, and answers
+/// whether there was one: then the UNSET is noted.
 #[tactic(auto, unfolding(crate::specs::Answers::unset_rows, crate::specs::Answers::accepts_removal))]
 pub(crate) fn unset_rows(
-    registry: &mut Registry,
+    books: &mut Books,
     context: &Context,
-    owner: Owner,
+    head: &CallHead,
     prog: u32,
     vers: u32,
     which: Option<Which>,
     meter: &mut Meter,
 ) -> bool
-    requires tie { meter.old.tie ≡ registry.old.tie }
-    ensures acts { ActsAs (unset_rows context.now owner prog vers which)
-        registry.old registry.new result }
-    ensures frame { SameFrame registry.old registry.new }
-    ensures cost { PaysAtMost meter.old meter.new (4 * length (rows_of registry.old) + 4) }
+    requires tied { AreTied meter.old.tie books.old }
+    ensures acts { ActsAs (unset_rows context.now head.now prog vers which)
+        books.old books.new result }
+    ensures frame { SameFrame books.old books.new }
+    ensures cost { PaysAtMost meter.old meter.new (4 * length (rows_of books.old.registry) + 4) }
 {
     let Some(which) = which else {
         return false;
@@ -102,5 +109,10 @@ pub(crate) fn unset_rows(
     if !context.comes_from_here() {
         return false;
     }
-    registry.unset(prog, vers, which, owner, meter)
+    let owner = owner_of(head.cred);
+    let removed = books.registry.unset(prog, vers, which, owner, meter);
+    if removed {
+        books.stats.note_unset(version_of(head.vers));
+    }
+    removed
 }

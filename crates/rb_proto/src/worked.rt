@@ -1,4 +1,4 @@
-ghost use Rattle.rb_proto.specs.Worked.{DumpOwnRows, SetGetportSetAgain, GetportGreatestVersion, SetAtRowLimit, VersionTwoRefuses, OwnersRemove, UnsetByOwner, OtherAddressesRefused, GetaddrByTransport, Getaddrlist, AddressTransportForm, LocalityAndGettime, RefusalsOfAcceptedCalls, LongDump, LongPmapDump};
+ghost use Rattle.rb_proto.specs.Worked.{DumpOwnRows, SetGetportSetAgain, GetportGreatestVersion, SetAtRowLimit, VersionTwoRefuses, OwnersRemove, UnsetByOwner, OtherAddressesRefused, GetaddrByTransport, Getaddrlist, AddressTransportForm, LocalityAndGettime, RefusalsOfAcceptedCalls, GetstatFirstCall, GetstatAfterCalls, GetstatOfOtherCalls, GetstatFirstKeys, LongDump, LongPmapDump};
 
 /// The definitions give what the worked examples say.
 pub fn worked_examples()
@@ -15,6 +15,10 @@ pub fn worked_examples()
     ensures address_transport_form { AddressTransportForm }
     ensures locality_and_gettime { LocalityAndGettime }
     ensures refusals_of_accepted_calls { RefusalsOfAcceptedCalls }
+    ensures getstat_first_call { GetstatFirstCall }
+    ensures getstat_after_calls { GetstatAfterCalls }
+    ensures getstat_of_other_calls { GetstatOfOtherCalls }
+    ensures getstat_first_keys { GetstatFirstKeys }
     ensures long_dump { LongDump }
     ensures long_pmap_dump { LongPmapDump }
 {}

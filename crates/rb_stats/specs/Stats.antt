@@ -48,6 +48,10 @@ stat_len s = length s.addrinfo + length s.rmtinfo
 abbrev pub key_count : Stats → ℕ
 key_count kept = stat_len kept.two + stat_len kept.three + stat_len kept.four
 
+-- two lists of 32 keys for each of three versions
+abbrev pub most_keys : ℕ
+most_keys = 192
+
 -- three walks over the keys, and one step for each byte that was put
 abbrev pub put_cost : Stats → Kept → Kept → ℕ
 put_cost kept old new = 6 * key_count kept + (length new.bytes - length old.bytes) + 4

@@ -45,7 +45,7 @@ impl Stats {
     ghost use Rattle.rb_stats.specs.Lists.{AreListsOf, lists_size};
     ghost use Rattle.rb_stats.specs.Statistics.{greatest_int};
     ghost use Rattle.rb_stats.specs.Statistics.Note.{Called, WasSet, WasUnset, LookedUp, Forwarded};
-    ghost use Rattle.rb_stats.specs.Stats.{StandsForHistory, HasNoted, SpellsHistory, spelling, key_count, put_cost, calls_at};
+    ghost use Rattle.rb_stats.specs.Stats.{StandsForHistory, HasNoted, SpellsHistory, spelling, key_count, most_keys, put_cost, calls_at};
 
     /// Nothing was called. NoMemory where the memory for the keys is refused.
     pub fn new(alloc: Global, meter: &mut Meter) -> Result<Stats, NoMemory>
@@ -112,6 +112,7 @@ impl Stats {
         ensures history { HasNoted (LookedUp version target found) self.old self.new }
         ensures memory { self.new.memory ≡ self.old.memory }
         ensures tie { self.new.tie ≡ self.old.tie }
+        ensures few { key_count self.old ≤ most_keys }
         ensures cost { PaysAtMost meter.old meter.new (2 * key_count self.old + 2) }
     {
         let key = Key {
@@ -139,6 +140,7 @@ impl Stats {
         ensures history { HasNoted (Forwarded version target proc passed indirect) self.old self.new }
         ensures memory { self.new.memory ≡ self.old.memory }
         ensures tie { self.new.tie ≡ self.old.tie }
+        ensures few { key_count self.old ≤ most_keys }
         ensures cost { PaysAtMost meter.old meter.new (2 * key_count self.old + 2) }
     {
         let key = Key {
@@ -167,6 +169,7 @@ impl Stats {
         ensures within { length out.old.bytes ≤ limit → length out.new.bytes ≤ limit }
         ensures cap { out.new.cap ≡ out.old.cap }
         ensures tie { out.new.tie ≡ out.old.tie }
+        ensures few { key_count self.now ≤ most_keys }
         ensures cost { PaysAtMost meter.old meter.new (put_cost self.now out.old out.new) }
     {
         let lists = self.lists(meter);
@@ -181,6 +184,7 @@ impl Stats {
         requires { meter.old.tie ≡ self.now.tie }
         ensures lists { AreListsOf self.now result }
         ensures size { length (spelling self.now) ≡ lists_size result }
+        ensures few { key_count self.now ≤ most_keys }
         ensures cost { PaysAtMost meter.old meter.new (6 * key_count self.now + 3) }
     {
         AllLists {

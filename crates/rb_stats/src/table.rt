@@ -140,6 +140,7 @@ impl Items {
         requires { meter.old.tie ≡ self.now.tie }
         ensures addrinfo { result.addrinfo.items ≡ items_in version Addr self.now.all }
         ensures rmtinfo { result.rmtinfo.items ≡ items_in version Rmt self.now.all }
+        ensures few { length self.now.all ≤ 192 }
         ensures cost { PaysAtMost meter.old meter.new (2 * length self.now.all + 1) }
     {
         lists_of(&self.items, version, meter)
@@ -151,6 +152,7 @@ impl Items {
         ensures holds { HoldsOneMore (count_with key passed indirect) self.old.all self.new.all }
         ensures memory { self.new.memory ≡ self.old.memory }
         ensures tie { self.new.tie ≡ self.old.tie }
+        ensures few { length self.old.all ≤ 192 }
         ensures cost { PaysAtMost meter.old meter.new (2 * length self.old.all + 2) }
     {
         match place_of(&self.items, key, meter) {

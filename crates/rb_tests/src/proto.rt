@@ -1,8 +1,8 @@
 ghost use Rattle.std.specs.Prelude.{◌≡◌, ◌≤◌};
-ghost use Rattle.rb_proto.specs.Ledger.{SameFrame};
+ghost use Rattle.rb_proto.specs.Ledger.{SameFrame, AreTied};
 
 use rb_proto::{
-    ArgumentFault, Call, Context, Entry, Listener, Listing, Mapping, Netbuf, Rpcb, answer,
+    ArgumentFault, Books, Call, Context, Entry, Listener, Listing, Mapping, Netbuf, Rpcb, answer,
     own_rows, put_answer, put_row, read_args, requests_are_of_the_grammar, worked_examples,
 };
 use rb_registry::{Cursor, Registry};
@@ -36,18 +36,18 @@ const LIMIT: usize = 8;
 
 // Puts the results of a call of uid 500 from 127.0.0.1, in a datagram, into the empty buffer.
 fn serve(
-    registry: &mut Registry,
+    books: &mut Books,
     vers: u32,
     proc: u32,
     args: &[u8],
     out: &mut Kept,
     meter: &mut Meter,
 ) -> Result<(), Fail>
-    requires registry { meter.old.tie ≡ registry.old.tie }
-    requires limit { registry.old.limit ≡ 8 }
+    requires tied { AreTied meter.old.tie books.old }
+    requires limit { books.old.registry.limit ≡ 8 }
     requires out { meter.old.tie ≡ out.old.tie }
     requires room { 1000 ≤ out.old.cap }
-    ensures registry { SameFrame registry.old registry.new }
+    ensures books { SameFrame books.old books.new }
     ensures out { out.new.tie ≡ out.old.tie }
     ensures room { out.new.cap ≡ out.old.cap }
     ensures meter { meter.new.tie ≡ meter.old.tie }
@@ -69,10 +69,11 @@ fn serve(
         clock: 1_000_000_000_500,
         caller: Caller::Udp(peer),
     };
+    books.note_call(&head);
     let request = read_args(vers, proc, args)?;
-    let results = answer(registry, &context, Call { head, request }, meter);
+    let results = answer(books, &context, Call { head, request }, meter);
     out.clear(meter);
-    put_answer(&results, registry, &LISTENER, 1000, out, meter)?;
+    put_answer(&results, books, &LISTENER, 1000, out, meter)?;
     Ok(())
 }
 
@@ -82,22 +83,22 @@ fn calls_are_read_answered_and_put(rt: HostRuntime) -> Result<(), Fail> {
     worked_examples();
     let mut meter = Meter::new();
     let mut out = Kept::new(rt.alloc(), 1000, &mut meter)?;
-    let mut registry = Registry::new(rt.alloc(), LIMIT, own_rows(&LISTENER), &mut meter)?;
+    let mut books = Books::new(rt.alloc(), LIMIT, &LISTENER, &mut meter)?;
 
-    serve(&mut registry, 4, 1, UDP_ROW, &mut out, &mut meter)?;
+    serve(&mut books, 4, 1, UDP_ROW, &mut out, &mut meter)?;
     let len = out.len(&mut meter);
     assert_eq!(rt; out.lend(0..len, &mut meter), b"\0\0\0\x01".as_slice());
-    serve(&mut registry, 4, 11, NO_TEXTS, &mut out, &mut meter)?;
+    serve(&mut books, 4, 11, NO_TEXTS, &mut out, &mut meter)?;
     let len = out.len(&mut meter);
     assert_eq!(rt; out.lend(0..len, &mut meter), ENTRIES);
-    serve(&mut registry, 3, 6, b"", &mut out, &mut meter)?;
+    serve(&mut books, 3, 6, b"", &mut out, &mut meter)?;
     let len = out.len(&mut meter);
     assert_eq!(rt;
         out.lend(0..len, &mut meter),
         b"\x3b\x9a\xca\x00".as_slice()
     );
-    serve(&mut registry, 4, 2, NO_TEXTS, &mut out, &mut meter)?;
-    serve(&mut registry, 2, 4, b"", &mut out, &mut meter)?;
+    serve(&mut books, 4, 2, NO_TEXTS, &mut out, &mut meter)?;
+    serve(&mut books, 2, 4, b"", &mut out, &mut meter)?;
     let len = out.len(&mut meter);
     assert_eq!(rt; out.lend(0..len, &mut meter), OWN_ROWS);
 

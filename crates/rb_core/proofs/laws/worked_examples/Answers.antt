@@ -11,6 +11,8 @@ use Rattle.rb_rpc.specs.Verdict.{body_length, auth_end, is_over_long, is_broken,
 use Rattle.rb_feed.specs.Feeds.{arguments_of}
 use Rattle.rb_uaddr.specs.Uaddr.{port_of, port_bytes, text_of, octet, of_parts, parts_of, parse, merged, transport_of, from_transport}
 use Rattle.rb_registry.specs.Rows.{is_netid, is_among, may_remove, covers, is_on, is_row, is_change_left, has_place, removes_some, find_exact, versions, greatest, find_row}
+use Rattle.rb_stats.specs.Statistics.{number_of, is_key, is_in, keys_of, items_of, stat, item_spelling, stat_spelling, statistics}
+use Rattle.rb_proto.specs.Ledger.{version_of, called}
 use Rattle.rb_proto.specs.Answers.{comes_from_here, row_of_mapping, row_of_rpcb, can_be_set, accepts_row, set_row, accepts_removal, unset_rows, shown_text, shown_port, getport, getaddr, getversaddr, seconds, taddr_of, uaddr_of, answer}
 use Rattle.rb_proto.specs.Arguments.{procedure_at, is_known, arguments, request}
 use Rattle.rb_proto.specs.Callers.{own_rows, is_local, owner_text}
@@ -22,12 +24,12 @@ use Rattle.rb_core.specs.Connections.{taking, reading, settled, when_given, givi
 use Rattle.rb_core.specs.Giving.{longest_fragment, owed, pending_of, window}
 use Rattle.rb_core.specs.Step.{serve, answering, bytes, pending, gave, open_connection, close_connection, next_lost, datagram, step}
 use Rattle.std.specs.Fmt.{digits}
-use Rattle.rb_core.specs.Worked.{NullIsAnswered, SetThenAskThenSetAgain, GreatestVersionElse, OwnRowsAreAsked, LimitIsReached, LocalCallersSet, NothingIsSilent, NullBySys, OtherRpcVersion, TooShort, GreatestCredential, OverlongCredential, SysBodyCutShort, OverlongVerifier, BadResidue, GoodResidue, GssBeforeProgram, OtherVersion, UnknownProcedure, GarbageArguments, OtherProgram, NullOfThree, NullOfFour}
+use Rattle.rb_core.specs.Worked.{NullIsAnswered, SetThenAskThenSetAgain, GreatestVersionElse, OwnRowsAreAsked, LimitIsReached, LocalCallersSet, NothingIsSilent, NullBySys, OtherRpcVersion, TooShort, GreatestCredential, OverlongCredential, SysBodyCutShort, OverlongVerifier, BadResidue, GoodResidue, GssBeforeProgram, OtherVersion, UnknownProcedure, GarbageArguments, OtherProgram, NullOfThree, NullOfFour, GetstatFirstCall, GetstatOfRefusals}
 use Rattle.rb_core.proofs.laws.worked_examples.Goals as goal
 
-examples : NullIsAnswered × SetThenAskThenSetAgain × GreatestVersionElse × OwnRowsAreAsked × LimitIsReached × LocalCallersSet × NothingIsSilent × NullBySys × OtherRpcVersion × TooShort × GreatestCredential × OverlongCredential × SysBodyCutShort × OverlongVerifier × BadResidue × GoodResidue × GssBeforeProgram × OtherVersion × UnknownProcedure × GarbageArguments × OtherProgram × NullOfThree × NullOfFour
-unfolding number number_at signed boolean opaque array optional listed read_number read_signed read_bool read_content read_opaque read_pair read_optional read_array call_bytes body_of_sys auth_stat_of fragment_header first_record data_of reply_fragments marked reply_head read_prog_mismatch read_accept_stat read_accepted read_rpc_mismatch read_denied read_reply body_length auth_end is_over_long is_broken credential_end verifier_end sys_uid verdict port_of port_bytes text_of octet of_parts parts_of parse merged transport_of from_transport is_netid is_among may_remove covers is_on is_row is_change_left has_place removes_some find_exact versions greatest find_row comes_from_here row_of_mapping row_of_rpcb can_be_set accepts_row set_row accepts_removal unset_rows shown_text shown_port getport getaddr getversaddr seconds taddr_of uaddr_of answer procedure_at is_known arguments request own_rows is_local owner_text netid_named which_of netid_of_prot result_bytes row_bytes read_mapping read_rpcb read_netbuf read_entry is_served request_of call_of arguments_of message_of longest_reply fitting outcome taking reading settled when_given giving is_live live_connection number_for opening_of first_lost is_there without_number closing_of longest_fragment owed pending_of window serve answering bytes pending gave open_connection close_connection next_lost datagram step digits
-examples = (refl, refl, refl, refl, refl, refl, refl, refl, refl, refl, refl, refl, refl, refl, refl, refl, refl, refl, refl, refl, refl, refl, refl)
+examples : NullIsAnswered × SetThenAskThenSetAgain × GreatestVersionElse × OwnRowsAreAsked × LimitIsReached × LocalCallersSet × NothingIsSilent × NullBySys × OtherRpcVersion × TooShort × GreatestCredential × OverlongCredential × SysBodyCutShort × OverlongVerifier × BadResidue × GoodResidue × GssBeforeProgram × OtherVersion × UnknownProcedure × GarbageArguments × OtherProgram × NullOfThree × NullOfFour × GetstatFirstCall × GetstatOfRefusals
+unfolding number number_at signed boolean opaque array optional listed read_number read_signed read_bool read_content read_opaque read_pair read_optional read_array call_bytes body_of_sys auth_stat_of fragment_header first_record data_of reply_fragments marked reply_head read_prog_mismatch read_accept_stat read_accepted read_rpc_mismatch read_denied read_reply body_length auth_end is_over_long is_broken credential_end verifier_end sys_uid verdict port_of port_bytes text_of octet of_parts parts_of parse merged transport_of from_transport is_netid is_among may_remove covers is_on is_row is_change_left has_place removes_some find_exact versions greatest find_row comes_from_here row_of_mapping row_of_rpcb can_be_set accepts_row set_row accepts_removal unset_rows shown_text shown_port getport getaddr getversaddr seconds taddr_of uaddr_of answer procedure_at is_known arguments request own_rows is_local owner_text netid_named which_of netid_of_prot result_bytes row_bytes read_mapping read_rpcb read_netbuf read_entry is_served request_of call_of message_of longest_reply fitting outcome taking reading settled when_given giving is_live live_connection number_for opening_of first_lost is_there without_number closing_of longest_fragment owed pending_of window serve answering bytes pending gave open_connection close_connection next_lost datagram step digits number_of is_key is_in keys_of items_of stat item_spelling stat_spelling statistics version_of called arguments_of
+examples = (refl, refl, refl, refl, refl, refl, refl, refl, refl, refl, refl, refl, refl, refl, refl, refl, refl, refl, refl, refl, refl, refl, refl, refl, refl)
 
 pub returns-clause-null_reply : goal.returns-clause-null_reply
 returns-clause-null_reply c = examples.0
@@ -97,3 +99,9 @@ returns-clause-null_of_version_3 c = examples.21
 
 pub returns-clause-null_of_version_4 : goal.returns-clause-null_of_version_4
 returns-clause-null_of_version_4 c = examples.22
+
+pub returns-clause-getstat_first_call : goal.returns-clause-getstat_first_call
+returns-clause-getstat_first_call c = examples.23
+
+pub returns-clause-getstat_of_refusals : goal.returns-clause-getstat_of_refusals
+returns-clause-getstat_of_refusals c = examples.24

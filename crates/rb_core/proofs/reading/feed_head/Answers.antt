@@ -1,4 +1,4 @@
-use Rattle.rb_core.proofs.Heads.{HasFed, byte_fed, rest_fed, HasFedAll}
+use Rattle.rb_core.proofs.Heads.{byte_fed, rest_fed}
 use Rattle.rb_core.proofs.reading.feed_head.Goals as goal
 
 pub returns-then-is_in_arguments-clause-after : goal.returns-then-is_in_arguments-clause-after

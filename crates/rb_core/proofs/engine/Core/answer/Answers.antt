@@ -16,7 +16,7 @@ pub returns-clause-acts : goal.returns-clause-acts
 returns-clause-acts c =
     acts_from _ (the_view c.self.inside) c.args.self.now _ _ c.self.view_is
     (told (outcome_with c.serve-outcome.result c.serve-outcome.new.out.bytes) c.is_no_call.result (c.is_no_call.ensures c.serve-outcome.new.out.bytes) (λ s. answering s c.args.id c.args.heard.peer c.args.heard.message) _ _
-    (answer_acts (the_view c.self.inside) c.args.id c.args.heard.peer c.args.heard.message c.serve-outcome.new.registry (outcome_with c.serve-outcome.result c.serve-outcome.new.out.bytes) c.settle.new.self
+    (answer_acts (the_view c.self.inside) c.args.id c.args.heard.peer c.args.heard.message c.serve-outcome.new.books (outcome_with c.serve-outcome.result c.serve-outcome.new.out.bytes) c.settle.new.self
     (record {
       context = c.context-context.result;
       is = subst (λ (held : Held). c.context-context.result ≡ record { listener = held.setting.listener; limit = held.setting.limits.rows; clock = held.clock; caller = Tcp c.args.id c.args.heard.peer }) (sym c.self.view_is) c.context-context.ensures;

@@ -36,9 +36,9 @@ returns-clause-acts c =
 pub returns-clause-cost : goal.returns-clause-cost
 returns-clause-cost c =
     subst (λ (held : Held). PaysAtMost c.args.meter.now c.answer-closed.new.meter
-    (find_cost (length held.connections.slots) + take_cost c.in_ok-count.field-0.count + answer_cost (length held.connections.slots) (length (rows_of held.registry)) (length (rows_of c.answer-closed.new.self.registry))))
+    (find_cost (length held.connections.slots) + take_cost c.in_ok-count.field-0.count + answer_cost (length held.connections.slots) (length (rows_of held.books.registry)) (length (rows_of c.answer-closed.new.self.books.registry))))
     c.self.view_is
-    (answered_cost c.args.meter.now c.take.new.meter c.answer-closed.new.meter (length c.self.inside.connections.slots) (length c.take.new.self.slots) (length (rows_of c.self.inside.registry)) (length (rows_of c.answer-closed.new.self.registry)) c.in_ok-count.field-0.count c.in_ok-count.field-0.heard c.in-Some.heard c.in-Some.is c.in_ok-count.ensures.as_many
+    (answered_cost c.args.meter.now c.take.new.meter c.answer-closed.new.meter (length c.self.inside.connections.slots) (length c.take.new.self.slots) (length (rows_of c.self.inside.books.registry)) (length (rows_of c.answer-closed.new.self.books.registry)) c.in_ok-count.field-0.count c.in_ok-count.field-0.heard c.in-Some.heard c.in-Some.is c.in_ok-count.ensures.as_many
     c.in_ok-count.ensures.cost c.answer-closed.ensures.cost)
 
 pub returns-clause-cheap : goal.returns-clause-cheap

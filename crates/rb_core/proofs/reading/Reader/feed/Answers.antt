@@ -1,4 +1,4 @@
-use Rattle.std.proofs.Common.{◌∙◌, ◌++◌, take, arith}
+use Rattle.std.proofs.Common.{refl, ◌∙◌, ◌++◌, take, arith}
 use Rattle.rb_core.proofs.Feeding.{run_fed, read_on, ended_in, none_in, length_of_rest}
 use Rattle.rb_core.proofs.reading.Reader.feed.Goals as goal
 
@@ -38,8 +38,8 @@ returns-then-run-clause-after c = λ fed h.
 
 pub returns-clause-taken : goal.returns-clause-taken
 returns-clause-taken c = λ fed h.
-    (none_in (record { marks = c.runs.self.marks; head = c.save-self.result }) c.runs.intake c.runs.kept fed c.args.piece.now c.runs.count (omega (arith, c.runs-test.false, c.runs.invariant.within)) (c.runs.invariant.behind.inside fed h) c.save-self.ensures.stands).taken
+    (none_in (record { marks = c.runs.self.marks; head = c.runs.intake.head }) c.runs.intake c.runs.kept fed c.args.piece.now c.runs.count (omega (arith, c.runs-test.false, c.runs.invariant.within)) (c.runs.invariant.behind.inside fed h) refl).taken
 
 pub returns-clause-after : goal.returns-clause-after
 returns-clause-after c = λ fed h.
-    (none_in (record { marks = c.runs.self.marks; head = c.save-self.result }) c.runs.intake c.runs.kept fed c.args.piece.now c.runs.count (omega (arith, c.runs-test.false, c.runs.invariant.within)) (c.runs.invariant.behind.inside fed h) c.save-self.ensures.stands).after
+    (none_in (record { marks = c.runs.self.marks; head = c.runs.intake.head }) c.runs.intake c.runs.kept fed c.args.piece.now c.runs.count (omega (arith, c.runs-test.false, c.runs.invariant.within)) (c.runs.invariant.behind.inside fed h) refl).after

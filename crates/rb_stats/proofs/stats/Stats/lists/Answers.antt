@@ -22,3 +22,8 @@ returns-clause-size c =
     length-spelling (kept_in s.two s.three s.four s.items.all s.items.memory s.items.tie) _ _ _ _ _ _ (length-stat_in Two s.two s.items.all c.self.invariant.0) (length-stat_in Three s.three s.items.all c.self.invariant.1) (length-stat_in Four s.four s.items.all c.self.invariant.2) in
     ap (λ (kept : Stats). length (spelling kept)) (sym c.self.view_is) ∙ is
     ∙ rw (c.lists.ensures.addrinfo, c.lists.ensures.rmtinfo, c.lists-2.ensures.addrinfo, c.lists-2.ensures.rmtinfo, c.lists-3.ensures.addrinfo, c.lists-3.ensures.rmtinfo) refl
+
+pub returns-clause-few : goal.returns-clause-few
+returns-clause-few c =
+    let keys : key_count c.args.self.now ≡ length c.self.inside.items.all = ap key_count (sym c.self.view_is) ∙ omega (arith, in_six c.self.inside.items.all) in
+    omega (arith, keys, c.lists.ensures.few)

@@ -21,3 +21,8 @@ pub returns-clause-cost : goal.returns-clause-cost
 returns-clause-cost c =
     let keys : key_count c.args.self.now ≡ length c.self.inside.items.all = ap key_count (sym c.self.view_is) ∙ omega (arith, in_six c.self.inside.items.all) in
     record { rises = c.count.ensures.cost.rises; steps = omega (arith, keys, c.count.ensures.cost.steps); tie = c.count.ensures.cost.tie }
+
+pub returns-clause-few : goal.returns-clause-few
+returns-clause-few c =
+    let keys : key_count c.args.self.now ≡ length c.self.inside.items.all = ap key_count (sym c.self.view_is) ∙ omega (arith, in_six c.self.inside.items.all) in
+    omega (arith, keys, c.count.ensures.few)

@@ -1,10 +1,11 @@
-use Rattle.std.proofs.Common.{◌<◌, ◌≤◌, ◌++◌, ◌∷◌, [], List, length, sym, subst, arith}
+use Rattle.std.proofs.Common.{◌≡◌, ◌<◌, ◌≤◌, ◌++◌, ◌∷◌, [], List, length, sym, subst, ap, ◌∙◌, arith}
+use Rattle.std.proofs.lemmas.Map.Entries.{length-values_of}
 use Rattle.std.specs.Map.{values_of}
 use Rattle.rb_stats.specs.declared.item.Item.{Item}
 use Rattle.rb_stats.specs.Statistics.{Count, info_of, greatest_list}
 use Rattle.rb_stats.specs.Table.{Table, Holds, is_item, items_in}
 use Rattle.rb_stats.proofs.Items.{holds-found, holds-new, holds-full}
-use Rattle.rb_stats.proofs.Entries.{any-found, none-found, room_left}
+use Rattle.rb_stats.proofs.Entries.{any-found, none-found, room_left, most_items}
 use Rattle.rb_stats.proofs.table.Items.count.Goals as goal
 
 pub overflow_add-self : goal.overflow_add-self
@@ -41,3 +42,18 @@ returns-else-count-lt-GREATEST_LIST-clause-holds c = λ counts h.
     subst (λ n. greatest_list ≤ n) c.in-Err.ensures.count c.if-count-lt-GREATEST_LIST.false in
     subst (λ (t : Table). Holds t.all (counts ++ one ∷ [])) c.self.view_is
     (holds-full one (values_of entries) counts before (none-found (is_item c.args.key) entries c.in-Err.ensures.missing) full)
+
+pub returns-in-Ok-clause-few : goal.returns-in-Ok-clause-few
+returns-in-Ok-clause-few c =
+    let all : length c.args.self.now.all ≡ length c.self.inside.items.entries = ap (λ (t : Table). length t.all) (sym c.self.view_is) ∙ length-values_of c.self.inside.items.entries in
+    omega (arith, all, most_items c.self.inside.items c.self.invariant.0)
+
+pub returns-in-Err-clause-few : goal.returns-in-Err-clause-few
+returns-in-Err-clause-few c =
+    let all : length c.args.self.now.all ≡ length c.self.inside.items.entries = ap (λ (t : Table). length t.all) (sym c.self.view_is) ∙ length-values_of c.self.inside.items.entries in
+    omega (arith, all, most_items c.self.inside.items c.self.invariant.0)
+
+pub returns-else-count-lt-GREATEST_LIST-clause-few : goal.returns-else-count-lt-GREATEST_LIST-clause-few
+returns-else-count-lt-GREATEST_LIST-clause-few c =
+    let all : length c.args.self.now.all ≡ length c.self.inside.items.entries = ap (λ (t : Table). length t.all) (sym c.self.view_is) ∙ length-values_of c.self.inside.items.entries in
+    omega (arith, all, most_items c.self.inside.items c.self.invariant.0)

@@ -1,0 +1,10 @@
+-- What books show of a ledger that they stand for.
+use Rattle.std.proofs.Common.{◌≡◌, refl}
+use Rattle.rb_stats.specs.Statistics.{statistics}
+use Rattle.rb_stats.specs.Stats.{spelling}
+use Rattle.rb_proto.specs.Ledger.{Books, Ledger, StandsForLedger}
+use Rattle.rb_proto.specs.Results.{shown_of, shown_in}
+
+pub shown_where_standing : (books : Books) (l : Ledger) → StandsForLedger books l → shown_in books ≡ shown_of l
+unfolding spelling statistics
+shown_where_standing books l h = rw (h.registry.rows, h.stats.two, h.stats.three, h.stats.four) refl
