@@ -1,20 +1,18 @@
 -- What is remembered of the calls, in each state that a run reaches.
-use Rattle.std.proofs.Common.{◌≡◌, ℕ, ◌<◌, ◌≤◌, Bool, true, false, cond, not, ◌&&◌, nat_le, Option, Some, None, Result, Ok, Err, List, [], ◌∷◌, ◌++◌, length, refl, sym, ap, subst, ◌∙◌, append_assoc, append-nil, length-append, arith}
-use Rattle.std.specs.Prelude.{filter}
-use Rattle.std.proofs.lemmas.Bool.{ltb-true, leb-true}
+use Rattle.std.proofs.Common.{◌≡◌, ℕ, ◌≤◌, Bool, true, false, cond, ◌&&◌, nat_le, Option, Some, None, Result, Ok, Err, List, [], ◌∷◌, ◌++◌, length, refl, sym, subst, ◌∙◌, arith}
+use Rattle.std.proofs.lemmas.Bool.{leb-true}
 use Rattle.rb_rpc.specs.declared.peer.Caller.{Caller}
 use Rattle.rb_rpc.specs.declared.peer.Caller.TheVariants.{Udp}
 use Rattle.rb_registry.specs.declared.row.Row.{Row}
 use Rattle.rb_registry.specs.declared.row.Which.{Which}
-use Rattle.rb_registry.specs.Rows.{Change, live, covers, is_netid, is_on, is_row, are_distinct, has_place, removes_some}
-use Rattle.rb_registry.specs.Rows.Change.{Added, Removed}
+use Rattle.rb_registry.specs.Rows.{Change, is_netid, is_on, is_row, are_distinct, has_place, removes_some}
+use Rattle.rb_registry.specs.Rows.Change.{Added}
 use Rattle.rb_registry.specs.Registry.{AreOwn}
 use Rattle.rb_registry.specs.Laws.{is_accepted, are_accepted}
-use Rattle.rb_registry.proofs.RowLaws.{set_appends, unset_filters, keys_are_distinct}
+use Rattle.rb_registry.proofs.RowLaws.{accepted_more, keys_are_distinct, live_rows_fit}
 use Rattle.rb_proto.specs.declared.listener.Listener.{Listener}
 use Rattle.rb_proto.specs.declared.context.Context.{Context}
 use Rattle.rb_rpc.specs.declared.call.CallHead.{CallHead}
-use Rattle.rb_proto.specs.declared.procedure.VoidProcedure.TheVariants as voids
 use Rattle.rb_proto.specs.declared.procedure.MappingProcedure.TheVariants as mappings
 use Rattle.rb_proto.specs.declared.procedure.RpcbProcedure.TheVariants as rpcbs
 use Rattle.rb_proto.specs.declared.request.Request.{Request}
@@ -94,11 +92,7 @@ answer-grows context head (requests.Rpcb rpcbs.Unset r) l = unset-grows context 
 answer-grows context head (requests.Rpcb rpcbs.Getaddr r) l = Same refl refl
 answer-grows context head (requests.Rpcb rpcbs.Getversaddr r) l = Same refl refl
 answer-grows context head (requests.Rpcb rpcbs.Getaddrlist r) l = Same refl refl
-answer-grows context head (requests.Void voids.Null) l = Same refl refl
-answer-grows context head (requests.Void voids.PmapDump) l = Same refl refl
-answer-grows context head (requests.Void voids.Dump) l = Same refl refl
-answer-grows context head (requests.Void voids.Gettime) l = Same refl refl
-answer-grows context head (requests.Void voids.Getstat) l = Same refl refl
+answer-grows context head (requests.Void procedure) l = Same refl refl
 answer-grows context head (requests.Uaddr2taddr text) l = Same refl refl
 answer-grows context head (requests.Taddr2uaddr netbuf) l = Same refl refl
 
@@ -162,35 +156,6 @@ step-follows s (Datagram now peer content) =
 
 -- ---- what stays so
 
-accepted_more : (limit : ℕ) (own : List Row) (before changes : List Change) (change : Change) → are_accepted limit own before changes ≡ true → is_accepted limit own (before ++ changes) change ≡ true
-    → are_accepted limit own before (changes ++ change ∷ []) ≡ true
-accepted_more limit own before [] change h e = rw (← ap (λ (cs : List Change). is_accepted limit own cs change) (append-nil before), e) refl
-accepted_more limit own before (first ∷ later) change h e =
-    let parts = both (is_accepted limit own before first) _ h in
-    let more = accepted_more limit own (before ++ first ∷ []) later change parts.1 (ap (λ (cs : List Change). is_accepted limit own cs change) (append_assoc before (first ∷ []) later) ∙ e) in
-    rw (parts.0, more) refl
-
-has_room : (limit : ℕ) (rows : List Row) (count : ℕ) (row : Row) → has_place limit rows count row ≡ true → length rows < limit
-unfolding has_place
-has_room limit rows count row e = ltb-true _ _ (both _ _ (both _ _ e).0).1
-
-no_longer-filter : (p : Row → Bool) (rows : List Row) → length (filter p rows) ≤ length rows
-no_longer-filter p [] = omega arith
-no_longer-filter p (row ∷ rows) = by_test (p row) (no_longer-filter p rows)
-  where
-    by_test : (b : Bool) → length (filter p rows) ≤ length rows → length (cond b (row ∷ filter p rows) (filter p rows)) ≤ length (row ∷ rows)
-    by_test true h = omega (arith, h)
-    by_test false h = omega (arith, h)
-
-fit_after : (limit : ℕ) (own : List Row) (before : List Change) (change : Change) → AreOwn own → length (live own before) ≤ limit → is_accepted limit own before change ≡ true
-    → length (live own (before ++ change ∷ [])) ≤ limit
-fit_after limit own before (Added row) are_own h e =
-    let room = has_room limit (live own before) (length before) row e in
-    rw (set_appends own before row) (omega (arith, room, length-append (live own before) (row ∷ [])))
-fit_after limit own before (Removed prog vers which owner) are_own h e =
-    let fewer = no_longer-filter (λ row. not (covers row (Removed prog vers which owner))) (live own before) in
-    rw (unset_filters own before prog vers which owner are_own) (omega (arith, h, fewer))
-
 -- the own rows
 are-own : (listener : Listener) → AreOwn (own_rows listener)
 unfolding own_rows
@@ -208,18 +173,15 @@ six-own listener = refl
 record KeepsLedger (limit : ℕ) (listener : Listener) (l : Ledger) : Type 0 where
   own : l.own ≡ own_rows listener
   accepted : are_accepted limit l.own [] l.changes ≡ true
-  fit : 6 ≤ limit → length (rows_in l) ≤ limit
 
 grown : (limit : ℕ) (listener : Listener) (old new : Ledger) → Grows limit old new → KeepsLedger limit listener old → KeepsLedger limit listener new
 grown limit listener old new (Same own same) k = record {
   own = own ∙ k.own;
   accepted = rw (own, same) k.accepted;
-  fit = rw (own, same) k.fit;
 }
 grown limit listener old new (More change accepted own same) k = record {
   own = own ∙ k.own;
   accepted = rw (own, same) (accepted_more limit old.own [] old.changes change k.accepted accepted);
-  fit = rw (own, same) (λ six. fit_after limit old.own old.changes change (subst AreOwn (sym k.own) (are-own listener)) (k.fit six) accepted);
 }
 
 abbrev KeepsIn : State → Type 0
@@ -238,7 +200,6 @@ opening-keeps : (limits : Limits) (listener : Listener) (first_xid now : ℕ) �
 opening-keeps limits listener first_xid now = record {
   own = refl;
   accepted = refl;
-  fit = λ six. omega (arith, six, six-own listener, length-append (own_rows listener) []);
 }
 
 eight : (limits : Limits) → are_good limits ≡ true → 6 ≤ limits.rows
@@ -260,5 +221,7 @@ ledgers_are_well_kept s r =
       accepted = k.accepted;
       own_distinct = distinct;
       distinct = keys_are_distinct s.setting.limits.rows s.ledger.own s.ledger.changes own distinct k.accepted;
-      fit = λ good. k.fit (eight s.setting.limits good);
+      fit = λ good.
+          let six : length s.ledger.own ≡ 6 = rw k.own (six-own s.setting.listener) in
+          live_rows_fit s.setting.limits.rows s.ledger.own s.ledger.changes own (omega (arith, six, eight s.setting.limits good)) k.accepted;
     }

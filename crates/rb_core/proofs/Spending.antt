@@ -9,7 +9,7 @@ use Rattle.rb_core.specs.Connections.{Taking, taking, live_connection}
 use Rattle.rb_core.specs.Connections.Taking.{TakesNone, GoesOn, Ends}
 use Rattle.rb_core.specs.Step.{Taken, bytes, bytes_to}
 use Rattle.rb_core.specs.Slots.{Acts}
-use Rattle.rb_core.specs.StandsFor.{Held, StandsFor}
+use Rattle.rb_core.specs.StandsFor.{Held, StandsFor, IsCheapIfQuiet}
 use Rattle.rb_core.specs.Costs.{find_cost, heard_cost, read_cost, serve_cost, settle_cost, answer_cost, connection_count, row_count, NoRecordEnds, take_cost, taking_cost, piece_cost, ended_cost}
 use Rattle.rb_core.proofs.Slots.{as_many}
 
@@ -57,7 +57,7 @@ at_most a b less more le pays = record { steps = omega (arith, pays.steps, le); 
 
 module _ (old new : Held) (s : State) (h : StandsFor old s) (a b : Meter) (now id : ℕ) (piece : List ℕ) (result : Result Taken CoreFault)
     (acts : Acts StandsFor (λ t. bytes t now id piece) old new result)
-    (cheap : (t : State) → StandsFor old t → NoRecordEnds t id piece → PaysAtMost a b (find_cost (length old.connections.slots) + taking_cost result)) where
+    (cheap : IsCheapIfQuiet old id piece result a b) where
   abbrev IsPaid : Option Connection → Type 0
   IsPaid m = PaysAtMost a b (find_cost (connection_count s) + piece_cost s (bytes s now id piece).1 piece m)
 

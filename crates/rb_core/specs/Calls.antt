@@ -74,10 +74,14 @@ longest_reply = 9000
 unfoldable pub fitting : ℕ → List ℕ → List ℕ
 fitting xid reply = if nat_lt longest_reply (length reply) then reply_head xid replies.SystemErr else reply
 
+-- the reply with results
+abbrev pub success : ℕ → List ℕ → List ℕ
+success xid results = fitting xid (reply_head xid replies.Success ++ results)
+
 -- the reply with the results of an answer, where this is remembered after it
 abbrev pub reply_with : Context → ℕ → Answer × Ledger → Outcome × Ledger
 reply_with context xid (given, ledger) =
-    (Reply (fitting xid (reply_head xid replies.Success ++ result_bytes context.listener.host (shown_of ledger) given)), ledger)
+    (Reply (success xid (result_bytes context.listener.host (shown_of ledger) given)), ledger)
 
 -- What a message is answered with where a call sees this, and the ledger after it. A call of a procedure that is served is
 -- noted before it is answered, and one that is refused before that is not.

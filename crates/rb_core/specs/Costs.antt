@@ -1,5 +1,7 @@
 -- What calls cost at most, in counted steps.
 use Rattle.std.specs.Prelude.{◌≡◌, ℕ, ◌+◌, ◌*◌, Bool, true, false, IfSome, List, [], ◌∷◌, length, Option, Some, None, Result, Ok, Err}
+use Rattle.rb_registry.specs.Registry.{rows_of}
+use Rattle.rb_proto.specs.declared.books.Books.{Books}
 use Rattle.rb_proto.specs.Ledger.{rows_in}
 use Rattle.rb_proto.specs.Puts.{note_cost, statistics_cost}
 use Rattle.rb_core.specs.declared.slot.Received.{Received}
@@ -9,6 +11,7 @@ use Rattle.rb_core.specs.State.{State, Connection}
 use Rattle.rb_core.specs.Connections.{Taking, taking, live_connection}
 use Rattle.rb_core.specs.Connections.Taking.{TakesNone, GoesOn, Ends}
 use Rattle.rb_core.specs.Reading.{buffer_size}
+use Rattle.rb_core.specs.Slots.{Table}
 use Rattle.rb_core.specs.Step.{Taken, Event, step}
 use Rattle.rb_core.specs.Step.Event.{Open, Bytes, Pending, Gave, Closed, NextLost, Datagram}
 
@@ -84,6 +87,27 @@ settle_cost connections = find_cost connections + show_cost + 1
 -- what it costs to answer the record that ended, among so many connections and rows
 abbrev pub answer_cost : ℕ → ℕ → ℕ → ℕ
 answer_cost connections rows left = read_cost + serve_cost rows left + settle_cost connections
+
+-- ---- calls, by what is held
+
+-- how many rows are live in the books
+abbrev pub live_count : Books → ℕ
+live_count books = length (rows_of books.registry)
+
+-- what it costs to put results: the rows are walked twice, and the reply is written
+abbrev pub put_results_cost : Books → ℕ
+put_results_cost books = 4 * live_count books + 9038 + statistics_cost
+
+-- what it costs to serve a message on the old books, which become the new ones
+abbrev pub serving_cost : Books → Books → ℕ
+serving_cost old new = serve_cost (live_count old) (live_count new)
+
+-- how many connections are there, and what it costs to look one of them up
+abbrev pub slot_count : Table → ℕ
+slot_count table = length table.slots
+
+abbrev pub look_cost : Table → ℕ
+look_cost table = find_cost (slot_count table)
 
 -- ---- events
 

@@ -1,5 +1,6 @@
 -- What the slots of connections hold, and the connections that they stand for.
-use Rattle.std.specs.Prelude.{◌≡◌, ℕ, ◌+◌, ◌≤◌, ◌==◌, not, Bool, true, false, ◌&&◌, List, [], ◌∷◌, Option, Some, None, find, length, All, ⊤}
+use Rattle.std.specs.Prelude.{◌≡◌, ℕ, ◌+◌, ◌≤◌, ◌==◌, not, Bool, true, false, ◌&&◌, List, [], ◌∷◌, Option, Some, None, find, length, All, ⊤, Result, Ok, Err, MatchOption, MatchResult}
+use Rattle.std.specs.Borrow.{Bor}
 use Rattle.std.specs.List.{AllZip, list_any}
 use Rattle.std.specs.Map.{values_of}
 use Rattle.rb_xdr.specs.Kept.{Kept}
@@ -11,6 +12,7 @@ use Rattle.rb_core.specs.declared.slot.Stage.TheVariants as stages
 use Rattle.rb_core.specs.declared.slot.Received.{Received}
 use Rattle.rb_core.specs.declared.slot.Wanted.{Wanted}
 use Rattle.rb_core.specs.declared.slot.Wanted.TheVariants as wanted
+use Rattle.rb_core.specs.declared.types.CoreFault.{CoreFault}
 use Rattle.rb_core.specs.Calls.{message_of}
 use Rattle.rb_core.specs.State.{Phase, Connection, Connections}
 use Rattle.rb_core.specs.State.Phase.{Idle, Reading, Owing, Lost}
@@ -24,6 +26,15 @@ use Rattle.rb_core.specs.Reading.{Reader, buffer_size, IsReading}
 pub record Acts {Held Plain Result : Type 0} (StandsFor : Held → Plain → Type 0) (act : Plain → Result × Plain) (old new : Held) (result : Result) : Type 0 where
   pub gives : (x : Plain) → StandsFor old x → result ≡ (act x).0
   pub stands : (x : Plain) → StandsFor old x → StandsFor new (act x).1
+
+-- From whatever it stands for, this is what it shows.
+abbrev pub Shows : {Held Plain Result : Type 0} → (Held → Plain → Type 0) → (Plain → Result) → Held → Result → Type 0
+Shows {Held} {Plain} {Result} StandsFor show held result = (x : Plain) → StandsFor held x → result ≡ show x
+
+-- The same of bytes that are lent, or refused.
+abbrev pub Lends : {Held Plain : Type 0} → (Held → Plain → Type 0) → (Plain → Result (List ℕ) CoreFault) → Held → Result (Bor (List ℕ)) CoreFault → Type 0
+Lends {Held} {Plain} StandsFor show held result =
+    (x : Plain) → StandsFor held x → MatchResult result (λ bytes. show x ≡ Ok bytes.now) (λ fault. show x ≡ Err fault)
 
 -- ---- one slot
 
@@ -79,6 +90,18 @@ pub record StandsForConnections (table : Table) (connections : Connections) : Ty
   pub all : AllZip StandsForConnection (values_of table.slots) connections.all
   pub next : connections.next ≡ table.given + 1
 
+-- an act on the connections
+abbrev pub TableActs : {Result : Type 0} → (Connections → Result × Connections) → Table → Table → Result → Type 0
+TableActs act old new result = Acts StandsForConnections act old new result
+
+-- From whatever connections the old table stood for, the new one stands for what they become.
+abbrev pub TableBecomes : (Connections → Connections) → Table → Table → Type 0
+TableBecomes change old new = (c : Connections) → StandsForConnections old c → StandsForConnections new (change c)
+
+-- of at most so many connections, counted by this meter
+abbrev pub empty_table : ℕ → ℕ → Table
+empty_table conns tie = record { slots = []; given = 0; conns = conns; tie = tie }
+
 -- ---- looking for a slot
 
 abbrev pub is_lost_stage : Stage → Bool
@@ -106,6 +129,11 @@ pub record IsFound (sought : Wanted) (all : List Connection) (slot : Slot) : Typ
   pub connection : Connection
   pub found : find (is_wanted sought) all ≡ Some connection
   pub stands : StandsForConnection slot connection
+
+-- The first connection that is wanted was found, or there is none.
+abbrev pub Finds : Wanted → Table → Option (Bor Slot) → Type 0
+Finds sought table result =
+    (c : Connections) → StandsForConnections table c → MatchOption result (find (is_wanted sought) c.all ≡ None) (λ slot. IsFound sought c.all slot.now)
 
 -- ---- what is true of all slots and buffers
 

@@ -1,5 +1,5 @@
 -- What a core holds, and the states that it stands for.
-use Rattle.std.specs.Prelude.{◌≡◌, ℕ, List, [], ◌++◌, map}
+use Rattle.std.specs.Prelude.{◌≡◌, ℕ, ◌+◌, List, [], ◌++◌, map, Bool, Result, IfOk}
 use Rattle.rb_xdr.specs.Kept.{Kept}
 use Rattle.rb_xdr.specs.Meter.{Meter, PaysAtMost}
 use Rattle.rb_core.specs.declared.run.Event as event
@@ -10,16 +10,22 @@ use Rattle.rb_core.specs.declared.types.Outcome as outcome
 use Rattle.rb_core.specs.declared.types.Outcome.TheVariants as outcomes
 use Rattle.rb_proto.specs.declared.books.Books.{Books}
 use Rattle.rb_proto.specs.Ledger.{StandsForLedger, AreTied}
-use Rattle.rb_core.specs.State.{Setting, State}
+use Rattle.rb_core.specs.State.{Setting, State, Connections}
+use Rattle.rb_core.specs.Connections.{changed_at, settled}
 use Rattle.rb_core.specs.declared.types.Limits.{Limits}
+use Rattle.rb_core.specs.declared.types.CoreFault.{CoreFault}
+use Rattle.rb_core.specs.declared.slot.Heard.{Heard}
+use Rattle.rb_rpc.specs.declared.peer.Caller.{Caller}
+use Rattle.rb_proto.specs.declared.context.Context.{Context}
+use Rattle.rb_xdr.specs.declared.memory.NoMemory.{NoMemory}
 use Rattle.rb_core.specs.Calls.{Outcome, longest_reply}
 use Rattle.rb_core.specs.Calls.Outcome.{NoCall, Reply}
-use Rattle.rb_core.specs.Slots.{Table, StandsForConnections, IsDraft}
-use Rattle.rb_core.specs.Step.{Event, Output, step}
+use Rattle.rb_core.specs.Slots.{Table, StandsForConnections, IsDraft, Acts}
+use Rattle.rb_core.specs.Step.{Taken, answering, Event, Output, step}
 use Rattle.rb_core.specs.Step.Event.{Open, Bytes, Pending, Gave, Closed, NextLost, Datagram}
 use Rattle.rb_core.specs.Step.Output.{Opened, Refused, TooMuch, Took, TookAndClosed, IsPending, Done, LostIs, Replied, Silent}
 use Rattle.rb_core.specs.Run.{run, after}
-use Rattle.rb_core.specs.Costs.{event_cost}
+use Rattle.rb_core.specs.Costs.{event_cost, run_cost, NoRecordEnds, live_count, slot_count, look_cost, serving_cost, settle_cost, taking_cost, answer_cost}
 
 -- `tie` is the number of the meter that counts the calls
 pub record Held : Type 0 where
@@ -53,6 +59,55 @@ pub record IsCore (limits : Limits) (connections : Table) (books : Books) (reply
 abbrev pub outcome_with : outcome.Outcome → List ℕ → Outcome
 outcome_with outcomes.NoCall reply = NoCall
 outcome_with outcomes.Reply reply = Reply reply
+
+-- the same with the reply in this buffer
+abbrev pub given_in : outcome.Outcome → Kept → Outcome
+given_in given kept = outcome_with given kept.bytes
+
+-- the connections, with the record of the live one of the number answered so
+abbrev pub settling : ℕ → ℕ → Outcome → Connections → Connections
+settling id clock given c = changed_at id (settled clock given) c
+
+-- what a call from a caller sees
+abbrev pub context_of : Held → Caller → Context
+context_of held caller = record {
+  listener = held.setting.listener;
+  limit = held.setting.limits.rows;
+  clock = held.clock;
+  caller = caller;
+}
+
+-- what a record said is answered
+abbrev pub answering_heard : ℕ → Heard → State → Bool × State
+answering_heard id heard s = answering s id heard.peer heard.message
+
+-- An act that answers something, with the reply that is held after it.
+abbrev pub ActsWithReply : (State → Outcome × State) → Held → Held → outcome.Outcome → Type 0
+ActsWithReply act old new given = Acts StandsFor act old new (outcome_with given new.reply)
+
+-- ---- what calls cost
+
+-- to answer what a record said
+abbrev pub answering_cost : Held → Held → ℕ
+answering_cost old new = serving_cost old.books new.books + settle_cost (slot_count old.connections)
+
+-- to take bytes where no record ends
+abbrev pub quiet_cost : Held → Result Taken CoreFault → ℕ
+quiet_cost held result = look_cost held.connections + taking_cost result
+
+-- to take bytes, and to answer the record that ends with them
+abbrev pub bytes_cost : Held → Held → Result Taken CoreFault → ℕ
+bytes_cost old new result =
+    quiet_cost old result + answer_cost (slot_count old.connections) (live_count old.books) (live_count new.books)
+
+-- Where no record ends in the piece on the connection, no more is paid than that.
+abbrev pub IsCheapIfQuiet : Held → ℕ → List ℕ → Result Taken CoreFault → Meter → Meter → Type 0
+IsCheapIfQuiet held id piece result before now =
+    (s : State) → StandsFor held s → NoRecordEnds s id piece → PaysAtMost before now (quiet_cost held result)
+
+-- At most the cost of these events is paid, from whatever state was held.
+abbrev pub PaysForRun : Held → List Event → Meter → Meter → Type 0
+PaysForRun held events before now = (s : State) → StandsFor held s → PaysAtMost before now (run_cost s events)
 
 -- ---- events and outputs, without where their bytes lie in memory
 
@@ -93,6 +148,10 @@ pub record HasHappened (event : Event) (old new : Held) (before now : Meter) (gi
   pub cost : (s : State) → StandsFor old s → PaysAtMost before now (event_cost s event)
   pub tie : new.tie ≡ old.tie
   pub meter : now.tie ≡ before.tie
+
+-- Where there is a result, the event has happened and gave it.
+abbrev pub MayHappen : Event → Held → Held → Meter → Meter → Result output.Output NoMemory → Type 0
+MayHappen event old new before now result = IfOk result (λ given. HasHappened event old new before now given)
 
 -- From the state the events have happened: their outputs came behind the earlier ones, and what is held stands for
 -- the state after them.

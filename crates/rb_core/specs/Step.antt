@@ -76,9 +76,13 @@ abbrev pub pending_on : Option Connection → Result (List ℕ) CoreFault
 pending_on None = Err Gone
 pending_on (Some c) = Ok (pending_in c.phase)
 
+-- on the live connection of the number
+abbrev pub pending_at : ℕ → Connections → Result (List ℕ) CoreFault
+pending_at id c = pending_on (live_connection id c.all)
+
 -- the rest of the current fragment
 unfoldable pub pending : State → ℕ → Result (List ℕ) CoreFault
-pending s id = pending_on (live_connection id s.connections.all)
+pending s id = pending_at id s.connections
 
 -- n bytes of it were given, or as many as there are
 unfoldable pub gave : State → ℕ → ℕ → ℕ → Result (Unit {0}) CoreFault × State

@@ -136,19 +136,17 @@ fn wanted_key(slots: &Pool<Slot>, wanted: Wanted, meter: &mut Meter) -> Option<u
 }
 
 impl Connections {
-    ghost use Rattle.std.specs.Prelude.{◌≡◌, ◌≤◌, ◌<◌, ◌+◌, ◌*◌, [], length, find, None, Ok, Err, MatchOption, MatchResult, OnErr, IfOk, IfSome};
-    ghost use Rattle.rb_core.specs.Connections.{on_live, live_connection, giving, settled, changed_at, opening_of, closing_of, first_lost};
-    ghost use Rattle.rb_core.specs.State.{Connections as Open};
-    ghost use Rattle.rb_core.specs.StandsFor.{outcome_with};
-    ghost use Rattle.rb_core.specs.Step.{pending_on, pending_count};
+    ghost use Rattle.std.specs.Prelude.{◌≡◌, ◌≤◌, ◌<◌, ◌+◌, ◌*◌, [], length, OnErr, IfOk, IfSome};
+    ghost use Rattle.rb_core.specs.Connections.{on_live, giving, opening_of, closing_of, first_lost};
+    ghost use Rattle.rb_core.specs.StandsFor.{given_in, settling};
+    ghost use Rattle.rb_core.specs.Step.{pending_at, pending_count};
     ghost use Rattle.rb_core.specs.Giving.{longest_fragment};
-    ghost use Rattle.rb_core.specs.Costs.{find_cost, taken_cost, settle_cost, give_cost, pending_cost};
-    ghost use Rattle.rb_core.specs.Slots.{Acts, StandsForConnections, StaysTable, IsFound, IsDraft, is_wanted, feeding, HasBuffers};
+    ghost use Rattle.rb_core.specs.Costs.{slot_count, look_cost, taken_cost, settle_cost, give_cost, pending_cost};
+    ghost use Rattle.rb_core.specs.Slots.{Shows, Lends, Finds, TableActs, TableBecomes, StandsForConnections, StaysTable, IsDraft, empty_table, feeding, HasBuffers};
 
     /// No connections yet, of at most so many. All of their memory is taken.
     pub fn new(alloc: Global, conns: usize, meter: &mut Meter) -> Result<Connections, NoMemory>
-        ensures empty { IfOk result
-            (λ c. c ≡ record { slots = []; given = 0; conns = conns; tie = meter.old.tie }) }
+        ensures empty { IfOk result (λ c. c ≡ empty_table conns meter.old.tie) }
         ensures cost { PaysAtMost meter.old meter.new (3 * conns) }
     {
         let spare = make_spare(alloc, conns, meter)?;
@@ -164,8 +162,7 @@ impl Connections {
     /// them, else `Spent` where no number is left.
     pub fn open(&mut self, clock: u64, peer: Peer, meter: &mut Meter) -> Result<u64, CoreFault>
         requires { meter.old.tie ≡ self.old.tie }
-        ensures acts { Acts StandsForConnections (opening_of self.old.conns peer clock)
-            self.old self.new result }
+        ensures acts { TableActs (opening_of self.old.conns peer clock) self.old self.new result }
         ensures refused { OnErr result (self.new ≡ self.old) }
         ensures stays { StaysTable self.old self.new }
         ensures cost { PaysAtMost meter.old meter.new 4 }
@@ -193,10 +190,10 @@ impl Connections {
     /// Removes the connection of the number, live or Lost: `Gone` where there is none.
     pub fn close(&mut self, id: u64, meter: &mut Meter) -> Result<(), CoreFault>
         requires { meter.old.tie ≡ self.old.tie }
-        ensures acts { Acts StandsForConnections (closing_of id) self.old self.new result }
+        ensures acts { TableActs (closing_of id) self.old self.new result }
         ensures refused { OnErr result (self.new ≡ self.old) }
         ensures stays { StaysTable self.old self.new }
-        ensures cost { PaysAtMost meter.old meter.new (find_cost (length self.old.slots) + 3) }
+        ensures cost { PaysAtMost meter.old meter.new (look_cost self.old + 3) }
     {
         let Some(key) = wanted_key(&self.slots, Wanted::Numbered(id), meter) else {
             return Err(CoreFault::Gone);
@@ -219,14 +216,12 @@ impl Connections {
         meter: &mut Meter,
     ) -> Result<Received, CoreFault>
         requires { meter.old.tie ≡ self.old.tie }
-        ensures acts { Acts StandsForConnections (on_live id (feeding clock piece.now))
-            self.old self.new result }
+        ensures acts { TableActs (on_live id (feeding clock piece.now)) self.old self.new result }
         ensures within { IfOk result (λ got. got.count ≤ length piece.now) }
         ensures refused { OnErr result (self.new ≡ self.old) }
         ensures stays { StaysTable self.old self.new }
         ensures as_many { length self.new.slots ≡ length self.old.slots }
-        ensures cost { PaysAtMost meter.old meter.new
-            (find_cost (length self.old.slots) + taken_cost result) }
+        ensures cost { PaysAtMost meter.old meter.new (look_cost self.old + taken_cost result) }
     {
         let Some(key) = wanted_key(&self.slots, Wanted::Live(id), meter) else {
             return Err(CoreFault::Gone);
@@ -250,12 +245,11 @@ impl Connections {
         requires tie { meter.old.tie ≡ self.old.tie }
         requires draft { IsDraft meter.old.tie reply.old }
         requires some { outcome ≡ Outcome.Reply → 0 < length reply.old.bytes }
-        ensures stands { (c : Open) → StandsForConnections self.old c → StandsForConnections
-            self.new (changed_at id (settled clock (outcome_with outcome reply.old.bytes)) c) }
+        ensures stands { TableBecomes (settling id clock (given_in outcome reply.old)) self.old self.new }
         ensures stays { StaysTable self.old self.new }
         ensures draft { IsDraft meter.old.tie reply.new }
         ensures empty { reply.new.bytes ≡ [] }
-        ensures cost { PaysAtMost meter.old meter.new (settle_cost (length self.old.slots)) }
+        ensures cost { PaysAtMost meter.old meter.new (settle_cost (slot_count self.old)) }
     {
         let Some(key) = wanted_key(&self.slots, Wanted::Live(id), meter) else {
             reply.clear(meter);
@@ -277,12 +271,10 @@ impl Connections {
         meter: &mut Meter,
     ) -> Result<(), CoreFault>
         requires { meter.old.tie ≡ self.old.tie }
-        ensures acts { Acts StandsForConnections (on_live id (giving clock n))
-            self.old self.new result }
+        ensures acts { TableActs (on_live id (giving clock n)) self.old self.new result }
         ensures refused { OnErr result (self.new ≡ self.old) }
         ensures stays { StaysTable self.old self.new }
-        ensures cost { PaysAtMost meter.old meter.new
-            (find_cost (length self.old.slots) + give_cost) }
+        ensures cost { PaysAtMost meter.old meter.new (look_cost self.old + give_cost) }
     {
         let Some(key) = wanted_key(&self.slots, Wanted::Live(id), meter) else {
             return Err(CoreFault::Gone);
@@ -297,11 +289,9 @@ impl Connections {
     /// The first connection that is wanted.
     fn first(&self, wanted: Wanted, meter: &mut Meter) -> Option<&Slot>
         requires { meter.old.tie ≡ self.now.tie }
-        ensures found { (c : Open) → StandsForConnections self.now c
-            → MatchOption result (find (is_wanted wanted) c.all ≡ None)
-            (λ slot. IsFound wanted c.all slot.now) }
+        ensures found { Finds wanted self.now result }
         ensures buffers { IfSome result (λ slot. HasBuffers self.now.tie slot.now) }
-        ensures cost { PaysAtMost meter.old meter.new (find_cost (length self.now.slots)) }
+        ensures cost { PaysAtMost meter.old meter.new (look_cost self.now) }
     {
         let Some(key) = wanted_key(&self.slots, wanted, meter) else {
             return None;
@@ -315,10 +305,8 @@ impl Connections {
     /// How many bytes are pending on the live connection of the number: `Gone` where there is none.
     pub fn pending_len(&self, id: u64, meter: &mut Meter) -> Result<usize, CoreFault>
         requires { meter.old.tie ≡ self.now.tie }
-        ensures len { (c : Open) → StandsForConnections self.now c
-            → result ≡ pending_count (pending_on (live_connection id c.all)) }
-        ensures cost { PaysAtMost meter.old meter.new
-            (find_cost (length self.now.slots) + 1) }
+        ensures len { Shows StandsForConnections (λ c. pending_count (pending_at id c)) self.now result }
+        ensures cost { PaysAtMost meter.old meter.new (look_cost self.now + 1) }
     {
         let Some(slot) = self.first(Wanted::Live(id), meter) else {
             return Err(CoreFault::Gone);
@@ -330,12 +318,9 @@ impl Connections {
     /// none: `Gone` where there is no such connection.
     pub fn pending(&self, id: u64, meter: &mut Meter) -> Result<&[u8], CoreFault>
         requires { meter.old.tie ≡ self.now.tie }
-        ensures lent { (c : Open) → StandsForConnections self.now c
-            → MatchResult result (λ bytes. pending_on (live_connection id c.all) ≡ Ok bytes.now)
-            (λ fault. pending_on (live_connection id c.all) ≡ Err fault) }
+        ensures lent { Lends StandsForConnections (pending_at id) self.now result }
         ensures few { IfOk result (λ bytes. length bytes.now ≤ longest_fragment) }
-        ensures cost { PaysAtMost meter.old meter.new
-            (find_cost (length self.now.slots) + pending_cost) }
+        ensures cost { PaysAtMost meter.old meter.new (look_cost self.now + pending_cost) }
     {
         let Some(slot) = self.first(Wanted::Live(id), meter) else {
             return Err(CoreFault::Gone);
@@ -346,8 +331,8 @@ impl Connections {
     /// The least number of those that are Lost.
     pub fn next_lost(&self, meter: &mut Meter) -> Option<u64>
         requires { meter.old.tie ≡ self.now.tie }
-        ensures lost { (c : Open) → StandsForConnections self.now c → result ≡ first_lost c }
-        ensures cost { PaysAtMost meter.old meter.new (find_cost (length self.now.slots)) }
+        ensures lost { Shows StandsForConnections first_lost self.now result }
+        ensures cost { PaysAtMost meter.old meter.new (look_cost self.now) }
     {
         match self.first(Wanted::AnyLost, meter) {
             Some(slot) => Some(slot.number),

@@ -57,16 +57,15 @@ fn are_good(limits: &Limits) -> bool
 }
 
 impl Core {
-    ghost use Rattle.std.specs.Prelude.{◌≡◌, ◌+◌, ◌*◌, ◌≤◌, ◌↔◌, ℕ, length, IsTrue, IfOk, IfErr, IsErrOf, OnErr, MatchResult, Ok, Err, not};
+    ghost use Rattle.std.specs.Prelude.{◌≡◌, ◌+◌, ◌*◌, ◌≤◌, ◌↔◌, ℕ, length, IsTrue, IfOk, IfErr, IsErrOf, OnErr, not};
     ghost use Rattle.rb_xdr.specs.Meter.{Pays, PaysAtMost};
-    ghost use Rattle.rb_registry.specs.Registry.{rows_of};
-    ghost use Rattle.rb_core.specs.State.{State, are_good, opening};
+    ghost use Rattle.rb_core.specs.State.{are_good, opening};
     ghost use Rattle.rb_core.specs.Calls.{longest_reply};
     ghost use Rattle.rb_core.specs.Giving.{longest_fragment};
-    ghost use Rattle.rb_core.specs.Step.{datagram, open_connection, bytes, answering, pending, pending_count, gave, close_connection, next_lost};
-    ghost use Rattle.rb_core.specs.Slots.{Acts};
-    ghost use Rattle.rb_core.specs.StandsFor.{StandsFor, outcome_with};
-    ghost use Rattle.rb_core.specs.Costs.{find_cost, pending_cost, give_cost, serve_cost, settle_cost, answer_cost, taking_cost, NoRecordEnds};
+    ghost use Rattle.rb_core.specs.Step.{datagram, open_connection, bytes, pending, pending_count, gave, close_connection, next_lost};
+    ghost use Rattle.rb_core.specs.Slots.{Acts, Shows, Lends};
+    ghost use Rattle.rb_core.specs.StandsFor.{StandsFor, ActsWithReply, answering_heard, context_of, answering_cost, bytes_cost, IsCheapIfQuiet};
+    ghost use Rattle.rb_core.specs.Costs.{look_cost, serving_cost, pending_cost, give_cost};
 
     /// A core with the daemon's own rows alone, at the moment `now` (milliseconds since the start of 1970).
     /// `first_xid` is the number of the first call that it forwards. `BadLimits` where a limit is out of its
@@ -117,12 +116,7 @@ impl Core {
 
     /// What a call from a caller sees.
     fn context(&self, caller: Caller) -> Context
-        ensures { result ≡ record {
-          listener = self.now.setting.listener;
-          limit = self.now.setting.limits.rows;
-          clock = self.now.clock;
-          caller = caller;
-        } }
+        ensures { result ≡ context_of self.now caller }
     {
         Context {
             listener: self.listener,
@@ -135,12 +129,10 @@ impl Core {
     /// Takes a datagram in. The reply is that of `udp_reply`.
     pub fn datagram(&mut self, now: u64, peer: Peer, content: &[u8], meter: &mut Meter) -> Outcome
         requires { meter.old.tie ≡ self.old.tie }
-        ensures acts { Acts StandsFor (λ s. datagram s now peer content.now)
-            self.old self.new (outcome_with result self.new.reply) }
+        ensures acts { ActsWithReply (λ s. datagram s now peer content.now) self.old self.new result }
         ensures tie { self.new.tie ≡ self.old.tie }
         ensures short { length self.new.reply ≤ longest_reply }
-        ensures cost { PaysAtMost meter.old meter.new (1 + serve_cost
-            (length (rows_of self.old.books.registry)) (length (rows_of self.new.books.registry))) }
+        ensures cost { PaysAtMost meter.old meter.new (1 + serving_cost self.old.books self.new.books) }
     {
         self.clock = self.clock.max(now);
         let context = self.context(Caller::Udp(peer));
@@ -158,7 +150,7 @@ impl Core {
     pub fn udp_reply(&self, meter: &mut Meter) -> &[u8]
         requires { meter.old.tie ≡ self.now.tie }
         ensures held { result.now ≡ self.now.reply }
-        ensures reply { (s : State) → StandsFor self.now s → result.now ≡ s.reply }
+        ensures reply { Shows StandsFor (λ s. s.reply) self.now result.now }
         ensures cost { Pays meter.old meter.new (1 + length self.now.reply) }
     {
         let len = self.reply.len(meter);
@@ -195,13 +187,8 @@ impl Core {
         ensures within { IfOk result (λ taken. taken.count ≤ length piece.now) }
         ensures refused { OnErr result (self.new ≡ self.old) }
         ensures tie { self.new.tie ≡ self.old.tie }
-        ensures cost { PaysAtMost meter.old meter.new
-            (find_cost (length self.old.connections.slots) + taking_cost result + answer_cost
-            (length self.old.connections.slots)
-            (length (rows_of self.old.books.registry)) (length (rows_of self.new.books.registry))) }
-        ensures cheap { (s : State) → StandsFor self.old s → NoRecordEnds s id piece.now
-            → PaysAtMost meter.old meter.new
-            (find_cost (length self.old.connections.slots) + taking_cost result) }
+        ensures cost { PaysAtMost meter.old meter.new (bytes_cost self.old self.new result) }
+        ensures cheap { IsCheapIfQuiet self.old id piece.now result meter.old meter.new }
     {
         let clock = self.clock.max(now);
         let Received { count, heard } = self.connections.take(id, piece, clock, meter)?;
@@ -220,12 +207,9 @@ impl Core {
     #[tactic(auto, unfolding(crate::specs::Calls::longest_reply, crate::specs::Reading::longest_arguments, crate::specs::Reading::buffer_size))]
     fn answer(&mut self, id: u64, heard: Heard, meter: &mut Meter) -> bool
         requires { meter.old.tie ≡ self.old.tie }
-        ensures acts { Acts StandsFor (λ s. answering s id heard.peer heard.message)
-            self.old self.new result }
+        ensures acts { Acts StandsFor (answering_heard id heard) self.old self.new result }
         ensures tie { self.new.tie ≡ self.old.tie }
-        ensures cost { PaysAtMost meter.old meter.new (serve_cost
-            (length (rows_of self.old.books.registry)) (length (rows_of self.new.books.registry))
-            + settle_cost (length self.old.connections.slots)) }
+        ensures cost { PaysAtMost meter.old meter.new (answering_cost self.old self.new) }
     {
         let context = self.context(Caller::Tcp(id, heard.peer));
         let outcome = serve(
@@ -243,9 +227,8 @@ impl Core {
     /// How many bytes are pending on a connection. `Gone` where there is no such connection, or it is Lost.
     pub(crate) fn pending_len(&self, id: u64, meter: &mut Meter) -> Result<usize, CoreFault>
         requires { meter.old.tie ≡ self.now.tie }
-        ensures len { (s : State) → StandsFor self.now s → result ≡ pending_count (pending s id) }
-        ensures cost { PaysAtMost meter.old meter.new
-            (find_cost (length self.now.connections.slots) + 1) }
+        ensures len { Shows StandsFor (λ s. pending_count (pending s id)) self.now result }
+        ensures cost { PaysAtMost meter.old meter.new (look_cost self.now.connections + 1) }
     {
         self.connections.pending_len(id, meter)
     }
@@ -254,12 +237,9 @@ impl Core {
     /// there is no such connection, or it is Lost.
     pub fn pending(&self, id: u64, meter: &mut Meter) -> Result<&[u8], CoreFault>
         requires { meter.old.tie ≡ self.now.tie }
-        ensures lent { (s : State) → StandsFor self.now s
-            → MatchResult result (λ bytes. pending s id ≡ Ok bytes.now)
-            (λ fault. pending s id ≡ Err fault) }
+        ensures lent { Lends StandsFor (λ s. pending s id) self.now result }
         ensures few { IfOk result (λ bytes. length bytes.now ≤ longest_fragment) }
-        ensures cost { PaysAtMost meter.old meter.new
-            (find_cost (length self.now.connections.slots) + pending_cost) }
+        ensures cost { PaysAtMost meter.old meter.new (look_cost self.now.connections + pending_cost) }
     {
         self.connections.pending(id, meter)
     }
@@ -271,8 +251,7 @@ impl Core {
         ensures acts { Acts StandsFor (λ s. gave s now id n) self.old self.new result }
         ensures refused { OnErr result (self.new ≡ self.old) }
         ensures tie { self.new.tie ≡ self.old.tie }
-        ensures cost { PaysAtMost meter.old meter.new
-            (find_cost (length self.old.connections.slots) + give_cost) }
+        ensures cost { PaysAtMost meter.old meter.new (look_cost self.old.connections + give_cost) }
     {
         let clock = self.clock.max(now);
         self.connections.give(id, n, clock, meter)?;
@@ -286,8 +265,7 @@ impl Core {
         ensures acts { Acts StandsFor (λ s. close_connection s id) self.old self.new result }
         ensures refused { OnErr result (self.new ≡ self.old) }
         ensures tie { self.new.tie ≡ self.old.tie }
-        ensures cost { PaysAtMost meter.old meter.new
-            (find_cost (length self.old.connections.slots) + 3) }
+        ensures cost { PaysAtMost meter.old meter.new (look_cost self.old.connections + 3) }
     {
         self.connections.close(id, meter)
     }
@@ -295,9 +273,8 @@ impl Core {
     /// The least number of the connections that are Lost. They are to be closed.
     pub fn next_lost(&self, meter: &mut Meter) -> Option<u64>
         requires { meter.old.tie ≡ self.now.tie }
-        ensures lost { (s : State) → StandsFor self.now s → result ≡ next_lost s }
-        ensures cost { PaysAtMost meter.old meter.new
-            (find_cost (length self.now.connections.slots)) }
+        ensures lost { Shows StandsFor next_lost self.now result }
+        ensures cost { PaysAtMost meter.old meter.new (look_cost self.now.connections) }
     {
         self.connections.next_lost(meter)
     }

@@ -26,4 +26,3 @@ pub use rb_xdr::NoMemory;
 pub use reading::kept_bytes_say_the_record;
 pub use run::{Event, Output, replay};
 pub use types::{CoreFault, Limits, Outcome, Taken};
-

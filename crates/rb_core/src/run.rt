@@ -1,11 +1,12 @@
 //! Runs: lists of events.
-ghost use Rattle.std.specs.Prelude.{◌≡◌, ◌<◌, ◌*◌, ◌+◌, ℕ, length, take, IfOk, OnOk, OnErr};
+ghost use Rattle.std.specs.Prelude.{◌≡◌, ◌<◌, ◌+◌, ℕ, length, take, OnOk, OnErr};
 ghost use Rattle.rb_core.specs.State.{State};
 ghost use Rattle.rb_core.specs.Step.{show_taken, pending, is_too_much};
 ghost use Rattle.rb_core.specs.Step.Event.{Open, Bytes, Pending, Gave, Closed, NextLost, Datagram};
-ghost use Rattle.rb_core.specs.StandsFor.{StandsFor, event_of, output_of, events_of, outputs_of, HasHappened, Happened};
+ghost use Rattle.rb_core.specs.StandsFor.{StandsFor, event_of, output_of, events_of, outputs_of, HasHappened, MayHappen, Happened, PaysForRun};
 ghost use Rattle.rb_xdr.specs.Meter.{PaysAtMost};
-ghost use Rattle.rb_core.specs.Costs.{find_cost, run_cost};
+ghost use Rattle.rb_core.specs.Slots.{Shows};
+ghost use Rattle.rb_core.specs.Costs.{look_cost};
 
 use crate::connections::LONGEST_FRAGMENT;
 use crate::engine::Core;
@@ -96,8 +97,7 @@ fn show_taken(taken: Taken) -> Output
 #[tactic(auto, unfolding(crate::specs::Step::step, crate::specs::Giving::longest_fragment))]
 fn pending(alloc: Global, core: &Core, id: u64, meter: &mut Meter) -> Result<Output, NoMemory>
     requires { meter.old.tie ≡ core.now.tie }
-    ensures happens { IfOk result
-        (λ given. HasHappened (Pending id) core.now core.now meter.old meter.new given) }
+    ensures ok { MayHappen (Pending id) core.now core.now meter.old meter.new result }
     ensures free { OnErr result (meter.new ≡ meter.old) }
 {
     let Ok(mut copy) = Vec::with_capacity(alloc, LONGEST_FRAGMENT) else {
@@ -114,9 +114,8 @@ fn pending(alloc: Global, core: &Core, id: u64, meter: &mut Meter) -> Result<Out
 
 fn is_too_much(core: &Core, id: u64, n: u64, meter: &mut Meter) -> bool
     requires { meter.old.tie ≡ core.now.tie }
-    ensures value { (s : State) → StandsFor core.now s → result ≡ is_too_much n (pending s id) }
-    ensures cost { PaysAtMost meter.old meter.new
-        (find_cost (length core.now.connections.slots) + 1) }
+    ensures value { Shows StandsFor (λ s. is_too_much n (pending s id)) core.now result }
+    ensures cost { PaysAtMost meter.old meter.new (look_cost core.now.connections + 1) }
 {
     match core.pending_len(id, meter) {
         Ok(len) => (len as u64) < n,
@@ -167,8 +166,7 @@ fn datagram(
     meter: &mut Meter,
 ) -> Result<Output, NoMemory>
     requires { meter.old.tie ≡ core.old.tie }
-    ensures happens { IfOk result (λ given. HasHappened (Datagram now peer content.now)
-        core.old core.new meter.old meter.new given) }
+    ensures ok { MayHappen (Datagram now peer content.now) core.old core.new meter.old meter.new result }
     ensures err { OnErr result (core.new ≡ core.old) }
     ensures free { OnErr result (meter.new ≡ meter.old) }
 {
@@ -193,8 +191,7 @@ fn happen(
     meter: &mut Meter,
 ) -> Result<Output, NoMemory>
     requires { meter.old.tie ≡ core.old.tie }
-    ensures happens { IfOk result (λ given. HasHappened (event_of event.now)
-        core.old core.new meter.old meter.new given) }
+    ensures ok { MayHappen (event_of event.now) core.old core.new meter.old meter.new result }
     ensures err { OnErr result (core.new ≡ core.old) }
     ensures free { OnErr result (meter.new ≡ meter.old) }
 {
@@ -224,8 +221,7 @@ pub fn replay(
     ensures some { (s : State) → StandsFor core.old s → OnErr result ((n : ℕ) × (n < length events.now)
         × Happened s (take n (events_of events.now)) (outputs_of out.old.items) (outputs_of out.new.items) core.new) }
     ensures tie { core.new.tie ≡ core.old.tie }
-    ensures cost { (s : State) → StandsFor core.old s
-        → PaysAtMost meter.old meter.new (run_cost s (events_of events.now)) }
+    ensures cost { PaysForRun core.old (events_of events.now) meter.old meter.new }
     ensures same_meter { meter.new.tie ≡ meter.old.tie }
 {
     for event in events {

@@ -1,14 +1,12 @@
 //! Serves a message: what it is answered with, and what is remembered of it.
-ghost use Rattle.std.specs.Prelude.{◌≡◌, ◌<◌, ◌≤◌, ◌+◌, ◌*◌, ◌++◌, [], length};
+ghost use Rattle.std.specs.Prelude.{◌≡◌, ◌<◌, ◌≤◌, [], length};
 ghost use Rattle.rb_rpc.specs.Replies.{reply_head};
-ghost use Rattle.rb_registry.specs.Registry.{rows_of};
 ghost use Rattle.rb_xdr.specs.Meter.{PaysAtMost};
 ghost use Rattle.rb_proto.specs.Ledger.{ActsAs, AreTied, Ledger, SameFrame, StandsForLedger};
 ghost use Rattle.rb_proto.specs.Results.{results_at, shown_in, shown_of};
-ghost use Rattle.rb_proto.specs.Puts.{statistics_cost};
-ghost use Rattle.rb_core.specs.Calls.{outcome, fitting, longest_reply};
-ghost use Rattle.rb_core.specs.StandsFor.{outcome_with};
-ghost use Rattle.rb_core.specs.Costs.{serve_cost};
+ghost use Rattle.rb_core.specs.Calls.{outcome, success, longest_reply};
+ghost use Rattle.rb_core.specs.StandsFor.{given_in};
+ghost use Rattle.rb_core.specs.Costs.{put_results_cost, serving_cost};
 
 use crate::message::Message;
 use crate::types::Outcome;
@@ -49,16 +47,13 @@ fn put_results(
     requires tie { meter.old.tie ≡ out.old.tie }
     requires empty { out.old.bytes ≡ [] }
     requires room { longest_reply ≤ out.old.cap }
-    ensures written { out.new ≡ record out.old {
-      bytes = fitting xid (reply_head xid ReplyStatus.Success
-          ++ results_at listener.now books.now answer.now);
-    } }
+    ensures written { out.new.bytes ≡ success xid (results_at listener.now books.now answer.now) }
+    ensures out { (out.new.cap ≡ out.old.cap) × (out.new.tie ≡ out.old.tie) }
     ensures shows { (l : Ledger) → StandsForLedger books.now l
         → shown_in books.now ≡ shown_of l }
     ensures short { length out.new.bytes ≤ longest_reply }
     ensures some { 0 < length out.new.bytes }
-    ensures cost { PaysAtMost meter.old meter.new
-        (4 * length (rows_of books.now.registry) + 9038 + statistics_cost) }
+    ensures cost { PaysAtMost meter.old meter.new (put_results_cost books.now) }
 {
     put_head(
         out,
@@ -95,15 +90,13 @@ pub fn serve(
     requires tie { meter.old.tie ≡ out.old.tie }
     requires empty { out.old.bytes ≡ [] }
     requires room { longest_reply ≤ out.old.cap }
-    ensures acts { ActsAs (outcome context.now message) books.old books.new
-        (outcome_with result out.new.bytes) }
+    ensures acts { ActsAs (outcome context.now message) books.old books.new (given_in result out.new) }
     ensures frame { SameFrame books.old books.new }
     ensures short { length out.new.bytes ≤ longest_reply }
     ensures some { result ≡ Outcome.Reply → 0 < length out.new.bytes }
     ensures none { result ≡ Outcome.NoCall → out.new.bytes ≡ [] }
     ensures out { (out.new.cap ≡ out.old.cap) × (out.new.tie ≡ out.old.tie) }
-    ensures cost { PaysAtMost meter.old meter.new
-        (serve_cost (length (rows_of books.old.registry)) (length (rows_of books.new.registry))) }
+    ensures cost { PaysAtMost meter.old meter.new (serving_cost books.old books.new) }
 {
     match message {
         Message::NoCall => Outcome::NoCall,

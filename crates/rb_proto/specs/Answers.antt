@@ -17,6 +17,7 @@ use Rattle.rb_stats.specs.Statistics.Note.{WasSet, WasUnset, LookedUp}
 use Rattle.rb_proto.specs.declared.mapping.Mapping.{Mapping}
 use Rattle.rb_proto.specs.declared.rpcb.Rpcb.{Rpcb}
 use Rattle.rb_proto.specs.declared.netbuf.Netbuf.{Netbuf}
+use Rattle.rb_proto.specs.declared.procedure.VoidProcedure.{VoidProcedure}
 use Rattle.rb_proto.specs.declared.procedure.VoidProcedure.TheVariants as voids
 use Rattle.rb_proto.specs.declared.procedure.MappingProcedure.TheVariants as mappings
 use Rattle.rb_proto.specs.declared.procedure.RpcbProcedure.TheVariants as rpcbs
@@ -133,11 +134,14 @@ port_on head m (Some netid) l =
 unfoldable pub getport : CallHead → Mapping → Ledger → ℕ × Ledger
 getport head m l = port_on head m (netid_of_prot m.prot) l
 
--- the address of the row that was looked up, on the transport on which the call came; r_netid, r_addr and r_owner are
--- ignored
+-- what is asked for, on the transport on which the call came; r_netid, r_addr and r_owner are ignored
+abbrev pub target_of : Context → Rpcb → Target
+target_of context r = record { prog = r.prog; vers = r.vers; netid = netid_of context.caller }
+
+-- the address of the row that was looked up
 abbrev pub addr_told : Context → CallHead → Rpcb → Option Row → Ledger → List ℕ × Ledger
 addr_told context head r found l =
-    (addr_found context.listener.host found, looked_up head (record { prog = r.prog; vers = r.vers; netid = netid_of context.caller }) found l)
+    (addr_found context.listener.host found, looked_up head (target_of context r) found l)
 
 -- RPCBPROC_GETADDR
 unfoldable pub getaddr : Context → CallHead → Rpcb → Ledger → List ℕ × Ledger
@@ -175,14 +179,18 @@ tell_rows listing l = (Rows listing, l)
 abbrev pub tell_done : {A : Type 0} → (A → Value) → A × Ledger → Answer × Ledger
 tell_done value done = (Results (value done.0), done.1)
 
+-- what a procedure without arguments is answered, and the ledger stays
+abbrev pub answer_void : Context → VoidProcedure → Answer
+answer_void context voids.Null = Results values.Void
+answer_void context voids.PmapDump = Rows Mappings
+answer_void context voids.Dump = Rows Rpcbs
+answer_void context voids.Gettime = Results (values.Number (seconds context.clock))
+answer_void context voids.Getstat = Statistics
+
 -- What a call of this head is answered that asks for this, and what it leaves behind. SET, UNSET and the look-ups note
 -- what they did.
 abbrev pub answer_to : Context → CallHead → Request → Ledger → Answer × Ledger
-answer_to context head (requests.Void voids.Null) l = tell values.Void l
-answer_to context head (requests.Void voids.PmapDump) l = tell_rows Mappings l
-answer_to context head (requests.Void voids.Dump) l = tell_rows Rpcbs l
-answer_to context head (requests.Void voids.Gettime) l = tell (values.Number (seconds context.clock)) l
-answer_to context head (requests.Void voids.Getstat) l = (Statistics, l)
+answer_to context head (requests.Void procedure) l = (answer_void context procedure, l)
 answer_to context head (requests.Mapping mappings.Set m) l = tell_done values.Bool (set_row context head (row_of_mapping (owner_of head.cred) m) l)
 answer_to context head (requests.Mapping mappings.Unset m) l = tell_done values.Bool (unset_rows context head m.prog m.vers (Some Inet) l)
 answer_to context head (requests.Mapping mappings.Getport m) l = tell_done values.Number (getport head m l)

@@ -46,6 +46,10 @@ pub record StandsForLedger (books : Books) (l : Ledger) : Type 0 where
   pub registry : StandsForChanges books.registry l.own l.changes
   pub stats : StandsForHistory books.stats l.history
 
+-- From each ledger that the books stood for, they stand for what it becomes.
+abbrev pub Becomes : (Ledger → Ledger) → Books → Books → Type 0
+Becomes change old new = (l : Ledger) → StandsForLedger old l → StandsForLedger new (change l)
+
 -- An act on a ledger that gives something. From each ledger that the books stood for, it gives this result; they stand
 -- for the ledger after it, and the registry is as it was where the changes are.
 pub record ActsAs {A : Type 0} (act : Ledger → A × Ledger) (old new : Books) (result : A) : Type 0 where

@@ -43,7 +43,7 @@ impl Books {
     ghost use Rattle.std.specs.Prelude.{◌≡◌, ◌<◌, ◌↔◌, IfOk, IsErrOf};
     ghost use Rattle.rb_xdr.specs.Meter.{PaysAtMost};
     ghost use Rattle.rb_proto.specs.Callers.{own_rows};
-    ghost use Rattle.rb_proto.specs.Ledger.{Ledger, StandsForLedger, AreTied, SameFrame, fresh_ledger, called};
+    ghost use Rattle.rb_proto.specs.Ledger.{StandsForLedger, Becomes, AreTied, SameFrame, fresh_ledger, called};
 
     /// Nothing was called: the listener's own rows are there, of at most `limit`. BadLimits where they are more, else
     /// NoMemory where an allocation is refused.
@@ -69,8 +69,7 @@ impl Books {
     /// read (RFC 1833 section 2.1, rpcb_stat).
     #[tactic(auto, unfolding(crate::specs::Ledger::called))]
     pub fn note_call(&mut self, head: &CallHead)
-        ensures called { (l : Ledger) → StandsForLedger self.old l
-            → StandsForLedger self.new (called head.now l) }
+        ensures called { Becomes (called head.now) self.old self.new }
         ensures registry { self.new.registry ≡ self.old.registry }
         ensures frame { SameFrame self.old self.new }
     {

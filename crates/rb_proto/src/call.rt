@@ -1,11 +1,9 @@
 //! A call, and what it is answered (RFC 1833 sections 2.2 and 3.2).
-ghost use Rattle.std.specs.Prelude.{◌≡◌, ◌+◌, ◌*◌, length};
+ghost use Rattle.std.specs.Prelude.{◌≡◌};
 ghost use Rattle.rb_xdr.specs.Meter.{PaysAtMost};
-ghost use Rattle.rb_registry.specs.Registry.{rows_of};
-ghost use Rattle.rb_proto.specs.Ledger.{Ledger, ActsAs, AreTied, SameFrame};
-ghost use Rattle.rb_proto.specs.Answers.{answer_to, answer};
-ghost use Rattle.rb_proto.specs.declared.request.Request.TheVariants.{Void};
-ghost use Rattle.rb_proto.specs.Puts.{note_cost};
+ghost use Rattle.rb_proto.specs.Ledger.{ActsAs, AreTied, SameFrame};
+ghost use Rattle.rb_proto.specs.Answers.{answer, answer_void};
+ghost use Rattle.rb_proto.specs.Puts.{call_cost};
 
 use crate::answers::{Answer, Listing, Value};
 use crate::books::{Books, owner_of};
@@ -26,12 +24,9 @@ pub struct Call {
     pub request: Request,
 }
 
-/// What a procedure without arguments is answered. It leaves nothing behind.
-fn answer_void(context: &Context, procedure: VoidProcedure) -> Answer
-    ensures answer { (head : CallHead) (l : Ledger)
-        → result ≡ (answer_to context.now head (Void procedure) l).0 }
-    ensures same { (head : CallHead) (l : Ledger)
-        → (answer_to context.now head (Void procedure) l).1 ≡ l }
+/// Answers a procedure without arguments.
+fn answer_void(procedure: VoidProcedure, context: &Context) -> Answer
+    ensures { result ≡ answer_void context.now procedure }
 {
     match procedure {
         VoidProcedure::Null => Answer::Results(Value::Void),
@@ -50,19 +45,18 @@ pub fn answer(books: &mut Books, context: &Context, call: Call, meter: &mut Mete
     requires limit { books.old.registry.limit ≡ context.now.limit }
     ensures acts { ActsAs (answer context.now call) books.old books.new result }
     ensures frame { SameFrame books.old books.new }
-    ensures cost { PaysAtMost meter.old meter.new
-        (4 * length (rows_of books.old.registry) + 4 + note_cost) }
+    ensures cost { PaysAtMost meter.old meter.new (call_cost books.old) }
 {
     let Call { head, request } = call;
     match request {
-        Request::Void(procedure) => answer_void(context, procedure),
+        Request::Void(procedure) => answer_void(procedure, context),
         Request::Mapping(MappingProcedure::Set, mapping) => {
             let row = row_of_mapping(owner_of(head.cred), &mapping);
             Answer::Results(Value::Bool(set_row(books, context, &head, row, meter)))
         }
         Request::Mapping(MappingProcedure::Unset, mapping) => {
-            let which = Some(Which::Inet);
             let (prog, vers) = (mapping.prog, mapping.vers);
+            let which = Some(Which::Inet);
             let done = unset_rows(books, context, &head, prog, vers, which, meter);
             Answer::Results(Value::Bool(done))
         }
@@ -83,7 +77,8 @@ pub fn answer(books: &mut Books, context: &Context, call: Call, meter: &mut Mete
             Answer::Results(Value::Text(getaddr(books, context, &head, &rpcb, meter)))
         }
         Request::Rpcb(RpcbProcedure::Getversaddr, rpcb) => {
-            Answer::Results(Value::Text(getversaddr(books, context, &head, &rpcb, meter)))
+            let addr = getversaddr(books, context, &head, &rpcb, meter);
+            Answer::Results(Value::Text(addr))
         }
         Request::Rpcb(RpcbProcedure::Getaddrlist, rpcb) => {
             Answer::Rows(Listing::Entries(rpcb.prog, rpcb.vers))

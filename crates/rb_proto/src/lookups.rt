@@ -1,13 +1,11 @@
 //! The procedures that look something up, or turn an address into another form (RFC 1833 sections 2.2 and 3.2).
-ghost use Rattle.std.specs.Prelude.{◌≡◌, ◌+◌, ◌*◌, ◌++◌, ◌∷◌, [], length, List, option_copied};
+ghost use Rattle.std.specs.Prelude.{◌≡◌, ◌+◌, option_copied};
 ghost use Rattle.rb_xdr.specs.Meter.{PaysAtMost};
-ghost use Rattle.rb_registry.specs.Registry.{rows_of};
 ghost use Rattle.rb_proto.specs.Ledger.{ActsAs, AreTied, SameFrame, version_of};
-ghost use Rattle.rb_stats.specs.Statistics.{Note};
 ghost use Rattle.rb_stats.specs.Statistics.Note.{LookedUp};
-ghost use Rattle.rb_stats.specs.Stats.{StandsForHistory};
-ghost use Rattle.rb_proto.specs.Answers.{shown_text, shown_port, port_found, addr_found, getport, getaddr, getversaddr, seconds, taddr_of, uaddr_of};
-ghost use Rattle.rb_proto.specs.Puts.{note_cost};
+ghost use Rattle.rb_stats.specs.Stats.{HasNoted};
+ghost use Rattle.rb_proto.specs.Answers.{shown_text, shown_port, port_found, addr_found, getport, getaddr, getversaddr, target_of, seconds, taddr_of, uaddr_of};
+ghost use Rattle.rb_proto.specs.Puts.{note_cost, call_cost};
 
 use crate::books::{Books, version_of};
 use crate::context::Context;
@@ -63,12 +61,21 @@ fn addr_found(host: [u8; 4], found: Option<&Row>) -> Text<128>
     }
 }
 
+/// What a call asks for on its own transport.
+fn target_of(context: &Context, rpcb: &Rpcb) -> Target
+    ensures { result ≡ target_of context.now rpcb.now }
+{
+    Target {
+        prog: rpcb.prog,
+        vers: rpcb.vers,
+        netid: context.netid(),
+    }
+}
+
 /// Notes a look-up, in a call of this head, with whether it found a row.
 fn note_lookup(stats: &mut Stats, head: &CallHead, target: Target, found: bool, meter: &mut Meter)
     requires { meter.old.tie ≡ stats.old.tie }
-    ensures history { (notes : List Note) → StandsForHistory stats.old notes
-        → StandsForHistory stats.new
-        (notes ++ LookedUp (version_of head.now.vers) target found ∷ []) }
+    ensures history { HasNoted (LookedUp (version_of head.now.vers) target found) stats.old stats.new }
     ensures tie { stats.new.tie ≡ stats.old.tie }
     ensures cost { PaysAtMost meter.old meter.new (note_cost + 2) }
 {
@@ -87,8 +94,7 @@ pub(crate) fn getport(
     requires { AreTied meter.old.tie books.old }
     ensures acts { ActsAs (getport head.now mapping.now) books.old books.new result }
     ensures frame { SameFrame books.old books.new }
-    ensures cost { PaysAtMost meter.old meter.new
-        (4 * length (rows_of books.old.registry) + 4 + note_cost) }
+    ensures cost { PaysAtMost meter.old meter.new (call_cost books.old) }
 {
     let Some(netid) = netid_of_prot(mapping.prot) else {
         return 0;
@@ -119,18 +125,13 @@ pub(crate) fn getaddr(
     requires { AreTied meter.old.tie books.old }
     ensures acts { ActsAs (getaddr context.now head.now rpcb.now) books.old books.new result }
     ensures frame { SameFrame books.old books.new }
-    ensures cost { PaysAtMost meter.old meter.new
-        (4 * length (rows_of books.old.registry) + 4 + note_cost) }
+    ensures cost { PaysAtMost meter.old meter.new (call_cost books.old) }
 {
     let found = books
         .registry
         .find(rpcb.prog, rpcb.vers, context.netid(), meter);
     let addr = addr_found(context.listener.host, found);
-    let target = Target {
-        prog: rpcb.prog,
-        vers: rpcb.vers,
-        netid: context.netid(),
-    };
+    let target = target_of(context, rpcb);
     note_lookup(&mut books.stats, head, target, found.is_some(), meter);
     addr
 }
@@ -147,18 +148,13 @@ pub(crate) fn getversaddr(
     requires { AreTied meter.old.tie books.old }
     ensures acts { ActsAs (getversaddr context.now head.now rpcb.now) books.old books.new result }
     ensures frame { SameFrame books.old books.new }
-    ensures cost { PaysAtMost meter.old meter.new
-        (4 * length (rows_of books.old.registry) + 4 + note_cost) }
+    ensures cost { PaysAtMost meter.old meter.new (call_cost books.old) }
 {
     let found = books
         .registry
         .find_exact(rpcb.prog, rpcb.vers, context.netid(), meter);
     let addr = addr_found(context.listener.host, found);
-    let target = Target {
-        prog: rpcb.prog,
-        vers: rpcb.vers,
-        netid: context.netid(),
-    };
+    let target = target_of(context, rpcb);
     note_lookup(&mut books.stats, head, target, found.is_some(), meter);
     addr
 }

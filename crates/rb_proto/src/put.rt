@@ -5,7 +5,7 @@ ghost use Rattle.rb_registry.specs.Registry.{rows_of};
 ghost use Rattle.rb_stats.specs.Stats.{spelling};
 ghost use Rattle.rb_proto.specs.Ledger.{Ledger, StandsForLedger, AreTied};
 ghost use Rattle.rb_xdr.specs.Puts.{Puts};
-ghost use Rattle.rb_proto.specs.Puts.{put_cost, list_cost, statistics_cost};
+ghost use Rattle.rb_proto.specs.Puts.{put_cost, list_cost, statistics_cost, results_cost};
 ghost use Rattle.rb_proto.specs.Results.{value_bytes, results_at, row_bytes, rows_bytes, shown_in, shown_of};
 
 use crate::answers::{Answer, Listing, Value};
@@ -143,8 +143,7 @@ pub fn put_answer(
     ensures shows { (l : Ledger) → StandsForLedger books.now l
         → shown_in books.now ≡ shown_of l }
     ensures within { length out.old.bytes ≤ limit → length out.new.bytes ≤ limit }
-    ensures cost { PaysAtMost meter.old meter.new
-        (list_cost books.now.registry out.old out.new + statistics_cost) }
+    ensures cost { PaysAtMost meter.old meter.new (results_cost books.now out.old out.new) }
 {
     match answer {
         Answer::Results(value) => put_value(value, limit, out, meter),

@@ -1,5 +1,6 @@
 use rb_feed::CallFeed;
 use rb_rpc::{CallHead, Credential, Verdict, read_call};
+use std::mem::size_of;
 use std::test::Fail;
 
 // SET of version 4 by AUTH_SYS with uid 500, and the first word of its arguments.
@@ -37,4 +38,10 @@ fn other_words_are_loaded(rt: HostRuntime) -> Result<(), Fail> {
     let feed = CallFeed::load([7; 16]);
     assert_eq!(rt; feed.end(), Verdict::NoCall);
     Ok(())
+}
+
+// A call that is being read is kept as its feed, beside its arguments.
+#[test]
+fn a_feed_has_at_most_64_bytes(rt: HostRuntime) {
+    assert!(rt; size_of::<CallFeed>() <= 64);
 }

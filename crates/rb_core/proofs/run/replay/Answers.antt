@@ -10,12 +10,12 @@ loop-event-preserved c =
     let items : c.push.new.self.items ≡ c.loop-event.out.items ++ output ∷ [] = rw (c.push.ensures.items, c.unwrap.ensures, c.reserve.ensures.items) refl in
     let given : outputs_of c.push.new.self.items ≡ outputs_of c.loop-event.out.items ++ output_of output ∷ [] = ap outputs_of items ∙ map_push output_of c.loop-event.out.items output in
     record {
-      happened = λ s h. rw given (one_more s c.args.events.now c.loop-event.event-index c.event-item.result _ _ _ _ _ c.loop-event-test.true c.event-item.is (c.loop-event.invariant.happened s h) c.in_ok-output.ensures.happens.step);
-      tie = c.in_ok-output.ensures.happens.tie ∙ c.loop-event.invariant.tie;
-      meter = c.in_ok-output.ensures.happens.meter ∙ c.loop-event.invariant.meter;
+      happened = λ s h. rw given (one_more s c.args.events.now c.loop-event.event-index c.event-item.result _ _ _ _ _ c.loop-event-test.true c.event-item.is (c.loop-event.invariant.happened s h) c.in_ok-output.ensures.ok.step);
+      tie = c.in_ok-output.ensures.ok.tie ∙ c.loop-event.invariant.tie;
+      meter = c.in_ok-output.ensures.ok.meter ∙ c.loop-event.invariant.meter;
       cost = λ s h.
           let before = (c.loop-event.invariant.happened s h).state in
-          pays_more s c.args.events.now c.loop-event.event-index c.event-item.result _ _ _ c.loop-event-test.true c.event-item.is (c.loop-event.invariant.cost s h) (c.in_ok-output.ensures.happens.cost _ before);
+          pays_more s c.args.events.now c.loop-event.event-index c.event-item.result _ _ _ c.loop-event-test.true c.event-item.is (c.loop-event.invariant.cost s h) (c.in_ok-output.ensures.ok.cost _ before);
     }
 
 pub returns-in_default-clause-cost : goal.returns-in_default-clause-cost

@@ -1,5 +1,3 @@
-use Rattle.std.proofs.Common.{ap}
-use Rattle.rb_xdr.specs.Kept.{Kept}
 use Rattle.rb_core.proofs.Serving.{asked_acts}
 use Rattle.rb_core.proofs.serve.serve.Goals as goal
 
@@ -8,4 +6,4 @@ returns-in-Asked-clause-acts c =
     rw c.in-Asked.is (
     asked_acts c.args.context.now c.in-Asked.call c.args.books.now c.note_call-in-Asked.new.self c.answer-given.new.books c.answer-given.result _
     (record { stands = c.note_call-in-Asked.ensures.called; registry = c.note_call-in-Asked.ensures.registry }) c.answer-given.ensures.acts
-    (ap (λ (kept : Kept). kept.bytes) c.put_results.ensures.written) c.put_results.ensures.shows)
+    c.put_results.ensures.written c.put_results.ensures.shows)
