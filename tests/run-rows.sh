@@ -165,7 +165,7 @@ run_many_events() {
 # A word that is no text can't be read.
 run_word_without_text() {
     echo lost > "$work/events"
-    echo 'usage: rpcbind replay' > "$work/wanted"
+    echo 'rpcbind: a word is no text' > "$work/wanted"
     run "$work/events" $'\xff'
     as_wanted /dev/null "$work/wanted" 2
     judge $? "a word that is no text"
@@ -196,6 +196,50 @@ run_with_little_memory() {
     got=$?
     as_wanted /dev/null "$work/wanted" 1
     judge $? "an input that does not fit in memory"
+}
+
+# ---- the daemon, and help
+
+# The daemon says where it listens, and ends after its turns.
+run_three_turns() {
+    echo 'rpcbind: listening on 127.0.0.1 port 20112' > "$work/wanted"
+    run /dev/null serve --port 20112 --turns 3
+    as_wanted "$work/wanted" /dev/null 0
+    judge $? "three turns of the daemon"
+}
+
+run_daemon_with_bad_limits() {
+    echo 'rpcbind: bad limits' > "$work/wanted"
+    run /dev/null serve --port 20112 --turns 1 --conns 0
+    as_wanted /dev/null "$work/wanted" 1
+    judge $? "a daemon with limits out of their ranges"
+}
+
+# 192.0.2.1 is no address of this machine.
+run_daemon_elsewhere() {
+    echo 'rpcbind: socket failed' > "$work/wanted"
+    run /dev/null serve --bind 192.0.2.1 --port 20112 --turns 1
+    as_wanted /dev/null "$work/wanted" 1
+    judge $? "a daemon at an address that is not there"
+}
+
+# Help is printed with status 0, and names each of these options.
+run_help_of() {
+    local command=$1 option bad=0
+    shift
+    run /dev/null $command --help
+    [ "$got" -eq 0 ] && [ ! -s "$work/stderr" ] || bad=1
+    for option in "$@"; do
+        grep -q -e "--$option\b" "$work/stdout" || { echo "no --$option in the help of '$command'"; bad=1; }
+    done
+    judge $bad "the help of '$command'"
+}
+
+run_version() {
+    echo 'rpcbind 0.1.0' > "$work/wanted"
+    run /dev/null --version
+    as_wanted "$work/wanted" /dev/null 0
+    judge $? "the version"
 }
 
 # ---- rules of the repository
@@ -230,6 +274,13 @@ if [ -x "$program" ]; then
     run_full_device
     run_input_that_cannot_be_read
     run_with_little_memory
+    run_three_turns
+    run_daemon_with_bad_limits
+    run_daemon_elsewhere
+    run_help_of '' help version
+    run_help_of serve bind announce port conns rows forwards turns help version
+    run_help_of replay announce port conns rows forwards xid now help version
+    run_version
 else
     judge 1 "no program $program: run 'make' first"
 fi

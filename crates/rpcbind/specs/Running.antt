@@ -1,40 +1,32 @@
--- What `rpcbind replay` does with its words and its input.
-use Rattle.std.specs.Prelude.{◌≡◌, ℕ, ◌+◌, Bool, false, IsTrue, List, [], ◌∷◌, map, take, codes, string_bytes, String, Option, IfSome, Result, Ok, Err}
-use Rattle.std.specs.Str.{bytes_eq}
+-- What `rpcbind replay` does with its input.
+use Rattle.std.specs.Prelude.{◌≡◌, ℕ, ◌+◌, not, IsTrue, List, take, Option, IfSome, Result, Ok, Err}
 use Rattle.std.specs.Io.Buffered.{writer_contents}
 use Rattle.std.specs.declared.io.buffered.BufWriter.{BufWriter}
-use Rattle.rb_core.specs.State.{State, opening}
+use Rattle.rb_core.specs.State.{State, are_good, opening}
 use Rattle.rb_core.specs.Step.{Event}
 use Rattle.rb_core.specs.Run.{run}
 use Rattle.rpcbind.specs.declared.lines.ReadFault.{ReadFault}
 use Rattle.rpcbind.specs.declared.lines.ReadFault.TheVariants as reading
+use Rattle.rpcbind.specs.declared.running.Beginning.{Beginning}
 use Rattle.rpcbind.specs.declared.running.Fault.{Fault}
-use Rattle.rpcbind.specs.declared.running.Fault.TheVariants.{Usage, Lines, NoMemory, BadLimits, ReadFailed, WriteFailed}
+use Rattle.rpcbind.specs.declared.running.Fault.TheVariants.{NotText, Lines, NoMemory, BadLimits, SocketFailed, ReadFailed, WriteFailed}
 use Rattle.rpcbind.specs.Lines.{Fails, read, longest_input}
 use Rattle.rpcbind.specs.Printing.{report_of, Writes}
 
--- the word `replay` alone
-abbrev pub is_replay : List (List ℕ) → Bool
-is_replay [] = false
-is_replay (word ∷ []) = bytes_eq word (codes "replay")
-is_replay (word ∷ more ∷ words) = false
-
-abbrev pub IsReplay : {A : Type 0} → List (String A) → Type 0
-IsReplay words = IsTrue (is_replay (map string_bytes words))
-
 -- the core with which a replay begins
-abbrev pub first : State
-first = opening (record { conns = 4; rows = 300; forwards = 4 })
-    (record { host = 192 ∷ 0 ∷ 2 ∷ 1 ∷ []; port = 111 }) 1000 0
+abbrev pub first : Beginning → State
+first beginning =
+    opening beginning.limits beginning.listener beginning.first_xid beginning.moment
 
 -- the exit status
 abbrev pub status_of : Fault → ℕ
-status_of Usage = 2
+status_of NotText = 2
 status_of (Lines (reading.BadLine k)) = 2
 status_of (Lines reading.TooLong) = 2
 status_of (Lines reading.NoMemory) = 1
 status_of NoMemory = 1
 status_of BadLimits = 1
+status_of SocketFailed = 1
 status_of ReadFailed = 1
 status_of WriteFailed = 1
 
@@ -48,15 +40,22 @@ abbrev pub IsRefused : Result (List Event) ReadFault → Type 0
 IsRefused (Ok events) = ⊥
 IsRefused (Err fault) = Unit {0}
 
--- How a replay of a text that reads as this may fail: by what is wrong with the text, and where nothing is, by want of
--- memory or by the writer.
-abbrev pub IsFaultOf : Fault → Result (List Event) ReadFault → Type 0
-IsFaultOf Usage given = ⊥
-IsFaultOf (Lines fault) given = Fails fault given
-IsFaultOf NoMemory given = IsRead given
-IsFaultOf BadLimits given = ⊥
-IsFaultOf ReadFailed given = ⊥
-IsFaultOf WriteFailed given = IsRead given
+-- How the making of the core, or the run, may fail: by limits out of their ranges, and else by want of memory.
+abbrev pub IsCoreFault : Beginning → Fault → Type 0
+IsCoreFault beginning BadLimits = IsTrue (not (are_good beginning.limits))
+IsCoreFault beginning NoMemory = IsTrue (are_good beginning.limits)
+IsCoreFault beginning other = ⊥
+
+-- How a replay of a text that reads as this may fail: by what is wrong with the text, and where nothing is, by limits
+-- out of their ranges, by want of memory or by the writer.
+abbrev pub IsFaultOf : Beginning → Fault → Result (List Event) ReadFault → Type 0
+IsFaultOf beginning NotText given = ⊥
+IsFaultOf beginning (Lines fault) given = Fails fault given
+IsFaultOf beginning NoMemory given = IsRead given × IsCoreFault beginning NoMemory
+IsFaultOf beginning BadLimits given = IsRead given × IsCoreFault beginning BadLimits
+IsFaultOf beginning SocketFailed given = ⊥
+IsFaultOf beginning ReadFailed given = ⊥
+IsFaultOf beginning WriteFailed given = IsRead given × IsTrue (are_good beginning.limits)
 
 -- The same as `Writes`, with what is in the writer's buffer.
 abbrev pub BufWrites : {W A : Type 0} → (W → Option (List ℕ)) → BufWriter W A → BufWriter W A
@@ -64,10 +63,11 @@ abbrev pub BufWrites : {W A : Type 0} → (W → Option (List ℕ)) → BufWrite
 BufWrites contents old new text = Writes (writer_contents contents) old new text
 
 -- The printed outputs of the run of these events were written, and nothing else.
-abbrev pub Prints : {W A : Type 0} → (W → Option (List ℕ)) → BufWriter W A → BufWriter W A
-    → Result (List Event) ReadFault → Type 0
-Prints contents old new (Ok events) = BufWrites contents old new (report_of (run first events))
-Prints contents old new (Err fault) = ⊥
+abbrev pub Prints : {W A : Type 0} → Beginning → (W → Option (List ℕ))
+    → BufWriter W A → BufWriter W A → Result (List Event) ReadFault → Type 0
+Prints beginning contents old new (Ok events) =
+    BufWrites contents old new (report_of (run (first beginning) events))
+Prints beginning contents old new (Err fault) = ⊥
 
 -- Where the bytes that a reader has left are known, this holds of what they read as.
 abbrev pub Reads : {R : Type 0} → (R → Option (List ℕ)) → R
@@ -79,5 +79,6 @@ abbrev pub IsEnoughOf : Option (List ℕ) → List ℕ → Type 0
 IsEnoughOf left text = IfSome left (λ input. text ≡ take (longest_input + 1) input)
 
 -- Where nothing was run, the fault is what is wrong with the input.
-abbrev pub Refuses : {R : Type 0} → (R → Option (List ℕ)) → R → Fault → Type 0
-Refuses remaining reader fault = status_of fault ≡ 2 → Reads remaining reader (IsFaultOf fault)
+abbrev pub Refuses : {R : Type 0} → Beginning → (R → Option (List ℕ)) → R → Fault → Type 0
+Refuses beginning remaining reader fault =
+    status_of fault ≡ 2 → Reads remaining reader (IsFaultOf beginning fault)

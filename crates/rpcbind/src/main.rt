@@ -1,47 +1,60 @@
-//! `rpcbind replay` reads event lines from standard input and prints what each event gives.
+//! `rpcbind serve` is the daemon; `rpcbind replay` reads event lines and prints what each event gives.
 #![tactic(auto)]
 
-ghost use Rattle.std.specs.Prelude.{◌≤◌};
+ghost use Rattle.std.specs.Prelude.{◌≤◌, IfErr};
 
+mod arguments;
 mod fields;
 mod laws;
 mod lines;
+mod options;
 mod printing;
 mod running;
+mod service;
 #[cfg(test)]
 mod tests;
 mod worked;
 
-use running::{Fault, explain, run_replay};
+use arguments::Words;
+use running::{Beginning, Fault, explain, run_replay};
+use service::run_service;
 use std::io::{BufWriter, ErrorKind};
 use std::process::ExitCode;
 use std::{env, io};
 
-/// The words behind the program's name, where each is text.
+/// The words of the command line, where each is text.
 fn command_words(rt: &HostRuntime) -> io::Result<Vec<String>> {
-    let words = env::args(rt)?.skip(1).collect(rt.alloc())?;
+    let words = env::args(rt)?.collect(rt.alloc())?;
     Ok(words)
 }
 
-/// Runs the command that the words behind the program's name give. The answer is the exit status. Words that are no
-/// text can't be read.
-fn run(rt: &HostRuntime) -> u8
-    ensures { result ≤ 2 }
+/// What the words of the command line ask for. Where nothing is to be run, the exit status. Words that are no text
+/// can't be read.
+fn asked(rt: &HostRuntime) -> Result<Words, u8>
+    ensures { IfErr result (λ status. status ≤ 2) }
 {
     let mut faults = rt.stderr();
     let words = match command_words(rt) {
         Ok(words) => words,
         Err(error) if error.kind() == ErrorKind::OutOfMemory => {
-            return explain(Fault::NoMemory, &mut faults);
+            return Err(explain(Fault::NoMemory, &mut faults));
         }
-        Err(_) => return explain(Fault::Usage, &mut faults),
+        Err(_) => return Err(explain(Fault::NotText, &mut faults)),
     };
+    arguments::read(rt.alloc(), &words, &mut io::writer(rt), &mut faults)
+}
+
+/// Runs the command `replay` over standard input and output. The answer is the exit status.
+fn replay(rt: &HostRuntime, beginning: &Beginning) -> u8
+    ensures { result ≤ 2 }
+{
+    let mut faults = rt.stderr();
     let Ok(mut output) = BufWriter::new(rt.alloc(), io::writer(rt)) else {
         return explain(Fault::NoMemory, &mut faults);
     };
     run_replay(
         rt.alloc(),
-        &words,
+        beginning,
         &mut rt.reader(),
         &mut output,
         &mut faults,
@@ -49,5 +62,10 @@ fn run(rt: &HostRuntime) -> u8
 }
 
 fn main(rt: HostRuntime) -> ExitCode {
-    ExitCode::from(run(&rt))
+    let status = match asked(&rt) {
+        Ok(Words::Serve(service)) => run_service(&rt, &service, &mut rt.stderr()),
+        Ok(Words::Replay(beginning)) => replay(&rt, &beginning),
+        Err(status) => status,
+    };
+    ExitCode::from(status)
 }

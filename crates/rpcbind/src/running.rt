@@ -1,11 +1,12 @@
 //! The command `replay`.
-ghost use Rattle.std.specs.Prelude.{◌≡◌, ◌≤◌, ◌⊎◌, [], map, string_bytes, IfOk, IfErr, OnOk};
+ghost use Rattle.std.specs.Prelude.{◌≡◌, ◌≤◌, ◌⊎◌, [], IsTrue, IfOk, IfErr, OnOk};
 ghost use Rattle.std.specs.Io.Buffered.{writer_buffer};
 ghost use Rattle.rb_core.specs.Run.{run};
-ghost use Rattle.rb_core.specs.StandsFor.{events_of, outputs_of};
+ghost use Rattle.rb_core.specs.State.{are_good};
+ghost use Rattle.rb_core.specs.StandsFor.{StandsFor, events_of, outputs_of};
 ghost use Rattle.rpcbind.specs.Lines.{read};
 ghost use Rattle.rpcbind.specs.Printing.{report};
-ghost use Rattle.rpcbind.specs.Running.{first, is_replay, status_of, BufWrites, IsEnoughOf, IsFaultOf, IsRefused, IsReplay, Prints, Reads, Refuses};
+ghost use Rattle.rpcbind.specs.Running.{first, status_of, BufWrites, IsEnoughOf, IsFaultOf, IsCoreFault, IsRefused, Prints, Reads, Refuses};
 
 use crate::lines::{ReadFault, longest_input, read_events};
 use crate::printing::{WriteFailed, print_outputs};
@@ -16,31 +17,30 @@ use std::io;
 use std::io::{BufWriter, Read, Write};
 use thiserror::Error;
 
-const LIMITS: Limits = Limits {
-    conns: 4,
-    rows: 300,
-    forwards: 4,
-};
+/// What the core of a replay begins with.
+#[derive(Clone, Copy, Debug, PartialEq, Eq)]
+pub struct Beginning {
+    pub limits: Limits,
+    pub listener: Listener,
+    /// The number of the first forwarded call.
+    pub first_xid: u32,
+    /// The first moment, in milliseconds since the start of 1970.
+    pub moment: u64,
+}
 
-const LISTENER: Listener = Listener {
-    host: [192, 0, 2, 1],
-    port: 111,
-};
-
-/// The number of the first forwarded call.
-const FIRST_XID: u32 = 1000;
-
-/// Why a replay ends before its last line is printed.
+/// Why the program ends before all is done.
 #[derive(Clone, Copy, Debug, Drop, Error, PartialEq, Eq)]
 pub enum Fault {
-    #[error("usage: rpcbind replay")]
-    Usage,
+    #[error("rpcbind: a word is no text")]
+    NotText,
     #[error("rpcbind: {0}")]
     Lines(ReadFault),
     #[error("rpcbind: no memory")]
     NoMemory,
     #[error("rpcbind: bad limits")]
     BadLimits,
+    #[error("rpcbind: socket failed")]
+    SocketFailed,
     #[error("rpcbind: read failed")]
     ReadFailed,
     #[error("rpcbind: write failed")]
@@ -56,10 +56,11 @@ impl Fault {
         ensures { result ≡ status_of self }
     {
         match self {
-            Fault::Usage | Fault::Lines(ReadFault::BadLine(_) | ReadFault::TooLong) => 2,
+            Fault::NotText | Fault::Lines(ReadFault::BadLine(_) | ReadFault::TooLong) => 2,
             Fault::Lines(ReadFault::NoMemory)
             | Fault::NoMemory
             | Fault::BadLimits
+            | Fault::SocketFailed
             | Fault::ReadFailed
             | Fault::WriteFailed => 1,
         }
@@ -80,18 +81,39 @@ fn read_input<R: Read>(alloc: Global, reader: &mut R) -> Result<Vec<u8>, Fault>
     }
 }
 
+/// A new core, as a replay begins.
+fn first_core(alloc: Global, beginning: &Beginning, meter: &mut Meter) -> Result<Core, Fault>
+    ensures made { IfOk result (λ core. StandsFor core (first beginning.now)) }
+    ensures tie { IfOk result (λ core. core.tie ≡ meter.new.tie) }
+    ensures good { OnOk result (IsTrue (are_good beginning.now.limits)) }
+    ensures err { IfErr result (IsCoreFault beginning.now) }
+{
+    let Beginning {
+        limits,
+        listener,
+        first_xid,
+        moment,
+    } = *beginning;
+    match Core::new(alloc, limits, listener, first_xid, moment, meter) {
+        Ok(core) => Ok(core),
+        Err(CoreFault::BadLimits) => Err(Fault::BadLimits),
+        Err(_) => Err(Fault::NoMemory),
+    }
+}
+
 /// The outputs of the events, from a new core.
-fn outputs_from(alloc: Global, events: &[Event]) -> Result<Vec<Output>, Fault>
+fn outputs_from(
+    alloc: Global,
+    beginning: &Beginning,
+    events: &[Event],
+) -> Result<Vec<Output>, Fault>
     ensures ok { IfOk result (λ outputs. outputs_of outputs.items
-        ≡ run first (events_of events.now)) }
-    ensures err { IfErr result (λ fault. fault ≡ Fault.NoMemory) }
+        ≡ run (first beginning.now) (events_of events.now)) }
+    ensures good { OnOk result (IsTrue (are_good beginning.now.limits)) }
+    ensures err { IfErr result (IsCoreFault beginning.now) }
 {
     let mut meter = Meter::new();
-    let mut core = match Core::new(alloc, LIMITS, LISTENER, FIRST_XID, 0, &mut meter) {
-        Ok(core) => core,
-        Err(CoreFault::BadLimits) => return Err(Fault::BadLimits),
-        Err(_) => return Err(Fault::NoMemory),
-    };
+    let mut core = first_core(alloc, beginning, &mut meter)?;
     let mut outputs = Vec::new(alloc);
     match replay(alloc, &mut core, events, &mut outputs, &mut meter) {
         Ok(()) => Ok(outputs),
@@ -117,19 +139,22 @@ fn put_outputs<W: Write + Drop>(
 /// Runs the events of a text and writes what they give.
 fn replay_text<W: Write + Drop>(
     alloc: Global,
+    beginning: &Beginning,
     text: &[u8],
     writer: &mut BufWriter<W>,
 ) -> Result<(), Fault>
-    ensures ok { OnOk result (Prints W.contents writer.old writer.new (read text.now)) }
+    ensures ok { OnOk result
+        (Prints beginning.now W.contents writer.old writer.new (read text.now)) }
+    ensures good { OnOk result (IsTrue (are_good beginning.now.limits)) }
     ensures flushed { OnOk result (writer_buffer writer.new ≡ []) }
-    ensures err { IfErr result (λ fault. IsFaultOf fault (read text.now)) }
+    ensures err { IfErr result (λ fault. IsFaultOf beginning.now fault (read text.now)) }
     ensures unwritten { IfErr result (λ fault. status_of fault ≡ 2 → writer.new ≡ writer.old) }
 {
     let events = match read_events(alloc, text) {
         Ok(events) => events,
         Err(fault) => return Err(Fault::Lines(fault)),
     };
-    let outputs = outputs_from(alloc, &events)?;
+    let outputs = outputs_from(alloc, beginning, &events)?;
     match put_outputs(&outputs, writer) {
         Ok(()) => Ok(()),
         Err(WriteFailed) => Err(Fault::WriteFailed),
@@ -139,55 +164,44 @@ fn replay_text<W: Write + Drop>(
 /// Reads all there is, runs its events and writes what they give.
 fn replay_all<R: Read, W: Write + Drop>(
     alloc: Global,
+    beginning: &Beginning,
     reader: &mut R,
     writer: &mut BufWriter<W>,
 ) -> Result<(), Fault>
     ensures ok { OnOk result
-        (Reads R.remaining reader.old (Prints W.contents writer.old writer.new)) }
+        (Reads R.remaining reader.old (Prints beginning.now W.contents writer.old writer.new)) }
+    ensures good { OnOk result (IsTrue (are_good beginning.now.limits)) }
     ensures flushed { OnOk result (writer_buffer writer.new ≡ []) }
-    ensures refused { IfErr result (Refuses R.remaining reader.old) }
+    ensures refused { IfErr result (Refuses beginning.now R.remaining reader.old) }
     ensures unwritten { IfErr result (λ fault. status_of fault ≡ 2 → writer.new ≡ writer.old) }
 {
     let text = read_input(alloc, reader)?;
-    replay_text(alloc, &text, writer)
+    replay_text(alloc, beginning, &text, writer)
 }
 
-/// Whether the words of the command line are `replay` alone.
-fn is_replay(words: &[String]) -> bool
-    ensures { result ≡ is_replay (map string_bytes words.now) }
-{
-    match words {
-        [word] => word.as_str() == "replay",
-        _ => false,
-    }
-}
-
-/// Runs the command that the words name: `replay` reads event lines to the end, runs their events
-/// on a new core and writes a line for each. The answer is the exit status.
+/// Runs the command `replay`: it reads event lines to the end, makes a core, runs their events on it and writes a line
+/// for each. The answer is the exit status.
 ///
-/// 0 says that all went well and that the writer's buffer was written out. 2 says that the words cannot be read, or
-/// that the input is no event lines, and nothing was run or written. 1 says that reading, writing or memory failed.
-/// What is wrong is written to `faults`; at 0 nothing is.
+/// 0 says that all went well and that the writer's buffer was written out. 2 says that the input is no event lines,
+/// and nothing was run or written, whatever the limits are. 1 says that the limits are out of their ranges, or that
+/// reading, writing or memory failed. What is wrong is written to `faults`; at 0 nothing is.
 pub fn run_replay<R: Read, W: Write + Drop, E: Write>(
     alloc: Global,
-    words: &[String],
+    beginning: &Beginning,
     reader: &mut R,
     writer: &mut BufWriter<W>,
     faults: &mut E,
 ) -> u8
     ensures status { result ≤ 2 }
-    ensures usage { (IsReplay words.now → ⊥) → result ≡ 2 }
     ensures done { result ≡ 0
-        → Reads R.remaining reader.old (Prints W.contents writer.old writer.new) }
+        → Reads R.remaining reader.old (Prints beginning.now W.contents writer.old writer.new) }
+    ensures good { result ≡ 0 → IsTrue (are_good beginning.now.limits) }
     ensures flushed { result ≡ 0 → writer_buffer writer.new ≡ [] }
     ensures quiet { result ≡ 0 → faults.new ≡ faults.old }
-    ensures refused { result ≡ 2 → IsReplay words.now → Reads R.remaining reader.old IsRefused }
+    ensures refused { result ≡ 2 → Reads R.remaining reader.old IsRefused }
     ensures unwritten { result ≡ 2 → writer.new ≡ writer.old }
 {
-    if !is_replay(words) {
-        return explain(Fault::Usage, faults);
-    }
-    match replay_all(alloc, reader, writer) {
+    match replay_all(alloc, beginning, reader, writer) {
         Ok(()) => 0,
         Err(fault) => explain(fault, faults),
     }

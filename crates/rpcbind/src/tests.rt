@@ -1,5 +1,5 @@
 use crate::lines::{ReadFault, read_events};
-use crate::running::{Fault, explain, run_replay};
+use crate::running::{Beginning, run_replay};
 use rb_core::{Core, Event, Limits, Listener};
 use rb_xdr::Meter;
 use std::alloc::{AllocError, Global};
@@ -17,19 +17,25 @@ impl Read for Failing {
     }
 }
 
-/// The word `replay` alone.
-fn words(alloc: Global) -> Result<Vec<String>, AllocError> {
-    let mut words = Vec::new(alloc);
-    words.push(String::from_str(alloc, "replay")?)?;
-    Ok(words)
-}
+const BEGINNING: Beginning = Beginning {
+    limits: Limits {
+        conns: 4,
+        rows: 300,
+        forwards: 4,
+    },
+    listener: Listener {
+        host: [192, 0, 2, 1],
+        port: 111,
+    },
+    first_xid: 1000,
+    moment: 0,
+};
 
 /// The status, what is printed and what is said of faults.
 fn ran<R: Read>(alloc: Global, reader: &mut R) -> Result<(u8, Vec<u8>, Vec<u8>), AllocError> {
-    let words = words(alloc)?;
     let mut output = BufWriter::new(alloc, Vec::new(alloc)).map_err(|_| AllocError)?;
     let mut faults = Vec::new(alloc);
-    let status = run_replay(alloc, &words, reader, &mut output, &mut faults);
+    let status = run_replay(alloc, &BEGINNING, reader, &mut output, &mut faults);
     let (printed, _) = output.into_parts();
     Ok((status, printed, faults))
 }
@@ -72,15 +78,6 @@ fn says_that_memory_is_refused(rt: HostRuntime) -> Result<(), Fail> {
     Ok(())
 }
 
-/// The words for limits out of their range. The limits of a replay never are, as its contract says.
-#[test]
-fn says_that_limits_are_bad(rt: HostRuntime) -> Result<(), Fail> {
-    let mut faults = Vec::new(rt.alloc());
-    assert_eq!(rt; explain(Fault::BadLimits, &mut faults), 1);
-    assert_eq!(rt; faults.as_slice(), b"rpcbind: bad limits\n".as_slice());
-    Ok(())
-}
-
 #[test]
 fn greatest_limits_have_memory(rt: HostRuntime) {
     let limits = Limits {
@@ -88,10 +85,7 @@ fn greatest_limits_have_memory(rt: HostRuntime) {
         rows: 4096,
         forwards: 64,
     };
-    let listener = Listener {
-        host: [192, 0, 2, 1],
-        port: 111,
-    };
+    let listener = BEGINNING.listener;
     let made = Core::new(rt.alloc(), limits, listener, 1000, 0, &mut Meter::new());
     assert!(rt; made.is_ok());
 }

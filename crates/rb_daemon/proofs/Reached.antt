@@ -1,0 +1,93 @@
+-- A state that a run reaches goes on by each event.
+use Rattle.std.proofs.Common.{◌≡◌, ◌≤◌, ℕ, Bool, false, cond, List, [], ◌∷◌, ◌++◌, length, Result, Ok, Err, refl, sym, ap, subst, ◌∙◌}
+use Rattle.std.proofs.Math.Logic.{∥∥₁_elim}
+use Rattle.std.proofs.lemmas.Bool.{le-ltb}
+use Rattle.rb_rpc.specs.declared.peer.Peer.{Peer}
+use Rattle.rb_proto.specs.declared.listener.Listener.{Listener}
+use Rattle.rb_core.specs.declared.types.CoreFault.{CoreFault}
+use Rattle.rb_core.specs.declared.types.Limits.{Limits}
+use Rattle.rb_core.specs.declared.types.Taken.{Taken}
+use Rattle.rb_core.specs.State.{State, opening}
+use Rattle.rb_core.specs.Calls.{Outcome, Outcome as outcomes}
+use Rattle.rb_core.specs.Step.{Event, Output, step, open_connection, bytes, pending, gave, close_connection, datagram, output_or, show_taken, show_done, show_outcome, is_too_much}
+use Rattle.rb_core.specs.Step.Event.{Open, Bytes, Gave, Closed, Datagram}
+use Rattle.rb_core.specs.Step.Output.{Opened, TooMuch}
+use Rattle.rb_core.specs.Run.{after}
+use Rattle.rb_core.specs.Laws.{IsReached}
+use Rattle.rb_core.specs.Slots.{Acts}
+use Rattle.rb_core.specs.StandsFor.{Held, StandsFor}
+use Rattle.rb_core.proofs.RunLaws.{after-append}
+use Rattle.rb_daemon.specs.Served.{IsServed}
+
+pub opening_reached : (l : Limits) (h : Listener) (xid now : ℕ) → IsReached (opening l h xid now)
+opening_reached l h xid now = record { limits = l; listener = h; first_xid = xid; now = now; events = []; is = refl }
+
+pub step_reached : (s : State) (event : Event) → IsReached s → IsReached (step s event).1
+step_reached s event r =
+    let first = opening r.limits r.listener r.first_xid r.now in
+    record {
+      limits = r.limits;
+      listener = r.listener;
+      first_xid = r.first_xid;
+      now = r.now;
+      events = r.events ++ event ∷ [];
+      is = ap (λ (t : State). (step t event).1) r.is ∙ sym (after-append first r.events (event ∷ []));
+    }
+
+output_state : {A : Type 0} (show : A → Output) (r : Result A CoreFault × State) → (output_or show r).1 ≡ r.1
+output_state show (Ok x, s) = refl
+output_state show (Err fault, s) = refl
+
+outcome_state : (r : Outcome × State) → (show_outcome r).1 ≡ r.1
+outcome_state (outcomes.NoCall, s) = refl
+outcome_state (outcomes.Reply reply, s) = refl
+
+pub open_reached : (s : State) (now : ℕ) (peer : Peer) → IsReached s → IsReached (open_connection s now peer).1
+unfolding step
+open_reached s now peer r = subst IsReached (output_state Opened (open_connection s now peer)) (step_reached s (Open now peer) r)
+
+pub bytes_reached : (s : State) (now id : ℕ) (piece : List ℕ) → IsReached s → IsReached (bytes s now id piece).1
+unfolding step
+bytes_reached s now id piece r = subst IsReached (output_state show_taken (bytes s now id piece)) (step_reached s (Bytes now id piece) r)
+
+pub closed_reached : (s : State) (id : ℕ) → IsReached s → IsReached (close_connection s id).1
+unfolding step
+closed_reached s id r = subst IsReached (output_state show_done (close_connection s id)) (step_reached s (Closed id) r)
+
+pub datagram_reached : (s : State) (now : ℕ) (peer : Peer) (content : List ℕ) → IsReached s → IsReached (datagram s now peer content).1
+unfolding step
+datagram_reached s now peer content r = subst IsReached (outcome_state (datagram s now peer content)) (step_reached s (Datagram now peer content) r)
+
+pub gave_reached : (s : State) (now id n : ℕ) (owed : List ℕ) → pending s id ≡ Ok owed → n ≤ length owed → IsReached s → IsReached (gave s now id n).1
+unfolding step
+gave_reached s now id n owed is le r =
+    let few : is_too_much n (pending s id) ≡ false = rw is (le-ltb (length owed) n le) in
+    let plain : State = (output_or show_done (gave s now id n)).1 in
+    let done : (step s (Gave now id n)).1 ≡ plain = ap (λ (b : Bool). (cond b (TooMuch, s) (output_or show_done (gave s now id n))).1) few in
+    subst IsReached (done ∙ output_state show_done (gave s now id n)) (step_reached s (Gave now id n) r)
+
+-- ---- the core of the daemon
+
+-- a core that stands for a reached state goes on to one that does
+pub served_on : (old new : Held) (next : State → State) → ((s : State) → StandsFor old s → StandsFor new (next s)) → ((s : State) → IsReached s → IsReached (next s)) → ∥ IsServed old ∥₁ → ∥ IsServed new ∥₁
+served_on old new next stands reached held =
+    ∥∥₁_elim held squash₁ (λ h. ∣ record { state = next h.state; stands = stands h.state h.stands; reached = reached h.state h.reached } ∣₁)
+
+pub open_served : (old new : Held) (now : ℕ) (peer : Peer) (r : Result ℕ CoreFault) → Acts StandsFor (λ s. open_connection s now peer) old new r → ∥ IsServed old ∥₁ → ∥ IsServed new ∥₁
+open_served old new now peer r acts = served_on old new (λ s. (open_connection s now peer).1) acts.stands (λ s. open_reached s now peer)
+
+pub bytes_served : (old new : Held) (now id : ℕ) (piece : List ℕ) (r : Result Taken CoreFault) → Acts StandsFor (λ s. bytes s now id piece) old new r → ∥ IsServed old ∥₁ → ∥ IsServed new ∥₁
+bytes_served old new now id piece r acts = served_on old new (λ s. (bytes s now id piece).1) acts.stands (λ s. bytes_reached s now id piece)
+
+pub closed_served : (old new : Held) (id : ℕ) (r : Result (Unit {0}) CoreFault) → Acts StandsFor (λ s. close_connection s id) old new r → ∥ IsServed old ∥₁ → ∥ IsServed new ∥₁
+closed_served old new id r acts = served_on old new (λ s. (close_connection s id).1) acts.stands (λ s. closed_reached s id)
+
+pub datagram_served : (old new : Held) (now : ℕ) (peer : Peer) (content : List ℕ) (r : Outcome) → Acts StandsFor (λ s. datagram s now peer content) old new r → ∥ IsServed old ∥₁ → ∥ IsServed new ∥₁
+datagram_served old new now peer content r acts = served_on old new (λ s. (datagram s now peer content).1) acts.stands (λ s. datagram_reached s now peer content)
+
+pub gave_served : (old new : Held) (now id n : ℕ) (owed : List ℕ) (r : Result (Unit {0}) CoreFault) → Acts StandsFor (λ s. gave s now id n) old new r → ((s : State) → StandsFor old s → pending s id ≡ Ok owed) → n ≤ length owed → ∥ IsServed old ∥₁ → ∥ IsServed new ∥₁
+gave_served old new now id n owed r acts lent le held =
+    ∥∥₁_elim held squash₁ (λ h. ∣ record { state = (gave h.state now id n).1; stands = acts.stands h.state h.stands; reached = gave_reached h.state now id n owed (lent h.state h.stands) le h.reached } ∣₁)
+
+pub new_served : (core : Held) (l : Limits) (h : Listener) (xid now : ℕ) → StandsFor core (opening l h xid now) → ∥ IsServed core ∥₁
+new_served core l h xid now stands = ∣ record { state = opening l h xid now; stands = stands; reached = opening_reached l h xid now } ∣₁

@@ -1,0 +1,14 @@
+//! The daemon: sockets around the core. Each turn waits once, and then serves what the wait showed.
+#![tactic(auto)]
+
+mod daemon;
+mod engine;
+mod faults;
+mod link;
+mod serving;
+#[cfg(test)]
+mod tests;
+
+pub use daemon::Daemon;
+pub use faults::DaemonFault;
+pub use rb_core::Limits;

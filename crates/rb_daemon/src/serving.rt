@@ -1,0 +1,291 @@
+//! The core with its sockets and connections, and what a turn does with them.
+ghost use Rattle.std.specs.Prelude.{◌≤◌, length};
+
+use crate::engine::Engine;
+use crate::faults::{AcceptFault, DaemonFault, accept_fault};
+use crate::link::{Link, Progress, SOCKET_CALLS};
+use mio::net::{TcpListener, TcpStream, UdpSocket};
+use mio::{Interest, Registry, Token};
+use rb_core::Peer;
+use slab::Slab;
+use std::alloc::{AllocError, Global};
+use std::io;
+use std::io::ErrorKind;
+use std::net::{Ipv4Addr, Net, SocketAddr};
+
+/// The longest datagram.
+const LONGEST_DATAGRAM: usize = 65_536;
+
+/// The most datagrams of one socket in a turn: each is a socket call, and a reply to it is another.
+const DATAGRAMS: usize = SOCKET_CALLS / 2;
+
+const LISTENER: Token = Token(usize::MAX);
+
+const CALLS: Token = Token(usize::MAX - 1);
+
+const FORWARDS: Token = Token(usize::MAX - 2);
+
+/// The sockets of the daemon itself.
+#[derive(Drop)]
+pub(crate) struct Sockets {
+    listener: TcpListener,
+    /// Where calls come in as datagrams.
+    calls: UdpSocket,
+    /// Where forwarded calls go out, and their replies come in.
+    forwards: UdpSocket,
+}
+
+impl Sockets {
+    pub(crate) fn bind(net: &impl Net, host: Ipv4Addr, port: u16) -> io::Result<Sockets> {
+        Ok(Sockets {
+            listener: TcpListener::bind(net, SocketAddr::from((host, port)))?,
+            calls: UdpSocket::bind(net, SocketAddr::from((host, port)))?,
+            forwards: UdpSocket::bind(net, SocketAddr::from((host, 0)))?,
+        })
+    }
+}
+
+/// What is to be served though no event shows it.
+#[derive(Clone, Copy)]
+struct Left {
+    listener: bool,
+    calls: bool,
+    forwards: bool,
+    links: bool,
+}
+
+const NOTHING: Left = Left {
+    listener: false,
+    calls: false,
+    forwards: false,
+    links: false,
+};
+
+#[derive(Drop)]
+pub(crate) struct Serving {
+    engine: Engine,
+    sockets: Sockets,
+    /// The connections, under the keys that their events show.
+    links: Slab<Link>,
+    /// The most connections.
+    conns: usize,
+    datagram: Vec<u8>,
+    /// The number of the turn.
+    turn: u64,
+    left: Left,
+    /// What this turn began with, and served first.
+    begun: Left,
+    /// No descriptor was left for a connection that waits: each turn tries again.
+    is_short: bool,
+}
+
+impl Serving {
+    pub(crate) fn new(
+        alloc: Global,
+        engine: Engine,
+        sockets: Sockets,
+        conns: usize,
+    ) -> Result<Serving, AllocError> {
+        let mut datagram = Vec::with_capacity(alloc, LONGEST_DATAGRAM)?;
+        datagram.resize(LONGEST_DATAGRAM, 0)?;
+        Ok(Serving {
+            engine,
+            sockets,
+            links: Slab::with_capacity(alloc, conns)?,
+            conns,
+            datagram,
+            turn: 0,
+            left: NOTHING,
+            begun: NOTHING,
+            is_short: false,
+        })
+    }
+
+    pub(crate) fn register(&mut self, registry: &Registry) -> io::Result<()> {
+        registry.register(&mut self.sockets.listener, LISTENER, Interest::READABLE)?;
+        registry.register(&mut self.sockets.calls, CALLS, Interest::READABLE)?;
+        registry.register(&mut self.sockets.forwards, FORWARDS, Interest::READABLE)
+    }
+
+    /// Whether the next turn has something to serve at once.
+    pub(crate) fn is_something_left(&self) -> bool {
+        self.left.listener || self.left.calls || self.left.forwards || self.left.links
+    }
+
+    /// A turn at this moment, in milliseconds since the start of 1970.
+    pub(crate) fn begin_turn(&mut self, now: u64) {
+        self.engine.set_moment(now);
+        self.turn = self.turn.wrapping_add(1);
+        self.begun = self.left;
+        self.left = NOTHING;
+    }
+
+    /// Serves what the last turn cut off.
+    pub(crate) fn serve_left(&mut self, registry: &Registry) -> Result<(), DaemonFault> {
+        if self.begun.links {
+            for key in 0..self.conns {
+                if self.links.get(key).is_some_and(|link| link.is_waiting()) {
+                    self.serve_link(key);
+                }
+            }
+        }
+        if self.begun.calls {
+            self.answer_calls();
+        }
+        if self.begun.forwards {
+            self.take_forward_replies();
+        }
+        if self.begun.listener || self.is_short {
+            self.accept_all(registry)?;
+        }
+        Ok(())
+    }
+
+    /// Serves what an event shows. What this turn began with was served after the events came, so nothing is lost where
+    /// it is passed over.
+    pub(crate) fn serve(&mut self, registry: &Registry, token: Token) -> Result<(), DaemonFault> {
+        match token {
+            LISTENER if !self.begun.listener => self.accept_all(registry)?,
+            CALLS if !self.begun.calls => self.answer_calls(),
+            FORWARDS if !self.begun.forwards => self.take_forward_replies(),
+            LISTENER | CALLS | FORWARDS => {}
+            Token(key) => self.serve_link(key),
+        }
+        Ok(())
+    }
+
+    /// What the core has to say at the end of a turn: calls to forward, deadlines, and connections to close.
+    pub(crate) fn end_turn(&mut self) {
+        self.expire();
+        self.send_forwards();
+        self.close_lost();
+    }
+
+    fn accept_all(&mut self, registry: &Registry) -> Result<(), DaemonFault> {
+        self.is_short = false;
+        for _ in 0..SOCKET_CALLS {
+            match self.sockets.listener.accept() {
+                Ok((stream, from)) => self.open(registry, stream, from),
+                Err(error) => match accept_fault(&error) {
+                    AcceptFault::NoneWaits => return Ok(()),
+                    AcceptFault::OneLost => {}
+                    AcceptFault::NoRoom => {
+                        self.is_short = true;
+                        return Ok(());
+                    }
+                    AcceptFault::Listener => return Err(DaemonFault::Socket(error)),
+                },
+            }
+        }
+        self.left.listener = true;
+        Ok(())
+    }
+
+    /// Opens a connection. One that the core or the table has no place for is closed at once.
+    fn open(&mut self, registry: &Registry, mut stream: TcpStream, from: SocketAddr) {
+        let Some(peer) = peer_of(from) else {
+            return;
+        };
+        let Ok(id) = self.engine.open(peer) else {
+            return;
+        };
+        let token = Token(self.links.vacant_key());
+        let interests = Interest::READABLE | Interest::WRITABLE;
+        let has_room = self.links.len() < self.links.capacity();
+        if has_room && registry.register(&mut stream, token, interests).is_ok() {
+            self.links.insert_reserved(Link::new(id, stream));
+        } else {
+            self.engine.closed(id);
+        }
+    }
+
+    /// Serves a connection, at most once in a turn.
+    fn serve_link(&mut self, key: usize) {
+        let Some(link) = self.links.get_mut(key) else {
+            return;
+        };
+        if link.was_served_in(self.turn) {
+            return;
+        }
+        match link.serve(&mut self.engine, self.turn) {
+            Progress::Blocked => {}
+            Progress::CutOff => self.left.links = true,
+            Progress::Over => self.close(key),
+        }
+    }
+
+    fn close(&mut self, key: usize) {
+        if let Some(link) = self.links.try_remove(key) {
+            self.engine.closed(link.id());
+        }
+    }
+
+    fn key_of(&self, id: u64) -> Option<usize> {
+        self.links
+            .iter()
+            .find(|(_, link)| link.id() == id)
+            .map(|(key, _)| key)
+    }
+
+    fn answer_calls(&mut self) {
+        for _ in 0..DATAGRAMS {
+            match self.sockets.calls.recv_from(&mut self.datagram) {
+                Ok((len, from)) => self.answer(len, from),
+                Err(error) if error.kind() == ErrorKind::WouldBlock => return,
+                Err(_) => {}
+            }
+        }
+        self.left.calls = true;
+    }
+
+    /// Answers the datagram of the first `len` bytes.
+    fn answer(&mut self, len: usize, from: SocketAddr)
+        requires { len ≤ length self.old.datagram.items }
+    {
+        if let Some(peer) = peer_of(from) {
+            let content = &self.datagram[..len];
+            self.engine.answer(peer, content, &self.sockets.calls);
+        }
+    }
+
+    /// Takes what comes back for forwarded calls. As nothing is forwarded yet, each datagram is dropped.
+    fn take_forward_replies(&mut self) {
+        for _ in 0..DATAGRAMS {
+            match self.sockets.forwards.recv_from(&mut self.datagram) {
+                Err(error) if error.kind() == ErrorKind::WouldBlock => return,
+                Ok(_) | Err(_) => {}
+            }
+        }
+        self.left.forwards = true;
+    }
+
+    /// Sends the calls that are to be forwarded. There are none yet.
+    fn send_forwards(&mut self) {}
+
+    /// Lets deadlines act. There are none yet.
+    fn expire(&mut self) {}
+
+    /// Closes the connections that the core has given up.
+    fn close_lost(&mut self) {
+        for _ in 0..self.conns {
+            let Some(id) = self.engine.next_lost() else {
+                return;
+            };
+            match self.key_of(id) {
+                Some(key) => self.close(key),
+                None => self.engine.closed(id),
+            }
+        }
+    }
+}
+
+/// A socket that is bound to an IPv4 address has peers of that kind alone.
+fn peer_of(from: SocketAddr) -> Option<Peer> {
+    match from {
+        SocketAddr::V4(from) => Some(Peer {
+            host: from.ip().octets(),
+            port: from.port(),
+        }),
+        SocketAddr::V6(_) => None,
+    }
+}

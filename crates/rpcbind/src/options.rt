@@ -1,0 +1,95 @@
+//! The commands of the program and their options, as `--help` shows them.
+use clap::{Arg, Command};
+use std::alloc::{AllocError, Global};
+
+const VERSION: &str = "0.1.0";
+
+/// An option with a value. Values are read as texts: what a number is, and what an address, the reader of the words
+/// says.
+fn option<'a>(alloc: Global, name: &'a str, value: &'a str, help: &'a str) -> Arg<'a> {
+    Arg::new(alloc, name)
+        .long(name)
+        .value_name(value)
+        .help(help)
+}
+
+/// The program with its commands.
+pub fn command<'a>(alloc: Global) -> Result<Command<'a>, AllocError> {
+    Command::new(alloc, "rpcbind")
+        .version(VERSION)
+        .about("Tells ONC RPC clients at which address a program listens (RFC 1833)")
+        .subcommand_required(true)
+        .subcommand(serve(alloc)?)?
+        .subcommand(replay(alloc)?)
+}
+
+fn serve<'a>(alloc: Global) -> Result<Command<'a>, AllocError> {
+    let bind = option(alloc, "bind", "HOST", "IPv4 address to listen on").default_value(
+        "127.0.0.1",
+    );
+    let command = Command::new(alloc, "serve")
+        .version(VERSION)
+        .about("Listens on one TCP and one UDP socket, and serves until it is stopped")
+        .arg(bind)?
+        .arg(announce(
+            alloc,
+            "IPv4 address that answers show for 0.0.0.0; callers from it are local [default: that of --bind]",
+        ))?;
+    limited(alloc, command, ["64", "1024", "16"])?.arg(option(
+        alloc,
+        "turns",
+        "N",
+        "End after N turns of at most 100 milliseconds; 0 never ends",
+    )
+    .default_value("0"))
+}
+
+fn replay<'a>(alloc: Global) -> Result<Command<'a>, AllocError> {
+    let command = Command::new(alloc, "replay")
+        .version(VERSION)
+        .about("Runs event lines of standard input, without sockets, and prints what each gives")
+        .arg(announce(
+            alloc,
+            "IPv4 address that answers show for 0.0.0.0; callers from it are local",
+        )
+        .default_value("192.0.2.1"))?;
+    limited(alloc, command, ["4", "300", "4"])?
+        .arg(option(alloc, "xid", "N", "Xid of the first forwarded call").default_value("1000"))?
+        .arg(option(
+            alloc,
+            "now",
+            "MS",
+            "First moment, in milliseconds since the start of 1970",
+        )
+        .default_value("0"))
+}
+
+fn announce<'a>(alloc: Global, help: &'a str) -> Arg<'a> {
+    option(alloc, "announce", "HOST", help)
+}
+
+/// The options that both commands have. The defaults are those of `--conns`, `--rows` and `--forwards`.
+fn limited<'a>(
+    alloc: Global,
+    command: Command<'a>,
+    defaults: [&'a str; 3],
+) -> Result<Command<'a>, AllocError> {
+    let [conns, rows, forwards] = defaults;
+    command
+        .arg(option(alloc, "port", "PORT", "TCP and UDP port, 1 to 65535").default_value("111"))?
+        .arg(option(
+            alloc,
+            "conns",
+            "N",
+            "Most TCP connections at a time, 1 to 256",
+        )
+        .default_value(conns))?
+        .arg(option(alloc, "rows", "N", "Most rows, 8 to 4096").default_value(rows))?
+        .arg(option(
+            alloc,
+            "forwards",
+            "N",
+            "Most forwarded calls at a time, 0 to 64",
+        )
+        .default_value(forwards))
+}
