@@ -1,17 +1,20 @@
 # rpcbind: `make run` shows a run, `make` proves and builds the programs, `make test` is the whole test, `make install`
-# puts the program that `make` built in its place. Needs `rt` (the Rattle toolchain) and bash on the PATH; `make
+# puts the programs that `make` built in their places. Needs `rt` (the Rattle toolchain) and bash on the PATH; `make
 # install` needs neither.
 
 PREFIX = /usr/local
 DESTDIR =
 UNITS = $(PREFIX)/lib/systemd/system
+SBINDIR = $(DESTDIR)$(PREFIX)/sbin
+MANDIR = $(DESTDIR)$(PREFIX)/share/man/man8
 
 .PHONY: all run test rows peers bench measure install uninstall clean
 
-# Proves each crate and builds the program, crates/rpcbind/out/rpcbind.
+# Proves each crate and builds the programs, crates/rpcbind/out/rpcbind and crates/rpcinfo/out/rpcinfo.
 all:
 	rt all check
 	cd crates/rpcbind && rt run -- replay < /dev/null
+	cd crates/rpcinfo && rt run -- --version
 
 # Three calls from bytes to bytes, before any proof.
 run:
@@ -37,16 +40,16 @@ bench:
 measure:
 	tests/measure-gate.sh
 
-# The built program, its man page and a unit of systemd, with PREFIX in it.
+# The built programs, their man pages and a unit of systemd, with PREFIX in it.
 install:
-	install -d $(DESTDIR)$(PREFIX)/sbin $(DESTDIR)$(PREFIX)/share/man/man8 $(DESTDIR)$(UNITS)
-	install -m 755 crates/rpcbind/out/rpcbind $(DESTDIR)$(PREFIX)/sbin/rpcbind
-	install -m 644 man/rpcbind.8 $(DESTDIR)$(PREFIX)/share/man/man8/rpcbind.8
+	install -d $(SBINDIR) $(MANDIR) $(DESTDIR)$(UNITS)
+	install -m 755 crates/rpcbind/out/rpcbind crates/rpcinfo/out/rpcinfo $(SBINDIR)
+	install -m 644 man/rpcbind.8 man/rpcinfo.8 $(MANDIR)
 	sed 's|@PREFIX@|$(PREFIX)|' packaging/rpcbind-proved.service > $(DESTDIR)$(UNITS)/rpcbind-proved.service
 	chmod 644 $(DESTDIR)$(UNITS)/rpcbind-proved.service
 
 uninstall:
-	rm -f $(DESTDIR)$(PREFIX)/sbin/rpcbind $(DESTDIR)$(PREFIX)/share/man/man8/rpcbind.8
+	rm -f $(SBINDIR)/rpcbind $(SBINDIR)/rpcinfo $(MANDIR)/rpcbind.8 $(MANDIR)/rpcinfo.8
 	rm -f $(DESTDIR)$(UNITS)/rpcbind-proved.service
 
 clean:

@@ -57,7 +57,7 @@ fn are_good(limits: &Limits) -> bool
 }
 
 impl Core {
-    ghost use Rattle.std.specs.Prelude.{◌≡◌, ◌+◌, ◌*◌, ◌≤◌, ◌↔◌, ℕ, length, IsTrue, IfOk, IfErr, IsErrOf, OnErr, not};
+    ghost use Rattle.std.specs.Prelude.{◌≡◌, ◌+◌, ◌*◌, ◌≤◌, ◌↔◌, length, IsTrue, IfOk, IfErr, IsErrOf, OnErr, not};
     ghost use Rattle.rb_xdr.specs.Meter.{Pays, PaysAtMost};
     ghost use Rattle.rb_core.specs.State.{are_good, opening};
     ghost use Rattle.rb_core.specs.Calls.{longest_reply};

@@ -6,8 +6,6 @@ mod engine;
 mod faults;
 mod link;
 mod serving;
-#[cfg(test)]
-mod tests;
 
 pub use daemon::Daemon;
 pub use faults::DaemonFault;

@@ -181,7 +181,9 @@ impl Serving {
         Ok(())
     }
 
-    /// Opens a connection. One that the core or the table has no place for is closed at once.
+    /// Opens a connection. One that the core or the table has no place for is closed at once. Each write goes out at once
+    /// (TCP_NODELAY), since a reply is written fragment by fragment, and the next may not wait for the last to be
+    /// acknowledged.
     fn open(&mut self, registry: &Registry, mut stream: TcpStream, from: SocketAddr) {
         let Some(peer) = peer_of(from) else {
             return;
@@ -192,7 +194,9 @@ impl Serving {
         let token = Token(self.links.vacant_key());
         let interests = Interest::READABLE | Interest::WRITABLE;
         let has_room = self.links.len() < self.links.capacity();
-        if has_room && registry.register(&mut stream, token, interests).is_ok() {
+        let is_ready = stream.set_nodelay(true).is_ok()
+            && registry.register(&mut stream, token, interests).is_ok();
+        if has_room && is_ready {
             self.links.insert_reserved(Link::new(id, stream));
         } else {
             self.engine.closed(id);

@@ -24,8 +24,8 @@ pub struct Call {
     pub request: Request,
 }
 
-/// Answers a procedure without arguments.
-fn answer_void(procedure: VoidProcedure, context: &Context) -> Answer
+/// What a procedure without arguments is answered. It leaves nothing behind.
+fn answer_void(context: &Context, procedure: VoidProcedure) -> Answer
     ensures { result ≡ answer_void context.now procedure }
 {
     match procedure {
@@ -49,7 +49,7 @@ pub fn answer(books: &mut Books, context: &Context, call: Call, meter: &mut Mete
 {
     let Call { head, request } = call;
     match request {
-        Request::Void(procedure) => answer_void(procedure, context),
+        Request::Void(procedure) => answer_void(context, procedure),
         Request::Mapping(MappingProcedure::Set, mapping) => {
             let row = row_of_mapping(owner_of(head.cred), &mapping);
             Answer::Results(Value::Bool(set_row(books, context, &head, row, meter)))

@@ -79,32 +79,21 @@ fn serve(
 
 #[test]
 fn calls_are_read_answered_and_put(rt: HostRuntime) -> Result<(), Fail> {
-    requests_are_of_the_grammar();
-    worked_examples();
     let mut meter = Meter::new();
     let mut out = Kept::new(rt.alloc(), 1000, &mut meter)?;
     let mut books = Books::new(rt.alloc(), LIMIT, &LISTENER, &mut meter)?;
-
-    serve(&mut books, 4, 1, UDP_ROW, &mut out, &mut meter)?;
-    let len = out.len(&mut meter);
-    assert_eq!(rt; out.lend(0..len, &mut meter), b"\0\0\0\x01".as_slice());
-    serve(&mut books, 4, 11, NO_TEXTS, &mut out, &mut meter)?;
-    let len = out.len(&mut meter);
-    assert_eq!(rt; out.lend(0..len, &mut meter), ENTRIES);
-    serve(&mut books, 3, 6, b"", &mut out, &mut meter)?;
-    let len = out.len(&mut meter);
-    assert_eq!(rt;
-        out.lend(0..len, &mut meter),
-        b"\x3b\x9a\xca\x00".as_slice()
-    );
-    serve(&mut books, 4, 2, NO_TEXTS, &mut out, &mut meter)?;
     serve(&mut books, 2, 4, b"", &mut out, &mut meter)?;
     let len = out.len(&mut meter);
     assert_eq!(rt; out.lend(0..len, &mut meter), OWN_ROWS);
+    Ok(())
+}
 
+#[test]
+fn arguments_are_refused(rt: HostRuntime) {
+    requests_are_of_the_grammar();
+    worked_examples();
     assert_eq!(rt; read_args(2, 5, b""), Err(ArgumentFault::ProcUnavail));
     assert_eq!(rt; read_args(2, 1, &[0; 12]), Err(ArgumentFault::GarbageArgs));
-    Ok(())
 }
 
 #[test]

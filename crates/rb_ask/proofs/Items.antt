@@ -1,0 +1,142 @@
+-- A value of XDR that is read byte by byte.
+use Rattle.std.proofs.Common.{◌≡◌, ◌≤◌, ◌<◌, ◌+◌, ◌-◌, ◌⊎◌, ℕ, suc, List, [], ◌∷◌, ◌++◌, length, take, drop, Option, Some, Result, Ok, Err, refl, sym, ap, ◌∙◌, arith, inl, inr, append_assoc, append-nil, length-append, subst}
+use Rattle.std.specs.Prelude.{⊤}
+use Rattle.std.proofs.lemmas.List.{take-append-drop, take_at, drop_at, drop_all, length-take}
+use Rattle.std.proofs.lemmas.Bool.{cases_lt}
+use Rattle.std.proofs.Math.Seq.{take-add}
+use Rattle.std.proofs.KnownBytes.{Appends-nil}
+use Rattle.rb_xdr.specs.declared.fault.XdrFault.{XdrFault}
+use Rattle.rb_xdr.specs.declared.fault.XdrFault.TheVariants.{Short}
+use Rattle.rb_xdr.specs.Xdr.{Reading, Reader}
+use Rattle.rb_xdr.specs.XdrLaws.{BeginsWith}
+use Rattle.rb_xdr.specs.XdrLaws.{IsComplete}
+use Rattle.rb_xdr.specs.Forms.{Form, extent, extent_of, HasForm}
+use Rattle.rb_ask.specs.declared.record.Record.{Record}
+use Rattle.rb_ask.specs.declared.fault.InfoFault.{InfoFault}
+use Rattle.rb_ask.specs.declared.fault.InfoFault.TheVariants.{Read, Unreadable, Memory}
+use Rattle.rb_ask.specs.Data.{Stands}
+use Rattle.rb_ask.specs.Reading.{IsNotRead, Ends, Gives, Holds}
+use Rattle.rb_ask.specs.Telling.{Told, Teller, take_one, told_by, Tells, Outcome, Finished, Stopped, CutOff, lines_of}
+use Rattle.rb_ask.specs.Telling.Told.{Done, Stop}
+use Rattle.rb_ask.proofs.Settles.{Settles, form_settles}
+
+-- the bytes but for the last are no value yet
+abbrev pub IsShort : {A : Type 0} → Reader A → List ℕ → Type 0
+IsShort reads bytes = (k : ℕ) → suc k ≡ length bytes → reads (take k bytes) ≡ Err Short
+
+-- what was read spells the value to its last byte
+pub whole_value : {A : Type 0} (is_value : A → Type 0) (spelling : A → List ℕ) (reads : Reader A) → IsComplete is_value spelling reads
+    → (bytes : List ℕ) (x : A) (n : ℕ) → BeginsWith is_value spelling bytes (x, n) → IsShort reads bytes → bytes ≡ spelling x
+whole_value {A} is_value spelling reads complete bytes x n begins short =
+    elim (cases_lt n (length bytes)) [
+      | inl more ↦ absurd (too_early more)
+      | inr all ↦ text ∙ ap (λ (xs : List ℕ). spelling x ++ xs) (drop_all n bytes all) ∙ append-nil (spelling x)
+    ]
+  where
+    text : bytes ≡ spelling x ++ drop n bytes
+    text = sym (take-append-drop n bytes) ∙ ap (λ (xs : List ℕ). xs ++ drop n bytes) begins.1.1
+
+    too_early : n < length bytes → ⊥
+    too_early more =
+        let k : ℕ = length bytes - 1 in
+        let last : suc k ≡ length bytes = omega (arith, more) in
+        let split : n + (k - n) ≡ k = omega (arith, more) in
+        let front : take k bytes ≡ spelling x ++ take (k - n) (drop n bytes) =
+        ap (λ (m : ℕ). take m bytes) (sym split) ∙ take-add n (k - n) bytes ∙ ap (λ (xs : List ℕ). xs ++ take (k - n) (drop n bytes)) begins.1.1 in
+        let early : ◌≡◌ {A = Reading A} (Err Short) (Ok (x, length (spelling x))) = sym (short k last) ∙ ap reads front ∙ complete x (take (k - n) (drop n bytes)) begins.1.0 in
+        cc
+
+-- a value was read
+pub item_found : {A : Type 0} (is_value : A → Type 0) (spelling : A → List ℕ) (reads : Reader A) → IsComplete is_value spelling reads
+    → (known known' : Option (List ℕ)) (at at' : Record) (bytes : List ℕ) (x : A) (n : ℕ) → BeginsWith is_value spelling bytes (x, n) → IsShort reads bytes → Holds known known' at at' bytes
+    → (held : Option (List ℕ)) → Tells (take_one reads) known known' at at' held held (Ok x)
+unfolding take_one
+item_found {A} is_value spelling reads complete known known' at at' bytes x n begins short holds held =
+    let whole : bytes ≡ spelling x = whole_value is_value spelling reads complete bytes x n begins short in
+    record {
+      outcome = λ all content st.
+          let h = holds all content st in
+          let text : content ≡ spelling x ++ h.0 = h.1 ∙ ap (λ (xs : List ℕ). xs ++ h.0) whole in
+          let read : reads content ≡ Ok (x, length (spelling x)) = ap reads text ∙ complete x h.0 begins.1.0 in
+          let left : drop (length (spelling x)) content ≡ h.0 = ap (drop (length (spelling x))) text ∙ drop_at (spelling x) h.0 (length (spelling x)) refl in
+          record {
+            lines = [];
+            left = h.0;
+            told_is = ap (λ (r : Reading A). told_by r content) read ∙ ap (λ (xs : List ℕ). Done [] x xs) left;
+            stands = h.2;
+            written = Appends-nil held;
+          };
+    }
+
+still_refused : {A : Type 0} (reads : Reader A) (form : Form) → HasForm form reads → (bytes more : List ℕ) (fault : XdrFault) → reads bytes ≡ Err fault → (fault ≡ Short → ⊥) → (content : List ℕ) → told_by (reads (bytes ++ more)) content ≡ Stop [] Unreadable
+still_refused {A} reads form has bytes more fault e other content =
+    let known : (◌≡◌ {A = Reading ⊤} (Err fault) (Err Short)) → ⊥ = λ short. other cc in
+    let refused : extent_of form (bytes ++ more) ≡ Err fault = (form_settles form).keeps bytes more (Err fault) (sym (has bytes) ∙ ap extent e) known in
+    by_value (reads (bytes ++ more)) (has (bytes ++ more) ∙ refused)
+  where
+    by_value : (r : Reading A) → extent r ≡ Err fault → told_by r content ≡ Stop [] Unreadable
+    by_value (Ok x) is = absurd cc
+    by_value (Err f) is = refl
+
+-- the bytes begin with no value, whatever follows them
+pub item_broken : {A : Type 0} (reads : Reader A) (form : Form) → HasForm form reads
+    → (known known' : Option (List ℕ)) (at at' : Record) (bytes : List ℕ) (fault : XdrFault) → Holds known known' at at' bytes → reads bytes ≡ Err fault → (fault ≡ Short → ⊥)
+    → (held : Option (List ℕ)) → Tells {A = A} (take_one reads) known known' at at' held held (Err Unreadable)
+unfolding take_one
+item_broken {A} reads form has known known' at at' bytes fault holds e other held = record {
+  outcome = λ all content st.
+      let h = holds all content st in
+      record {
+        lines = [];
+        told_is = ap (λ (xs : List ℕ). told_by (reads xs) content) h.1 ∙ still_refused reads form has bytes h.0 fault e other content;
+        written = Appends-nil held;
+      };
+}
+
+-- the data ends before the value does
+pub item_cut : {A R : Type 0} (reads : Reader A) (remaining : R → Option (List ℕ)) (known : Option (List ℕ)) (reader : R) (known'' : Option (List ℕ)) (at at' at'' : Record) (bytes : List ℕ)
+    → Holds known (remaining reader) at at' bytes → reads bytes ≡ Err Short → Ends remaining reader at'
+    → (held : Option (List ℕ)) → Tells {A = A} (take_one reads) known known'' at at'' held held (Err Unreadable)
+unfolding take_one
+item_cut {A} {R} reads remaining known reader known'' at at' at'' bytes holds e ends held = record {
+  outcome = λ all content st.
+      let h = holds all content st in
+      let none : h.0 ≡ [] = ends all h.2.read h.0 h.2.passed in
+      let text : content ≡ bytes = h.1 ∙ ap (λ (xs : List ℕ). bytes ++ xs) none ∙ append-nil bytes in
+      record {
+        lines = [];
+        told_is = ap (λ (xs : List ℕ). told_by (reads xs) content) text ∙ ap (λ (r : Reading A). told_by r content) e;
+        written = Appends-nil held;
+      };
+}
+
+-- Nothing was written yet.
+pub nothing_written : {A : Type 0} (told : Told A) (held : Option (List ℕ)) → CutOff told held held
+nothing_written told held = record { lines = []; more = lines_of told; lines_are = refl; written = Appends-nil held }
+
+pub item_fault : {A R : Type 0} (reads : Reader A) (remaining : R → Option (List ℕ)) (known : Option (List ℕ)) (reader : R) (known'' : Option (List ℕ)) (at at' at'' : Record) (bytes : List ℕ) (fault : InfoFault)
+    → Holds known (remaining reader) at at' bytes → reads bytes ≡ Err Short → (fault ≡ Unreadable → Ends remaining reader at') → IsNotRead fault
+    → (held : Option (List ℕ)) → Tells {A = A} (take_one reads) known known'' at at'' held held (Err fault)
+item_fault {A} {R} reads remaining known reader known'' at at' at'' bytes fault holds e ends kind held = elim kind [
+  | inl is ↦ rw is (record { outcome = λ all content st. nothing_written (take_one reads content) held })
+  | inr is ↦ rw is (item_cut reads remaining known reader known'' at at' at'' bytes holds e (ends is) held)
+]
+
+-- one more byte was read
+pub holds_more : {R : Type 0} (remaining : R → Option (List ℕ)) (known : Option (List ℕ)) (reader reader' : R) (at at' at'' : Record) (bytes : List ℕ) (b : ℕ)
+    → Holds known (remaining reader) at at' bytes → Gives remaining reader reader' at' at'' b → Holds known (remaining reader') at at'' (bytes ++ b ∷ [])
+holds_more remaining known reader reader' at at' at'' bytes b holds gives = λ all content st.
+    let h = holds all content st in
+    let g = gives all h.2.read h.0 h.2.passed in
+    (g.0, h.1 ∙ ap (λ (xs : List ℕ). bytes ++ xs) g.1 ∙ sym (append_assoc bytes (b ∷ []) g.0), g.2)
+
+pub holds_none : (known : Option (List ℕ)) (at : Record) → Holds known known at at []
+holds_none known at = λ all content st. (content, refl, st)
+
+pub short_more : {A : Type 0} (reads : Reader A) (bytes : List ℕ) (b : ℕ) → reads bytes ≡ Err Short → IsShort reads (bytes ++ b ∷ [])
+short_more reads bytes b e k len =
+    let size : k ≡ length bytes = omega (arith, len, length-append bytes (b ∷ [])) in
+    ap (λ (m : ℕ). reads (take m (bytes ++ b ∷ []))) size ∙ ap reads (take_at bytes (b ∷ []) (length bytes) refl) ∙ e
+
+pub short_none : {A : Type 0} (reads : Reader A) → IsShort reads []
+short_none reads k len = absurd (omega (arith, len))

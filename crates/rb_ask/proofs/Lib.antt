@@ -1,0 +1,5 @@
+pub mod Records
+pub mod Settles
+pub mod Items
+pub mod Tellings
+pub mod Listed

@@ -1,0 +1,15 @@
+-- The bytes are those that were read, and without the last they were no value yet.
+use Rattle.std.proofs.Common.{List, ℕ}
+use Rattle.rb_xdr.specs.Xdr.{AreBytes}
+use Rattle.rb_ask.specs.Reading.{Holds}
+use Rattle.rb_ask.proofs.Items.{IsShort}
+use Rattle.rb_ask.proofs.item.take_item.Given as goal
+
+abbrev pub invariant-bytes : goal.invariant-bytes
+invariant-bytes g l = record {
+  holds : Holds (g.R.Read.remaining l.initial.reader) (g.R.Read.remaining l.reader) l.initial.at l.at l.bytes.items;
+  short : IsShort g.T.Xdr.reads l.bytes.items;
+}
+
+abbrev pub decreases-bytes : goal.decreases-bytes
+decreases-bytes g l = l.at.allowed

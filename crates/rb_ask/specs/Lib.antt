@@ -1,0 +1,5 @@
+pub mod Data
+pub mod Reading
+pub mod Heads
+pub mod Lists
+pub mod Telling

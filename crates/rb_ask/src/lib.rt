@@ -1,0 +1,14 @@
+//! What a client of the portmapper asks, and how the replies are read and shown.
+#![tactic(auto)]
+
+mod fault;
+mod head;
+mod item;
+mod list;
+mod record;
+
+pub use fault::InfoFault;
+pub use head::take_head;
+pub use item::take_item;
+pub use list::{Style, show_item, show_list};
+pub use record::Record;

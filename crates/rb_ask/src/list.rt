@@ -1,0 +1,66 @@
+//! Lists, whose items are printed one by one as they come.
+ghost use Rattle.std.specs.Prelude.{◌≡◌, List, [], ◌∷◌, ℕ, IfOk};
+ghost use Rattle.std.specs.String.{string_bytes};
+ghost use Rattle.rb_ask.specs.Lists.{tell_items, greatest_list};
+ghost use Rattle.rb_ask.specs.Telling.{tell, Shows, Writes};
+
+use crate::fault::InfoFault;
+use crate::item::take_item;
+use crate::record::Record;
+use rb_xdr::Xdr;
+use std::alloc::{AllocError, Global};
+use std::io::{Read, Write};
+
+/// At most so many items of a list are shown.
+const GREATEST_LIST: u32 = 4096;
+
+/// A form in which the items of a list are shown, each as a line.
+pub trait Style<T> {
+    /// The line of an item, with its end.
+    ghost text: { T → List ℕ };
+
+    fn line(alloc: Global, item: &T) -> Result<String, AllocError>
+        ensures { IfOk result (λ line. string_bytes line ≡ text item.now) };
+}
+
+/// Writes the line of an item.
+#[tactic(auto, using(crate::proofs::Tellings::tells_line, crate::proofs::Tellings::tells_write_fault, crate::proofs::Tellings::tells_memory))]
+pub fn show_item<T: Xdr, S: Style<T>, W: Write>(
+    alloc: Global,
+    item: &T,
+    writer: &mut W,
+) -> Result<(), InfoFault>
+    ensures { Writes W.contents writer.old writer.new (tell (S.text item.now ∷ [])) result }
+{
+    let Ok(line) = S::line(alloc, item) else {
+        return Err(InfoFault::Memory);
+    };
+    if writer.write_all(line.as_bytes()).is_err() {
+        return Err(InfoFault::Write);
+    }
+    Ok(())
+}
+
+/// Shows the items of a list, a line each, and says how many they are.
+pub fn show_list<T: Xdr, S: Style<T>, R: Read, W: Write>(
+    alloc: Global,
+    reader: &mut R,
+    at: &mut Record,
+    writer: &mut W,
+) -> Result<u32, InfoFault>
+    ensures { Shows R.remaining W.contents reader.old reader.new at.old at.new
+        writer.old writer.new (tell_items T.reads S.text greatest_list 0) result }
+{
+    for shown in 0..GREATEST_LIST {
+        let next: Option<T> = take_item(alloc, reader, at)?;
+        match next {
+            None => return Ok(shown),
+            Some(item) => show_item::<T, S, W>(alloc, &item, writer)?,
+        }
+    }
+    let more: bool = take_item(alloc, reader, at)?;
+    if more {
+        return Err(InfoFault::TooMany);
+    }
+    Ok(GREATEST_LIST)
+}

@@ -1,0 +1,4 @@
+pub mod Columns
+pub mod Starts
+pub mod Texts
+pub mod Calls

@@ -1,0 +1,58 @@
+-- What is asked of a portmapper (RFC 1833 sections 2.2 and 3.2), and the call that asks it.
+use Rattle.std.specs.Prelude.{ℕ, List, [], ◌++◌, length, true, Option, Some, None}
+use Rattle.rb_rpc.specs.CallBytes.{call_bytes}
+use Rattle.rb_rpc.specs.declared.call.CallHead.{CallHead}
+use Rattle.rb_rpc.specs.declared.call.Credential.{Credential}
+use Rattle.rb_rpc.specs.declared.call.Credential.TheVariants as credentials
+use Rattle.rb_rpc.specs.Records.{fragment_header}
+use Rattle.rb_proto.specs.declared.rpcb.Rpcb.{Rpcb}
+use Rattle.rb_proto.specs.Types.{mapping_spelling, rpcb_spelling}
+use Rattle.rb_show.specs.declared.ask.Ask.{Ask}
+use Rattle.rb_show.specs.declared.ask.Question.{Question}
+use Rattle.rb_show.specs.declared.ask.Question.TheVariants.{Rows, Short, Pmap, Entries, Stats, Port, Null, Unset}
+
+-- program, version and procedure
+abbrev pub procedure_of : Question → ℕ × ℕ × ℕ
+procedure_of Rows = (100000, 3, 4)
+procedure_of Short = (100000, 3, 4)
+procedure_of Pmap = (100000, 2, 4)
+procedure_of (Entries prog vers) = (100000, 4, 11)
+procedure_of Stats = (100000, 4, 12)
+procedure_of (Port prot prog vers) = (100000, 2, 3)
+procedure_of (Null prog vers) = (prog, vers, 0)
+procedure_of (Unset prog vers) = (100000, 4, 2)
+
+-- a program's version on any netid
+abbrev pub rpcb_of : ℕ → ℕ → Rpcb
+rpcb_of prog vers = record { prog = prog; vers = vers; netid = []; addr = []; owner = [] }
+
+abbrev pub arguments_of : Question → List ℕ
+arguments_of Rows = []
+arguments_of Short = []
+arguments_of Pmap = []
+arguments_of (Entries prog vers) = rpcb_spelling (rpcb_of prog vers)
+arguments_of Stats = []
+arguments_of (Port prot prog vers) = mapping_spelling (record { prog = prog; vers = vers; prot = prot; port = 0 })
+arguments_of (Null prog vers) = []
+arguments_of (Unset prog vers) = rpcb_spelling (rpcb_of prog vers)
+
+-- AUTH_NONE without a uid
+abbrev pub credential_of : Option ℕ → Credential
+credential_of (Some uid) = credentials.Sys uid
+credential_of None = credentials.None
+
+abbrev pub head_of : Ask → ℕ → CallHead
+head_of ask xid = record {
+  xid = xid;
+  prog = (procedure_of ask.question).0;
+  vers = (procedure_of ask.question).1;
+  proc = (procedure_of ask.question).2;
+  cred = credential_of ask.uid;
+}
+
+unfoldable pub call_of : Ask → ℕ → List ℕ
+call_of ask xid = call_bytes (head_of ask xid) ++ arguments_of ask.question
+
+-- in one fragment
+abbrev pub marked_call : Ask → ℕ → List ℕ
+marked_call ask xid = fragment_header (length (call_of ask xid)) true ++ call_of ask xid

@@ -1,0 +1,4 @@
+pub mod Asks
+pub mod Lines
+pub mod Counts
+pub mod Replies

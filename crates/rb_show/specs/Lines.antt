@@ -1,0 +1,49 @@
+-- The lines that are printed.
+use Rattle.std.specs.Prelude.{ℕ, ◌==◌, ◌-◌, nat_le, ◌&&◌, if◌then◌else◌, List, [], ◌∷◌, ◌++◌, map, length, replicate, codes}
+use Rattle.std.specs.Fmt.{decimal}
+use Rattle.rb_proto.specs.declared.mapping.Mapping.{Mapping}
+use Rattle.rb_proto.specs.declared.rpcb.Rpcb.{Rpcb}
+use Rattle.rb_proto.specs.declared.entry.Entry.{Entry}
+
+-- ---- texts of a reply
+
+-- a byte that is no printable ASCII character is shown as `?`
+abbrev pub shown_byte : ℕ → ℕ
+shown_byte b = if nat_le 33 b && nat_le b 126 then b else 63
+
+-- an empty text is shown as `-`
+abbrev pub shown_text : List ℕ → List ℕ
+shown_text [] = codes "-"
+shown_text (b ∷ text) = map shown_byte (b ∷ text)
+
+-- ---- columns
+
+abbrev pub at_right : ℕ → List ℕ → List ℕ
+at_right width text = replicate (width - length text) 32 ++ text
+
+abbrev pub at_left : ℕ → List ℕ → List ℕ
+at_left width text = text ++ replicate (width - length text) 32
+
+abbrev pub prot_text : ℕ → List ℕ
+prot_text prot = if prot == 6 then codes "tcp" else if prot == 17 then codes "udp" else decimal prot
+
+-- ---- lines
+
+-- of the table of mappings
+abbrev pub heading : List ℕ
+heading = codes "   program   vers proto  port\n"
+
+abbrev pub mapping_line : Mapping → List ℕ
+mapping_line m = at_right 10 (decimal m.prog) ++ (codes " " ++ (at_right 6 (decimal m.vers) ++ (codes " "
+    ++ (at_left 5 (prot_text m.prot) ++ (codes " " ++ (at_right 5 (decimal m.port) ++ codes "\n"))))))
+
+-- program, version, netid, address and owner
+abbrev pub row_line : Rpcb → List ℕ
+row_line r = decimal r.prog ++ (codes " " ++ (decimal r.vers ++ (codes " " ++ (shown_text r.netid ++ (codes " " ++ (shown_text r.addr ++ (codes " " ++ (shown_text r.owner ++ codes "\n"))))))))
+
+abbrev pub short_line : Rpcb → List ℕ
+short_line r = decimal r.prog ++ (codes " " ++ (decimal r.vers ++ (codes " " ++ (shown_text r.netid ++ codes "\n"))))
+
+-- netid, address, semantics, family and protocol
+abbrev pub entry_line : Entry → List ℕ
+entry_line e = shown_text e.netid ++ (codes " " ++ (shown_text e.maddr ++ (codes " " ++ (decimal e.semantics ++ (codes " " ++ (shown_text e.protofmly ++ (codes " " ++ (shown_text e.proto ++ codes "\n"))))))))

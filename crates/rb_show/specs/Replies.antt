@@ -1,0 +1,85 @@
+-- What the reply to each question tells (RFC 1833 sections 2.2 and 3.2).
+use Rattle.std.specs.Prelude.{◌≡◌, ℕ, Option, Some, Result, ◌==◌, Bool, true, false, if◌then◌else◌, List, [], ◌∷◌, ◌++◌, codes}
+use Rattle.std.specs.Fmt.{decimal}
+use Rattle.rb_xdr.specs.Xdr.{Reader, read_number, read_bool}
+use Rattle.rb_rpc.specs.declared.reply.ReplyHead.{ReplyHead}
+use Rattle.rb_rpc.specs.declared.reply.ReplyStatus.{ReplyStatus}
+use Rattle.rb_rpc.specs.declared.reply.ReplyStatus.TheVariants as statuses
+use Rattle.rb_proto.specs.Types.{read_mapping, read_rpcb, read_entry}
+use Rattle.rb_rpc.specs.Records.{data_of}
+use Rattle.rb_ask.specs.declared.record.Record.{Record}
+use Rattle.rb_ask.specs.declared.fault.InfoFault.{InfoFault}
+use Rattle.rb_ask.specs.declared.fault.InfoFault.TheVariants.{Unreadable, Refused}
+use Rattle.rb_ask.specs.Telling.{Teller, ◌>>=◌, give, stop, tell, take_one, Outcome}
+use Rattle.rb_ask.specs.Heads.{take_head}
+use Rattle.rb_ask.specs.Lists.{tell_items, greatest_list}
+use Rattle.rb_show.specs.declared.ask.Ask.{Ask}
+use Rattle.rb_show.specs.declared.ask.Question.{Question}
+use Rattle.rb_show.specs.declared.ask.Question.TheVariants.{Rows, Short, Pmap, Entries, Stats, Port, Null, Unset}
+use Rattle.rb_show.specs.declared.show.Shown.{Shown}
+use Rattle.rb_show.specs.declared.show.Shown.TheVariants as shown
+use Rattle.rb_show.specs.Counts.{tell_statistics}
+use Rattle.rb_show.specs.Lines.{heading, mapping_line, row_line, short_line, entry_line}
+
+-- the items of a list, a line each
+unfoldable pub tell_list : {A : Type 0} → Reader A → (A → List ℕ) → Teller Shown
+tell_list reads line = tell_items reads line greatest_list 0 >>= λ n. give (shown.Rows n)
+
+-- behind its heading
+unfoldable pub tell_table : Teller Shown
+tell_table = tell (heading ∷ []) >>= λ _. tell_list read_mapping mapping_line
+
+unfoldable pub tell_port : Teller Shown
+tell_port = take_one read_number >>= λ port. give (shown.Port port)
+
+abbrev pub ready_line : ℕ → ℕ → List ℕ
+ready_line prog vers = codes "program " ++ (decimal prog ++ (codes " version " ++ (decimal vers ++ codes " ready\n")))
+
+unfoldable pub tell_ready : ℕ → ℕ → Teller Shown
+tell_ready prog vers = tell (ready_line prog vers ∷ []) >>= λ _. give shown.Null
+
+abbrev pub removed_line : Bool → List ℕ
+removed_line removed = if removed then codes "removed\n" else codes "not removed\n"
+
+unfoldable pub tell_removed : Bool → Teller Shown
+tell_removed removed = tell (removed_line removed ∷ []) >>= λ _. give (shown.Removed removed)
+
+unfoldable pub tell_unset : Teller Shown
+tell_unset = take_one read_bool >>= tell_removed
+
+abbrev pub tell_results : Question → Teller Shown
+tell_results Rows = tell_list read_rpcb row_line
+tell_results Short = tell_list read_rpcb short_line
+tell_results Pmap = tell_table
+tell_results (Entries prog vers) = tell_list read_entry entry_line
+tell_results Stats = tell_statistics
+tell_results (Port prot prog vers) = tell_port
+tell_results (Null prog vers) = tell_ready prog vers
+tell_results (Unset prog vers) = tell_unset
+
+abbrev pub is_success : ReplyStatus → Bool
+is_success statuses.Success = true
+is_success statuses.ProgUnavail = false
+is_success (statuses.ProgMismatch low high) = false
+is_success statuses.ProcUnavail = false
+is_success statuses.GarbageArgs = false
+is_success statuses.SystemErr = false
+is_success (statuses.RpcMismatch low high) = false
+is_success (statuses.AuthError stat) = false
+
+abbrev pub by_status : Question → ReplyHead → Teller Shown
+by_status question head = if is_success head.status then tell_results question else stop (Refused head)
+
+-- a reply by another xid answers another call
+unfoldable pub by_head : Question → ℕ → ReplyHead → Teller Shown
+by_head question xid head = if head.xid == xid then by_status question head else stop Unreadable
+
+unfoldable pub tell_reply : Ask → ℕ → Teller Shown
+tell_reply ask xid = take_head >>= by_head ask.question xid
+
+-- Where the bytes that the reader has are known, what is written, and what is left unread, is what the reply tells that
+-- is the data of their first marked record, as far as they go.
+abbrev pub IsShown : {R W : Type 0} → (R → Option (List ℕ)) → (W → Option (List ℕ)) → Ask → ℕ → R → R → W → W → Result Shown InfoFault → Type 0
+IsShown remaining contents ask xid reader reader' writer writer' result =
+    (bytes : List ℕ) → remaining reader ≡ Some bytes
+    → (at : Record) × Outcome (tell_reply ask xid (data_of bytes)) bytes (remaining reader') at (contents writer) (contents writer') result

@@ -1,0 +1,145 @@
+//! What a portmapper is asked, and the call that asks it.
+ghost use Rattle.std.specs.Prelude.{◌≡◌, ◌⊎◌, OnOk, IfErr};
+ghost use Rattle.std.specs.Io.KnownBytes.{Appends};
+ghost use Rattle.rb_xdr.specs.Puts.{Appends as Adds};
+ghost use Rattle.rb_show.specs.Asks.{head_of, call_of, arguments_of, marked_call};
+
+use rb_ask::InfoFault;
+use rb_proto::{Mapping, Rpcb};
+use rb_rpc::{CallHead, Credential, fragment_header, put_call};
+use rb_xdr::{Full, Kept, Meter, Text, Xdr};
+use std::alloc::Global;
+use std::io::Write;
+
+/// Program 100000, the portmapper.
+const PORTMAPPER: u32 = 100_000;
+
+/// More bytes than any call has.
+const LONGEST_CALL: usize = 1024;
+
+/// What is asked.
+#[derive(Clone, Copy, Debug, PartialEq, Eq)]
+pub enum Question {
+    /// DUMP of version 3, shown with addresses and owners.
+    Rows,
+    /// The same, shown without them.
+    Short,
+    /// DUMP of version 2, shown as a table.
+    Pmap,
+    /// GETADDRLIST of a program and a version.
+    Entries(u32, u32),
+    /// GETSTAT of version 4.
+    Stats,
+    /// GETPORT of version 2, of a protocol, a program and a version.
+    Port(u32, u32, u32),
+    /// Procedure 0 of a program and a version.
+    Null(u32, u32),
+    /// UNSET of version 4, of a program and a version on all netids.
+    Unset(u32, u32),
+}
+
+/// What is asked, and by which user; as nobody without a uid.
+#[derive(Clone, Copy, Debug, PartialEq, Eq)]
+pub struct Ask {
+    pub question: Question,
+    pub uid: Option<u32>,
+}
+
+impl Ask {
+    fn head(&self, xid: u32) -> CallHead
+        ensures { result ≡ head_of self.now xid }
+    {
+        let (prog, vers, proc) = match self.question {
+            Question::Rows | Question::Short => (PORTMAPPER, 3, 4),
+            Question::Pmap => (PORTMAPPER, 2, 4),
+            Question::Entries(_, _) => (PORTMAPPER, 4, 11),
+            Question::Stats => (PORTMAPPER, 4, 12),
+            Question::Port(_, _, _) => (PORTMAPPER, 2, 3),
+            Question::Null(prog, vers) => (prog, vers, 0),
+            Question::Unset(_, _) => (PORTMAPPER, 4, 2),
+        };
+        let cred = match self.uid {
+            Some(uid) => Credential::Sys(uid),
+            None => Credential::None,
+        };
+        CallHead {
+            xid,
+            prog,
+            vers,
+            proc,
+            cred,
+        }
+    }
+}
+
+/// Puts the arguments of a question, where there is room.
+fn put_arguments(question: Question, out: &mut Kept, meter: &mut Meter) -> Result<(), Full>
+    requires { meter.old.tie ≡ out.old.tie }
+    ensures ok { OnOk result (Adds (arguments_of question) out.old out.new) }
+    ensures tie { OnOk result (meter.new.tie ≡ out.new.tie) }
+{
+    match question {
+        Question::Entries(prog, vers) | Question::Unset(prog, vers) => {
+            let nothing: &[u8] = &[];
+            let rpcb = Rpcb {
+                prog,
+                vers,
+                netid: Text::new(nothing),
+                addr: Text::new(nothing),
+                owner: Text::new(nothing),
+            };
+            rpcb.put(out, meter)
+        }
+        Question::Port(prot, prog, vers) => {
+            let mapping = Mapping {
+                prog,
+                vers,
+                prot,
+                port: 0,
+            };
+            mapping.put(out, meter)
+        }
+        Question::Rows | Question::Short | Question::Pmap | Question::Stats | Question::Null(..) =>
+            Ok(()),
+    }
+}
+
+/// Puts a call, where there is room.
+#[tactic(auto, unfolding(crate::specs::Asks::call_of))]
+fn put_ask(ask: &Ask, xid: u32, out: &mut Kept, meter: &mut Meter) -> Result<(), Full>
+    requires { meter.old.tie ≡ out.old.tie }
+    ensures ok { OnOk result (Adds (call_of ask.now xid) out.old out.new) }
+    ensures tie { OnOk result (meter.new.tie ≡ out.new.tie) }
+{
+    put_call(&ask.head(xid), out, meter)?;
+    put_arguments(ask.question, out, meter)
+}
+
+/// Writes the marked call that asks, in one fragment, and nothing else. The faults are `Memory`, and `Write` where the
+/// writer refuses.
+pub fn write_call<W: Write>(
+    alloc: Global,
+    ask: &Ask,
+    xid: u32,
+    writer: &mut W,
+) -> Result<(), InfoFault>
+    ensures written { OnOk result
+        (Appends (W.contents writer.old) (W.contents writer.new) (marked_call ask.now xid)) }
+    ensures faults { IfErr result (λ fault. (fault ≡ InfoFault.Memory) ⊎ (fault ≡ InfoFault.Write)) }
+{
+    let mut meter = Meter::new();
+    let Ok(mut call) = Kept::new(alloc, LONGEST_CALL, &mut meter) else {
+        return Err(InfoFault::Memory);
+    };
+    // there is room for every call
+    if put_ask(ask, xid, &mut call, &mut meter).is_err() {
+        return Err(InfoFault::Memory);
+    }
+    let len = call.len(&mut meter);
+    let header = fragment_header(len, true);
+    let bytes = call.lend(0..len, &mut meter);
+    if writer.write_all(&header).is_err() || writer.write_all(bytes).is_err() {
+        return Err(InfoFault::Write);
+    }
+    Ok(())
+}

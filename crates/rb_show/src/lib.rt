@@ -1,0 +1,13 @@
+//! What a user asks of a portmapper, and what is shown of its reply (RFC 1833).
+#![tactic(auto)]
+
+mod ask;
+mod lines;
+mod show;
+mod statistics;
+#[cfg(test)]
+mod tests;
+
+pub use ask::{Ask, Question, write_call};
+pub use rb_ask::InfoFault;
+pub use show::{Shown, show_reply};

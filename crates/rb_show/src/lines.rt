@@ -1,0 +1,98 @@
+//! The lines that are printed.
+ghost use Rattle.std.specs.Prelude.{◌≡◌, IfOk};
+ghost use Rattle.std.specs.String.{string_bytes};
+ghost use Rattle.rb_show.specs.Lines.{shown_byte, shown_text, mapping_line, row_line, short_line, entry_line};
+
+use rb_ask::Style;
+use rb_proto::{Entry, Mapping, Rpcb};
+use std::alloc::{AllocError, Global};
+
+fn shown_char(byte: u8) -> char
+    ensures { result ≡ shown_byte byte }
+{
+    if byte.is_ascii_graphic() {
+        char::from(byte)
+    } else {
+        '?'
+    }
+}
+
+/// A text of a reply, with `?` for each byte that is no printable character, and `-` for none.
+pub(crate) fn shown_text(alloc: Global, text: &[u8]) -> Result<String, AllocError>
+    ensures { IfOk result (λ shown. string_bytes shown ≡ shown_text text.now) }
+{
+    if text.is_empty() {
+        return String::from_str(alloc, "-");
+    }
+    let mut shown = String::new(alloc);
+    for byte in text {
+        shown.push(shown_char(*byte))?;
+    }
+    Ok(shown)
+}
+
+/// The table of mappings.
+pub struct Table;
+
+impl Style<Mapping> for Table {
+    ghost text = { mapping_line };
+
+    #[tactic(auto, using(crate::proofs::Columns::padded_right, crate::proofs::Columns::padded_left))]
+    fn line(alloc: Global, item: &Mapping) -> Result<String, AllocError> {
+        let Mapping {
+            prog,
+            vers,
+            prot,
+            port,
+        } = *item;
+        match prot {
+            6 => format!(in alloc; "{prog:>10} {vers:>6} tcp   {port:>5}\n"),
+            17 => format!(in alloc; "{prog:>10} {vers:>6} udp   {port:>5}\n"),
+            _ => format!(in alloc; "{prog:>10} {vers:>6} {prot:<5} {port:>5}\n"),
+        }
+    }
+}
+
+/// Rows with their addresses and owners.
+pub struct RowLines;
+
+impl Style<Rpcb> for RowLines {
+    ghost text = { row_line };
+
+    fn line(alloc: Global, item: &Rpcb) -> Result<String, AllocError> {
+        let netid = shown_text(alloc, item.netid.as_slice())?;
+        let addr = shown_text(alloc, item.addr.as_slice())?;
+        let owner = shown_text(alloc, item.owner.as_slice())?;
+        let (prog, vers) = (item.prog, item.vers);
+        format!(in alloc; "{prog} {vers} {netid} {addr} {owner}\n")
+    }
+}
+
+/// Rows without them.
+pub struct ShortLines;
+
+impl Style<Rpcb> for ShortLines {
+    ghost text = { short_line };
+
+    fn line(alloc: Global, item: &Rpcb) -> Result<String, AllocError> {
+        let netid = shown_text(alloc, item.netid.as_slice())?;
+        let (prog, vers) = (item.prog, item.vers);
+        format!(in alloc; "{prog} {vers} {netid}\n")
+    }
+}
+
+/// Addresses of a program's version.
+pub struct EntryLines;
+
+impl Style<Entry> for EntryLines {
+    ghost text = { entry_line };
+
+    fn line(alloc: Global, item: &Entry) -> Result<String, AllocError> {
+        let netid = shown_text(alloc, item.netid.as_slice())?;
+        let maddr = shown_text(alloc, item.maddr.as_slice())?;
+        let family = shown_text(alloc, item.protofmly.as_slice())?;
+        let proto = shown_text(alloc, item.proto.as_slice())?;
+        let semantics = item.semantics;
+        format!(in alloc; "{netid} {maddr} {semantics} {family} {proto}\n")
+    }
+}

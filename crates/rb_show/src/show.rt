@@ -1,0 +1,209 @@
+//! Shows what a reply tells.
+ghost use Rattle.std.specs.Prelude.{◌≡◌, List, [], ◌∷◌, ℕ};
+ghost use Rattle.rb_ask.specs.Telling.{tell, Shows, Takes, Writes};
+ghost use Rattle.rb_show.specs.Replies.{tell_list, tell_table, tell_port, tell_ready, tell_removed, removed_line, tell_unset, tell_results, is_success, by_head, IsShown};
+
+use crate::ask::{Ask, Question};
+use crate::lines::{EntryLines, RowLines, ShortLines, Table};
+use crate::statistics::show_statistics;
+use rb_ask::{InfoFault, Record, Style, show_list, take_head, take_item};
+use rb_proto::{Entry, Mapping, Rpcb};
+use rb_rpc::{ReplyHead, ReplyStatus};
+use rb_xdr::Xdr;
+use std::alloc::Global;
+use std::io::{Read, Write};
+
+/// What was shown.
+#[derive(Clone, Copy, Debug, PartialEq, Eq)]
+pub enum Shown {
+    /// So many rows or entries.
+    Rows(u32),
+    /// So many items of statistics, beside the numbers of each version.
+    Statistics(u64),
+    /// The port of GETPORT, of which nothing is printed.
+    Port(u32),
+    /// Procedure 0 answered.
+    Null,
+    /// Whether UNSET removed a row.
+    Removed(bool),
+}
+
+/// The heading of the table of mappings.
+const HEADING: &[u8] = b"   program   vers proto  port\n";
+
+/// Writes a line.
+#[tactic(auto, using(rb_ask::proofs::Tellings::tells_line, rb_ask::proofs::Tellings::tells_write_fault))]
+fn show_line<W: Write>(line: &[u8], writer: &mut W) -> Result<(), InfoFault>
+    ensures { Writes W.contents writer.old writer.new (tell (line.now ∷ [])) result }
+{
+    if writer.write_all(line).is_err() {
+        return Err(InfoFault::Write);
+    }
+    Ok(())
+}
+
+/// Shows the items of a list.
+fn show_items<T: Xdr, S: Style<T>, R: Read, W: Write>(
+    alloc: Global,
+    reader: &mut R,
+    at: &mut Record,
+    writer: &mut W,
+) -> Result<Shown, InfoFault>
+    ensures { Shows R.remaining W.contents reader.old reader.new at.old at.new
+        writer.old writer.new (tell_list T.reads S.text) result }
+{
+    let rows = show_list::<T, S, R, W>(alloc, reader, at, writer)?;
+    Ok(Shown::Rows(rows))
+}
+
+/// Shows the mappings of version 2 as a table.
+fn show_table<R: Read, W: Write>(
+    alloc: Global,
+    reader: &mut R,
+    at: &mut Record,
+    writer: &mut W,
+) -> Result<Shown, InfoFault>
+    ensures { Shows R.remaining W.contents reader.old reader.new at.old at.new
+        writer.old writer.new tell_table result }
+{
+    show_line(HEADING, writer)?;
+    show_items::<Mapping, Table, R, W>(alloc, reader, at, writer)
+}
+
+/// Takes the port of GETPORT.
+fn take_port<R: Read>(alloc: Global, reader: &mut R, at: &mut Record) -> Result<Shown, InfoFault>
+    ensures { Takes R.remaining reader.old reader.new at.old at.new tell_port result }
+{
+    let port: u32 = take_item(alloc, reader, at)?;
+    Ok(Shown::Port(port))
+}
+
+/// Says that procedure 0 answered.
+#[tactic(auto, using(rb_ask::proofs::Tellings::tells_memory))]
+fn show_ready<W: Write>(
+    alloc: Global,
+    prog: u32,
+    vers: u32,
+    writer: &mut W,
+) -> Result<Shown, InfoFault>
+    ensures { Writes W.contents writer.old writer.new (tell_ready prog vers) result }
+{
+    let Ok(line) = format!(in alloc; "program {prog} version {vers} ready\n") else {
+        return Err(InfoFault::Memory);
+    };
+    show_line(line.as_bytes(), writer)?;
+    Ok(Shown::Null)
+}
+
+fn removed_line(removed: bool) -> &'static [u8]
+    ensures { result.now ≡ removed_line removed }
+{
+    if removed {
+        b"removed\n"
+    } else {
+        b"not removed\n"
+    }
+}
+
+/// Says whether UNSET removed a row.
+fn show_removed<W: Write>(removed: bool, writer: &mut W) -> Result<Shown, InfoFault>
+    ensures { Writes W.contents writer.old writer.new (tell_removed removed) result }
+{
+    show_line(removed_line(removed), writer)?;
+    Ok(Shown::Removed(removed))
+}
+
+fn show_unset<R: Read, W: Write>(
+    alloc: Global,
+    reader: &mut R,
+    at: &mut Record,
+    writer: &mut W,
+) -> Result<Shown, InfoFault>
+    ensures { Shows R.remaining W.contents reader.old reader.new at.old at.new
+        writer.old writer.new tell_unset result }
+{
+    let removed: bool = take_item(alloc, reader, at)?;
+    show_removed(removed, writer)
+}
+
+/// Shows the results that a question is answered with.
+fn show_results<R: Read, W: Write>(
+    alloc: Global,
+    question: Question,
+    reader: &mut R,
+    at: &mut Record,
+    writer: &mut W,
+) -> Result<Shown, InfoFault>
+    ensures { Shows R.remaining W.contents reader.old reader.new at.old at.new
+        writer.old writer.new (tell_results question) result }
+{
+    match question {
+        Question::Rows => show_items::<Rpcb, RowLines, R, W>(alloc, reader, at, writer),
+        Question::Short => show_items::<Rpcb, ShortLines, R, W>(alloc, reader, at, writer),
+        Question::Pmap => show_table(alloc, reader, at, writer),
+        Question::Entries(_, _) => show_items::<Entry, EntryLines, R, W>(alloc, reader, at, writer),
+        Question::Stats => show_statistics(alloc, reader, at, writer),
+        Question::Port(_, _, _) => take_port(alloc, reader, at),
+        Question::Null(prog, vers) => show_ready(alloc, prog, vers, writer),
+        Question::Unset(_, _) => show_unset(alloc, reader, at, writer),
+    }
+}
+
+fn is_success(status: ReplyStatus) -> bool
+    ensures { result ≡ is_success status }
+{
+    match status {
+        ReplyStatus::Success => true,
+        ReplyStatus::ProgUnavail
+        | ReplyStatus::ProgMismatch(_, _)
+        | ReplyStatus::ProcUnavail
+        | ReplyStatus::GarbageArgs
+        | ReplyStatus::SystemErr
+        | ReplyStatus::RpcMismatch(_, _)
+        | ReplyStatus::AuthError(_) => false,
+    }
+}
+
+/// Shows what follows the head of a reply.
+#[tactic(auto, using(rb_ask::proofs::Tellings::tells_stop, crate::proofs::Starts::tells_refused), unfolding(crate::specs::Replies::by_head))]
+fn show_answer<R: Read, W: Write>(
+    alloc: Global,
+    question: Question,
+    xid: u32,
+    head: ReplyHead,
+    reader: &mut R,
+    at: &mut Record,
+    writer: &mut W,
+) -> Result<Shown, InfoFault>
+    ensures { Shows R.remaining W.contents reader.old reader.new at.old at.new
+        writer.old writer.new (by_head question xid head) result }
+{
+    if head.xid != xid {
+        return Err(InfoFault::Unreadable);
+    }
+    if !is_success(head.status) {
+        return Err(InfoFault::Refused(head));
+    }
+    show_results(alloc, question, reader, at, writer)
+}
+
+/// Reads the marked reply to the call with this xid, and writes what it tells, a line for each row as it comes.
+///
+/// Of the record as much is read as the results need, and no byte behind them. It is `Unreadable` where the data is no
+/// reply to this call or ends before its results, `Refused` where the reply is another than SUCCESS, `TooMany` at the
+/// 4,097th row, and `Read` where the reader fails or more than 16,777,216 bytes are needed. Before each of these, and
+/// before `Memory`, whole lines were written.
+pub fn show_reply<R: Read, W: Write>(
+    alloc: Global,
+    ask: &Ask,
+    xid: u32,
+    reader: &mut R,
+    writer: &mut W,
+) -> Result<Shown, InfoFault>
+    ensures { IsShown R.remaining W.contents ask.now xid reader.old reader.new
+        writer.old writer.new result }
+{
+    let mut at = Record::new();
+    let head = take_head(alloc, reader, &mut at)?;
+    show_answer(alloc, ask.question, xid, head, reader, &mut at, writer)
+}

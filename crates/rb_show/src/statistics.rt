@@ -1,0 +1,197 @@
+//! The statistics of GETSTAT (RFC 1833 section 2.1, rpcb_stat_byvers).
+ghost use Rattle.std.specs.Prelude.{◌≡◌, [], ◌∷◌, IfOk};
+ghost use Rattle.std.specs.String.{string_bytes};
+ghost use Rattle.rb_ask.specs.Telling.{tell, Shows, Writes};
+ghost use Rattle.rb_show.specs.Counts.{four_text, version_line, info_line, sets_line, addr_line, procedure_text, outcomes_text, call_line, tell_numbers, tell_lists, tell_version, tell_statistics, total};
+
+use crate::lines::shown_text;
+use crate::show::Shown;
+use rb_ask::{InfoFault, Record, Style, show_item, show_list, take_item};
+use rb_xdr::Text;
+use std::alloc::{AllocError, Global};
+use std::io::{Read, Write};
+
+type Four = ((i32, i32), (i32, i32));
+
+/// info[13], setinfo and unsetinfo.
+type Numbers = ((Four, Four), (Four, (i32, (i32, i32))));
+
+/// An item of rpcbs_addrlist: program and version; success and failure; netid.
+type LookUps = ((u32, u32), ((i32, i32), Text<32>));
+
+/// An item of rpcbs_rmtcalllist: program, version and procedure; success, failure and indirect;
+/// netid.
+type Forwards = ((u32, (u32, u32)), ((i32, (i32, i32)), Text<32>));
+
+fn four_text(alloc: Global, four: Four) -> Result<String, AllocError>
+    ensures { IfOk result (λ text. string_bytes text ≡ four_text four) }
+{
+    let ((a, b), (c, d)) = four;
+    format!(in alloc; "{a} {b} {c} {d}")
+}
+
+struct VersionLine;
+
+impl Style<u32> for VersionLine {
+    ghost text = { version_line };
+
+    fn line(alloc: Global, item: &u32) -> Result<String, AllocError> {
+        let vers = *item;
+        format!(in alloc; "version {vers}\n")
+    }
+}
+
+struct InfoLine;
+
+impl Style<Numbers> for InfoLine {
+    ghost text = { info_line };
+
+    fn line(alloc: Global, item: &Numbers) -> Result<String, AllocError> {
+        let ((first, second), (third, (last, _))) = *item;
+        let first = four_text(alloc, first)?;
+        let second = four_text(alloc, second)?;
+        let third = four_text(alloc, third)?;
+        format!(in alloc; "info {first} {second} {third} {last}\n")
+    }
+}
+
+struct SetsLine;
+
+impl Style<Numbers> for SetsLine {
+    ghost text = { sets_line };
+
+    fn line(alloc: Global, item: &Numbers) -> Result<String, AllocError> {
+        let (_, (_, (_, (set, unset)))) = *item;
+        format!(in alloc; "set {set} unset {unset}\n")
+    }
+}
+
+struct AddrLines;
+
+impl Style<LookUps> for AddrLines {
+    ghost text = { addr_line };
+
+    fn line(alloc: Global, item: &LookUps) -> Result<String, AllocError> {
+        let netid = shown_text(alloc, item.1.1.as_slice())?;
+        let (prog, vers) = item.0;
+        let (success, failure) = item.1.0;
+        format!(in alloc; "addr {prog} {vers} {netid} {success} {failure}\n")
+    }
+}
+
+fn procedure_text(alloc: Global, procedure: (u32, (u32, u32))) -> Result<String, AllocError>
+    ensures { IfOk result (λ text. string_bytes text ≡ procedure_text procedure) }
+{
+    let (prog, (vers, proc)) = procedure;
+    format!(in alloc; "{prog} {vers} {proc}")
+}
+
+fn outcomes_text(alloc: Global, outcomes: (i32, (i32, i32))) -> Result<String, AllocError>
+    ensures { IfOk result (λ text. string_bytes text ≡ outcomes_text outcomes) }
+{
+    let (success, (failure, indirect)) = outcomes;
+    format!(in alloc; "{success} {failure} {indirect}")
+}
+
+struct CallLines;
+
+impl Style<Forwards> for CallLines {
+    ghost text = { call_line };
+
+    fn line(alloc: Global, item: &Forwards) -> Result<String, AllocError> {
+        let procedure = procedure_text(alloc, item.0)?;
+        let netid = shown_text(alloc, item.1.1.as_slice())?;
+        let outcomes = outcomes_text(alloc, item.1.0)?;
+        format!(in alloc; "call {procedure} {netid} {outcomes}\n")
+    }
+}
+
+fn show_heading<W: Write>(alloc: Global, vers: u32, writer: &mut W) -> Result<(), InfoFault>
+    ensures { Writes W.contents writer.old writer.new (tell (version_line vers ∷ [])) result }
+{
+    show_item::<u32, VersionLine, W>(alloc, &vers, writer)
+}
+
+fn show_info<W: Write>(alloc: Global, numbers: &Numbers, writer: &mut W) -> Result<(), InfoFault>
+    ensures { Writes W.contents writer.old writer.new (tell (info_line numbers.now ∷ [])) result }
+{
+    show_item::<Numbers, InfoLine, W>(alloc, numbers, writer)
+}
+
+fn show_sets<W: Write>(alloc: Global, numbers: &Numbers, writer: &mut W) -> Result<(), InfoFault>
+    ensures { Writes W.contents writer.old writer.new (tell (sets_line numbers.now ∷ [])) result }
+{
+    show_item::<Numbers, SetsLine, W>(alloc, numbers, writer)
+}
+
+/// Shows the numbers of a version.
+fn show_numbers<W: Write>(
+    alloc: Global,
+    vers: u32,
+    numbers: &Numbers,
+    writer: &mut W,
+) -> Result<(), InfoFault>
+    ensures { Writes W.contents writer.old writer.new (tell_numbers vers numbers.now) result }
+{
+    show_heading(alloc, vers, writer)?;
+    show_info(alloc, numbers, writer)?;
+    show_sets(alloc, numbers, writer)
+}
+
+/// Shows the two lists of a version, and says how many items they have.
+fn show_lists<R: Read, W: Write>(
+    alloc: Global,
+    reader: &mut R,
+    at: &mut Record,
+    writer: &mut W,
+) -> Result<(u32, u32), InfoFault>
+    ensures { Shows R.remaining W.contents reader.old reader.new at.old at.new
+        writer.old writer.new tell_lists result }
+{
+    let found = show_list::<LookUps, AddrLines, R, W>(alloc, reader, at, writer)?;
+    let called = show_list::<Forwards, CallLines, R, W>(alloc, reader, at, writer)?;
+    Ok((found, called))
+}
+
+/// Shows the statistics of a version.
+fn show_version<R: Read, W: Write>(
+    alloc: Global,
+    vers: u32,
+    reader: &mut R,
+    at: &mut Record,
+    writer: &mut W,
+) -> Result<(u32, u32), InfoFault>
+    ensures { Shows R.remaining W.contents reader.old reader.new at.old at.new
+        writer.old writer.new (tell_version vers) result }
+{
+    let numbers: Numbers = take_item(alloc, reader, at)?;
+    show_numbers(alloc, vers, &numbers, writer)?;
+    show_lists(alloc, reader, at, writer)
+}
+
+fn total(two: (u32, u32), three: (u32, u32), four: (u32, u32)) -> u64
+    ensures { result ≡ total two three four }
+{
+    u64::from(two.0)
+        + u64::from(two.1)
+        + u64::from(three.0)
+        + u64::from(three.1)
+        + u64::from(four.0)
+        + u64::from(four.1)
+}
+
+/// Shows the statistics of versions 2, 3 and 4.
+pub(crate) fn show_statistics<R: Read, W: Write>(
+    alloc: Global,
+    reader: &mut R,
+    at: &mut Record,
+    writer: &mut W,
+) -> Result<Shown, InfoFault>
+    ensures { Shows R.remaining W.contents reader.old reader.new at.old at.new
+        writer.old writer.new tell_statistics result }
+{
+    let two = show_version(alloc, 2, reader, at, writer)?;
+    let three = show_version(alloc, 3, reader, at, writer)?;
+    let four = show_version(alloc, 4, reader, at, writer)?;
+    Ok(Shown::Statistics(total(two, three, four)))
+}

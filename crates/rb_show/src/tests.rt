@@ -1,0 +1,39 @@
+use crate::ask::{Ask, Question, write_call};
+use crate::show::show_reply;
+use std::test::Fail;
+
+/// A question of nobody.
+fn of_nobody(question: Question) -> Ask {
+    Ask {
+        question,
+        uid: None,
+    }
+}
+
+#[test]
+fn write_call_has_memory(rt: HostRuntime) -> Result<(), Fail> {
+    let mut call = Vec::new(rt.alloc());
+    write_call(rt.alloc(), &of_nobody(Question::Pmap), 1, &mut call).map_err(|_| "refused")?;
+    let head = b"\x80\0\0\x28\0\0\0\x01\0\0\0\0\0\0\0\x02\0\x01\x86\xa0\0\0\0\x02\0\0\0\x04";
+    assert!(rt; call.starts_with(head.as_slice()));
+    assert_eq!(rt; call.len(), 44);
+    Ok(())
+}
+
+#[test]
+fn show_reply_has_memory(rt: HostRuntime) -> Result<(), Fail> {
+    let head = b"\x80\0\0\x50\0\0\0\x01\0\0\0\x01\0\0\0\0\0\0\0\0\0\0\0\0\0\0\0\0";
+    let entry =
+        b"\0\0\0\x01\0\0\0\x0d192.0.2.1.8.1\0\0\0\0\0\0\x03udp\0\0\0\0\x01\0\0\0\x04inet\0\0\0\x03udp\0\0\0\0\0";
+    let mut reply = Vec::new(rt.alloc());
+    reply.extend_from_slice(head.as_slice())?;
+    reply.extend_from_slice(entry.as_slice())?;
+    let mut shown = Vec::new(rt.alloc());
+    let ask = of_nobody(Question::Entries(200_001, 1));
+    show_reply(rt.alloc(), &ask, 1, &mut reply.as_slice(), &mut shown).map_err(|_| "refused")?;
+    assert_eq!(rt;
+        shown.as_slice(),
+        b"udp 192.0.2.1.8.1 1 inet udp\n".as_slice()
+    );
+    Ok(())
+}
