@@ -1,15 +1,17 @@
 -- An octet is the number below 256 that has this decimal text.
-use Rattle.std.proofs.Common.{◌≡◌, ◌≢◌, ◌<◌, ◌≤◌, ◌^◌, ◌&&◌, ℕ, zero, suc, Bool, true, false, cond, ltb, List, [], ◌∷◌, length, get_or, Option, Some, None, Result, Ok, Err, refl, sym, ap, subst, ◌∙◌, arith, lit<}
+use Rattle.std.proofs.Common.{◌≡◌, ◌<◌, ◌≤◌, ◌+◌, ◌*◌, ◌^◌, ◌&&◌, ℕ, zero, suc, Bool, true, false, cond, ltb, List, [], ◌∷◌, ◌++◌, length, get_or, take, Option, Some, None, refl, sym, ap, subst, ◌∙◌, arith, lit<, lit≤}
 use Rattle.std.specs.Prelude.{decimal, bytes_eq, slice_get}
-use Rattle.std.specs.Result.{result_ok, OkIff}
-use Rattle.std.specs.Str.{IsUtf8}
-use Rattle.std.specs.Str.Parse.{AllDigits, digits_value, ParsesUnsigned}
+use Rattle.std.specs.Char.{digit_value}
+use Rattle.std.specs.Int.{IsInRange}
+use Rattle.std.specs.Str.Parse.{AllDigits, digits_value}
 use Rattle.std.proofs.lemmas.Bool.{and_parts, ltb-true, lt-ltb}
-use Rattle.std.proofs.lemmas.Fmt.{decimal_nonempty, digits_decimal, digits_value-decimal, decimal-digits_value, decimal_digit, first_decimal, IsAscii-decimal}
+use Rattle.std.proofs.lemmas.Fmt.{decimal_nonempty, digits_decimal, digits_value-decimal, decimal-digits_value, decimal_digit, first_decimal}
 use Rattle.std.proofs.lemmas.Option.{none-some, same_Some, get_or_from_slice_get}
 use Rattle.std.proofs.lemmas.Slice.Eq.{bytes_eq-Decides}
-use Rattle.std.proofs.lemmas.Str.{IsUtf8-from_ascii}
-use Rattle.std.proofs.lemmas.Str.Parse.{IsNumeralModel, numerals_by_value, tells_digits, not_in_digits, parse_plain}
+use Rattle.std.proofs.lemmas.Str.{digit_value_digit}
+use Rattle.std.proofs.lemmas.Int.Digits.{digits_value_more}
+use Rattle.std.proofs.lemmas.List.{take_more}
+use Rattle.std.proofs.lemmas.Str.Parse.{IsNumeralModel, numerals_by_value, tells_digits, not_in_digits, digits_value-take-le, digit_from_value}
 use Rattle.rb_uaddr.specs.Uaddr.{octet}
 
 pub own : IsNumeralModel (AllDigits 10) (digits_value 10)
@@ -60,11 +62,6 @@ pub octet_empty : (text : List ℕ) → None ≡ slice_get text 0 → None ≡ o
 octet_empty [] e = octet_none [] (λ n h is. let some = decimal_nonempty n (wide n h) in let long : 0 < length {A = ℕ} [] = subst (λ (ds : List ℕ). 0 < length ds) is some in omega (arith, long))
 octet_empty (c ∷ text) e = absurd (none-some c e)
 
-pub octet_plus : (text : List ℕ) → get_or text 0 0 ≡ 43 → None ≡ octet text
-octet_plus text e = octet_none text (λ n h is.
-    not_in_digits own (decimal n) 43 (digits_decimal own n (wide n h)) (λ r. omega (arith, r)) 0 (decimal_nonempty n (wide n h))
-    (ap (λ (ds : List ℕ). get_or ds 0 0) is ∙ e))
-
 pub octet_padded : (text : List ℕ) → get_or text 0 0 ≡ 48 → 1 < length text → None ≡ octet text
 octet_padded text e long = octet_none text (λ n h is. padded n h is)
   where
@@ -78,21 +75,35 @@ octet_padded text e long = octet_none text (λ n h is. padded n h is)
         let same : get_or (decimal (suc n)) 0 0 ≡ get_or text 0 0 = ap (λ (ds : List ℕ). get_or ds 0 0) is in
         omega (arith, first, same, e)
 
-pub octet_not_text : (text : List ℕ) → ¬ (IsUtf8 text) → None ≡ octet text
-octet_not_text text h = octet_none text (λ n small is. h (subst IsUtf8 is (IsUtf8-from_ascii _ (IsAscii-decimal n (wide n small)))))
-
--- what `parse` makes of a text without plus and without leading zero
-plain_parsed : {E : Type 0} (text : List ℕ) (r : Result ℕ E) → (get_or text 0 0 ≡ 48 → length text ≤ 1) → 0 < length text
-    → OkIff r (AllDigits 10 text × (0 < length text) × (digits_value 10 text < 2 ^ 8)) (digits_value 10 text) → result_ok r ≡ octet text
-plain_parsed text (Ok n) no_pad some (p, is) =
-    let small : n < 256 = omega (arith, p.2, is) in
-    let below : digits_value 10 text < 2 ^ 64 = omega (arith, p.2) in
+-- the value of digits without leading zeros
+pub octet_value : (text : List ℕ) (n : ℕ) → (get_or text 0 0 ≡ 48 → length text ≤ 1) → 0 < length text → AllDigits 10 text → n ≡ digits_value 10 text → n < 256 → Some n ≡ octet text
+octet_value text n no_pad some digits value small =
+    let below : digits_value 10 text < 2 ^ 64 = omega (arith, value, small) in
     let one : get_or text 0 0 ≡ 48 → length text ≡ 1 = λ e. let short = no_pad e in omega (arith, short, some) in
-    octet_of text n small (ap decimal is ∙ decimal-digits_value own text p.0 some one below)
-plain_parsed text (Err e) no_pad some none = octet_none text (λ n h is.
-    let digits : AllDigits 10 text = subst (AllDigits 10) is (digits_decimal own n (wide n h)) in
-    let value : digits_value 10 text ≡ n = ap (digits_value 10) (sym is) ∙ digits_value-decimal own n (wide n h) in
-    none (digits, some, omega (arith, value, h)))
+    octet_of text n small (ap decimal value ∙ decimal-digits_value own text digits some one below)
 
-pub octet_parsed : {E : Type 0} (text : List ℕ) (r : Result ℕ E) → get_or text 0 0 ≢ 43 → (get_or text 0 0 ≡ 48 → length text ≤ 1) → 0 < length text → ParsesUnsigned 8 10 text r → result_ok r ≡ octet text
-octet_parsed text r no_plus no_pad some parsed = plain_parsed text r no_pad some (parse_plain own 8 text r parsed no_plus)
+-- a byte that is no digit
+pub octet_other : (text : List ℕ) (i : ℕ) → i < length text → ¬ (digit_value (get_or text i 0) < 10) → None ≡ octet text
+octet_other text i lt other = octet_none text (λ n h is.
+    let c = get_or text i 0 in
+    let no_digit : ¬ (IsInRange 48 57 c) = λ r. let same = digit_value_digit c r in other (omega (arith, r, same)) in
+    let within : i < length (decimal n) = subst (λ (ds : List ℕ). i < length ds) (sym is) lt in
+    not_in_digits own (decimal n) c (digits_decimal own n (wide n h)) no_digit i within (ap (λ (ds : List ℕ). get_or ds i 0) is))
+
+-- a number above 255 already
+pub octet_large : (text : List ℕ) (i : ℕ) → 256 ≤ digits_value 10 (take (i + 1) text) → None ≡ octet text
+octet_large text i large = octet_none text (λ n h is.
+    let value : digits_value 10 text ≡ n = ap (digits_value 10) (sym is) ∙ digits_value-decimal own n (wide n h) in
+    let grows = digits_value-take-le 10 text (i + 1) (lit≤ tt) in
+    omega (arith, value, h, large, grows))
+
+-- one digit more
+digit_behind : (ds : List ℕ) (c : ℕ) → AllDigits 10 ds → IsInRange 48 57 c → AllDigits 10 (ds ++ c ∷ [])
+digit_behind [] c h r = tells_digits.more c [] r tells_digits.empty
+digit_behind (d ∷ ds) c h r = let parts = tells_digits.parts d ds h in tells_digits.more d (ds ++ c ∷ []) parts.0 (digit_behind ds c parts.1 r)
+
+pub goes_on : (text : List ℕ) (i n digit : ℕ) → i < length text → AllDigits 10 (take i text) → n ≡ digits_value 10 (take i text) → digit ≡ digit_value (get_or text i 0) → digit_value (get_or text i 0) < 10 → AllDigits 10 (take (i + 1) text) × (10 * n + digit ≡ digits_value 10 (take (i + 1) text))
+goes_on text i n digit lt digits value digit_is small =
+    let more = digits_value_more 10 text i lt in
+    let behind = digit_behind (take i text) (get_or text i 0) digits (digit_from_value _ small) in
+    (subst (AllDigits 10) (sym (take_more text i 0 lt)) behind, omega (arith, more, value, digit_is))

@@ -4,10 +4,6 @@ ghost use Rattle.rb_uaddr.specs.Uaddr.{octet, of_parts, parts_of, parse, texts_o
 
 use crate::address::{NotAnAddress, Uaddr, port_from};
 use arrayvec::ArrayVec;
-use std::str;
-
-// What `str::parse` takes in front of the digits of a number.
-const PLUS: u8 = b'+';
 
 const ZERO: u8 = b'0';
 
@@ -56,15 +52,15 @@ fn of_parts(parts: &[&[u8]]) -> Option<Uaddr>
 fn octet(text: &[u8]) -> Option<u8>
     ensures { result ≡ octet text.now }
 {
-    let first = *text.first()?;
-    if first == PLUS {
+    if *text.first()? == ZERO && text.len() > 1 {
         return None;
     }
-    if first == ZERO && text.len() > 1 {
-        return None;
+    let mut n: u32 = 0;
+    for byte in text {
+        n = 10 * n + char::from(*byte).to_digit(10)?;
+        if n > 255 {
+            return None;
+        }
     }
-    let Ok(digits) = str::from_utf8(text) else {
-        return None;
-    };
-    digits.parse().ok()
+    Some(n as u8)
 }
