@@ -1,4 +1,5 @@
 pub mod Readings
 pub mod Requests
 pub mod Lists
+pub mod MappingItems
 pub mod Shown

@@ -11,6 +11,9 @@ use crate::items::{entry_of, mapping_of, rpcb_of};
 use rb_registry::{Cursor, Registry, Row, Which};
 use rb_xdr::{Kept, Meter, Xdr};
 
+/// TRUE and a mapping, in bytes.
+const MAPPING_ITEM: usize = 20;
+
 /// Whether the list shows the row.
 fn is_shown(list: Listing, row: &Row) -> bool
     ensures { result ≡ is_shown list row.now }
@@ -31,7 +34,7 @@ pub(crate) fn room_after_row(list: Listing, row: &Row, host: [u8; 4], room: usiz
         return Some(room);
     }
     match list {
-        Listing::Mappings => (true, mapping_of(row)).room_after(room),
+        Listing::Mappings => room.checked_sub(MAPPING_ITEM),
         Listing::Rpcbs => (true, rpcb_of(row)).room_after(room),
         Listing::Entries(..) => (true, entry_of(host, row)).room_after(room),
     }

@@ -1,0 +1,8 @@
+use Rattle.rb_proto.specs.Results.{row_bytes, mapping_of}
+use Rattle.rb_proto.proofs.MappingItems.{mapping_item_length, leaves_by_length}
+use Rattle.rb_proto.proofs.rows.room_after_row.Goals as goal
+
+pub returns-in-Mappings : goal.returns-in-Mappings
+unfolding row_bytes
+returns-in-Mappings c =
+    rw (c.in-Mappings.is, ← (rw c.in-Mappings.is at c.if-not-is_shown.ensures)) (leaves_by_length _ 20 c.args.room c.checked_sub.result (mapping_item_length (mapping_of c.args.row.now)) c.checked_sub.ensures)
