@@ -1,0 +1,122 @@
+//! Sockets of a test. They never wait, since the daemon's turns are taken by the same thread.
+ghost use Rattle.std.specs.Prelude.{◌≤◌};
+
+use crate::turns::{Host, address};
+use std::io::{Read, Write};
+use std::net::{Ipv4Addr, SocketAddr, TcpStream, UdpSocket};
+
+/// The most turns that a test takes for one answer.
+const TURNS: u32 = 100;
+
+/// The most bytes that a client keeps.
+const ROOM: usize = 2048;
+
+/// A connection, and what came on it.
+#[derive(Drop)]
+pub(crate) struct Client {
+    stream: TcpStream,
+    got: [u8; ROOM],
+    len: usize,
+    is_closed: bool,
+    ghost in_room: { len ≤ 2048 },
+}
+
+impl Client {
+    pub(crate) fn new(rt: &HostRuntime) -> Option<Client> {
+        let stream = TcpStream::connect(rt, address()).ok()?;
+        stream.set_nonblocking(true).ok()?;
+        Some(Client {
+            stream,
+            got: [0; ROOM],
+            len: 0,
+            is_closed: false,
+        })
+    }
+
+    /// Whether all of the bytes went out.
+    pub(crate) fn send(&mut self, bytes: &[u8]) -> bool {
+        self.stream.write_all(bytes).is_ok()
+    }
+
+    /// Takes turns until so many bytes came, or the daemon closed the connection.
+    pub(crate) fn receive(&mut self, host: &mut Host<'_>, want: usize) {
+        for _ in 0..TURNS {
+            host.turn();
+            self.read();
+            if self.len >= want || self.is_closed {
+                break;
+            }
+        }
+    }
+
+    /// Takes a turn, after which nothing has come.
+    pub(crate) fn receive_nothing(&mut self, host: &mut Host<'_>) -> bool {
+        host.turn();
+        self.read();
+        self.len == 0 && !self.is_closed
+    }
+
+    fn read(&mut self) {
+        match self.stream.read(&mut self.got[self.len..]) {
+            Ok(0) => self.is_closed = true,
+            Ok(n) => self.len += n,
+            Err(_) => {}
+        }
+    }
+
+    /// Whether these bytes came, and no others.
+    pub(crate) fn got_just(&self, bytes: &[u8]) -> bool {
+        self.len == bytes.len() && self.got.starts_with(bytes)
+    }
+
+    pub(crate) fn len(&self) -> usize {
+        self.len
+    }
+
+    pub(crate) fn is_closed(&self) -> bool {
+        self.is_closed
+    }
+}
+
+/// A socket for datagrams, and the last one that came.
+#[derive(Drop)]
+pub(crate) struct Caller {
+    socket: UdpSocket,
+    got: [u8; ROOM],
+    len: usize,
+}
+
+impl Caller {
+    pub(crate) fn new(rt: &HostRuntime) -> Option<Caller> {
+        let any = SocketAddr::from((Ipv4Addr::LOCALHOST, 0));
+        let socket = UdpSocket::bind(rt, any).ok()?;
+        socket.set_nonblocking(true).ok()?;
+        Some(Caller {
+            socket,
+            got: [0; ROOM],
+            len: 0,
+        })
+    }
+
+    /// Whether the datagram went out.
+    pub(crate) fn send(&self, bytes: &[u8]) -> bool {
+        self.socket.send_to(bytes, address()).is_ok()
+    }
+
+    /// Takes turns until a datagram has come.
+    pub(crate) fn receive(&mut self, host: &mut Host<'_>) {
+        self.len = 0;
+        for _ in 0..TURNS {
+            host.turn();
+            if let Ok((len, _)) = self.socket.recv_from(&mut self.got) {
+                self.len = len;
+                break;
+            }
+        }
+    }
+
+    /// Whether the last datagram was of these bytes.
+    pub(crate) fn got_just(&self, bytes: &[u8]) -> bool {
+        self.len == bytes.len() && self.got.starts_with(bytes)
+    }
+}

@@ -1,0 +1,74 @@
+//! Connections that are too many, and clients that go away.
+use crate::client::Client;
+use crate::messages::{MARK_40, bytes_of, null_record};
+use crate::records::answers_a_call;
+use crate::turns::Host;
+use std::alloc::Global;
+use std::test::Fail;
+
+/// Where two connections are open and no more may be, a third is closed at once, and the second is served.
+fn closes_one_too_many(rt: &HostRuntime, host: &mut Host<'_>) -> Option<bool> {
+    let call = null_record(rt.alloc(), 1).ok()?;
+    let _first = Client::new(rt)?;
+    let mut second = Client::new(rt)?;
+    host.turn();
+    let mut third = Client::new(rt)?;
+    third.receive(host, 1);
+    let is_sent = second.send(&call);
+    second.receive(host, 28);
+    Some(third.is_closed() && is_sent && second.len() == 28 && host.is_well())
+}
+
+#[test]
+fn one_connection_too_many(rt: HostRuntime) -> Result<(), Fail> {
+    let mut host = Host::new(&rt, 2).ok_or("no daemon")?;
+    assert_eq!(rt; closes_one_too_many(&rt, &mut host), Some(true));
+    Ok(())
+}
+
+/// A client sends the bytes, and goes away after a turn. It is out of the place of its connection after another.
+fn goes_away(rt: &HostRuntime, host: &mut Host<'_>, bytes: &[u8]) -> Option<bool> {
+    let mut client = Client::new(rt)?;
+    host.turn();
+    let is_sent = client.send(bytes);
+    host.turn();
+    drop(client);
+    host.turn();
+    Some(is_sent)
+}
+
+fn serves_after_half_a_call(rt: &HostRuntime, host: &mut Host<'_>) -> Option<bool> {
+    let call = null_record(rt.alloc(), 2).ok()?;
+    let (half, _) = call.split_at_checked(20)?;
+    Some(goes_away(rt, host, half)? && answers_a_call(rt, host, 3)?)
+}
+
+#[test]
+fn client_leaves_in_a_call(rt: HostRuntime) -> Result<(), Fail> {
+    let mut host = Host::new(&rt, 1).ok_or("no daemon")?;
+    assert_eq!(rt; serves_after_half_a_call(&rt, &mut host), Some(true));
+    Ok(())
+}
+
+/// Records that list all rows, which is answered with some hundred bytes each.
+fn dumps(alloc: Global, count: u32) -> Option<Vec<u8>> {
+    let mut words = Vec::new(alloc);
+    for xid in 0..count {
+        let call = [MARK_40, xid, 0, 2, 100_000, 4, 4, 0, 0, 0, 0];
+        words.extend_from_slice(&call).ok()?;
+    }
+    bytes_of(alloc, &words).ok()
+}
+
+/// The client goes away with its replies unread.
+fn serves_after_replies(rt: &HostRuntime, host: &mut Host<'_>) -> Option<bool> {
+    let calls = dumps(rt.alloc(), 200)?;
+    Some(goes_away(rt, host, &calls)? && answers_a_call(rt, host, 4)?)
+}
+
+#[test]
+fn client_leaves_in_a_reply(rt: HostRuntime) -> Result<(), Fail> {
+    let mut host = Host::new(&rt, 1).ok_or("no daemon")?;
+    assert_eq!(rt; serves_after_replies(&rt, &mut host), Some(true));
+    Ok(())
+}

@@ -1,0 +1,16 @@
+//! Tests of the daemon by turns: daemon and client are in one process, and talk over port 20111 of 127.0.0.1. They
+//! stand apart from the daemon, so that it is not proved a second time for them.
+#![tactic(auto)]
+
+#[cfg(test)]
+mod client;
+#[cfg(test)]
+mod datagrams;
+#[cfg(test)]
+mod leaving;
+#[cfg(test)]
+mod messages;
+#[cfg(test)]
+mod records;
+#[cfg(test)]
+mod turns;
