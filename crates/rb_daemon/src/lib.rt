@@ -5,6 +5,7 @@ mod daemon;
 mod engine;
 mod faults;
 mod link;
+mod outbox;
 mod serving;
 
 pub use daemon::Daemon;

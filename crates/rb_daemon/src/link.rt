@@ -2,7 +2,9 @@
 ghost use Rattle.std.specs.Prelude.{◌≤◌};
 
 use crate::engine::{Engine, Given};
+use crate::outbox::{OUTBOX, Outbox};
 use mio::net::TcpStream;
+use std::io;
 use std::io::{ErrorKind, Read};
 
 /// The most socket calls for one socket in a turn.
@@ -10,6 +12,9 @@ pub(crate) const SOCKET_CALLS: usize = 64;
 
 /// How many bytes of a connection are read ahead of the core.
 const READ_AHEAD: usize = 1024;
+
+/// Each exchange with the core, but the last, takes or gives a byte at least.
+const EXCHANGES: usize = READ_AHEAD + OUTBOX;
 
 #[derive(Drop)]
 pub(crate) struct Link {
@@ -20,6 +25,9 @@ pub(crate) struct Link {
     held: [u8; READ_AHEAD],
     start: usize,
     end: usize,
+    /// Whether the core may owe a reply: from bytes that it took, until none is pending.
+    may_owe: bool,
+    outbox: Outbox,
     /// The last turn that served it.
     served_in: u64,
     /// Whether it is to be served though no event shows it.
@@ -55,6 +63,8 @@ impl Link {
             held: [0; READ_AHEAD],
             start: 0,
             end: 0,
+            may_owe: false,
+            outbox: Outbox::new(),
             served_in: 0,
             is_waiting: false,
         }
@@ -72,7 +82,7 @@ impl Link {
         self.served_in == turn
     }
 
-    /// Writes, hands in and reads until the socket would block or has used up its calls of this turn.
+    /// Hands in, takes over, writes and reads until the socket would block or has used up its calls of this turn.
     pub(crate) fn serve(&mut self, engine: &mut Engine, turn: u64) -> Progress {
         self.served_in = turn;
         self.is_waiting = false;
@@ -87,36 +97,75 @@ impl Link {
         Progress::CutOff
     }
 
-    /// Hands in what was read, and then makes at most one socket call: a write where a reply is owed, else a read. Where
-    /// bytes are left that the core does not take while no reply is owed, it waits for something else.
+    /// Makes at most one socket call: a write where replies wait, else a read. Replies are taken over only where the
+    /// socket has taken all that were before. Where bytes are left that the core does not take while no reply is owed,
+    /// it waits for something else.
     fn step(&mut self, engine: &mut Engine) -> Step {
-        if !self.hand_in(engine) {
+        if self.outbox.is_empty() && !self.exchange(engine) {
+            let _ = self.outbox.send(&mut self.stream);
             return Step::Ends;
         }
-        match engine.give(self.id, &mut self.stream) {
-            Given::Nothing if self.start < self.end => Step::Blocks,
-            Given::Nothing => self.read(),
-            Given::Bytes(_) => Step::GoesOn,
-            Given::Failed(kind) => step_after(kind),
-            Given::Over => Step::Ends,
+        if !self.outbox.is_empty() {
+            return self.write();
         }
+        if self.start < self.end {
+            return Step::Blocks;
+        }
+        self.read()
     }
 
-    /// Hands in the bytes that were read and not yet taken, record by record, until none are left or none are taken.
-    /// It says whether the connection goes on.
-    fn hand_in(&mut self, engine: &mut Engine) -> bool {
-        for _ in 0..READ_AHEAD {
-            if self.start == self.end {
+    /// Hands in what was read, record by record, and takes over the replies, until nothing more is taken and none is
+    /// pending, or the outbox is full. It says whether the connection goes on.
+    fn exchange(&mut self, engine: &mut Engine) -> bool {
+        for _ in 0..EXCHANGES {
+            let Some(taken) = self.hand_in(engine) else {
+                return false;
+            };
+            if self.outbox.is_full() {
                 return true;
             }
-            match engine.bytes(self.id, &self.held[self.start..self.end]) {
-                Ok(taken) if taken.closed => return false,
-                Ok(taken) if taken.count == 0 => return true,
-                Ok(taken) => self.start += taken.count,
-                Err(_) => return false,
+            match self.take_over(engine) {
+                Given::Bytes(_) => {}
+                Given::Nothing if taken == 0 => return true,
+                Given::Nothing => {}
+                Given::Failed(_) | Given::Over => return false,
             }
         }
         true
+    }
+
+    /// Hands in the bytes that were read and not yet taken, up to the end of a record, and says how many were taken, or
+    /// `None` where the connection is over.
+    fn hand_in(&mut self, engine: &mut Engine) -> Option<usize> {
+        if self.start == self.end {
+            return Some(0);
+        }
+        let taken = engine
+            .bytes(self.id, &self.held[self.start..self.end])
+            .ok()?;
+        if taken.closed {
+            return None;
+        }
+        self.start += taken.count;
+        self.may_owe = true;
+        Some(taken.count)
+    }
+
+    fn take_over(&mut self, engine: &mut Engine) -> Given {
+        if !self.may_owe {
+            return Given::Nothing;
+        }
+        let given = engine.give(self.id, &mut self.outbox);
+        self.may_owe = given != Given::Nothing;
+        given
+    }
+
+    fn write(&mut self) -> Step {
+        match self.outbox.send(&mut self.stream) {
+            Ok(0) => Step::Ends,
+            Ok(_) => Step::GoesOn,
+            Err(error) => step_after(&error),
+        }
     }
 
     fn read(&mut self) -> Step {
@@ -128,13 +177,13 @@ impl Link {
                 self.end = n;
                 Step::GoesOn
             }
-            Err(error) => step_after(error.kind()),
+            Err(error) => step_after(&error),
         }
     }
 }
 
-fn step_after(kind: ErrorKind) -> Step {
-    match kind {
+fn step_after(error: &io::Error) -> Step {
+    match error.kind() {
         ErrorKind::WouldBlock => Step::Blocks,
         ErrorKind::Interrupted => Step::GoesOn,
         _ => Step::Ends,
