@@ -1,5 +1,5 @@
 //! The daemon and its turns.
-ghost use Rattle.std.specs.Prelude.{◌≡◌, ◌↔◌, IsTrue, IfErr, OnOk, not};
+ghost use Rattle.std.specs.Prelude.{◌↔◌, IsTrue, IsErrOf, OnOk, not};
 ghost use Rattle.rb_core.specs.State.{are_good};
 
 use crate::engine::Engine;
@@ -41,8 +41,7 @@ impl<'a, R: Clock> Daemon<'a, R> {
     ) -> Result<Daemon<'a, R>, DaemonFault>
     where
         R: Net,
-        ensures limits { IfErr result
-            (λ fault. fault ≡ DaemonFault.Limits ↔ IsTrue (not (are_good limits))) }
+        ensures bad { IsErrOf result DaemonFault.Limits ↔ IsTrue (not (are_good limits)) }
         ensures good { OnOk result (IsTrue (are_good limits)) }
     {
         let host = announce.octets();
@@ -99,8 +98,7 @@ fn engine_of(
     listener: Listener,
     first: io::Result<u64>,
 ) -> Result<Engine, DaemonFault>
-    ensures limits { IfErr result
-        (λ fault. fault ≡ DaemonFault.Limits ↔ IsTrue (not (are_good limits))) }
+    ensures bad { IsErrOf result DaemonFault.Limits ↔ IsTrue (not (are_good limits)) }
     ensures good { OnOk result (IsTrue (are_good limits)) }
 {
     let moment = match &first {

@@ -34,12 +34,12 @@ pub(crate) enum Given {
 }
 
 impl Engine {
-    ghost use Rattle.std.specs.Prelude.{◌≡◌, ◌≤◌, ◌↔◌, ◌^◌, ◌%◌, IsTrue, IsErrOf, length, not, IfOk, IfErr, OnErr};
-    ghost use Rattle.rb_core.specs.State.{State, are_good, opening};
-    ghost use Rattle.rb_core.specs.Slots.{Acts};
-    ghost use Rattle.rb_core.specs.Step.{open_connection, bytes, pending, close_connection, next_lost, datagram};
+    ghost use Rattle.std.specs.Prelude.{◌≡◌, ◌≤◌, ◌↔◌, IsTrue, IsErrOf, length, not, IfOk};
+    ghost use Rattle.rb_core.specs.State.{State, are_good};
+    ghost use Rattle.rb_core.specs.Step.{open_connection, bytes, close_connection, next_lost, datagram};
     ghost use Rattle.rb_core.specs.StandsFor.{StandsFor};
-    ghost use Rattle.rb_daemon.specs.Served.{WasGiven, after_giving};
+    ghost use Rattle.rb_daemon.specs.Served.{after_giving};
+    ghost use Rattle.rb_daemon.specs.Moves.{BeginsAt, Moves, ActsNow, Gives};
 
     /// A new core at this moment, which is the first. The first forwarded call has the low 32 bits of it for its number.
     /// `BadLimits` where a limit is out of its range, else `NoMemory` where an allocation is refused.
@@ -49,8 +49,7 @@ impl Engine {
         listener: Listener,
         moment: u64,
     ) -> Result<Engine, CoreFault>
-        ensures made { IfOk result (λ engine.
-            StandsFor engine.core (opening limits listener (moment % 2 ^ 32) moment)) }
+        ensures made { IfOk result (BeginsAt moment limits listener) }
         ensures bad { IsErrOf result CoreFault.BadLimits ↔ IsTrue (not (are_good limits)) }
     {
         let mut meter = Meter::new();
@@ -72,16 +71,14 @@ impl Engine {
     }
 
     pub(crate) fn open(&mut self, peer: Peer) -> Result<u64, CoreFault>
-        ensures acts { Acts StandsFor (λ s. open_connection s self.old.moment peer)
-            self.old.core self.new.core result }
+        ensures acts { ActsNow (λ s now. open_connection s now peer) self.old self.new result }
         ensures moment { self.new.moment ≡ self.old.moment }
     {
         self.core.open(self.moment, peer, &mut self.meter)
     }
 
     pub(crate) fn bytes(&mut self, id: u64, piece: &[u8]) -> Result<Taken, CoreFault>
-        ensures acts { Acts StandsFor (λ s. bytes s self.old.moment id piece.now)
-            self.old.core self.new.core result }
+        ensures acts { ActsNow (λ s now. bytes s now id piece.now) self.old self.new result }
         ensures within { IfOk result (λ taken. taken.count ≤ length piece.now) }
         ensures moment { self.new.moment ≡ self.old.moment }
     {
@@ -90,10 +87,8 @@ impl Engine {
 
     /// Writes the bytes that are pending on a connection, once, and tells the core how many the writer took.
     pub(crate) fn give<W: Write>(&mut self, id: u64, writer: &mut W) -> Given
-        ensures given { (s : State) → StandsFor self.old.core s → WasGiven (pending s id)
-            (W.contents writer.old) (W.contents writer.new) result }
-        ensures acts { (s : State) → StandsFor self.old.core s
-            → StandsFor self.new.core (after_giving s self.old.moment id result) }
+        ensures given { Gives id W.contents self.old writer.old writer.new result }
+        ensures acts { Moves (λ s now. after_giving s now id result) self.old self.new }
         ensures moment { self.new.moment ≡ self.old.moment }
     {
         let written = match self.core.pending(id, &mut self.meter) {
@@ -113,8 +108,7 @@ impl Engine {
 
     /// A connection was closed. One that the core does not know is closed already.
     pub(crate) fn closed(&mut self, id: u64)
-        ensures acts { (s : State) → StandsFor self.old.core s
-            → StandsFor self.new.core (close_connection s id).1 }
+        ensures acts { Moves (λ s now. (close_connection s id).1) self.old self.new }
         ensures moment { self.new.moment ≡ self.old.moment }
     {
         let _ = self.core.closed(id, &mut self.meter);
@@ -130,8 +124,7 @@ impl Engine {
 
     /// Answers a datagram over the socket on which it came. A reply that the socket does not take is lost.
     pub(crate) fn answer(&mut self, peer: Peer, content: &[u8], socket: &UdpSocket)
-        ensures acts { (s : State) → StandsFor self.old.core s
-            → StandsFor self.new.core (datagram s self.old.moment peer content.now).1 }
+        ensures acts { Moves (λ s now. (datagram s now peer content.now).1) self.old self.new }
         ensures moment { self.new.moment ≡ self.old.moment }
     {
         if self

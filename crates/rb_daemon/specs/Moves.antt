@@ -1,0 +1,28 @@
+-- What a call of the engine does, at the engine's moment.
+use Rattle.std.specs.Prelude.{ℕ, ◌%◌, ◌^◌, List, Option}
+use Rattle.rb_proto.specs.declared.listener.Listener.{Listener}
+use Rattle.rb_core.specs.declared.types.Limits.{Limits}
+use Rattle.rb_core.specs.State.{State, opening}
+use Rattle.rb_core.specs.Step.{pending}
+use Rattle.rb_core.specs.Slots.{Acts}
+use Rattle.rb_core.specs.StandsFor.{StandsFor}
+use Rattle.rb_daemon.specs.declared.engine.Engine.{Engine}
+use Rattle.rb_daemon.specs.declared.engine.Given.{Given}
+use Rattle.rb_daemon.specs.Served.{WasGiven}
+
+-- It stands at the opening; the first forwarded call has the low 32 bits of the moment for its number.
+abbrev pub BeginsAt : ℕ → Limits → Listener → Engine → Type 0
+BeginsAt moment limits listener engine = StandsFor engine.core (opening limits listener (moment % 2 ^ 32) moment)
+
+-- Whatever state its core stood for, it stands for the next one.
+abbrev pub Moves : (State → ℕ → State) → Engine → Engine → Type 0
+Moves next old new = (s : State) → StandsFor old.core s → StandsFor new.core (next s old.moment)
+
+-- It answers besides as the step does.
+abbrev pub ActsNow : {R : Type 0} → (State → ℕ → R × State) → Engine → Engine → R → Type 0
+ActsNow step old new result = Acts StandsFor (λ s. step s old.moment) old.core new.core result
+
+-- A writer got of what is pending on the connection what was given.
+abbrev pub Gives : {W : Type 0} → ℕ → (W → Option (List ℕ)) → Engine → W → W → Given → Type 0
+Gives id contents engine old new given =
+    (s : State) → StandsFor engine.core s → WasGiven (pending s id) (contents old) (contents new) given
