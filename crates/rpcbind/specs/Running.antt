@@ -3,7 +3,9 @@ use Rattle.std.specs.Prelude.{◌≡◌, ℕ, ◌+◌, not, IsTrue, List, take, 
 use Rattle.std.specs.Io.Buffered.{writer_contents}
 use Rattle.std.specs.declared.io.buffered.BufWriter.{BufWriter}
 use Rattle.rb_core.specs.State.{State, are_good, opening}
-use Rattle.rb_core.specs.Step.{Event}
+use Rattle.rb_core.specs.Step.{Event, Output}
+use Rattle.rb_core.specs.declared.run.Event as event_type
+use Rattle.rb_core.specs.StandsFor.{events_of}
 use Rattle.rb_core.specs.Run.{run}
 use Rattle.rpcbind.specs.declared.lines.ReadFault.{ReadFault}
 use Rattle.rpcbind.specs.declared.lines.ReadFault.TheVariants as reading
@@ -17,6 +19,10 @@ use Rattle.rpcbind.specs.Printing.{report_of, Writes}
 abbrev pub first : Beginning → State
 first beginning =
     opening beginning.limits beginning.listener beginning.first_xid beginning.moment
+
+-- what the events of a replay give
+abbrev pub run_of : Beginning → List event_type.Event → List Output
+run_of beginning events = run (first beginning) (events_of events)
 
 -- the exit status
 abbrev pub status_of : Fault → ℕ
@@ -73,6 +79,12 @@ Prints beginning contents old new (Err fault) = ⊥
 abbrev pub Reads : {R : Type 0} → (R → Option (List ℕ)) → R
     → (Result (List Event) ReadFault → Type 0) → Type 0
 Reads remaining reader Holds = IfSome (remaining reader) (λ input. Holds (read input))
+
+-- Where they are known, the printed outputs of the run of their events were written, and nothing else.
+abbrev pub Replays : {R W A : Type 0} → Beginning → (R → Option (List ℕ)) → R
+    → (W → Option (List ℕ)) → BufWriter W A → BufWriter W A → Type 0
+Replays beginning remaining reader contents old new =
+    Reads remaining reader (Prints beginning contents old new)
 
 -- What was read of an input is all of it, or enough to show that it is too long.
 abbrev pub IsEnoughOf : Option (List ℕ) → List ℕ → Type 0

@@ -1,12 +1,11 @@
 //! The command `replay`.
 ghost use Rattle.std.specs.Prelude.{◌≡◌, ◌≤◌, ◌⊎◌, [], IsTrue, IfOk, IfErr, OnOk};
 ghost use Rattle.std.specs.Io.Buffered.{writer_buffer};
-ghost use Rattle.rb_core.specs.Run.{run};
 ghost use Rattle.rb_core.specs.State.{are_good};
-ghost use Rattle.rb_core.specs.StandsFor.{StandsFor, events_of, outputs_of};
+ghost use Rattle.rb_core.specs.StandsFor.{StandsFor, outputs_of};
 ghost use Rattle.rpcbind.specs.Lines.{read};
 ghost use Rattle.rpcbind.specs.Printing.{report};
-ghost use Rattle.rpcbind.specs.Running.{first, status_of, BufWrites, IsEnoughOf, IsFaultOf, IsCoreFault, IsRefused, Prints, Reads, Refuses};
+ghost use Rattle.rpcbind.specs.Running.{first, run_of, status_of, BufWrites, IsEnoughOf, IsFaultOf, IsCoreFault, IsRefused, Prints, Reads, Replays, Refuses};
 
 use crate::lines::{ReadFault, longest_input, read_events};
 use crate::printing::{WriteFailed, print_outputs};
@@ -107,8 +106,8 @@ fn outputs_from(
     beginning: &Beginning,
     events: &[Event],
 ) -> Result<Vec<Output>, Fault>
-    ensures ok { IfOk result (λ outputs. outputs_of outputs.items
-        ≡ run (first beginning.now) (events_of events.now)) }
+    ensures ok { IfOk result
+        (λ outputs. outputs_of outputs.items ≡ run_of beginning.now events.now) }
     ensures good { OnOk result (IsTrue (are_good beginning.now.limits)) }
     ensures err { IfErr result (IsCoreFault beginning.now) }
 {
@@ -124,13 +123,13 @@ fn outputs_from(
 /// Writes what the outputs are printed as, to the last byte.
 fn put_outputs<W: Write + Drop>(
     outputs: &[Output],
-    writer: &mut BufWriter<W>,
+    out: &mut BufWriter<W>,
 ) -> Result<(), WriteFailed>
-    ensures ok { OnOk result (BufWrites W.contents writer.old writer.new (report outputs.now)) }
-    ensures flushed { OnOk result (writer_buffer writer.new ≡ []) }
+    ensures ok { OnOk result (BufWrites W.contents out.old out.new (report outputs.now)) }
+    ensures flushed { OnOk result (writer_buffer out.new ≡ []) }
 {
-    print_outputs(outputs, writer)?;
-    match writer.flush() {
+    print_outputs(outputs, out)?;
+    match out.flush() {
         Ok(()) => Ok(()),
         Err(_) => Err(WriteFailed),
     }
@@ -141,21 +140,21 @@ fn replay_text<W: Write + Drop>(
     alloc: Global,
     beginning: &Beginning,
     text: &[u8],
-    writer: &mut BufWriter<W>,
+    out: &mut BufWriter<W>,
 ) -> Result<(), Fault>
     ensures ok { OnOk result
-        (Prints beginning.now W.contents writer.old writer.new (read text.now)) }
+        (Prints beginning.now W.contents out.old out.new (read text.now)) }
     ensures good { OnOk result (IsTrue (are_good beginning.now.limits)) }
-    ensures flushed { OnOk result (writer_buffer writer.new ≡ []) }
+    ensures flushed { OnOk result (writer_buffer out.new ≡ []) }
     ensures err { IfErr result (λ fault. IsFaultOf beginning.now fault (read text.now)) }
-    ensures unwritten { IfErr result (λ fault. status_of fault ≡ 2 → writer.new ≡ writer.old) }
+    ensures unwritten { IfErr result (λ fault. status_of fault ≡ 2 → out.new ≡ out.old) }
 {
     let events = match read_events(alloc, text) {
         Ok(events) => events,
         Err(fault) => return Err(Fault::Lines(fault)),
     };
     let outputs = outputs_from(alloc, beginning, &events)?;
-    match put_outputs(&outputs, writer) {
+    match put_outputs(&outputs, out) {
         Ok(()) => Ok(()),
         Err(WriteFailed) => Err(Fault::WriteFailed),
     }
@@ -166,17 +165,17 @@ fn replay_all<R: Read, W: Write + Drop>(
     alloc: Global,
     beginning: &Beginning,
     reader: &mut R,
-    writer: &mut BufWriter<W>,
+    out: &mut BufWriter<W>,
 ) -> Result<(), Fault>
     ensures ok { OnOk result
-        (Reads R.remaining reader.old (Prints beginning.now W.contents writer.old writer.new)) }
+        (Replays beginning.now R.remaining reader.old W.contents out.old out.new) }
     ensures good { OnOk result (IsTrue (are_good beginning.now.limits)) }
-    ensures flushed { OnOk result (writer_buffer writer.new ≡ []) }
+    ensures flushed { OnOk result (writer_buffer out.new ≡ []) }
     ensures refused { IfErr result (Refuses beginning.now R.remaining reader.old) }
-    ensures unwritten { IfErr result (λ fault. status_of fault ≡ 2 → writer.new ≡ writer.old) }
+    ensures unwritten { IfErr result (λ fault. status_of fault ≡ 2 → out.new ≡ out.old) }
 {
     let text = read_input(alloc, reader)?;
-    replay_text(alloc, beginning, &text, writer)
+    replay_text(alloc, beginning, &text, out)
 }
 
 /// Runs the command `replay`: it reads event lines to the end, makes a core, runs their events on it and writes a line
@@ -189,19 +188,19 @@ pub fn run_replay<R: Read, W: Write + Drop, E: Write>(
     alloc: Global,
     beginning: &Beginning,
     reader: &mut R,
-    writer: &mut BufWriter<W>,
+    out: &mut BufWriter<W>,
     faults: &mut E,
 ) -> u8
     ensures status { result ≤ 2 }
-    ensures done { result ≡ 0
-        → Reads R.remaining reader.old (Prints beginning.now W.contents writer.old writer.new) }
+    ensures ok { result ≡ 0
+        → Replays beginning.now R.remaining reader.old W.contents out.old out.new }
     ensures good { result ≡ 0 → IsTrue (are_good beginning.now.limits) }
-    ensures flushed { result ≡ 0 → writer_buffer writer.new ≡ [] }
+    ensures flushed { result ≡ 0 → writer_buffer out.new ≡ [] }
     ensures quiet { result ≡ 0 → faults.new ≡ faults.old }
     ensures refused { result ≡ 2 → Reads R.remaining reader.old IsRefused }
-    ensures unwritten { result ≡ 2 → writer.new ≡ writer.old }
+    ensures unwritten { result ≡ 2 → out.new ≡ out.old }
 {
-    match replay_all(alloc, beginning, reader, writer) {
+    match replay_all(alloc, beginning, reader, out) {
         Ok(()) => 0,
         Err(fault) => explain(fault, faults),
     }
