@@ -76,7 +76,7 @@ impl<'a, R: Clock> Daemon<'a, R> {
         self.serving.begin_turn(moment(self.clock)?);
         self.serving.serve_left(self.poll.registry())?;
         for event in &self.events {
-            self.serving.serve(self.poll.registry(), event.token())?;
+            self.serving.serve(self.poll.registry(), event)?;
         }
         self.serving.end_turn();
         Ok(())

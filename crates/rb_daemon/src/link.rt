@@ -28,6 +28,8 @@ pub(crate) struct Link {
     /// Whether the core may owe a reply: from bytes that it took, until none is pending.
     may_owe: bool,
     outbox: Outbox,
+    /// Whether the last read got less than it had room for, so that an event comes with what arrives next.
+    is_dry: bool,
     /// The last turn that served it.
     served_in: u64,
     /// Whether it is to be served though no event shows it.
@@ -65,6 +67,7 @@ impl Link {
             end: 0,
             may_owe: false,
             outbox: Outbox::new(),
+            is_dry: false,
             served_in: 0,
             is_waiting: false,
         }
@@ -82,12 +85,15 @@ impl Link {
         self.served_in == turn
     }
 
-    /// Hands in, takes over, writes and reads until the socket would block or has used up its calls of this turn.
-    pub(crate) fn serve(&mut self, engine: &mut Engine, turn: u64) -> Progress {
+    /// Hands in, takes over, writes and reads until the socket would block or has used up its calls of this turn. A read
+    /// that gets less than it has room for is the last, unless the peer may have ended what it sends: of that no other
+    /// event comes.
+    pub(crate) fn serve(&mut self, engine: &mut Engine, turn: u64, may_end: bool) -> Progress {
         self.served_in = turn;
         self.is_waiting = false;
+        self.is_dry = false;
         for _ in 0..SOCKET_CALLS {
-            match self.step(engine) {
+            match self.step(engine, may_end) {
                 Step::GoesOn => {}
                 Step::Blocks => return Progress::Blocked,
                 Step::Ends => return Progress::Over,
@@ -100,7 +106,7 @@ impl Link {
     /// Makes at most one socket call: a write where replies wait, else a read. Replies are taken over only where the
     /// socket has taken all that were before. Where bytes are left that the core does not take while no reply is owed,
     /// it waits for something else.
-    fn step(&mut self, engine: &mut Engine) -> Step {
+    fn step(&mut self, engine: &mut Engine, may_end: bool) -> Step {
         if self.outbox.is_empty() && !self.exchange(engine) {
             let _ = self.outbox.send(&mut self.stream);
             return Step::Ends;
@@ -108,7 +114,7 @@ impl Link {
         if !self.outbox.is_empty() {
             return self.write();
         }
-        if self.start < self.end {
+        if self.start < self.end || self.is_dry && !may_end {
             return Step::Blocks;
         }
         self.read()
@@ -175,6 +181,7 @@ impl Link {
             Ok(0) => Step::Ends,
             Ok(n) => {
                 self.end = n;
+                self.is_dry = n < READ_AHEAD;
                 Step::GoesOn
             }
             Err(error) => step_after(&error),

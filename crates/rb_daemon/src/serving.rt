@@ -4,6 +4,7 @@ ghost use Rattle.std.specs.Prelude.{◌≤◌, length};
 use crate::engine::Engine;
 use crate::faults::{AcceptFault, DaemonFault, accept_fault};
 use crate::link::{Link, Progress, SOCKET_CALLS};
+use mio::event::Event;
 use mio::net::{TcpListener, TcpStream, UdpSocket};
 use mio::{Interest, Registry, Token};
 use rb_core::Peer;
@@ -125,7 +126,7 @@ impl Serving {
         if self.begun.links {
             for key in 0..self.conns {
                 if self.links.get(key).is_some_and(|link| link.is_waiting()) {
-                    self.serve_link(key);
+                    self.serve_link(key, true);
                 }
             }
         }
@@ -143,13 +144,13 @@ impl Serving {
 
     /// Serves what an event shows. What this turn began with was served after the events came, so nothing is lost where
     /// it is passed over.
-    pub(crate) fn serve(&mut self, registry: &Registry, token: Token) -> Result<(), DaemonFault> {
-        match token {
+    pub(crate) fn serve(&mut self, registry: &Registry, event: &Event) -> Result<(), DaemonFault> {
+        match event.token() {
             LISTENER if !self.begun.listener => self.accept_all(registry)?,
             CALLS if !self.begun.calls => self.answer_calls(),
             FORWARDS if !self.begun.forwards => self.take_forward_replies(),
             LISTENER | CALLS | FORWARDS => {}
-            Token(key) => self.serve_link(key),
+            Token(key) => self.serve_link(key, event.is_read_closed()),
         }
         Ok(())
     }
@@ -203,15 +204,15 @@ impl Serving {
         }
     }
 
-    /// Serves a connection, at most once in a turn.
-    fn serve_link(&mut self, key: usize) {
+    /// Serves a connection, at most once in a turn, whose peer may have ended what it sends, or has not.
+    fn serve_link(&mut self, key: usize, may_end: bool) {
         let Some(link) = self.links.get_mut(key) else {
             return;
         };
         if link.was_served_in(self.turn) {
             return;
         }
-        match link.serve(&mut self.engine, self.turn) {
+        match link.serve(&mut self.engine, self.turn, may_end) {
             Progress::Blocked => {}
             Progress::CutOff => self.left.links = true,
             Progress::Over => self.close(key),
