@@ -1,7 +1,7 @@
 -- A value of XDR that is read byte by byte.
-use Rattle.std.proofs.Common.{◌≡◌, ◌≤◌, ◌<◌, ◌+◌, ◌-◌, ◌⊎◌, ℕ, suc, List, [], ◌∷◌, ◌++◌, length, take, drop, Option, Some, Result, Ok, Err, refl, sym, ap, ◌∙◌, arith, inl, inr, append_assoc, append-nil, length-append, subst}
+use Rattle.std.proofs.Common.{◌≡◌, ◌<◌, ◌+◌, ◌-◌, ℕ, suc, List, [], ◌∷◌, ◌++◌, length, take, drop, Option, Ok, Err, refl, sym, ap, ◌∙◌, arith, inl, inr, append_assoc, append-nil, length-append}
 use Rattle.std.specs.Prelude.{⊤}
-use Rattle.std.proofs.lemmas.List.{take-append-drop, take_at, drop_at, drop_all, length-take}
+use Rattle.std.proofs.lemmas.List.{take-append-drop, take_at, drop_at, drop_all}
 use Rattle.std.proofs.lemmas.Bool.{cases_lt}
 use Rattle.std.proofs.Math.Seq.{take-add}
 use Rattle.std.proofs.KnownBytes.{Appends-nil}
@@ -13,12 +13,11 @@ use Rattle.rb_xdr.specs.XdrLaws.{IsComplete}
 use Rattle.rb_xdr.specs.Forms.{Form, extent, extent_of, HasForm}
 use Rattle.rb_ask.specs.declared.record.Record.{Record}
 use Rattle.rb_ask.specs.declared.fault.InfoFault.{InfoFault}
-use Rattle.rb_ask.specs.declared.fault.InfoFault.TheVariants.{Read, Unreadable, Memory}
-use Rattle.rb_ask.specs.Data.{Stands}
+use Rattle.rb_ask.specs.declared.fault.InfoFault.TheVariants.{Unreadable}
 use Rattle.rb_ask.specs.Reading.{IsNotRead, Ends, Gives, Holds}
-use Rattle.rb_ask.specs.Telling.{Told, Teller, take_one, told_by, Tells, Outcome, Finished, Stopped, CutOff, lines_of}
+use Rattle.rb_ask.specs.Telling.{Told, take_one, told_by, Tells, CutOff, lines_of}
 use Rattle.rb_ask.specs.Telling.Told.{Done, Stop}
-use Rattle.rb_ask.proofs.Settles.{Settles, form_settles}
+use Rattle.rb_ask.proofs.Settles.{form_settles}
 
 -- the bytes but for the last are no value yet
 abbrev pub IsShort : {A : Type 0} → Reader A → List ℕ → Type 0

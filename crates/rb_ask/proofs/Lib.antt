@@ -3,3 +3,4 @@ pub mod Settles
 pub mod Items
 pub mod Tellings
 pub mod Listed
+pub mod HeadReads

@@ -1,12 +1,12 @@
 -- Lists, item by item.
-use Rattle.std.proofs.Common.{◌≡◌, ℕ, zero, suc, ◌+◌, Bool, true, false, List, [], ◌∷◌, Option, Some, None, Result, Ok, Err, refl, sym, ap, subst}
+use Rattle.std.proofs.Common.{◌≡◌, ℕ, suc, ◌+◌, Bool, true, false, List, [], ◌∷◌, Option, Some, None, Result, Ok, Err, refl, subst}
 use Rattle.std.proofs.KnownBytes.{Appends-nil}
 use Rattle.rb_xdr.specs.Xdr.{Reader, read_bool}
 use Rattle.rb_xdr.specs.XdrTypes.{read_optional}
 use Rattle.rb_ask.specs.declared.record.Record.{Record}
 use Rattle.rb_ask.specs.declared.fault.InfoFault.{InfoFault}
 use Rattle.rb_ask.specs.declared.fault.InfoFault.TheVariants.{TooMany}
-use Rattle.rb_ask.specs.Telling.{Teller, ◌>>=◌, give, stop, tell, take_one, Tells}
+use Rattle.rb_ask.specs.Telling.{◌>>=◌, stop, tell, take_one, Tells}
 use Rattle.rb_ask.specs.Lists.{tell_items, tell_item, tell_end}
 use Rattle.rb_ask.proofs.Tellings.{tells_then, tells_fault, tells_give}
 

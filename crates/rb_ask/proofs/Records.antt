@@ -11,7 +11,7 @@ use Rattle.rb_xdr.specs.Xdr.{number, number_at}
 use Rattle.rb_xdr.proofs.Words.{length-number, number_at-number}
 use Rattle.rb_rpc.specs.Records.{is_last, fragment_end, data_in, data_of}
 use Rattle.rb_ask.specs.declared.record.Record.{Record}
-use Rattle.rb_ask.specs.Data.{data_left, longest_record, Passed, Stands, EndsInData}
+use Rattle.rb_ask.specs.Data.{data_left, Passed, Stands, EndsInData}
 
 -- ---- fuel
 

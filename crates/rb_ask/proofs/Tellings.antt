@@ -1,14 +1,12 @@
 -- What is told one after the other.
-use Rattle.std.proofs.Common.{◌≡◌, ℕ, List, [], ◌∷◌, ◌++◌, Option, Some, None, Result, Ok, Err, refl, sym, ap, ◌∙◌, append_assoc, append-nil, subst}
-use Rattle.std.specs.List.{flat_map}
+use Rattle.std.proofs.Common.{◌≡◌, ℕ, List, [], ◌∷◌, ◌++◌, Option, Result, Ok, Err, refl, sym, ap, ◌∙◌, append_assoc, append-nil, subst}
 use Rattle.std.specs.Io.KnownBytes.{Appends}
 use Rattle.std.proofs.KnownBytes.{Appends-nil, Appends-trans}
 use Rattle.std.proofs.lemmas.Grind.{flat_map-append}
 use Rattle.rb_ask.specs.declared.record.Record.{Record}
 use Rattle.rb_ask.specs.declared.fault.InfoFault.{InfoFault}
 use Rattle.rb_ask.specs.declared.fault.InfoFault.TheVariants.{Read, Write, Unreadable, Refused, TooMany, Memory}
-use Rattle.rb_ask.specs.Data.{Stands}
-use Rattle.rb_ask.specs.Telling.{Told, Teller, add_lines, tell_on, ◌>>=◌, give, stop, tell, joined, lines_of, Tells, Outcome, AfterFault, Finished, Stopped, CutOff}
+use Rattle.rb_ask.specs.Telling.{Told, Teller, add_lines, tell_on, ◌>>=◌, give, stop, tell, joined, lines_of, Tells, Outcome, AfterFault, Stopped, CutOff}
 use Rattle.rb_ask.specs.Telling.Told.{Done, Stop}
 
 wrote : (a b c : Option (List ℕ)) (lines more : List (List ℕ)) → Appends a b (joined lines) → Appends b c (joined more) → Appends a c (joined (lines ++ more))

@@ -1,5 +1,5 @@
 -- The head of a reply, field by field (RFC 5531 section 9).
-use Rattle.std.specs.Prelude.{ℕ, ◌==◌, Bool, if◌then◌else◌, List, Option, Some, None}
+use Rattle.std.specs.Prelude.{ℕ, ◌==◌, if◌then◌else◌, List, Option, Some, None}
 use Rattle.rb_xdr.specs.Xdr.{Reader, read_number, read_opaque}
 use Rattle.rb_xdr.specs.XdrTypes.{read_pair}
 use Rattle.rb_rpc.specs.Messages.{max_auth_body, auth_stat_of}

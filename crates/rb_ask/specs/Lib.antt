@@ -1,5 +1,6 @@
 pub mod Data
 pub mod Reading
 pub mod Heads
+pub mod HeadLaws
 pub mod Lists
 pub mod Telling

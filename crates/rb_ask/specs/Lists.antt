@@ -1,8 +1,7 @@
 -- Linked lists (RFC 4506 section 4.19), whose items are told one by one.
-use Rattle.std.specs.Prelude.{◌≡◌, ◌⊎◌, ℕ, zero, suc, ◌+◌, Bool, true, false, if◌then◌else◌, List, [], ◌∷◌, Option, Some, None}
+use Rattle.std.specs.Prelude.{ℕ, zero, suc, ◌+◌, Bool, if◌then◌else◌, List, [], ◌∷◌, Option, Some, None}
 use Rattle.rb_xdr.specs.Xdr.{Reader, read_bool}
 use Rattle.rb_xdr.specs.XdrTypes.{read_optional}
-use Rattle.rb_ask.specs.declared.fault.InfoFault.{InfoFault}
 use Rattle.rb_ask.specs.declared.fault.InfoFault.TheVariants.{TooMany}
 use Rattle.rb_ask.specs.Telling.{Teller, ◌>>=◌, give, stop, tell, take_one}
 

@@ -4,11 +4,13 @@
 mod fault;
 mod head;
 mod item;
+mod laws;
 mod list;
 mod record;
 
 pub use fault::InfoFault;
 pub use head::take_head;
 pub use item::take_item;
+pub use laws::heads_are_read;
 pub use list::{Style, show_item, show_list};
 pub use record::Record;

@@ -1,4 +1,4 @@
-use Rattle.std.proofs.Common.{ℕ, Ok}
+use Rattle.std.proofs.Common.{ℕ}
 use Rattle.std.proofs.lemmas.Result.{err_from_is_err_and}
 use Rattle.rb_rpc.specs.declared.reply.ReplyStatus.TheVariants.{ProgMismatch}
 use Rattle.rb_ask.specs.Telling.{take_one, give}

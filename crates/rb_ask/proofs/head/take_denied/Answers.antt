@@ -1,4 +1,3 @@
-use Rattle.std.proofs.Common.{ℕ}
 use Rattle.std.proofs.lemmas.Result.{err_from_is_err_and}
 use Rattle.rb_ask.specs.Telling.{take_one}
 use Rattle.rb_xdr.specs.Xdr.{read_number}

@@ -1,6 +1,4 @@
 -- The bytes are those that were read, and without the last they were no value yet.
-use Rattle.std.proofs.Common.{List, ℕ}
-use Rattle.rb_xdr.specs.Xdr.{AreBytes}
 use Rattle.rb_ask.specs.Reading.{Holds}
 use Rattle.rb_ask.proofs.Items.{IsShort}
 use Rattle.rb_ask.proofs.item.take_item.Given as goal

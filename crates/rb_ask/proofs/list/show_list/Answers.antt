@@ -1,4 +1,4 @@
-use Rattle.std.proofs.Common.{◌≡◌, ◌+◌, ◌-◌, ℕ, true, false, Some, None, Ok, Err, rules, arith}
+use Rattle.std.proofs.Common.{◌≡◌, ◌+◌, ◌-◌, Ok, Err, rules, arith}
 use Rattle.std.proofs.lemmas.Result.{err_from_is_err_and}
 use Rattle.rb_ask.proofs.Listed.{list_fault, list_done, list_unwritten, list_more, end_fault, end_all, end_too_many}
 use Rattle.rb_ask.proofs.list.show_list.Goals as goal
