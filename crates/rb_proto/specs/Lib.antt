@@ -1,5 +1,6 @@
 pub mod Types
 pub mod Arguments
+pub mod Numbers
 pub mod Grammar
 pub mod Netids
 pub mod Callers

@@ -30,7 +30,7 @@ pub use laws::requests_are_of_the_grammar;
 pub use listener::{Listener, own_rows};
 pub use mapping::Mapping;
 pub use netbuf::Netbuf;
-pub use procedure::{MappingProcedure, RpcbProcedure, VoidProcedure};
+pub use procedure::{MappingProcedure, Procedure, RpcbProcedure, VoidProcedure};
 pub use put::{put_answer, put_row};
 pub use request::{ArgumentFault, Request, read_args};
 pub use rpcb::Rpcb;

@@ -1,6 +1,7 @@
 //! The table of procedures.
 ghost use Rattle.std.specs.Prelude.{◌≡◌, Option};
 ghost use Rattle.rb_proto.specs.Arguments.{front, procedure_at, arguments};
+ghost use Rattle.rb_proto.specs.Numbers.{is_void, is_mapping, is_rpcb, is_procedure, number_of};
 
 use crate::request::Request;
 use rb_xdr::Xdr;
@@ -106,5 +107,53 @@ impl Procedure {
             Procedure::Uaddr2taddr => Some(Request::Uaddr2taddr(front(bytes)?)),
             Procedure::Taddr2uaddr => Some(Request::Taddr2uaddr(front(bytes)?)),
         }
+    }
+}
+
+// ---- for those who call
+
+#[tactic(auto, unfolding(crate::specs::Numbers::is_void))]
+fn is_void(a: VoidProcedure, b: VoidProcedure) -> bool
+    ensures { result ≡ is_void a b }
+{
+    a == b
+}
+
+#[tactic(auto, unfolding(crate::specs::Numbers::is_mapping))]
+fn is_mapping(a: MappingProcedure, b: MappingProcedure) -> bool
+    ensures { result ≡ is_mapping a b }
+{
+    a == b
+}
+
+#[tactic(auto, unfolding(crate::specs::Numbers::is_rpcb))]
+fn is_rpcb(a: RpcbProcedure, b: RpcbProcedure) -> bool
+    ensures { result ≡ is_rpcb a b }
+{
+    a == b
+}
+
+#[tactic(auto, unfolding(crate::specs::Numbers::is_procedure))]
+fn is_procedure(a: Procedure, b: Procedure) -> bool
+    ensures { result ≡ is_procedure a b }
+{
+    match (a, b) {
+        (Procedure::Void(a), Procedure::Void(b)) => is_void(a, b),
+        (Procedure::Mapping(a), Procedure::Mapping(b)) => is_mapping(a, b),
+        (Procedure::Rpcb(a), Procedure::Rpcb(b)) => is_rpcb(a, b),
+        _ => false,
+    }
+}
+
+impl Procedure {
+    /// The number of a procedure with no argument, a mapping or an rpcb in this version, where the version has it.
+    #[tactic(auto, unfolding(crate::specs::Numbers::number_of))]
+    pub fn number(self, vers: u32) -> Option<u32>
+        ensures { result ≡ number_of vers self }
+    {
+        PROCEDURES
+            .iter()
+            .find(|row| row.0 == vers && is_procedure(row.2, self))
+            .map(|row| row.1)
     }
 }
