@@ -1,26 +1,36 @@
 -- What is asked of a portmapper (RFC 1833 sections 2.2 and 3.2), and the call that asks it.
-use Rattle.std.specs.Prelude.{ℕ, List, [], ◌++◌, length, true, Option, Some, None}
+use Rattle.std.specs.Prelude.{ℕ, List, [], ◌++◌, length, true, Option, Some, None, unwrap_or}
 use Rattle.rb_rpc.specs.CallBytes.{call_bytes}
 use Rattle.rb_rpc.specs.declared.call.CallHead.{CallHead}
 use Rattle.rb_rpc.specs.declared.call.Credential.{Credential}
 use Rattle.rb_rpc.specs.declared.call.Credential.TheVariants as credentials
 use Rattle.rb_rpc.specs.Records.{fragment_header}
+use Rattle.rb_proto.specs.declared.procedure.Procedure.{Procedure}
+use Rattle.rb_proto.specs.declared.procedure.Procedure.TheVariants.{Void, Mapping as MappingOf, Rpcb as RpcbOf}
+use Rattle.rb_proto.specs.declared.procedure.VoidProcedure.TheVariants as voids
+use Rattle.rb_proto.specs.declared.procedure.MappingProcedure.TheVariants as mappings
+use Rattle.rb_proto.specs.declared.procedure.RpcbProcedure.TheVariants as rpcbs
 use Rattle.rb_proto.specs.declared.rpcb.Rpcb.{Rpcb}
+use Rattle.rb_proto.specs.Numbers.{number_of}
 use Rattle.rb_proto.specs.Types.{mapping_spelling, rpcb_spelling}
 use Rattle.rb_show.specs.declared.ask.Ask.{Ask}
 use Rattle.rb_show.specs.declared.ask.Question.{Question}
 use Rattle.rb_show.specs.declared.ask.Question.TheVariants.{Rows, Short, Pmap, Entries, Stats, Port, Null, Unset}
 
+-- a procedure of the portmapper in a version that has it
+abbrev pub of_portmapper : ℕ → Procedure → ℕ × ℕ × ℕ
+of_portmapper vers procedure = (100000, vers, unwrap_or (number_of vers procedure) 0)
+
 -- program, version and procedure
 abbrev pub procedure_of : Question → ℕ × ℕ × ℕ
-procedure_of Rows = (100000, 3, 4)
-procedure_of Short = (100000, 3, 4)
-procedure_of Pmap = (100000, 2, 4)
-procedure_of (Entries prog vers) = (100000, 4, 11)
-procedure_of Stats = (100000, 4, 12)
-procedure_of (Port prot prog vers) = (100000, 2, 3)
+procedure_of Rows = of_portmapper 3 (Void voids.Dump)
+procedure_of Short = of_portmapper 3 (Void voids.Dump)
+procedure_of Pmap = of_portmapper 2 (Void voids.PmapDump)
+procedure_of (Entries prog vers) = of_portmapper 4 (RpcbOf rpcbs.Getaddrlist)
+procedure_of Stats = of_portmapper 4 (Void voids.Getstat)
+procedure_of (Port prot prog vers) = of_portmapper 2 (MappingOf mappings.Getport)
 procedure_of (Null prog vers) = (prog, vers, 0)
-procedure_of (Unset prog vers) = (100000, 4, 2)
+procedure_of (Unset prog vers) = of_portmapper 4 (RpcbOf rpcbs.Unset)
 
 -- a program's version on any netid
 abbrev pub rpcb_of : ℕ → ℕ → Rpcb

@@ -2,10 +2,10 @@
 ghost use Rattle.std.specs.Prelude.{◌≡◌, ◌⊎◌, OnOk, IfErr};
 ghost use Rattle.std.specs.Io.KnownBytes.{Appends};
 ghost use Rattle.rb_xdr.specs.Puts.{Appends as Adds};
-ghost use Rattle.rb_show.specs.Asks.{head_of, call_of, arguments_of, marked_call};
+ghost use Rattle.rb_show.specs.Asks.{of_portmapper, procedure_of, head_of, call_of, arguments_of, marked_call};
 
 use rb_ask::InfoFault;
-use rb_proto::{Mapping, Rpcb};
+use rb_proto::{Mapping, MappingProcedure, Procedure, Rpcb, RpcbProcedure, VoidProcedure};
 use rb_rpc::{CallHead, Credential, fragment_header, put_call};
 use rb_xdr::{Full, Kept, Meter, Text, Xdr};
 use std::alloc::Global;
@@ -45,19 +45,33 @@ pub struct Ask {
     pub uid: Option<u32>,
 }
 
+/// Program, version and number of a procedure of the portmapper.
+fn of_portmapper(vers: u32, procedure: Procedure) -> (u32, u32, u32)
+    ensures { result ≡ of_portmapper vers procedure }
+{
+    (PORTMAPPER, vers, procedure.number(vers).unwrap_or(0))
+}
+
+/// Program, version and number of the procedure that a question asks.
+fn procedure_of(question: Question) -> (u32, u32, u32)
+    ensures { result ≡ procedure_of question }
+{
+    match question {
+        Question::Rows | Question::Short => of_portmapper(3, Procedure::Void(VoidProcedure::Dump)),
+        Question::Pmap => of_portmapper(2, Procedure::Void(VoidProcedure::PmapDump)),
+        Question::Entries(_, _) => of_portmapper(4, Procedure::Rpcb(RpcbProcedure::Getaddrlist)),
+        Question::Stats => of_portmapper(4, Procedure::Void(VoidProcedure::Getstat)),
+        Question::Port(_, _, _) => of_portmapper(2, Procedure::Mapping(MappingProcedure::Getport)),
+        Question::Null(prog, vers) => (prog, vers, 0),
+        Question::Unset(_, _) => of_portmapper(4, Procedure::Rpcb(RpcbProcedure::Unset)),
+    }
+}
+
 impl Ask {
     fn head(&self, xid: u32) -> CallHead
         ensures { result ≡ head_of self.now xid }
     {
-        let (prog, vers, proc) = match self.question {
-            Question::Rows | Question::Short => (PORTMAPPER, 3, 4),
-            Question::Pmap => (PORTMAPPER, 2, 4),
-            Question::Entries(_, _) => (PORTMAPPER, 4, 11),
-            Question::Stats => (PORTMAPPER, 4, 12),
-            Question::Port(_, _, _) => (PORTMAPPER, 2, 3),
-            Question::Null(prog, vers) => (prog, vers, 0),
-            Question::Unset(_, _) => (PORTMAPPER, 4, 2),
-        };
+        let (prog, vers, proc) = procedure_of(self.question);
         let cred = match self.uid {
             Some(uid) => Credential::Sys(uid),
             None => Credential::None,
