@@ -1,9 +1,18 @@
 -- What is read of a record's data.
 use Rattle.std.specs.Prelude.{◌≡◌, ◌⊎◌, ◌<◌, ℕ, List, [], ◌∷◌, ◌++◌, length, Option, Some}
+use Rattle.std.specs.Io.KnownBytes.{Consumes}
 use Rattle.rb_ask.specs.declared.record.Record.{Record}
 use Rattle.rb_ask.specs.declared.fault.InfoFault.{InfoFault}
 use Rattle.rb_ask.specs.declared.fault.InfoFault.TheVariants.{Read, Unreadable}
 use Rattle.rb_ask.specs.Data.{Passed, Stands}
+
+-- the next bytes of the input were read
+abbrev pub HasRead : {R : Type 0} → (R → Option (List ℕ)) → R → R → List ℕ → Type 0
+HasRead remaining reader reader' bytes = Consumes (remaining reader) (remaining reader') bytes
+
+-- where the fault is Unreadable, this holds
+abbrev pub UnreadableMeans : Type 0 → InfoFault → Type 0
+UnreadableMeans Holds fault = fault ≡ Unreadable → Holds
 
 abbrev pub IsNotRead : InfoFault → Type 0
 IsNotRead fault = (fault ≡ Read) ⊎ (fault ≡ Unreadable)

@@ -1,9 +1,9 @@
 //! The data of a marked record, byte by byte (RFC 5531 section 11).
 ghost use Rattle.std.specs.Prelude.{◌≡◌, ◌+◌, ◌<◌, ◌∷◌, [], length, false, IfOk, IfErr, OnOk};
-ghost use Rattle.std.specs.Io.KnownBytes.{Consumes, IsAtEnd};
+ghost use Rattle.std.specs.Io.KnownBytes.{IsAtEnd};
 ghost use Rattle.rb_xdr.specs.Xdr.{number};
 ghost use Rattle.rb_ask.specs.Data.{longest_record, Counts, Passed, Stands};
-ghost use Rattle.rb_ask.specs.Reading.{IsNotRead, HasFewer, Passes, Ends, Gives};
+ghost use Rattle.rb_ask.specs.Reading.{HasRead, UnreadableMeans, IsNotRead, HasFewer, Passes, Ends, Gives};
 
 use crate::fault::InfoFault;
 use std::io::Read;
@@ -39,11 +39,9 @@ impl Record {
 
     /// The next byte of the input, of whichever part.
     fn raw<R: Read>(&mut self, reader: &mut R) -> Result<u8, InfoFault>
-        ensures took { IfOk result (λ b.
-            Consumes (R.remaining reader.old) (R.remaining reader.new) (b ∷ [])) }
+        ensures took { IfOk result (λ b. HasRead R.remaining reader.old reader.new (b ∷ [])) }
         ensures counts { OnOk result (Counts self.old self.new) }
-        ensures ended { IfErr result (λ fault.
-            fault ≡ InfoFault.Unreadable → IsAtEnd (R.remaining reader.old)) }
+        ensures ended { IfErr result (UnreadableMeans (IsAtEnd (R.remaining reader.old))) }
         ensures faults { IfErr result IsNotRead }
     {
         if self.allowed == 0 {
@@ -63,11 +61,9 @@ impl Record {
     /// The next four bytes of the input, as a number.
     #[tactic(auto, unfolding(rb_xdr::specs::Xdr::number))]
     fn number<R: Read>(&mut self, reader: &mut R) -> Result<u32, InfoFault>
-        ensures took { IfOk result (λ n.
-            Consumes (R.remaining reader.old) (R.remaining reader.new) (number n)) }
+        ensures took { IfOk result (λ n. HasRead R.remaining reader.old reader.new (number n)) }
         ensures allowed { OnOk result (self.old.allowed ≡ self.new.allowed + 4) }
-        ensures ended { IfErr result (λ fault. fault ≡ InfoFault.Unreadable
-            → HasFewer 4 (R.remaining reader.old)) }
+        ensures ended { IfErr result (UnreadableMeans (HasFewer 4 (R.remaining reader.old))) }
         ensures faults { IfErr result IsNotRead }
     {
         let a = self.raw(reader)?;
@@ -84,8 +80,7 @@ impl Record {
         requires more { self.old.last ≡ false }
         ensures passes { OnOk result (Passes R.remaining reader.old reader.new self.old self.new) }
         ensures allowed { OnOk result (self.new.allowed < self.old.allowed) }
-        ensures ended { IfErr result (λ fault.
-            fault ≡ InfoFault.Unreadable → Ends R.remaining reader.old self.old) }
+        ensures ended { IfErr result (UnreadableMeans (Ends R.remaining reader.old self.old)) }
         ensures faults { IfErr result IsNotRead }
     {
         let number = self.number(reader)?;
@@ -100,8 +95,7 @@ impl Record {
     pub fn byte<R: Read>(&mut self, reader: &mut R) -> Result<u8, InfoFault>
         ensures gives { IfOk result (Gives R.remaining reader.old reader.new self.old self.new) }
         ensures allowed { OnOk result (self.new.allowed < self.old.allowed) }
-        ensures ended { IfErr result (λ fault.
-            fault ≡ InfoFault.Unreadable → Ends R.remaining reader.old self.old) }
+        ensures ended { IfErr result (UnreadableMeans (Ends R.remaining reader.old self.old)) }
         ensures faults { IfErr result IsNotRead }
     {
         'fragments: while self.left == 0 {

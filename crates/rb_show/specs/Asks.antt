@@ -1,5 +1,6 @@
 -- What is asked of a portmapper (RFC 1833 sections 2.2 and 3.2), and the call that asks it.
 use Rattle.std.specs.Prelude.{ℕ, List, [], ◌++◌, length, true, Option, Some, None, unwrap_or}
+use Rattle.std.specs.Io.KnownBytes.{Appends}
 use Rattle.rb_rpc.specs.CallBytes.{call_bytes}
 use Rattle.rb_rpc.specs.declared.call.CallHead.{CallHead}
 use Rattle.rb_rpc.specs.declared.call.Credential.{Credential}
@@ -10,6 +11,7 @@ use Rattle.rb_proto.specs.declared.procedure.Procedure.TheVariants.{Void, Mappin
 use Rattle.rb_proto.specs.declared.procedure.VoidProcedure.TheVariants as voids
 use Rattle.rb_proto.specs.declared.procedure.MappingProcedure.TheVariants as mappings
 use Rattle.rb_proto.specs.declared.procedure.RpcbProcedure.TheVariants as rpcbs
+use Rattle.rb_proto.specs.declared.mapping.Mapping.{Mapping}
 use Rattle.rb_proto.specs.declared.rpcb.Rpcb.{Rpcb}
 use Rattle.rb_proto.specs.Numbers.{number_of}
 use Rattle.rb_proto.specs.Types.{mapping_spelling, rpcb_spelling}
@@ -36,13 +38,17 @@ procedure_of (Unset prog vers) = of_portmapper 4 (RpcbOf rpcbs.Unset)
 abbrev pub rpcb_of : ℕ → ℕ → Rpcb
 rpcb_of prog vers = record { prog = prog; vers = vers; netid = []; addr = []; owner = [] }
 
+-- a program's version over a protocol
+abbrev pub mapping_of : ℕ → ℕ → ℕ → Mapping
+mapping_of prot prog vers = record { prog = prog; vers = vers; prot = prot; port = 0 }
+
 abbrev pub arguments_of : Question → List ℕ
 arguments_of Rows = []
 arguments_of Short = []
 arguments_of Pmap = []
 arguments_of (Entries prog vers) = rpcb_spelling (rpcb_of prog vers)
 arguments_of Stats = []
-arguments_of (Port prot prog vers) = mapping_spelling (record { prog = prog; vers = vers; prot = prot; port = 0 })
+arguments_of (Port prot prog vers) = mapping_spelling (mapping_of prot prog vers)
 arguments_of (Null prog vers) = []
 arguments_of (Unset prog vers) = rpcb_spelling (rpcb_of prog vers)
 
@@ -66,3 +72,7 @@ call_of ask xid = call_bytes (head_of ask xid) ++ arguments_of ask.question
 -- in one fragment
 abbrev pub marked_call : Ask → ℕ → List ℕ
 marked_call ask xid = fragment_header (length (call_of ask xid)) true ++ call_of ask xid
+
+-- these bytes were written, and nothing else
+abbrev pub HasWritten : {W : Type 0} → (W → Option (List ℕ)) → W → W → List ℕ → Type 0
+HasWritten contents writer writer' bytes = Appends (contents writer) (contents writer') bytes

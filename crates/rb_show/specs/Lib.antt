@@ -1,4 +1,5 @@
 pub mod Asks
+pub mod AskLaws
 pub mod Lines
 pub mod Counts
 pub mod Replies

@@ -1,8 +1,7 @@
 //! What a portmapper is asked, and the call that asks it.
 ghost use Rattle.std.specs.Prelude.{◌≡◌, ◌⊎◌, OnOk, IfErr};
-ghost use Rattle.std.specs.Io.KnownBytes.{Appends};
 ghost use Rattle.rb_xdr.specs.Puts.{Appends as Adds};
-ghost use Rattle.rb_show.specs.Asks.{of_portmapper, procedure_of, head_of, call_of, arguments_of, marked_call};
+ghost use Rattle.rb_show.specs.Asks.{of_portmapper, procedure_of, head_of, call_of, arguments_of, marked_call, HasWritten};
 
 use rb_ask::InfoFault;
 use rb_proto::{Mapping, MappingProcedure, Procedure, Rpcb, RpcbProcedure, VoidProcedure};
@@ -137,8 +136,8 @@ pub fn write_call<W: Write>(
     xid: u32,
     writer: &mut W,
 ) -> Result<(), InfoFault>
-    ensures written { OnOk result
-        (Appends (W.contents writer.old) (W.contents writer.new) (marked_call ask.now xid)) }
+    ensures ok { OnOk result
+        (HasWritten W.contents writer.old writer.new (marked_call ask.now xid)) }
     ensures faults { IfErr result (λ fault. (fault ≡ InfoFault.Memory) ⊎ (fault ≡ InfoFault.Write)) }
 {
     let mut meter = Meter::new();

@@ -2,6 +2,7 @@
 #![tactic(auto)]
 
 mod ask;
+mod laws;
 mod lines;
 mod show;
 mod statistics;
@@ -9,5 +10,6 @@ mod statistics;
 mod tests;
 
 pub use ask::{Ask, Question, write_call};
+pub use laws::questions_are_requests;
 pub use rb_ask::InfoFault;
 pub use show::{Shown, show_reply};

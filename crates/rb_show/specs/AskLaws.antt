@@ -1,0 +1,42 @@
+-- What is asked is what a portmapper reads (RFC 1833 sections 2.2 and 3.2).
+use Rattle.std.specs.Prelude.{⊤, Option, Some, None}
+use Rattle.rb_xdr.specs.Xdr.{IsNumber}
+use Rattle.rb_proto.specs.declared.request.Request.{Request}
+use Rattle.rb_proto.specs.Grammar.{Asks}
+use Rattle.rb_proto.specs.declared.request.Request.TheVariants.{Void, Mapping, Rpcb}
+use Rattle.rb_proto.specs.declared.procedure.VoidProcedure.TheVariants as voids
+use Rattle.rb_proto.specs.declared.procedure.MappingProcedure.TheVariants as mappings
+use Rattle.rb_proto.specs.declared.procedure.RpcbProcedure.TheVariants as rpcbs
+use Rattle.rb_show.specs.declared.ask.Question.{Question}
+use Rattle.rb_show.specs.declared.ask.Question.TheVariants.{Rows, Short, Pmap, Entries, Stats, Port, Null, Unset}
+use Rattle.rb_show.specs.Asks.{procedure_of, rpcb_of, mapping_of, arguments_of}
+
+-- its numbers fit in 32 bits
+abbrev pub HasNumbers : Question → Type 0
+HasNumbers Rows = ⊤
+HasNumbers Short = ⊤
+HasNumbers Pmap = ⊤
+HasNumbers (Entries prog vers) = IsNumber prog × IsNumber vers
+HasNumbers Stats = ⊤
+HasNumbers (Port prot prog vers) = IsNumber prot × IsNumber prog × IsNumber vers
+HasNumbers (Null prog vers) = IsNumber prog × IsNumber vers
+HasNumbers (Unset prog vers) = IsNumber prog × IsNumber vers
+
+-- the request that a question to the portmapper is
+abbrev pub request_of : Question → Option Request
+request_of Rows = Some (Void voids.Dump)
+request_of Short = Some (Void voids.Dump)
+request_of Pmap = Some (Void voids.PmapDump)
+request_of (Entries prog vers) = Some (Rpcb rpcbs.Getaddrlist (rpcb_of prog vers))
+request_of Stats = Some (Void voids.Getstat)
+request_of (Port prot prog vers) = Some (Mapping mappings.Getport (mapping_of prot prog vers))
+request_of (Null prog vers) = None
+request_of (Unset prog vers) = Some (Rpcb rpcbs.Unset (rpcb_of prog vers))
+
+-- its version and number, and its arguments, ask for that request
+abbrev pub IsRequest : Question → Option Request → Type 0
+IsRequest question (Some r) = Asks (procedure_of question).1 (procedure_of question).2 r (arguments_of question)
+IsRequest question None = ⊤
+
+abbrev pub QuestionsAreRequests : Type 0
+QuestionsAreRequests = (question : Question) → HasNumbers question → IsRequest question (request_of question)
