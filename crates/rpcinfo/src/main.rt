@@ -1,16 +1,18 @@
 //! `rpcinfo` asks a portmapper and shows what it answers.
 #![tactic(auto)]
 
+mod ending;
 mod fault;
+mod input;
 mod net;
 mod run;
 mod words;
 
+use ending::{FAILED, UNREADABLE};
 use run::run_info;
 use std::io::ErrorKind;
 use std::process::ExitCode;
 use std::{env, io};
-use words::{FAILED, UNREADABLE};
 
 /// The words of the command line, where each is text.
 fn command_words(rt: &HostRuntime) -> io::Result<Vec<String>> {
@@ -27,7 +29,8 @@ fn main(rt: HostRuntime) -> ExitCode {
             &mut rt.reader(),
             &mut io::writer(&rt),
             &mut rt.stderr(),
-        ),
+        )
+        .status,
         Err(error) if error.kind() == ErrorKind::OutOfMemory => FAILED,
         Err(_) => UNREADABLE,
     };

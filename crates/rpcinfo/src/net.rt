@@ -43,15 +43,14 @@ pub fn ask_tcp<N: Net, W: Write>(
         return Err(Fault::NoConnection);
     }
     let mut call = Vec::new(alloc);
-    write_call(alloc, ask, xid, &mut call)?;
+    write_call(alloc, ask, xid, &mut call).map_err(Fault::Info)?;
     if stream.write_all(&call).is_err() {
         return Err(Fault::Info(InfoFault::Write));
     }
     let Ok(mut reader) = BufReader::new(alloc, stream) else {
         return Err(Fault::Info(InfoFault::Memory));
     };
-    let shown = show_reply(alloc, ask, xid, &mut reader, output)?;
-    Ok(shown)
+    show_reply(alloc, ask, xid, &mut reader, output).map_err(Fault::Info)
 }
 
 /// The record that a datagram is, in one fragment.
@@ -106,7 +105,7 @@ pub fn ask_udp<N: Net, W: Write>(
         return Err(Fault::NoConnection);
     };
     let mut call = Vec::new(alloc);
-    write_call(alloc, ask, xid, &mut call)?;
+    write_call(alloc, ask, xid, &mut call).map_err(Fault::Info)?;
     let Some(message) = call.get(HEADER..) else {
         return Err(Fault::NoConnection);
     };
@@ -114,6 +113,5 @@ pub fn ask_udp<N: Net, W: Write>(
     let Ok(record) = marked(alloc, &datagram) else {
         return Err(Fault::Info(InfoFault::Memory));
     };
-    let shown = show_reply(alloc, ask, xid, &mut record.as_slice(), output)?;
-    Ok(shown)
+    show_reply(alloc, ask, xid, &mut record.as_slice(), output).map_err(Fault::Info)
 }

@@ -1,62 +1,19 @@
 //! The command.
-ghost use Rattle.std.specs.Prelude.{◌≤◌};
+ghost use Rattle.std.specs.Prelude.{◌≡◌, ◌≤◌};
+ghost use Rattle.rpcinfo.specs.Running.{Answers, EndsWords, IsExplained, IsFlushed};
 
+use crate::ending::{Ending, conclude};
 use crate::fault::Fault;
+use crate::input::{FIRST_XID, show_input};
 use crate::net::{address, ask_tcp, ask_udp};
-use crate::words::{FAILED, Host, Plan, Transport, Words, read};
-use hex::FromHexError;
-use rb_show::{Ask, InfoFault, Question, Shown, show_reply};
+use crate::words::{Host, Plan, Transport, Words, read};
+use rb_show::{InfoFault, Question, Shown};
 use std::alloc::Global;
 use std::convert::AsStr;
-use std::io::{ErrorKind, Read, Write};
+use std::io::{Read, Write};
 use std::net::{Ipv4Addr, Net};
 
-/// A text on standard input has at most so many bytes.
-const LONGEST_TEXT: u64 = 67_108_864;
-
-/// The xid of a first call, and of the reply on standard input.
-const FIRST_XID: u32 = 1;
-
 const SECOND_XID: u32 = 2;
-
-/// The six white space characters of ASCII.
-fn is_white(byte: u8) -> bool {
-    matches!(byte, b' ' | b'\t' | b'\n' | 0x0b | 0x0c | b'\r')
-}
-
-/// All that is on standard input.
-fn read_text<I: Read>(alloc: Global, input: &mut I) -> Result<Vec<u8>, Fault> {
-    let mut text = Vec::new(alloc);
-    match input.take(LONGEST_TEXT + 1).read_to_end(&mut text) {
-        Ok(_) if text.len() as u64 > LONGEST_TEXT => Err(Fault::Info(InfoFault::Read)),
-        Ok(_) => Ok(text),
-        Err(error) if error.kind() == ErrorKind::OutOfMemory => Err(Fault::Info(InfoFault::Memory)),
-        Err(_) => Err(Fault::Info(InfoFault::Read)),
-    }
-}
-
-/// The bytes of hexadecimal text.
-fn read_hex(alloc: Global, mut text: Vec<u8>) -> Result<Vec<u8>, Fault> {
-    text.retain(|byte| !is_white(*byte));
-    match hex::decode(alloc, text.as_slice()) {
-        Ok(bytes) => Ok(bytes),
-        Err(FromHexError::OutOfMemory) => Err(Fault::Info(InfoFault::Memory)),
-        Err(_) => Err(Fault::Info(InfoFault::Unreadable)),
-    }
-}
-
-/// Shows the reply on standard input.
-fn show_input<I: Read, O: Write>(
-    alloc: Global,
-    ask: &Ask,
-    input: &mut I,
-    output: &mut O,
-) -> Result<Shown, Fault> {
-    let text = read_text(alloc, input)?;
-    let bytes = read_hex(alloc, text)?;
-    let shown = show_reply(alloc, ask, FIRST_XID, &mut bytes.as_slice(), output)?;
-    Ok(shown)
-}
 
 /// The port of a program's version, or that there is none.
 fn port_of<N: Net, O: Write>(
@@ -117,10 +74,15 @@ fn carry_out<N: Net, I: Read, O: Write>(
     words: &Words,
     input: &mut I,
     output: &mut O,
-) -> Result<Shown, Fault> {
+) -> Result<Shown, Fault>
+    ensures { Answers I.remaining O.contents words.now input.old output.old output.new result }
+{
     match words.plan {
         Plan::Show(Host::Input, question) => {
-            show_input(alloc, &words.ask(question), input, output)
+            match show_input(alloc, &words.ask(question), input, output) {
+                Ok(shown) => Ok(shown),
+                Err(fault) => Err(Fault::Info(fault)),
+            }
         }
         Plan::Show(Host::At(host), question) => {
             let portmapper = address(host, words.port);
@@ -139,10 +101,40 @@ fn carry_out<N: Net, I: Read, O: Write>(
     }
 }
 
+/// The answer, once all that was written is out.
+fn flushed<O: Write>(answer: Result<Shown, Fault>, output: &mut O) -> Result<Shown, Fault>
+    ensures { IsFlushed O.contents output.old output.new answer result }
+{
+    match (output.flush(), answer) {
+        (Ok(()), answer) => answer,
+        (Err(_), Ok(_)) => Err(Fault::Info(InfoFault::Write)),
+        (Err(_), Err(fault)) => Err(fault),
+    }
+}
+
+/// Does what the words say, and says what is wrong. What is written and how it ends is that of an answer of the words:
+/// where they name standard input, of what the reply in its text tells.
+fn run_words<N: Net, I: Read, O: Write, E: Write>(
+    alloc: Global,
+    net: &N,
+    words: &Words,
+    input: &mut I,
+    output: &mut O,
+    faults: &mut E,
+) -> Ending
+    ensures ends { EndsWords I.remaining O.contents E.contents words.now
+        input.old output.old output.new faults.old faults.new result }
+    ensures quiet { result.status ≡ 0 → faults.new ≡ faults.old }
+{
+    let answer = carry_out(alloc, net, words, input, output);
+    conclude(flushed(answer, output), faults)
+}
+
 /// Runs the command that the words name, and answers its exit status.
 ///
-/// 0 says that what was asked is printed; 1 that reading, writing, memory or the reply failed, or that UNSET removed
-/// nothing; 2 that the words can't be read, and nothing was asked.
+/// 0 says that what was asked is printed and written out; 1 that reading, writing, memory or the reply failed, which
+/// is said in one line to `faults`, or that UNSET removed nothing; 2 that the words can't be read, and nothing was read
+/// or asked.
 pub fn run_info<N: Net, S: AsStr, I: Read, O: Write, E: Write>(
     alloc: Global,
     net: &N,
@@ -150,17 +142,15 @@ pub fn run_info<N: Net, S: AsStr, I: Read, O: Write, E: Write>(
     input: &mut I,
     output: &mut O,
     faults: &mut E,
-) -> u8 {
-    let words = match read(alloc, words, output, faults) {
-        Ok(words) => words,
-        Err(status) => return status,
-    };
-    match carry_out(alloc, net, &words, input, output) {
-        Ok(Shown::Removed(false)) => FAILED,
-        Ok(_) => 0,
-        Err(fault) => {
-            let _ = writeln!(faults, "rpcinfo: {fault}");
-            FAILED
-        }
+) -> Ending
+    ensures status { result.status ≤ 2 }
+    ensures quiet { result.status ≡ 0 → faults.new ≡ faults.old }
+    ensures failed { result.status ≡ 1 → IsExplained E.contents faults.old faults.new result }
+    ensures unread { result.status ≡ 2 → input.new ≡ input.old }
+    ensures unwritten { result.status ≡ 2 → output.new ≡ output.old }
+{
+    match read(alloc, words, output, faults) {
+        Ok(words) => run_words(alloc, net, &words, input, output, faults),
+        Err(ending) => ending,
     }
 }

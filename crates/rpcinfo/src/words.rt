@@ -1,17 +1,16 @@
 //! The words of the command line.
+ghost use Rattle.std.specs.Prelude.{◌≡◌, ◌≤◌, IfErr, OnOk};
+ghost use Rattle.rpcinfo.specs.Running.{ask_of, EndsUnread, IsExplained};
+
+use crate::ending::{Ending, UNREADABLE, explain};
+use crate::fault::Fault;
 use clap::error::ErrorKind;
 use clap::{Arg, ArgAction, ArgGroup, ArgMatches, Command, Error};
-use rb_show::{Ask, Question};
+use rb_show::{Ask, InfoFault, Question};
 use std::alloc::{AllocError, Global};
 use std::convert::AsStr;
 use std::io::Write;
 use std::net::Ipv4Addr;
-
-/// The status of a fault while running.
-pub const FAILED: u8 = 1;
-
-/// The status of words that can't be read.
-pub const UNREADABLE: u8 = 2;
 
 /// Each flag with its name and its help.
 const FLAGS: [(char, &str, &str); 7] = [
@@ -85,7 +84,9 @@ pub struct Words {
 
 impl Words {
     /// A question of the user that the words name.
-    pub fn ask(&self, question: Question) -> Ask {
+    pub fn ask(&self, question: Question) -> Ask
+        ensures { result ≡ ask_of self.now question }
+    {
         Ask {
             question,
             uid: self.uid,
@@ -93,22 +94,35 @@ impl Words {
     }
 }
 
-/// What the words ask for. Help and faults are written, and then the status is in the `Err`.
+/// What the words ask for. Help and faults are written, and then the `Err` says how the command ended.
 pub fn read<S: AsStr, O: Write, E: Write>(
     alloc: Global,
     words: &[S],
     output: &mut O,
     faults: &mut E,
-) -> Result<Words, u8> {
+) -> Result<Words, Ending>
+    ensures read { OnOk result (output.new ≡ output.old) }
+    ensures said { OnOk result (faults.new ≡ faults.old) }
+    ensures ended { IfErr result
+        (EndsUnread E.contents output.old output.new faults.old faults.new) }
+{
     match matches_of(alloc, words) {
         Ok(matches) => match read_matches(&matches) {
             Some(words) => Ok(words),
-            None => {
-                let _ = writeln!(faults, "rpcinfo: the words can't be read; see --help");
-                Err(UNREADABLE)
-            }
+            None => Err(refuse(faults)),
         },
         Err(error) => Err(show(&error, output, faults)),
+    }
+}
+
+/// Says that the words can't be read.
+fn refuse<E: Write>(faults: &mut E) -> Ending
+    ensures { result.status ≡ 2 }
+{
+    let is_told = writeln!(faults, "rpcinfo: the words can't be read; see --help").is_ok();
+    Ending {
+        status: UNREADABLE,
+        is_told,
     }
 }
 
@@ -152,22 +166,26 @@ fn matches_of<'a, S: AsStr>(alloc: Global, words: &'a [S]) -> Result<ArgMatches<
     command(alloc)?.try_get_matches_from(words)
 }
 
-/// Writes the text of help or of a fault, and gives its status.
-fn show<O: Write, E: Write>(error: &Error, output: &mut O, faults: &mut E) -> u8 {
+/// Writes the text of help, or what is wrong with the words.
+fn show<O: Write, E: Write>(error: &Error, output: &mut O, faults: &mut E) -> Ending
+    ensures { EndsUnread E.contents output.old output.new faults.old faults.new result }
+{
     if error.kind() == ErrorKind::OutOfMemory {
-        let _ = writeln!(faults, "rpcinfo: no memory");
-        return FAILED;
+        return explain(Fault::Info(InfoFault::Memory), faults);
     }
     if error.use_stderr() {
-        let _ = write!(faults, "{error}");
-        return UNREADABLE;
+        let is_told = write!(faults, "{error}").is_ok();
+        return Ending {
+            status: UNREADABLE,
+            is_told,
+        };
     }
-    match write!(output, "{error}") {
-        Ok(()) => 0,
-        Err(_) => {
-            let _ = writeln!(faults, "rpcinfo: write failed");
-            FAILED
-        }
+    if write!(output, "{error}").is_err() || output.flush().is_err() {
+        return explain(Fault::Info(InfoFault::Write), faults);
+    }
+    Ending {
+        status: 0,
+        is_told: true,
     }
 }
 

@@ -1,0 +1,73 @@
+-- An answer whose lines are written out.
+use Rattle.std.proofs.Common.{◌≡◌, ◌⊎◌, ℕ, List, Option, Some, None, Result, Ok, Err, ◌∙◌, inl, inr}
+use Rattle.std.specs.Prelude.{IfSome}
+use Rattle.std.specs.Io.KnownBytes.{Appends, Keeps}
+use Rattle.rb_ask.specs.declared.fault.InfoFault.{InfoFault}
+use Rattle.rb_ask.specs.declared.fault.InfoFault.TheVariants.{Read, Write, Unreadable, Refused, TooMany, Memory}
+use Rattle.rb_ask.specs.declared.record.Record.{Record}
+use Rattle.rb_ask.specs.Telling.{Told, Outcome, AfterFault}
+use Rattle.rb_show.specs.declared.ask.Ask.{Ask}
+use Rattle.rb_show.specs.declared.show.Shown.{Shown}
+use Rattle.rpcinfo.specs.declared.fault.Fault.{Fault}
+use Rattle.rpcinfo.specs.declared.fault.Fault.TheVariants.{Info, NoConnection, NotAvailable}
+use Rattle.rpcinfo.specs.declared.words.Host.TheVariants.{Input, At}
+use Rattle.rpcinfo.specs.declared.words.Plan.{Plan}
+use Rattle.rpcinfo.specs.declared.words.Plan.TheVariants.{Show, Ping}
+use Rattle.rpcinfo.specs.declared.words.Words.{Words}
+use Rattle.rpcinfo.specs.Input.{tell_text, IsTold, ShowsInput}
+use Rattle.rpcinfo.specs.Running.{ask_of, IsToldAs, OfInput, Answers, IsOut, IsFlushed}
+
+grown : (a b c : Option (List ℕ)) (text : List ℕ) → Appends a b text → Keeps b c → Appends a c text
+grown None b c text p k = tt
+grown (Some xs) None c text p k = absurd p
+grown (Some xs) (Some ys) None text p k = absurd k
+grown (Some xs) (Some ys) (Some zs) text p k = k ∙ p
+
+fault_out : (told : Told Shown) (a b c : Option (List ℕ)) (fault : InfoFault) → Keeps b c → AfterFault told fault a b → AfterFault told fault a c
+fault_out told a b c Write k p = tt
+fault_out told a b c Read k p = record { lines = p.lines; more = p.more; lines_are = p.lines_are; written = grown a b c _ p.written k }
+fault_out told a b c Memory k p = record { lines = p.lines; more = p.more; lines_are = p.lines_are; written = grown a b c _ p.written k }
+fault_out told a b c Unreadable k p = record { lines = p.lines; told_is = p.told_is; written = grown a b c _ p.written k }
+fault_out told a b c TooMany k p = record { lines = p.lines; told_is = p.told_is; written = grown a b c _ p.written k }
+fault_out told a b c (Refused head) k p = record { lines = p.lines; told_is = p.told_is; written = grown a b c _ p.written k }
+
+shown_out : (told : Told Shown) (a b c : Option (List ℕ)) (shown : Shown) → Keeps b c → IsTold told a b (Ok shown) → IsTold told a c (Ok shown)
+shown_out told a b c shown k p =
+    let o = p.outcome in
+    record {
+      bytes = p.bytes;
+      left = p.left;
+      at = p.at;
+      outcome = record { lines = o.lines; left = o.left; told_is = o.told_is; stands = o.stands; written = grown a b c _ o.written k };
+    }
+
+not_out : (told : Told Shown) (a b c : Option (List ℕ)) (shown : Shown) → IsTold told a b (Ok shown) → IsTold told a c (Err Write)
+not_out told a b c shown p = record { bytes = p.bytes; left = p.left; at = p.at; outcome = tt }
+
+told_out : (told : Told Shown) (a b c : Option (List ℕ)) (answer result : Result Shown Fault) → Keeps b c → IsOut answer result → IsToldAs told a b answer → IsToldAs told a c result
+told_out told a b c (Ok shown) result k (inl e) p = rw e (shown_out told a b c shown k p)
+told_out told a b c (Ok shown) result k (inr e) p = rw e (not_out told a b c shown p)
+told_out told a b c (Err (Info fault)) result k e p = rw e (record { bytes = p.bytes; left = p.left; at = p.at; outcome = fault_out told a b c fault k p.outcome })
+told_out told a b c (Err NoConnection) result k e p = absurd p
+told_out told a b c (Err (NotAvailable prog vers)) result k e p = absurd p
+
+known_out : (left : Option (List ℕ)) (ask : Ask) (a b c : Option (List ℕ)) (answer result : Result Shown Fault) → Keeps b c → IsOut answer result
+    → IfSome left (λ text. IsToldAs (tell_text ask text) a b answer) → IfSome left (λ text. IsToldAs (tell_text ask text) a c result)
+known_out None ask a b c answer result k e p = tt
+known_out (Some text) ask a b c answer result k e p = told_out (tell_text ask text) a b c answer result k e p
+
+-- what holds of an answer holds of it once its lines are out
+pub answers_out : {I O : Type 0} (remaining : I → Option (List ℕ)) (contents : O → Option (List ℕ)) (words : Words) (input : I) (output output' output'' : O) (answer result : Result Shown Fault)
+    → Answers remaining contents words input output output' answer → IsFlushed contents output' output'' answer result → Answers remaining contents words input output output'' result
+answers_out {I} {O} remaining contents words input output output' output'' answer result p f = by_plan words.plan p
+  where
+    by_plan : (plan : Plan) → OfInput plan (λ question. IfSome (remaining input) (λ text. IsToldAs (tell_text (ask_of words question) text) (contents output) (contents output') answer))
+        → OfInput plan (λ question. IfSome (remaining input) (λ text. IsToldAs (tell_text (ask_of words question) text) (contents output) (contents output'') result))
+    by_plan (Show Input question) p = known_out (remaining input) (ask_of words question) (contents output) (contents output') (contents output'') answer result f.kept f.same p
+    by_plan (Show (At host) question) p = tt
+    by_plan (Ping transport host prog vers) p = tt
+
+-- what the reply on the input tells is the answer of words that name it
+pub answers_shown : {I O : Type 0} (remaining : I → Option (List ℕ)) (contents : O → Option (List ℕ)) (ask : Ask) (input : I) (output output' : O) (shown : Shown)
+    → ShowsInput remaining contents ask input output output' (Ok shown) → IfSome (remaining input) (λ text. IsToldAs (tell_text ask text) (contents output) (contents output') (Ok shown))
+answers_shown remaining contents ask input output output' shown p = p

@@ -1,0 +1,65 @@
+-- The reply on standard input: one marked record in hexadecimal text.
+use Rattle.std.specs.Prelude.{◌≡◌, ℕ, ◌+◌, ◌==◌, ◌&&◌, ◌||◌, not, nat_lt, nat_le, Bool, if◌then◌else◌, List, [], length, take, filter, Option, Some, IfSome, Result, Ok, Err}
+use Rattle.hex.specs.Hex.{decode_of}
+use Rattle.hex.specs.declared.error.FromHexError.{FromHexError}
+use Rattle.rb_rpc.specs.Records.{data_of}
+use Rattle.rb_ask.specs.declared.fault.InfoFault.{InfoFault}
+use Rattle.rb_ask.specs.declared.fault.InfoFault.TheVariants.{Read, Unreadable}
+use Rattle.rb_ask.specs.declared.record.Record.{Record}
+use Rattle.rb_ask.specs.Telling.{Told, Outcome}
+use Rattle.rb_ask.specs.Telling.Told.{Stop}
+use Rattle.rb_show.specs.declared.ask.Ask.{Ask}
+use Rattle.rb_show.specs.declared.show.Shown.{Shown}
+use Rattle.rb_show.specs.Replies.{tell_reply}
+
+-- the six white space characters of ASCII: space, tab, line feed, vertical tab, form feed, carriage return
+abbrev pub is_white : ℕ → Bool
+is_white b = b == 32 || (nat_le 9 b && nat_le b 13)
+
+-- a text without its white space
+abbrev pub digits_of : List ℕ → List ℕ
+digits_of text = filter (λ b. not (is_white b)) text
+
+-- the greatest length of a text
+unfoldable pub longest_text : ℕ
+longest_text = 67108864
+
+abbrev pub or_unreadable : Result (List ℕ) FromHexError → Result (List ℕ) InfoFault
+or_unreadable (Ok bytes) = Ok bytes
+or_unreadable (Err fault) = Err Unreadable
+
+-- two digits of either case for each byte, with white space anywhere
+abbrev pub read_hex : List ℕ → Result (List ℕ) InfoFault
+read_hex text = or_unreadable (decode_of (digits_of text))
+
+-- the bytes that a text gives
+abbrev pub bytes_of : List ℕ → Result (List ℕ) InfoFault
+bytes_of text = if nat_lt longest_text (length text) then Err Read else read_hex text
+
+-- the xid of a first call
+abbrev pub first_xid : ℕ
+first_xid = 1
+
+abbrev pub tell_bytes : Ask → Result (List ℕ) InfoFault → Told Shown
+tell_bytes ask (Ok bytes) = tell_reply ask first_xid (data_of bytes)
+tell_bytes ask (Err fault) = Stop [] fault
+
+-- what the reply in a text tells
+abbrev pub tell_text : Ask → List ℕ → Told Shown
+tell_text ask text = tell_bytes ask (bytes_of text)
+
+-- what was read of an input is all of it, or enough to show that it is too long
+abbrev pub IsEnoughOf : Option (List ℕ) → List ℕ → Type 0
+IsEnoughOf left text = IfSome left (λ input. text ≡ take (longest_text + 1) input)
+
+-- the lines were written, as far as the result says
+pub record IsTold (told : Told Shown) (old new : Option (List ℕ)) (result : Result Shown InfoFault) : Type 0 where
+  pub bytes : List ℕ
+  pub left : Option (List ℕ)
+  pub at : Record
+  pub outcome : Outcome told bytes left at old new result
+
+-- where the text that the input has is known, what its reply tells is written
+abbrev pub ShowsInput : {I O : Type 0} → (I → Option (List ℕ)) → (O → Option (List ℕ)) → Ask → I → O → O → Result Shown InfoFault → Type 0
+ShowsInput remaining contents ask input output output' result =
+    IfSome (remaining input) (λ text. IsTold (tell_text ask text) (contents output) (contents output') result)
