@@ -1,3 +1,4 @@
 pub mod Inputs
 pub mod Flushes
 pub mod Endings
+pub mod HexTexts

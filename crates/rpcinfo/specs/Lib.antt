@@ -1,3 +1,4 @@
 pub mod Input
 pub mod Ending
 pub mod Running
+pub mod InputLaws

@@ -4,6 +4,7 @@
 mod ending;
 mod fault;
 mod input;
+mod laws;
 mod net;
 mod run;
 mod words;
