@@ -3,3 +3,4 @@ pub mod AskLaws
 pub mod Lines
 pub mod Counts
 pub mod Replies
+pub mod Worked

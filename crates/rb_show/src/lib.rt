@@ -8,8 +8,10 @@ mod show;
 mod statistics;
 #[cfg(test)]
 mod tests;
+mod worked;
 
 pub use ask::{Ask, Question, write_call};
 pub use laws::questions_are_requests;
 pub use rb_ask::InfoFault;
 pub use show::{Shown, show_reply};
+pub use worked::worked_examples;

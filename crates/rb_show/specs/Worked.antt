@@ -1,0 +1,46 @@
+-- Worked examples: what is written and told of whole calls and replies.
+use Rattle.std.specs.Prelude.{◌≡◌, ℕ, List, [], ◌∷◌, ◌++◌, take, codes, Option, None}
+use Rattle.rb_xdr.specs.Xdr.{words, opaque}
+use Rattle.rb_rpc.specs.declared.reply.ReplyHead.{ReplyHead}
+use Rattle.rb_rpc.specs.declared.reply.ReplyStatus.TheVariants.{Success, ProcUnavail}
+use Rattle.rb_ask.specs.declared.fault.InfoFault.TheVariants.{Unreadable, Refused}
+use Rattle.rb_ask.specs.Telling.Told.{Done, Stop}
+use Rattle.rb_show.specs.declared.ask.Ask.{Ask}
+use Rattle.rb_show.specs.declared.ask.Question.{Question}
+use Rattle.rb_show.specs.declared.ask.Question.TheVariants.{Pmap, Rows, Entries}
+use Rattle.rb_show.specs.declared.show.Shown.TheVariants as shown
+use Rattle.rb_show.specs.Asks.{marked_call}
+use Rattle.rb_show.specs.Replies.{tell_reply}
+
+-- without a uid
+abbrev pub of_nobody : Question → Ask
+of_nobody question = record { question = question; uid = None }
+
+-- the data of an accepted reply up to its results
+abbrev pub accepted : ℕ → ℕ → List ℕ
+accepted xid stat = words (xid ∷ 1 ∷ 0 ∷ 0 ∷ 0 ∷ stat ∷ [])
+
+-- DUMP of version 2 is 40 bytes in one fragment
+abbrev pub CallOfTheTable : Type 0
+CallOfTheTable = marked_call (of_nobody Pmap) 1 ≡ words (0x80000028 ∷ 1 ∷ 0 ∷ 2 ∷ 100000 ∷ 2 ∷ 4 ∷ 0 ∷ 0 ∷ 0 ∷ 0 ∷ [])
+
+-- one row, of which each text is shown, and a byte behind the results that is left
+abbrev pub one_row : List ℕ
+one_row = words (1 ∷ 7 ∷ 3 ∷ []) ++ opaque (codes "udp") ++ opaque [] ++ opaque (codes "a b") ++ words (0 ∷ []) ++ 9 ∷ []
+
+abbrev pub RowIsTold : Type 0
+RowIsTold = tell_reply (of_nobody Rows) 1 (accepted 1 0 ++ one_row) ≡ Done (codes "7 3 udp - a?b\n" ∷ []) (shown.Rows 1) (9 ∷ [])
+
+abbrev pub RefusalIsTold : Type 0
+RefusalIsTold = tell_reply (of_nobody Pmap) 1 (accepted 1 3) ≡ Stop [] (Refused (record { xid = 1; status = ProcUnavail }))
+
+abbrev pub CutHeadIsUnreadable : Type 0
+CutHeadIsUnreadable = tell_reply (of_nobody Pmap) 1 (take 20 (accepted 1 0)) ≡ Stop [] Unreadable
+
+abbrev pub OtherXidIsUnreadable : Type 0
+OtherXidIsUnreadable = tell_reply (of_nobody Pmap) 2 (accepted 1 3) ≡ Stop [] Unreadable
+
+-- the row was read whole, and then a bool is missing
+abbrev pub CutListTellsItsRows : Type 0
+CutListTellsItsRows =
+    tell_reply (of_nobody Rows) 1 (accepted 1 0 ++ take 32 one_row) ≡ Stop (codes "7 3 udp - a?b\n" ∷ []) Unreadable
