@@ -6,11 +6,14 @@
 # Where they differ from the word `replay`, from 0 and from nothing, NAME.args has the program's words, one a line,
 # NAME.status the exit status and NAME.stderr the standard error. A row with bytes of connections is run again with
 # them cut into pieces of 1, of 7 and of 1,000 bytes: all its outputs stay, with the sums of what the pieces took.
+# A row of rpcinfo is NAME.input, NAME.args, whose comment is the rule, and NAME.expected in tests/rows-rpcinfo, with the
+# same NAME.status and NAME.stderr.
 # Each difference is printed. The last line is 'N passed, N failed'; the status is 1 where one failed.
 set -u
 cd "$(dirname "$0")/.." || exit 1
 
 program=$PWD/crates/rpcbind/out/rpcbind
+rpcinfo=$PWD/crates/rpcinfo/out/rpcinfo
 passed=0
 failed=0
 work=$(mktemp -d) || exit 1
@@ -242,6 +245,113 @@ run_version() {
     judge $? "the version"
 }
 
+# ---- rpcinfo
+
+run_rpcinfo() {
+    local program=$rpcinfo
+    run "$@"
+}
+
+run_rpcinfo_row() {
+    local base=$1 words status=0 stderr=/dev/null
+    mapfile -t words < <(grep -v '^#' "$base.args")
+    [ -f "$base.status" ] && status=$(cat "$base.status")
+    [ -f "$base.stderr" ] && stderr=$base.stderr
+    run_rpcinfo "$base.input" "${words[@]}"
+    as_wanted "$base.expected" "$stderr" "$status"
+}
+
+run_rpcinfo_rows() {
+    local input base rows=0 unruled= stray= other
+    for input in tests/rows-rpcinfo/*.input; do
+        [ -f "$input" ] || continue
+        rows=$((rows + 1))
+        base=${input%.input}
+        run_rpcinfo_row "$base"
+        judge $? "row $(basename "$base")"
+        grep -q '^# .' "$base.args" || unruled="$unruled $(basename "$base")"
+    done
+    [ "$rows" -gt 0 ]
+    judge $? "there is no row in tests/rows-rpcinfo"
+    [ -z "$unruled" ]
+    judge $? "rows that say no rule in a comment:$unruled"
+    for other in tests/rows-rpcinfo/*; do
+        [ -f "${other%.*}.input" ] || stray="$stray $other"
+    done
+    [ -z "$stray" ]
+    judge $? "files that belong to no row:$stray"
+}
+
+# The reply to DUMP of version 2 with so many rows of program 7, as hexadecimal text of one fragment.
+long_dump() {
+    printf '%08x0000000100000001%032x' $((0x80000000 + 28 + 20 * $1)) 0
+    yes 0000000100000007000000010000001100000801 | head -n "$1"
+    printf '00000000'
+}
+
+# At most 4,096 rows are shown: one more is too many, and the lines before it stand.
+run_rpcinfo_longest_lists() {
+    { echo '   program   vers proto  port'; yes '         7      1 udp    2049' | head -n 4096; } > "$work/table"
+    long_dump 4096 > "$work/events"
+    run_rpcinfo "$work/events" -p -
+    as_wanted "$work/table" /dev/null 0
+    judge $? "rpcinfo: 4,096 rows"
+    echo 'rpcinfo: too many rows' > "$work/wanted"
+    long_dump 4097 > "$work/events"
+    run_rpcinfo "$work/events" -p -
+    as_wanted "$work/table" "$work/wanted" 1
+    judge $? "rpcinfo: 4,097 rows"
+}
+
+# A text has at most 67,108,864 bytes: one more is not read, whatever it holds.
+run_rpcinfo_longest_texts() {
+    local base=tests/rows-rpcinfo/rpcinfo_port_table
+    { cat $base.input; head -c 67108864 /dev/zero | tr '\0' ' '; } | head -c 67108864 > "$work/events"
+    run_rpcinfo "$work/events" -p -
+    as_wanted $base.expected /dev/null 0
+    judge $? "rpcinfo: a text of 67,108,864 bytes"
+    echo 'rpcinfo: read failed' > "$work/wanted"
+    echo >> "$work/events"
+    run_rpcinfo "$work/events" -p -
+    as_wanted /dev/null "$work/wanted" 1
+    judge $? "rpcinfo: a text of 67,108,865 bytes"
+}
+
+# Nobody listens on port 20199.
+run_rpcinfo_of_nobody() {
+    echo 'rpcinfo: no connection' > "$work/wanted"
+    run_rpcinfo /dev/null --port 20199 -p
+    as_wanted /dev/null "$work/wanted" 1
+    judge $? "rpcinfo where nobody listens"
+}
+
+# Status 0 says that the output was written out.
+run_rpcinfo_to_full_device() {
+    echo 'rpcinfo: write failed' > "$work/wanted"
+    "$rpcinfo" -p - < tests/rows-rpcinfo/rpcinfo_port_table.input > /dev/full 2> "$work/stderr"
+    got=$?
+    : > "$work/stdout"
+    as_wanted /dev/null "$work/wanted" 1
+    judge $? "rpcinfo: an output that cannot be written"
+}
+
+run_rpcinfo_of_a_folder() {
+    echo 'rpcinfo: read failed' > "$work/wanted"
+    run_rpcinfo tests -p -
+    as_wanted /dev/null "$work/wanted" 1
+    judge $? "rpcinfo: an input that cannot be read"
+}
+
+run_rpcinfo_help() {
+    run_rpcinfo /dev/null --help
+    [ "$got" -eq 0 ] && [ ! -s "$work/stderr" ] && grep -q -e '--uid' "$work/stdout"
+    judge $? "the help of rpcinfo"
+    echo 'rpcinfo 0.1.0' > "$work/wanted"
+    run_rpcinfo /dev/null --version
+    as_wanted "$work/wanted" /dev/null 0
+    judge $? "the version of rpcinfo"
+}
+
 # ---- rules of the repository
 
 # A proof by hand could set the true count of the meter's token, so those of its two functions are the only ones.
@@ -283,6 +393,17 @@ if [ -x "$program" ]; then
     run_version
 else
     judge 1 "no program $program: run 'make' first"
+fi
+if [ -x "$rpcinfo" ]; then
+    run_rpcinfo_rows
+    run_rpcinfo_longest_lists
+    run_rpcinfo_longest_texts
+    run_rpcinfo_of_nobody
+    run_rpcinfo_to_full_device
+    run_rpcinfo_of_a_folder
+    run_rpcinfo_help
+else
+    judge 1 "no program $rpcinfo: run 'make' first"
 fi
 check_proofs_by_hand
 check_crates_are_named

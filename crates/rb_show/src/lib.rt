@@ -6,8 +6,6 @@ mod laws;
 mod lines;
 mod show;
 mod statistics;
-#[cfg(test)]
-mod tests;
 mod worked;
 
 pub use ask::{Ask, Question, write_call};

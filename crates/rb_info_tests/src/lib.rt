@@ -1,0 +1,8 @@
+//! Tests of asking: the calls of rb_show, and a daemon that is asked by turns. They stand apart, so that neither is proved
+//! a second time for them.
+#![tactic(auto)]
+
+#[cfg(test)]
+mod asks;
+#[cfg(test)]
+mod turns;
