@@ -1,11 +1,10 @@
 -- An answer whose lines are written out.
-use Rattle.std.proofs.Common.{◌≡◌, ◌⊎◌, ℕ, List, Option, Some, None, Result, Ok, Err, ◌∙◌, inl, inr}
+use Rattle.std.proofs.Common.{ℕ, List, Option, Some, None, Result, Ok, Err, ◌∙◌, inl, inr}
 use Rattle.std.specs.Prelude.{IfSome}
 use Rattle.std.specs.Io.KnownBytes.{Appends, Keeps}
 use Rattle.rb_ask.specs.declared.fault.InfoFault.{InfoFault}
 use Rattle.rb_ask.specs.declared.fault.InfoFault.TheVariants.{Read, Write, Unreadable, Refused, TooMany, Memory}
-use Rattle.rb_ask.specs.declared.record.Record.{Record}
-use Rattle.rb_ask.specs.Telling.{Told, Outcome, AfterFault}
+use Rattle.rb_ask.specs.Telling.{Told, AfterFault}
 use Rattle.rb_show.specs.declared.ask.Ask.{Ask}
 use Rattle.rb_show.specs.declared.show.Shown.{Shown}
 use Rattle.rpcinfo.specs.declared.fault.Fault.{Fault}

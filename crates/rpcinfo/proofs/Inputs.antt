@@ -1,19 +1,19 @@
 -- What is read of an input, and what is told of it.
-use Rattle.std.proofs.Common.{◌≡◌, ◌<◌, ◌≤◌, ◌+◌, ◌⊎◌, ℕ, Bool, true, false, ltb, cond, List, [], length, take, Option, Some, None, Result, Ok, Err, refl, sym, ap, ◌∙◌, subst, arith, inl, inr}
-use Rattle.std.specs.Prelude.{IfSome, IfErr}
+use Rattle.std.proofs.Common.{◌≡◌, ◌+◌, ◌⊎◌, ℕ, false, List, [], length, take, Option, Some, None, Result, Ok, Err, refl, ap, ◌∙◌, subst, arith, inl, inr}
+use Rattle.std.specs.Prelude.{IfSome}
 use Rattle.std.proofs.KnownBytes.{Appends-nil}
 use Rattle.std.proofs.lemmas.List.{length-take, take_all}
-use Rattle.std.proofs.lemmas.Bool.{cases_lt, lt-ltb, le-ltb}
+use Rattle.std.proofs.lemmas.Bool.{cases_lt, lt-ltb}
 use Rattle.rb_rpc.specs.Records.{data_of}
 use Rattle.rb_ask.specs.declared.fault.InfoFault.{InfoFault}
 use Rattle.rb_ask.specs.declared.fault.InfoFault.TheVariants.{Read, Write, Unreadable, Refused, TooMany, Memory}
 use Rattle.rb_ask.specs.declared.record.Record.{Record}
 use Rattle.rb_ask.specs.Telling.{Told, Outcome, lines_of}
-use Rattle.rb_ask.specs.Telling.Told.{Done, Stop}
+use Rattle.rb_ask.specs.Telling.Told.{Stop}
 use Rattle.rb_show.specs.declared.ask.Ask.{Ask}
 use Rattle.rb_show.specs.declared.show.Shown.{Shown}
 use Rattle.rb_show.specs.Replies.{tell_reply}
-use Rattle.rpcinfo.specs.Input.{longest_text, read_hex, bytes_of, tell_bytes, tell_text, IsEnoughOf, IsTold}
+use Rattle.rpcinfo.specs.Input.{longest_text, bytes_of, tell_bytes, tell_text, IsEnoughOf, IsTold}
 
 -- enough of a text gives what it gives
 bytes_of-take : (text : List ℕ) → bytes_of (take (longest_text + 1) text) ≡ bytes_of text

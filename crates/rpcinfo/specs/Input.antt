@@ -1,10 +1,10 @@
 -- The reply on standard input: one marked record in hexadecimal text.
-use Rattle.std.specs.Prelude.{◌≡◌, ℕ, ◌+◌, ◌==◌, ◌&&◌, ◌||◌, not, nat_lt, nat_le, Bool, if◌then◌else◌, List, [], length, take, filter, Option, Some, IfSome, Result, Ok, Err}
+use Rattle.std.specs.Prelude.{◌≡◌, ℕ, ◌+◌, ◌==◌, ◌&&◌, ◌||◌, ◌⊎◌, not, nat_lt, nat_le, Bool, if◌then◌else◌, List, [], length, take, filter, Option, IfSome, Result, Ok, Err}
 use Rattle.hex.specs.Hex.{decode_of}
 use Rattle.hex.specs.declared.error.FromHexError.{FromHexError}
 use Rattle.rb_rpc.specs.Records.{data_of}
 use Rattle.rb_ask.specs.declared.fault.InfoFault.{InfoFault}
-use Rattle.rb_ask.specs.declared.fault.InfoFault.TheVariants.{Read, Unreadable}
+use Rattle.rb_ask.specs.declared.fault.InfoFault.TheVariants.{Read, Unreadable, Memory}
 use Rattle.rb_ask.specs.declared.record.Record.{Record}
 use Rattle.rb_ask.specs.Telling.{Told, Outcome}
 use Rattle.rb_ask.specs.Telling.Told.{Stop}
@@ -35,6 +35,10 @@ read_hex text = or_unreadable (decode_of (digits_of text))
 -- the bytes that a text gives
 abbrev pub bytes_of : List ℕ → Result (List ℕ) InfoFault
 bytes_of text = if nat_lt longest_text (length text) then Err Read else read_hex text
+
+-- want of memory, or the fault that such a text has
+abbrev pub FailsAs : Result (List ℕ) InfoFault → InfoFault → Type 0
+FailsAs gives fault = (fault ≡ Memory) ⊎ (gives ≡ Err fault)
 
 -- the xid of a first call
 abbrev pub first_xid : ℕ

@@ -6,7 +6,6 @@ use Rattle.rb_ask.specs.Telling.{Told}
 use Rattle.rb_show.specs.declared.ask.Ask.{Ask}
 use Rattle.rb_show.specs.declared.ask.Question.{Question}
 use Rattle.rb_show.specs.declared.show.Shown.{Shown}
-use Rattle.rb_show.specs.declared.show.Shown.TheVariants.{Removed}
 use Rattle.rpcinfo.specs.declared.ending.Ending.{Ending}
 use Rattle.rpcinfo.specs.declared.fault.Fault.{Fault}
 use Rattle.rpcinfo.specs.declared.fault.Fault.TheVariants.{Info, NoConnection, NotAvailable}
@@ -15,7 +14,7 @@ use Rattle.rpcinfo.specs.declared.words.Plan.{Plan}
 use Rattle.rpcinfo.specs.declared.words.Plan.TheVariants.{Show, Ping}
 use Rattle.rpcinfo.specs.declared.words.Words.{Words}
 use Rattle.rpcinfo.specs.Input.{tell_text, IsTold}
-use Rattle.rpcinfo.specs.Ending.{fault_line, said_of, Says, EndsBy}
+use Rattle.rpcinfo.specs.Ending.{said_of, Says}
 
 -- a question of the user that the words name
 abbrev pub ask_of : Words → Question → Ask
@@ -48,13 +47,6 @@ IsOut (Err fault) result = result ≡ Err fault
 pub record IsFlushed {O : Type 0} (contents : O → Option (List ℕ)) (output output' : O) (answer result : Result Shown Fault) : Type 0 where
   pub kept : Keeps (contents output) (contents output')
   pub same : IsOut answer result
-
--- there is an answer of the words, by which it ends
-pub record EndsWords {I O E : Type 0} (remaining : I → Option (List ℕ)) (contents : O → Option (List ℕ)) (said : E → Option (List ℕ)) (words : Words)
-    (input : I) (output output' : O) (faults faults' : E) (ending : Ending) : Type 0 where
-  pub answer : Result Shown Fault
-  pub answers : Answers remaining contents words input output output' answer
-  pub ends : EndsBy said faults faults' ending answer
 
 -- What was said is the line of a fault, or nothing where UNSET removed nothing.
 abbrev pub IsExplained : {E : Type 0} → (E → Option (List ℕ)) → E → E → Ending → Type 0

@@ -1,6 +1,6 @@
 //! The reply on standard input, in hexadecimal text.
 ghost use Rattle.std.specs.Prelude.{◌≡◌, ◌≤◌, ◌⊎◌, IfOk, IfErr};
-ghost use Rattle.rpcinfo.specs.Input.{bytes_of, digits_of, is_white, longest_text, read_hex, IsEnoughOf, ShowsInput};
+ghost use Rattle.rpcinfo.specs.Input.{bytes_of, digits_of, is_white, longest_text, read_hex, FailsAs, IsEnoughOf, ShowsInput};
 
 use hex::FromHexError;
 use rb_show::{Ask, InfoFault, Shown, show_reply};
@@ -52,7 +52,7 @@ fn digits_of(mut text: Vec<u8>) -> Vec<u8>
 /// `Unreadable`.
 fn read_hex(alloc: Global, text: Vec<u8>) -> Result<Vec<u8>, InfoFault>
     ensures ok { IfOk result (λ bytes. read_hex text.items ≡ Ok bytes.items) }
-    ensures err { IfErr result (λ fault. (fault ≡ InfoFault.Memory) ⊎ (read_hex text.items ≡ Err fault)) }
+    ensures err { IfErr result (FailsAs (read_hex text.items)) }
 {
     let digits = digits_of(text);
     match hex::decode(alloc, digits.as_slice()) {
@@ -65,7 +65,7 @@ fn read_hex(alloc: Global, text: Vec<u8>) -> Result<Vec<u8>, InfoFault>
 /// The bytes that a text gives. One that is too long is `Read`, other text than hexadecimal digits `Unreadable`.
 fn bytes_of(alloc: Global, text: Vec<u8>) -> Result<Vec<u8>, InfoFault>
     ensures ok { IfOk result (λ bytes. bytes_of text.items ≡ Ok bytes.items) }
-    ensures err { IfErr result (λ fault. (fault ≡ InfoFault.Memory) ⊎ (bytes_of text.items ≡ Err fault)) }
+    ensures err { IfErr result (FailsAs (bytes_of text.items)) }
 {
     if text.len() > longest_text() {
         return Err(InfoFault::Read);

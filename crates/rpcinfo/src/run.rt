@@ -1,6 +1,7 @@
 //! The command.
 ghost use Rattle.std.specs.Prelude.{◌≡◌, ◌≤◌};
-ghost use Rattle.rpcinfo.specs.Running.{Answers, EndsWords, IsExplained, IsFlushed};
+ghost use Rattle.rpcinfo.specs.Ending.{EndsBy};
+ghost use Rattle.rpcinfo.specs.Running.{Answers, IsExplained, IsFlushed};
 
 use crate::ending::{Ending, conclude};
 use crate::fault::Fault;
@@ -112,8 +113,8 @@ fn flushed<O: Write>(answer: Result<Shown, Fault>, output: &mut O) -> Result<Sho
     }
 }
 
-/// Does what the words say, and says what is wrong. What is written and how it ends is that of an answer of the words:
-/// where they name standard input, of what the reply in its text tells.
+/// Does what the words say, and says what is wrong: the answer, with how the command ends by it. Where the words name
+/// standard input, the answer is what the reply in its text tells.
 fn run_words<N: Net, I: Read, O: Write, E: Write>(
     alloc: Global,
     net: &N,
@@ -121,13 +122,14 @@ fn run_words<N: Net, I: Read, O: Write, E: Write>(
     input: &mut I,
     output: &mut O,
     faults: &mut E,
-) -> Ending
-    ensures ends { EndsWords I.remaining O.contents E.contents words.now
-        input.old output.old output.new faults.old faults.new result }
-    ensures quiet { result.status ≡ 0 → faults.new ≡ faults.old }
+) -> (Result<Shown, Fault>, Ending)
+    ensures answer { Answers I.remaining O.contents words.now input.old output.old output.new result.0 }
+    ensures ends { EndsBy E.contents faults.old faults.new result.1 result.0 }
+    ensures quiet { result.1.status ≡ 0 → faults.new ≡ faults.old }
 {
     let answer = carry_out(alloc, net, words, input, output);
-    conclude(flushed(answer, output), faults)
+    let answer = flushed(answer, output);
+    (answer, conclude(answer, faults))
 }
 
 /// Runs the command that the words name, and answers its exit status.
@@ -150,7 +152,10 @@ pub fn run_info<N: Net, S: AsStr, I: Read, O: Write, E: Write>(
     ensures unwritten { result.status ≡ 2 → output.new ≡ output.old }
 {
     match read(alloc, words, output, faults) {
-        Ok(words) => run_words(alloc, net, &words, input, output, faults),
+        Ok(words) => {
+            let (_answer, ending) = run_words(alloc, net, &words, input, output, faults);
+            ending
+        }
         Err(ending) => ending,
     }
 }
