@@ -1,13 +1,12 @@
 -- Worked examples: what is written and told of whole calls and replies.
-use Rattle.std.specs.Prelude.{◌≡◌, ℕ, List, [], ◌∷◌, ◌++◌, take, codes, Option, None}
+use Rattle.std.specs.Prelude.{◌≡◌, ℕ, List, [], ◌∷◌, ◌++◌, take, codes, None}
 use Rattle.rb_xdr.specs.Xdr.{words, opaque}
-use Rattle.rb_rpc.specs.declared.reply.ReplyHead.{ReplyHead}
-use Rattle.rb_rpc.specs.declared.reply.ReplyStatus.TheVariants.{Success, ProcUnavail}
+use Rattle.rb_rpc.specs.declared.reply.ReplyStatus.TheVariants.{ProcUnavail}
 use Rattle.rb_ask.specs.declared.fault.InfoFault.TheVariants.{Unreadable, Refused}
 use Rattle.rb_ask.specs.Telling.Told.{Done, Stop}
 use Rattle.rb_show.specs.declared.ask.Ask.{Ask}
 use Rattle.rb_show.specs.declared.ask.Question.{Question}
-use Rattle.rb_show.specs.declared.ask.Question.TheVariants.{Pmap, Rows, Entries}
+use Rattle.rb_show.specs.declared.ask.Question.TheVariants.{Pmap, Rows}
 use Rattle.rb_show.specs.declared.show.Shown.TheVariants as shown
 use Rattle.rb_show.specs.Asks.{marked_call}
 use Rattle.rb_show.specs.Replies.{tell_reply}

@@ -1,16 +1,16 @@
 use Rattle.std.proofs.Common.{refl}
 use Rattle.std.specs.Fmt.{digits}
-use Rattle.rb_xdr.specs.Xdr.{number, number_at, opaque, boolean, read_number, read_bool, read_content, read_opaque}
+use Rattle.rb_xdr.specs.Xdr.{number, number_at, opaque, read_number, read_bool, read_content, read_opaque}
 use Rattle.rb_xdr.specs.XdrTypes.{read_pair, read_optional}
 use Rattle.rb_rpc.specs.CallBytes.{call_bytes}
 use Rattle.rb_rpc.specs.Records.{fragment_header}
-use Rattle.rb_proto.specs.Numbers.{is_void, is_mapping, is_rpcb, is_procedure, number_of}
-use Rattle.rb_proto.specs.Types.{read_rpcb, read_mapping}
+use Rattle.rb_proto.specs.Numbers.{is_void, is_procedure, number_of}
+use Rattle.rb_proto.specs.Types.{read_rpcb}
 use Rattle.rb_ask.specs.Telling.{◌>>=◌, take_one}
-use Rattle.rb_ask.specs.Heads.{take_accepted, take_denied, take_head}
+use Rattle.rb_ask.specs.Heads.{take_accepted, take_head}
 use Rattle.rb_ask.specs.Lists.{tell_items}
 use Rattle.rb_show.specs.Asks.{call_of}
-use Rattle.rb_show.specs.Replies.{tell_list, tell_table, by_head, tell_reply}
+use Rattle.rb_show.specs.Replies.{tell_list, by_head, tell_reply}
 use Rattle.rb_show.proofs.worked.worked_examples.Goals as goal
 
 pub returns-clause-call : goal.returns-clause-call
