@@ -132,7 +132,7 @@ fn run_words<N: Net, I: Read, O: Write, E: Write>(
     (answer, conclude(answer, faults))
 }
 
-/// Runs the command that the words name, and answers its exit status.
+/// Runs the command that the words name, and answers how it ended, with its exit status.
 ///
 /// 0 says that what was asked is printed and written out; 1 that reading, writing, memory or the reply failed, which
 /// is said in one line to `faults`, or that UNSET removed nothing; 2 that the words can't be read, and nothing was read
