@@ -19,13 +19,11 @@ pub record Owed : Type 0 where
   pub marked : List ℕ
   pub given : ℕ
 
--- what a connection is about: `Reading` has the bytes that were fed since the last record's end, and while it is
--- `Awaiting` its call is forwarded
+-- what a connection is about: `Reading` has the bytes that were fed since the last record's end
 pub data Phase : Type 0 where
   Idle : Phase
   Reading : List ℕ → Phase
   Owing : Owed → Phase
-  Awaiting : Phase
   Lost : Phase
 
 -- the mark is the moment from which its deadline counts

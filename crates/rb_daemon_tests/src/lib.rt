@@ -7,8 +7,6 @@ mod client;
 #[cfg(test)]
 mod datagrams;
 #[cfg(test)]
-mod forwards;
-#[cfg(test)]
 mod leaving;
 #[cfg(test)]
 mod messages;

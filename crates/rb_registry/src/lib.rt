@@ -7,7 +7,6 @@ mod laws;
 mod registry;
 mod removal;
 mod row;
-mod slot;
 mod walk;
 mod worked;
 
