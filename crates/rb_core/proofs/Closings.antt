@@ -1,35 +1,56 @@
--- A live connection becomes Lost by the end of a record that is no call, and is gone by its close.
-use Rattle.std.proofs.Common.{◌≡◌, inl, inr, ◌<◌, ◌≤◌, ℕ, ◌+◌, max, Bool, true, false, cond, not, ◌&&◌, ◌||◌, eqb, Some, None, Result, Ok, Err, List, [], ◌∷◌, ◌++◌, take, refl, sym, ap, subst, ◌∙◌, append-nil, arith}
+-- A live connection becomes Lost by the end of a record that is no call or at its deadline, and is gone by its close.
+use Rattle.std.proofs.Common.{◌≡◌, ◌⊎◌, inl, inr, ◌<◌, ◌≤◌, ℕ, ◌+◌, max, Bool, true, false, cond, not, ◌&&◌, ◌||◌, eqb, Option, Some, None, Result, Ok, Err, List, [], ◌∷◌, ◌++◌, take, refl, sym, ap, subst, ◌∙◌, append-nil, arith}
 use Rattle.std.specs.Prelude.{find}
 use Rattle.std.specs.List.{list_any}
 use Rattle.std.proofs.lemmas.Bool.{and_parts, eqb-true, eq-eqb, ne_eqb}
 use Rattle.rb_rpc.specs.Records.{first_record, data_of}
 use Rattle.rb_rpc.specs.declared.peer.Caller.TheVariants.{Tcp}
 use Rattle.rb_proto.specs.declared.context.Context.{Context}
-use Rattle.rb_proto.specs.Ledger.{Ledger}
+use Rattle.rb_proto.specs.Ledger.{Ledger, called}
 use Rattle.rb_core.specs.declared.message.Message.{Message}
 use Rattle.rb_core.specs.declared.message.Message.TheVariants as says
 use Rattle.rb_core.specs.declared.types.CoreFault.{CoreFault}
 use Rattle.rb_core.specs.declared.types.CoreFault.TheVariants.{Gone}
-use Rattle.rb_core.specs.Calls.{Outcome, message_of, outcome}
-use Rattle.rb_core.specs.Calls.Outcome.{NoCall, Reply}
+use Rattle.rb_feed.specs.Feeds.{arguments_of}
+use Rattle.rb_proto.specs.declared.answers.Answer.{Answer}
+use Rattle.rb_proto.specs.declared.answers.Answer.TheVariants as answers
+use Rattle.rb_proto.specs.Answers.{answer}
+use Rattle.rb_core.specs.Calls.{Outcome, is_no_call, message_of, reply_with, outcome}
+use Rattle.rb_core.specs.Calls.Outcome.{NoCall, Reply, Forwarded, Silent}
+use Rattle.rb_core.specs.Sessions.{IsFinal}
 use Rattle.rb_core.specs.State.{State, Connection, Connections, at_moment}
 use Rattle.rb_core.specs.State.Phase.{Idle}
 use Rattle.rb_core.specs.Connections.{is_lost, has_number, is_live, live_connection, is_there, fed_in, change_first, changed_at, reading, settled, giving, without_number, closing_of}
-use Rattle.rb_core.specs.Step.{Event, Output, Taken, serve, bytes, close_connection, output_or, show_taken, show_done, step}
-use Rattle.rb_core.specs.Step.Event.{Bytes, Closed}
-use Rattle.rb_core.specs.Laws.{IsReached, IsLive, EndsNoCall, ClosesExactly, ConnectionsCloseExactly}
+use Rattle.rb_core.specs.Step.{Event, Output, Taken, serve_message, serve, dropped_with, bytes, close_connection, output_or, show_taken, show_done, show_expired, step}
+use Rattle.rb_core.specs.Step.Event.{Bytes, Closed, Expire}
+use Rattle.rb_core.specs.Laws.{IsReached, IsLive, IsLeast}
+use Rattle.rb_core.specs.DeadlineLaws.{NoEntryIsDue}
+use Rattle.rb_core.specs.declared.types.Expired.{Expired}
+use Rattle.rb_core.specs.Deadlines.{is_due, lost}
+use Rattle.rb_core.specs.Ending.{at_fresh_moment, expire}
+use Rattle.rb_forward.specs.declared.types.Outcome.TheVariants.{Failed}
+use Rattle.rb_forward.specs.Forwards.{Entry, Forwards, is_due as entry_is_due, ended_by, without_first}
+use Rattle.rb_forward.specs.Ends.{NoneIs, EndsFirst}
+use Rattle.rb_forward.proofs.Ends.{ends_first, due_means, due_tested}
+use Rattle.std.specs.Prelude.{All, option_map}
+use Rattle.std.proofs.lemmas.List.Elements.{All-head, All-tail}
+use Rattle.rb_core.proofs.Slots.{none_any}
+use Rattle.rb_core.proofs.Expiring.{AreApart, due-one}
+use Rattle.rb_core.proofs.LeastLost.{first-least}
+use Rattle.rb_core.proofs.DueThings.{Expiry, expiry}
+use Rattle.rb_core.proofs.DueThings.Expiry.{EntryEnds, ConnectionEnds, NothingDue}
+use Rattle.rb_core.specs.Closings.{EndsNoCall, EndsAtDeadline, ClosesExactly, ConnectionsCloseExactly}
 use Rattle.rb_core.proofs.Cuts.{IsFeeding, find-changed, find-holds, number-is, reading-feeds}
 use Rattle.rb_core.proofs.ExactTaking.{fed-none}
-use Rattle.rb_core.proofs.Happenings.{Arriving, arriving, Happening, happening, said_in}
+use Rattle.rb_core.proofs.Happenings.{Arriving, arriving, Happening, happening, said_in, find-any}
 use Rattle.rb_core.proofs.Happenings.Arriving.{NotThere, NotTaken, ReadOn, Ended}
-use Rattle.rb_core.proofs.Happenings.Happening.{Stays, Opens, Reads, Ends, Gives, Closes}
-use Rattle.rb_core.proofs.Live.{without, changed-other, closed-other, find-before, replying-feeds, giving-feeds}
-use Rattle.rb_core.proofs.Reached.{AreSound, SoundIn, live-sound, reached-sound, step-sound, giving-keeps, settled-keeps}
+use Rattle.rb_core.proofs.Happenings.Happening.{Stays, Opens, Reads, Ends, Gives, Closes, Tells, TimesOut}
+use Rattle.rb_core.proofs.Live.{without, changed-other, closed-other, find-before, answering-feeds, replying-feeds, giving-feeds}
+use Rattle.rb_core.proofs.Reached.{AreSound, SoundIn, live-sound, reached-sound, step-sound, giving-keeps, settled-keeps, lost-keeps, IsSound}
 
 -- ---- lists of connections
 
-abbrev lost_in : ℕ → List Connection → Bool
+abbrev pub lost_in : ℕ → List Connection → Bool
 lost_in id all = list_any (λ (c : Connection). eqb c.number id && is_lost c.phase) all
 
 abbrev there_in : ℕ → List Connection → Bool
@@ -90,7 +111,7 @@ live-there id (d ∷ all) c is = by_test (is_live id d) refl is (live-there id a
     by_test false e h later = rw (later h) (either-true (eqb d.number id))
 
 -- the live one becomes Lost
-record IsLosing (f : Connection → Connection) : Type 0 where
+pub record IsLosing (f : Connection → Connection) : Type 0 where
   number : (c : Connection) → (f c).number ≡ c.number
   lost : (c : Connection) → is_lost (f c).phase ≡ true
 
@@ -98,7 +119,7 @@ losing : (clock : ℕ) → IsLosing (settled clock NoCall)
 unfolding settled
 losing clock = record { number = λ c. refl; lost = λ c. refl }
 
-now-lost : (id : ℕ) (f : Connection → Connection) → IsLosing f → (all : List Connection) (c : Connection) → find (is_live id) all ≡ Some c
+pub now-lost : (id : ℕ) (f : Connection → Connection) → IsLosing f → (all : List Connection) (c : Connection) → find (is_live id) all ≡ Some c
     → (lost_in id (change_first (is_live id) f all) ≡ true) × (there_in id (change_first (is_live id) f all) ≡ true)
 now-lost id f loses [] c is = absurd cc
 now-lost id f loses (d ∷ all) c is = by_test (is_live id d) refl is (now-lost id f loses all c)
@@ -113,6 +134,9 @@ now-lost id f loses (d ∷ all) c is = by_test (is_live id d) refl is (now-lost 
         let more = later h in
         (rw more.0 (either-true (eqb d.number id && is_lost d.phase)), rw more.1 (either-true (eqb d.number id)))
 
+pub timing-out : IsLosing lost
+timing-out = record { number = λ c. refl; lost = λ c. refl }
+
 -- none of the number is left
 none-left : (id : ℕ) (all : List Connection) → (lost_in id (without id all) ≡ false) × (there_in id (without id all) ≡ false)
 none-left id [] = (refl, refl)
@@ -123,51 +147,103 @@ none-left id (d ∷ all) = by_test (eqb d.number id) refl (none-left id all)
     by_test true e later = later
     by_test false e later = (rw e later.0, rw e later.1)
 
+-- ---- what is due
+
+none-above : (id least next : ℕ) (all : List Connection) → AreSound least next all → id < least → there_in id all ≡ false
+none-above id least next [] a low = refl
+none-above id least next (d ∷ all) a low =
+    let other : eqb d.number id ≡ false = ne_eqb d.number id (λ e. omega (arith, e, a.0, low)) in
+    rw other (none-above id (d.number + 1) next all a.2 (omega (arith, a.0, low)))
+
+pub sound-apart : (least next : ℕ) (all : List Connection) → AreSound least next all → AreApart all
+sound-apart least next [] a = tt
+sound-apart least next (d ∷ all) a = (none-above d.number (d.number + 1) next all a.2 (omega arith), sound-apart (d.number + 1) next all a.2)
+
+due-least : (clock least next : ℕ) (all : List Connection) (d : Connection) → AreSound least next all → find (is_due clock) all ≡ Some d → All (λ (x : Connection). is_due clock x ≡ true → d.number ≤ x.number) all
+due-least clock least next all d sound found =
+    (subst (λ (o : Option Connection). IsLeast (is_due clock) all (option_map (λ (x : Connection). x.number) o)) found (first-least (is_due clock) least next all sound)).1
+
+all-found : (P : Connection → Type 0) (p : Connection → Bool) (all : List Connection) (c : Connection) → All P all → find p all ≡ Some c → P c
+all-found P p [] c holds is = absurd cc
+all-found P p (d ∷ all) c holds is = by_test (p d) is (all-found P p all c (All-tail P d all holds))
+  where
+    by_test : (b : Bool) → cond b (Some d) (find p all) ≡ Some c → (find p all ≡ Some c → P c) → P c
+    by_test true e later = let same : d ≡ c = cc in subst P same (All-head P d all holds)
+    by_test false e later = later e
+
+-- no entry is due that would be found
+none-are-due : (clock : ℕ) (f : Forwards) → find (entry_is_due clock) f.all ≡ None → NoneIs (λ (e : Entry). e.deadline ≤ clock) f.all
+none-are-due clock f none =
+    (subst (λ (o : Option Entry). EndsFirst (λ (e : Entry). e.deadline ≤ clock) Failed f (option_map (ended_by Failed) o) (record f { all = without_first (entry_is_due clock) f.all })) none
+    (ends_first (λ (e : Entry). e.deadline ≤ clock) (entry_is_due clock) (due_means clock) (due_tested clock) Failed f)).0
+
+not-due : (clock : ℕ) (all : List Entry) (e : Entry) → NoneIs (λ (x : Entry). x.deadline ≤ clock) all → find (entry_is_due clock) all ≡ Some e → ⊥
+not-due clock [] e none is = absurd cc
+not-due clock (x ∷ all) e none is = by_test (entry_is_due clock x) refl is (not-due clock all e none.1)
+  where
+    by_test : (b : Bool) → entry_is_due clock x ≡ b → cond b (Some x) (find (entry_is_due clock) all) ≡ Some e → (find (entry_is_due clock) all ≡ Some e → ⊥) → ⊥
+    by_test true t is later = none.0 (due_means clock x t)
+    by_test false t is later = later is
+
 -- ---- what a message is answered with
 
-no-call-says : (context : Context) (message : Message) (ledger : Ledger) → (outcome context message ledger).0 ≡ NoCall → message ≡ says.NoCall
+no-call-says : (context : Context) (message : Message) (arguments : List ℕ) (ledger : Ledger) → (outcome context message arguments ledger).0 ≡ NoCall → message ≡ says.NoCall
 unfolding outcome
-no-call-says context says.NoCall ledger is = refl
-no-call-says context (says.Refused head) ledger is = absurd cc
-no-call-says context (says.Garbage head) ledger is = absurd cc
-no-call-says context (says.Asked call) ledger is = absurd cc
+no-call-says context says.NoCall arguments ledger is = refl
+no-call-says context (says.Refused head) arguments ledger is = absurd cc
+no-call-says context (says.Garbage head) arguments ledger is = absurd cc
+no-call-says context (says.Asked call) arguments ledger is = by_answer (answer context call arguments (called call.head ledger)) is
+  where
+    by_answer : (r : Answer × Ledger) → (reply_with context call.head.xid r).0 ≡ NoCall → says.Asked call ≡ says.NoCall
+    by_answer (answers.Results results, l) is = absurd cc
+    by_answer (answers.Refused status, l) is = absurd cc
+    by_answer (answers.Forwarded, l) is = absurd cc
+    by_answer (answers.Silent, l) is = absurd cc
 
 said-none : (s : State) (at id : ℕ) (c : Connection) (record_bytes : List ℕ) → said_in s at id c record_bytes ≡ NoCall → message_of (data_of record_bytes) ≡ says.NoCall
 unfolding serve
-said-none s at id c record_bytes is = no-call-says _ (message_of (data_of record_bytes)) _ is
+said-none s at id c record_bytes is = no-call-says _ (message_of (data_of record_bytes)) _ _ is
 
 none-said : (s : State) (at id : ℕ) (c : Connection) (record_bytes : List ℕ) → message_of (data_of record_bytes) ≡ says.NoCall → said_in s at id c record_bytes ≡ NoCall
 unfolding serve outcome
-none-said s at id c record_bytes is = ap (λ (m : Message). (serve (at_moment at s) (Tcp id c.peer) m).0) is
+none-said s at id c record_bytes is = ap (λ (m : Message). (serve_message (at_moment at s) (Tcp id c.peer) m (arguments_of (data_of record_bytes))).0) is
+
+pub final-call : (said : Outcome) → IsFinal said → is_no_call said ≡ false
+final-call NoCall f = absurd f
+final-call (Reply reply) f = refl
+final-call Forwarded f = absurd f
+final-call Silent f = refl
 
 -- ---- what becomes of the live connection of a number
 
-data Fate (id : ℕ) (c : Connection) (event : Event) (now : Connections) : Type 0 where
-  Lives : (d : Connection) → find (is_live id) now.all ≡ Some d → Fate id c event now
-  Loses : EndsNoCall id c event → there_in id now.all ≡ true → Fate id c event now
-  Leaves : event ≡ Closed id → lost_in id now.all ≡ false → Fate id c event now
+data Fate (s : State) (id : ℕ) (c : Connection) (event : Event) (now : Connections) : Type 0 where
+  Lives : (d : Connection) → find (is_live id) now.all ≡ Some d → Fate s id c event now
+  Loses : EndsNoCall id c event ⊎ EndsAtDeadline s id c event → there_in id now.all ≡ true → Fate s id c event now
+  Leaves : event ≡ Closed id → lost_in id now.all ≡ false → Fate s id c event now
 
-module _ (s : State) (id : ℕ) (c : Connection) (there : find (is_live id) s.connections.all ≡ Some c) where
+module _ (s : State) (sound : IsSound s) (id : ℕ) (c : Connection) (there : find (is_live id) s.connections.all ≡ Some c) where
   same-one : (k : ℕ) (d : Connection) → live_connection k s.connections.all ≡ Some d → k ≡ id → d ≡ c
   unfolding live_connection
   same-one k d here e =
       let one : Some d ≡ Some c = sym here ∙ ap (λ (j : ℕ). find (is_live j) s.connections.all) e ∙ there in
       cc
 
-  on-another : (event : Event) (k : ℕ) (f : Connection → Connection) (now : Connections) → ((d : Connection) → (f d).number ≡ d.number) → eqb k id ≡ false → now ≡ changed_at k f s.connections → Fate id c event now
+  on-another : (event : Event) (k : ℕ) (f : Connection → Connection) (now : Connections) → ((d : Connection) → (f d).number ≡ d.number) → eqb k id ≡ false → now ≡ changed_at k f s.connections → Fate s id c event now
   on-another event k f now keeps e same = Lives c (ap (λ (x : Connections). find (is_live id) x.all) same ∙ changed-other id k f keeps e s.connections.all ∙ there)
 
-  on-this : (event : Event) (f : Connection → Connection) (now : Connections) → IsFeeding id f → now ≡ changed_at id f s.connections → Fate id c event now
+  on-this : (event : Event) (f : Connection → Connection) (now : Connections) → IsFeeding id f → now ≡ changed_at id f s.connections → Fate s id c event now
   on-this event f now feeds same = Lives (f c) (ap (λ (x : Connections). find (is_live id) x.all) same ∙ find-changed id f feeds s.connections.all c there)
 
   ends-here : (at : ℕ) (piece fed : List ℕ) (n : ℕ) (now : Connections) → fed_in c.phase ≡ Some fed → first_record (fed ++ piece) ≡ Some n → (said : Outcome) → said_in s at id c (take n (fed ++ piece)) ≡ said
-      → now ≡ changed_at id (settled (max s.clock at) said) s.connections → Fate id c (Bytes at id piece) now
+      → now ≡ changed_at id (settled (max s.clock at) said) s.connections → Fate s id c (Bytes at id piece) now
   ends-here at piece fed n now feeds some (Reply reply) says_so same = on-this (Bytes at id piece) (settled (max s.clock at) (Reply reply)) now (replying-feeds id (max s.clock at) reply) same
+  ends-here at piece fed n now feeds some Forwarded says_so same = on-this (Bytes at id piece) (settled (max s.clock at) Forwarded) now (answering-feeds id (max s.clock at) Forwarded refl) same
+  ends-here at piece fed n now feeds some Silent says_so same = on-this (Bytes at id piece) (settled (max s.clock at) Silent) now (answering-feeds id (max s.clock at) Silent refl) same
   ends-here at piece fed n now feeds some NoCall says_so same =
-      Loses (record { now = at; piece = piece; is = refl; fed = fed; takes = feeds; n = n; ends = some; no_call = said-none s at id c (take n (fed ++ piece)) says_so })
+      Loses (inl (record { now = at; piece = piece; is = refl; fed = fed; takes = feeds; n = n; ends = some; no_call = said-none s at id c (take n (fed ++ piece)) says_so }))
       (ap (λ (x : Connections). there_in id x.all) same ∙ (now-lost id (settled (max s.clock at) NoCall) (losing (max s.clock at)) s.connections.all c there).1)
 
-  reads-at : (at k : ℕ) (piece fed : List ℕ) (now : Connections) → now ≡ changed_at k (reading (max s.clock at) (fed ++ piece)) s.connections → (b : Bool) → eqb k id ≡ b → (event : Event) → Fate id c event now
+  reads-at : (at k : ℕ) (piece fed : List ℕ) (now : Connections) → now ≡ changed_at k (reading (max s.clock at) (fed ++ piece)) s.connections → (b : Bool) → eqb k id ≡ b → (event : Event) → Fate s id c event now
   unfolding reading
   reads-at at k piece fed now same false e event = on-another event k (reading (max s.clock at) (fed ++ piece)) now (λ x. refl) e same
   reads-at at k piece fed now same true e event =
@@ -175,30 +251,52 @@ module _ (s : State) (id : ℕ) (c : Connection) (there : find (is_live id) s.co
       (same ∙ ap (λ (j : ℕ). changed_at j (reading (max s.clock at) (fed ++ piece)) s.connections) (eqb-true k id e))
 
   ends-at : (at k : ℕ) (piece : List ℕ) (d : Connection) (fed : List ℕ) (n : ℕ) (now : Connections) → live_connection k s.connections.all ≡ Some d → fed_in d.phase ≡ Some fed → first_record (fed ++ piece) ≡ Some n
-      → now ≡ changed_at k (settled (max s.clock at) (said_in s at k d (take n (fed ++ piece)))) s.connections → (b : Bool) → eqb k id ≡ b → Fate id c (Bytes at k piece) now
+      → now ≡ changed_at k (settled (max s.clock at) (said_in s at k d (take n (fed ++ piece)))) s.connections → (b : Bool) → eqb k id ≡ b → Fate s id c (Bytes at k piece) now
   ends-at at k piece d fed n now here feeds some same false e =
       on-another (Bytes at k piece) k (settled (max s.clock at) (said_in s at k d (take n (fed ++ piece)))) now (settled-keeps (max s.clock at) (said_in s at k d (take n (fed ++ piece)))).number e same
   ends-at at k piece d fed n now here feeds some same true e =
       let number : k ≡ id = eqb-true k id e in
       let one : d ≡ c = same-one k d here number in
-      subst (λ (j : ℕ). Fate id c (Bytes at j piece) now) (sym number)
+      subst (λ (j : ℕ). Fate s id c (Bytes at j piece) now) (sym number)
       (ends-here at piece fed n now (ap (λ (x : Connection). fed_in x.phase) (sym one) ∙ feeds) some (said_in s at id c (take n (fed ++ piece))) refl
       (same ∙ ap (λ (j : ℕ). changed_at j (settled (max s.clock at) (said_in s at j d (take n (fed ++ piece)))) s.connections) number
       ∙ ap (λ (x : Connection). changed_at id (settled (max s.clock at) (said_in s at id x (take n (fed ++ piece)))) s.connections) one))
 
-  gives-at : (at k n : ℕ) (now : Connections) → now ≡ changed_at k (λ x. (giving (max s.clock at) n x).1) s.connections → (b : Bool) → eqb k id ≡ b → (event : Event) → Fate id c event now
+  gives-at : (at k n : ℕ) (now : Connections) → now ≡ changed_at k (λ x. (giving (max s.clock at) n x).1) s.connections → (b : Bool) → eqb k id ≡ b → (event : Event) → Fate s id c event now
   gives-at at k n now same false e event = on-another event k (λ x. (giving (max s.clock at) n x).1) now (giving-keeps (max s.clock at) n).number e same
   gives-at at k n now same true e event =
       on-this event (λ x. (giving (max s.clock at) n x).1) now (giving-feeds id (max s.clock at) n)
       (same ∙ ap (λ (j : ℕ). changed_at j (λ x. (giving (max s.clock at) n x).1) s.connections) (eqb-true k id e))
 
-  closes-at : (k : ℕ) (now : Connections) → now.all ≡ without k s.connections.all → (b : Bool) → eqb k id ≡ b → Fate id c (Closed k) now
+  tells-at : (at k : ℕ) (said : Outcome) (now : Connections) → IsFinal said → now ≡ changed_at k (settled (max s.clock at) said) s.connections → (b : Bool) → eqb k id ≡ b → (event : Event) → Fate s id c event now
+  tells-at at k said now final same false e event = on-another event k (settled (max s.clock at) said) now (settled-keeps (max s.clock at) said).number e same
+  tells-at at k said now final same true e event =
+      on-this event (settled (max s.clock at) said) now (answering-feeds id (max s.clock at) said (final-call said final))
+      (same ∙ ap (λ (j : ℕ). changed_at j (settled (max s.clock at) said) s.connections) (eqb-true k id e))
+
+  times-out-at : (at : ℕ) (d : Connection) (now : Connections) → find (entry_is_due (max s.clock at)) s.ledger.forwards.all ≡ None → find (is_due (max s.clock at)) s.connections.all ≡ Some d
+      → now ≡ changed_at d.number lost s.connections → (b : Bool) → eqb d.number id ≡ b → Fate s id c (Expire at) now
+  times-out-at at d now none found same false e = on-another (Expire at) d.number lost now lost-keeps.number e same
+  times-out-at at d now none found same true e =
+      let number : d.number ≡ id = eqb-true d.number id e in
+      let here : find (is_live d.number) s.connections.all ≡ Some c = ap (λ (k : ℕ). find (is_live k) s.connections.all) number ∙ there in
+      let one : c ≡ d = due-one (max s.clock at) s.connections.all c d (sound-apart 0 s.connections.next s.connections.all sound) found here in
+      Loses (inr (record {
+        now = at;
+        is = refl;
+        due = ap (is_due (max s.clock at)) one ∙ find-holds (is_due (max s.clock at)) s.connections.all d found;
+        entries = none-are-due (max s.clock at) s.ledger.forwards none;
+        least = subst (λ (k : ℕ). All (λ (x : Connection). is_due (max s.clock at) x ≡ true → k ≤ x.number) s.connections.all) number (due-least (max s.clock at) 0 s.connections.next s.connections.all d sound found);
+      }))
+      (ap (λ (x : Connections). there_in id x.all) (same ∙ ap (λ (k : ℕ). changed_at k lost s.connections) number) ∙ (now-lost id lost timing-out s.connections.all c there).1)
+
+  closes-at : (k : ℕ) (now : Connections) → now.all ≡ without k s.connections.all → (b : Bool) → eqb k id ≡ b → Fate s id c (Closed k) now
   closes-at k now same false e = Lives c (ap (λ (xs : List Connection). find (is_live id) xs) same ∙ closed-other id k e s.connections.all ∙ there)
   closes-at k now same true e =
       let number : k ≡ id = eqb-true k id e in
       Leaves (ap Closed number) (ap (lost_in id) (same ∙ ap (λ (j : ℕ). without j s.connections.all) number) ∙ (none-left id s.connections.all).0)
 
-  fate : (event : Event) (output : Output) (now : Connections) → Happening s event output now → Fate id c event now
+  fate : (event : Event) (output : Output) (now : Connections) → Happening s event output now → Fate s id c event now
   unfolding without_number
   fate event output now (Stays q same) = Lives c (ap (λ (x : Connections). find (is_live id) x.all) same ∙ there)
   fate event output now (Opens at peer is out same) =
@@ -206,10 +304,13 @@ module _ (s : State) (id : ℕ) (c : Connection) (there : find (is_live id) s.co
       ∙ find-before (is_live id) s.connections.all c (record { number = s.connections.next; peer = peer; phase = Idle; mark = max s.clock at }) there)
   fate event output now (Reads at k piece d fed is here feeds none out same) = reads-at at k piece fed now same (eqb k id) refl event
   fate event output now (Ends at k piece d fed n is here feeds some out same) =
-      subst (λ (ev : Event). Fate id c ev now) (sym is) (ends-at at k piece d fed n now here feeds some same (eqb k id) refl)
+      subst (λ (ev : Event). Fate s id c ev now) (sym is) (ends-at at k piece d fed n now here feeds some same (eqb k id) refl)
   fate event output now (Gives at k n d is here few out same) = gives-at at k n now same (eqb k id) refl event
+  fate event output now (Tells at k said is q final told here same) = tells-at at k said now final same (eqb k id) refl event
+  fate event output now (TimesOut at d is q none found same) =
+      subst (λ (ev : Event). Fate s id c ev now) (sym is) (times-out-at at d now none found same (eqb d.number id) refl)
   fate event output now (Closes k is out here same) =
-      subst (λ (ev : Event). Fate id c ev now) (sym is) (closes-at k now (ap (λ (x : Connections). x.all) same) (eqb k id) refl)
+      subst (λ (ev : Event). Fate s id c ev now) (sym is) (closes-at k now (ap (λ (x : Connections). x.all) same) (eqb k id) refl)
 
 -- ---- and back
 
@@ -258,10 +359,36 @@ module _ (s : State) (reached : IsReached s) (id : ℕ) (c : Connection) (there 
   lost-by : (event : Event) → EndsNoCall id c event → lost_in id (step s event).1.connections.all ≡ true
   lost-by event e = subst (λ (ev : Event). lost_in id (step s ev).1.connections.all ≡ true) (sym e.is) (lost-at e.now e.piece e.fed e.n e.takes e.ends e.no_call)
 
+  -- at its deadline
+  times-out : (at : ℕ) → is_due (max s.clock at) c ≡ true → NoEntryIsDue at s → All (λ (d : Connection). is_due (max s.clock at) d ≡ true → id ≤ d.number) s.connections.all
+      → (r : Expired × State) → Expiry s (max s.clock at) (at_fresh_moment at s) r → lost_in id (show_expired r).1.connections.all ≡ true
+  times-out at due entries least r (EntryEnds e here ledger left is) = absurd (not-due (max s.clock at) s.ledger.forwards.all e entries here)
+  times-out at due entries least r (NothingDue none free is) =
+      let clash : true ≡ false = sym (find-any (is_live id) (is_due (max s.clock at)) s.connections.all c found due) ∙ none_any (is_due (max s.clock at)) s.connections.all free in
+      absurd cc
+  times-out at due entries least r (ConnectionEnds none d here is) =
+      let above : id ≤ d.number = all-found (λ (x : Connection). is_due (max s.clock at) x ≡ true → id ≤ x.number) (is_due (max s.clock at)) s.connections.all d least here (find-holds (is_due (max s.clock at)) s.connections.all d here) in
+      let first = due-least (max s.clock at) 0 s.connections.next s.connections.all d (reached-sound s reached) here in
+      let below : d.number ≤ c.number = all-found (λ (x : Connection). is_due (max s.clock at) x ≡ true → d.number ≤ x.number) (is_live id) s.connections.all c first found due in
+      let mine : c.number ≡ id = number-is id c (find-holds (is_live id) s.connections.all c found) in
+      let number : d.number ≡ id = omega (arith, above, below, mine) in
+      ap (λ (x : Expired × State). lost_in id (show_expired x).1.connections.all) is
+      ∙ ap (λ (k : ℕ). lost_in id (change_first (is_live k) lost s.connections.all)) number
+      ∙ (now-lost id lost timing-out s.connections.all c found).0
+
+  timed-out-at : (at : ℕ) → is_due (max s.clock at) c ≡ true → NoEntryIsDue at s → All (λ (d : Connection). is_due (max s.clock at) d ≡ true → id ≤ d.number) s.connections.all
+      → lost_in id (step s (Expire at)).1.connections.all ≡ true
+  unfolding step
+  timed-out-at at due entries least = times-out at due entries least (expire s at) (expiry s at)
+
+  lost-by-either : (event : Event) → EndsNoCall id c event ⊎ EndsAtDeadline s id c event → lost_in id (step s event).1.connections.all ≡ true
+  lost-by-either event (inl e) = lost-by event e
+  lost-by-either event (inr e) = subst (λ (ev : Event). lost_in id (step s ev).1.connections.all ≡ true) (sym e.is) (timed-out-at e.now e.due e.entries e.least)
+
   abbrev closed_or : Bool → Result (Unit {0}) CoreFault × Connections
   closed_or b = cond b (Ok tt, without_number id s.connections) (Err Gone, s.connections)
 
-  gone-where : (b : Bool) → is_there id s.connections ≡ b → there_in id (output_or show_done ((closed_or b).0, record s { connections = (closed_or b).1 })).1.connections.all ≡ false
+  gone-where : (b : Bool) → is_there id s.connections ≡ b → there_in id (output_or show_done (dropped_with s id (closed_or b))).1.connections.all ≡ false
   unfolding is_there without_number
   gone-where true e = (none-left id s.connections.all).1
   gone-where false e = e
@@ -273,23 +400,23 @@ module _ (s : State) (reached : IsReached s) (id : ℕ) (c : Connection) (there 
   gone-by : (event : Event) → event ≡ Closed id → there_in id (step s event).1.connections.all ≡ false
   gone-by event is = subst (λ (ev : Event). there_in id (step s ev).1.connections.all ≡ false) (sym is) gone-at
 
-  lost-only : (event : Event) (now : Connections) → SoundIn now → Fate id c event now → lost_in id now.all ≡ true → EndsNoCall id c event
+  lost-only : (event : Event) (now : Connections) → SoundIn now → Fate s id c event now → lost_in id now.all ≡ true → EndsNoCall id c event ⊎ EndsAtDeadline s id c event
   lost-only event now sound (Lives d live) lost = let none = live-not-lost id 0 now.next now.all d sound live in absurd cc
   lost-only event now sound (Loses e t) lost = e
   lost-only event now sound (Leaves is none) lost = absurd cc
 
-  gone-only : (event : Event) (now : Connections) → Fate id c event now → there_in id now.all ≡ false → event ≡ Closed id
+  gone-only : (event : Event) (now : Connections) → Fate s id c event now → there_in id now.all ≡ false → event ≡ Closed id
   gone-only event now (Lives d live) gone = let some = live-there id now.all d live in absurd cc
   gone-only event now (Loses e t) gone = absurd cc
   gone-only event now (Leaves is none) gone = is
 
-  fate-of : (event : Event) → Fate id c event (step s event).1.connections
-  fate-of event = fate s id c found event (step s event).0 (step s event).1.connections (happening s event)
+  fate-of : (event : Event) → Fate s id c event (step s event).1.connections
+  fate-of event = fate s (reached-sound s reached) id c found event (step s event).0 (step s event).1.connections (happening s event)
 
   closes : (event : Event) → ClosesExactly s event id c
   unfolding is_there
   closes event = record {
-    lost = (lost-only event (step s event).1.connections (step-sound s event (reached-sound s reached)) (fate-of event), lost-by event);
+    lost = (lost-only event (step s event).1.connections (step-sound s event (reached-sound s reached)) (fate-of event), lost-by-either event);
     gone = (gone-only event (step s event).1.connections (fate-of event), gone-by event);
   }
 

@@ -7,12 +7,11 @@ use Rattle.rb_rpc.specs.declared.peer.Peer.{Peer}
 use Rattle.rb_rpc.specs.declared.peer.Caller.TheVariants.{Tcp}
 use Rattle.rb_rpc.specs.Records.{first_record, data_of}
 use Rattle.rb_rpc.proofs.RecordCuts.{ends_later}
-use Rattle.rb_core.specs.declared.message.Message.{Message}
 use Rattle.rb_core.specs.declared.types.CoreFault.{CoreFault}
 use Rattle.rb_core.specs.declared.types.CoreFault.TheVariants.{Gone}
-use Rattle.rb_core.specs.Calls.{Outcome, message_of, is_no_call}
+use Rattle.rb_core.specs.Calls.{Outcome, is_no_call}
 use Rattle.rb_core.specs.State.{State, Connection, Phase, at_moment}
-use Rattle.rb_core.specs.State.Phase.{Idle, Reading, Owing, Lost}
+use Rattle.rb_core.specs.State.Phase.{Idle, Reading, Owing, Awaiting, Lost}
 use Rattle.rb_core.specs.Connections.{is_live, is_lost, live_connection, change_first, reading, settled, fed_in, taking, taking_up_to, taking_behind}
 use Rattle.rb_core.specs.Step.{Taken, serve, on_connection, answering, when_taken, bytes_to, bytes}
 use Rattle.rb_core.specs.Laws.{SameInOnePiece, CutsDoNotMatter, one_after_another}
@@ -48,12 +47,12 @@ changed-twice id f g h feeds same (d ∷ all) = by_test (is_live id d) refl (cha
     by_test false e later = rw (e, e) (ap (λ xs. d ∷ xs) later)
 
 -- a message is answered as it was, with the change
-answering-along : (id : ℕ) (f : Connection → Connection) (s : State) (peer : Peer) (message : Message) → IsFeeding id f
+answering-along : (id : ℕ) (f : Connection → Connection) (s : State) (peer : Peer) (content : List ℕ) → IsFeeding id f
     → ((clock : ℕ) (said : Outcome) (c : Connection) → settled clock said (f c) ≡ settled clock said c)
-    → answering (on_connection id f s) id peer message ≡ answering s id peer message
+    → answering (on_connection id f s) id peer content ≡ answering s id peer content
 unfolding answering serve
-answering-along id f s peer message feeds same =
-    let r = serve s (Tcp id peer) message in
+answering-along id f s peer content feeds same =
+    let r = serve s (Tcp id peer) content in
     let twice = changed-twice id f (settled s.clock r.0) (settled s.clock r.0) feeds (same s.clock r.0) s.connections.all in
     ap (λ (xs : List Connection). (is_no_call r.0, record r.1 { connections = record s.connections { all = xs } })) twice
 
@@ -83,6 +82,7 @@ read-on clock front all c = marked c.phase
     marked Idle = refl
     marked (Reading fed) = refl
     marked (Owing owed) = refl
+    marked Awaiting = refl
     marked Lost = refl
 
 settled-fed : (clock : ℕ) (fed : List ℕ) (then : ℕ) (said : Outcome) (c : Connection) → settled then said (reading clock fed c) ≡ settled then said c
@@ -180,8 +180,8 @@ fed-cut t id c fed first second (Some n) longer =
     let front : List ℕ = fed ++ first in
     let joined : front ++ second ≡ fed ++ (first ++ second) = append_assoc fed first second in
     let later : length front < n = longer n refl in
-    let message : List ℕ → Message = λ xs. message_of (data_of (take n xs)) in
-    let whole : Message = message (fed ++ (first ++ second)) in
+    let message : List ℕ → List ℕ = λ xs. data_of (take n xs) in
+    let whole : List ℕ = message (fed ++ (first ++ second)) in
     let r : Bool × State = answering t id c.peer whole in
     let along : answering (fed_on t id front) id c.peer whole ≡ r = answering-along id (reading t.clock front) t c.peer whole (reading-feeds id t.clock front) (settled-fed t.clock front) in
     let there : answering (fed_on t id front) id (reading t.clock front c).peer (message (front ++ second)) ≡ r =

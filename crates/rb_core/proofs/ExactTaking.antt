@@ -7,15 +7,15 @@ use Rattle.rb_rpc.proofs.Markings.{first_is_least, none_where_no_front}
 use Rattle.rb_rpc.proofs.RecordCuts.{ends_later}
 use Rattle.rb_core.specs.declared.types.CoreFault.{CoreFault}
 use Rattle.rb_core.specs.Calls.{Outcome, is_no_call}
-use Rattle.rb_core.specs.Calls.Outcome.{NoCall, Reply}
+use Rattle.rb_core.specs.Calls.Outcome.{NoCall, Reply, Forwarded, Silent}
 use Rattle.rb_core.specs.State.{State, Phase, Connection, Connections, at_moment}
-use Rattle.rb_core.specs.State.Phase.{Idle, Reading, Owing, Lost}
+use Rattle.rb_core.specs.State.Phase.{Idle, Reading, Owing, Awaiting, Lost}
 use Rattle.rb_core.specs.Connections.{live_connection, changed_at, reading, settled, fed_in}
 use Rattle.rb_core.specs.Step.{Taken, serve, answering, on_connection, bytes}
 use Rattle.rb_core.specs.Laws.{IsReached, IsLive, Arrival, IsSettled, TakesNothing, ReadsOn, IsAnswered, EndsRecord, TakesExactly, BytesAreTakenExactly}
 use Rattle.rb_core.proofs.Cuts.{find-changed, reading-feeds, fed-at}
 use Rattle.rb_core.proofs.Happenings.{said_in, answered_in}
-use Rattle.rb_core.proofs.Live.{replying-feeds, lost-gone}
+use Rattle.rb_core.proofs.Live.{answering-feeds, replying-feeds, lost-gone}
 use Rattle.rb_core.proofs.Reached.{IsSoundPhase, live-sound, reached-sound}
 
 -- the bytes that a connection was fed hold no record
@@ -24,6 +24,7 @@ unfolding first_record
 fed-none Idle sound fed is = let same : [] ≡ fed = cc in subst (λ (xs : List ℕ). first_record xs ≡ None) same refl
 fed-none (Reading xs) sound fed is = let same : xs ≡ fed = cc in subst (λ (xs : List ℕ). first_record xs ≡ None) same sound
 fed-none (Owing o) sound fed is = absurd cc
+fed-none Awaiting sound fed is = absurd cc
 fed-none Lost sound fed is = absurd cc
 
 module _ (s : State) (now id : ℕ) (c : Connection) (reached : IsReached s) (there : IsLive s id c) where
@@ -45,6 +46,12 @@ module _ (s : State) (now id : ℕ) (c : Connection) (reached : IsReached s) (th
   settles piece t NoCall same is =
       ap (λ (u : State). live_connection id u.connections.all) is ∙ ap (λ (u : Connections). live_connection id u.all) same
       ∙ lost-gone id (max s.clock now) 0 s.connections.next s.connections.all (reached-sound s reached)
+  settles piece t Forwarded same is =
+      ap (λ (u : State). live_connection id u.connections.all) is ∙ ap (λ (u : Connections). live_connection id u.all) same
+      ∙ find-changed id (settled (max s.clock now) Forwarded) (answering-feeds id (max s.clock now) Forwarded refl) s.connections.all c there
+  settles piece t Silent same is =
+      ap (λ (u : State). live_connection id u.connections.all) is ∙ ap (λ (u : Connections). live_connection id u.all) same
+      ∙ find-changed id (settled (max s.clock now) Silent) (answering-feeds id (max s.clock now) Silent refl) s.connections.all c there
   settles piece t (Reply reply) same is =
       ap (λ (u : State). live_connection id u.connections.all) is ∙ ap (λ (u : Connections). live_connection id u.all) same
       ∙ find-changed id (settled (max s.clock now) (Reply reply)) (replying-feeds id (max s.clock now) reply) s.connections.all c there

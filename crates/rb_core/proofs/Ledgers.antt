@@ -1,8 +1,23 @@
 -- What is remembered of the calls, in each state that a run reaches.
-use Rattle.std.proofs.Common.{◌≡◌, ℕ, ◌≤◌, Bool, true, false, cond, ◌&&◌, nat_le, Option, Some, None, Result, Ok, Err, List, [], ◌∷◌, ◌++◌, length, refl, sym, subst, ◌∙◌, arith}
+use Rattle.std.proofs.Common.{◌≡◌, ℕ, ◌≤◌, max, Bool, true, false, cond, ◌&&◌, nat_le, Option, Some, None, Result, Ok, Err, List, [], ◌∷◌, ◌++◌, length, refl, sym, subst, ◌∙◌, arith}
 use Rattle.std.proofs.lemmas.Bool.{leb-true}
 use Rattle.rb_rpc.specs.declared.peer.Caller.{Caller}
-use Rattle.rb_rpc.specs.declared.peer.Caller.TheVariants.{Udp}
+use Rattle.rb_rpc.specs.declared.peer.Caller.TheVariants.{Tcp, Udp}
+use Rattle.rb_rpc.specs.declared.peer.Peer.{Peer}
+use Rattle.rb_rpc.specs.declared.reply.ReplyStatus.TheVariants as replies
+use Rattle.rb_feed.specs.Feeds.{arguments_of}
+use Rattle.rb_uaddr.specs.declared.address.Uaddr.{Uaddr}
+use Rattle.rb_forward.specs.declared.types.Kind.{Kind}
+use Rattle.rb_forward.specs.declared.types.Ended.{Ended as EntryEnd}
+use Rattle.rb_forward.specs.Forwards.{can_start, started, can_be_sent}
+use Rattle.rb_proto.specs.declared.answers.Answer.TheVariants as answers
+use Rattle.rb_proto.specs.declared.remote.RemoteCall.{RemoteCall}
+use Rattle.rb_proto.specs.Remote.{args_of}
+use Rattle.rb_proto.specs.Forwarding.{address_to_forward, forward_of, refuse, forward_to, forward_call, replied, fell_due, caller_dropped, call_sent}
+use Rattle.rb_core.specs.declared.types.Told.{Told}
+use Rattle.rb_core.specs.declared.types.CoreFault.TheVariants.{Gone}
+use Rattle.rb_core.specs.Deadlines.{first_due, with_lost, expiring}
+use Rattle.rb_core.specs.Ending.{told_at, tell, tell_end, at_fresh_moment, forward_reply, closed_as, expire_connection, expired_as, expire}
 use Rattle.rb_registry.specs.declared.row.Row.{Row}
 use Rattle.rb_registry.specs.declared.row.Which.{Which}
 use Rattle.rb_registry.specs.Rows.{Change, is_netid, is_on, is_row, are_distinct, has_place, removes_some}
@@ -32,8 +47,8 @@ use Rattle.rb_core.specs.declared.types.Limits.{Limits}
 use Rattle.rb_core.specs.Calls.{Outcome, Outcome as outcomes, message_of, outcome}
 use Rattle.rb_core.specs.State.{State, Connections, at_moment, opening, are_good}
 use Rattle.rb_core.specs.Connections.{closing_of}
-use Rattle.rb_core.specs.Step.{Event, Output, Taken, context_in, serve, moved, bytes, pending, gave, is_too_much, open_connection, close_connection, with_reply, datagram, output_or, show_taken, show_done, show_outcome, step}
-use Rattle.rb_core.specs.Step.Event.{Open, Bytes, Pending, Gave, Closed, NextLost, Datagram}
+use Rattle.rb_core.specs.Step.{Event, Output, Taken, context_in, serve, dropped_with, sent_call, show_end, show_expired, moved, bytes, pending, gave, is_too_much, open_connection, close_connection, with_reply, datagram, output_or, show_taken, show_done, show_outcome, step}
+use Rattle.rb_core.specs.Step.Event.{Open, Bytes, Pending, Gave, Closed, NextLost, Datagram, Unsent, Sent, Forward, Expire}
 use Rattle.rb_core.specs.Step.Output.{Opened, TooMuch, IsPending}
 use Rattle.rb_core.specs.Run.{after}
 use Rattle.rb_core.specs.Laws.{LedgersAreWellKept}
@@ -82,26 +97,40 @@ getport-grows limit head m l = by_netid (netid_of_prot m.prot)
     by_netid None = Same refl refl
     by_netid (Some netid) = Same refl refl
 
-answer-grows : (context : Context) (head : CallHead) (request : Request) (l : Ledger) → Grows context.limit l (answer_to context head request l).1
-unfolding getaddr getversaddr
-answer-grows context head (requests.Mapping mappings.Set m) l = set-grows context head _ l
-answer-grows context head (requests.Mapping mappings.Unset m) l = unset-grows context head m.prog m.vers _ l
-answer-grows context head (requests.Mapping mappings.Getport m) l = getport-grows context.limit head m l
-answer-grows context head (requests.Rpcb rpcbs.Set r) l = set-grows context head _ l
-answer-grows context head (requests.Rpcb rpcbs.Unset r) l = unset-grows context head r.prog r.vers _ l
-answer-grows context head (requests.Rpcb rpcbs.Getaddr r) l = Same refl refl
-answer-grows context head (requests.Rpcb rpcbs.Getversaddr r) l = Same refl refl
-answer-grows context head (requests.Rpcb rpcbs.Getaddrlist r) l = Same refl refl
-answer-grows context head (requests.Void procedure) l = Same refl refl
-answer-grows context head (requests.Uaddr2taddr text) l = Same refl refl
-answer-grows context head (requests.Taddr2uaddr netbuf) l = Same refl refl
+forward-grows : (context : Context) (xid : ℕ) (kind : Kind) (remote : RemoteCall) (arguments : List ℕ) (l : Ledger) → Grows context.limit l (forward_call context xid kind remote arguments l).1
+unfolding forward_call
+forward-grows context xid kind remote arguments l = by_address (address_to_forward remote.prog remote.vers (rows_in l))
+  where
+    by_room : (address : Uaddr) (b : Bool) → Grows context.limit l
+        (cond b (answers.Forwarded, record l { forwards = started context.clock (forward_of context xid kind remote address) (args_of remote arguments) l.forwards }) (refuse context kind remote replies.SystemErr l)).1
+    by_room address true = Same refl refl
+    by_room address false = Same refl refl
 
-outcome-grows : (context : Context) (message : Message) (l : Ledger) → Grows context.limit l (outcome context message l).1
+    by_address : (o : Option Uaddr) → Grows context.limit l (forward_to context xid kind remote (args_of remote arguments) o l).1
+    by_address None = Same refl refl
+    by_address (Some address) = by_room address (can_start context.forwards l.forwards)
+
+answer-grows : (context : Context) (head : CallHead) (request : Request) (arguments : List ℕ) (l : Ledger) → Grows context.limit l (answer_to context head request arguments l).1
+unfolding getaddr getversaddr
+answer-grows context head (requests.Mapping mappings.Set m) arguments l = set-grows context head _ l
+answer-grows context head (requests.Mapping mappings.Unset m) arguments l = unset-grows context head m.prog m.vers _ l
+answer-grows context head (requests.Mapping mappings.Getport m) arguments l = getport-grows context.limit head m l
+answer-grows context head (requests.Rpcb rpcbs.Set r) arguments l = set-grows context head _ l
+answer-grows context head (requests.Rpcb rpcbs.Unset r) arguments l = unset-grows context head r.prog r.vers _ l
+answer-grows context head (requests.Rpcb rpcbs.Getaddr r) arguments l = Same refl refl
+answer-grows context head (requests.Rpcb rpcbs.Getversaddr r) arguments l = Same refl refl
+answer-grows context head (requests.Rpcb rpcbs.Getaddrlist r) arguments l = Same refl refl
+answer-grows context head (requests.Void procedure) arguments l = Same refl refl
+answer-grows context head (requests.Uaddr2taddr text) arguments l = Same refl refl
+answer-grows context head (requests.Taddr2uaddr netbuf) arguments l = Same refl refl
+answer-grows context head (requests.Forward kind remote) arguments l = forward-grows context head.xid kind remote arguments l
+
+outcome-grows : (context : Context) (message : Message) (arguments : List ℕ) (l : Ledger) → Grows context.limit l (outcome context message arguments l).1
 unfolding outcome answer called
-outcome-grows context says.NoCall l = Same refl refl
-outcome-grows context (says.Refused head) l = Same refl refl
-outcome-grows context (says.Garbage head) l = Same refl refl
-outcome-grows context (says.Asked call) l = by_growth (answer_to context call.head call.request (called call.head l)).1 (answer-grows context call.head call.request (called call.head l))
+outcome-grows context says.NoCall arguments l = Same refl refl
+outcome-grows context (says.Refused head) arguments l = Same refl refl
+outcome-grows context (says.Garbage head) arguments l = Same refl refl
+outcome-grows context (says.Asked call) arguments l = by_growth (answer_to context call.head call.request arguments (called call.head l)).1 (answer-grows context call.head call.request arguments (called call.head l))
   where
     by_growth : (new : Ledger) → Grows context.limit (called call.head l) new → Grows context.limit l new
     by_growth new (Same own same) = Same own same
@@ -116,9 +145,9 @@ record Follows (s u : State) : Type 0 where
 stays : (s : State) → Follows s s
 stays s = record { setting = refl; grows = Same refl refl }
 
-serve-follows : (s : State) (now : ℕ) (caller : Caller) (message : Message) → Follows s (serve (at_moment now s) caller message).1
+serve-follows : (s : State) (now : ℕ) (caller : Caller) (content : List ℕ) → Follows s (serve (at_moment now s) caller content).1
 unfolding serve
-serve-follows s now caller message = record { setting = refl; grows = outcome-grows (context_in (at_moment now s) caller) message s.ledger }
+serve-follows s now caller content = record { setting = refl; grows = outcome-grows (context_in (at_moment now s) caller) (message_of content) (arguments_of content) s.ledger }
 
 moved-follows : {A : Type 0} (s : State) (now : ℕ) (show : A → Output) (r : Result A CoreFault × Connections) → Follows s (output_or show (moved now s r)).1
 moved-follows s now show (Ok x, c) = record { setting = refl; grows = Same refl refl }
@@ -129,7 +158,7 @@ unfolding serve
 bytes-follow s now id piece r (NotThere none is) = rw is (stays s)
 bytes-follow s now id piece r (NotTaken c there why is) = rw is (record { setting = refl; grows = Same refl refl })
 bytes-follow s now id piece r (ReadOn c fed there feeds none is) = rw is (record { setting = refl; grows = Same refl refl })
-bytes-follow s now id piece r (Ended c fed n there feeds some is) = rw is (record { setting = refl; grows = outcome-grows _ _ s.ledger })
+bytes-follow s now id piece r (Ended c fed n there feeds some is) = rw is (record { setting = refl; grows = outcome-grows _ _ _ s.ledger })
 
 shown-follows : {A : Type 0} (s : State) (show : A → Output) (r : Result A CoreFault) (u : State) → Follows s u → Follows s (output_or show (r, u)).1
 shown-follows s show (Ok x) u f = f
@@ -138,21 +167,79 @@ shown-follows s show (Err fault) u f = f
 outcome-follows : (s : State) (r : Outcome × State) → Follows s r.1 → Follows s (show_outcome (with_reply r)).1
 outcome-follows s (outcomes.NoCall, u) f = record { setting = f.setting; grows = f.grows }
 outcome-follows s (outcomes.Reply reply, u) f = record { setting = f.setting; grows = f.grows }
+outcome-follows s (outcomes.Forwarded, u) f = record { setting = f.setting; grows = f.grows }
+outcome-follows s (outcomes.Silent, u) f = record { setting = f.setting; grows = f.grows }
+
+closed-follows : (s : State) (id : ℕ) (r : Result (Unit {0}) CoreFault × Connections) → Follows s (output_or show_done (dropped_with s id r)).1
+unfolding caller_dropped
+closed-follows s id (Ok u, c) = record { setting = refl; grows = Same refl refl }
+closed-follows s id (Err fault, c) = stays s
+
+sent-follows : (s : State) (number : ℕ) (b : Bool) → Follows s (output_or show_done (cond b (Ok tt, record s { ledger = call_sent number s.ledger }) (Err Gone, s))).1
+unfolding call_sent
+sent-follows s number true = record { setting = refl; grows = Same refl refl }
+sent-follows s number false = stays s
+
+-- an end of an entry leaves a note alone
+record Ends (l : Ledger) (r : Option EntryEnd × Ledger) : Type 0 where
+  own : r.1.own ≡ l.own
+  changes : r.1.changes ≡ l.changes
+
+tell-follows : (s : State) (at : ℕ) (message : List ℕ) (r : Option EntryEnd × Ledger) → Ends s.ledger r → Follows s (tell_end message (at_fresh_moment at s) r).1
+tell-follows s at message (None, l) e = record { setting = refl; grows = Same e.own e.changes }
+tell-follows s at message (Some ended, l) e = by_caller ended.forward.caller
+  where
+    by_caller : (caller : Caller) → Follows s (tell caller (told_at message ended) (record (at_fresh_moment at s) { ledger = l })).1
+    by_caller (Tcp id peer) = record { setting = refl; grows = Same e.own e.changes }
+    by_caller (Udp peer) = record { setting = refl; grows = Same e.own e.changes }
+
+end-follows : (s : State) (r : Option Told × State) → Follows s r.1 → Follows s (show_end r).1
+end-follows s (None, t) f = f
+end-follows s (Some told, t) f = f
+
+expired-follows : (s : State) (r : Option Told × State) → Follows s r.1 → Follows s (show_expired (expired_as r)).1
+unfolding expire_connection expiring
+expired-follows s (Some told, t) f = f
+expired-follows s (None, t) f = by_found (first_due t.clock t.connections)
+  where
+    by_found : (o : Option ℕ) → Follows s (show_expired (closed_as o, record t { connections = with_lost o t.connections })).1
+    by_found None = record { setting = f.setting; grows = f.grows }
+    by_found (Some id) = record { setting = f.setting; grows = f.grows }
+
+replied-ends : (l : Ledger) (first_xid clock : ℕ) (from : Peer) (message : List ℕ) → Ends l (replied first_xid clock from message l)
+unfolding replied
+replied-ends l first_xid clock from message = record { own = refl; changes = refl }
+
+due-ends : (l : Ledger) (clock : ℕ) → Ends l (fell_due clock l)
+unfolding fell_due
+due-ends l clock = record { own = refl; changes = refl }
 
 either : (s : State) (b : Bool) (x y : Output × State) → Follows s x.1 → Follows s y.1 → Follows s (cond b x y).1
 either s true x y left right = left
 either s false x y left right = right
 
 step-follows : (s : State) (event : Event) → Follows s (step s event).1
-unfolding step open_connection gave close_connection datagram
+unfolding step open_connection gave close_connection datagram sent_call forward_reply expire
 step-follows s (Open now peer) = moved-follows s now Opened _
 step-follows s (Bytes now id piece) = bytes-follow s now id piece (bytes s now id piece) (arriving s now id piece)
 step-follows s (Pending id) = shown-follows s IsPending (pending s id) s (stays s)
 step-follows s (Gave now id n) = either s (is_too_much n (pending s id)) (TooMuch, s) (output_or show_done (gave s now id n)) (stays s) (moved-follows s now show_done _)
-step-follows s (Closed id) = shown-follows s show_done (closing_of id s.connections).0 (record s { connections = (closing_of id s.connections).1 }) (record { setting = refl; grows = Same refl refl })
+step-follows s (Closed id) = closed-follows s id (closing_of id s.connections)
 step-follows s NextLost = stays s
 step-follows s (Datagram now peer content) =
-    outcome-follows s (serve (at_moment now s) (Udp peer) (message_of content)) (serve-follows s now (Udp peer) (message_of content))
+    outcome-follows s (serve (at_moment now s) (Udp peer) content) (serve-follows s now (Udp peer) content)
+step-follows s Unsent = stays s
+step-follows s (Sent number) = sent-follows s number (can_be_sent number s.ledger.forwards)
+step-follows s (Forward now from message) =
+    end-follows s (tell_end message (at_fresh_moment now s) (replied s.setting.first_xid (max s.clock now) from message s.ledger))
+    (tell-follows s now message (replied s.setting.first_xid (max s.clock now) from message s.ledger) (replied-ends s.ledger s.setting.first_xid (max s.clock now) from message))
+step-follows s (Expire now) =
+    expired-follows s (tell_end [] (at_fresh_moment now s) (fell_due (max s.clock now) s.ledger))
+    (tell-follows s now [] (fell_due (max s.clock now) s.ledger) (due-ends s.ledger (max s.clock now)))
+
+-- no event changes the setting
+pub step-setting : (s : State) (event : Event) → (step s event).1.setting ≡ s.setting
+step-setting s event = (step-follows s event).setting
 
 -- ---- what stays so
 

@@ -2,22 +2,30 @@
 use Rattle.std.proofs.Common.{◌≡◌, ◌⊎◌, inl, inr, ◌<◌, ◌≤◌, ℕ, ◌+◌, min, Bool, true, false, cond, not, ◌&&◌, eqb, nat_lt, Option, Some, None, List, [], ◌∷◌, ◌++◌, length, refl, ap, subst, ◌∙◌, arith}
 use Rattle.std.specs.Prelude.{find, filter}
 use Rattle.std.proofs.lemmas.Bool.{eqb-true, ne_eqb}
-use Rattle.rb_core.specs.Calls.Outcome.{NoCall, Reply}
+use Rattle.rb_core.specs.Calls.{Outcome, is_no_call}
+use Rattle.rb_core.specs.Calls.Outcome.{NoCall, Reply, Forwarded, Silent}
 use Rattle.rb_core.specs.State.{Phase, Connection}
-use Rattle.rb_core.specs.State.Phase.{Idle, Reading, Owing, Lost}
+use Rattle.rb_core.specs.State.Phase.{Idle, Reading, Owing, Awaiting, Lost}
 use Rattle.rb_core.specs.Connections.{is_lost, is_live, change_first, settled, phase_when_given, when_given, giving, pending_in}
+use Rattle.rb_core.specs.Deadlines.{lost}
 use Rattle.rb_core.proofs.Cuts.{IsFeeding, number-is}
 use Rattle.rb_core.proofs.Reached.{AreSound}
 
 -- ---- a change that leaves it live
 
-pub replying-feeds : (id clock : ℕ) (reply : List ℕ) → IsFeeding id (settled clock (Reply reply))
+still-live : (b l : Bool) → (b && l) ≡ true → (b && true) ≡ true
+still-live true l e = refl
+still-live false l e = e
+
+pub answering-feeds : (id clock : ℕ) (said : Outcome) → is_no_call said ≡ false → IsFeeding id (settled clock said)
 unfolding is_live settled
-replying-feeds id clock reply = record { live = λ c e. stays (eqb c.number id) (not (is_lost c.phase)) e }
-  where
-    stays : (b l : Bool) → (b && l) ≡ true → (b && true) ≡ true
-    stays true l e = refl
-    stays false l e = e
+answering-feeds id clock NoCall is = absurd cc
+answering-feeds id clock (Reply reply) is = record { live = λ c e. still-live (eqb c.number id) (not (is_lost c.phase)) e }
+answering-feeds id clock Forwarded is = record { live = λ c e. still-live (eqb c.number id) (not (is_lost c.phase)) e }
+answering-feeds id clock Silent is = record { live = λ c e. still-live (eqb c.number id) (not (is_lost c.phase)) e }
+
+pub replying-feeds : (id clock : ℕ) (reply : List ℕ) → IsFeeding id (settled clock (Reply reply))
+replying-feeds id clock reply = answering-feeds id clock (Reply reply) refl
 
 given-feeds : (id clock n : ℕ) (c : Connection) → is_live id c ≡ true → is_live id (when_given clock n c) ≡ true
 unfolding is_live when_given
@@ -26,6 +34,7 @@ given-feeds id clock n c e = by_zero (eqb n 0)
     stays : (b : Bool) (p : Phase) → (b && not (is_lost p)) ≡ true → (b && not (is_lost (phase_when_given n p))) ≡ true
     stays b Idle e = e
     stays b (Reading fed) e = e
+    stays b Awaiting e = e
     stays b Lost e = e
     stays b (Owing o) e = by_test (nat_lt (o.given + n) (length o.marked))
       where
@@ -114,13 +123,27 @@ is-lost-now id clock c = by_number (eqb c.number id)
     by_number false = refl
 
 -- once it is Lost there is no other of its number
-pub lost-gone : (id clock least next : ℕ) (all : List Connection) → AreSound least next all → find (is_live id) (change_first (is_live id) (settled clock NoCall) all) ≡ None
-lost-gone id clock least next [] a = refl
-lost-gone id clock least next (d ∷ all) a = by_test (is_live id d) refl (lost-gone id clock (d.number + 1) next all a.2)
+pub loses-gone : (id : ℕ) (f : Connection → Connection) → ((c : Connection) → is_live id (f c) ≡ false) → (least next : ℕ) (all : List Connection) → AreSound least next all → find (is_live id) (change_first (is_live id) f all) ≡ None
+loses-gone id f loses least next [] a = refl
+loses-gone id f loses least next (d ∷ all) a = by_test (is_live id d) refl (loses-gone id f loses (d.number + 1) next all a.2)
   where
-    by_test : (b : Bool) → is_live id d ≡ b → find (is_live id) (change_first (is_live id) (settled clock NoCall) all) ≡ None → find (is_live id) (cond b (settled clock NoCall d ∷ all) (d ∷ change_first (is_live id) (settled clock NoCall) all)) ≡ None
-    by_test true e later = rw (is-lost-now id clock d) (none-above id (d.number + 1) next all a.2 (omega (arith, number-is id d e)))
+    by_test : (b : Bool) → is_live id d ≡ b → find (is_live id) (change_first (is_live id) f all) ≡ None → find (is_live id) (cond b (f d ∷ all) (d ∷ change_first (is_live id) f all)) ≡ None
+    by_test true e later = rw (loses d) (none-above id (d.number + 1) next all a.2 (omega (arith, number-is id d e)))
     by_test false e later = rw e later
+
+pub lost-gone : (id clock least next : ℕ) (all : List Connection) → AreSound least next all → find (is_live id) (change_first (is_live id) (settled clock NoCall) all) ≡ None
+lost-gone id clock least next all a = loses-gone id (settled clock NoCall) (is-lost-now id clock) least next all a
+
+timed-out : (id : ℕ) (c : Connection) → is_live id (lost c) ≡ false
+unfolding is_live
+timed-out id c = by_number (eqb c.number id)
+  where
+    by_number : (b : Bool) → (b && false) ≡ false
+    by_number true = refl
+    by_number false = refl
+
+pub timed-out-gone : (id least next : ℕ) (all : List Connection) → AreSound least next all → find (is_live id) (change_first (is_live id) lost all) ≡ None
+timed-out-gone id least next all a = loses-gone id lost (timed-out id) least next all a
 
 pub find-after : (p : Connection → Bool) (all : List Connection) (c d : Connection) → find p (all ++ c ∷ []) ≡ Some d → (find p all ≡ Some d) ⊎ ((c ≡ d) × (p c ≡ true))
 find-after p [] c d is = by_test (p c) refl is

@@ -1,5 +1,5 @@
 -- The first 8,816 bytes of its arguments decide what a call says.
-use Rattle.std.proofs.Common.{◌≡◌, ◌≤◌, ℕ, cond, List, take, Option, Some, None, Err, refl, ap, arith}
+use Rattle.std.proofs.Common.{◌≡◌, ◌≤◌, ℕ, cond, List, take, Option, Some, None, Err, refl, ap, subst, arith}
 use Rattle.std.specs.Prelude.{option_map, option_and_then}
 use Rattle.rb_xdr.specs.Xdr.{Reading, read_number, read_opaque}
 use Rattle.rb_rpc.specs.declared.call.CallHead.{CallHead}
@@ -11,11 +11,20 @@ use Rattle.rb_proto.specs.declared.procedure.Procedure.{Procedure}
 use Rattle.rb_proto.specs.declared.procedure.Procedure.TheVariants as procedures
 use Rattle.rb_proto.specs.declared.request.ArgumentFault.TheVariants.{ProcUnavail}
 use Rattle.rb_proto.specs.declared.request.Request.{Request}
-use Rattle.rb_proto.specs.declared.request.Request.TheVariants.{Mapping, Rpcb, Uaddr2taddr, Taddr2uaddr}
+use Rattle.rb_proto.specs.declared.request.Request.TheVariants.{Mapping, Rpcb, Uaddr2taddr, Taddr2uaddr, Forward}
+use Rattle.rb_proto.specs.Remote.{read_remote}
+use Rattle.rb_forward.specs.Table.{longest_arguments as longest_args}
 use Rattle.rb_proto.specs.Types.{read_mapping, read_rpcb, read_netbuf}
-use Rattle.rb_proto.specs.Arguments.{procedure_at, is_known, value_of, front, arguments, request, or_garbage, read_request}
-use Rattle.rb_core.specs.Calls.{call_of, message_with, message_of}
-use Rattle.rb_core.specs.Reading.{longest_arguments, kept_of, KeptSaysTheRecord}
+use Rattle.rb_proto.specs.Arguments.{procedure_at, is_known, value_of, front, arguments, request, or_garbage, read_request, HasArgs}
+use Rattle.rb_proto.specs.declared.answers.Answer.{Answer}
+use Rattle.rb_proto.proofs.Remotes.{answer_of_front}
+use Rattle.rb_core.proofs.AskedArgs.{message_has}
+use Rattle.rb_proto.specs.declared.context.Context.{Context}
+use Rattle.rb_proto.specs.Ledger.{Ledger, called}
+use Rattle.rb_core.specs.declared.message.Message.{Message}
+use Rattle.rb_core.specs.declared.message.Message.TheVariants as says
+use Rattle.rb_core.specs.Calls.{call_of, message_with, message_of, reply_with, outcome}
+use Rattle.rb_core.specs.Reading.{longest_arguments, kept_of, HasArgsIn, KeptSaysTheRecord}
 use Rattle.rb_core.proofs.ReaderFronts.{LooksAt, give_looks, bind_looks, number_looks, opaque_looks}
 
 -- ---- the types of arguments
@@ -43,6 +52,14 @@ netbuf_looks =
     bind_looks 4 132 read_number _ number_looks
     (λ maxlen. bind_looks 132 0 (read_opaque 128) _ (opaque_looks 128) (λ buf. give_looks _ 0))
 
+remote_looks : LooksAt 8816 read_remote
+unfolding read_remote longest_args
+remote_looks =
+    bind_looks 4 8812 read_number _ number_looks
+    (λ prog. bind_looks 4 8808 read_number _ number_looks
+    (λ vers. bind_looks 4 8804 read_number _ number_looks
+    (λ proc. bind_looks 8804 0 (read_opaque longest_args) _ (opaque_looks longest_args) (λ args. give_looks _ 0))))
+
 -- ---- what is asked for
 
 front_of_front : {A : Type 0} (made : A → Request) (reads : List ℕ → Reading A) (most n : ℕ) (bytes : List ℕ) → LooksAt most reads → most ≤ n
@@ -55,6 +72,7 @@ arguments_of_front (procedures.Void procedure) n bytes enough = refl
 arguments_of_front (procedures.Mapping procedure) n bytes enough = front_of_front (Mapping procedure) read_mapping 16 n bytes mapping_looks (omega (arith, enough))
 arguments_of_front (procedures.Rpcb procedure) n bytes enough = front_of_front (Rpcb procedure) read_rpcb 308 n bytes rpcb_looks (omega (arith, enough))
 arguments_of_front procedures.Uaddr2taddr n bytes enough = front_of_front Uaddr2taddr (read_opaque 128) 132 n bytes (opaque_looks 128) (omega (arith, enough))
+arguments_of_front (procedures.Forward kind) n bytes enough = front_of_front (Forward kind) read_remote 8816 n bytes remote_looks (omega (arith, enough))
 arguments_of_front procedures.Taddr2uaddr n bytes enough = front_of_front Taddr2uaddr read_netbuf 136 n bytes netbuf_looks (omega (arith, enough))
 
 -- the first bytes of the arguments decide what is asked for
@@ -79,9 +97,24 @@ message_of_front (RpcMismatch xid) n arguments enough = refl
 message_of_front (AuthError xid stat) n arguments enough = refl
 message_of_front (Call head place) n arguments enough = call_of_front n head arguments enough
 
-pub kept_says : KeptSaysTheRecord
+message_kept : (content : List ℕ) → message_with (verdict content) (kept_of content) ≡ message_of content
 unfolding message_of
-kept_says content = message_of_front (verdict content) longest_arguments (arguments_of content) (omega arith)
+message_kept content = message_of_front (verdict content) longest_arguments (arguments_of content) (omega arith)
 
-pub record_says : (content kept : List ℕ) (v : Verdict) → v ≡ verdict content → kept ≡ kept_of content → message_with v kept ≡ message_of content
-record_says content kept v says is = rw (says, is) (kept_says content)
+-- ---- it is answered alike
+
+outcome_kept : (content : List ℕ) (message : Message) → message_with (verdict content) (kept_of content) ≡ message → (context : Context) (ledger : Ledger)
+    → outcome context message (kept_of content) ledger ≡ outcome context message (arguments_of content) ledger
+unfolding outcome
+outcome_kept content says.NoCall is context ledger = refl
+outcome_kept content (says.Refused head) is context ledger = refl
+outcome_kept content (says.Garbage head) is context ledger = refl
+outcome_kept content (says.Asked call) is context ledger =
+    let has : HasArgs call.request (kept_of content) = subst (λ (m : Message). HasArgsIn m (kept_of content)) is (message_has (verdict content) (kept_of content)) in
+    ap (λ (r : Answer × Ledger). reply_with context call.head.xid r) (answer_of_front context call longest_arguments (arguments_of content) (called call.head ledger) has)
+
+pub kept_says : KeptSaysTheRecord
+kept_says content = record {
+  says = message_kept content;
+  answered = λ context ledger. outcome_kept content (message_of content) (message_kept content) context ledger;
+}

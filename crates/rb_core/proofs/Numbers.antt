@@ -9,7 +9,7 @@ use Rattle.rb_core.specs.Step.Output.{Took, TookAndClosed}
 use Rattle.rb_core.specs.Run.{run}
 use Rattle.rb_core.specs.Laws.{number_given, AreRisingFrom}
 use Rattle.rb_core.proofs.Happenings.{Happening, happening}
-use Rattle.rb_core.proofs.Happenings.Happening.{Stays, Opens, Reads, Ends, Gives, Closes}
+use Rattle.rb_core.proofs.Happenings.Happening.{Stays, Opens, Reads, Ends, Gives, Closes, Tells, TimesOut}
 
 -- a number that is given is the next one, and no other event moves it
 abbrev pub GivesNext : Option ℕ → ℕ → ℕ → Type 0
@@ -31,6 +31,8 @@ happening-next s event output now (Reads at id piece c fed is there feeds none o
 happening-next s event output now (Ends at id piece c fed n is there feeds some out same) =
     none_given output s.connections.next now (ap number_given out ∙ taken-plain _) (ap (λ (c : Connections). c.next) same)
 happening-next s event output now (Gives at id n c is there few out same) = none_given output s.connections.next now (ap number_given out) (ap (λ (c : Connections). c.next) same)
+happening-next s event output now (Tells at id said is q final told there same) = none_given output s.connections.next now q.no_number (ap (λ (c : Connections). c.next) same)
+happening-next s event output now (TimesOut at c is q none found same) = none_given output s.connections.next now q.no_number (ap (λ (c : Connections). c.next) same)
 happening-next s event output now (Closes id is out there same) = none_given output s.connections.next now (ap number_given out) (ap (λ (c : Connections). c.next) same)
 
 pub step-next : (s : State) (event : Event) → GivesNext (number_given (step s event).0) s.connections.next (step s event).1.connections.next

@@ -7,19 +7,17 @@ use Rattle.rb_rpc.specs.declared.peer.Peer.{Peer}
 use Rattle.rb_rpc.specs.Records.{first_record, data_of}
 use Rattle.rb_rpc.specs.Verdict.{verdict}
 use Rattle.rb_rpc.specs.declared.call.Verdict.{Verdict}
-use Rattle.rb_core.specs.declared.message.Message.{Message}
-use Rattle.rb_core.specs.Calls.{message_of}
 use Rattle.rb_core.specs.declared.slot.Slot.{Slot}
 use Rattle.rb_core.specs.declared.slot.Stage.{Stage}
 use Rattle.rb_core.specs.declared.slot.Stage.TheVariants as stages
 use Rattle.rb_core.specs.declared.slot.Received.{Received}
 use Rattle.rb_core.specs.State.{Owed, Phase, Connection}
-use Rattle.rb_core.specs.State.Phase.{Idle, Reading, Owing, Lost}
+use Rattle.rb_core.specs.State.Phase.{Idle, Reading, Owing, Awaiting, Lost}
 use Rattle.rb_core.specs.Connections.{Taking, taking, taking_on, mark_when_fed, fed_in, pending_in, phase_when_given, when_given, giving}
 use Rattle.rb_core.specs.Connections.Taking.{TakesNone}
 use Rattle.rb_core.specs.Giving.{IsGiving, pending_of}
 use Rattle.rb_core.specs.Reading.{Fed, Reader, fed_until, IsReading}
-use Rattle.rb_core.specs.Slots.{Acts, StandsForPhase, StandsForConnection, received, fed_with, feeding}
+use Rattle.rb_core.specs.Slots.{Acts, StandsForPhase, StandsForConnection, received, fed_with, feeding, arguments_after, arguments_heard}
 
 -- ---- the phase by the stage
 
@@ -31,6 +29,7 @@ idle_phase stage buffer window phase is h = at phase (subst (λ (s : Stage). Sta
     at Idle h = (refl, h.0, h.1)
     at (Reading fed) h = absurd h
     at (Owing o) h = absurd h
+    at Awaiting h = absurd h
     at Lost h = absurd h
 
 pub reading_phase : (reader : Reader) (stage : Stage) (buffer window : Kept) (phase : Phase) → stage ≡ stages.Reading reader → StandsForPhase stage buffer window phase
@@ -41,6 +40,7 @@ reading_phase reader stage buffer window phase is h = at phase (subst (λ (s : S
     at Idle h = absurd h
     at (Reading fed) h = (fed, refl, h.0, h.1)
     at (Owing o) h = absurd h
+    at Awaiting h = absurd h
     at Lost h = absurd h
 
 pub owing_phase : (given : ℕ) (stage : Stage) (buffer window : Kept) (phase : Phase) → stage ≡ stages.Owing given → StandsForPhase stage buffer window phase
@@ -51,6 +51,7 @@ owing_phase given stage buffer window phase is h = at phase (subst (λ (s : Stag
     at Idle h = absurd h
     at (Reading fed) h = absurd h
     at (Owing o) h = (o, refl, h)
+    at Awaiting h = absurd h
     at Lost h = absurd h
 
 pub lost_phase : (stage : Stage) (buffer window : Kept) (phase : Phase) → stage ≡ stages.Lost → StandsForPhase stage buffer window phase → phase ≡ Lost
@@ -60,7 +61,18 @@ lost_phase stage buffer window phase is h = at phase (subst (λ (s : Stage). Sta
     at Idle h = absurd h
     at (Reading fed) h = absurd h
     at (Owing o) h = absurd h
+    at Awaiting h = absurd h
     at Lost h = refl
+
+pub awaiting_phase : (stage : Stage) (buffer window : Kept) (phase : Phase) → stage ≡ stages.Awaiting → StandsForPhase stage buffer window phase → phase ≡ Awaiting
+awaiting_phase stage buffer window phase is h = at phase (subst (λ (s : Stage). StandsForPhase s buffer window phase) is h)
+  where
+    at : (phase : Phase) → StandsForPhase stages.Awaiting buffer window phase → phase ≡ Awaiting
+    at Idle h = absurd h
+    at (Reading fed) h = absurd h
+    at (Owing o) h = absurd h
+    at Awaiting h = refl
+    at Lost h = absurd h
 
 -- ---- a piece that is taken
 
@@ -79,17 +91,26 @@ feeding_acts old new clock piece result took = record {
   stands = λ c h. let t = took c h in subst (λ (x : Taking). StandsForConnection new (fed_with clock c x)) (sym t.is) t.stands;
 }
 
+-- with what is held of arguments after it
+pub taken_arguments : (before after piece : List ℕ) (c : Connection) (t : Taking) → taking c.phase piece ≡ t → after ≡ arguments_after before t → after ≡ arguments_heard before piece c
+taken_arguments before after piece c t is kept = kept ∙ ap (arguments_after before) (sym is)
+
 -- nothing is taken of nothing
 pub nothing_of_nothing : (phase : Phase) → taking phase [] ≡ TakesNone
 unfolding taking
 nothing_of_nothing Idle = refl
 nothing_of_nothing (Reading fed) = refl
 nothing_of_nothing (Owing o) = refl
+nothing_of_nothing Awaiting = refl
 nothing_of_nothing Lost = refl
 
 pub nothing_where_owing : (phase : Phase) (o : Owed) (piece : List ℕ) → phase ≡ Owing o → taking phase piece ≡ TakesNone
 unfolding taking
 nothing_where_owing phase o piece is = rw is refl
+
+pub nothing_where_awaiting : (phase : Phase) (piece : List ℕ) → phase ≡ Awaiting → taking phase piece ≡ TakesNone
+unfolding taking
+nothing_where_awaiting phase piece is = rw is refl
 
 pub nothing_where_lost : (phase : Phase) (piece : List ℕ) → phase ≡ Lost → taking phase piece ≡ TakesNone
 unfolding taking
@@ -125,9 +146,9 @@ counts_all fed piece m r is none = ap (λ (f : Fed). f.count) (is ∙ ap (fed_un
 pub counts_to : (fed piece : List ℕ) (n : ℕ) (m : Option ℕ) (r : Fed) → r ≡ fed_until fed piece m → m ≡ Some n → r.count ≡ n - length fed
 counts_to fed piece n m r is some = ap (λ (f : Fed). f.count) (is ∙ ap (fed_until fed piece) some)
 
-pub heard_then : (fed piece : List ℕ) (c : Connection) (count n : ℕ) (peer : Peer) (message : Message) → first_record (fed ++ piece) ≡ Some n → count ≡ n - length fed → peer ≡ c.peer
-    → message ≡ message_of (data_of (take n (fed ++ piece))) → record { count = count; heard = Some (record { peer = peer; message = message }) } ≡ received piece c (taking_on fed piece)
-heard_then fed piece c count n peer message is counts from says = rw (is, counts, from, says) refl
+pub heard_then : (fed piece : List ℕ) (c : Connection) (count n : ℕ) (peer : Peer) (said : Verdict) → first_record (fed ++ piece) ≡ Some n → count ≡ n - length fed → peer ≡ c.peer
+    → said ≡ verdict (data_of (take n (fed ++ piece))) → record { count = count; heard = Some (record { peer = peer; verdict = said }) } ≡ received piece c (taking_on fed piece)
+heard_then fed piece c count n peer said is counts from says = rw (is, counts, from, says) refl
 
 pub mark_of_idle : (clock mark : ℕ) (phase : Phase) → phase ≡ Idle → mark_when_fed clock mark phase ≡ clock
 mark_of_idle clock mark phase is = rw is refl
@@ -150,15 +171,23 @@ pub nothing_pending : (stage : Stage) (buffer window : Kept) (phase : Phase) →
 nothing_pending stages.Idle buffer window Idle other h = refl
 nothing_pending stages.Idle buffer window (Reading fed) other h = absurd h
 nothing_pending stages.Idle buffer window (Owing o) other h = absurd h
+nothing_pending stages.Idle buffer window Awaiting other h = absurd h
 nothing_pending stages.Idle buffer window Lost other h = absurd h
 nothing_pending (stages.Reading reader) buffer window Idle other h = absurd h
 nothing_pending (stages.Reading reader) buffer window (Reading fed) other h = refl
 nothing_pending (stages.Reading reader) buffer window (Owing o) other h = absurd h
+nothing_pending (stages.Reading reader) buffer window Awaiting other h = absurd h
 nothing_pending (stages.Reading reader) buffer window Lost other h = absurd h
 nothing_pending (stages.Owing given) buffer window phase other h = absurd (other given refl)
+nothing_pending stages.Awaiting buffer window Idle other h = absurd h
+nothing_pending stages.Awaiting buffer window (Reading fed) other h = absurd h
+nothing_pending stages.Awaiting buffer window (Owing o) other h = absurd h
+nothing_pending stages.Awaiting buffer window Awaiting other h = refl
+nothing_pending stages.Awaiting buffer window Lost other h = absurd h
 nothing_pending stages.Lost buffer window Idle other h = absurd h
 nothing_pending stages.Lost buffer window (Reading fed) other h = absurd h
 nothing_pending stages.Lost buffer window (Owing o) other h = absurd h
+nothing_pending stages.Lost buffer window Awaiting other h = absurd h
 nothing_pending stages.Lost buffer window Lost other h = refl
 
 module _ (old new : Slot) (clock n more given : ℕ) (result : Option ℕ)

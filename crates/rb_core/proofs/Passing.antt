@@ -12,7 +12,6 @@ use Rattle.rb_rpc.proofs.Markings.{first_is_least, none_where_no_front, data_is_
 use Rattle.rb_rpc.proofs.RecordCuts.{ends_later, stays}
 use Rattle.rb_core.specs.State.{State, Connection}
 use Rattle.rb_core.specs.Connections.{live_connection}
-use Rattle.rb_core.specs.Calls.{message_of}
 use Rattle.rb_core.specs.Step.{serve}
 use Rattle.rb_core.specs.Sessions.{Exchange, Session, passed, calls_ended, call_in, left_behind, marked_reply, replies_to}
 
@@ -46,7 +45,7 @@ goes-on s id more t e =
 
 -- the call in the bytes of a record
 abbrev pub call_of : State → ℕ → Connection → List ℕ → Exchange
-call_of s id c bytes = record { content = data_of bytes; said = (serve s (Tcp id c.peer) (message_of (data_of bytes))).0 }
+call_of s id c bytes = record { content = data_of bytes; said = (serve s (Tcp id c.peer) (data_of bytes)).0 }
 
 -- a record ends
 pub ends : (s : State) (id : ℕ) (more : List ℕ) (t : Session) (n : ℕ) (c : Connection) → first_record (t.unfinished ++ more) ≡ Some n → live_connection id s.connections.all ≡ Some c

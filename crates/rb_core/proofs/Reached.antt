@@ -4,22 +4,24 @@ use Rattle.std.specs.Prelude.{find, filter}
 use Rattle.std.proofs.lemmas.Bool.{ltb-true}
 use Rattle.rb_rpc.specs.Records.{first_record}
 use Rattle.rb_core.specs.Calls.{Outcome}
-use Rattle.rb_core.specs.Calls.Outcome.{NoCall, Reply}
+use Rattle.rb_core.specs.Calls.Outcome.{NoCall, Reply, Forwarded, Silent}
 use Rattle.rb_core.specs.State.{State, Phase, Connection, Connections, opening}
-use Rattle.rb_core.specs.State.Phase.{Idle, Reading, Owing, Lost}
+use Rattle.rb_core.specs.State.Phase.{Idle, Reading, Owing, Awaiting, Lost}
 use Rattle.rb_core.specs.Connections.{is_live, live_connection, change_first, without_number, reading, settled, phase_after, phase_when_given, when_given, giving, pending_in}
+use Rattle.rb_core.specs.Deadlines.{lost}
 use Rattle.rb_core.specs.Step.{Event, Output, step}
 use Rattle.rb_core.specs.Run.{after}
 use Rattle.rb_core.specs.Laws.{IsReached, IsLive}
 use Rattle.rb_core.proofs.Fragments.{some-marked}
 use Rattle.rb_core.proofs.Happenings.{Happening, happening}
-use Rattle.rb_core.proofs.Happenings.Happening.{Stays, Opens, Reads, Ends, Gives, Closes}
+use Rattle.rb_core.proofs.Happenings.Happening.{Stays, Opens, Reads, Ends, Gives, Closes, Tells, TimesOut}
 
 -- no record is in the bytes that were fed, and of a reply that is owed some byte is still to be given
 abbrev pub IsSoundPhase : Phase → Type 0
 IsSoundPhase Idle = Unit {0}
 IsSoundPhase (Reading fed) = first_record fed ≡ None
 IsSoundPhase (Owing o) = o.given < length o.marked
+IsSoundPhase Awaiting = Unit {0}
 IsSoundPhase Lost = Unit {0}
 
 -- the numbers rise from `least` on, and are below `next`
@@ -82,10 +84,13 @@ settled-keeps clock said = record { number = λ c. refl; phase = λ c s. by_outc
     by_outcome : (o : Outcome) → IsSoundPhase (phase_after o)
     by_outcome NoCall = tt
     by_outcome (Reply reply) = omega (arith, some-marked reply)
+    by_outcome Forwarded = tt
+    by_outcome Silent = tt
 
 given-sound : (n : ℕ) (p : Phase) → IsSoundPhase p → IsSoundPhase (phase_when_given n p)
 given-sound n Idle s = tt
 given-sound n (Reading fed) s = s
+given-sound n Awaiting s = tt
 given-sound n Lost s = tt
 given-sound n (Owing o) s = by_test (nat_lt (o.given + n) (length o.marked)) refl
   where
@@ -110,6 +115,9 @@ giving-keeps clock n = record {
   phase = λ c s. (when_given-keeps clock (min n (length (pending_in c.phase)))).phase c s;
 }
 
+pub lost-keeps : Keeps lost
+lost-keeps = record { number = λ c. refl; phase = λ c s. tt }
+
 -- ---- steps and runs
 
 abbrev pub SoundIn : Connections → Type 0
@@ -126,6 +134,10 @@ happening-sound s event output now sound (Ends at id piece c fed n is there feed
     subst SoundIn (sym same) (changed id _ (settled-keeps (max s.clock at) _) 0 s.connections.next s.connections.all sound)
 happening-sound s event output now sound (Gives at id n c is there few out same) =
     subst SoundIn (sym same) (changed id _ (giving-keeps (max s.clock at) n) 0 s.connections.next s.connections.all sound)
+happening-sound s event output now sound (Tells at id said is q final told there same) =
+    subst SoundIn (sym same) (changed id _ (settled-keeps (max s.clock at) said) 0 s.connections.next s.connections.all sound)
+happening-sound s event output now sound (TimesOut at c is q none found same) =
+    subst SoundIn (sym same) (changed c.number lost lost-keeps 0 s.connections.next s.connections.all sound)
 happening-sound s event output now sound (Closes id is out there same) =
     subst SoundIn (sym same) (filtered (λ (c : Connection). not (eqb c.number id)) 0 s.connections.next s.connections.all sound)
 

@@ -5,8 +5,17 @@ use Rattle.rb_core.specs.declared.types.CoreFault.TheVariants.{Gone}
 use Rattle.rb_core.specs.Calls.{Outcome, Outcome as outcomes}
 use Rattle.rb_core.specs.State.{State, Connection, Connections}
 use Rattle.rb_core.specs.Connections.{live_connection, closing_of, is_there, without_number}
-use Rattle.rb_core.specs.Step.{Event, Output, Taken, moved, bytes_to, bytes, pending, gave, is_too_much, open_connection, close_connection, datagram, output_or, show_taken, show_done, show_outcome, step}
-use Rattle.rb_core.specs.Step.Event.{Open, Bytes, Pending, Gave, Closed, NextLost, Datagram}
+use Rattle.rb_forward.specs.Forwards.{can_be_sent}
+use Rattle.rb_proto.specs.Forwarding.{call_sent}
+use Rattle.rb_core.specs.declared.types.Told.{Told}
+use Rattle.rb_core.specs.declared.types.Told.TheVariants.{TcpReady}
+use Rattle.rb_core.specs.declared.types.Told.TheVariants as tolds
+use Rattle.rb_core.specs.declared.types.Expired.{Expired}
+use Rattle.rb_core.specs.declared.types.Expired.TheVariants.{Ended}
+use Rattle.rb_core.specs.declared.types.Expired.TheVariants as expiries
+use Rattle.rb_core.specs.Ending.{forward_reply, expire}
+use Rattle.rb_core.specs.Step.{Event, Output, Taken, dropped_with, sent_call, show_told, show_end, show_expired, moved, bytes_to, bytes, pending, gave, is_too_much, open_connection, close_connection, datagram, output_or, show_taken, show_done, show_outcome, step}
+use Rattle.rb_core.specs.Step.Event.{Open, Bytes, Pending, Gave, Closed, NextLost, Datagram, Unsent, Sent, Forward, Expire}
 use Rattle.rb_core.specs.Step.Output.{Opened, TooMuch, Took, TookAndClosed, IsPending}
 use Rattle.rb_core.specs.Laws.{IsKeptIfRefused}
 
@@ -36,7 +45,7 @@ bytes_kept s now id piece (Some c) = tt
 closes : (s : State) (id : ℕ) → IsKept s (close_connection s id)
 unfolding close_connection closing_of
 closes s id =
-    let P : Result (Unit {0}) CoreFault × Connections → Type 0 = λ r. IsKept s (r.0, record s { connections = r.1 }) in
+    let P : Result (Unit {0}) CoreFault × Connections → Type 0 = λ r. IsKept s (dropped_with s id r) in
     either P (is_there id s.connections) (Ok tt, without_number id s.connections) (Err Gone, s.connections) tt refl
 
 lends : (s : State) (r : Result (List ℕ) CoreFault) → IsKept s (r, s)
@@ -49,6 +58,26 @@ shows_taken s t u = elim (t.closed) as (λ b. IsKeptIfRefused (cond b (TookAndCl
 shows_outcome : (s : State) (r : Outcome × State) → IsKeptIfRefused (show_outcome r).0 s (show_outcome r).1
 shows_outcome s (outcomes.Reply reply, t) = tt
 shows_outcome s (outcomes.NoCall, t) = tt
+shows_outcome s (outcomes.Forwarded, t) = tt
+shows_outcome s (outcomes.Silent, t) = tt
+
+shows_told : (s : State) (reply : List ℕ) (told : Told) (t : State) → IsKeptIfRefused (show_told reply told) s t
+shows_told s reply (TcpReady id) t = tt
+shows_told s reply (tolds.Datagram peer) t = tt
+shows_told s reply tolds.Silent t = tt
+
+shows_end : (s : State) (r : Option Told × State) → IsKeptIfRefused (show_end r).0 s (show_end r).1
+shows_end s (None, t) = tt
+shows_end s (Some told, t) = shows_told s t.reply told t
+
+shows_expired : (s : State) (r : Expired × State) → IsKeptIfRefused (show_expired r).0 s (show_expired r).1
+shows_expired s (expiries.Nothing, t) = tt
+shows_expired s (expiries.ConnectionClosed id, t) = tt
+shows_expired s (Ended told, t) = shows_told s t.reply told t
+
+sends : (s : State) (number : ℕ) → IsKept s (sent_call s number)
+unfolding sent_call
+sends s number = either (λ (r : Result (Unit {0}) CoreFault × State). IsKept s r) (can_be_sent number s.ledger.forwards) (Ok tt, record s { ledger = call_sent number s.ledger }) (Err Gone, s) tt refl
 
 pub kept : (s : State) (event : Event) → IsKeptIfRefused (step s event).0 s (step s event).1
 unfolding step bytes gave open_connection
@@ -63,3 +92,7 @@ kept s (Gave now id n) =
 kept s (Closed id) = shown-or s show_done (λ x t. tt) (close_connection s id) (closes s id)
 kept s NextLost = tt
 kept s (Datagram now peer content) = shows_outcome s (datagram s now peer content)
+kept s Unsent = tt
+kept s (Sent number) = shown-or s show_done (λ x t. tt) (sent_call s number) (sends s number)
+kept s (Forward now from message) = shows_end s (forward_reply s now from message)
+kept s (Expire now) = shows_expired s (expire s now)

@@ -1,40 +1,46 @@
 -- What a call leaves behind, from what its parts do to the books.
-use Rattle.std.proofs.Common.{◌≡◌, ◌++◌, List, ℕ, refl, sym, ap, ◌∙◌}
+use Rattle.std.proofs.Common.{◌≡◌, List, ℕ, refl, sym, ap, ◌∙◌}
 use Rattle.rb_rpc.specs.declared.call.CallHead.{CallHead}
-use Rattle.rb_rpc.specs.declared.reply.ReplyStatus.TheVariants as replies
-use Rattle.rb_rpc.specs.Replies.{reply_head}
+use Rattle.rb_forward.specs.Table.{Table}
 use Rattle.rb_proto.specs.declared.answers.Answer.{Answer}
+use Rattle.rb_proto.specs.declared.answers.Answer.TheVariants as answers
+use Rattle.rb_proto.specs.Forwarding.{StayUnlessForwarded}
 use Rattle.rb_proto.specs.declared.books.Books.{Books}
 use Rattle.rb_proto.specs.declared.call.Call.{Call}
 use Rattle.rb_proto.specs.declared.context.Context.{Context}
 use Rattle.rb_proto.specs.Ledger.{Ledger, StandsForLedger, ActsAs, called}
 use Rattle.rb_proto.specs.Answers.{answer}
-use Rattle.rb_proto.specs.Results.{Shown, result_bytes, results_at, shown_in, shown_of}
+use Rattle.rb_proto.specs.Results.{result_bytes, shown_of}
 use Rattle.rb_core.specs.declared.message.Message.TheVariants as says
-use Rattle.rb_core.specs.Calls.{fitting, reply_with, outcome}
-use Rattle.rb_core.specs.Calls.Outcome.{Reply}
+use Rattle.rb_core.specs.Calls.{Outcome, told_as, reply_with, outcome}
+use Rattle.rb_core.specs.Awaits.{kind_of, StayUnlessForwarded as StaysUnless}
 
 -- the books stand for the ledger in which the call is noted, with the registry as it was
 pub record Notes (head : CallHead) (old new : Books) : Type 0 where
   pub stands : (l : Ledger) → StandsForLedger old l → StandsForLedger new (called head l)
   pub registry : new.registry ≡ old.registry
 
-module _ (context : Context) (call : Call) (old mid new : Books) (given : Answer) (bytes : List ℕ) (notes : Notes call.head old mid) (acts : ActsAs (answer context call) mid new given) where
-  abbrev reply_of : Shown → Answer → List ℕ
-  reply_of shown a = fitting call.head.xid (reply_head call.head.xid replies.Success ++ result_bytes context.listener.host shown a)
-
-  replied : bytes ≡ reply_of (shown_in new) given → ((l : Ledger) → StandsForLedger new l → shown_in new ≡ shown_of l)
-      → (p : Answer × Ledger) → given ≡ p.0 → StandsForLedger new p.1 → Reply bytes ≡ (reply_with context call.head.xid p).0
-  replied written shows (a, l) e s = ap Reply (written ∙ ap (λ (shown : Shown). reply_of shown given) (shows l s) ∙ ap (reply_of (shown_of l)) e)
+module _ (context : Context) (call : Call) (arguments : List ℕ) (old mid new : Books) (given : Answer) (said : Outcome) (notes : Notes call.head old mid) (acts : ActsAs (answer context call arguments) mid new given) where
+  replied : ((l : Ledger) → StandsForLedger new l → said ≡ told_as call.head.xid (result_bytes context.listener.host (shown_of l)) given)
+      → (p : Answer × Ledger) → given ≡ p.0 → StandsForLedger new p.1 → said ≡ (reply_with context call.head.xid p).0
+  replied told (a, l) e s = told l s ∙ ap (told_as call.head.xid (result_bytes context.listener.host (shown_of l))) e
 
   left : (p : Answer × Ledger) → (reply_with context call.head.xid p).1 ≡ p.1
   left (a, l) = refl
 
-  pub asked_acts : bytes ≡ fitting call.head.xid (reply_head call.head.xid replies.Success ++ results_at context.listener new given) → ((l : Ledger) → StandsForLedger new l → shown_in new ≡ shown_of l)
-      → ActsAs (outcome context (says.Asked call)) old new (Reply bytes)
+  pub asked_acts : ((l : Ledger) → StandsForLedger new l → said ≡ told_as call.head.xid (result_bytes context.listener.host (shown_of l)) given)
+      → ActsAs (outcome context (says.Asked call) arguments) old new said
   unfolding outcome called
-  asked_acts written shows = record {
-    gives = λ l h. let k = notes.stands l h in replied written shows (answer context call (called call.head l)) (acts.gives _ k) (acts.stands _ k);
-    stands = λ l h. rw (left (answer context call (called call.head l))) (acts.stands _ (notes.stands l h));
-    kept = λ l h e. acts.kept (called call.head l) (notes.stands l h) (ap (λ (x : Ledger). x.changes) (sym (left (answer context call (called call.head l)))) ∙ e) ∙ notes.registry;
+  asked_acts told = record {
+    gives = λ l h. let k = notes.stands l h in replied told (answer context call arguments (called call.head l)) (acts.gives _ k) (acts.stands _ k);
+    stands = λ l h. rw (left (answer context call arguments (called call.head l))) (acts.stands _ (notes.stands l h));
+    kept = λ l h e. acts.kept (called call.head l) (notes.stands l h) (ap (λ (x : Ledger). x.changes) (sym (left (answer context call arguments (called call.head l)))) ∙ e) ∙ notes.registry;
   }
+
+-- ---- entries of forwarded calls
+
+pub quiet_as : (given : Answer) (old new : Table) → StayUnlessForwarded given old new → StaysUnless (kind_of given) old new
+quiet_as (answers.Results results) old new same = same
+quiet_as (answers.Refused status) old new same = same
+quiet_as answers.Forwarded old new same = tt
+quiet_as answers.Silent old new same = same

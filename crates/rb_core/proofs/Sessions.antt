@@ -6,27 +6,31 @@ use Rattle.std.proofs.lemmas.List.{take_all, take-append-drop, drop-append-le, l
 use Rattle.std.proofs.lemmas.List.Elements.{All-nil, All-append, All-cons}
 use Rattle.std.proofs.lemmas.Bool.{eqb-true, eq-eqb}
 use Rattle.rb_xdr.specs.Xdr.{AreBytes}
-use Rattle.rb_rpc.specs.Records.{first_record, marked}
+use Rattle.rb_rpc.specs.Records.{first_record}
 use Rattle.rb_rpc.specs.RecordLaws.{Records}
 use Rattle.rb_rpc.proofs.RecordCuts.{ends_later}
 use Rattle.rb_core.specs.Calls.{Outcome, is_no_call}
-use Rattle.rb_core.specs.Calls.Outcome.{NoCall, Reply}
+use Rattle.rb_core.specs.Calls.Outcome.{NoCall, Reply, Forwarded, Silent}
 use Rattle.rb_core.specs.State.{State, Phase, Connection, Connections, at_moment}
-use Rattle.rb_core.specs.State.Phase.{Idle, Reading, Owing, Lost}
-use Rattle.rb_core.specs.Connections.{is_live, live_connection, fed_in, change_first, changed_at, reading, settled, giving, when_given, phase_when_given, pending_in, without_number}
+use Rattle.rb_core.specs.State.Phase.{Idle, Reading, Owing, Awaiting, Lost}
+use Rattle.rb_core.specs.Connections.{is_live, live_connection, is_awaiting, fed_in, change_first, changed_at, reading, settled, giving, when_given, phase_when_given, pending_in, without_number}
 use Rattle.rb_core.specs.Giving.{owed}
 use Rattle.rb_core.specs.Step.{Event, Output, Taken, pending, pending_on, show_taken, step}
 use Rattle.rb_core.specs.Step.Event.{Bytes, Gave}
 use Rattle.rb_core.specs.Step.Output.{Opened, Took, TookAndClosed, Done}
 use Rattle.rb_core.specs.Laws.{number_given, owed_in, IsGiven}
-use Rattle.rb_core.specs.Sessions.{Exchange, Session, at_event, piece_to, count_in, taken_by, gave_to, shown, given_by, nothing_passed, passed, replies_to, marked_reply, is_answered, IsFront}
+use Rattle.rb_core.specs.Sessions.{Exchange, Session, at_event, piece_to, count_in, taken_by, gave_to, shown, given_by, nothing_passed, passed, passed_by, told_by, with_told, with_last_told, replies_to, marked_reply, IsFinal, is_answered, AwaitsLast, AreAnswered, IsFront}
 use Rattle.rb_core.proofs.Cuts.{IsFeeding, find-changed, find-holds, number-is, reading-feeds}
-use Rattle.rb_core.proofs.Happenings.{Happening, happening, is_done, said_in}
-use Rattle.rb_core.proofs.Happenings.Happening.{Stays, Opens, Reads, Ends, Gives, Closes}
-use Rattle.rb_core.proofs.Live.{without, changed-other, closed-other, find-after, closed-gone, lost-gone, number-below, replying-feeds, giving-feeds}
+use Rattle.rb_core.proofs.Closings.{final-call}
+use Rattle.rb_core.proofs.Entering.{is_forwarded}
+use Rattle.rb_core.proofs.Entries.{Await, IsWaiting, entry-waits, fed-awaits, giving-awaits}
+use Rattle.rb_core.proofs.Happenings.{Happening, happening, said_in, TellsTo, tells, end-passes-none}
+use Rattle.rb_core.proofs.Happenings.Happening.{Stays, Opens, Reads, Ends, Gives, Closes, Tells, TimesOut}
+use Rattle.rb_core.specs.Deadlines.{lost as timed_out}
+use Rattle.rb_core.proofs.Live.{without, changed-other, closed-other, find-after, closed-gone, lost-gone, timed-out-gone, number-below, answering-feeds, giving-feeds}
 use Rattle.rb_core.proofs.Numbers.{GivesNext, happening-next}
 use Rattle.rb_core.proofs.Passing.{none-taken, none-passed, goes-on, ends, call_of, one-more-reply, first-alone, records-on, records-end}
-use Rattle.rb_core.proofs.Reached.{SoundIn, IsSoundPhase, found-sound, happening-sound, giving-keeps}
+use Rattle.rb_core.proofs.Reached.{SoundIn, IsSoundPhase, found-sound, happening-sound, giving-keeps, settled-keeps}
 use Rattle.rb_core.proofs.WholeReplies.{behind, front-of, one-given}
 
 -- ---- what holds of what passed
@@ -36,13 +40,14 @@ abbrev pub unfinished_in : Phase → List ℕ
 unfinished_in Idle = []
 unfinished_in (Reading fed) = fed
 unfinished_in (Owing o) = []
+unfinished_in Awaiting = []
 unfinished_in Lost = []
 
 -- the phase of a live connection says the same
 pub record Fits (p : Phase) (t : Session) : Type 0 where
   pub unfinished : t.unfinished ≡ unfinished_in p
   pub rest : t.given ++ owed_in p ≡ replies_to t.calls
-  pub answered : All is_answered t.calls
+  pub answered : AreAnswered (is_awaiting p) t.calls
 
 -- so does that of the live connection of a number, if any
 abbrev pub FitsIn : ℕ → List Connection → Session → Type 0
@@ -70,17 +75,23 @@ unfinished-is : (p : Phase) (fed : List ℕ) → fed_in p ≡ Some fed → unfin
 unfinished-is Idle fed is = cc
 unfinished-is (Reading xs) fed is = cc
 unfinished-is (Owing o) fed is = absurd cc
+unfinished-is Awaiting fed is = absurd cc
 unfinished-is Lost fed is = absurd cc
 
 owes-none : (p : Phase) (fed : List ℕ) → fed_in p ≡ Some fed → owed_in p ≡ []
 owes-none Idle fed is = refl
 owes-none (Reading xs) fed is = refl
 owes-none (Owing o) fed is = absurd cc
+owes-none Awaiting fed is = absurd cc
 owes-none Lost fed is = absurd cc
 
 -- all replies were given
 pub all-given : (p : Phase) (fed : List ℕ) (t : Session) → fed_in p ≡ Some fed → Fits p t → t.given ≡ replies_to t.calls
 all-given p fed t is fits = sym (append-nil t.given) ∙ ap (λ (xs : List ℕ). t.given ++ xs) (sym (owes-none p fed is)) ∙ fits.rest
+
+-- each call is answered
+pub all-answered : (p : Phase) (fed : List ℕ) (t : Session) → fed_in p ≡ Some fed → Fits p t → All is_answered t.calls
+all-answered p fed t is fits = subst (λ (b : Bool). AreAnswered b t.calls) (fed-awaits p fed is) fits.answered
 
 -- the changed connection is the one that is found
 changed-fits : (id : ℕ) (f : Connection → Connection) (all : List Connection) (c : Connection) (t : Session)
@@ -95,9 +106,31 @@ reading-fits : (clock : ℕ) (all : List ℕ) (c : Connection) (t : Session) →
 unfolding reading
 reading-fits clock all c t is given answered = record { unfinished = is; rest = append-nil t.given ∙ given; answered = answered }
 
-settled-fits : (clock : ℕ) (reply : List ℕ) (c : Connection) (t : Session) → t.unfinished ≡ [] → t.given ++ marked reply ≡ replies_to t.calls → All is_answered t.calls → Fits (settled clock (Reply reply) c).phase t
+settled-fits : (clock : ℕ) (said : Outcome) (c : Connection) (t : Session) → t.unfinished ≡ [] → t.given ++ marked_reply said ≡ replies_to t.calls → AreAnswered (is_forwarded said) t.calls → Fits (settled clock said c).phase t
 unfolding settled owed
-settled-fits clock reply c t is rest answered = record { unfinished = is; rest = rest; answered = answered }
+settled-fits clock NoCall c t is rest answered = record { unfinished = is; rest = rest; answered = answered }
+settled-fits clock (Reply reply) c t is rest answered = record { unfinished = is; rest = rest; answered = answered }
+settled-fits clock Forwarded c t is rest answered = record { unfinished = is; rest = rest; answered = answered }
+settled-fits clock Silent c t is rest answered = record { unfinished = is; rest = rest; answered = answered }
+
+more-answered : (said : Outcome) (calls : List Exchange) (call : Exchange) → is_no_call said ≡ false → call.said ≡ said → All is_answered calls → AreAnswered (is_forwarded said) (calls ++ call ∷ [])
+more-answered NoCall calls call plain says answered = absurd cc
+more-answered (Reply reply) calls call plain says answered =
+    All-append is_answered calls (call ∷ []) answered (All-cons is_answered call [] (subst (λ (o : Outcome). IsFinal o) (sym says) tt) (All-nil is_answered))
+more-answered Silent calls call plain says answered =
+    All-append is_answered calls (call ∷ []) answered (All-cons is_answered call [] (subst (λ (o : Outcome). IsFinal o) (sym says) tt) (All-nil is_answered))
+more-answered Forwarded calls call plain says answered = record { before = calls; last = call; whole = refl; answered = answered; forwarded = says }
+
+-- the last call is told how it ended
+told-last : (said : Outcome) (before : List Exchange) (last : Exchange) → with_last_told said (before ++ last ∷ []) ≡ before ++ record last { said = said } ∷ []
+told-last said [] last = refl
+told-last said (call ∷ []) last = refl
+told-last said (call ∷ next ∷ before) last = ap (λ (calls : List Exchange). call ∷ calls) (told-last said (next ∷ before) last)
+
+same-contents : (said : Outcome) (calls : List Exchange) → contents (with_last_told said calls) ≡ contents calls
+same-contents said [] = refl
+same-contents said (call ∷ []) = refl
+same-contents said (call ∷ next ∷ calls) = ap (λ (xs : List (List ℕ)). call.content ∷ xs) (same-contents said (next ∷ calls))
 
 -- n bytes of what is pending, and then the rest
 given-on : (p : Phase) (n : ℕ) (given all : List ℕ) → IsSoundPhase p → n ≤ length (pending_in p) → given ++ owed_in p ≡ all → (given ++ take n (pending_in p)) ++ drop n (owed_in p) ≡ all
@@ -114,6 +147,7 @@ given-on p n given all sound few is =
 given-unfinished : (n : ℕ) (p : Phase) → unfinished_in (phase_when_given n p) ≡ unfinished_in p
 given-unfinished n Idle = refl
 given-unfinished n (Reading fed) = refl
+given-unfinished n Awaiting = refl
 given-unfinished n Lost = refl
 given-unfinished n (Owing o) = by_test (nat_lt (o.given + n) (length o.marked))
   where
@@ -142,10 +176,6 @@ pub count-shown : (t : Taken) → count_in (show_taken t) ≡ t.count
 count-shown t = elim (t.closed) as (λ b. count_in (cond b (TookAndClosed t.count) (Took t.count)) ≡ t.count) [ true ↦ refl | false ↦ refl ]
 
 -- ---- events that pass nothing
-
-none-given : (s : State) (id : ℕ) (event : Event) (output : Output) → is_done output ≡ false → given_by s id event output ≡ []
-none-given s id event Done is = absurd cc
-none-given s id event other is = refl
 
 none-gave : (s : State) (id : ℕ) (event : Event) (output : Output) → gave_to id event ≡ 0 → given_by s id event output ≡ []
 none-gave s id event Done is = ap (λ (n : ℕ). take n (shown (pending s id))) is
@@ -243,7 +273,7 @@ module _ (id : ℕ) (s : State) (t : Session) (h : Holds id s.connections t) whe
         let f : Connection → Connection = reading (max s.clock at) (fed ++ piece) in
         let live : FitsIn id (change_first (is_live id) f s.connections.all) new =
         changed-fits id f s.connections.all c new (reading-feeds id (max s.clock at) (fed ++ piece)) found
-        (reading-fits (max s.clock at) (fed ++ piece) c new whole (all-given c.phase fed t feeds fits-live) fits-live.answered) in
+        (reading-fits (max s.clock at) (fed ++ piece) c new whole (all-given c.phase fed t feeds fits-live) (all-answered c.phase fed t feeds fits-live)) in
         let under : id < s.connections.next = below in
         subst (λ (y : Session). Holds id now y) (sym (goes-on (at_moment at s) id piece t still)) (record {
           sound = goes.sound;
@@ -255,17 +285,26 @@ module _ (id : ℕ) (s : State) (t : Session) (h : Holds id s.connections t) whe
         })
 
     -- the connections after a call
-    answered-fits : (clock : ℕ) (said : Outcome) (new : Session) (call : Exchange) → call.said ≡ said → new.unfinished ≡ [] → new.given ≡ replies_to t.calls → new.calls ≡ t.calls ++ call ∷ []
+    answered-fits : (clock : ℕ) (said : Outcome) (new : Session) (call : Exchange) → call.said ≡ said → new.unfinished ≡ [] → new.given ≡ replies_to t.calls → new.calls ≡ t.calls ++ call ∷ [] → All is_answered t.calls
         → FitsIn id (change_first (is_live id) (settled clock said) s.connections.all) new
-    answered-fits clock NoCall new call says left given calls = λ d is.
-        absurd (not-none d (sym is ∙ lost-gone id clock 0 s.connections.next s.connections.all h.sound))
-    answered-fits clock (Reply reply) new call says left given calls =
-        changed-fits id (settled clock (Reply reply)) s.connections.all c new (replying-feeds id clock reply) found
-        (settled-fits clock reply c new left
-        (ap (λ (xs : List ℕ). xs ++ marked reply) given
-        ∙ ap (λ (said : Outcome). replies_to t.calls ++ marked_reply said) (sym says)
-        ∙ sym (one-more-reply t.calls call) ∙ ap replies_to (sym calls))
-        (subst (λ (xs : List Exchange). All is_answered xs) (sym calls) (All-append is_answered t.calls (call ∷ []) fits-live.answered (All-cons is_answered call [] (reply, says) (All-nil is_answered)))))
+    answered-fits clock said new call says left given calls answered = by_call (is_no_call said) refl
+      where
+        lost : (o : Outcome) → is_no_call o ≡ true → o ≡ NoCall
+        lost NoCall e = refl
+        lost (Reply reply) e = absurd cc
+        lost Forwarded e = absurd cc
+        lost Silent e = absurd cc
+
+        by_call : (b : Bool) → is_no_call said ≡ b → FitsIn id (change_first (is_live id) (settled clock said) s.connections.all) new
+        by_call true e = λ d is.
+            absurd (not-none d (sym is ∙ ap (λ (o : Outcome). find (is_live id) (change_first (is_live id) (settled clock o) s.connections.all)) (lost said e) ∙ lost-gone id clock 0 s.connections.next s.connections.all h.sound))
+        by_call false e =
+            changed-fits id (settled clock said) s.connections.all c new (answering-feeds id clock said e) found
+            (settled-fits clock said c new left
+            (ap (λ (xs : List ℕ). xs ++ marked_reply said) given
+            ∙ ap (λ (o : Outcome). replies_to t.calls ++ marked_reply o) (sym says)
+            ∙ sym (one-more-reply t.calls call) ∙ ap replies_to (sym calls))
+            (subst (λ (xs : List Exchange). AreAnswered (is_forwarded said) xs) (sym calls) (more-answered said t.calls call e says answered)))
 
     pub ends-whole : (piece fed : List ℕ) (n : ℕ) → fed_in c.phase ≡ Some fed → first_record (fed ++ piece) ≡ Some n → t.unfinished ++ take (n - length fed) piece ≡ take n (fed ++ piece)
     ends-whole piece fed n feeds some =
@@ -293,7 +332,7 @@ module _ (id : ℕ) (s : State) (t : Session) (h : Holds id s.connections t) whe
               (records-end t.taken more t.unfinished (contents t.calls) n h.records here short are);
           front = record { rest = marked_reply call.said; whole = ap (λ (xs : List ℕ). xs ++ marked_reply call.said) given ∙ sym (one-more-reply t.calls call) };
           new = λ le. absurd (omega (arith, le, under, goes.later));
-          live = subst (λ (x : Connections). FitsIn id x.all new) (sym same) (answered-fits (max s.clock at) (said_in s at id c (take n (fed ++ piece))) new call says refl given refl);
+          live = subst (λ (x : Connections). FitsIn id x.all new) (sym same) (answered-fits (max s.clock at) (said_in s at id c (take n (fed ++ piece))) new call says refl given refl (all-answered c.phase fed t feeds fits-live));
         })
 
     -- bytes are given
@@ -308,7 +347,7 @@ module _ (id : ℕ) (s : State) (t : Session) (h : Holds id s.connections t) whe
         let fits : Fits (f c).phase new = record {
           unfinished = fits-live.unfinished ∙ sym (giving-unfinished (max s.clock at) n c);
           rest = ap (λ (xs : List ℕ). (t.given ++ gave) ++ xs) is.left ∙ rest;
-          answered = fits-live.answered;
+          answered = subst (λ (b : Bool). AreAnswered b t.calls) (sym (giving-awaits (max s.clock at) n c)) fits-live.answered;
         } in
         let under : id < s.connections.next = below in
         subst (λ (y : Session). Holds id now y) (sym (none-taken s id gave t h.none)) (record {
@@ -353,15 +392,15 @@ module _ (id : ℕ) (s : State) (t : Session) (h : Holds id s.connections t) whe
   abbrev told : ℕ → ℕ → Connection → List ℕ → List ℕ → ℕ → Output
   told at k c piece fed n = show_taken (ended at k c piece fed n)
 
-  plain-told : (x : Taken) → is_done (show_taken x) ≡ false
-  plain-told x = elim (x.closed) as (λ b. is_done (cond b (TookAndClosed x.count) (Took x.count)) ≡ false) [ true ↦ refl | false ↦ refl ]
+  plain-told : (event : Event) (x : Taken) → given_by s id event (show_taken x) ≡ []
+  plain-told event x = elim (x.closed) as (λ b. given_by s id event (cond b (TookAndClosed x.count) (Took x.count)) ≡ []) [ true ↦ refl | false ↦ refl ]
 
   ends-at : (at k : ℕ) (piece : List ℕ) (c : Connection) (fed : List ℕ) (n : ℕ) (now : Connections) → Goes now → live_connection k s.connections.all ≡ Some c → fed_in c.phase ≡ Some fed → first_record (fed ++ piece) ≡ Some n
       → now ≡ changed_at k (settled (max s.clock at) (said_in s at k c (take n (fed ++ piece)))) s.connections → (b : Bool) → eqb k id ≡ b → Holds id now (with_event (Bytes at k piece) (told at k c piece fed n))
   unfolding settled
   ends-at at k piece c fed n now goes there feeds some same false e =
       quiet (Bytes at k piece) (told at k c piece fed n) now goes (no-piece (Bytes at k piece) (told at k c piece fed n) (ap (λ (b : Bool). cond b piece []) e))
-      (none-given s id (Bytes at k piece) (told at k c piece fed n) (plain-told (ended at k c piece fed n)))
+      (plain-told (Bytes at k piece) (ended at k c piece fed n))
       (changed-by k (settled (max s.clock at) (said_in s at k c (take n (fed ++ piece)))) now (λ x. refl) e same)
   ends-at at k piece c fed n now goes there feeds some same true e = here (eqb-true k id e)
     where
@@ -371,7 +410,7 @@ module _ (id : ℕ) (s : State) (t : Session) (h : Holds id s.connections t) whe
           let same_is : now ≡ changed_at id (settled (max s.clock at) (said_in s at id c (take n (fed ++ piece)))) s.connections =
           same ∙ ap (λ (j : ℕ). changed_at j (settled (max s.clock at) (said_in s at j c (take n (fed ++ piece)))) s.connections) number in
           let part : taken_by id (Bytes at id piece) (told at id c piece fed n) ≡ take (n - length fed) piece = taken-is c there_is at piece (told at id c piece fed n) (n - length fed) (count-shown (ended at id c piece fed n)) in
-          let none : given_by s id (Bytes at id piece) (told at id c piece fed n) ≡ [] = none-given s id (Bytes at id piece) (told at id c piece fed n) (plain-told (ended at id c piece fed n)) in
+          let none : given_by s id (Bytes at id piece) (told at id c piece fed n) ≡ [] = plain-told (Bytes at id piece) (ended at id c piece fed n) in
           let pass : with_event (Bytes at id piece) (told at id c piece fed n) ≡ passed (at_moment at s) id (take (n - length fed) piece) [] t =
           ap (λ (xs : List ℕ). passed (at_moment at s) id xs (given_by s id (Bytes at id piece) (told at id c piece fed n)) t) part
           ∙ ap (λ (xs : List ℕ). passed (at_moment at s) id (take (n - length fed) piece) xs t) none in
@@ -392,30 +431,91 @@ module _ (id : ℕ) (s : State) (t : Session) (h : Holds id s.connections t) whe
           subst (λ (j : ℕ). Holds id now (with_event (Gave at j n) Done)) (sym number)
           (subst (λ (xs : List ℕ). Holds id now (passed s id [] xs t)) (sym (given-is c there_is at n)) (give-on c there_is at n now goes few same_is))
 
-  by_case : (event : Event) (output : Output) (now : Connections) → Goes now → Happening s event output now → Holds id now (with_event event output)
+  by_case : (event : Event) (output : Output) (now : Connections) → Goes now → Happening s event output now → told_by s id event ≡ None → Holds id now (with_event event output)
   unfolding without_number
-  by_case event output now goes (Stays q same) =
-      quiet event output now goes (ap (λ (n : ℕ). take n (piece_to id event)) q.no_count) (none-given s id event output q.not_done)
+  by_case event output now goes (Stays q same) none =
+      quiet event output now goes (ap (λ (n : ℕ). take n (piece_to id event)) q.no_count) (q.none_given id)
       (subst (λ (x : Connections). FitsIn id x.all t) (sym same) h.live)
-  by_case event output now goes (Opens at peer is out same) =
+  by_case event output now goes (Opens at peer is out same) none =
       subst (λ (o : Output). Holds id now (with_event event o)) (sym out)
       (quiet event (Opened s.connections.next) now goes refl refl (subst (λ (x : Connections). FitsIn id x.all t) (sym same) (opened-fits id s.connections (record { number = s.connections.next; peer = peer; phase = Idle; mark = max s.clock at }) t h refl refl)))
-  by_case event output now goes (Reads at k piece c fed is there feeds none out same) =
+  by_case event output now goes (Reads at k piece c fed is there feeds unended out same) none =
       subst (λ (ev : Event). Holds id now (with_event ev output)) (sym is) (subst (λ (o : Output). Holds id now (with_event (Bytes at k piece) o)) (sym out)
-      (reads-at at k piece c fed now goes there feeds none same (eqb k id) refl))
-  by_case event output now goes (Ends at k piece c fed n is there feeds some out same) =
+      (reads-at at k piece c fed now goes there feeds unended same (eqb k id) refl))
+  by_case event output now goes (Ends at k piece c fed n is there feeds some out same) none =
       subst (λ (ev : Event). Holds id now (with_event ev output)) (sym is) (subst (λ (o : Output). Holds id now (with_event (Bytes at k piece) o)) (sym out)
       (ends-at at k piece c fed n now goes there feeds some same (eqb k id) refl))
-  by_case event output now goes (Gives at k n c is there few out same) =
+  by_case event output now goes (Gives at k n c is there few out same) none =
       subst (λ (ev : Event). Holds id now (with_event ev output)) (sym is) (subst (λ (o : Output). Holds id now (with_event (Gave at k n) o)) (sym out)
       (gives-at at k n c now goes there few same (eqb k id) refl))
-  by_case event output now goes (Closes k is out there same) =
+  by_case event output now goes (Closes k is out there same) none =
       quiet event output now goes (no-piece event output (ap (piece_to id) is)) (none-gave s id event output (ap (gave_to id) is))
       (subst (λ (x : Connections). FitsIn id x.all t) (sym same) (without-fits id k s.connections.all t h.live))
+  by_case event output now goes (TimesOut at c is q no_entry found same) none =
+      quiet event output now goes (ap (λ (n : ℕ). take n (piece_to id event)) q.no_count) (q.none_given id) (by_number (eqb c.number id) refl)
+    where
+      by_number : (b : Bool) → eqb c.number id ≡ b → FitsIn id now.all t
+      by_number false e = changed-by c.number timed_out now (λ x. refl) e same
+      by_number true e = λ d is.
+          let clash : ◌≡◌ {A = Option Connection} (Some d) None =
+          sym is ∙ ap (λ (x : Connections). find (is_live id) x.all) same
+          ∙ ap (λ (k : ℕ). find (is_live id) (change_first (is_live k) timed_out s.connections.all)) (eqb-true c.number id e)
+          ∙ timed-out-gone id 0 s.connections.next s.connections.all h.sound in
+          absurd cc
+  by_case event output now goes (Tells at k said is q final told has same) none =
+      quiet event output now goes (ap (λ (n : ℕ). take n (piece_to id event)) q.no_count) (q.none_given id) (changed-by k (settled (max s.clock at) said) now (settled-keeps (max s.clock at) said).number (other (eqb k id) refl) same)
+    where
+      other : (b : Bool) → eqb k id ≡ b → eqb k id ≡ false
+      other false e = e
+      other true e =
+          let clash : ◌≡◌ {A = Option Outcome} None (Some said) = sym none ∙ ap (λ (j : ℕ). told_by s j event) (sym (eqb-true k id e)) ∙ told in
+          absurd cc
 
-  pub step-holds : (event : Event) → Holds id (step s event).1.connections (with_event event (step s event).0)
-  step-holds event =
-      let what = happening s event in
-      let next : GivesNext (number_given (step s event).0) s.connections.next (step s event).1.connections.next = happening-next s event (step s event).0 (step s event).1.connections what in
-      by_case event (step s event).0 (step s event).1.connections
-      (record { sound = happening-sound s event (step s event).0 (step s event).1.connections h.sound what; later = grows (number_given (step s event).0) s.connections.next (step s event).1.connections.next next }) what
+  -- the call that was forwarded for it ends
+  ended-holds : (event : Event) (output : Output) (said : Outcome) (now : Connections) → Goes now → Await s → TellsTo s event id said now
+      → Holds id now (record (with_event event output) { calls = with_last_told said (with_event event output).calls })
+  ended-holds event output said now goes waits tells =
+      let none = end-passes-none event tells.ends id in
+      let w : IsWaiting id s.connections.all = entry-waits s id waits tells.has in
+      let c : Connection = w.connection in
+      let fits : Fits Awaiting t = subst (λ (p : Phase). Fits p t) w.phase (fits-live c w.there) in
+      let a : AwaitsLast t.calls = fits.answered in
+      let calls : with_last_told said t.calls ≡ a.before ++ record a.last { said = said } ∷ [] = ap (with_last_told said) a.whole ∙ told-last said a.before a.last in
+      let new : Session = record t { calls = with_last_told said t.calls } in
+      let before : t.given ≡ replies_to a.before =
+      sym (append-nil t.given) ∙ fits.rest ∙ ap replies_to a.whole ∙ one-more-reply a.before a.last ∙ ap (λ (o : Outcome). replies_to a.before ++ marked_reply o) a.forwarded ∙ append-nil (replies_to a.before) in
+      let rest : t.given ++ marked_reply said ≡ replies_to (with_last_told said t.calls) =
+      ap (λ (xs : List ℕ). xs ++ marked_reply said) before ∙ sym (one-more-reply a.before (record a.last { said = said })) ∙ ap replies_to (sym calls) in
+      let plain : is_no_call said ≡ false = final-call said tells.final in
+      let under : id < s.connections.next = below c w.there in
+      let same : with_event event output ≡ t =
+      ap (λ (xs : List ℕ). passed (at_event event s) id xs (given_by s id event output) t) (no-piece event output none.0)
+      ∙ ap (λ (xs : List ℕ). passed (at_event event s) id [] xs t) (none-gave s id event output none.1)
+      ∙ none-passed (at_event event s) id t h.none in
+      subst (λ (x : Session). Holds id now (record x { calls = with_last_told said x.calls })) (sym same) (record {
+        sound = goes.sound;
+        none = h.none;
+        records = λ are. subst (λ (xs : List (List ℕ)). Records t.taken xs t.unfinished) (sym (same-contents said t.calls)) (h.records are);
+        front = record { rest = marked_reply said; whole = rest };
+        new = λ le. absurd (omega (arith, le, under, goes.later));
+        live = subst (λ (x : Connections). FitsIn id x.all new) (sym tells.same)
+            (changed-fits id (settled (max s.clock tells.at) said) s.connections.all c new (answering-feeds id (max s.clock tells.at) said plain) (found c w.there)
+            (settled-fits (max s.clock tells.at) said c new fits.unfinished rest
+            (subst (λ (xs : List Exchange). AreAnswered (is_forwarded said) xs) (sym calls) (more-answered said a.before (record a.last { said = said }) plain refl a.answered))));
+      })
+
+  pub step-holds : (event : Event) → Await s → Holds id (step s event).1.connections (passed_by s id event t)
+  step-holds event waits = by_told (told_by s id event) refl
+    where
+      goes : Goes (step s event).1.connections
+      goes =
+          let what = happening s event in
+          let next : GivesNext (number_given (step s event).0) s.connections.next (step s event).1.connections.next = happening-next s event (step s event).0 (step s event).1.connections what in
+          record { sound = happening-sound s event (step s event).0 (step s event).1.connections h.sound what; later = grows (number_given (step s event).0) s.connections.next (step s event).1.connections.next next }
+
+      with_all : Option Outcome → Session
+      with_all o = record (with_event event (step s event).0) { calls = with_told o (with_event event (step s event).0).calls }
+
+      by_told : (o : Option Outcome) → told_by s id event ≡ o → Holds id (step s event).1.connections (passed_by s id event t)
+      by_told None e = subst (λ (o : Option Outcome). Holds id (step s event).1.connections (with_all o)) (sym e) (by_case event (step s event).0 (step s event).1.connections goes (happening s event) e)
+      by_told (Some said) e = subst (λ (o : Option Outcome). Holds id (step s event).1.connections (with_all o)) (sym e) (ended-holds event (step s event).0 said (step s event).1.connections goes waits (tells s event id said e))

@@ -1,5 +1,5 @@
 -- A table of slots beside the connections that they stand for.
-use Rattle.std.proofs.Common.{◌≡◌, ℕ, suc, ◌+◌, ◌≤◌, Bool, true, false, not, cond, eqb, zero, ◌<◌, nat_lt, take, Ok, Err, List, [], ◌∷◌, ◌++◌, Option, Some, None, refl, sym, ap, subst, ◌∙◌, length, eq-eqb, arith}
+use Rattle.std.proofs.Common.{◌≡◌, ℕ, suc, ◌+◌, ◌≤◌, Bool, true, false, not, cond, eqb, zero, ◌<◌, nat_lt, take, Ok, Err, List, [], ◌∷◌, ◌++◌, Some, None, refl, sym, ap, subst, ◌∙◌, length, eq-eqb, arith}
 use Rattle.std.specs.Prelude.{find, filter, option_map}
 use Rattle.std.specs.List.{AllZip, list_any}
 use Rattle.std.specs.Map.{values_of}
@@ -22,11 +22,12 @@ use Rattle.rb_core.specs.declared.slot.Slot.{Slot}
 use Rattle.rb_core.specs.declared.slot.Wanted.{Wanted}
 use Rattle.rb_core.specs.declared.slot.Wanted.TheVariants as wanted
 use Rattle.rb_core.specs.State.{Phase, Connection, Connections, greatest_number}
-use Rattle.rb_core.specs.State.Phase.{Idle, Reading, Owing, Lost}
+use Rattle.rb_core.specs.State.Phase.{Idle, Reading, Owing, Awaiting, Lost}
 use Rattle.rb_core.specs.Connections.{change_first, changed_at, is_lost, is_live, live_connection, on_live, has_number, number_for, opening_of, is_there, without_number, closing_of}
-use Rattle.rb_core.specs.Slots.{Acts, StandsForConnection, StandsForPhase, StandsForConnections, Table, is_lost_stage, is_wanted_slot, is_wanted, wanted_slot, IsFound, is_numbered, AreNumbered, IsTable, HasBuffers}
+use Rattle.rb_core.specs.Slots.{Acts, Shows, StandsForConnection, StandsForPhase, StandsForConnections, Table, is_lost_stage, is_wanted_slot, is_wanted, wanted_slot, IsFound, is_numbered, AreNumbered, IsTable, HasBuffers, arguments_heard, arguments_on}
 use Rattle.rb_core.specs.declared.slot.Stage.{Stage}
 use Rattle.rb_core.specs.declared.slot.Stage.TheVariants as stages
+use Rattle.rb_core.proofs.DueSlots.{due_alike}
 use Rattle.rb_rpc.specs.declared.peer.Peer.{Peer}
 
 some_is : {X : Type 0} (x y : X) → Some x ≡ Some y → x ≡ y
@@ -125,18 +126,27 @@ lost_as_stage : (stage : Stage) (buffer window : Kept) (phase : Phase) → Stand
 lost_as_stage stages.Idle buffer window Idle h = refl
 lost_as_stage stages.Idle buffer window (Reading fed) h = absurd h
 lost_as_stage stages.Idle buffer window (Owing o) h = absurd h
+lost_as_stage stages.Idle buffer window Awaiting h = absurd h
 lost_as_stage stages.Idle buffer window Lost h = absurd h
 lost_as_stage (stages.Reading marks) buffer window Idle h = absurd h
 lost_as_stage (stages.Reading marks) buffer window (Reading fed) h = refl
 lost_as_stage (stages.Reading marks) buffer window (Owing o) h = absurd h
+lost_as_stage (stages.Reading marks) buffer window Awaiting h = absurd h
 lost_as_stage (stages.Reading marks) buffer window Lost h = absurd h
 lost_as_stage (stages.Owing given) buffer window Idle h = absurd h
 lost_as_stage (stages.Owing given) buffer window (Reading fed) h = absurd h
 lost_as_stage (stages.Owing given) buffer window (Owing o) h = refl
+lost_as_stage (stages.Owing given) buffer window Awaiting h = absurd h
 lost_as_stage (stages.Owing given) buffer window Lost h = absurd h
+lost_as_stage stages.Awaiting buffer window Idle h = absurd h
+lost_as_stage stages.Awaiting buffer window (Reading fed) h = absurd h
+lost_as_stage stages.Awaiting buffer window (Owing o) h = absurd h
+lost_as_stage stages.Awaiting buffer window Awaiting h = refl
+lost_as_stage stages.Awaiting buffer window Lost h = absurd h
 lost_as_stage stages.Lost buffer window Idle h = absurd h
 lost_as_stage stages.Lost buffer window (Reading fed) h = absurd h
 lost_as_stage stages.Lost buffer window (Owing o) h = absurd h
+lost_as_stage stages.Lost buffer window Awaiting h = absurd h
 lost_as_stage stages.Lost buffer window Lost h = refl
 
 pub wanted_alike : (sought : Wanted) (slot : Slot) (c : Connection) → StandsForConnection slot c → is_wanted_slot sought slot ≡ is_wanted sought c
@@ -144,6 +154,7 @@ unfolding is_wanted_slot is_wanted is_live
 wanted_alike (wanted.Live id) slot c h = rw (h.number, lost_as_stage slot.stage slot.buffer slot.window c.phase h.phase) refl
 wanted_alike (wanted.Numbered id) slot c h = rw h.number refl
 wanted_alike wanted.AnyLost slot c h = lost_as_stage slot.stage slot.buffer slot.window c.phase h.phase
+wanted_alike (wanted.Due clock) slot c h = due_alike clock slot c h
 
 module _ (sought : Wanted) (entries : List (ℕ × Slot)) (all : List Connection) where
   pub found_slot : (k : ℕ) (slot : Slot) → HasDistinctKeys entries → AllZip StandsForConnection (values_of entries) all
@@ -163,7 +174,7 @@ module _ (sought : Wanted) (entries : List (ℕ × Slot)) (all : List Connection
 
 -- ---- tables with one entry less
 
-any-without : (test : Slot → Bool) (es : List (ℕ × Slot)) (k : ℕ) → list_any test (values_of es) ≡ false → list_any test (values_of (without es k)) ≡ false
+pub any-without : (test : Slot → Bool) (es : List (ℕ × Slot)) (k : ℕ) → list_any test (values_of es) ≡ false → list_any test (values_of (without es k)) ≡ false
 any-without test [] k h = refl
 any-without test (e ∷ es) k h = by_cases (test e.1) refl (any-without test es k)
   where
@@ -252,6 +263,18 @@ module _ {A : Type 0} (id : ℕ) (act : Connection → A × Connection) (table :
     stands = λ c z. rw (not_live id table.slots c.all z.all h) z;
   }
 
+-- What is held of arguments after a piece is what the live connection took.
+module _ (id : ℕ) (before piece : List ℕ) (table : Table) where
+  pub live_arguments : (k : ℕ) (slot : Slot) (after : List ℕ) → HasDistinctKeys table.slots
+      → option_map (λ e. e.0) (wanted_slot (wanted.Live id) table.slots) ≡ Some k → value_at table.slots k ≡ Some slot
+      → Shows StandsForConnection (arguments_heard before piece) slot after → Shows StandsForConnections (arguments_on id before piece) table after
+  live_arguments k slot after d h v shows c z =
+      let l = live_slot id table.slots c.all k slot d z.all h v in
+      rw l.there (shows l.connection l.stands)
+
+  pub gone_arguments : option_map (λ e. e.0) (wanted_slot (wanted.Live id) table.slots) ≡ None → Shows StandsForConnections (arguments_on id before piece) table before
+  gone_arguments h c z = rw (not_live id table.slots c.all z.all h) refl
+
 module _ (id : ℕ) (change : Connection → Connection) (table : Table) where
   pub live_changed : (k : ℕ) (slot new : Slot) → HasDistinctKeys table.slots
       → option_map (λ e. e.0) (wanted_slot (wanted.Live id) table.slots) ≡ Some k → value_at table.slots k ≡ Some slot
@@ -321,7 +344,7 @@ module _ {X : Type 0} (test : X → Bool) where
       by_cases true t further = let clash : true ≡ false = rw t at h in absurd cc
       by_cases false t further = rw t (ap (λ (ys : List X). x ∷ ys) (further (rw t at h)))
 
-any_alike : (id : ℕ) (slots : List Slot) (all : List Connection) → AllZip StandsForConnection slots all → list_any (is_numbered id) slots ≡ list_any (has_number id) all
+pub any_alike : (id : ℕ) (slots : List Slot) (all : List Connection) → AllZip StandsForConnection slots all → list_any (is_numbered id) slots ≡ list_any (has_number id) all
 any_alike id [] [] z = refl
 any_alike id [] (c ∷ all) z = absurd z
 any_alike id (s ∷ slots) [] z = absurd z

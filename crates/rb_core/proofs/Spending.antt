@@ -2,7 +2,7 @@
 use Rattle.std.proofs.Common.{◌≡◌, ◌≤◌, ℕ, ◌+◌, List, length, Option, Some, None, Result, Ok, Err, refl, sym, ap, subst, ◌∙◌, arith}
 use Rattle.rb_xdr.specs.Meter.{Meter, PaysAtMost}
 use Rattle.rb_core.specs.declared.slot.Heard.{Heard}
-use Rattle.rb_registry.specs.Registry.{rows_of}
+use Rattle.rb_registry.specs.Registry.{rows_of, slots_of, dead_count}
 use Rattle.rb_core.specs.declared.types.CoreFault.{CoreFault}
 use Rattle.rb_core.specs.State.{State, Connection}
 use Rattle.rb_core.specs.Connections.{Taking, taking, live_connection}
@@ -10,15 +10,15 @@ use Rattle.rb_core.specs.Connections.Taking.{TakesNone, GoesOn, Ends}
 use Rattle.rb_core.specs.Step.{Taken, bytes, bytes_to}
 use Rattle.rb_core.specs.Slots.{Acts}
 use Rattle.rb_core.specs.StandsFor.{Held, StandsFor, IsCheapIfQuiet}
-use Rattle.rb_core.specs.Costs.{find_cost, heard_cost, read_cost, serve_cost, settle_cost, answer_cost, connection_count, row_count, NoRecordEnds, take_cost, taking_cost, piece_cost, ended_cost}
+use Rattle.rb_core.specs.Costs.{find_cost, heard_cost, exchange_cost, read_cost, serve_cost, settle_cost, answer_cost, connection_count, row_count, NoRecordEnds, take_cost, taking_cost, piece_cost, record_cost}
 use Rattle.rb_core.proofs.Slots.{as_many}
 
 -- a record ended, and it was answered
 pub answered_cost : (m0 m1 m2 : Meter) (n other rows left count : ℕ) (h : Option Heard) (x : Heard) → h ≡ Some x → other ≡ n
-    → PaysAtMost m0 m1 (find_cost n + (take_cost count + heard_cost h)) → PaysAtMost m1 m2 (serve_cost rows left + settle_cost other)
+    → PaysAtMost m0 m1 (find_cost n + (take_cost count + heard_cost h)) → PaysAtMost m1 m2 (read_cost + serve_cost rows left + settle_cost other)
     → PaysAtMost m0 m2 (find_cost n + take_cost count + answer_cost n rows left)
 answered_cost m0 m1 m2 n other rows left count h x is same first second =
-    let taken : PaysAtMost m0 m1 (find_cost n + (take_cost count + read_cost)) = rw is at first in
+    let taken : PaysAtMost m0 m1 (find_cost n + (take_cost count + exchange_cost)) = rw is at first in
     record {
       steps = omega (arith, taken.steps, second.steps, same);
       rises = omega (arith, taken.rises, second.rises);
@@ -31,20 +31,28 @@ module _ (held : Held) (s : State) (h : StandsFor held s) where
   pub connections_held : length held.connections.slots ≡ connection_count s
   connections_held = sym (as_many held.connections.slots s.connections.all h.connections.all)
 
-  pub rows_held : length (rows_of held.books.registry) ≡ row_count s
-  rows_held = ap length h.ledger.registry.rows
+  pub rows_held : length (slots_of held.books.registry) ≡ row_count s
+  rows_held =
+      let live : length (rows_of held.books.registry) ≡ row_count s = ap length h.ledger.registry.rows in
+      let none : dead_count held.books.registry ≡ 0 = ap (λ (ns : List ℕ). length ns) h.ledger.none_kept in
+      omega (arith, live, none, h.ledger.registry.counted)
 
 -- a bound by what is held is one by what is plain
 pub by_count : (f : ℕ → ℕ) (held : Held) (s : State) (a b : Meter) → StandsFor held s → PaysAtMost a b (f (length held.connections.slots)) → PaysAtMost a b (f (connection_count s))
 by_count f held s a b h pays = subst (λ n. PaysAtMost a b (f n)) (connections_held held s h) pays
 
+pub by_both : (f : ℕ → ℕ → ℕ) (held : Held) (s : State) (a b : Meter) → StandsFor held s → PaysAtMost a b (f (length held.connections.slots) held.books.forwards.cap)
+    → PaysAtMost a b (f (connection_count s) s.setting.limits.forwards)
+by_both f held s a b h pays =
+    subst (λ n. PaysAtMost a b (f (connection_count s) n)) h.forwards (subst (λ n. PaysAtMost a b (f n held.books.forwards.cap)) (connections_held held s h) pays)
+
 pub by_rows : (f : ℕ → ℕ → ℕ) (old new : Held) (s t : State) (a b : Meter) → StandsFor old s → StandsFor new t
-    → PaysAtMost a b (f (length (rows_of old.books.registry)) (length (rows_of new.books.registry))) → PaysAtMost a b (f (row_count s) (row_count t))
+    → PaysAtMost a b (f (length (slots_of old.books.registry)) (length (slots_of new.books.registry))) → PaysAtMost a b (f (row_count s) (row_count t))
 by_rows f old new s t a b h k pays =
-    subst (λ n. PaysAtMost a b (f n (row_count t))) (rows_held old s h) (subst (λ n. PaysAtMost a b (f (length (rows_of old.books.registry)) n)) (rows_held new t k) pays)
+    subst (λ n. PaysAtMost a b (f n (row_count t))) (rows_held old s h) (subst (λ n. PaysAtMost a b (f (length (slots_of old.books.registry)) n)) (rows_held new t k) pays)
 
 pub by_all : (f : ℕ → ℕ → ℕ → ℕ) (old new : Held) (s t : State) (a b : Meter) → StandsFor old s → StandsFor new t
-    → PaysAtMost a b (f (length old.connections.slots) (length (rows_of old.books.registry)) (length (rows_of new.books.registry))) → PaysAtMost a b (f (connection_count s) (row_count s) (row_count t))
+    → PaysAtMost a b (f (length old.connections.slots) (length (slots_of old.books.registry)) (length (slots_of new.books.registry))) → PaysAtMost a b (f (connection_count s) (row_count s) (row_count t))
 by_all f old new s t a b h k pays =
     subst (λ n. PaysAtMost a b (f n (row_count s) (row_count t))) (connections_held old s h)
     (by_rows (f (length old.connections.slots)) old new s t a b h k pays)
@@ -77,7 +85,7 @@ module _ (old new : Held) (s : State) (h : StandsFor old s) (a b : Meter) (now i
   no_one (Some c) e taken g = absurd cc
 
   pub taken_cost_of : (taken : Taken) → result ≡ Ok taken → taken.count ≤ length piece
-      → PaysAtMost a b (find_cost (length old.connections.slots) + take_cost taken.count + answer_cost (length old.connections.slots) (length (rows_of old.books.registry)) (length (rows_of new.books.registry)))
+      → PaysAtMost a b (find_cost (length old.connections.slots) + take_cost taken.count + answer_cost (length old.connections.slots) (length (slots_of old.books.registry)) (length (slots_of new.books.registry)))
       → IsPaid (live_connection id s.connections.all)
   unfolding bytes
   taken_cost_of taken is within cost = by_there (live_connection id s.connections.all) refl
@@ -87,7 +95,7 @@ module _ (old new : Held) (s : State) (h : StandsFor old s) (a b : Meter) (now i
           at_most a b (find_cost (connection_count s) + take_cost taken.count + answer_cost (connection_count s) (row_count s) (row_count (bytes s now id piece).1)) _ (omega (arith, within))
           (by_all (λ n r l. find_cost n + take_cost taken.count + answer_cost n r l) old new s (bytes s now id piece).1 a b h (acts.stands s h) cost)
 
-      by_taking : (c : Connection) (t : Taking) → live_connection id s.connections.all ≡ Some c → taking c.phase piece ≡ t → PaysAtMost a b (find_cost (connection_count s) + (take_cost (length piece) + ended_cost s (bytes s now id piece).1 t))
+      by_taking : (c : Connection) (t : Taking) → live_connection id s.connections.all ≡ Some c → taking c.phase piece ≡ t → PaysAtMost a b (find_cost (connection_count s) + (take_cost (length piece) + record_cost s (bytes s now id piece).1 t))
       by_taking c TakesNone e t = cheaply (take_cost (length piece) + 0) (rw is (omega (arith, within))) (rw e (rw t refl))
       by_taking c (GoesOn fed) e t = cheaply (take_cost (length piece) + 0) (rw is (omega (arith, within))) (rw e (rw t refl))
       by_taking c (Ends n content) e t = all_cost

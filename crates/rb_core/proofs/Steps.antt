@@ -1,27 +1,41 @@
 -- A core that stands for a state before a call stands for the state after it.
 use Rattle.std.proofs.Common.{◌≡◌, ℕ, Bool, true, false, cond, List, [], ◌∷◌, Option, Some, None, Result, Ok, Err, length, eqb, refl, sym, ap, subst, ◌∙◌, max}
 use Rattle.std.specs.Prelude.{find, not, IfSome}
+use Rattle.std.specs.Option.{option_map_or}
 use Rattle.std.proofs.lemmas.Bool.{and_parts}
 use Rattle.rb_rpc.specs.declared.peer.Peer.{Peer}
 use Rattle.rb_rpc.specs.declared.peer.Caller.{Caller}
 use Rattle.rb_rpc.specs.declared.peer.Caller.TheVariants.{Tcp, Udp}
 use Rattle.rb_proto.specs.declared.context.Context.{Context}
 use Rattle.rb_proto.specs.declared.books.Books.{Books}
-use Rattle.rb_proto.specs.Ledger.{Ledger, StandsForLedger, ActsAs, SameFrame}
+use Rattle.rb_feed.specs.Feeds.{arguments_of}
+use Rattle.rb_rpc.specs.declared.call.Verdict.{Verdict}
+use Rattle.rb_forward.specs.declared.types.Ended.{Ended}
+use Rattle.rb_forward.specs.Forwards.{Unsent as UnsentCall, unsent, can_be_sent}
+use Rattle.rb_proto.specs.Ledger.{Ledger, StandsForLedger, ActsAs, Becomes, SameFrame}
+use Rattle.rb_proto.specs.Forwarding.{replied, fell_due, caller_dropped, call_sent}
 use Rattle.rb_core.specs.declared.message.Message.{Message}
 use Rattle.rb_core.specs.declared.slot.Heard.{Heard}
 use Rattle.rb_core.specs.declared.slot.Received.{Received}
 use Rattle.rb_core.specs.declared.types.CoreFault.{CoreFault}
 use Rattle.rb_core.specs.declared.types.CoreFault.TheVariants.{Gone}
-use Rattle.rb_core.specs.Calls.{Outcome, Outcome as said, outcome, message_of, is_no_call}
+use Rattle.rb_rpc.specs.Verdict.{verdict}
+use Rattle.rb_core.specs.Calls.{Outcome, outcome, message_with, message_of, is_no_call, reply_in}
+use Rattle.rb_core.specs.Reading.{kept_of}
 use Rattle.rb_core.specs.State.{State, Connection, Connections, at_moment}
 use Rattle.rb_core.specs.State.Phase.{Idle}
 use Rattle.rb_core.specs.Connections.{Taking, taking, reading, settled, is_lost, is_live, live_connection, change_first, changed_at, on_live, opening_of, closing_of, giving}
 use Rattle.rb_core.specs.Connections.Taking.{TakesNone, GoesOn, Ends}
-use Rattle.rb_core.specs.Slots.{Acts, Table, StandsForConnections, StaysTable, received, fed_with, feeding}
-use Rattle.rb_core.specs.Step.{context_in, with_ledger, with_reply, settled_in, serve, answering, when_taken, bytes_to, bytes, datagram, gave, open_connection, close_connection, moved}
+use Rattle.rb_core.specs.Slots.{Acts, Shows, Table, StandsForConnections, StaysTable, received, fed_with, feeding, arguments_after, arguments_heard, arguments_on}
+use Rattle.rb_core.specs.Step.{context_in, with_ledger, with_reply, settled_in, serve_message, serve, answering, when_taken, bytes_to, bytes, datagram, gave, open_connection, close_connection, moved, dropped_with, unsent_call, sent_call}
 use Rattle.rb_core.specs.Costs.{NoRecordEnds, has_ended}
-use Rattle.rb_core.specs.StandsFor.{Held, StandsFor}
+use Rattle.rb_core.specs.StandsFor.{Held, StandsFor, answering_heard}
+use Rattle.rb_core.specs.declared.types.Told.{Told}
+use Rattle.rb_core.specs.declared.types.Told.TheVariants.{TcpReady}
+use Rattle.rb_core.specs.declared.types.Expired.TheVariants.{Nothing}
+use Rattle.rb_core.specs.declared.types.Expired.TheVariants as Expires
+use Rattle.rb_core.specs.Ending.{told_at, told_over_udp, tell, tell_end, at_fresh_moment, expired_as}
+use Rattle.rb_core.proofs.MessageFronts.{kept_says}
 
 -- ---- the table alone
 
@@ -35,8 +49,11 @@ module _ (old : Held) (s : State) (h : StandsFor old s) where
     conns = stays.conns ∙ h.conns;
     connections = stands;
     limit = h.limit;
+    forwards = h.forwards;
+    first_xid = h.first_xid;
     ledger = h.ledger;
     reply = h.reply;
+    arguments = h.arguments;
   }
 
 -- A call on the connections that moves the clock: done, or refused.
@@ -106,59 +123,90 @@ module _ (old : Held) (now clock : ℕ) (is : clock ≡ max old.clock now) (tabl
   unfolding gave
   gave_refused id n f acts = refused_acts old now clock (λ s. on_live id (giving (max s.clock now) n)) table f (give_at id n (Err f) acts)
 
-pub closed_acts : (old : Held) (id : ℕ) (table : Table) (r : Result (Unit {0}) CoreFault) → StaysTable old.connections table
-    → Acts StandsForConnections (closing_of id) old.connections table r → Acts StandsFor (λ s. close_connection s id) old (record old { connections = table }) r
+pub closed_acts : (old : Held) (id : ℕ) (table : Table) (books : Books) (u : Unit {0}) → StaysTable old.connections table → SameFrame old.books books
+    → Acts StandsForConnections (closing_of id) old.connections table (Ok u) → Becomes (λ l. (caller_dropped id l).1) old.books books
+    → Acts StandsFor (λ s. close_connection s id) old (record old { connections = table; books = books }) (Ok u)
 unfolding close_connection
-closed_acts old id table r stays acts = record {
-  gives = λ s h. acts.gives s.connections h.connections;
-  stands = λ s h. record {
-    setting = h.setting;
-    clock = h.clock;
-    conns = stays.conns ∙ h.conns;
-    connections = acts.stands s.connections h.connections;
-    limit = h.limit;
-    ledger = h.ledger;
-    reply = h.reply;
-  };
+closed_acts old id table books u stays frame acts dropped = record {
+  gives = λ s h. by_result s (closing_of id s.connections) (acts.gives s.connections h.connections);
+  stands = λ s h. by_state s h (closing_of id s.connections) (acts.gives s.connections h.connections) (acts.stands s.connections h.connections);
 }
+  where
+    by_result : (s : State) (r : Result (Unit {0}) CoreFault × Connections) → Ok u ≡ r.0 → Ok u ≡ (dropped_with s id r).0
+    by_result s (Ok v, c) e = e
+    by_result s (Err f, c) e = absurd cc
+
+    by_state : (s : State) → StandsFor old s → (r : Result (Unit {0}) CoreFault × Connections) → Ok u ≡ r.0 → StandsForConnections table r.1
+        → StandsFor (record old { connections = table; books = books }) (dropped_with s id r).1
+    by_state s h (Err f, c) e z = absurd cc
+    by_state s h (Ok v, c) e z = record {
+      setting = h.setting;
+      clock = h.clock;
+      conns = stays.conns ∙ h.conns;
+      connections = z;
+      limit = frame.limit ∙ h.limit;
+      forwards = frame.cap ∙ h.forwards;
+      first_xid = frame.first_xid ∙ h.first_xid;
+      ledger = dropped s.ledger h.ledger;
+      reply = h.reply;
+      arguments = h.arguments;
+    }
+
+pub closed_refused : (old : Held) (id : ℕ) (table : Table) (f : CoreFault) → Acts StandsForConnections (closing_of id) old.connections table (Err f)
+    → Acts StandsFor (λ s. close_connection s id) old old (Err f)
+unfolding close_connection
+closed_refused old id table f acts = record {
+  gives = λ s h. by_result s (closing_of id s.connections) (acts.gives s.connections h.connections);
+  stands = λ s h. by_state s h (closing_of id s.connections) (acts.gives s.connections h.connections);
+}
+  where
+    by_result : (s : State) (r : Result (Unit {0}) CoreFault × Connections) → Err f ≡ r.0 → Err f ≡ (dropped_with s id r).0
+    by_result s (Ok v, c) e = absurd cc
+    by_result s (Err g, c) e = e
+
+    by_state : (s : State) → StandsFor old s → (r : Result (Unit {0}) CoreFault × Connections) → Err f ≡ r.0 → StandsFor old (dropped_with s id r).1
+    by_state s h (Ok v, c) e = absurd cc
+    by_state s h (Err g, c) e = h
 
 -- ---- a message
 
 -- What serving a message did, where it came from this caller.
-pub record Served (old : Held) (caller : Caller) (message : Message) (books : Books) (given : Outcome) : Type 0 where
+pub record Served (old : Held) (caller : Caller) (message : Message) (arguments : List ℕ) (books : Books) (given : Outcome) : Type 0 where
   pub context : Context
-  pub is : context ≡ record { listener = old.setting.listener; limit = old.setting.limits.rows; clock = old.clock; caller = caller }
-  pub acts : ActsAs (outcome context message) old.books books given
+  pub is : context ≡ record { listener = old.setting.listener; limit = old.setting.limits.rows; forwards = old.setting.limits.forwards; clock = old.clock; caller = caller }
+  pub acts : ActsAs (outcome context message arguments) old.books books given
   pub frame : SameFrame old.books books
 
-module _ (old : Held) (caller : Caller) (message : Message) (books : Books) (given : Outcome) (served : Served old caller message books given) (s : State) (h : StandsFor old s) where
+module _ (old : Held) (caller : Caller) (message : Message) (arguments : List ℕ) (books : Books) (given : Outcome) (served : Served old caller message arguments books given) (s : State) (h : StandsFor old s) where
   same_context : served.context ≡ context_in s caller
   same_context = served.is ∙ (rw (h.setting, h.clock) refl)
 
-  pub serve_gives : given ≡ (outcome (context_in s caller) message s.ledger).0
-  serve_gives = subst (λ (x : Context). given ≡ (outcome x message s.ledger).0) same_context (served.acts.gives s.ledger h.ledger)
+  pub serve_gives : given ≡ (outcome (context_in s caller) message arguments s.ledger).0
+  serve_gives = subst (λ (x : Context). given ≡ (outcome x message arguments s.ledger).0) same_context (served.acts.gives s.ledger h.ledger)
 
-  pub serve_stands : StandsForLedger books (outcome (context_in s caller) message s.ledger).1
-  serve_stands = subst (λ (x : Context). StandsForLedger books (outcome x message s.ledger).1) same_context (served.acts.stands s.ledger h.ledger)
+  pub serve_stands : StandsForLedger books (outcome (context_in s caller) message arguments s.ledger).1
+  serve_stands = subst (λ (x : Context). StandsForLedger books (outcome x message arguments s.ledger).1) same_context (served.acts.stands s.ledger h.ledger)
 
 -- the connection on which it came goes on
-pub answer_acts : (old : Held) (id : ℕ) (peer : Peer) (message : Message) (books : Books) (given : Outcome) (table : Table)
-    → Served old (Tcp id peer) message books given → StaysTable old.connections table
+pub answer_acts : (old : Held) (id : ℕ) (peer : Peer) (message : Message) (arguments : List ℕ) (books : Books) (given : Outcome) (table : Table)
+    → Served old (Tcp id peer) message arguments books given → StaysTable old.connections table
     → ((c : Connections) → StandsForConnections old.connections c → StandsForConnections table (changed_at id (settled old.clock given) c))
-    → Acts StandsFor (λ s. answering s id peer message) old (record old { connections = table; books = books }) (is_no_call given)
-unfolding answering serve
-answer_acts old id peer message books given table served stays settles = record {
-  gives = λ s h. ap is_no_call (serve_gives old (Tcp id peer) message books given served s h);
+    → Acts StandsFor (λ s. settled_in id (serve_message s (Tcp id peer) message arguments)) old (record old { connections = table; books = books }) (is_no_call given)
+answer_acts old id peer message arguments books given table served stays settles = record {
+  gives = λ s h. ap is_no_call (serve_gives old (Tcp id peer) message arguments books given served s h);
   stands = λ s h. record {
     setting = h.setting;
     clock = h.clock;
     conns = stays.conns ∙ h.conns;
     connections =
-        subst (λ (o : Outcome). StandsForConnections table (changed_at id (settled s.clock o) s.connections)) (serve_gives old (Tcp id peer) message books given served s h)
+        subst (λ (o : Outcome). StandsForConnections table (changed_at id (settled s.clock o) s.connections)) (serve_gives old (Tcp id peer) message arguments books given served s h)
         (subst (λ (n : ℕ). StandsForConnections table (changed_at id (settled n given) s.connections)) h.clock (settles s.connections h.connections));
     limit = served.frame.limit ∙ h.limit;
-    ledger = serve_stands old (Tcp id peer) message books given served s h;
+    forwards = served.frame.cap ∙ h.forwards;
+    first_xid = served.frame.first_xid ∙ h.first_xid;
+    ledger = serve_stands old (Tcp id peer) message arguments books given served s h;
     reply = h.reply;
+    arguments = h.arguments;
   };
 }
 
@@ -171,36 +219,19 @@ module _ (old : Held) (now clock : ℕ) (peer : Peer) (content : List ℕ) (book
     conns = h.conns;
     connections = h.connections;
     limit = h.limit;
+    forwards = h.forwards;
+    first_xid = h.first_xid;
     ledger = h.ledger;
     reply = h.reply;
+    arguments = h.arguments;
   }
 
   abbrev answered : State → Outcome × Ledger
-  answered s = outcome (context_in (at_moment now s) (Udp peer)) (message_of content) s.ledger
+  answered s = outcome (context_in (at_moment now s) (Udp peer)) (message_of content) (arguments_of content) s.ledger
 
-  same_reply : (a b : List ℕ) → said.Reply a ≡ said.Reply b → a ≡ b
-  same_reply a b e = cc
-
-  silent_state : SameFrame old.books books → reply ≡ [] → (s : State) → StandsFor old s → (o : Outcome × Ledger) → said.NoCall ≡ o.0 → StandsForLedger books o.1
-      → (said.NoCall ≡ (with_reply (with_ledger (at_moment now s) o)).0) × StandsFor (record old { clock = clock; books = books; reply = reply; tie = tie }) (with_reply (with_ledger (at_moment now s) o)).1
-  silent_state frame none s h (said.NoCall, l) e z = (
-    refl,
-    record {
-      setting = h.setting;
-      clock = is ∙ ap (λ (n : ℕ). max n now) h.clock;
-      conns = h.conns;
-      connections = h.connections;
-      limit = frame.limit ∙ h.limit;
-      ledger = z;
-      reply = none;
-    },
-  )
-  silent_state frame none s h (said.Reply bytes, l) e z = absurd cc
-
-  replied_state : SameFrame old.books books → (s : State) → StandsFor old s → (o : Outcome × Ledger) → said.Reply reply ≡ o.0 → StandsForLedger books o.1
-      → (said.Reply reply ≡ (with_reply (with_ledger (at_moment now s) o)).0) × StandsFor (record old { clock = clock; books = books; reply = reply; tie = tie }) (with_reply (with_ledger (at_moment now s) o)).1
-  replied_state frame s h (said.NoCall, l) e z = absurd cc
-  replied_state frame s h (said.Reply bytes, l) e z = (
+  told_state : (given : Outcome) → SameFrame old.books books → reply ≡ reply_in given → (s : State) → StandsFor old s → (o : Outcome × Ledger) → given ≡ o.0 → StandsForLedger books o.1
+      → (given ≡ (with_reply (with_ledger (at_moment now s) o)).0) × StandsFor (record old { clock = clock; books = books; reply = reply; tie = tie }) (with_reply (with_ledger (at_moment now s) o)).1
+  told_state given frame holds s h (told, l) e z = (
     e,
     record {
       setting = h.setting;
@@ -208,28 +239,22 @@ module _ (old : Held) (now clock : ℕ) (peer : Peer) (content : List ℕ) (book
       conns = h.conns;
       connections = h.connections;
       limit = frame.limit ∙ h.limit;
+      forwards = frame.cap ∙ h.forwards;
+      first_xid = frame.first_xid ∙ h.first_xid;
       ledger = z;
-      reply = same_reply reply bytes e;
+      reply = holds ∙ ap reply_in e;
+      arguments = h.arguments;
     },
   )
 
-  pub silent_acts : Served (record old { clock = clock }) (Udp peer) (message_of content) books said.NoCall → reply ≡ []
-      → Acts StandsFor (λ s. datagram s now peer content) old (record old { clock = clock; books = books; reply = reply; tie = tie }) said.NoCall
+  pub datagram_acts : (given : Outcome) → Served (record old { clock = clock }) (Udp peer) (message_of content) (arguments_of content) books given → reply ≡ reply_in given
+      → Acts StandsFor (λ s. datagram s now peer content) old (record old { clock = clock; books = books; reply = reply; tie = tie }) given
   unfolding datagram serve
-  silent_acts served none = record { gives = λ s h. (goes s h).0; stands = λ s h. (goes s h).1 }
+  datagram_acts given served holds = record { gives = λ s h. (goes s h).0; stands = λ s h. (goes s h).1 }
     where
-      goes : (s : State) → StandsFor old s → (said.NoCall ≡ (with_reply (with_ledger (at_moment now s) (answered s))).0) × StandsFor (record old { clock = clock; books = books; reply = reply; tie = tie }) (with_reply (with_ledger (at_moment now s) (answered s))).1
-      goes s h = silent_state served.frame none s h (answered s) (serve_gives (record old { clock = clock }) (Udp peer) (message_of content) books said.NoCall served (at_moment now s) (moment s h))
-          (serve_stands (record old { clock = clock }) (Udp peer) (message_of content) books said.NoCall served (at_moment now s) (moment s h))
-
-  pub replied_acts : Served (record old { clock = clock }) (Udp peer) (message_of content) books (said.Reply reply)
-      → Acts StandsFor (λ s. datagram s now peer content) old (record old { clock = clock; books = books; reply = reply; tie = tie }) (said.Reply reply)
-  unfolding datagram serve
-  replied_acts served = record { gives = λ s h. (goes s h).0; stands = λ s h. (goes s h).1 }
-    where
-      goes : (s : State) → StandsFor old s → (said.Reply reply ≡ (with_reply (with_ledger (at_moment now s) (answered s))).0) × StandsFor (record old { clock = clock; books = books; reply = reply; tie = tie }) (with_reply (with_ledger (at_moment now s) (answered s))).1
-      goes s h = replied_state served.frame s h (answered s) (serve_gives (record old { clock = clock }) (Udp peer) (message_of content) books (said.Reply reply) served (at_moment now s) (moment s h))
-          (serve_stands (record old { clock = clock }) (Udp peer) (message_of content) books (said.Reply reply) served (at_moment now s) (moment s h))
+      goes : (s : State) → StandsFor old s → (given ≡ (with_reply (with_ledger (at_moment now s) (answered s))).0) × StandsFor (record old { clock = clock; books = books; reply = reply; tie = tie }) (with_reply (with_ledger (at_moment now s) (answered s))).1
+      goes s h = told_state given served.frame holds s h (answered s) (serve_gives (record old { clock = clock }) (Udp peer) (message_of content) (arguments_of content) books given served (at_moment now s) (moment s h))
+          (serve_stands (record old { clock = clock }) (Udp peer) (message_of content) (arguments_of content) books given served (at_moment now s) (moment s h))
 
 -- ---- a piece of bytes
 
@@ -279,16 +304,27 @@ unfolding settled
 settled_twice clock id now given all = change_twice (is_live id) (idle clock) (settled now given) all (idle_is_live clock id)
 
 -- A message is answered alike where the connection was Idle meanwhile.
-answering_alike : (clock id : ℕ) (peer : Peer) (message : Message) (s : State)
-    → answering (record s { connections = changed_at id (idle clock) s.connections }) id peer message ≡ answering s id peer message
-unfolding answering serve
-answering_alike clock id peer message s = by_outcome (outcome (context_in s (Tcp id peer)) message s.ledger)
+answering_alike : (clock id : ℕ) (peer : Peer) (message : Message) (arguments : List ℕ) (s : State)
+    → settled_in id (serve_message (record s { connections = changed_at id (idle clock) s.connections }) (Tcp id peer) message arguments) ≡ settled_in id (serve_message s (Tcp id peer) message arguments)
+answering_alike clock id peer message arguments s = by_outcome (outcome (context_in s (Tcp id peer)) message arguments s.ledger)
   where
     by_outcome : (o : Outcome × Ledger) → settled_in id (with_ledger (record s { connections = changed_at id (idle clock) s.connections }) o) ≡ settled_in id (with_ledger s o)
     by_outcome o = ap (λ (xs : List Connection). (is_no_call o.0, record s { ledger = o.1; connections = record s.connections { all = xs } })) (twice o.0)
       where
         twice : (given : Outcome) → change_first (is_live id) (settled s.clock given) (change_first (is_live id) (idle clock) s.connections.all) ≡ change_first (is_live id) (settled s.clock given) s.connections.all
         twice given = settled_twice clock id s.clock given s.connections.all
+
+-- So is a record, by its verdict and what is kept of its arguments.
+heard_alike : (clock id : ℕ) (heard : Heard) (arguments content : List ℕ) (s : State) → heard.verdict ≡ verdict content → arguments ≡ kept_of content
+    → answering_heard id heard arguments (record s { connections = changed_at id (idle clock) s.connections }) ≡ answering s id heard.peer content
+unfolding answering serve
+heard_alike clock id heard arguments content s says kept =
+    let caller : Caller = Tcp id heard.peer in
+    answering_alike clock id heard.peer (message_with heard.verdict arguments) arguments s
+    ∙ ap (λ (v : Verdict). settled_in id (serve_message s caller (message_with v arguments) arguments)) says
+    ∙ ap (λ (xs : List ℕ). settled_in id (serve_message s caller (message_with (verdict content) xs) xs)) kept
+    ∙ ap (λ (m : Message). settled_in id (serve_message s caller m (kept_of content))) (kept_says content).says
+    ∙ ap (λ (o : Outcome × Ledger). settled_in id (with_ledger s o)) ((kept_says content).answered (context_in s caller) s.ledger)
 
 -- the live connection that took a piece, and what came of it
 pub record Fed (old : Held) (clock id : ℕ) (piece : List ℕ) (table : Table) (got : Received) (s : State) : Type 0 where
@@ -297,7 +333,8 @@ pub record Fed (old : Held) (clock id : ℕ) (piece : List ℕ) (table : Table) 
   pub gives : got ≡ received piece connection (taking connection.phase piece)
   pub stands : StandsForConnections table (changed_at id (λ x. fed_with clock x (taking x.phase piece)) s.connections)
 
-module _ (old : Held) (now clock id : ℕ) (piece : List ℕ) (is : clock ≡ max old.clock now) (table : Table) (stays : StaysTable old.connections table) where
+module _ (old : Held) (now clock id : ℕ) (piece : List ℕ) (is : clock ≡ max old.clock now) (table : Table) (stays : StaysTable old.connections table)
+    (arguments : List ℕ) (holds : Shows StandsForConnections (arguments_on id old.arguments piece) old.connections arguments) where
   abbrev ok : Received → Result Received CoreFault
   ok got = Ok got
 
@@ -335,40 +372,61 @@ module _ (old : Held) (now clock id : ℕ) (piece : List ℕ) (is : clock ≡ ma
       ap (λ (xs : List Connection). record s.connections { all = xs })
       (change_alike (is_live id) (λ x. fed_with clock x (taking x.phase piece)) change s.connections.all c there (ap (fed_with clock c) takes ∙ same))
 
-  table_with : (s : State) → StandsFor old s → (connections : Connections) → StandsForConnections table connections
-      → StandsFor (record old { clock = clock; connections = table }) (record (at_moment now s) { connections = connections })
-  table_with s h connections z = with_table old s h now clock table connections is stays z
+  -- the arguments that are held after it
+  held_after : (s : State) (c : Connection) (t : Taking) → StandsFor old s → live_connection id s.connections.all ≡ Some c → taking c.phase piece ≡ t → arguments ≡ arguments_after old.arguments t
+  held_after s c t h there takes =
+      holds s.connections h.connections ∙ ap (λ (o : Option Connection). option_map_or (arguments_heard old.arguments piece) o old.arguments) there ∙ ap (arguments_after old.arguments) takes
+
+  abbrev held_with : List ℕ → Held
+  held_with kept = record old { clock = clock; connections = table; arguments = kept }
+
+  table_with : (s : State) → StandsFor old s → (kept : List ℕ) → kept ≡ [] → (connections : Connections) → StandsForConnections table connections
+      → StandsFor (held_with kept) (record (at_moment now s) { connections = connections })
+  table_with s h kept none connections z = record {
+    setting = h.setting;
+    clock = is ∙ ap (λ (n : ℕ). max n now) h.clock;
+    conns = stays.conns ∙ h.conns;
+    connections = z;
+    limit = h.limit;
+    forwards = h.forwards;
+    first_xid = h.first_xid;
+    ledger = h.ledger;
+    reply = h.reply;
+    arguments = none;
+  }
 
   -- what is given where no record ended
   pub record Quiet (s : State) (count : ℕ) : Type 0 where
     pub gives : Ok (record { count = count; closed = false }) ≡ (bytes s now id piece).0
-    pub stands : StandsFor (record old { clock = clock; connections = table }) (bytes s now id piece).1
+    pub stands : StandsFor (held_with arguments) (bytes s now id piece).1
 
   pub quiet_acts : (count : ℕ) → Acts StandsForConnections (on_live id (feeding clock piece)) old.connections table (Ok (quiet count))
-      → Acts StandsFor (λ s. bytes s now id piece) old (record old { clock = clock; connections = table }) (Ok (record { count = count; closed = false }))
+      → Acts StandsFor (λ s. bytes s now id piece) old (held_with arguments) (Ok (record { count = count; closed = false }))
   quiet_acts count acts = record { gives = λ s h. (goes s h).gives; stands = λ s h. (goes s h).stands }
     where
       by_taking : (s : State) → StandsFor old s → (f : Fed old clock id piece table (quiet count) s) (t : Taking) → taking f.connection.phase piece ≡ t → Quiet s count
       by_taking s h f TakesNone t =
           let gives : quiet count ≡ quiet 0 = rw t at f.gives in
           let n : count ≡ 0 = ap (λ (r : Received). r.count) gives in
+          let none : arguments ≡ [] = held_after s f.connection TakesNone h f.there t ∙ h.arguments in
           let same = fed_to s f.connection TakesNone (λ x. x) f.there t refl ∙ ap (λ (xs : List Connection). record s.connections { all = xs }) (change_nothing (is_live id) s.connections.all) in
-          record { gives = rw (bytes_by s f.connection TakesNone f.there t) (rw n refl); stands = rw (bytes_by s f.connection TakesNone f.there t) (table_with s h s.connections (subst (StandsForConnections table) same f.stands)) }
+          record { gives = rw (bytes_by s f.connection TakesNone f.there t) (rw n refl); stands = rw (bytes_by s f.connection TakesNone f.there t) (table_with s h arguments none s.connections (subst (StandsForConnections table) same f.stands)) }
       by_taking s h f (GoesOn fed) t =
           let gives : quiet count ≡ quiet (length piece) = rw t at f.gives in
           let n : count ≡ length piece = ap (λ (r : Received). r.count) gives in
+          let none : arguments ≡ [] = held_after s f.connection (GoesOn fed) h f.there t ∙ h.arguments in
           let same = fed_to s f.connection (GoesOn fed) (reading (max s.clock now) fed) f.there t (ap (λ (k : ℕ). reading k fed f.connection) (is ∙ ap (λ (k : ℕ). max k now) h.clock)) in
-          record { gives = rw (bytes_by s f.connection (GoesOn fed) f.there t) (rw n refl); stands = rw (bytes_by s f.connection (GoesOn fed) f.there t) (table_with s h (changed_at id (reading (max s.clock now) fed) s.connections) (subst (StandsForConnections table) same f.stands)) }
+          record { gives = rw (bytes_by s f.connection (GoesOn fed) f.there t) (rw n refl); stands = rw (bytes_by s f.connection (GoesOn fed) f.there t) (table_with s h arguments none (changed_at id (reading (max s.clock now) fed) s.connections) (subst (StandsForConnections table) same f.stands)) }
       by_taking s h f (Ends n content) t =
-          let gives : quiet count ≡ heard n (record { peer = f.connection.peer; message = message_of content }) = rw t at f.gives in
-          absurd (nobody (record { peer = f.connection.peer; message = message_of content }) (sym (ap (λ (r : Received). r.heard) gives)))
+          let gives : quiet count ≡ heard n (record { peer = f.connection.peer; verdict = verdict content }) = rw t at f.gives in
+          absurd (nobody (record { peer = f.connection.peer; verdict = verdict content }) (sym (ap (λ (r : Received). r.heard) gives)))
 
       goes : (s : State) → StandsFor old s → Quiet s count
       goes s h = let f = fed_by (quiet count) acts s h in by_taking s h f (taking f.connection.phase piece) refl
 
   -- what is given where one ended, and what it said is answered
   pub heard_acts : (count : ℕ) (said : Heard) (new : Held) (closed : Bool) → Acts StandsForConnections (on_live id (feeding clock piece)) old.connections table (Ok (heard count said))
-      → Acts StandsFor (λ s. answering s id said.peer said.message) (record old { clock = clock; connections = table }) new closed
+      → Acts StandsFor (answering_heard id said arguments) (held_with []) new closed
       → Acts StandsFor (λ s. bytes s now id piece) old new (Ok (record { count = count; closed = closed }))
   heard_acts count said new closed acts answers = record { gives = λ s h. (goes s h).0; stands = λ s h. (goes s h).1 }
     where
@@ -377,17 +435,16 @@ module _ (old : Held) (now clock id : ℕ) (piece : List ℕ) (is : clock ≡ ma
       by_taking s h f TakesNone t = let gives : heard count said ≡ quiet 0 = rw t at f.gives in absurd (nobody said (ap (λ (r : Received). r.heard) gives))
       by_taking s h f (GoesOn fed) t = let gives : heard count said ≡ quiet (length piece) = rw t at f.gives in absurd (nobody said (ap (λ (r : Received). r.heard) gives))
       by_taking s h f (Ends n content) t =
-          let gives : heard count said ≡ heard n (record { peer = f.connection.peer; message = message_of content }) = rw t at f.gives in
+          let gives : heard count said ≡ heard n (record { peer = f.connection.peer; verdict = verdict content }) = rw t at f.gives in
           let k : count ≡ n = ap (λ (r : Received). r.count) gives in
-          let who : said ≡ record { peer = f.connection.peer; message = message_of content } = some_is {X = Heard} (λ x. true) _ _ (ap (λ (r : Received). r.heard) gives) in
+          let who : said ≡ record { peer = f.connection.peer; verdict = verdict content } = some_is {X = Heard} (λ x. true) _ _ (ap (λ (r : Received). r.heard) gives) in
           let same = fed_to s f.connection (Ends n content) (idle clock) f.there t refl in
-          let z = table_with s h (changed_at id (idle clock) s.connections) (subst (StandsForConnections table) same f.stands) in
-          let alike = answering_alike clock id said.peer said.message (at_moment now s) in
-          let one : closed ≡ (answering (at_moment now s) id said.peer said.message).0 = answers.gives _ z ∙ ap (λ r. r.0) alike in
-          let two : StandsFor new (answering (at_moment now s) id said.peer said.message).1 = subst (λ (r : Bool × State). StandsFor new r.1) alike (answers.stands _ z) in
+          let z = table_with s h [] refl (changed_at id (idle clock) s.connections) (subst (StandsForConnections table) same f.stands) in
+          let alike = heard_alike clock id said arguments content (at_moment now s) (ap (λ (x : Heard). x.verdict) who) (held_after s f.connection (Ends n content) h f.there t) in
+          let one : closed ≡ (answering (at_moment now s) id said.peer content).0 = answers.gives _ z ∙ ap (λ r. r.0) alike in
+          let two : StandsFor new (answering (at_moment now s) id said.peer content).1 = subst (λ (r : Bool × State). StandsFor new r.1) alike (answers.stands _ z) in
           let from = ap (λ (x : Heard). x.peer) who in
-          let says = ap (λ (x : Heard). x.message) who in
-          (rw (bytes_by s f.connection (Ends n content) f.there t) (rw (k, ← from, ← says, one) refl), rw (bytes_by s f.connection (Ends n content) f.there t) (rw (← from, ← says) two))
+          (rw (bytes_by s f.connection (Ends n content) f.there t) (rw (k, ← from, one) refl), rw (bytes_by s f.connection (Ends n content) f.there t) (rw (← from) two))
 
       goes : (s : State) → StandsFor old s → (Ok (record { count = count; closed = closed }) ≡ (bytes s now id piece).0) × StandsFor new (bytes s now id piece).1
       goes s h = let f = fed_by (heard count said) acts s h in by_taking s h f (taking f.connection.phase piece) refl
@@ -447,3 +504,146 @@ nothing_heard clock id count piece said old table acts s h none = by_there (live
       where
         same : (a b : Received) → ok_received a ≡ ok_received b → a ≡ b
         same a b e = cc
+
+-- ---- forwarded calls
+
+pub unsent_shown : (held : Held) (given : Option UnsentCall) → ((l : Ledger) → StandsForLedger held.books l → given ≡ unsent held.books.forwards.first_xid l.forwards) → Shows StandsFor unsent_call held given
+unfolding unsent_call
+unsent_shown held given shows s h = shows s.ledger h.ledger ∙ ap (λ (n : ℕ). unsent n s.ledger.forwards) h.first_xid
+
+module _ (old : Held) (number : ℕ) (books : Books) where
+  pub sent_acts : (u : Unit {0}) → SameFrame old.books books → ((l : Ledger) → StandsForLedger old.books l → can_be_sent number l.forwards ≡ true) → Becomes (call_sent number) old.books books
+      → Acts StandsFor (λ s. sent_call s number) old (record old { books = books }) (Ok u)
+  unfolding sent_call
+  sent_acts u frame can becomes = record {
+    gives = λ s h. rw (can s.ledger h.ledger) refl;
+    stands = λ s h. rw (can s.ledger h.ledger) (record {
+      setting = h.setting;
+      clock = h.clock;
+      conns = h.conns;
+      connections = h.connections;
+      limit = frame.limit ∙ h.limit;
+      forwards = frame.cap ∙ h.forwards;
+      first_xid = frame.first_xid ∙ h.first_xid;
+      ledger = becomes s.ledger h.ledger;
+      reply = h.reply;
+      arguments = h.arguments;
+    });
+  }
+
+  pub sent_refused : ((l : Ledger) → StandsForLedger old.books l → can_be_sent number l.forwards ≡ false) → Acts StandsFor (λ s. sent_call s number) old old (Err Gone)
+  unfolding sent_call
+  sent_refused cannot = record {
+    gives = λ s h. rw (cannot s.ledger h.ledger) refl;
+    stands = λ s h. rw (cannot s.ledger h.ledger) h;
+  }
+
+-- the caller is told
+pub tcp_told : (old : Held) (id : ℕ) (peer : Peer) (said : Outcome) (table : Table) → StaysTable old.connections table
+    → ((c : Connections) → StandsForConnections old.connections c → StandsForConnections table (changed_at id (settled old.clock said) c))
+    → Acts StandsFor (tell (Tcp id peer) said) old (record old { connections = table }) (TcpReady id)
+tcp_told old id peer said table stays settles = record {
+  gives = λ s h. refl;
+  stands = λ s h. record {
+    setting = h.setting;
+    clock = h.clock;
+    conns = stays.conns ∙ h.conns;
+    connections = subst (λ (n : ℕ). StandsForConnections table (changed_at id (settled n said) s.connections)) h.clock (settles s.connections h.connections);
+    limit = h.limit;
+    forwards = h.forwards;
+    first_xid = h.first_xid;
+    ledger = h.ledger;
+    reply = h.reply;
+    arguments = h.arguments;
+  };
+}
+
+pub udp_told : (old : Held) (peer : Peer) (said : Outcome) (reply : List ℕ) (tie : ℕ) (told : Told) → reply ≡ reply_in said → told ≡ told_over_udp peer said
+    → Acts StandsFor (tell (Udp peer) said) old (record old { reply = reply; tie = tie }) told
+udp_told old peer said reply tie told holds is = record {
+  gives = λ s h. is;
+  stands = λ s h. record {
+    setting = h.setting;
+    clock = h.clock;
+    conns = h.conns;
+    connections = h.connections;
+    limit = h.limit;
+    forwards = h.forwards;
+    first_xid = h.first_xid;
+    ledger = h.ledger;
+    reply = holds;
+    arguments = h.arguments;
+  };
+}
+
+-- an entry ends, or none does
+module _ (old : Held) (now clock : ℕ) (is : clock ≡ max old.clock now) (message : List ℕ) (books : Books) (tie : ℕ) (act : Ledger → Option Ended × Ledger) (plain : State → Ledger → Option Ended × Ledger)
+    (alike : (s : State) → StandsFor old s → act ≡ plain s) (frame : SameFrame old.books books) where
+  abbrev pub ended_held : Held
+  ended_held = record old { clock = clock; books = books; reply = []; tie = tie }
+
+  abbrev ends : State → Option Told × State
+  ends s = tell_end message (at_fresh_moment now s) (plain s s.ledger)
+
+  left : (s : State) → StandsFor old s → (l : Ledger) → StandsForLedger books l → StandsFor ended_held (record (at_fresh_moment now s) { ledger = l })
+  left s h l z = record {
+    setting = h.setting;
+    clock = is ∙ ap (λ (n : ℕ). max n now) h.clock;
+    conns = h.conns;
+    connections = h.connections;
+    limit = frame.limit ∙ h.limit;
+    forwards = frame.cap ∙ h.forwards;
+    first_xid = frame.first_xid ∙ h.first_xid;
+    ledger = z;
+    reply = refl;
+    arguments = h.arguments;
+  }
+
+  given_by : (o : Option Ended) → ActsAs act old.books books o → (s : State) → StandsFor old s → (o ≡ (plain s s.ledger).0) × StandsForLedger books (plain s s.ledger).1
+  given_by o acts s h = (
+    acts.gives s.ledger h.ledger ∙ ap (λ (f : Ledger → Option Ended × Ledger). (f s.ledger).0) (alike s h),
+    subst (λ (f : Ledger → Option Ended × Ledger). StandsForLedger books (f s.ledger).1) (alike s h) (acts.stands s.ledger h.ledger),
+  )
+
+  pub none_ended : ActsAs act old.books books None → Acts StandsFor ends old ended_held None
+  none_ended acts = record { gives = λ s h. (goes s h).0; stands = λ s h. (goes s h).1 }
+    where
+      by_end : (s : State) → StandsFor old s → (r : Option Ended × Ledger) → None ≡ r.0 → StandsForLedger books r.1
+          → (None ≡ (tell_end message (at_fresh_moment now s) r).0) × StandsFor ended_held (tell_end message (at_fresh_moment now s) r).1
+      by_end s h (None, l) e z = (refl, left s h l z)
+      by_end s h (Some ended, l) e z = absurd cc
+
+      goes : (s : State) → StandsFor old s → (None ≡ (ends s).0) × StandsFor ended_held (ends s).1
+      goes s h = let g = given_by None acts s h in by_end s h (plain s s.ledger) g.0 g.1
+
+  pub one_ended : (ended : Ended) (told : Told) (new : Held) → ActsAs act old.books books (Some ended) → Acts StandsFor (tell ended.forward.caller (told_at message ended)) ended_held new told → Acts StandsFor ends old new (Some told)
+  one_ended ended told new acts tells = record { gives = λ s h. (goes s h).0; stands = λ s h. (goes s h).1 }
+    where
+      by_end : (s : State) → StandsFor old s → (r : Option Ended × Ledger) → Some ended ≡ r.0 → StandsForLedger books r.1
+          → (Some told ≡ (tell_end message (at_fresh_moment now s) r).0) × StandsFor new (tell_end message (at_fresh_moment now s) r).1
+      by_end s h (None, l) e z = absurd cc
+      by_end s h (Some other, l) e z =
+          let same : ended ≡ other = cc in
+          let t : State = record (at_fresh_moment now s) { ledger = l } in
+          let k = left s h l z in (
+            ap Some (tells.gives t k ∙ ap (λ (x : Ended). (tell x.forward.caller (told_at message x) t).0) same),
+            subst (λ (x : Ended). StandsFor new (tell x.forward.caller (told_at message x) t).1) same (tells.stands t k),
+          )
+
+      goes : (s : State) → StandsFor old s → (Some told ≡ (ends s).0) × StandsFor new (ends s).1
+      goes s h = let g = given_by (Some ended) acts s h in by_end s h (plain s s.ledger) g.0 g.1
+
+-- what a datagram of a target ends at a moment, or that moment
+pub replied_alike : (old : Held) (now clock : ℕ) (from : Peer) (message : List ℕ) → clock ≡ max old.clock now → (s : State) → StandsFor old s
+    → replied old.books.forwards.first_xid clock from message ≡ replied s.setting.first_xid (max s.clock now) from message
+replied_alike old now clock from message is s h = rw (← h.first_xid, ← h.clock, is) refl
+
+pub due_alike : (old : Held) (now clock : ℕ) → clock ≡ max old.clock now → (s : State) → StandsFor old s → fell_due clock ≡ fell_due (max s.clock now)
+due_alike old now clock is s h = rw (← h.clock, is) refl
+
+pub one_expired : (old new : Held) (act : State → Option Told × State) (told : Told) → Acts StandsFor act old new (Some told) → Acts StandsFor (λ s. expired_as (act s)) old new (Expires.Ended told)
+one_expired old new act told acts = record { gives = λ s h. (goes (act s) (acts.gives s h) (acts.stands s h)).0; stands = λ s h. (goes (act s) (acts.gives s h) (acts.stands s h)).1 }
+  where
+    goes : (r : Option Told × State) → Some told ≡ r.0 → StandsFor new r.1 → (Expires.Ended told ≡ (expired_as r).0) × StandsFor new (expired_as r).1
+    goes (None, t) e z = absurd cc
+    goes (Some other, t) e z = (ap Expires.Ended cc, z)

@@ -3,7 +3,7 @@ use Rattle.std.proofs.Common.{◌≡◌, ◌<◌, ◌≤◌, ◌↔◌, ℕ, ◌
 use Rattle.std.proofs.lemmas.List.{take-append-drop, drop-append-le, drop-drop, length-take, length-drop, nil_from_length}
 use Rattle.std.proofs.lemmas.Bool.{ltb-true, ltb-false, eqb-true}
 use Rattle.rb_core.specs.State.{State, Phase, Connection, Owed}
-use Rattle.rb_core.specs.State.Phase.{Idle, Reading, Owing, Lost}
+use Rattle.rb_core.specs.State.Phase.{Idle, Reading, Owing, Awaiting, Lost}
 use Rattle.rb_core.specs.Connections.{live_connection, on_found, giving, pending_in, phase_when_given, when_given}
 use Rattle.rb_core.specs.Giving.{longest_fragment, owed, pending_of}
 use Rattle.rb_core.specs.Step.{moved, pending, pending_on, gave}
@@ -27,12 +27,14 @@ abbrev pub behind : Phase → List ℕ
 behind (Owing o) = drop (fragment_end o) o.marked
 behind Idle = []
 behind (Reading fed) = []
+behind Awaiting = []
 behind Lost = []
 
 pub front-of : (p : Phase) → IsSoundPhase p → owed_in p ≡ pending_in p ++ behind p
 unfolding owed pending_of
 front-of Idle sound = refl
 front-of (Reading fed) sound = refl
+front-of Awaiting sound = refl
 front-of Lost sound = refl
 front-of (Owing o) sound =
     let k : ℕ = fragment_end o in
@@ -44,6 +46,7 @@ some-pending : (p : Phase) → IsSoundPhase p → is_owing p ≡ true → 0 < le
 unfolding pending_of
 some-pending Idle sound is = absurd cc
 some-pending (Reading fed) sound is = absurd cc
+some-pending Awaiting sound is = absurd cc
 some-pending Lost sound is = absurd cc
 some-pending (Owing o) sound is =
     let k : ℕ = fragment_end o in
@@ -63,6 +66,7 @@ still-owing o more = (λ idle. absurd cc, λ none. absurd (omega (arith, more, i
 nothing-given : (p : Phase) → IsSoundPhase p → IsGiven 0 p p
 nothing-given Idle sound = record { left = refl; ended = λ is. absurd cc; kept = λ is. refl }
 nothing-given (Reading fed) sound = record { left = refl; ended = λ is. absurd cc; kept = λ is. refl }
+nothing-given Awaiting sound = record { left = refl; ended = λ is. absurd cc; kept = λ is. refl }
 nothing-given Lost sound = record { left = refl; ended = λ is. absurd cc; kept = λ is. refl }
 nothing-given (Owing o) sound = record { left = refl; ended = λ is. still-owing o sound; kept = λ is. absurd cc }
 
@@ -73,6 +77,7 @@ some-given : (n : ℕ) (p : Phase) → IsGiven n p (phase_when_given n p)
 unfolding owed
 some-given n Idle = record { left = nil-left n; ended = λ is. absurd cc; kept = λ is. refl }
 some-given n (Reading fed) = record { left = nil-left n; ended = λ is. absurd cc; kept = λ is. refl }
+some-given n Awaiting = record { left = nil-left n; ended = λ is. absurd cc; kept = λ is. refl }
 some-given n Lost = record { left = nil-left n; ended = λ is. absurd cc; kept = λ is. refl }
 some-given n (Owing o) = by_test (nat_lt (o.given + n) (length o.marked)) refl
   where

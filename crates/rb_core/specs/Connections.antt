@@ -7,9 +7,9 @@ use Rattle.rb_rpc.specs.Records.{first_record, data_of}
 use Rattle.rb_core.specs.declared.types.CoreFault.{CoreFault}
 use Rattle.rb_core.specs.declared.types.CoreFault.TheVariants.{Full, Spent, Gone}
 use Rattle.rb_core.specs.Calls.{Outcome}
-use Rattle.rb_core.specs.Calls.Outcome.{NoCall, Reply}
-use Rattle.rb_core.specs.State.{Phase, Connection, Connections, greatest_number}
-use Rattle.rb_core.specs.State.Phase.{Idle, Reading, Owing, Lost}
+use Rattle.rb_core.specs.Calls.Outcome.{NoCall, Reply, Forwarded, Silent}
+use Rattle.rb_core.specs.State.{State, Phase, Connection, Connections, greatest_number}
+use Rattle.rb_core.specs.State.Phase.{Idle, Reading, Owing, Awaiting, Lost}
 use Rattle.rb_core.specs.Giving.{pending_of, owed_of}
 
 -- ---- bytes that arrive on one (RFC 5531 section 11)
@@ -26,6 +26,7 @@ abbrev pub fed_in : Phase → Option (List ℕ)
 fed_in Idle = Some []
 fed_in (Reading fed) = Some fed
 fed_in (Owing owed) = None
+fed_in Awaiting = None
 fed_in Lost = None
 
 abbrev pub taking_up_to : List ℕ → List ℕ → Option ℕ → Taking
@@ -50,6 +51,7 @@ abbrev pub mark_when_fed : ℕ → ℕ → Phase → ℕ
 mark_when_fed clock mark Idle = clock
 mark_when_fed clock mark (Reading fed) = mark
 mark_when_fed clock mark (Owing owed) = mark
+mark_when_fed clock mark Awaiting = mark
 mark_when_fed clock mark Lost = mark
 
 -- no record ended yet
@@ -59,8 +61,10 @@ reading clock fed c = record c { phase = Reading fed; mark = mark_when_fed clock
 abbrev pub phase_after : Outcome → Phase
 phase_after NoCall = Lost
 phase_after (Reply bytes) = Owing (owed_of bytes 0)
+phase_after Forwarded = Awaiting
+phase_after Silent = Idle
 
--- once the record that ended is answered
+-- once the record that ended is answered, or the call that was forwarded
 unfoldable pub settled : ℕ → Outcome → Connection → Connection
 settled clock given c = record c { phase = phase_after given; mark = clock }
 
@@ -70,6 +74,7 @@ abbrev pub pending_in : Phase → List ℕ
 pending_in (Owing o) = pending_of o
 pending_in Idle = []
 pending_in (Reading fed) = []
+pending_in Awaiting = []
 pending_in Lost = []
 
 -- with its last byte given, the connection is Idle again
@@ -78,6 +83,7 @@ phase_when_given n (Owing o) =
     if nat_lt (o.given + n) (length o.marked) then Owing (record o { given = o.given + n }) else Idle
 phase_when_given n Idle = Idle
 phase_when_given n (Reading fed) = Reading fed
+phase_when_given n Awaiting = Awaiting
 phase_when_given n Lost = Lost
 
 -- so many of the pending bytes were given; none leaves it as it was
@@ -95,6 +101,15 @@ is_lost Lost = true
 is_lost Idle = false
 is_lost (Reading fed) = false
 is_lost (Owing owed) = false
+is_lost Awaiting = false
+
+-- it waits for the end of a call that was forwarded for it
+abbrev pub is_awaiting : Phase → Bool
+is_awaiting Awaiting = true
+is_awaiting Idle = false
+is_awaiting (Reading fed) = false
+is_awaiting (Owing owed) = false
+is_awaiting Lost = false
 
 abbrev pub has_number : ℕ → Connection → Bool
 has_number id c = c.number == id
@@ -114,6 +129,9 @@ change_first test change (x ∷ xs) = if test x then change x ∷ xs else x ∷ 
 -- the connections, with the live one of the number changed
 abbrev pub changed_at : ℕ → (Connection → Connection) → Connections → Connections
 changed_at id change c = record c { all = change_first (is_live id) change c.all }
+
+abbrev pub on_connection : ℕ → (Connection → Connection) → State → State
+on_connection id change s = record s { connections = changed_at id change s.connections }
 
 -- Something is done with the live connection of the number. It is refused where there is none, and nothing changes.
 abbrev pub on_found : {A : Type 0} → ℕ → (Connection → A × Connection) → Connections → Option Connection → Result A CoreFault × Connections

@@ -1,9 +1,11 @@
 -- What calls cost at most, in counted steps.
 use Rattle.std.specs.Prelude.{◌≡◌, ℕ, ◌+◌, ◌*◌, Bool, true, false, IfSome, List, [], ◌∷◌, length, Option, Some, None, Result, Ok, Err}
-use Rattle.rb_registry.specs.Registry.{rows_of}
+use Rattle.rb_registry.specs.Registry.{slots_of}
 use Rattle.rb_proto.specs.declared.books.Books.{Books}
 use Rattle.rb_proto.specs.Ledger.{rows_in}
-use Rattle.rb_proto.specs.Puts.{note_cost, statistics_cost}
+use Rattle.rb_proto.specs.Puts.{note_cost, forward_cost, statistics_cost}
+use Rattle.rb_forward.specs.Costs.{end_cost, sent_cost, unsent_cost}
+use Rattle.rb_forward.specs.Table.{longest_call}
 use Rattle.rb_core.specs.declared.slot.Received.{Received}
 use Rattle.rb_core.specs.declared.slot.Heard.{Heard}
 use Rattle.rb_core.specs.declared.types.CoreFault.{CoreFault}
@@ -13,7 +15,7 @@ use Rattle.rb_core.specs.Connections.Taking.{TakesNone, GoesOn, Ends}
 use Rattle.rb_core.specs.Reading.{buffer_size}
 use Rattle.rb_core.specs.Slots.{Table}
 use Rattle.rb_core.specs.Step.{Taken, Event, step}
-use Rattle.rb_core.specs.Step.Event.{Open, Bytes, Pending, Gave, Closed, NextLost, Datagram}
+use Rattle.rb_core.specs.Step.Event.{Open, Bytes, Pending, Gave, Closed, NextLost, Datagram, Unsent, Sent, Forward, Expire}
 
 -- ---- parts of calls
 
@@ -21,10 +23,10 @@ use Rattle.rb_core.specs.Step.Event.{Open, Bytes, Pending, Gave, Closed, NextLos
 abbrev pub counting_cost : ℕ
 counting_cost = note_cost + statistics_cost
 
--- what it costs to serve a message over so many rows, where so many are left: the procedure walks the rows, those of a
--- list are walked twice, and a reply of 9,000 bytes is written
+-- what it costs to serve a message over so many rows, where so many are left: the procedure walks the rows, twice for
+-- an UNSET, those of a list are walked twice, a reply of 9,000 bytes is written, and what is forwarded is kept
 abbrev pub serve_cost : ℕ → ℕ → ℕ
-serve_cost rows left = 4 * rows + 4 * left + 9043 + counting_cost
+serve_cost rows left = 6 * rows + 4 * left + 9043 + counting_cost + forward_cost
 
 -- what it costs to show a fragment: the window is emptied, and a header of 4 bytes and at most 1,024 of data are written
 abbrev pub show_cost : ℕ
@@ -50,15 +52,19 @@ find_cost connections = 2 * connections + 3
 abbrev pub take_cost : ℕ → ℕ
 take_cost count = count + 1
 
+-- what it costs to exchange the buffer of a record that ended for an empty one
+abbrev pub exchange_cost : ℕ
+exchange_cost = 1
+
 -- what it costs to read a record that ended: the length of its arguments, they themselves, and the buffer emptied
 abbrev pub read_cost : ℕ
 read_cost = buffer_size + 2
 
 abbrev pub heard_cost : Option Heard → ℕ
 heard_cost None = 0
-heard_cost (Some heard) = read_cost
+heard_cost (Some heard) = exchange_cost
 
--- what it costs to take so many bytes of a piece, and to read the record that ended with them
+-- what it costs to take so many bytes of a piece, and to exchange the buffer of the record that ended with them
 abbrev pub received_cost : Received → ℕ
 received_cost got = take_cost got.count + heard_cost got.heard
 
@@ -86,21 +92,37 @@ settle_cost connections = find_cost connections + show_cost + 1
 
 -- what it costs to answer the record that ended, among so many connections and rows
 abbrev pub answer_cost : ℕ → ℕ → ℕ → ℕ
-answer_cost connections rows left = read_cost + serve_cost rows left + settle_cost connections
+answer_cost connections rows left = exchange_cost + read_cost + serve_cost rows left + settle_cost connections
+
+-- what it costs to end one of so many entries, and to note its outcome
+abbrev pub entry_cost : ℕ → ℕ
+entry_cost forwards = end_cost forwards + 2 + note_cost
+
+-- what it costs to write what the caller of an entry is told: a reply of 9,000 bytes, or a shorter one in its place
+abbrev pub put_end_cost : ℕ
+put_end_cost = 9068
+
+-- what it costs to tell it to one of so many connections, or over UDP
+abbrev pub tell_cost : ℕ → ℕ
+tell_cost connections = put_end_cost + settle_cost connections
+
+-- what it costs to end one of so many entries and to tell its caller, with the last reply emptied before
+abbrev pub ended_cost : ℕ → ℕ → ℕ
+ended_cost forwards connections = 1 + entry_cost forwards + tell_cost connections
 
 -- ---- calls, by what is held
 
--- how many rows are live in the books
-abbrev pub live_count : Books → ℕ
-live_count books = length (rows_of books.registry)
+-- how many rows the books keep
+abbrev pub kept_count : Books → ℕ
+kept_count books = length (slots_of books.registry)
 
 -- what it costs to put results: the rows are walked twice, and the reply is written
 abbrev pub put_results_cost : Books → ℕ
-put_results_cost books = 4 * live_count books + 9038 + statistics_cost
+put_results_cost books = 4 * kept_count books + 9038 + statistics_cost
 
 -- what it costs to serve a message on the old books, which become the new ones
 abbrev pub serving_cost : Books → Books → ℕ
-serving_cost old new = serve_cost (live_count old) (live_count new)
+serving_cost old new = serve_cost (kept_count old) (kept_count new)
 
 -- how many connections are there, and what it costs to look one of them up
 abbrev pub slot_count : Table → ℕ
@@ -108,6 +130,10 @@ slot_count table = length table.slots
 
 abbrev pub look_cost : Table → ℕ
 look_cost table = find_cost (slot_count table)
+
+-- how many forwarded calls there may be
+abbrev pub forwards_cap : Books → ℕ
+forwards_cap books = books.forwards.cap
 
 -- ---- events
 
@@ -118,15 +144,15 @@ row_count s = length (rows_in s.ledger)
 abbrev pub connection_count : State → ℕ
 connection_count s = length s.connections.all
 
-abbrev pub ended_cost : State → State → Taking → ℕ
-ended_cost s after TakesNone = 0
-ended_cost s after (GoesOn fed) = 0
-ended_cost s after (Ends n content) = answer_cost (connection_count s) (row_count s) (row_count after)
+abbrev pub record_cost : State → State → Taking → ℕ
+record_cost s after TakesNone = 0
+record_cost s after (GoesOn fed) = 0
+record_cost s after (Ends n content) = answer_cost (connection_count s) (row_count s) (row_count after)
 
 -- by whether a record ended
 abbrev pub piece_cost : State → State → List ℕ → Option Connection → ℕ
 piece_cost s after piece None = 0
-piece_cost s after piece (Some c) = take_cost (length piece) + ended_cost s after (taking c.phase piece)
+piece_cost s after piece (Some c) = take_cost (length piece) + record_cost s after (taking c.phase piece)
 
 -- what an event costs from a state, where it leaves this one
 abbrev pub cost_between : State → State → Event → ℕ
@@ -135,9 +161,13 @@ cost_between s after (Bytes now id piece) =
     find_cost (connection_count s) + piece_cost s after piece (live_connection id s.connections.all)
 cost_between s after (Pending id) = find_cost (connection_count s) + pending_cost
 cost_between s after (Gave now id n) = 2 * find_cost (connection_count s) + 1 + give_cost
-cost_between s after (Closed id) = find_cost (connection_count s) + 3
+cost_between s after (Closed id) = find_cost (connection_count s) + 3 + entry_cost s.setting.limits.forwards
 cost_between s after NextLost = find_cost (connection_count s)
 cost_between s after (Datagram now peer content) = serve_cost (row_count s) (row_count after) + 9002
+cost_between s after Unsent = unsent_cost s.setting.limits.forwards longest_call
+cost_between s after (Sent number) = sent_cost s.setting.limits.forwards
+cost_between s after (Forward now from message) = ended_cost s.setting.limits.forwards (connection_count s) + 9001
+cost_between s after (Expire now) = ended_cost s.setting.limits.forwards (connection_count s) + 9001
 
 abbrev pub event_cost : State → Event → ℕ
 event_cost s event = cost_between s (step s event).1 event

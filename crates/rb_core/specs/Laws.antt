@@ -12,15 +12,14 @@ use Rattle.rb_proto.specs.Ledger.{rows_in}
 use Rattle.rb_proto.specs.declared.listener.Listener.{Listener}
 use Rattle.rb_core.specs.declared.types.Limits.{Limits}
 use Rattle.rb_core.specs.declared.types.CoreFault.{CoreFault}
-use Rattle.rb_core.specs.declared.message.Message.TheVariants as says
-use Rattle.rb_core.specs.Calls.{Outcome, message_of, is_no_call}
-use Rattle.rb_core.specs.Calls.Outcome.{NoCall, Reply}
+use Rattle.rb_core.specs.Calls.{Outcome, is_no_call}
+use Rattle.rb_core.specs.Calls.Outcome.{NoCall, Reply, Forwarded, Silent}
 use Rattle.rb_core.specs.State.{State, Phase, Connection, at_moment, opening, are_good}
-use Rattle.rb_core.specs.State.Phase.{Idle, Reading, Owing, Lost}
-use Rattle.rb_core.specs.Connections.{is_lost, live_connection, is_there, fed_in, mark_when_fed}
+use Rattle.rb_core.specs.State.Phase.{Idle, Reading, Owing, Awaiting, Lost}
+use Rattle.rb_core.specs.Connections.{is_lost, live_connection, fed_in, mark_when_fed}
 use Rattle.rb_core.specs.Giving.{owed, owed_of}
 use Rattle.rb_core.specs.Step.{Event, Output, Taken, serve, bytes, pending, gave, next_lost, step}
-use Rattle.rb_core.specs.Step.Event.{Bytes, Gave, Closed}
+use Rattle.rb_core.specs.Step.Event.{Gave, Closed}
 use Rattle.rb_core.specs.Step.Output.{Opened, Refused, TooMuch}
 use Rattle.rb_core.specs.Run.{run, after}
 
@@ -113,15 +112,16 @@ IsLive s id c = live_connection id s.connections.all ≡ Some c
 
 -- ---- the look for a Lost connection
 
--- It finds the least number of those that are Lost, or none is Lost.
-abbrev pub IsLeastLost : List Connection → Option ℕ → Type 0
-IsLeastLost all None = All (λ (c : Connection). is_lost c.phase ≡ false) all
-IsLeastLost all (Some id) =
-    Any (λ (c : Connection). (is_lost c.phase ≡ true) × (c.number ≡ id)) all
-    × All (λ (c : Connection). is_lost c.phase ≡ true → id ≤ c.number) all
+-- It is the least number of the connections that pass the test, or none passes.
+abbrev pub IsLeast : (Connection → Bool) → List Connection → Option ℕ → Type 0
+IsLeast test all None = All (λ (c : Connection). test c ≡ false) all
+IsLeast test all (Some id) =
+    Any (λ (c : Connection). (test c ≡ true) × (c.number ≡ id)) all
+    × All (λ (c : Connection). test c ≡ true → id ≤ c.number) all
 
 abbrev pub NextLostIsLeast : Type 0
-NextLostIsLeast = (s : State) → IsReached s → IsLeastLost s.connections.all (next_lost s)
+NextLostIsLeast =
+    (s : State) → IsReached s → IsLeast (λ (c : Connection). is_lost c.phase) s.connections.all (next_lost s)
 
 -- ---- bytes are taken exactly
 
@@ -166,11 +166,14 @@ pub record ReadsOn (a : Arrival) (fed : List ℕ) : Type 0 where
 -- what a call in these bytes of a record is answered with
 abbrev pub said_to : Arrival → List ℕ → Outcome
 said_to a record_bytes =
-    (serve (at_moment a.now a.state) (Tcp a.id a.connection.peer) (message_of (data_of record_bytes))).0
+    (serve (at_moment a.now a.state) (Tcp a.id a.connection.peer) (data_of record_bytes)).0
 
--- Its whole reply, marked, is owed from this moment on; or it is no call, and no connection of the number is live.
+-- Its whole reply, marked, is owed from this moment on; or it is forwarded, and awaited; or it stays without a reply, and
+-- the connection is Idle; or it is no call, and no connection of the number is live.
 abbrev pub IsSettled : Arrival → Outcome → Type 0
 IsSettled a (Reply reply) = IsNow a (Owing (owed_of reply 0)) (clock_of a)
+IsSettled a Forwarded = IsNow a Awaiting (clock_of a)
+IsSettled a Silent = IsNow a Idle (clock_of a)
 IsSettled a NoCall = live_connection a.id (state_after a).connections.all ≡ None
 
 -- so many bytes of the piece are taken, with which a record ended that is answered so
@@ -202,12 +205,14 @@ abbrev pub owed_in : Phase → List ℕ
 owed_in (Owing o) = owed o
 owed_in Idle = []
 owed_in (Reading fed) = []
+owed_in Awaiting = []
 owed_in Lost = []
 
 abbrev pub is_owing : Phase → Bool
 is_owing (Owing o) = true
 is_owing Idle = false
 is_owing (Reading fed) = false
+is_owing Awaiting = false
 is_owing Lost = false
 
 -- The first n bytes of what was still to be given were given: the rest is still to be given.
@@ -245,35 +250,12 @@ gives_or_closes id (Gave now other n) = other == id
 gives_or_closes id (Closed other) = other == id
 gives_or_closes id event = false
 
--- Every other event, in any state, leaves a live connection that owes a reply as it was, or the connection is Lost.
+-- Every other event leaves a live connection that owes a reply as it was, or the connection is Lost.
 abbrev pub OwedRepliesStay : Type 0
 OwedRepliesStay =
-    (s : State) (event : Event) (id : ℕ) → gives_or_closes id event ≡ false
+    (s : State) → IsReached s → (event : Event) (id : ℕ) → gives_or_closes id event ≡ false
     → (c : Connection) → IsLive s id c → is_owing c.phase ≡ true
     → IsLive (step s event).1 id c ⊎ IsLost (step s event).1 id
-
--- ---- closings
-
--- the event brings the end of a record that is no call
-pub record EndsNoCall (id : ℕ) (c : Connection) (event : Event) : Type 0 where
-  pub now : ℕ
-  pub piece : List ℕ
-  pub is : event ≡ Bytes now id piece
-  pub fed : List ℕ
-  pub takes : fed_in c.phase ≡ Some fed
-  pub n : ℕ
-  pub ends : first_record (fed ++ piece) ≡ Some n
-  pub no_call : message_of (data_of (take n (fed ++ piece))) ≡ says.NoCall
-
--- A live connection becomes Lost exactly by the end of a record that is no call, and is gone exactly by its close.
-pub record ClosesExactly (s : State) (event : Event) (id : ℕ) (c : Connection) : Type 0 where
-  pub lost : IsLost (step s event).1 id ↔ EndsNoCall id c event
-  pub gone : (is_there id (step s event).1.connections ≡ false) ↔ (event ≡ Closed id)
-
-abbrev pub ConnectionsCloseExactly : Type 0
-ConnectionsCloseExactly =
-    (s : State) → IsReached s → (event : Event) (id : ℕ) (c : Connection)
-    → IsLive s id c → ClosesExactly s event id c
 
 -- ---- the ledger
 

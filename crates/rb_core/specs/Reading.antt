@@ -1,5 +1,5 @@
 -- A record that is read, and the bytes of it that are kept meanwhile (RFC 5531 section 11).
-use Rattle.std.specs.Prelude.{◌≡◌, ℕ, ◌+◌, ◌-◌, max, List, ◌++◌, length, take, Option, Some, None}
+use Rattle.std.specs.Prelude.{◌≡◌, ⊤, ℕ, ◌+◌, ◌-◌, max, List, ◌++◌, length, take, Option, Some, None}
 use Rattle.rb_xdr.specs.Kept.{Kept}
 use Rattle.rb_rpc.specs.declared.marks.Marks.{Marks}
 use Rattle.rb_rpc.specs.Marks.{StandsForFed}
@@ -7,7 +7,12 @@ use Rattle.rb_rpc.specs.Records.{data_of}
 use Rattle.rb_rpc.specs.Verdict.{verdict}
 use Rattle.rb_feed.specs.declared.feed.CallFeed.{CallFeed}
 use Rattle.rb_feed.specs.Feeds.{StandsForCall, arguments_of}
-use Rattle.rb_core.specs.Calls.{message_with, message_of, longest_reply}
+use Rattle.rb_proto.specs.declared.context.Context.{Context}
+use Rattle.rb_proto.specs.Ledger.{Ledger}
+use Rattle.rb_proto.specs.Arguments.{HasArgs}
+use Rattle.rb_core.specs.declared.message.Message.{Message}
+use Rattle.rb_core.specs.declared.message.Message.TheVariants as says
+use Rattle.rb_core.specs.Calls.{message_with, message_of, outcome, longest_reply}
 pub use Rattle.rb_core.specs.declared.reading.Fed.{Fed}
 pub use Rattle.rb_core.specs.declared.reading.Intake.{Intake}
 pub use Rattle.rb_core.specs.declared.reading.Reader.{Reader}
@@ -75,8 +80,22 @@ abbrev pub HasMoreData : Marks → Intake → Kept → List ℕ → Intake → K
 HasMoreData marks intake kept run new now =
     (fed : List ℕ) → IsInside marks intake kept fed → HasData new now (data_of (fed ++ run))
 
+-- ---- the arguments of what was read
+
+-- the arguments of a call that is asked for are these bytes, as far as its answer reads them
+abbrev pub HasArgsIn : Message → List ℕ → Type 0
+HasArgsIn says.NoCall arguments = ⊤
+HasArgsIn (says.Refused head) arguments = ⊤
+HasArgsIn (says.Garbage head) arguments = ⊤
+HasArgsIn (says.Asked call) arguments = HasArgs call.request arguments
+
 -- ---- what is kept says enough
 
--- The verdict on a record and what is kept of it say what the record says.
+-- The verdict on a record and what is kept of it say what the record says, and it is answered alike.
+pub record SaysTheRecord (content : List ℕ) : Type 0 where
+  pub says : message_with (verdict content) (kept_of content) ≡ message_of content
+  pub answered : (context : Context) (ledger : Ledger)
+      → outcome context (message_of content) (kept_of content) ledger ≡ outcome context (message_of content) (arguments_of content) ledger
+
 abbrev pub KeptSaysTheRecord : Type 0
-KeptSaysTheRecord = (content : List ℕ) → message_with (verdict content) (kept_of content) ≡ message_of content
+KeptSaysTheRecord = (content : List ℕ) → SaysTheRecord content

@@ -1,5 +1,5 @@
 -- What passes on one connection in a whole run (RFC 5531 section 11).
-use Rattle.std.specs.Prelude.{◌≡◌, ◌≢◌, ◌⊎◌, ℕ, ◌==◌, if◌then◌else◌, List, [], ◌∷◌, ◌++◌, take, map, All, Option, Some, None, Result, Ok, Err}
+use Rattle.std.specs.Prelude.{◌≡◌, ◌≢◌, ◌⊎◌, ⊤, ℕ, ◌==◌, max, Bool, true, false, if◌then◌else◌, List, [], ◌∷◌, ◌++◌, take, map, All, Option, Some, None, Result, Ok, Err}
 use Rattle.std.specs.List.{flat_map}
 use Rattle.rb_xdr.specs.Xdr.{AreBytes}
 use Rattle.rb_rpc.specs.declared.peer.Caller.{Caller}
@@ -10,16 +10,21 @@ use Rattle.rb_proto.specs.declared.listener.Listener.{Listener}
 use Rattle.rb_core.specs.declared.types.Limits.{Limits}
 use Rattle.rb_core.specs.declared.types.CoreFault.{CoreFault}
 use Rattle.rb_core.specs.State.{State, Connection, at_moment, opening}
-use Rattle.rb_core.specs.Calls.{Outcome, message_of}
-use Rattle.rb_core.specs.Calls.Outcome.{NoCall, Reply}
-use Rattle.rb_core.specs.Connections.{live_connection}
+use Rattle.rb_core.specs.Calls.{Outcome}
+use Rattle.rb_core.specs.Calls.Outcome.{NoCall, Reply, Forwarded, Silent}
+use Rattle.rb_forward.specs.declared.types.Ended.{Ended}
+use Rattle.rb_forward.specs.Forwards.{is_connection}
+use Rattle.rb_proto.specs.Forwarding.{replied, fell_due}
+use Rattle.rb_core.specs.Connections.{live_connection, is_awaiting}
+use Rattle.rb_core.specs.Ending.{told_at}
 use Rattle.rb_core.specs.Step.{Event, Output, serve, pending, step}
-use Rattle.rb_core.specs.Step.Event.{Bytes, Gave}
+use Rattle.rb_core.specs.Step.Event.{Bytes, Gave, Forward, Expire}
 use Rattle.rb_core.specs.Step.Output.{Took, TookAndClosed, Done}
 use Rattle.rb_core.specs.Run.{after}
 use Rattle.rb_core.specs.Laws.{owed_in, IsLive}
 
--- the data of a record, and what was said to it at the moment that the record ended
+-- the data of a record, and what was said to it: at the moment that the record ended, or at the end of the call that was
+-- forwarded for it
 pub record Exchange : Type 0 where
   pub content : List ℕ
   pub said : Outcome
@@ -69,7 +74,7 @@ at_event other s = s
 
 -- the call in a record's bytes, and what is said to it where it comes from this caller
 abbrev pub exchange_in : State → Caller → List ℕ → Exchange
-exchange_in s caller content = record { content = content; said = (serve s caller (message_of content)).0 }
+exchange_in s caller content = record { content = content; said = (serve s caller content).0 }
 
 -- the call of a live connection in a record's bytes
 abbrev pub call_in : State → ℕ → List ℕ → Option Connection → List Exchange
@@ -84,6 +89,28 @@ calls_ended s id bytes (Some n) = call_in s id bytes (live_connection id s.conne
 abbrev pub left_behind : List ℕ → Option ℕ → List ℕ
 left_behind bytes None = bytes
 left_behind bytes (Some n) = []
+
+-- what the end of an entry tells a connection
+abbrev pub told_ended : ℕ → List ℕ → Option Ended → Option Outcome
+told_ended id message None = None
+told_ended id message (Some ended) = if is_connection id ended.forward.caller then Some (told_at message ended) else None
+
+-- what a connection is told by an event at which a forwarded call ends
+abbrev pub told_by : State → ℕ → Event → Option Outcome
+told_by s id (Forward now from message) =
+    told_ended id message (replied s.setting.first_xid (max s.clock now) from message s.ledger).0
+told_by s id (Expire now) = told_ended id [] (fell_due (max s.clock now) s.ledger).0
+told_by s id other = None
+
+-- the last call is told so
+abbrev pub with_last_told : Outcome → List Exchange → List Exchange
+with_last_told said [] = []
+with_last_told said (call ∷ []) = record call { said = said } ∷ []
+with_last_told said (call ∷ next ∷ calls) = call ∷ with_last_told said (next ∷ calls)
+
+abbrev pub with_told : Option Outcome → List Exchange → List Exchange
+with_told None calls = calls
+with_told (Some said) calls = with_last_told said calls
 
 -- ---- whole runs
 
@@ -102,7 +129,8 @@ passed s id more gave t = record {
 abbrev pub passed_by : State → ℕ → Event → Session → Session
 passed_by s id event t =
     let output : Output = (step s event).0 in
-    passed (at_event event s) id (taken_by id event output) (given_by s id event output) t
+    let after : Session = passed (at_event event s) id (taken_by id event output) (given_by s id event output) t in
+    record after { calls = with_told (told_by s id event) after.calls }
 
 abbrev pub session_from : State → ℕ → Session → List Event → Session
 session_from s id t [] = t
@@ -118,6 +146,8 @@ session s id events = session_from s id nothing_passed events
 abbrev pub marked_reply : Outcome → List ℕ
 marked_reply (Reply reply) = marked reply
 marked_reply NoCall = []
+marked_reply Forwarded = []
+marked_reply Silent = []
 
 -- the replies to calls, each marked, joined
 abbrev pub replies_to : List Exchange → List ℕ
@@ -127,15 +157,35 @@ replies_to calls = flat_map (λ call. marked_reply call.said) calls
 abbrev pub contents_of : List Exchange → List (List ℕ)
 contents_of calls = map (λ call. call.content) calls
 
+-- nothing more will be said: it has a reply, or is silent
+abbrev pub IsFinal : Outcome → Type 0
+IsFinal (Reply reply) = ⊤
+IsFinal Silent = ⊤
+IsFinal NoCall = ⊥
+IsFinal Forwarded = ⊥
+
 abbrev pub is_answered : Exchange → Type 0
-is_answered call = (reply : List ℕ) × (call.said ≡ Reply reply)
+is_answered call = IsFinal call.said
+
+-- Each call before the last is answered, and the last is forwarded.
+pub record AwaitsLast (calls : List Exchange) : Type 0 where
+  pub before : List Exchange
+  pub last : Exchange
+  pub whole : calls ≡ before ++ last ∷ []
+  pub answered : All is_answered before
+  pub forwarded : last.said ≡ Forwarded
+
+-- Each call is answered; while one is awaited, it is the last.
+abbrev pub AreAnswered : Bool → List Exchange → Type 0
+AreAnswered false calls = All is_answered calls
+AreAnswered true calls = AwaitsLast calls
 
 -- `given` is a front of `all`
 pub record IsFront (given all : List ℕ) : Type 0 where
   pub rest : List ℕ
   pub whole : given ++ rest ≡ all
 
--- each call has a reply, and all of them are given
+-- each call is answered, and all replies are given
 pub record AllGiven (t : Session) : Type 0 where
   pub answered : All is_answered t.calls
   pub given : t.given ≡ replies_to t.calls
@@ -147,12 +197,12 @@ IsWholeOrEnds unfinished piece more =
 
 -- while a connection is live
 pub record IsLiveSession (id : ℕ) (s : State) (c : Connection) (t : Session) : Type 0 where
-  -- Each call has a reply,
-  pub answered : All is_answered t.calls
+  -- Each call has a reply or is silent, but for one that is awaited, which is the last,
+  pub answered : AreAnswered (is_awaiting c.phase) t.calls
   -- and the bytes given, and then those that are still owed, are the marked replies, joined.
   pub replies : t.given ++ owed_in c.phase ≡ replies_to t.calls
-  -- Where none are owed, a piece is taken whole, or up to a record's end.
-  pub takes : owed_in c.phase ≡ [] → (now : ℕ) (piece : List ℕ)
+  -- Where none are owed and none is awaited, a piece is taken whole, or up to a record's end.
+  pub takes : owed_in c.phase ≡ [] → is_awaiting c.phase ≡ false → (now : ℕ) (piece : List ℕ)
       → IsWholeOrEnds t.unfinished piece (taken_by id (Bytes now id piece) (step s (Bytes now id piece)).0)
 
 pub record IsWholeSession (id : ℕ) (s : State) (t : Session) : Type 0 where
@@ -164,7 +214,7 @@ pub record IsWholeSession (id : ℕ) (s : State) (t : Session) : Type 0 where
   -- The bytes given are a front of the marked replies, joined.
   pub front : IsFront t.given (replies_to t.calls)
   pub live : (c : Connection) → IsLive s id c → IsLiveSession id s c t
-  -- Bytes are taken only where nothing is owed.
+  -- Bytes are taken only where nothing is owed or awaited.
   pub in_turn : (event : Event) → taken_by id event (step s event).0 ≢ [] → AllGiven t
 
 -- for each connection, in each run

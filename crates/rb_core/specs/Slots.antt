@@ -3,6 +3,7 @@ use Rattle.std.specs.Prelude.{◌≡◌, ℕ, ◌+◌, ◌≤◌, ◌==◌, not,
 use Rattle.std.specs.Borrow.{Bor}
 use Rattle.std.specs.List.{AllZip, list_any}
 use Rattle.std.specs.Map.{values_of}
+use Rattle.std.specs.Option.{option_map_or}
 use Rattle.rb_xdr.specs.Kept.{Kept}
 use Rattle.rb_xdr.specs.Pool.{Pool, HasDistinctKeys}
 use Rattle.rb_core.specs.declared.slot.Slot.{Slot}
@@ -13,13 +14,14 @@ use Rattle.rb_core.specs.declared.slot.Received.{Received}
 use Rattle.rb_core.specs.declared.slot.Wanted.{Wanted}
 use Rattle.rb_core.specs.declared.slot.Wanted.TheVariants as wanted
 use Rattle.rb_core.specs.declared.types.CoreFault.{CoreFault}
-use Rattle.rb_core.specs.Calls.{message_of}
+use Rattle.rb_rpc.specs.Verdict.{verdict}
 use Rattle.rb_core.specs.State.{Phase, Connection, Connections}
-use Rattle.rb_core.specs.State.Phase.{Idle, Reading, Owing, Lost}
-use Rattle.rb_core.specs.Connections.{Taking, taking, mark_when_fed, reading, is_lost, is_live, has_number}
+use Rattle.rb_core.specs.State.Phase.{Idle, Reading, Owing, Awaiting, Lost}
+use Rattle.rb_core.specs.Connections.{Taking, taking, mark_when_fed, reading, is_lost, is_live, live_connection, has_number}
 use Rattle.rb_core.specs.Connections.Taking.{TakesNone, GoesOn, Ends}
+use Rattle.rb_core.specs.Deadlines.{is_due, is_due_slot}
 use Rattle.rb_core.specs.Giving.{longest_fragment, IsGiving}
-use Rattle.rb_core.specs.Reading.{Reader, buffer_size, IsReading}
+use Rattle.rb_core.specs.Reading.{Reader, buffer_size, kept_of, IsReading}
 
 -- An act on what something stands for, which gives a result: from whatever the old one stood for, this result came,
 -- and the new one stands for what is there after the act.
@@ -43,6 +45,7 @@ abbrev pub StandsForPhase : Stage → Kept → Kept → Phase → Type 0
 StandsForPhase stages.Idle buffer window Idle = (buffer.bytes ≡ []) × (window.bytes ≡ [])
 StandsForPhase (stages.Reading reader) buffer window (Reading fed) = IsReading reader buffer fed × (window.bytes ≡ [])
 StandsForPhase (stages.Owing given) buffer window (Owing o) = IsGiving buffer.bytes window given o
+StandsForPhase stages.Awaiting buffer window Awaiting = (buffer.bytes ≡ []) × (window.bytes ≡ [])
 StandsForPhase stages.Lost buffer window Lost = ⊤
 StandsForPhase stage buffer window phase = ⊥
 
@@ -64,7 +67,13 @@ pub record IsBeforePiece (slot : Slot) (reader : Reader) (clock : ℕ) (c : Conn
 abbrev pub received : List ℕ → Connection → Taking → Received
 received piece c TakesNone = record { count = 0; heard = None }
 received piece c (GoesOn fed) = record { count = length piece; heard = None }
-received piece c (Ends n content) = record { count = n; heard = Some (record { peer = c.peer; message = message_of content }) }
+received piece c (Ends n content) = record { count = n; heard = Some (record { peer = c.peer; verdict = verdict content }) }
+
+-- the arguments that the core has after it: those that are kept of the record that ended, or what it had before
+abbrev pub arguments_after : List ℕ → Taking → List ℕ
+arguments_after before TakesNone = before
+arguments_after before (GoesOn fed) = before
+arguments_after before (Ends n content) = kept_of content
 
 -- the connection meanwhile: it is Idle until the record that ended is answered
 abbrev pub fed_with : ℕ → Connection → Taking → Connection
@@ -75,6 +84,10 @@ fed_with clock c (Ends n content) = record c { phase = Idle; mark = clock }
 -- a piece is taken, and what it says is not answered yet
 unfoldable pub feeding : ℕ → List ℕ → Connection → Received × Connection
 feeding clock piece c = (received piece c (taking c.phase piece), fed_with clock c (taking c.phase piece))
+
+-- the arguments that the core has once a piece was taken
+abbrev pub arguments_heard : List ℕ → List ℕ → Connection → List ℕ
+arguments_heard before piece c = arguments_after before (taking c.phase piece)
 
 -- ---- the table
 
@@ -98,6 +111,10 @@ TableActs act old new result = Acts StandsForConnections act old new result
 abbrev pub TableBecomes : (Connections → Connections) → Table → Table → Type 0
 TableBecomes change old new = (c : Connections) → StandsForConnections old c → StandsForConnections new (change c)
 
+-- the arguments that the core has once a piece for the connection of a number was taken
+abbrev pub arguments_on : ℕ → List ℕ → List ℕ → Connections → List ℕ
+arguments_on id before piece connections = option_map_or (arguments_heard before piece) (live_connection id connections.all) before
+
 -- of at most so many connections, counted by this meter
 abbrev pub empty_table : ℕ → ℕ → Table
 empty_table conns tie = record { slots = []; given = 0; conns = conns; tie = tie }
@@ -109,16 +126,19 @@ is_lost_stage stages.Lost = true
 is_lost_stage stages.Idle = false
 is_lost_stage (stages.Reading reader) = false
 is_lost_stage (stages.Owing given) = false
+is_lost_stage stages.Awaiting = false
 
 unfoldable pub is_wanted_slot : Wanted → Slot → Bool
 is_wanted_slot (wanted.Live id) slot = slot.number == id && not (is_lost_stage slot.stage)
 is_wanted_slot (wanted.Numbered id) slot = slot.number == id
 is_wanted_slot wanted.AnyLost slot = is_lost_stage slot.stage
+is_wanted_slot (wanted.Due clock) slot = is_due_slot clock slot
 
 unfoldable pub is_wanted : Wanted → Connection → Bool
 is_wanted (wanted.Live id) c = is_live id c
 is_wanted (wanted.Numbered id) c = has_number id c
 is_wanted wanted.AnyLost c = is_lost c.phase
+is_wanted (wanted.Due clock) c = is_due clock c
 
 -- the key and the slot of the first connection that is wanted
 unfoldable pub wanted_slot : Wanted → List (ℕ × Slot) → Option (ℕ × Slot)

@@ -1,5 +1,5 @@
 -- What a core holds, and the states that it stands for.
-use Rattle.std.specs.Prelude.{◌≡◌, ℕ, ◌+◌, List, [], ◌++◌, map, Bool, Result, IfOk}
+use Rattle.std.specs.Prelude.{◌≡◌, ◌≤◌, ℕ, ◌+◌, List, [], ◌++◌, map, Bool, Result, IfOk, option_map}
 use Rattle.rb_xdr.specs.Kept.{Kept}
 use Rattle.rb_xdr.specs.Meter.{Meter, PaysAtMost}
 use Rattle.rb_core.specs.declared.run.Event as event
@@ -12,20 +12,22 @@ use Rattle.rb_proto.specs.declared.books.Books.{Books}
 use Rattle.rb_proto.specs.Ledger.{StandsForLedger, AreTied}
 use Rattle.rb_core.specs.State.{Setting, State, Connections}
 use Rattle.rb_core.specs.Connections.{changed_at, settled}
-use Rattle.rb_core.specs.declared.types.Limits.{Limits}
 use Rattle.rb_core.specs.declared.types.CoreFault.{CoreFault}
 use Rattle.rb_core.specs.declared.slot.Heard.{Heard}
 use Rattle.rb_rpc.specs.declared.peer.Caller.{Caller}
+use Rattle.rb_rpc.specs.declared.peer.Caller.TheVariants.{Tcp}
 use Rattle.rb_proto.specs.declared.context.Context.{Context}
 use Rattle.rb_xdr.specs.declared.memory.NoMemory.{NoMemory}
-use Rattle.rb_core.specs.Calls.{Outcome, longest_reply}
-use Rattle.rb_core.specs.Calls.Outcome.{NoCall, Reply}
+use Rattle.rb_core.specs.Calls.{Outcome, Outcome as said, message_with, longest_reply}
 use Rattle.rb_core.specs.Slots.{Table, StandsForConnections, IsDraft, Acts}
-use Rattle.rb_core.specs.Step.{Taken, answering, Event, Output, step}
-use Rattle.rb_core.specs.Step.Event.{Open, Bytes, Pending, Gave, Closed, NextLost, Datagram}
-use Rattle.rb_core.specs.Step.Output.{Opened, Refused, TooMuch, Took, TookAndClosed, IsPending, Done, LostIs, Replied, Silent}
+use Rattle.rb_core.specs.Awaits.{AreAwaited}
+use Rattle.rb_core.specs.declared.run.UnsentCall.{UnsentCall}
+use Rattle.rb_forward.specs.Forwards.{Unsent as UnsentPlain}
+use Rattle.rb_core.specs.Step.{Taken, settled_in, serve_message, Event, Output, step}
+use Rattle.rb_core.specs.Step.Event.{Open, Bytes, Pending, Gave, Closed, NextLost, Datagram, Unsent, Sent, Forward, Expire}
+use Rattle.rb_core.specs.Step.Output.{Opened, Refused, TooMuch, Took, TookAndClosed, IsPending, Done, LostIs, Replied, Forwarded, Silent, UnsentIs, Ignored, Nothing, ConnectionClosed, Ready, RepliedTo}
 use Rattle.rb_core.specs.Run.{run, after}
-use Rattle.rb_core.specs.Costs.{event_cost, run_cost, NoRecordEnds, live_count, slot_count, look_cost, serving_cost, settle_cost, taking_cost, answer_cost}
+use Rattle.rb_core.specs.Costs.{event_cost, run_cost, NoRecordEnds, kept_count, slot_count, look_cost, forwards_cap, entry_cost, ended_cost, serving_cost, read_cost, settle_cost, taking_cost, answer_cost}
 
 -- `tie` is the number of the meter that counts the calls
 pub record Held : Type 0 where
@@ -34,9 +36,10 @@ pub record Held : Type 0 where
   pub connections : Table
   pub books : Books
   pub reply : List ℕ
+  pub arguments : List ℕ
   pub tie : ℕ
 
--- Neither the changes nor the history of calls is held.
+-- Neither the changes nor the history of calls is held. Between two events no arguments are.
 pub record StandsFor (held : Held) (s : State) : Type 0 where
   pub setting : held.setting ≡ s.setting
   pub clock : held.clock ≡ s.clock
@@ -44,21 +47,32 @@ pub record StandsFor (held : Held) (s : State) : Type 0 where
   pub connections : StandsForConnections held.connections s.connections
   pub limit : held.books.registry.limit ≡ s.setting.limits.rows
   pub ledger : StandsForLedger held.books s.ledger
+  pub forwards : held.books.forwards.cap ≡ s.setting.limits.forwards
+  pub first_xid : held.books.forwards.first_xid ≡ s.setting.first_xid
   pub reply : held.reply ≡ s.reply
+  pub arguments : held.arguments ≡ []
 
--- What is true of all that a core holds: it has one meter, and its draft is empty between two events.
-pub record IsCore (limits : Limits) (connections : Table) (books : Books) (reply draft : Kept) : Type 0 where
-  pub limit : books.registry.limit ≡ limits.rows
+-- What is true of all that a core holds: it has one meter, its draft is empty between two events, and each connection
+-- for which a call is forwarded awaits it.
+pub record IsCore (setting : Setting) (connections : Table) (books : Books) (reply draft arguments : Kept) : Type 0 where
+  pub limit : books.registry.limit ≡ setting.limits.rows
+  pub forwards : books.forwards.cap ≡ setting.limits.forwards
+  pub few : setting.limits.forwards ≤ 64
+  pub first_xid : books.forwards.first_xid ≡ setting.first_xid
+  pub awaited : AreAwaited books.forwards connections
   pub tied : AreTied reply.tie books
   pub connections_tie : connections.tie ≡ reply.tie
   pub reply_cap : reply.cap ≡ longest_reply
   pub is_draft : IsDraft reply.tie draft
   pub empty : draft.bytes ≡ []
+  pub has_arguments : IsDraft reply.tie arguments
 
 -- what the code says of a message, with the reply that it wrote
 abbrev pub outcome_with : outcome.Outcome → List ℕ → Outcome
-outcome_with outcomes.NoCall reply = NoCall
-outcome_with outcomes.Reply reply = Reply reply
+outcome_with outcomes.NoCall reply = said.NoCall
+outcome_with outcomes.Reply reply = said.Reply reply
+outcome_with outcomes.Forwarded reply = said.Forwarded
+outcome_with outcomes.Silent reply = said.Silent
 
 -- the same with the reply in this buffer
 abbrev pub given_in : outcome.Outcome → Kept → Outcome
@@ -73,13 +87,19 @@ abbrev pub context_of : Held → Caller → Context
 context_of held caller = record {
   listener = held.setting.listener;
   limit = held.setting.limits.rows;
+  forwards = held.setting.limits.forwards;
   clock = held.clock;
   caller = caller;
 }
 
--- what a record said is answered
-abbrev pub answering_heard : ℕ → Heard → State → Bool × State
-answering_heard id heard s = answering s id heard.peer heard.message
+-- what a record says of this verdict and these arguments is answered
+abbrev pub answering_heard : ℕ → Heard → List ℕ → State → Bool × State
+answering_heard id heard arguments s =
+    settled_in id (serve_message s (Tcp id heard.peer) (message_with heard.verdict arguments) arguments)
+
+-- the same once the arguments are taken out
+abbrev pub without_arguments : Held → Held
+without_arguments held = record held { arguments = [] }
 
 -- An act that answers something, with the reply that is held after it.
 abbrev pub ActsWithReply : (State → Outcome × State) → Held → Held → outcome.Outcome → Type 0
@@ -89,7 +109,7 @@ ActsWithReply act old new given = Acts StandsFor act old new (outcome_with given
 
 -- to answer what a record said
 abbrev pub answering_cost : Held → Held → ℕ
-answering_cost old new = serving_cost old.books new.books + settle_cost (slot_count old.connections)
+answering_cost old new = read_cost + serving_cost old.books new.books + settle_cost (slot_count old.connections)
 
 -- to take bytes where no record ends
 abbrev pub quiet_cost : Held → Result Taken CoreFault → ℕ
@@ -98,7 +118,15 @@ quiet_cost held result = look_cost held.connections + taking_cost result
 -- to take bytes, and to answer the record that ends with them
 abbrev pub bytes_cost : Held → Held → Result Taken CoreFault → ℕ
 bytes_cost old new result =
-    quiet_cost old result + answer_cost (slot_count old.connections) (live_count old.books) (live_count new.books)
+    quiet_cost old result + answer_cost (slot_count old.connections) (kept_count old.books) (kept_count new.books)
+
+-- to close a connection, and to end the call that was forwarded for it
+abbrev pub closing_cost : Held → ℕ
+closing_cost held = look_cost held.connections + 3 + entry_cost (forwards_cap held.books)
+
+-- to end an entry, and to tell its caller
+abbrev pub ending_cost : Held → ℕ
+ending_cost held = ended_cost (forwards_cap held.books) (slot_count held.connections)
 
 -- Where no record ends in the piece on the connection, no more is paid than that.
 abbrev pub IsCheapIfQuiet : Held → ℕ → List ℕ → Result Taken CoreFault → Meter → Meter → Type 0
@@ -119,6 +147,13 @@ event_of (events.Gave now id n) = Gave now id n
 event_of (events.Closed id) = Closed id
 event_of events.NextLost = NextLost
 event_of (events.Datagram now peer content) = Datagram now peer content.items
+event_of events.Unsent = Unsent
+event_of (events.Sent number) = Sent number
+event_of (events.Forward now from message) = Forward now from message.items
+event_of (events.Expire now) = Expire now
+
+abbrev pub unsent_of : UnsentCall → UnsentPlain
+unsent_of unsent = record { number = unsent.number; target = unsent.target; call = unsent.call.items }
 
 abbrev pub output_of : output.Output → Output
 output_of (outputs.Opened number) = Opened number
@@ -130,7 +165,14 @@ output_of (outputs.Pending bytes) = IsPending bytes.items
 output_of outputs.Done = Done
 output_of (outputs.Lost number) = LostIs number
 output_of (outputs.Replied reply) = Replied reply.items
+output_of outputs.Forwarded = Forwarded
 output_of outputs.Silent = Silent
+output_of (outputs.Unsent unsent) = UnsentIs (option_map unsent_of unsent)
+output_of outputs.Ignored = Ignored
+output_of outputs.Nothing = Nothing
+output_of (outputs.ConnectionClosed number) = ConnectionClosed number
+output_of (outputs.Ready number) = Ready number
+output_of (outputs.RepliedTo peer reply) = RepliedTo peer reply.items
 
 abbrev pub events_of : List event.Event → List Event
 events_of events = map event_of events

@@ -19,11 +19,13 @@ pub record Owed : Type 0 where
   pub marked : List ℕ
   pub given : ℕ
 
--- what a connection is about: `Reading` has the bytes that were fed since the last record's end
+-- what a connection is about: `Reading` has the bytes that were fed since the last record's end, and while it is
+-- `Awaiting` its call is forwarded
 pub data Phase : Type 0 where
   Idle : Phase
   Reading : List ℕ → Phase
   Owing : Owed → Phase
+  Awaiting : Phase
   Lost : Phase
 
 -- the mark is the moment from which its deadline counts

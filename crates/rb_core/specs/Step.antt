@@ -1,18 +1,27 @@
 -- The step of each event: what it gives, and the state after it.
-use Rattle.std.specs.Prelude.{ℕ, max, nat_lt, Bool, false, if◌then◌else◌, List, [], length, Option, Some, None, Result, Ok, Err}
+use Rattle.std.specs.Prelude.{ℕ, max, nat_lt, Bool, false, if◌then◌else◌, List, length, Option, Some, None, Result, Ok, Err}
 use Rattle.rb_rpc.specs.declared.peer.Peer.{Peer}
 use Rattle.rb_rpc.specs.declared.peer.Caller.{Caller}
 use Rattle.rb_rpc.specs.declared.peer.Caller.TheVariants.{Tcp, Udp}
+use Rattle.rb_feed.specs.Feeds.{arguments_of}
 use Rattle.rb_proto.specs.declared.context.Context.{Context}
+use Rattle.rb_forward.specs.Forwards.{Unsent as UnsentCall, unsent, can_be_sent}
 use Rattle.rb_proto.specs.Ledger.{Ledger}
+use Rattle.rb_proto.specs.Forwarding.{caller_dropped, call_sent}
 use Rattle.rb_core.specs.declared.message.Message.{Message}
 use Rattle.rb_core.specs.declared.types.CoreFault.{CoreFault}
 use Rattle.rb_core.specs.declared.types.CoreFault.TheVariants.{NoMemory, BadLimits, Full, Spent, Gone}
 use Rattle.rb_core.specs.State.{State, Connection, Connections, at_moment}
-use Rattle.rb_core.specs.Calls.{Outcome, Outcome as outcomes, message_of, outcome, is_no_call}
-use Rattle.rb_core.specs.Connections.{Taking, taking, reading, settled, giving, pending_in, live_connection, on_live, changed_at, opening_of, closing_of, first_lost}
+use Rattle.rb_core.specs.Calls.{Outcome, Outcome as outcomes, message_of, outcome, is_no_call, reply_in}
+use Rattle.rb_core.specs.Connections.{Taking, taking, reading, settled, giving, pending_in, live_connection, on_live, opening_of, closing_of, first_lost}
 use Rattle.rb_core.specs.Connections.Taking.{TakesNone, GoesOn, Ends}
+use Rattle.rb_core.specs.declared.types.Told.TheVariants.{TcpReady}
+use Rattle.rb_core.specs.declared.types.Told.TheVariants as ends
+use Rattle.rb_core.specs.declared.types.Expired.TheVariants.{Ended}
+use Rattle.rb_core.specs.declared.types.Expired.TheVariants as expiries
 pub use Rattle.rb_core.specs.declared.types.Taken.{Taken}
+pub use Rattle.rb_core.specs.Connections.{on_connection}
+pub use Rattle.rb_core.specs.Ending.{Told, Expired, forward_reply, expire}
 
 -- ---- calls
 
@@ -21,6 +30,7 @@ abbrev pub context_in : State → Caller → Context
 context_in s caller = record {
   listener = s.setting.listener;
   limit = s.setting.limits.rows;
+  forwards = s.setting.limits.forwards;
   clock = s.clock;
   caller = caller;
 }
@@ -28,15 +38,15 @@ context_in s caller = record {
 abbrev pub with_ledger : State → Outcome × Ledger → Outcome × State
 with_ledger s (given, ledger) = (given, record s { ledger = ledger })
 
--- a message from a caller is answered
-unfoldable pub serve : State → Caller → Message → Outcome × State
-serve s caller message = with_ledger s (outcome (context_in s caller) message s.ledger)
+-- a message from a caller is answered, behind whose head are these bytes
+abbrev pub serve_message : State → Caller → Message → List ℕ → Outcome × State
+serve_message s caller message arguments = with_ledger s (outcome (context_in s caller) message arguments s.ledger)
+
+-- so is what the data of a record, or a datagram, says
+unfoldable pub serve : State → Caller → List ℕ → Outcome × State
+serve s caller content = serve_message s caller (message_of content) (arguments_of content)
 
 -- ---- connections
-
--- the live connection of the number is changed
-abbrev pub on_connection : ℕ → (Connection → Connection) → State → State
-on_connection id change s = record s { connections = changed_at id change s.connections }
 
 -- A call on the connections at a moment: where it is refused the state stays, its clock too.
 abbrev pub moved : {A : Type 0} → ℕ → State → Result A CoreFault × Connections → Result A CoreFault × State
@@ -49,9 +59,9 @@ moved now s (Ok x, connections) = (Ok x, record (at_moment now s) { connections 
 abbrev pub settled_in : ℕ → Outcome × State → Bool × State
 settled_in id (given, s) = (is_no_call given, on_connection id (settled s.clock given) s)
 
--- a message on a connection is answered
-unfoldable pub answering : State → ℕ → Peer → Message → Bool × State
-answering s id peer message = settled_in id (serve s (Tcp id peer) message)
+-- what the data of a record on a connection says is answered
+unfoldable pub answering : State → ℕ → Peer → List ℕ → Bool × State
+answering s id peer content = settled_in id (serve s (Tcp id peer) content)
 
 abbrev pub with_count : ℕ → Bool × State → Taken × State
 with_count n (closed, s) = (record { count = n; closed = closed }, s)
@@ -60,7 +70,7 @@ with_count n (closed, s) = (record { count = n; closed = closed }, s)
 abbrev pub when_taken : State → ℕ → List ℕ → Connection → Taking → Taken × State
 when_taken s id piece c TakesNone = (record { count = 0; closed = false }, s)
 when_taken s id piece c (GoesOn fed) = (record { count = length piece; closed = false }, on_connection id (reading s.clock fed) s)
-when_taken s id piece c (Ends n content) = with_count n (answering s id c.peer (message_of content))
+when_taken s id piece c (Ends n content) = with_count n (answering s id c.peer content)
 
 abbrev pub bytes_to : State → ℕ → ℕ → List ℕ → Option Connection → Result Taken CoreFault × State
 bytes_to s now id piece None = (Err Gone, s)
@@ -103,11 +113,15 @@ is_too_much n (Ok bytes) = nat_lt (length bytes) n
 unfoldable pub open_connection : State → ℕ → Peer → Result ℕ CoreFault × State
 open_connection s now peer = moved now s (opening_of s.setting.limits.conns peer (max s.clock now) s.connections)
 
+-- with a connection the call ends that was forwarded for it
+abbrev pub dropped_with : State → ℕ → Result (Unit {0}) CoreFault × Connections → Result (Unit {0}) CoreFault × State
+dropped_with s id (Err fault, connections) = (Err fault, s)
+dropped_with s id (Ok u, connections) =
+    (Ok u, record s { connections = connections; ledger = (caller_dropped id s.ledger).1 })
+
 -- (closing takes no moment)
 unfoldable pub close_connection : State → ℕ → Result (Unit {0}) CoreFault × State
-close_connection s id =
-    let after : Result (Unit {0}) CoreFault × Connections = closing_of id s.connections in
-    (after.0, record s { connections = after.1 })
+close_connection s id = dropped_with s id (closing_of id s.connections)
 
 -- the Lost connection of least number
 unfoldable pub next_lost : State → Option ℕ
@@ -115,13 +129,23 @@ next_lost s = first_lost s.connections
 
 -- ---- datagrams
 
--- the last reply is taken back
+-- the last reply is taken back, and this is held, if there is one
 abbrev pub with_reply : Outcome × State → Outcome × State
-with_reply (outcomes.NoCall, s) = (outcomes.NoCall, record s { reply = [] })
-with_reply (outcomes.Reply reply, s) = (outcomes.Reply reply, record s { reply = reply })
+with_reply (given, s) = (given, record s { reply = reply_in given })
 
 unfoldable pub datagram : State → ℕ → Peer → List ℕ → Outcome × State
-datagram s now peer content = with_reply (serve (at_moment now s) (Udp peer) (message_of content))
+datagram s now peer content = with_reply (serve (at_moment now s) (Udp peer) content)
+
+-- ---- calls that are forwarded
+
+-- the one that is to be sent next: the unsent entry of least number
+unfoldable pub unsent_call : State → Option UnsentCall
+unsent_call s = unsent s.setting.first_xid s.ledger.forwards
+
+-- the call of the entry of a number was sent, if it was not before
+unfoldable pub sent_call : State → ℕ → Result (Unit {0}) CoreFault × State
+sent_call s number =
+    if can_be_sent number s.ledger.forwards then (Ok tt, record s { ledger = call_sent number s.ledger }) else (Err Gone, s)
 
 -- ---- events, one for each line of a script
 
@@ -133,6 +157,10 @@ pub data Event : Type 0 where
   Closed : ℕ → Event
   NextLost : Event
   Datagram : ℕ → Peer → List ℕ → Event
+  Unsent : Event
+  Sent : ℕ → Event
+  Forward : ℕ → Peer → List ℕ → Event
+  Expire : ℕ → Event
 
 -- what the line is answered with
 pub data Output : Type 0 where
@@ -145,7 +173,14 @@ pub data Output : Type 0 where
   Done : Output
   LostIs : Option ℕ → Output
   Replied : List ℕ → Output
+  Forwarded : Output
   Silent : Output
+  UnsentIs : Option UnsentCall → Output
+  Ignored : Output
+  Nothing : Output
+  ConnectionClosed : ℕ → Output
+  Ready : ℕ → Output
+  RepliedTo : Peer → List ℕ → Output
 
 abbrev pub output_or : {A : Type 0} → (A → Output) → Result A CoreFault × State → Output × State
 output_or show (Ok x, s) = (show x, s)
@@ -161,6 +196,23 @@ show_done u = Done
 abbrev pub show_outcome : Outcome × State → Output × State
 show_outcome (outcomes.NoCall, s) = (Silent, s)
 show_outcome (outcomes.Reply reply, s) = (Replied reply, s)
+show_outcome (outcomes.Forwarded, s) = (Forwarded, s)
+show_outcome (outcomes.Silent, s) = (Silent, s)
+
+-- whom a caller is told something, with the last reply over UDP
+abbrev pub show_told : List ℕ → Told → Output
+show_told reply (TcpReady id) = Ready id
+show_told reply (ends.Datagram peer) = RepliedTo peer reply
+show_told reply ends.Silent = Silent
+
+abbrev pub show_end : Option Told × State → Output × State
+show_end (None, s) = (Ignored, s)
+show_end (Some told, s) = (show_told s.reply told, s)
+
+abbrev pub show_expired : Expired × State → Output × State
+show_expired (expiries.Nothing, s) = (Nothing, s)
+show_expired (Ended told, s) = (show_told s.reply told, s)
+show_expired (expiries.ConnectionClosed id, s) = (ConnectionClosed id, s)
 
 unfoldable pub step : State → Event → Output × State
 step s (Open now peer) = output_or Opened (open_connection s now peer)
@@ -170,6 +222,10 @@ step s (Gave now id n) = if is_too_much n (pending s id) then (TooMuch, s) else 
 step s (Closed id) = output_or show_done (close_connection s id)
 step s NextLost = (LostIs (next_lost s), s)
 step s (Datagram now peer content) = show_outcome (datagram s now peer content)
+step s Unsent = (UnsentIs (unsent_call s), s)
+step s (Sent number) = output_or show_done (sent_call s number)
+step s (Forward now from message) = show_end (forward_reply s now from message)
+step s (Expire now) = show_expired (expire s now)
 
 -- the number of a refusal
 abbrev pub fault_number : CoreFault → ℕ

@@ -136,13 +136,15 @@ fn wanted_key(slots: &Pool<Slot>, wanted: Wanted, meter: &mut Meter) -> Option<u
 }
 
 impl Connections {
-    ghost use Rattle.std.specs.Prelude.{◌≡◌, ◌≤◌, ◌<◌, ◌+◌, ◌*◌, [], length, OnErr, IfOk, IfSome};
+    ghost use Rattle.std.specs.Prelude.{◌≡◌, ◌≤◌, ◌<◌, ◌+◌, ◌*◌, [], true, false, length, OnErr, IfOk, IfSome};
     ghost use Rattle.rb_core.specs.Connections.{on_live, giving, opening_of, closing_of, first_lost};
+    ghost use Rattle.rb_core.specs.Deadlines.{expiring};
     ghost use Rattle.rb_core.specs.StandsFor.{given_in, settling};
     ghost use Rattle.rb_core.specs.Step.{pending_at, pending_count};
     ghost use Rattle.rb_core.specs.Giving.{longest_fragment};
     ghost use Rattle.rb_core.specs.Costs.{slot_count, look_cost, taken_cost, settle_cost, give_cost, pending_cost};
-    ghost use Rattle.rb_core.specs.Slots.{Shows, Lends, Finds, TableActs, TableBecomes, StandsForConnections, StaysTable, IsDraft, empty_table, feeding, HasBuffers};
+    ghost use Rattle.rb_core.specs.Awaits.{is_free, has_live, NoneIsFreed, OnlyIsFreed, HearsFree};
+    ghost use Rattle.rb_core.specs.Slots.{Shows, Lends, Finds, TableActs, TableBecomes, StandsForConnections, StaysTable, IsDraft, empty_table, feeding, arguments_on, HasBuffers};
 
     /// No connections yet, of at most so many. All of their memory is taken.
     pub fn new(alloc: Global, conns: usize, meter: &mut Meter) -> Result<Connections, NoMemory>
@@ -163,6 +165,7 @@ impl Connections {
     pub fn open(&mut self, clock: u64, peer: Peer, meter: &mut Meter) -> Result<u64, CoreFault>
         requires { meter.old.tie ≡ self.old.tie }
         ensures acts { TableActs (opening_of self.old.conns peer clock) self.old self.new result }
+        ensures free { NoneIsFreed self.old self.new }
         ensures refused { OnErr result (self.new ≡ self.old) }
         ensures stays { StaysTable self.old self.new }
         ensures cost { PaysAtMost meter.old meter.new 4 }
@@ -191,6 +194,7 @@ impl Connections {
     pub fn close(&mut self, id: u64, meter: &mut Meter) -> Result<(), CoreFault>
         requires { meter.old.tie ≡ self.old.tie }
         ensures acts { TableActs (closing_of id) self.old self.new result }
+        ensures free { NoneIsFreed self.old self.new }
         ensures refused { OnErr result (self.new ≡ self.old) }
         ensures stays { StaysTable self.old self.new }
         ensures cost { PaysAtMost meter.old meter.new (look_cost self.old + 3) }
@@ -207,19 +211,27 @@ impl Connections {
     }
 
     /// Takes bytes that arrive on the live connection of the number, up to the end of a record, and says what the
-    /// record said: `Gone` where there is none.
+    /// record is, whose arguments go into the buffer: `Gone` where there is no such connection.
     pub fn take(
         &mut self,
         id: u64,
         piece: &[u8],
         clock: u64,
+        arguments: &mut Kept,
         meter: &mut Meter,
     ) -> Result<Received, CoreFault>
-        requires { meter.old.tie ≡ self.old.tie }
+        requires tie { meter.old.tie ≡ self.old.tie }
+        requires arguments { IsDraft meter.old.tie arguments.old }
         ensures acts { TableActs (on_live id (feeding clock piece.now)) self.old self.new result }
+        ensures arguments { Shows StandsForConnections
+            (arguments_on id arguments.old.bytes piece.now) self.old arguments.new.bytes }
+        ensures free { NoneIsFreed self.old self.new }
+        ensures hears { HearsFree id self.old self.new result }
         ensures within { IfOk result (λ got. got.count ≤ length piece.now) }
         ensures refused { OnErr result (self.new ≡ self.old) }
+        ensures kept { OnErr result (arguments.new ≡ arguments.old) }
         ensures stays { StaysTable self.old self.new }
+        ensures draft { IsDraft meter.old.tie arguments.new }
         ensures as_many { length self.new.slots ≡ length self.old.slots }
         ensures cost { PaysAtMost meter.old meter.new (look_cost self.old + taken_cost result) }
     {
@@ -229,11 +241,11 @@ impl Connections {
         let Some(slot) = self.slots.get_mut(key, meter) else {
             unreachable!()
         };
-        Ok(slot.take(piece, clock, meter))
+        Ok(slot.take(piece, clock, arguments, meter))
     }
 
-    /// The live connection of the number goes on as its record is answered: it takes the reply, and gives an empty
-    /// buffer for it, or it is Lost.
+    /// The live connection of the number goes on as its record is answered, or its call that was forwarded: it takes the
+    /// reply, and gives an empty buffer for it, or it is Awaiting, Idle or Lost.
     pub fn settle(
         &mut self,
         id: u64,
@@ -246,6 +258,9 @@ impl Connections {
         requires draft { IsDraft meter.old.tie reply.old }
         requires some { outcome ≡ Outcome.Reply → 0 < length reply.old.bytes }
         ensures stands { TableBecomes (settling id clock (given_in outcome reply.old)) self.old self.new }
+        ensures others { OnlyIsFreed id self.old self.new }
+        ensures awaits { outcome ≡ Outcome.Forwarded → has_live id self.old ≡ true
+            → is_free id self.new ≡ false }
         ensures stays { StaysTable self.old self.new }
         ensures draft { IsDraft meter.old.tie reply.new }
         ensures empty { reply.new.bytes ≡ [] }
@@ -272,6 +287,7 @@ impl Connections {
     ) -> Result<(), CoreFault>
         requires { meter.old.tie ≡ self.old.tie }
         ensures acts { TableActs (on_live id (giving clock n)) self.old self.new result }
+        ensures free { NoneIsFreed self.old self.new }
         ensures refused { OnErr result (self.new ≡ self.old) }
         ensures stays { StaysTable self.old self.new }
         ensures cost { PaysAtMost meter.old meter.new (look_cost self.old + give_cost) }
@@ -284,6 +300,24 @@ impl Connections {
         };
         slot.give(n, clock, meter);
         Ok(())
+    }
+
+    /// The connection of least number whose deadline has come becomes Lost.
+    pub fn expire(&mut self, clock: u64, meter: &mut Meter) -> Option<u64>
+        requires { meter.old.tie ≡ self.old.tie }
+        ensures acts { TableActs (expiring clock) self.old self.new result }
+        ensures free { NoneIsFreed self.old self.new }
+        ensures stays { StaysTable self.old self.new }
+        ensures cost { PaysAtMost meter.old meter.new (look_cost self.old) }
+    {
+        let Some(key) = wanted_key(&self.slots, Wanted::Due(clock), meter) else {
+            return None;
+        };
+        let Some(slot) = self.slots.get_mut(key, meter) else {
+            unreachable!()
+        };
+        slot.stage = Stage::Lost;
+        Some(slot.number)
     }
 
     /// The first connection that is wanted.

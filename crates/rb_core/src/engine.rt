@@ -3,12 +3,13 @@ ghost use Rattle.std.specs.Prelude.{◌≡◌, ◌≤◌, IsTrue};
 ghost use Rattle.rb_core.specs.State.{are_good};
 
 use crate::connections::{BUFFER_SIZE, Connections};
-use crate::message::read_message;
-use crate::serve::{LONGEST_REPLY, serve};
+use crate::message::{arguments_behind, message_with};
+use crate::serve::{LONGEST_REPLY, put_end, serve};
 use crate::slot::{Heard, Received};
-use crate::types::{CoreFault, Limits, Outcome, Taken};
+use crate::types::{CoreFault, Expired, Limits, Outcome, Taken, Told};
+use rb_forward::{Ended, FwdId, Unsent};
 use rb_proto::{Books, Context, Listener};
-use rb_rpc::{Caller, Peer};
+use rb_rpc::{Caller, Peer, read_call};
 use rb_xdr::{Kept, Meter};
 use std::alloc::Global;
 use std::marker::Model;
@@ -22,10 +23,12 @@ pub struct Core {
     clock: u64,
     connections: Connections,
     books: Books,
-    /// The reply to the last datagram.
+    /// The last reply over UDP.
     reply: Kept,
     /// Where a reply on a connection is written, empty between two events: the connection takes it for its own.
     draft: Kept,
+    /// The arguments of a record that ended, empty between two events: the connection gives its own buffer for it.
+    arguments: Kept,
 }
 
 impl Model for Core {
@@ -39,15 +42,18 @@ impl Model for Core {
       connections = c.connections;
       books = c.books;
       reply = c.reply.bytes;
+      arguments = c.arguments.bytes;
       tie = c.reply.tie;
     } };
 
-    ghost invariant = { λ c. IsCore c.limits c.connections c.books c.reply c.draft };
+    ghost invariant = { λ c. IsCore (record { limits = c.limits; listener = c.listener; first_xid = c.first_xid })
+        c.connections c.books c.reply c.draft c.arguments };
 }
 
 fn are_good(limits: &Limits) -> bool
     ensures value { result ≡ are_good limits.now }
     ensures rows { IsTrue result → 6 ≤ limits.now.rows }
+    ensures forwards { IsTrue result → limits.now.forwards ≤ 64 }
 {
     1 <= limits.conns
         && limits.conns <= 256
@@ -57,15 +63,20 @@ fn are_good(limits: &Limits) -> bool
 }
 
 impl Core {
-    ghost use Rattle.std.specs.Prelude.{◌≡◌, ◌+◌, ◌*◌, ◌≤◌, ◌↔◌, length, IsTrue, IfOk, IfErr, IsErrOf, OnErr, not};
+    ghost use Rattle.std.specs.Prelude.{◌≡◌, ◌+◌, ◌*◌, ◌≤◌, ◌↔◌, [], true, false, length, IsTrue, IfOk, IfErr, IfSome, IsErrOf, OnErr, not};
     ghost use Rattle.rb_xdr.specs.Meter.{Pays, PaysAtMost};
     ghost use Rattle.rb_core.specs.State.{are_good, opening};
     ghost use Rattle.rb_core.specs.Calls.{longest_reply};
     ghost use Rattle.rb_core.specs.Giving.{longest_fragment};
-    ghost use Rattle.rb_core.specs.Step.{datagram, open_connection, bytes, pending, pending_count, gave, close_connection, next_lost};
+    ghost use Rattle.rb_forward.specs.Costs.{sent_cost, unsent_cost};
+    ghost use Rattle.rb_forward.specs.Outcomes.{PassesWithin};
+    ghost use Rattle.rb_forward.specs.Table.{slots_of, seen, count_lent, longest_call, is_waiting, IsNew};
+    ghost use Rattle.rb_core.specs.Step.{datagram, open_connection, bytes, pending, pending_count, gave, close_connection, next_lost, unsent_call, sent_call};
+    ghost use Rattle.rb_core.specs.Ending.{told_at, tell, forward_reply, expire_connection, expire};
+    ghost use Rattle.rb_core.specs.Awaits.{has_live};
     ghost use Rattle.rb_core.specs.Slots.{Acts, Shows, Lends};
-    ghost use Rattle.rb_core.specs.StandsFor.{StandsFor, ActsWithReply, answering_heard, context_of, answering_cost, bytes_cost, IsCheapIfQuiet};
-    ghost use Rattle.rb_core.specs.Costs.{look_cost, serving_cost, pending_cost, give_cost};
+    ghost use Rattle.rb_core.specs.StandsFor.{StandsFor, ActsWithReply, answering_heard, without_arguments, context_of, answering_cost, bytes_cost, closing_cost, ending_cost, IsCheapIfQuiet};
+    ghost use Rattle.rb_core.specs.Costs.{look_cost, slot_count, serving_cost, tell_cost, pending_cost, give_cost};
 
     /// A core with the daemon's own rows alone, at the moment `now` (milliseconds since the start of 1970).
     /// `first_xid` is the number of the first call that it forwards. `BadLimits` where a limit is out of its
@@ -85,12 +96,13 @@ impl Core {
         ensures bad { IsErrOf result CoreFault.BadLimits ↔ IsTrue (not (are_good limits)) }
         ensures memory { IfErr result
             (λ fault. IsTrue (are_good limits) → fault ≡ CoreFault.NoMemory) }
-        ensures cost { PaysAtMost meter.old meter.new (6 + 3 * limits.conns) }
+        ensures cost { PaysAtMost meter.old meter.new (6 + 3 * limits.conns + 2 * limits.forwards) }
     {
         if !are_good(&limits) {
             return Err(CoreFault::BadLimits);
         }
-        let Ok(books) = Books::new(alloc, limits.rows, &listener, meter) else {
+        let forwards = limits.forwards as u32;
+        let Ok(books) = Books::new(alloc, limits.rows, forwards, first_xid, &listener, meter) else {
             return Err(CoreFault::NoMemory);
         };
         let Ok(connections) = Connections::new(alloc, limits.conns, meter) else {
@@ -102,6 +114,9 @@ impl Core {
         let Ok(draft) = Kept::new(alloc, BUFFER_SIZE, meter) else {
             return Err(CoreFault::NoMemory);
         };
+        let Ok(arguments) = Kept::new(alloc, BUFFER_SIZE, meter) else {
+            return Err(CoreFault::NoMemory);
+        };
         Ok(Core {
             limits,
             listener,
@@ -111,6 +126,7 @@ impl Core {
             books,
             reply,
             draft,
+            arguments,
         })
     }
 
@@ -121,12 +137,14 @@ impl Core {
         Context {
             listener: self.listener,
             limit: self.limits.rows,
+            forwards: self.limits.forwards as u32,
             clock: self.clock,
             caller,
         }
     }
 
-    /// Takes a datagram in. The reply is that of `udp_reply`.
+    /// Takes a datagram in. The reply is that of `udp_reply`. `Forwarded` where it is a call that is forwarded: its reply
+    /// comes with `forward_reply` or `expire`.
     pub fn datagram(&mut self, now: u64, peer: Peer, content: &[u8], meter: &mut Meter) -> Outcome
         requires { meter.old.tie ≡ self.old.tie }
         ensures acts { ActsWithReply (λ s. datagram s now peer content.now) self.old self.new result }
@@ -137,16 +155,19 @@ impl Core {
         self.clock = self.clock.max(now);
         let context = self.context(Caller::Udp(peer));
         self.reply.clear(meter);
+        let verdict = read_call(content);
+        let arguments = arguments_behind(verdict, content);
         serve(
             &mut self.books,
             &context,
-            read_message(content),
+            message_with(verdict, arguments),
+            arguments,
             &mut self.reply,
             meter,
         )
     }
 
-    /// The reply to the last datagram: no bytes where it was not answered.
+    /// The reply that the last `datagram`, `forward_reply` or `expire` gave over UDP: no bytes where there is none.
     pub fn udp_reply(&self, meter: &mut Meter) -> &[u8]
         requires { meter.old.tie ≡ self.now.tie }
         ensures held { result.now ≡ self.now.reply }
@@ -191,7 +212,9 @@ impl Core {
         ensures cheap { IsCheapIfQuiet self.old id piece.now result meter.old meter.new }
     {
         let clock = self.clock.max(now);
-        let Received { count, heard } = self.connections.take(id, piece, clock, meter)?;
+        let Received { count, heard } = self
+            .connections
+            .take(id, piece, clock, &mut self.arguments, meter)?;
         self.clock = clock;
         let Some(heard) = heard else {
             return Ok(Taken {
@@ -203,22 +226,31 @@ impl Core {
         Ok(Taken { count, closed })
     }
 
-    /// Answers what a record on a connection said, and lets the connection go on. It says whether it is Lost now.
+    /// Answers what a record on a connection says, whose arguments are held, and lets the connection go on. It says whether
+    /// it is Lost now.
     #[tactic(auto, unfolding(crate::specs::Calls::longest_reply, crate::specs::Reading::longest_arguments, crate::specs::Reading::buffer_size))]
     fn answer(&mut self, id: u64, heard: Heard, meter: &mut Meter) -> bool
-        requires { meter.old.tie ≡ self.old.tie }
-        ensures acts { Acts StandsFor (answering_heard id heard) self.old self.new result }
+        requires tie { meter.old.tie ≡ self.old.tie }
+        requires live { has_live id self.old.connections ≡ true }
+        requires caller { is_waiting id (slots_of self.old.books.forwards) ≡ false }
+        ensures acts { Acts StandsFor (answering_heard id heard self.old.arguments)
+            (without_arguments self.old) self.new result }
         ensures tie { self.new.tie ≡ self.old.tie }
         ensures cost { PaysAtMost meter.old meter.new (answering_cost self.old self.new) }
     {
         let context = self.context(Caller::Tcp(id, heard.peer));
+        let len = self.arguments.len(meter);
+        let arguments = self.arguments.lend(0..len, meter);
+        let message = message_with(heard.verdict, arguments);
         let outcome = serve(
             &mut self.books,
             &context,
-            heard.message,
+            message,
+            arguments,
             &mut self.draft,
             meter,
         );
+        self.arguments.clear(meter);
         self.connections
             .settle(id, outcome, &mut self.draft, self.clock, meter);
         outcome.is_no_call()
@@ -259,15 +291,18 @@ impl Core {
         Ok(())
     }
 
-    /// A connection was closed: it is there no longer, live or Lost. `Gone` where there is none of that number.
+    /// A connection was closed: it is there no longer, live or Lost, and its forwarded call is dropped. `Gone` where there
+    /// is none of that number.
     pub fn closed(&mut self, id: u64, meter: &mut Meter) -> Result<(), CoreFault>
         requires { meter.old.tie ≡ self.old.tie }
         ensures acts { Acts StandsFor (λ s. close_connection s id) self.old self.new result }
         ensures refused { OnErr result (self.new ≡ self.old) }
         ensures tie { self.new.tie ≡ self.old.tie }
-        ensures cost { PaysAtMost meter.old meter.new (look_cost self.old.connections + 3) }
+        ensures cost { PaysAtMost meter.old meter.new (closing_cost self.old) }
     {
-        self.connections.close(id, meter)
+        self.connections.close(id, meter)?;
+        self.books.drop_caller(id, meter);
+        Ok(())
     }
 
     /// The least number of the connections that are Lost. They are to be closed.
@@ -277,5 +312,113 @@ impl Core {
         ensures cost { PaysAtMost meter.old meter.new (look_cost self.now.connections) }
     {
         self.connections.next_lost(meter)
+    }
+    /// The forwarded call that is to be sent next: the unsent one of least number, whether or not its deadline has come. It
+    /// has at most 8,840 bytes.
+    pub fn unsent(&self, meter: &mut Meter) -> Option<Unsent<'_>>
+        requires { meter.old.tie ≡ self.now.tie }
+        ensures unsent { Shows StandsFor unsent_call self.now (seen result) }
+        ensures few { IfSome result (λ lent. length lent.call.now ≤ longest_call) }
+        ensures cost { PaysAtMost meter.old meter.new
+            (unsent_cost self.now.books.forwards.cap (count_lent result)) }
+    {
+        self.books.unsent(meter)
+    }
+
+    /// The forwarded call of this number was sent: from now on a reply to it counts. `Gone` where there is no such call, or
+    /// it was sent before.
+    pub fn sent(&mut self, id: FwdId, meter: &mut Meter) -> Result<(), CoreFault>
+        requires { meter.old.tie ≡ self.old.tie }
+        ensures acts { Acts StandsFor (λ s. sent_call s id.number) self.old self.new result }
+        ensures refused { OnErr result (self.new ≡ self.old) }
+        ensures tie { self.new.tie ≡ self.old.tie }
+        ensures cost { PaysAtMost meter.old meter.new (sent_cost self.old.books.forwards.cap) }
+    {
+        let Ok(()) = self.books.sent(id, meter) else {
+            return Err(CoreFault::Gone);
+        };
+        Ok(())
+    }
+
+    /// Takes a datagram that came in where forwarded calls are sent from: the host and port that it came from, and its
+    /// bytes. Where it is the reply to a forwarded call whose deadline is later than `now`, that call has ended, and its
+    /// caller is told so. `None` where it is no such reply: it is ignored.
+    pub fn forward_reply(
+        &mut self,
+        now: u64,
+        from: Peer,
+        bytes: &[u8],
+        meter: &mut Meter,
+    ) -> Option<Told>
+        requires { meter.old.tie ≡ self.old.tie }
+        ensures acts { Acts StandsFor (λ s. forward_reply s now from bytes.now) self.old self.new result }
+        ensures tie { self.new.tie ≡ self.old.tie }
+        ensures short { length self.new.reply ≤ longest_reply }
+        ensures cost { PaysAtMost meter.old meter.new (ending_cost self.old) }
+    {
+        self.clock = self.clock.max(now);
+        self.reply.clear(meter);
+        let Some(ended) = self.books.reply(self.clock, from, bytes, meter) else {
+            return None;
+        };
+        Some(self.tell(&ended, bytes, meter))
+    }
+
+    /// Does one thing that is due at this moment: the forwarded call of least number whose deadline has come ends; where
+    /// there is none, the connection of least number whose deadline has come is Lost. `Nothing` where nothing is due.
+    pub fn expire(&mut self, now: u64, meter: &mut Meter) -> Expired
+        requires { meter.old.tie ≡ self.old.tie }
+        ensures acts { Acts StandsFor (λ s. expire s now) self.old self.new result }
+        ensures tie { self.new.tie ≡ self.old.tie }
+        ensures short { length self.new.reply ≤ longest_reply }
+        ensures cost { PaysAtMost meter.old meter.new (ending_cost self.old) }
+    {
+        self.clock = self.clock.max(now);
+        self.reply.clear(meter);
+        let Some(ended) = self.books.due(self.clock, meter) else {
+            return self.expire_connection(meter);
+        };
+        Expired::Ended(self.tell(&ended, &[], meter))
+    }
+
+    /// The connection of least number whose deadline has come becomes Lost, if there is one.
+    fn expire_connection(&mut self, meter: &mut Meter) -> Expired
+        requires { meter.old.tie ≡ self.old.tie }
+        ensures acts { Acts StandsFor expire_connection self.old self.new result }
+        ensures tie { self.new.tie ≡ self.old.tie }
+        ensures reply { self.new.reply ≡ self.old.reply }
+        ensures cost { PaysAtMost meter.old meter.new (look_cost self.old.connections) }
+    {
+        match self.connections.expire(self.clock, meter) {
+            Some(id) => Expired::ConnectionClosed(id),
+            None => Expired::Nothing,
+        }
+    }
+
+    /// Tells the caller of a forwarded call how it ended, where it ended by this datagram.
+    #[tactic(auto, unfolding(crate::specs::Calls::longest_reply, crate::specs::Reading::longest_arguments, crate::specs::Reading::buffer_size))]
+    fn tell(&mut self, ended: &Ended, message: &[u8], meter: &mut Meter) -> Told
+        requires tie { meter.old.tie ≡ self.old.tie }
+        requires empty { self.old.reply ≡ [] }
+        requires within { PassesWithin ended.now.outcome (length message.now) }
+        requires alone { IsNew ended.now.forward.caller (slots_of self.old.books.forwards) }
+        ensures acts { Acts StandsFor (tell ended.now.forward.caller (told_at message.now ended.now))
+            self.old self.new result }
+        ensures tie { self.new.tie ≡ self.old.tie }
+        ensures short { length self.new.reply ≤ longest_reply }
+        ensures cost { PaysAtMost meter.old meter.new (tell_cost (slot_count self.old.connections)) }
+    {
+        match ended.forward.caller {
+            Caller::Tcp(id, _) => {
+                let outcome = put_end(ended, message, &mut self.draft, meter);
+                self.connections
+                    .settle(id, outcome, &mut self.draft, self.clock, meter);
+                Told::TcpReady(id)
+            }
+            Caller::Udp(peer) => match put_end(ended, message, &mut self.reply, meter) {
+                Outcome::Reply => Told::Datagram(peer),
+                Outcome::NoCall | Outcome::Forwarded | Outcome::Silent => Told::Silent,
+            },
+        }
     }
 }

@@ -1,8 +1,13 @@
 //! What holds of the definitions.
 ghost use Rattle.rb_core.specs.Grammar.{MessagesAreOfTheGrammar};
-ghost use Rattle.rb_core.specs.Laws.{RunsAppend, StatesAppend, RefusedEventsChangeNothing, NumbersNeverRecur, CutsDoNotMatter, NextLostIsLeast, BytesAreTakenExactly, RepliesAreGivenWhole, OwedRepliesStay, ConnectionsCloseExactly, LedgersAreWellKept};
+ghost use Rattle.rb_core.specs.Laws.{RunsAppend, StatesAppend, RefusedEventsChangeNothing, NumbersNeverRecur, CutsDoNotMatter, NextLostIsLeast, BytesAreTakenExactly, RepliesAreGivenWhole, OwedRepliesStay, LedgersAreWellKept};
+ghost use Rattle.rb_core.specs.Closings.{ConnectionsCloseExactly};
+ghost use Rattle.rb_core.specs.ForwardLaws.{ConnectionsAwait, RepliesEndTheirOwn, DeadlinesEndOne, EntriesEndOnce};
 ghost use Rattle.rb_core.specs.Sessions.{SessionsAreWhole};
+ghost use Rattle.rb_core.specs.DeadlineLaws.{ExpireDoesOneThing, NothingIsDueSoon};
 ghost use Rattle.rb_core.specs.WorkedConnections.{NoCallCloses, OtherRpcVersionOnTcp, CrumbsInOnePiece, CrumbsInSingleBytes, CrumbsInSevens, BytesBehindArguments, OneRecordAtATime, OneRecordAtATimePasses, NoCallPasses, GivenInParts, TooMuchIsRefused, GoodLimits, NumbersDoNotRecur};
+ghost use Rattle.rb_core.specs.WorkedForwards.{ForwardWithoutRow, RefusedCallsAreCounted, ForwardUntilDeadline, IndirectPasses, CallitPasses, TargetRefuses, DeniedIsSystemErr, CallitIsSilent, GreatestResults, NoPlace, GreatestArguments, SilentOnTcp, ForwardPassesOnTcp, ForwardOnTcpIsWhole, ClosedCallerIsDropped};
+ghost use Rattle.rb_core.specs.WorkedDeadlines.{IdleEnds, ReadingEnds, TwoEnd, OwingEnds, GivenBytesMoveTheMark, IdleAfterTheReply, DueAtOnceAtTheGreatestMoment, ForwardedCallsComeFirst};
 ghost use Rattle.rb_core.specs.Worked.{NullIsAnswered, SetThenAskThenSetAgain, GreatestVersionElse, OwnRowsAreAsked, LimitIsReached, LocalCallersSet, NothingIsSilent, NullBySys, OtherRpcVersion, TooShort, GreatestCredential, OverlongCredential, SysBodyCutShort, OverlongVerifier, BadResidue, GoodResidue, GssBeforeProgram, OtherVersion, UnknownProcedure, GarbageArguments, OtherProgram, NullOfThree, NullOfFour, GetstatFirstCall, GetstatOfRefusals};
 
 /// For each connection in each run: the bytes taken on it are the marked records of its calls and an unfinished rest;
@@ -58,6 +63,25 @@ pub fn worked_connections()
     ensures numbers { NumbersDoNotRecur }
 {}
 
+/// The definitions give what the worked examples of forwarded calls say.
+pub fn worked_forwards()
+    ensures forward_without_row { ForwardWithoutRow }
+    ensures refused_calls_are_counted { RefusedCallsAreCounted }
+    ensures forward_until_deadline { ForwardUntilDeadline }
+    ensures forward_passes { IndirectPasses }
+    ensures callit_passes { CallitPasses }
+    ensures target_refuses { TargetRefuses }
+    ensures denied_is_system_err { DeniedIsSystemErr }
+    ensures callit_is_silent { CallitIsSilent }
+    ensures greatest_results { GreatestResults }
+    ensures no_place { NoPlace }
+    ensures forward_greatest_arguments { GreatestArguments }
+    ensures silent_on_tcp { SilentOnTcp }
+    ensures forward_passes_on_tcp { ForwardPassesOnTcp }
+    ensures forward_on_tcp_is_whole { ForwardOnTcpIsWhole }
+    ensures closed_caller_is_dropped { ClosedCallerIsDropped }
+{}
+
 /// A message asks for a procedure exactly where its bytes begin with a call of it and its arguments.
 pub fn messages_are_of_the_grammar()
     ensures { MessagesAreOfTheGrammar }
@@ -105,14 +129,57 @@ pub fn owed_replies_stay()
     ensures { OwedRepliesStay }
 {}
 
-/// In each state that a run reaches, a live connection becomes Lost exactly by the end of a record that is no call, and is
-/// gone exactly by its close.
+/// In each state that a run reaches, a live connection becomes Lost exactly by the end of a record that is no call or at
+/// its deadline, when no forwarded call is due and no connection of lesser number is; and it is gone exactly by its close.
 pub fn connections_close_exactly()
     ensures { ConnectionsCloseExactly }
+{}
+
+/// In each state that a run reaches, a connection is Awaiting exactly while one forwarded call is its own, and no other
+/// connection has one.
+pub fn connections_await()
+    ensures { ConnectionsAwait }
+{}
+
+/// A datagram ends the first forwarded call that was sent to the host and port that it comes from, by its xid and before its
+/// deadline, and its caller is told what the datagram says; a deadline ends the first whose it is. Every other datagram
+/// leaves all but the clock and the last reply over UDP.
+pub fn calls_end_by_their_own()
+    ensures replies { RepliesEndTheirOwn }
+    ensures deadlines { DeadlinesEndOne }
+{}
+
+/// In each state that a run reaches, each forwarded call that began has ended once, or is still there.
+pub fn entries_end_once()
+    ensures { EntriesEndOnce }
 {}
 
 /// In each state that a run reaches, for every listener: each change was accepted, no two live rows are of one program,
 /// version and netid, and at good limits at most `limits.rows` rows are live.
 pub fn ledgers_are_well_kept()
     ensures { LedgersAreWellKept }
+{}
+
+/// The definitions give what the worked examples of deadlines say.
+pub fn worked_deadlines()
+    ensures idle { IdleEnds }
+    ensures reading { ReadingEnds }
+    ensures two { TwoEnd }
+    ensures owing { OwingEnds }
+    ensures given { GivenBytesMoveTheMark }
+    ensures idle_again { IdleAfterTheReply }
+    ensures greatest_moment { DueAtOnceAtTheGreatestMoment }
+    ensures forwarded_first { ForwardedCallsComeFirst }
+{}
+
+/// In each state that a run reaches, at most as many calls of `expire` at one moment as there may be connections and
+/// forwarded calls reach one at which nothing is due.
+pub fn nothing_is_due_soon()
+    ensures { NothingIsDueSoon }
+{}
+
+/// In each state that a run reaches, `expire` ends the due forwarded call of least number; where none is due, the due
+/// connection of least number is Lost; and where none is due either, it changes nothing but the clock and the last reply.
+pub fn expire_does_one_thing()
+    ensures { ExpireDoesOneThing }
 {}

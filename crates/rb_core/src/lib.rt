@@ -2,6 +2,7 @@
 #![tactic(auto)]
 
 mod connections;
+mod deadlines;
 mod engine;
 mod giving;
 mod laws;
@@ -14,15 +15,17 @@ mod types;
 
 pub use engine::Core;
 pub use laws::{
-    bytes_are_taken_exactly, connections_close_exactly, cuts_do_not_matter, ledgers_are_well_kept,
-    messages_are_of_the_grammar, next_lost_is_least, numbers_never_recur, owed_replies_stay,
-    refused_events_change_nothing, replies_are_given_whole, runs_append, sessions_are_whole,
-    worked_connections, worked_examples,
+    bytes_are_taken_exactly, calls_end_by_their_own, connections_await, connections_close_exactly,
+    cuts_do_not_matter, entries_end_once, expire_does_one_thing, ledgers_are_well_kept,
+    messages_are_of_the_grammar, next_lost_is_least, nothing_is_due_soon, numbers_never_recur,
+    owed_replies_stay, refused_events_change_nothing, replies_are_given_whole, runs_append,
+    sessions_are_whole, worked_connections, worked_deadlines, worked_examples, worked_forwards,
 };
 pub use message::{Message, read_message};
+pub use rb_forward::{FwdId, Unsent};
 pub use rb_proto::Listener;
 pub use rb_rpc::{Caller, Peer};
 pub use rb_xdr::NoMemory;
 pub use reading::kept_bytes_say_the_record;
-pub use run::{Event, Output, replay};
-pub use types::{CoreFault, Limits, Outcome, Taken};
+pub use run::{Event, Output, UnsentCall, replay};
+pub use types::{CoreFault, Expired, Limits, Outcome, Taken, Told};

@@ -1,5 +1,9 @@
 //! What the data of a record, or a datagram, says: the order of refusals.
-ghost use Rattle.std.specs.Prelude.{◌≡◌};
+ghost use Rattle.std.specs.Prelude.{◌≡◌, length};
+ghost use Rattle.rb_rpc.specs.Verdict.{verdict as verdict_of};
+ghost use Rattle.rb_feed.specs.Feeds.{arguments_of};
+ghost use Rattle.rb_core.specs.Reading.{HasArgsIn};
+ghost use Rattle.rb_rpc.specs.Verdict.{EndsWithin};
 ghost use Rattle.rb_core.specs.Calls.{is_served, request_of, call_of, message_with, message_of};
 
 use rb_proto::{ArgumentFault, Call, Request, read_args};
@@ -46,7 +50,8 @@ fn request_of(head: CallHead, request: Result<Request, ArgumentFault>) -> Messag
 /// What a call with a readable head says.
 #[tactic(auto, unfolding(crate::specs::Calls::call_of))]
 fn call_of(head: CallHead, arguments: &[u8]) -> Message
-    ensures { result ≡ call_of head arguments.now }
+    ensures message { result ≡ call_of head arguments.now }
+    ensures args { HasArgsIn result arguments.now }
 {
     if head.prog != RPCB_PROG {
         return refusal(head.xid, ReplyStatus::ProgUnavail);
@@ -59,7 +64,8 @@ fn call_of(head: CallHead, arguments: &[u8]) -> Message
 
 /// What a message says on which this is the verdict, and these are the bytes behind its head.
 pub fn message_with(verdict: Verdict, arguments: &[u8]) -> Message
-    ensures { result ≡ message_with verdict arguments.now }
+    ensures message { result ≡ message_with verdict arguments.now }
+    ensures args { HasArgsIn result arguments.now }
 {
     match verdict {
         Verdict::NoCall => Message::NoCall,
@@ -69,15 +75,24 @@ pub fn message_with(verdict: Verdict, arguments: &[u8]) -> Message
     }
 }
 
+/// The bytes behind the head of a call, none where the data on which this is the verdict is no call that can be read.
+#[tactic(auto, unfolding(rb_feed::specs::Feeds::arguments_of))]
+pub fn arguments_behind(verdict: Verdict, bytes: &[u8]) -> &[u8]
+    requires verdict { verdict ≡ verdict_of bytes.now }
+    requires within { EndsWithin verdict (length bytes.now) }
+    ensures { result.now ≡ arguments_of bytes.now }
+{
+    match verdict {
+        Verdict::Call(_, place) => &bytes[place..],
+        Verdict::NoCall | Verdict::RpcMismatch(_) | Verdict::AuthError(_, _) => &[],
+    }
+}
+
 /// What the data of a record, or a datagram, says: the first line of the order of refusals that holds decides.
 #[tactic(auto, unfolding(crate::specs::Calls::message_of, rb_feed::specs::Feeds::arguments_of))]
 pub fn read_message(bytes: &[u8]) -> Message
     ensures { result ≡ message_of bytes.now }
 {
     let verdict = read_call(bytes);
-    let arguments = match verdict {
-        Verdict::Call(_, place) => &bytes[place..],
-        Verdict::NoCall | Verdict::RpcMismatch(_) | Verdict::AuthError(_, _) => &[],
-    };
-    message_with(verdict, arguments)
+    message_with(verdict, arguments_behind(verdict, bytes))
 }

@@ -1,8 +1,9 @@
 //! Runs: lists of events.
-ghost use Rattle.std.specs.Prelude.{◌≡◌, ◌<◌, ◌+◌, ℕ, length, take, OnOk, OnErr};
+ghost use Rattle.std.specs.Prelude.{◌≡◌, ◌<◌, ◌≤◌, ◌+◌, ℕ, [], length, take, vec_capacity, OnOk, OnErr};
 ghost use Rattle.rb_core.specs.State.{State};
-ghost use Rattle.rb_core.specs.Step.{show_taken, pending, is_too_much};
-ghost use Rattle.rb_core.specs.Step.Event.{Open, Bytes, Pending, Gave, Closed, NextLost, Datagram};
+ghost use Rattle.rb_core.specs.Calls.{longest_reply};
+ghost use Rattle.rb_core.specs.Step.{show_taken, show_told, pending, is_too_much};
+ghost use Rattle.rb_core.specs.Step.Event.{Open, Bytes, Pending, Gave, Closed, NextLost, Datagram, Unsent, Sent, Forward, Expire};
 ghost use Rattle.rb_core.specs.StandsFor.{StandsFor, event_of, output_of, events_of, outputs_of, HasHappened, MayHappen, Happened, PaysForRun};
 ghost use Rattle.rb_xdr.specs.Meter.{PaysAtMost};
 ghost use Rattle.rb_core.specs.Slots.{Shows};
@@ -11,10 +12,14 @@ ghost use Rattle.rb_core.specs.Costs.{look_cost};
 use crate::connections::LONGEST_FRAGMENT;
 use crate::engine::Core;
 use crate::serve::LONGEST_REPLY;
-use crate::types::{CoreFault, Outcome, Taken};
+use crate::types::{CoreFault, Expired, Outcome, Taken, Told};
+use rb_forward::FwdId;
 use rb_rpc::Peer;
 use rb_xdr::{Meter, NoMemory};
 use std::alloc::Global;
+
+/// The longest forwarded call: a head of 40 bytes and 8,800 of arguments.
+const LONGEST_CALL: usize = 8_840;
 
 /// An event of a run: a call on a core, and the look at its reply where there is one. Moments are milliseconds
 /// since the start of 1970.
@@ -34,6 +39,22 @@ pub enum Event {
     NextLost,
     /// A datagram: the moment, where it came from, and its bytes.
     Datagram(u64, Peer, Vec<u8>),
+    /// The look for a forwarded call that is to be sent.
+    Unsent,
+    /// The forwarded call of the number was sent.
+    Sent(u64),
+    /// A datagram where forwarded calls are sent from: the moment, where it came from, and its bytes.
+    Forward(u64, Peer, Vec<u8>),
+    /// One thing that is due is done: the moment.
+    Expire(u64),
+}
+
+/// A forwarded call that is to be sent: its number, where it is sent, and the datagram.
+#[derive(Debug, Drop)]
+pub struct UnsentCall {
+    pub number: u64,
+    pub target: Peer,
+    pub call: Vec<u8>,
 }
 
 /// What an event gave.
@@ -57,8 +78,22 @@ pub enum Output {
     Lost(Option<u64>),
     /// The reply to a datagram.
     Replied(Vec<u8>),
-    /// A datagram was not answered.
+    /// A datagram is a call that is forwarded.
+    Forwarded,
+    /// A datagram was not answered, or the caller of a forwarded call is not told its end.
     Silent,
+    /// The forwarded call that is to be sent.
+    Unsent(Option<UnsentCall>),
+    /// The datagram is no reply to a forwarded call.
+    Ignored,
+    /// Nothing was due.
+    Nothing,
+    /// The deadline of the connection of the number has come, and it is Lost now.
+    ConnectionClosed(u64),
+    /// A forwarded call has ended, and the connection of the number goes on.
+    Ready(u64),
+    /// A forwarded call has ended, and this is the reply to the peer.
+    RepliedTo(Peer, Vec<u8>),
 }
 
 #[tactic(auto, unfolding(crate::specs::Step::step))]
@@ -174,12 +209,107 @@ fn datagram(
         return Err(NoMemory);
     };
     match core.datagram(now, peer, content, meter) {
-        Outcome::NoCall => Ok(Output::Silent),
+        Outcome::NoCall | Outcome::Silent => Ok(Output::Silent),
+        Outcome::Forwarded => Ok(Output::Forwarded),
         Outcome::Reply => {
             reply.extend_from_slice(core.udp_reply(meter)).unwrap();
             reply.shrink_to_fit();
             Ok(Output::Replied(reply))
         }
+    }
+}
+
+/// Looks for the forwarded call that is to be sent. Nothing changes.
+#[tactic(auto, unfolding(crate::specs::Step::step, rb_forward::specs::Table::longest_arguments))]
+fn unsent(alloc: Global, core: &Core, meter: &mut Meter) -> Result<Output, NoMemory>
+    requires { meter.old.tie ≡ core.now.tie }
+    ensures ok { MayHappen Unsent core.now core.now meter.old meter.new result }
+    ensures free { OnErr result (meter.new ≡ meter.old) }
+{
+    let Ok(mut call) = Vec::with_capacity(alloc, LONGEST_CALL) else {
+        return Err(NoMemory);
+    };
+    let Some(unsent) = core.unsent(meter) else {
+        return Ok(Output::Unsent(None));
+    };
+    call.extend_from_slice(unsent.call).unwrap();
+    let (number, target) = (unsent.id.number, unsent.target);
+    Ok(Output::Unsent(Some(UnsentCall {
+        number,
+        target,
+        call,
+    })))
+}
+
+#[tactic(auto, unfolding(crate::specs::Step::step))]
+fn sent(core: &mut Core, number: u64, meter: &mut Meter) -> Output
+    requires { meter.old.tie ≡ core.old.tie }
+    ensures { HasHappened (Sent number) core.old core.new meter.old meter.new result }
+{
+    match core.sent(FwdId { number }, meter) {
+        Ok(()) => Output::Done,
+        Err(fault) => Output::Refused(fault),
+    }
+}
+
+/// What is told of a forwarded call that ended, with the reply over UDP where there is one.
+#[tactic(auto, unfolding(crate::specs::Calls::longest_reply))]
+fn show_told(core: &Core, told: Told, mut reply: Vec<u8>, meter: &mut Meter) -> Output
+    requires tie { meter.old.tie ≡ core.now.tie }
+    requires short { length core.now.reply ≤ longest_reply }
+    requires empty { reply.items ≡ [] }
+    requires room { longest_reply ≤ vec_capacity reply }
+    ensures told { output_of result ≡ show_told core.now.reply told }
+    ensures cost { PaysAtMost meter.old meter.new 9001 }
+{
+    match told {
+        Told::TcpReady(id) => Output::Ready(id),
+        Told::Datagram(peer) => {
+            reply.extend_from_slice(core.udp_reply(meter)).unwrap();
+            reply.shrink_to_fit();
+            Output::RepliedTo(peer, reply)
+        }
+        Told::Silent => Output::Silent,
+    }
+}
+
+#[tactic(auto, unfolding(crate::specs::Step::step, crate::specs::Calls::longest_reply))]
+fn forward(
+    alloc: Global,
+    core: &mut Core,
+    now: u64,
+    from: Peer,
+    message: &[u8],
+    meter: &mut Meter,
+) -> Result<Output, NoMemory>
+    requires { meter.old.tie ≡ core.old.tie }
+    ensures ok { MayHappen (Forward now from message.now) core.old core.new meter.old meter.new result }
+    ensures err { OnErr result (core.new ≡ core.old) }
+    ensures free { OnErr result (meter.new ≡ meter.old) }
+{
+    let Ok(reply) = Vec::with_capacity(alloc, LONGEST_REPLY) else {
+        return Err(NoMemory);
+    };
+    match core.forward_reply(now, from, message, meter) {
+        Some(told) => Ok(show_told(core, told, reply, meter)),
+        None => Ok(Output::Ignored),
+    }
+}
+
+#[tactic(auto, unfolding(crate::specs::Step::step, crate::specs::Calls::longest_reply))]
+fn expire(alloc: Global, core: &mut Core, now: u64, meter: &mut Meter) -> Result<Output, NoMemory>
+    requires { meter.old.tie ≡ core.old.tie }
+    ensures ok { MayHappen (Expire now) core.old core.new meter.old meter.new result }
+    ensures err { OnErr result (core.new ≡ core.old) }
+    ensures free { OnErr result (meter.new ≡ meter.old) }
+{
+    let Ok(reply) = Vec::with_capacity(alloc, LONGEST_REPLY) else {
+        return Err(NoMemory);
+    };
+    match core.expire(now, meter) {
+        Expired::Ended(told) => Ok(show_told(core, told, reply, meter)),
+        Expired::ConnectionClosed(id) => Ok(Output::ConnectionClosed(id)),
+        Expired::Nothing => Ok(Output::Nothing),
     }
 }
 
@@ -203,6 +333,10 @@ fn happen(
         Event::Closed(id) => Ok(closed(core, *id, meter)),
         Event::NextLost => Ok(next_lost(core, meter)),
         Event::Datagram(now, peer, content) => datagram(alloc, core, *now, *peer, content, meter),
+        Event::Unsent => unsent(alloc, core, meter),
+        Event::Sent(number) => Ok(sent(core, *number, meter)),
+        Event::Forward(now, from, message) => forward(alloc, core, *now, *from, message, meter),
+        Event::Expire(now) => expire(alloc, core, *now, meter),
     }
 }
 

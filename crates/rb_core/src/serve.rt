@@ -3,14 +3,24 @@ ghost use Rattle.std.specs.Prelude.{◌≡◌, ◌<◌, ◌≤◌, [], length};
 ghost use Rattle.rb_rpc.specs.Replies.{reply_head};
 ghost use Rattle.rb_xdr.specs.Meter.{PaysAtMost};
 ghost use Rattle.rb_proto.specs.Ledger.{ActsAs, AreTied, Ledger, SameFrame, StandsForLedger};
-ghost use Rattle.rb_proto.specs.Results.{results_at, shown_in, shown_of};
-ghost use Rattle.rb_core.specs.Calls.{outcome, success, longest_reply};
+ghost use Rattle.rb_proto.specs.Results.{result_bytes, results_at, shown_in, shown_of};
+ghost use Rattle.rb_forward.specs.Forwards.{longest_results};
+ghost use Rattle.rb_forward.specs.Outcomes.{PassesWithin};
+ghost use Rattle.rb_forward.specs.Table.{slots_of, IsNew, OnlyWaitsAnew};
+ghost use Rattle.rb_proto.specs.Forwarding.{forwarded_bytes};
+ghost use Rattle.rb_core.specs.Calls.{outcome, told_as, reply_in, success, longest_reply};
+ghost use Rattle.rb_core.specs.Ending.{told_failed, told_at};
+ghost use Rattle.rb_core.specs.Reading.{HasArgsIn};
+ghost use Rattle.rb_core.specs.Awaits.{kind_of, StayUnlessForwarded};
 ghost use Rattle.rb_core.specs.StandsFor.{given_in};
-ghost use Rattle.rb_core.specs.Costs.{put_results_cost, serving_cost};
+ghost use Rattle.rb_core.specs.Costs.{put_results_cost, put_end_cost, serving_cost};
 
 use crate::message::Message;
 use crate::types::Outcome;
-use rb_proto::{Answer, Books, Context, Listener, answer, put_answer};
+use rb_forward::{Ended, Forward, Outcome as End};
+use rb_proto::{
+    Answer, Books, Context, Listener, Results, answer, put_forwarded, put_results, refusal,
+};
 use rb_rpc::{ReplyHead, ReplyStatus, put_reply};
 use rb_xdr::{Kept, Meter};
 
@@ -33,10 +43,38 @@ fn put_head(out: &mut Kept, head: ReplyHead, meter: &mut Meter)
     };
 }
 
+/// Writes the head of a reply with results into an empty buffer.
+fn put_success(xid: u32, out: &mut Kept, meter: &mut Meter)
+    requires tie { meter.old.tie ≡ out.old.tie }
+    requires empty { out.old.bytes ≡ [] }
+    requires room { longest_reply ≤ out.old.cap }
+    ensures written { out.new ≡ record out.old { bytes = reply_head xid ReplyStatus.Success } }
+    ensures short { length out.new.bytes ≤ 32 }
+    ensures some { 0 < length out.new.bytes }
+    ensures cost { PaysAtMost meter.old meter.new 33 }
+{
+    let status = ReplyStatus::Success;
+    put_head(out, ReplyHead { xid, status }, meter);
+}
+
+/// Writes SYSTEM_ERR into the buffer, in place of a reply that does not fit.
+fn put_system_err(xid: u32, out: &mut Kept, meter: &mut Meter)
+    requires tie { meter.old.tie ≡ out.old.tie }
+    requires room { longest_reply ≤ out.old.cap }
+    ensures written { out.new ≡ record out.old { bytes = reply_head xid ReplyStatus.SystemErr } }
+    ensures short { length out.new.bytes ≤ 32 }
+    ensures some { 0 < length out.new.bytes }
+    ensures cost { PaysAtMost meter.old meter.new 34 }
+{
+    out.clear(meter);
+    let status = ReplyStatus::SystemErr;
+    put_head(out, ReplyHead { xid, status }, meter);
+}
+
 /// Writes a whole reply into an empty buffer, or SYSTEM_ERR where it does not fit.
 #[tactic(auto, using(crate::proofs::Replies::some_fitting), unfolding(crate::specs::Calls::fitting, crate::specs::Calls::longest_reply))]
-fn put_results(
-    answer: &Answer,
+fn put_reply_with(
+    results: &Results,
     xid: u32,
     books: &Books,
     listener: &Listener,
@@ -47,7 +85,7 @@ fn put_results(
     requires tie { meter.old.tie ≡ out.old.tie }
     requires empty { out.old.bytes ≡ [] }
     requires room { longest_reply ≤ out.old.cap }
-    ensures written { out.new.bytes ≡ success xid (results_at listener.now books.now answer.now) }
+    ensures written { out.new.bytes ≡ success xid (results_at listener.now books.now results.now) }
     ensures out { (out.new.cap ≡ out.old.cap) × (out.new.tie ≡ out.old.tie) }
     ensures shows { (l : Ledger) → StandsForLedger books.now l
         → shown_in books.now ≡ shown_of l }
@@ -55,46 +93,77 @@ fn put_results(
     ensures some { 0 < length out.new.bytes }
     ensures cost { PaysAtMost meter.old meter.new (put_results_cost books.now) }
 {
-    put_head(
-        out,
-        ReplyHead {
-            xid,
-            status: ReplyStatus::Success,
-        },
-        meter,
-    );
-    if put_answer(answer, books, listener, LONGEST_REPLY, out, meter).is_err() {
-        out.clear(meter);
-        put_head(
-            out,
-            ReplyHead {
-                xid,
-                status: ReplyStatus::SystemErr,
-            },
-            meter,
-        );
+    put_success(xid, out, meter);
+    if put_results(results, books, listener, LONGEST_REPLY, out, meter).is_err() {
+        put_system_err(xid, out, meter);
     }
 }
 
-/// Serves a message, and writes its reply into an empty buffer.
+/// Writes an answer into an empty buffer.
+#[tactic(auto, unfolding(crate::specs::Calls::longest_reply))]
+fn put_answer(
+    answer: &Answer,
+    xid: u32,
+    books: &Books,
+    listener: &Listener,
+    out: &mut Kept,
+    meter: &mut Meter,
+) -> Outcome
+    requires tied { AreTied meter.old.tie books.now }
+    requires tie { meter.old.tie ≡ out.old.tie }
+    requires empty { out.old.bytes ≡ [] }
+    requires room { longest_reply ≤ out.old.cap }
+    ensures given { (l : Ledger) → StandsForLedger books.now l → given_in result out.new
+        ≡ told_as xid (result_bytes listener.now.host (shown_of l)) answer.now }
+    ensures kind { result ≡ kind_of answer.now }
+    ensures held { out.new.bytes ≡ reply_in (given_in result out.new) }
+    ensures some { result ≡ Outcome.Reply → 0 < length out.new.bytes }
+    ensures short { length out.new.bytes ≤ longest_reply }
+    ensures out { (out.new.cap ≡ out.old.cap) × (out.new.tie ≡ out.old.tie) }
+    ensures cost { PaysAtMost meter.old meter.new (put_results_cost books.now) }
+{
+    match answer {
+        Answer::Results(results) => {
+            put_reply_with(results, xid, books, listener, out, meter);
+            Outcome::Reply
+        }
+        Answer::Refused(status) => {
+            let status = *status;
+            put_head(out, ReplyHead { xid, status }, meter);
+            Outcome::Reply
+        }
+        Answer::Forwarded => Outcome::Forwarded,
+        Answer::Silent => Outcome::Silent,
+    }
+}
+
+/// Serves a message, behind whose head are these bytes, and writes its reply into an empty buffer.
 #[tactic(auto, unfolding(crate::specs::Calls::outcome, crate::specs::Calls::longest_reply))]
 pub fn serve(
     books: &mut Books,
     context: &Context,
     message: Message,
+    arguments: &[u8],
     out: &mut Kept,
     meter: &mut Meter,
 ) -> Outcome
     requires tied { AreTied meter.old.tie books.old }
     requires limit { books.old.registry.limit ≡ context.now.limit }
+    requires forwards { books.old.forwards.cap ≡ context.now.forwards }
+    requires caller { IsNew context.now.caller (slots_of books.old.forwards) }
+    requires args { HasArgsIn message arguments.now }
     requires tie { meter.old.tie ≡ out.old.tie }
     requires empty { out.old.bytes ≡ [] }
     requires room { longest_reply ≤ out.old.cap }
-    ensures acts { ActsAs (outcome context.now message) books.old books.new (given_in result out.new) }
+    ensures acts { ActsAs (outcome context.now message arguments.now)
+        books.old books.new (given_in result out.new) }
+    ensures quiet { StayUnlessForwarded result books.old.forwards books.new.forwards }
+    ensures waiting { OnlyWaitsAnew context.now.caller
+        (slots_of books.old.forwards) (slots_of books.new.forwards) }
     ensures frame { SameFrame books.old books.new }
     ensures short { length out.new.bytes ≤ longest_reply }
     ensures some { result ≡ Outcome.Reply → 0 < length out.new.bytes }
-    ensures none { result ≡ Outcome.NoCall → out.new.bytes ≡ [] }
+    ensures held { out.new.bytes ≡ reply_in (given_in result out.new) }
     ensures out { (out.new.cap ≡ out.old.cap) × (out.new.tie ≡ out.old.tie) }
     ensures cost { PaysAtMost meter.old meter.new (serving_cost books.old books.new) }
 {
@@ -113,9 +182,75 @@ pub fn serve(
         Message::Asked(call) => {
             let xid = call.head.xid;
             books.note_call(&call.head);
-            let given = answer(books, context, call, meter);
-            put_results(&given, xid, books, &context.listener, out, meter);
+            let given = answer(books, context, call, arguments, meter);
+            put_answer(&given, xid, books, &context.listener, out, meter)
+        }
+    }
+}
+
+/// Writes the results that a target gave into an empty buffer, or SYSTEM_ERR where they do not fit.
+#[tactic(auto, using(crate::proofs::Replies::some_fitting), unfolding(crate::specs::Calls::fitting, crate::specs::Calls::longest_reply, rb_forward::specs::Table::longest_arguments, rb_forward::specs::Forwards::longest_results))]
+fn put_passed(forward: &Forward, results: &[u8], out: &mut Kept, meter: &mut Meter)
+    requires results { length results.now ≤ longest_results }
+    requires tie { meter.old.tie ≡ out.old.tie }
+    requires empty { out.old.bytes ≡ [] }
+    requires room { longest_reply ≤ out.old.cap }
+    ensures written { out.new.bytes ≡ success forward.now.xid (forwarded_bytes forward.now results.now) }
+    ensures out { (out.new.cap ≡ out.old.cap) × (out.new.tie ≡ out.old.tie) }
+    ensures short { length out.new.bytes ≤ longest_reply }
+    ensures some { 0 < length out.new.bytes }
+    ensures cost { PaysAtMost meter.old meter.new put_end_cost }
+{
+    put_success(forward.xid, out, meter);
+    if put_forwarded(forward, results, LONGEST_REPLY, out, meter).is_err() {
+        put_system_err(forward.xid, out, meter);
+    }
+}
+
+/// Writes what the caller of a call is told that failed so into an empty buffer.
+#[tactic(auto, unfolding(crate::specs::Calls::longest_reply))]
+fn put_failed(forward: &Forward, status: ReplyStatus, out: &mut Kept, meter: &mut Meter) -> Outcome
+    requires tie { meter.old.tie ≡ out.old.tie }
+    requires empty { out.old.bytes ≡ [] }
+    requires room { longest_reply ≤ out.old.cap }
+    ensures told { given_in result out.new ≡ told_failed forward.now status }
+    ensures held { out.new.bytes ≡ reply_in (given_in result out.new) }
+    ensures some { result ≡ Outcome.Reply → 0 < length out.new.bytes }
+    ensures short { length out.new.bytes ≤ longest_reply }
+    ensures out { (out.new.cap ≡ out.old.cap) × (out.new.tie ≡ out.old.tie) }
+    ensures cost { PaysAtMost meter.old meter.new put_end_cost }
+{
+    let xid = forward.xid;
+    match refusal(forward.kind, status) {
+        Answer::Refused(status) => {
+            put_head(out, ReplyHead { xid, status }, meter);
             Outcome::Reply
         }
+        Answer::Results(_) | Answer::Forwarded | Answer::Silent => Outcome::Silent,
+    }
+}
+
+/// Writes what the caller of a forwarded call is told at its end, where it ended by this datagram, into an empty buffer.
+pub fn put_end(ended: &Ended, message: &[u8], out: &mut Kept, meter: &mut Meter) -> Outcome
+    requires within { PassesWithin ended.now.outcome (length message.now) }
+    requires tie { meter.old.tie ≡ out.old.tie }
+    requires empty { out.old.bytes ≡ [] }
+    requires room { longest_reply ≤ out.old.cap }
+    ensures told { given_in result out.new ≡ told_at message.now ended.now }
+    ensures held { out.new.bytes ≡ reply_in (given_in result out.new) }
+    ensures some { result ≡ Outcome.Reply → 0 < length out.new.bytes }
+    ensures short { length out.new.bytes ≤ longest_reply }
+    ensures out { (out.new.cap ≡ out.old.cap) × (out.new.tie ≡ out.old.tie) }
+    ensures cost { PaysAtMost meter.old meter.new put_end_cost }
+{
+    let forward = &ended.forward;
+    match ended.outcome {
+        End::Passed(place) => {
+            put_passed(forward, &message[place..], out, meter);
+            Outcome::Reply
+        }
+        End::Refused(status) => put_failed(forward, status, out, meter),
+        End::Failed => put_failed(forward, ReplyStatus::SystemErr, out, meter),
+        End::Dropped => Outcome::Silent,
     }
 }

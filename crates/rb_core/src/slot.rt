@@ -1,10 +1,9 @@
 //! The slot of a connection: bytes that arrive on it, and bytes that are given on it.
 ghost use Rattle.std.specs.Prelude.{◌≡◌, ◌+◌, [], Some, None};
 ghost use Rattle.rb_xdr.specs.Meter.{PaysAtMost};
-ghost use Rattle.rb_core.specs.Calls.{message_with};
 
+use crate::deadlines::time_in;
 use crate::giving::{advance, begin, pending, pending_len};
-use crate::message::{Message, message_with};
 use crate::reading::{Fed, Reader};
 use crate::types::Outcome;
 use rb_rpc::{Peer, Verdict};
@@ -20,6 +19,8 @@ pub enum Stage {
     Reading(Reader),
     /// A reply is being given, and so many of its marked bytes were.
     Owing(usize),
+    /// Its call is forwarded, and takes its reply from there.
+    Awaiting,
     /// It takes and gives nothing more, and waits to be closed.
     Lost,
 }
@@ -33,17 +34,19 @@ pub enum Wanted {
     Numbered(u64),
     /// The first that is Lost.
     AnyLost,
+    /// The first whose deadline has come at this moment.
+    Due(u64),
 }
 
-/// What a record said, and who sent it.
-#[derive(Drop)]
+/// The verdict on a record, and who sent it.
+#[derive(Clone, Copy, Debug, PartialEq, Eq)]
 pub struct Heard {
     pub peer: Peer,
-    pub message: Message,
+    pub verdict: Verdict,
 }
 
-/// What came of a piece of bytes: how many of them were taken, and what the record said that ended with the last.
-#[derive(Drop)]
+/// What came of a piece of bytes: how many of them were taken, and what was heard by the record that ended with the last.
+#[derive(Clone, Copy, Debug, PartialEq, Eq)]
 pub struct Received {
     pub count: usize,
     pub heard: Option<Heard>,
@@ -79,47 +82,13 @@ fn nothing() -> Received
     }
 }
 
-/// Takes out what the record says on which this is the verdict, and the first bytes of whose arguments are kept.
-fn take_message(verdict: Verdict, arguments: &mut Kept, meter: &mut Meter) -> Message
-    requires { meter.old.tie ≡ arguments.old.tie }
-    ensures said { result ≡ message_with verdict arguments.old.bytes }
-    ensures empty { arguments.new ≡ record arguments.old { bytes = [] } }
-    ensures cost { PaysAtMost meter.old meter.new (2 + arguments.old.cap) }
-{
-    let len = arguments.len(meter);
-    let message = message_with(verdict, arguments.lend(0..len, meter));
-    arguments.clear(meter);
-    message
-}
-
-/// What came of a piece with whose byte of this count a record ended.
-fn hear(
-    count: usize,
-    peer: Peer,
-    verdict: Verdict,
-    arguments: &mut Kept,
-    meter: &mut Meter,
-) -> Received
-    requires { meter.old.tie ≡ arguments.old.tie }
-    ensures heard { result ≡ record {
-      count = count;
-      heard = Some (record { peer = peer; message = message_with verdict arguments.old.bytes });
-    } }
-    ensures empty { arguments.new ≡ record arguments.old { bytes = [] } }
-    ensures cost { PaysAtMost meter.old meter.new (2 + arguments.old.cap) }
-{
-    let message = take_message(verdict, arguments, meter);
-    Received {
-        count,
-        heard: Some(Heard { peer, message }),
-    }
-}
-
 impl Slot {
-    ghost use Rattle.std.specs.Prelude.{◌≡◌, ◌≤◌, ◌<◌, ◌+◌, ℕ, List, [], length};
+    ghost use Rattle.std.specs.Prelude.{◌≡◌, ◌≤◌, ◌<◌, ◌+◌, ℕ, List, [], true, false, length, IfSome};
     ghost use Rattle.rb_core.specs.State.{Connection};
     ghost use Rattle.rb_core.specs.Connections.{taking_on, settled, giving, pending_in};
-    ghost use Rattle.rb_core.specs.Slots.{Acts, StandsForConnection, IsBeforePiece, HasBuffers, IsDraft, StaysSlot, received, fed_with, feeding, is_lost_stage, is_wanted_slot};
+    ghost use Rattle.rb_core.specs.Deadlines.{is_due_slot};
+    ghost use Rattle.rb_core.specs.Slots.{Acts, StandsForConnection, IsBeforePiece, Shows, HasBuffers, IsDraft, StaysSlot, received, fed_with, feeding, arguments_after, arguments_heard, is_lost_stage, is_wanted_slot};
+    ghost use Rattle.rb_core.specs.Awaits.{is_awaiting_stage, HearsSlot};
     ghost use Rattle.rb_core.specs.StandsFor.{outcome_with};
     ghost use Rattle.rb_core.specs.Giving.{longest_fragment};
     ghost use Rattle.rb_core.specs.Costs.{received_cost, show_cost, give_cost, pending_cost};
@@ -132,6 +101,7 @@ impl Slot {
             Wanted::Live(id) => self.number == id && !self.is_lost(),
             Wanted::Numbered(id) => self.number == id,
             Wanted::AnyLost => self.is_lost(),
+            Wanted::Due(clock) => self.is_due(clock),
         }
     }
 
@@ -141,17 +111,42 @@ impl Slot {
         matches!(self.stage, Stage::Lost)
     }
 
-    /// Feeds the piece to the record that is read, up to the end of the record.
-    fn feed(&mut self, mut reader: Reader, piece: &[u8], clock: u64, meter: &mut Meter) -> Received
-        requires { HasBuffers meter.old.tie self.old }
+    /// Whether its deadline has come.
+    #[tactic(auto, unfolding(crate::specs::Deadlines::is_due_slot, rb_forward::specs::Forwards::later))]
+    fn is_due(&self, clock: u64) -> bool
+        ensures { result ≡ is_due_slot clock self.now }
+    {
+        match time_in(&self.stage) {
+            Some(time) => self.mark.saturating_add(time) <= clock,
+            None => false,
+        }
+    }
+
+    /// Feeds the piece to the record that is read, up to the end of the record, whose arguments go into this buffer.
+    fn feed(
+        &mut self,
+        mut reader: Reader,
+        piece: &[u8],
+        clock: u64,
+        arguments: &mut Kept,
+        meter: &mut Meter,
+    ) -> Received
+        requires buffers { HasBuffers meter.old.tie self.old }
+        requires arguments { IsDraft meter.old.tie arguments.old }
         ensures received { (c : Connection) (fed : List ℕ)
             → IsBeforePiece self.old reader clock c fed
             → result ≡ received piece.now c (taking_on fed piece.now) }
         ensures stands { (c : Connection) (fed : List ℕ)
             → IsBeforePiece self.old reader clock c fed
             → StandsForConnection self.new (fed_with clock c (taking_on fed piece.now)) }
+        ensures stage { is_awaiting_stage self.new.stage ≡ false }
+        ensures heard { IfSome result.heard (λ heard. is_lost_stage self.new.stage ≡ false) }
+        ensures arguments { (c : Connection) (fed : List ℕ)
+            → IsBeforePiece self.old reader clock c fed
+            → arguments.new.bytes ≡ arguments_after arguments.old.bytes (taking_on fed piece.now) }
         ensures within { result.count ≤ length piece.now }
         ensures stays { StaysSlot meter.old.tie self.old self.new }
+        ensures draft { IsDraft meter.old.tie arguments.new }
         ensures cost { PaysAtMost meter.old meter.new (received_cost result) }
     {
         let Fed { count, verdict } = reader.feed(&mut self.buffer, piece, meter);
@@ -161,16 +156,35 @@ impl Slot {
         };
         self.stage = Stage::Idle;
         self.mark = clock;
-        hear(count, self.peer, verdict, &mut self.buffer, meter)
+        arguments.clear(meter);
+        mem::swap(&mut self.buffer, arguments);
+        let peer = self.peer;
+        Received {
+            count,
+            heard: Some(Heard { peer, verdict }),
+        }
     }
 
-    /// Takes bytes of the piece up to the one that ends a record, or all, and says what the record said; nothing while
-    /// a reply is owed. From the end of a record on the connection is Idle, until it is settled.
-    pub fn take(&mut self, piece: &[u8], clock: u64, meter: &mut Meter) -> Received
-        requires { HasBuffers meter.old.tie self.old }
+    /// Takes bytes of the piece up to the one that ends a record, or all, and says what the record is: its arguments go
+    /// into the buffer, in exchange for its own. Nothing is taken while a reply is owed or awaited. From the end of a
+    /// record on the connection is Idle, until it is settled.
+    pub fn take(
+        &mut self,
+        piece: &[u8],
+        clock: u64,
+        arguments: &mut Kept,
+        meter: &mut Meter,
+    ) -> Received
+        requires buffers { HasBuffers meter.old.tie self.old }
+        requires arguments { IsDraft meter.old.tie arguments.old }
         ensures acts { Acts StandsForConnection (feeding clock piece.now) self.old self.new result }
+        ensures arguments { Shows StandsForConnection
+            (arguments_heard arguments.old.bytes piece.now) self.old arguments.new.bytes }
+        ensures awaits { is_awaiting_stage self.new.stage ≡ is_awaiting_stage self.old.stage }
+        ensures heard { IfSome result.heard (λ heard. HearsSlot self.old self.new) }
         ensures within { result.count ≤ length piece.now }
         ensures stays { StaysSlot meter.old.tie self.old self.new }
+        ensures draft { IsDraft meter.old.tie arguments.new }
         ensures cost { PaysAtMost meter.old meter.new (received_cost result) }
     {
         if piece.is_empty() {
@@ -179,20 +193,22 @@ impl Slot {
         match self.stage {
             Stage::Idle => {
                 self.mark = clock;
-                self.feed(Reader::new(), piece, clock, meter)
+                self.feed(Reader::new(), piece, clock, arguments, meter)
             }
-            Stage::Reading(reader) => self.feed(reader, piece, clock, meter),
-            Stage::Owing(_) | Stage::Lost => nothing(),
+            Stage::Reading(reader) => self.feed(reader, piece, clock, arguments, meter),
+            Stage::Owing(_) | Stage::Awaiting | Stage::Lost => nothing(),
         }
     }
 
-    /// Goes on as its record is answered: it takes the reply in exchange for its own buffer and owes it, or is Lost.
+    /// Goes on as its record is answered, or its call that was forwarded: it takes the reply in exchange for its own buffer
+    /// and owes it, or is Awaiting, Idle or Lost.
     pub fn settle(&mut self, outcome: Outcome, reply: &mut Kept, clock: u64, meter: &mut Meter)
         requires buffers { HasBuffers meter.old.tie self.old }
         requires draft { IsDraft meter.old.tie reply.old }
         requires some { outcome ≡ Outcome.Reply → 0 < length reply.old.bytes }
         ensures stands { (c : Connection) → StandsForConnection self.old c → StandsForConnection
             self.new (settled clock (outcome_with outcome reply.old.bytes) c) }
+        ensures awaits { outcome ≡ Outcome.Forwarded → is_awaiting_stage self.new.stage ≡ true }
         ensures stays { StaysSlot meter.old.tie self.old self.new }
         ensures draft { IsDraft meter.old.tie reply.new }
         ensures empty { reply.new.bytes ≡ [] }
@@ -204,6 +220,14 @@ impl Slot {
                 self.stage = Stage::Lost;
                 reply.clear(meter);
             }
+            Outcome::Forwarded => {
+                self.stage = Stage::Awaiting;
+                self.empty(reply, meter);
+            }
+            Outcome::Silent => {
+                self.stage = Stage::Idle;
+                self.empty(reply, meter);
+            }
             Outcome::Reply => {
                 self.stage = Stage::Owing(0);
                 self.buffer.clear(meter);
@@ -213,11 +237,28 @@ impl Slot {
         }
     }
 
+    /// Empties its buffers, and that for a reply.
+    fn empty(&mut self, reply: &mut Kept, meter: &mut Meter)
+        requires buffers { HasBuffers meter.old.tie self.old }
+        requires draft { IsDraft meter.old.tie reply.old }
+        ensures emptied { self.new ≡ record self.old {
+          buffer = record self.old.buffer { bytes = [] };
+          window = record self.old.window { bytes = [] };
+        } }
+        ensures empty { reply.new ≡ record reply.old { bytes = [] } }
+        ensures cost { PaysAtMost meter.old meter.new 3 }
+    {
+        self.buffer.clear(meter);
+        self.window.clear(meter);
+        reply.clear(meter);
+    }
+
     /// Counts n of the pending bytes as given, or as many as there are: with the last byte of its reply the
     /// connection is Idle again.
     pub fn give(&mut self, n: usize, clock: u64, meter: &mut Meter)
         requires { HasBuffers meter.old.tie self.old }
         ensures acts { Acts StandsForConnection (giving clock n) self.old self.new tt }
+        ensures awaits { is_awaiting_stage self.new.stage ≡ is_awaiting_stage self.old.stage }
         ensures stays { StaysSlot meter.old.tie self.old self.new }
         ensures cost { PaysAtMost meter.old meter.new give_cost }
     {
@@ -248,7 +289,7 @@ impl Slot {
     {
         match self.stage {
             Stage::Owing(given) => pending_len(&self.window, given, meter),
-            Stage::Idle | Stage::Reading(_) | Stage::Lost => 0,
+            Stage::Idle | Stage::Reading(_) | Stage::Awaiting | Stage::Lost => 0,
         }
     }
 
@@ -262,7 +303,9 @@ impl Slot {
     {
         match self.stage {
             Stage::Owing(given) => pending(&self.window, given, meter),
-            Stage::Idle | Stage::Reading(_) | Stage::Lost => self.window.lend(0..0, meter),
+            Stage::Idle | Stage::Reading(_) | Stage::Awaiting | Stage::Lost => {
+                self.window.lend(0..0, meter)
+            }
         }
     }
 }

@@ -2,6 +2,7 @@
 ghost use Rattle.std.specs.Prelude.{◌≡◌};
 ghost use Rattle.rb_core.specs.Step.{fault_number};
 
+use rb_rpc::Peer;
 use thiserror::Error;
 
 /// How much a core may hold: connections (1 to 256), rows (8 to 4,096) and forwarded calls (0 to 64).
@@ -19,6 +20,10 @@ pub enum Outcome {
     NoCall,
     /// A reply, which is written.
     Reply,
+    /// It is a call that is forwarded. A connection on which it came is Awaiting.
+    Forwarded,
+    /// Nothing: it is a call that stays without a reply.
+    Silent,
 }
 
 impl Outcome {
@@ -42,6 +47,27 @@ pub struct Taken {
     pub closed: bool,
 }
 
+/// Whom the end of a forwarded call is to be told.
+#[derive(Clone, Copy, Debug, PartialEq, Eq)]
+pub enum Told {
+    /// The connection of this number is Awaiting no longer: a reply is pending, or it takes more bytes.
+    TcpReady(u64),
+    /// This peer, by the reply of `udp_reply`.
+    Datagram(Peer),
+    /// Nobody.
+    Silent,
+}
+
+/// What was due.
+#[derive(Clone, Copy, Debug, PartialEq, Eq)]
+pub enum Expired {
+    Nothing,
+    /// A forwarded call, at its deadline.
+    Ended(Told),
+    /// The connection of this number, at its deadline: it is Lost now, and is to be closed.
+    ConnectionClosed(u64),
+}
+
 /// Why a call on a core was refused. It changed nothing.
 #[derive(Clone, Copy, Debug, Drop, Error, PartialEq, Eq)]
 pub enum CoreFault {
@@ -57,7 +83,7 @@ pub enum CoreFault {
     /// No number of a connection is left.
     #[error("spent")]
     Spent,
-    /// There is no connection of that number that is asked for.
+    /// There is no connection or forwarded call of that number that is asked for.
     #[error("gone")]
     Gone,
 }

@@ -1,5 +1,5 @@
 -- A state that a run reaches goes on by each event.
-use Rattle.std.proofs.Common.{◌≡◌, ◌≤◌, ℕ, Bool, false, cond, List, [], ◌∷◌, ◌++◌, length, Result, Ok, Err, refl, sym, ap, subst, ◌∙◌}
+use Rattle.std.proofs.Common.{◌≡◌, ◌≤◌, ℕ, Bool, false, cond, List, [], ◌∷◌, ◌++◌, length, Option, Some, None, Result, Ok, Err, refl, sym, ap, subst, ◌∙◌}
 use Rattle.std.proofs.Math.Logic.{∥∥₁_elim}
 use Rattle.std.proofs.lemmas.Bool.{le-ltb}
 use Rattle.rb_rpc.specs.declared.peer.Peer.{Peer}
@@ -9,9 +9,11 @@ use Rattle.rb_core.specs.declared.types.Limits.{Limits}
 use Rattle.rb_core.specs.declared.types.Taken.{Taken}
 use Rattle.rb_core.specs.State.{State, opening}
 use Rattle.rb_core.specs.Calls.{Outcome, Outcome as outcomes}
-use Rattle.rb_core.specs.Step.{Event, Output, step, open_connection, bytes, pending, gave, close_connection, datagram, output_or, show_taken, show_done, show_outcome, is_too_much}
-use Rattle.rb_core.specs.Step.Event.{Open, Bytes, Gave, Closed, Datagram}
+use Rattle.rb_core.specs.Step.{Event, Output, step, open_connection, bytes, pending, gave, close_connection, datagram, sent_call, output_or, show_taken, show_done, show_outcome, show_end, show_expired, is_too_much}
+use Rattle.rb_core.specs.Ending.{Told, Expired, forward_reply, expire}
+use Rattle.rb_core.specs.Step.Event.{Open, Bytes, Gave, Closed, Datagram, Sent, Forward, Expire}
 use Rattle.rb_core.specs.Step.Output.{Opened, TooMuch}
+use Rattle.rb_core.specs.declared.types.Expired.TheVariants as expiries
 use Rattle.rb_core.specs.Run.{after}
 use Rattle.rb_core.specs.Laws.{IsReached}
 use Rattle.rb_core.specs.Slots.{Acts}
@@ -41,6 +43,17 @@ output_state show (Err fault, s) = refl
 outcome_state : (r : Outcome × State) → (show_outcome r).1 ≡ r.1
 outcome_state (outcomes.NoCall, s) = refl
 outcome_state (outcomes.Reply reply, s) = refl
+outcome_state (outcomes.Forwarded, s) = refl
+outcome_state (outcomes.Silent, s) = refl
+
+end_state : (r : Option Told × State) → (show_end r).1 ≡ r.1
+end_state (None, s) = refl
+end_state (Some told, s) = refl
+
+expired_state : (r : Expired × State) → (show_expired r).1 ≡ r.1
+expired_state (expiries.Nothing, s) = refl
+expired_state (expiries.Ended told, s) = refl
+expired_state (expiries.ConnectionClosed id, s) = refl
 
 pub open_reached : (s : State) (now : ℕ) (peer : Peer) → IsReached s → IsReached (open_connection s now peer).1
 unfolding step
@@ -65,6 +78,18 @@ gave_reached s now id n owed is le r =
     let plain : State = (output_or show_done (gave s now id n)).1 in
     let done : (step s (Gave now id n)).1 ≡ plain = ap (λ (b : Bool). (cond b (TooMuch, s) (output_or show_done (gave s now id n))).1) few in
     subst IsReached (done ∙ output_state show_done (gave s now id n)) (step_reached s (Gave now id n) r)
+
+pub forward_reached : (s : State) (now : ℕ) (from : Peer) (message : List ℕ) → IsReached s → IsReached (forward_reply s now from message).1
+unfolding step
+forward_reached s now from message r = subst IsReached (end_state (forward_reply s now from message)) (step_reached s (Forward now from message) r)
+
+pub expire_reached : (s : State) (now : ℕ) → IsReached s → IsReached (expire s now).1
+unfolding step
+expire_reached s now r = subst IsReached (expired_state (expire s now)) (step_reached s (Expire now) r)
+
+pub sent_reached : (s : State) (number : ℕ) → IsReached s → IsReached (sent_call s number).1
+unfolding step
+sent_reached s number r = subst IsReached (output_state show_done (sent_call s number)) (step_reached s (Sent number) r)
 
 -- ---- the core of the daemon
 
@@ -91,3 +116,12 @@ gave_served old new now id n owed r acts lent le held =
 
 pub new_served : (core : Held) (l : Limits) (h : Listener) (xid now : ℕ) → StandsFor core (opening l h xid now) → ∥ IsServed core ∥₁
 new_served core l h xid now stands = ∣ record { state = opening l h xid now; stands = stands; reached = opening_reached l h xid now } ∣₁
+
+pub forward_served : (old new : Held) (now : ℕ) (from : Peer) (message : List ℕ) (r : Option Told) → Acts StandsFor (λ s. forward_reply s now from message) old new r → ∥ IsServed old ∥₁ → ∥ IsServed new ∥₁
+forward_served old new now from message r acts = served_on old new (λ s. (forward_reply s now from message).1) acts.stands (λ s. forward_reached s now from message)
+
+pub expire_served : (old new : Held) (now : ℕ) (r : Expired) → Acts StandsFor (λ s. expire s now) old new r → ∥ IsServed old ∥₁ → ∥ IsServed new ∥₁
+expire_served old new now r acts = served_on old new (λ s. (expire s now).1) acts.stands (λ s. expire_reached s now)
+
+pub sent_served : (old new : Held) (number : ℕ) (r : Result (Unit {0}) CoreFault) → Acts StandsFor (λ s. sent_call s number) old new r → ∥ IsServed old ∥₁ → ∥ IsServed new ∥₁
+sent_served old new number r acts = served_on old new (λ s. (sent_call s number).1) acts.stands (λ s. sent_reached s number)

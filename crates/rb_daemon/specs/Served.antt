@@ -1,13 +1,20 @@
 -- What holds of the daemon's core between two events, and what it gives to a writer.
-use Rattle.std.specs.Prelude.{◌≡◌, ◌≤◌, ℕ, List, [], length, take, Option, Result, Ok, Err, ⊤}
+use Rattle.std.specs.Prelude.{◌≡◌, ◌≤◌, ℕ, Bool, true, false, List, [], length, take, Option, Some, None, Result, Ok, Err, ⊤}
 use Rattle.std.specs.Io.KnownBytes.{Appends, Keeps}
 use Rattle.rb_core.specs.declared.types.CoreFault.{CoreFault}
+use Rattle.rb_rpc.specs.declared.peer.Peer.{Peer}
 use Rattle.rb_core.specs.State.{State}
-use Rattle.rb_core.specs.Step.{gave}
+use Rattle.rb_forward.specs.Forwards.{Unsent}
+use Rattle.rb_core.specs.declared.types.Told.TheVariants.{TcpReady, Datagram, Silent}
+use Rattle.rb_core.specs.declared.types.Expired.TheVariants.{Nothing as NothingDue, Ended, ConnectionClosed}
+use Rattle.rb_core.specs.Ending.{Told, Expired, forward_reply, expire}
+use Rattle.rb_core.specs.Step.{gave, unsent_call, sent_call}
 use Rattle.rb_core.specs.StandsFor.{Held, StandsFor}
 use Rattle.rb_core.specs.Laws.{IsReached}
 use Rattle.rb_daemon.specs.declared.engine.Given.{Given}
 use Rattle.rb_daemon.specs.declared.engine.Given.TheVariants.{Nothing, Bytes, Failed, Over}
+use Rattle.rb_daemon.specs.declared.engine.Due.{Due}
+use Rattle.rb_daemon.specs.declared.engine.Due.TheVariants as dues
 
 -- The core stands for a state that a run of events reaches from an opening.
 pub record IsServed (core : Held) : Type 0 where
@@ -28,3 +35,40 @@ WasGiven owed old new Over = ⊤
 abbrev pub after_giving : State → ℕ → ℕ → Given → State
 after_giving s now id (Bytes n) = (gave s now id n).1
 after_giving s now id other = s
+
+-- ---- forwarded calls
+
+-- the connection that goes on
+abbrev pub ready_of : Told → Option ℕ
+ready_of (TcpReady id) = Some id
+ready_of (Datagram peer) = None
+ready_of Silent = None
+
+abbrev pub ready_after : Option Told × State → Option ℕ × State
+ready_after (None, s) = (None, s)
+ready_after (Some told, s) = (ready_of told, s)
+
+-- a datagram came where forwarded calls are sent from
+abbrev pub replying : Peer → List ℕ → State → ℕ → Option ℕ × State
+replying from message s now = ready_after (forward_reply s now from message)
+
+abbrev pub due_when : Option ℕ → Due
+due_when None = dues.Done
+due_when (Some id) = dues.Ready id
+
+abbrev pub due_after : Expired × State → Due × State
+due_after (NothingDue, s) = (dues.Nothing, s)
+due_after (Ended told, s) = (due_when (ready_of told), s)
+due_after (ConnectionClosed id, s) = (dues.Done, s)
+
+-- what is due first ends
+abbrev pub expiring : State → ℕ → Due × State
+expiring s now = due_after (expire s now)
+
+-- The call that is to be sent first was sent, where there is one.
+abbrev pub sending_of : State → Option Unsent → Bool × State
+sending_of s None = (false, s)
+sending_of s (Some unsent) = (true, (sent_call s unsent.number).1)
+
+abbrev pub sending : State → ℕ → Bool × State
+sending s now = sending_of s (unsent_call s)

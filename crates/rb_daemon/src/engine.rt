@@ -3,7 +3,7 @@ ghost use Rattle.std.specs.Prelude.{◌≡◌};
 ghost use Rattle.rb_daemon.specs.Served.{IsServed};
 
 use mio::net::UdpSocket;
-use rb_core::{Core, CoreFault, Limits, Listener, Outcome, Peer, Taken};
+use rb_core::{Core, CoreFault, Expired, Limits, Listener, Outcome, Peer, Taken, Told};
 use rb_xdr::Meter;
 use std::alloc::Global;
 use std::io::{ErrorKind, Write};
@@ -33,12 +33,22 @@ pub(crate) enum Given {
     Over,
 }
 
+/// What was due.
+#[derive(Clone, Copy, Debug, PartialEq, Eq)]
+pub(crate) enum Due {
+    Nothing,
+    /// A forwarded call, and its caller was told what is to be told; or a connection, which is to be closed.
+    Done,
+    /// A forwarded call of the connection of this number, which goes on.
+    Ready(u64),
+}
+
 impl Engine {
     ghost use Rattle.std.specs.Prelude.{◌≡◌, ◌≤◌, ◌↔◌, IsTrue, IsErrOf, length, not, IfOk};
     ghost use Rattle.rb_core.specs.State.{State, are_good};
     ghost use Rattle.rb_core.specs.Step.{open_connection, bytes, close_connection, next_lost, datagram};
     ghost use Rattle.rb_core.specs.StandsFor.{StandsFor};
-    ghost use Rattle.rb_daemon.specs.Served.{after_giving};
+    ghost use Rattle.rb_daemon.specs.Served.{after_giving, ready_of, replying, expiring, sending};
     ghost use Rattle.rb_daemon.specs.Moves.{BeginsAt, Moves, ActsNow, Gives};
 
     /// A new core at this moment, which is the first. The first forwarded call has the low 32 bits of it for its number.
@@ -134,6 +144,70 @@ impl Engine {
         {
             let _ = socket.send_to(self.core.udp_reply(&mut self.meter), address_of(peer));
         }
+    }
+
+    /// Whom the end of a forwarded call is told: a caller over UDP gets the last reply from the socket that it called.
+    /// The answer is the connection that goes on.
+    fn tell(&mut self, told: Told, calls: &UdpSocket) -> Option<u64>
+        ensures ready { result ≡ ready_of told }
+        ensures core { self.new.core ≡ self.old.core }
+        ensures moment { self.new.moment ≡ self.old.moment }
+    {
+        match told {
+            Told::TcpReady(id) => Some(id),
+            Told::Datagram(peer) => {
+                let _ = calls.send_to(self.core.udp_reply(&mut self.meter), address_of(peer));
+                None
+            }
+            Told::Silent => None,
+        }
+    }
+
+    /// Takes a datagram in that came where forwarded calls are sent from. The answer is the connection that goes on.
+    pub(crate) fn take_forward_reply(
+        &mut self,
+        from: Peer,
+        content: &[u8],
+        calls: &UdpSocket,
+    ) -> Option<u64>
+        ensures acts { ActsNow (replying from content.now) self.old self.new result }
+        ensures moment { self.new.moment ≡ self.old.moment }
+    {
+        let told = self
+            .core
+            .forward_reply(self.moment, from, content, &mut self.meter)?;
+        self.tell(told, calls)
+    }
+
+    /// Ends what is due first.
+    pub(crate) fn expire(&mut self, calls: &UdpSocket) -> Due
+        ensures acts { ActsNow expiring self.old self.new result }
+        ensures moment { self.new.moment ≡ self.old.moment }
+    {
+        let told = match self.core.expire(self.moment, &mut self.meter) {
+            Expired::Nothing => return Due::Nothing,
+            Expired::ConnectionClosed(_) => return Due::Done,
+            Expired::Ended(told) => told,
+        };
+        match self.tell(told, calls) {
+            Some(id) => Due::Ready(id),
+            None => Due::Done,
+        }
+    }
+
+    /// Sends the first forwarded call that is to be sent. It counts as sent though the socket does not take it. It says
+    /// whether there was one.
+    pub(crate) fn send_forward(&mut self, socket: &UdpSocket) -> bool
+        ensures acts { ActsNow sending self.old self.new result }
+        ensures moment { self.new.moment ≡ self.old.moment }
+    {
+        let Some(unsent) = self.core.unsent(&mut self.meter) else {
+            return false;
+        };
+        let id = unsent.id;
+        let _ = socket.send_to(unsent.call, address_of(unsent.target));
+        let _ = self.core.sent(id, &mut self.meter);
+        true
     }
 }
 

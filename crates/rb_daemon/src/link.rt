@@ -81,6 +81,12 @@ impl Link {
         self.is_waiting
     }
 
+    /// It is to be served though no event shows it, since the core waited for something else, and that has come.
+    pub(crate) fn wake(&mut self) {
+        self.is_waiting = true;
+        self.may_owe = true;
+    }
+
     pub(crate) fn was_served_in(&self, turn: u64) -> bool {
         self.served_in == turn
     }

@@ -1,7 +1,7 @@
 //! The core with its sockets and connections, and what a turn does with them.
 ghost use Rattle.std.specs.Prelude.{◌≤◌, length};
 
-use crate::engine::Engine;
+use crate::engine::{Due, Engine};
 use crate::faults::{AcceptFault, DaemonFault, accept_fault};
 use crate::link::{Link, Progress, SOCKET_CALLS};
 use mio::event::Event;
@@ -19,6 +19,12 @@ const LONGEST_DATAGRAM: usize = 65_536;
 
 /// The most datagrams of one socket in a turn: each is a socket call, and a reply to it is another.
 const DATAGRAMS: usize = SOCKET_CALLS / 2;
+
+/// The most calls that are forwarded at a time, so the most that can be to be sent.
+const MOST_FORWARDS: usize = 64;
+
+/// The most that can be due at one moment: forwarded calls, and connections, of which there are at most 256.
+const THINGS_DUE: usize = MOST_FORWARDS + 256;
 
 const LISTENER: Token = Token(usize::MAX);
 
@@ -253,22 +259,62 @@ impl Serving {
         }
     }
 
-    /// Takes what comes back for forwarded calls. As nothing is forwarded yet, each datagram is dropped.
+    /// Takes what comes back for forwarded calls.
     fn take_forward_replies(&mut self) {
         for _ in 0..DATAGRAMS {
             match self.sockets.forwards.recv_from(&mut self.datagram) {
+                Ok((len, from)) => self.take_forward_reply(len, from),
                 Err(error) if error.kind() == ErrorKind::WouldBlock => return,
-                Ok(_) | Err(_) => {}
+                Err(_) => {}
             }
         }
         self.left.forwards = true;
     }
 
-    /// Sends the calls that are to be forwarded. There are none yet.
-    fn send_forwards(&mut self) {}
+    /// Takes the datagram of the first `len` bytes.
+    fn take_forward_reply(&mut self, len: usize, from: SocketAddr)
+        requires { len ≤ length self.old.datagram.items }
+    {
+        let Some(peer) = peer_of(from) else {
+            return;
+        };
+        let content = &self.datagram[..len];
+        let calls = &self.sockets.calls;
+        if let Some(id) = self.engine.take_forward_reply(peer, content, calls) {
+            self.wake(id);
+        }
+    }
 
-    /// Lets deadlines act. There are none yet.
-    fn expire(&mut self) {}
+    /// The connection of the number goes on: the next turn begins with it, though no event shows it.
+    fn wake(&mut self, id: u64) {
+        let Some(key) = self.key_of(id) else {
+            return;
+        };
+        if let Some(link) = self.links.get_mut(key) {
+            link.wake();
+            self.left.links = true;
+        }
+    }
+
+    /// Sends the calls that are to be forwarded.
+    fn send_forwards(&mut self) {
+        for _ in 0..MOST_FORWARDS {
+            if !self.engine.send_forward(&self.sockets.forwards) {
+                return;
+            }
+        }
+    }
+
+    /// Ends what is due.
+    fn expire(&mut self) {
+        for _ in 0..THINGS_DUE {
+            match self.engine.expire(&self.sockets.calls) {
+                Due::Nothing => return,
+                Due::Done => {}
+                Due::Ready(id) => self.wake(id),
+            }
+        }
+    }
 
     /// Closes the connections that the core has given up.
     fn close_lost(&mut self) {

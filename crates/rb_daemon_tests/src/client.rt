@@ -84,17 +84,20 @@ pub(crate) struct Caller {
     socket: UdpSocket,
     got: [u8; ROOM],
     len: usize,
+    from: SocketAddr,
 }
 
 impl Caller {
-    pub(crate) fn new(rt: &HostRuntime) -> Option<Caller> {
-        let any = SocketAddr::from((Ipv4Addr::LOCALHOST, 0));
-        let socket = UdpSocket::bind(rt, any).ok()?;
+    /// At a port, or at one of the system's choice.
+    pub(crate) fn new(rt: &HostRuntime, port: u16) -> Option<Caller> {
+        let own = SocketAddr::from((Ipv4Addr::LOCALHOST, port));
+        let socket = UdpSocket::bind(rt, own).ok()?;
         socket.set_nonblocking(true).ok()?;
         Some(Caller {
             socket,
             got: [0; ROOM],
             len: 0,
+            from: own,
         })
     }
 
@@ -108,8 +111,9 @@ impl Caller {
         self.len = 0;
         for _ in 0..TURNS {
             host.turn();
-            if let Ok((len, _)) = self.socket.recv_from(&mut self.got) {
+            if let Ok((len, from)) = self.socket.recv_from(&mut self.got) {
                 self.len = len;
+                self.from = from;
                 break;
             }
         }
@@ -118,5 +122,20 @@ impl Caller {
     /// Whether the last datagram was of these bytes.
     pub(crate) fn got_just(&self, bytes: &[u8]) -> bool {
         self.len == bytes.len() && self.got.starts_with(bytes)
+    }
+
+    /// Whether bytes went back to where the last datagram came from.
+    pub(crate) fn answer(&self, bytes: &[u8]) -> bool {
+        self.socket.send_to(bytes, self.from).is_ok()
+    }
+
+    /// The first four bytes of the last datagram, of so many in all.
+    pub(crate) fn first_word_of(&self, len: usize) -> Option<u32> {
+        let [a, b, c, d, ..] = self.got;
+        if self.len == len {
+            Some(u32::from_be_bytes([a, b, c, d]))
+        } else {
+            None
+        }
     }
 }

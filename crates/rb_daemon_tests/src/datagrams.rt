@@ -1,11 +1,11 @@
-//! Calls over UDP. What comes back for calls that are forwarded is to be tested here too.
+//! Calls over UDP.
 use crate::client::Caller;
 use crate::messages::{bytes_of, null_call, null_reply};
 use crate::turns::Host;
 use std::test::Fail;
 
 /// A datagram with the words of the call is answered with those of the reply.
-fn answers(
+pub(crate) fn answers(
     rt: &HostRuntime,
     host: &mut Host<'_>,
     caller: &mut Caller,
@@ -21,7 +21,7 @@ fn answers(
 
 /// What comes back first is the reply to the call after it.
 fn is_silent_on_no_call(rt: &HostRuntime, host: &mut Host<'_>) -> Option<bool> {
-    let mut caller = Caller::new(rt)?;
+    let mut caller = Caller::new(rt, 0)?;
     let is_sent = caller.send(&[0; 11]);
     Some(is_sent && answers(rt, host, &mut caller, &null_call(5), &null_reply(5))?)
 }
@@ -35,7 +35,7 @@ fn datagram_that_is_no_call(rt: HostRuntime) -> Result<(), Fail> {
 
 /// The program 200001 version 1 on TCP is set at port 2049, is there, and is not set again.
 fn keeps_rows(rt: &HostRuntime, host: &mut Host<'_>) -> Option<bool> {
-    let mut caller = Caller::new(rt)?;
+    let mut caller = Caller::new(rt, 0)?;
     let set = [3, 0, 2, 100_000, 2, 1, 0, 0, 0, 0, 200_001, 1, 6, 2049];
     let get_port = [4, 0, 2, 100_000, 2, 3, 0, 0, 0, 0, 200_001, 1, 6, 0];
     let is_set = answers(rt, host, &mut caller, &set, &[3, 1, 0, 0, 0, 0, 1])?;
@@ -53,7 +53,7 @@ fn datagrams_are_answered(rt: HostRuntime) -> Result<(), Fail> {
 
 /// More datagrams than a turn serves of one socket: each is answered, in the order in which they came.
 fn answers_many(rt: &HostRuntime, host: &mut Host<'_>) -> Option<bool> {
-    let mut caller = Caller::new(rt)?;
+    let mut caller = Caller::new(rt, 0)?;
     for xid in 0..70 {
         if !caller.send(&bytes_of(rt.alloc(), &null_call(xid)).ok()?) {
             return None;

@@ -7,6 +7,8 @@ mod client;
 #[cfg(test)]
 mod datagrams;
 #[cfg(test)]
+mod forwards;
+#[cfg(test)]
 mod leaving;
 #[cfg(test)]
 mod messages;

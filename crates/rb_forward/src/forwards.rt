@@ -225,6 +225,7 @@ impl Forwards {
         requires { meter.old.tie ≡ self.old.tie }
         ensures ended { GivenBy (due clock) self.old result }
         ensures left { LeftBy (due clock) self.old self.new }
+        ensures failed { IfSome result (λ ended. ended.outcome ≡ Outcome.Failed) }
         ensures alone { IfSome result
             (λ ended. IsNew ended.forward.caller (slots_of self.new)) }
         ensures waiting { NoneWaitsAnew (slots_of self.old) (slots_of self.new) }

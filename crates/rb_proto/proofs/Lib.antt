@@ -1,5 +1,10 @@
 pub mod Readings
+pub mod Remotes
 pub mod Requests
+pub mod RowChanges
 pub mod Lists
 pub mod MappingItems
 pub mod Shown
+pub mod Notes
+pub mod Goings
+pub mod Refusing

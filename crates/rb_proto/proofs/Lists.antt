@@ -10,10 +10,10 @@ use Rattle.rb_xdr.specs.Xdr.{boolean, listed}
 use Rattle.rb_xdr.specs.Kept.{Kept}
 use Rattle.rb_xdr.specs.Meter.{Meter, PaysAtMost}
 use Rattle.rb_registry.specs.declared.row.Row.{Row}
-use Rattle.rb_registry.specs.Registry.{Registry, rows_of}
-use Rattle.rb_registry.specs.Cursors.{StandsIn, rows_passed}
-use Rattle.rb_proto.specs.declared.answers.Answer.{Answer}
-use Rattle.rb_proto.specs.declared.answers.Answer.TheVariants.{Rows}
+use Rattle.rb_registry.specs.Registry.{Registry, rows_at, slots_of}
+use Rattle.rb_registry.specs.Cursors.{StandsIn, rows_passed, slots_left}
+use Rattle.rb_proto.specs.declared.answers.Results.{Results}
+use Rattle.rb_proto.specs.declared.answers.Results.TheVariants.{Rows}
 use Rattle.rb_proto.specs.declared.answers.Listing.{Listing}
 use Rattle.rb_proto.specs.declared.answers.Listing.TheVariants.{Mappings, Rpcbs, Entries}
 use Rattle.rb_proto.specs.Types.{mapping_spelling, rpcb_spelling, entry_spelling}
@@ -45,9 +45,9 @@ list-rows host rows Mappings = ap (λ (xs : List ℕ). xs ++ boolean false) (sho
 list-rows host rows Rpcbs = ap (λ (xs : List ℕ). xs ++ boolean false) (all_rows rpcb_spelling rpcb_of rows)
 list-rows host rows (Entries prog vers) = ap (λ (xs : List ℕ). xs ++ boolean false) (shown_rows entry_spelling (entry_of host) (is_version prog vers) rows)
 
-pub rows_result : (host : List ℕ) (shown : Shown) (list : Listing) (answer : Answer) → answer ≡ Rows list → result_bytes host shown answer ≡ rows_bytes host shown.rows list
+pub rows_result : (host : List ℕ) (shown : Shown) (list : Listing) (results : Results) → results ≡ Rows list → result_bytes host shown results ≡ rows_bytes host shown.rows list
 unfolding result_bytes
-rows_result host shown list answer is = ap (λ (a : Answer). result_bytes host shown a) is ∙ list-rows host shown.rows list
+rows_result host shown list results is = ap (λ (a : Results). result_bytes host shown a) is ∙ list-rows host shown.rows list
 
 -- ---- one row more
 
@@ -67,35 +67,35 @@ module _ (f : Row → List ℕ) (rows : List Row) (n : ℕ) (row : Row) (here : 
 
 -- the number of rows that are yet to be looked at
 abbrev pub left : Registry → ℕ → Option ℕ → ℕ
-left kept stamp cursor = length (rows_of kept) - rows_passed kept stamp cursor
+left kept stamp cursor = length (rows_at kept stamp) - rows_passed kept stamp cursor
 
 -- the cursor passes one more row
 pub record Passes (kept : Registry) (stamp : ℕ) (cursor : Option ℕ) (row : Row) (next : Option ℕ) : Type 0 where
-  pub here : slice_get (rows_of kept) (rows_passed kept stamp cursor) ≡ Some row
+  pub here : slice_get (rows_at kept stamp) (rows_passed kept stamp cursor) ≡ Some row
   pub place : StandsIn kept stamp next
   pub passed : rows_passed kept stamp next ≡ rows_passed kept stamp cursor + 1
 
 -- what the rows add that the cursor has passed
 abbrev pub passed_bytes : (Row → List ℕ) → Registry → ℕ → Option ℕ → List ℕ
-passed_bytes f kept stamp cursor = flat_map f (take (rows_passed kept stamp cursor) (rows_of kept))
+passed_bytes f kept stamp cursor = flat_map f (take (rows_passed kept stamp cursor) (rows_at kept stamp))
 
 module _ (f : Row → List ℕ) (kept : Registry) (stamp : ℕ) where
   abbrev all_bytes : List ℕ
-  all_bytes = flat_map f (rows_of kept)
+  all_bytes = flat_map f (rows_at kept stamp)
 
   pub none_passed : (cursor : Option ℕ) → rows_passed kept stamp cursor ≡ 0 → passed_bytes f kept stamp cursor ≡ []
-  none_passed cursor none = ap (λ (n : ℕ). flat_map f (take n (rows_of kept))) none
+  none_passed cursor none = ap (λ (n : ℕ). flat_map f (take n (rows_at kept stamp))) none
 
   module _ (cursor : Option ℕ) (row : Row) (next : Option ℕ) (passes : Passes kept stamp cursor row next) where
     pub one_passed : passed_bytes f kept stamp next ≡ passed_bytes f kept stamp cursor ++ f row
     one_passed =
-        ap (λ (n : ℕ). flat_map f (take n (rows_of kept))) passes.passed ∙ one_more f (rows_of kept) (rows_passed kept stamp cursor) row passes.here
+        ap (λ (n : ℕ). flat_map f (take n (rows_at kept stamp))) passes.passed ∙ one_more f (rows_at kept stamp) (rows_passed kept stamp cursor) row passes.here
 
     pub one_longer : length (passed_bytes f kept stamp next) ≡ length (passed_bytes f kept stamp cursor) + length (f row)
     one_longer = ap length one_passed ∙ length-append (passed_bytes f kept stamp cursor) (f row)
 
     pub no_longer : length (passed_bytes f kept stamp cursor) + length (f row) ≤ length all_bytes
-    no_longer = not_all f (rows_of kept) (rows_passed kept stamp cursor) row passes.here
+    no_longer = not_all f (rows_at kept stamp) (rows_passed kept stamp cursor) row passes.here
 
 -- ---- the walk for the room
 
@@ -105,33 +105,33 @@ pub record Measuring (f : Row → List ℕ) (kept : Registry) (stamp : ℕ) (cur
   pub fits : behind + length (passed_bytes f kept stamp cursor) ≡ room
   pub tie : meter.tie ≡ first.tie
   pub rises : first.steps ≤ meter.steps
-  pub steps : meter.steps ≤ first.steps + 2 * rows_passed kept stamp cursor
+  pub steps : meter.steps + 2 * slots_left kept cursor ≤ first.steps + 2 * length (slots_of kept)
 
 pub nothing_measured : (f : Row → List ℕ) (kept : Registry) (stamp : ℕ) (cursor : Option ℕ) (room : ℕ) (first : Meter)
-    → StandsIn kept stamp cursor → rows_passed kept stamp cursor ≡ 0 → Measuring f kept stamp cursor room room first first
-nothing_measured f kept stamp cursor room first place none = record {
+    → StandsIn kept stamp cursor → rows_passed kept stamp cursor ≡ 0 → slots_left kept cursor ≡ length (slots_of kept) → Measuring f kept stamp cursor room room first first
+nothing_measured f kept stamp cursor room first place none all = record {
   place = place;
   fits = omega (arith, ap length (none_passed f kept stamp cursor none));
   tie = refl;
   rises = omega arith;
-  steps = omega arith;
+  steps = omega (arith, all);
 }
 
 module _ (f : Row → List ℕ) (kept : Registry) (stamp : ℕ) (cursor : Option ℕ) (room behind : ℕ) (first meter : Meter) (m : Measuring f kept stamp cursor room behind first meter) where
   pub row_measured : (row : Row) (next : Option ℕ) → Passes kept stamp cursor row next → (more : ℕ) (paid : Meter)
-      → more + length (f row) ≡ behind → PaysAtMost meter paid 2 → Measuring f kept stamp next room more first paid
-  row_measured row next passes more paid fits cost = record {
+      → more + length (f row) ≡ behind → (most : ℕ) → PaysAtMost meter paid most → paid.steps + 2 * slots_left kept next ≤ meter.steps + 2 * slots_left kept cursor → Measuring f kept stamp next room more first paid
+  row_measured row next passes more paid fits most cost passed = record {
     place = passes.place;
     fits = omega (arith, fits, m.fits, one_longer f kept stamp cursor row next passes);
     tie = cost.tie ∙ m.tie;
     rises = omega (arith, m.rises, cost.rises);
-    steps = omega (arith, passes.passed, m.steps, cost.steps);
+    steps = omega (arith, m.steps, passed);
   }
 
   -- no room for the row is none for the list
   pub no_room : (row : Row) (next : Option ℕ) → Passes kept stamp cursor row next → (end : List ℕ)
-      → behind < length (f row) → room < length (flat_map f (rows_of kept) ++ end)
-  no_room row next passes end full = omega (arith, full, m.fits, no_longer f kept stamp cursor row next passes, length-append (flat_map f (rows_of kept)) end)
+      → behind < length (f row) → room < length (flat_map f (rows_at kept stamp) ++ end)
+  no_room row next passes end full = omega (arith, full, m.fits, no_longer f kept stamp cursor row next passes, length-append (flat_map f (rows_at kept stamp)) end)
 
 -- ---- the walk that writes
 
@@ -141,17 +141,17 @@ pub record Writing (f : Row → List ℕ) (kept : Registry) (stamp : ℕ) (curso
   pub written : out ≡ record began { bytes = began.bytes ++ passed_bytes f kept stamp cursor }
   pub tie : meter.tie ≡ first.tie
   pub rises : first.steps ≤ meter.steps
-  pub steps : meter.steps ≤ first.steps + 2 * rows_passed kept stamp cursor + length (passed_bytes f kept stamp cursor)
+  pub steps : meter.steps + 2 * slots_left kept cursor ≤ first.steps + 2 * length (slots_of kept) + length (passed_bytes f kept stamp cursor)
 
 pub nothing_written : (f : Row → List ℕ) (kept : Registry) (stamp : ℕ) (cursor : Option ℕ) (began : Kept) (first : Meter)
-    → StandsIn kept stamp cursor → rows_passed kept stamp cursor ≡ 0 → Writing f kept stamp cursor began began first first
-nothing_written f kept stamp cursor began first place none = record {
+    → StandsIn kept stamp cursor → rows_passed kept stamp cursor ≡ 0 → slots_left kept cursor ≡ length (slots_of kept) → Writing f kept stamp cursor began began first first
+nothing_written f kept stamp cursor began first place none all = record {
   place = place;
   written =
       ap (λ (xs : List ℕ). record began { bytes = xs }) (sym (append-nil began.bytes) ∙ ap (λ (xs : List ℕ). began.bytes ++ xs) (sym (none_passed f kept stamp cursor none)));
   tie = refl;
   rises = omega arith;
-  steps = omega arith;
+  steps = omega (arith, all);
 }
 
 module _ (f : Row → List ℕ) (kept : Registry) (stamp : ℕ) (cursor : Option ℕ) (began out : Kept) (first meter : Meter) (w : Writing f kept stamp cursor began out first meter) where
@@ -165,18 +165,18 @@ module _ (f : Row → List ℕ) (kept : Registry) (stamp : ℕ) (cursor : Option
       ∙ ap (λ (bytes : List ℕ). record began { bytes = bytes }) (append_assoc began.bytes (passed_bytes f kept stamp cursor) xs)
 
   module _ (row : Row) (next : Option ℕ) (passes : Passes kept stamp cursor row next) where
-    pub row_written : (more : Kept) (asked paid : Meter) → more ≡ record out { bytes = out.bytes ++ f row } → PaysAtMost meter asked 2 → PaysAtMost asked paid (length (f row))
+    pub row_written : (more : Kept) (asked paid : Meter) → more ≡ record out { bytes = out.bytes ++ f row } → (most : ℕ) → PaysAtMost meter asked most → asked.steps + 2 * slots_left kept next ≤ meter.steps + 2 * slots_left kept cursor → PaysAtMost asked paid (length (f row))
         → Writing f kept stamp next began more first paid
-    row_written more asked paid added looked cost = record {
+    row_written more asked paid added most looked passed cost = record {
       place = passes.place;
       written = added ∙ behind (f row) ∙ ap (λ (xs : List ℕ). record began { bytes = began.bytes ++ xs }) (sym (one_passed f kept stamp cursor row next passes));
       tie = cost.tie ∙ looked.tie ∙ w.tie;
       rises = omega (arith, w.rises, looked.rises, cost.rises);
-      steps = omega (arith, passes.passed, w.steps, looked.steps, cost.steps, one_longer f kept stamp cursor row next passes);
+      steps = omega (arith, w.steps, passed, cost.steps, one_longer f kept stamp cursor row next passes);
     }
 
     -- room for the list is room for the row
-    pub row_fits : (end : List ℕ) → length began.bytes + length (flat_map f (rows_of kept) ++ end) ≤ began.cap → length out.bytes + length (f row) ≤ out.cap
+    pub row_fits : (end : List ℕ) → length began.bytes + length (flat_map f (rows_at kept stamp) ++ end) ≤ began.cap → length out.bytes + length (f row) ≤ out.cap
     row_fits end room =
         let cap : out.cap ≡ began.cap = ap (λ (k : Kept). k.cap) w.written in
-        omega (arith, room, cap, size, no_longer f kept stamp cursor row next passes, length-append (flat_map f (rows_of kept)) end)
+        omega (arith, room, cap, size, no_longer f kept stamp cursor row next passes, length-append (flat_map f (rows_at kept stamp)) end)

@@ -1,10 +1,11 @@
 -- The types are read as they are spelled.
-use Rattle.std.proofs.Common.{◌≡◌, ℕ, ◌+◌, List, ◌++◌, length, drop, refl, sym, ap, subst, ◌∙◌, append_assoc, length-append, arith, Ok}
-use Rattle.std.proofs.lemmas.List.{drop_at}
-use Rattle.rb_xdr.specs.Xdr.{Reader, ◌>>=◌, give, IsNumber, IsContent, AreBytes, number, opaque, read_number, read_opaque}
+use Rattle.std.proofs.Common.{◌≡◌, ℕ, ◌+◌, ◌-◌, List, ◌++◌, length, drop, refl, sym, ap, subst, ◌∙◌, append_assoc, length-append, arith, Ok, Some}
+use Rattle.std.specs.Prelude.{replicate, slice_range}
+use Rattle.std.proofs.lemmas.List.{drop_at, take_at}
+use Rattle.rb_xdr.specs.Xdr.{Reader, Reading, ◌>>=◌, give, residue, IsNumber, IsContent, AreBytes, number, opaque, read_number, read_opaque}
 use Rattle.rb_xdr.specs.XdrLaws.{IsSound, IsComplete, IsBounded}
-use Rattle.rb_xdr.proofs.Words.{AreBytes-drop}
-use Rattle.rb_xdr.proofs.Readers.{ok_is, bind_ok, bind_again, number_sound, number_complete, opaque_sound, opaque_complete}
+use Rattle.rb_xdr.proofs.Words.{AreBytes-drop, length-number}
+use Rattle.rb_xdr.proofs.Readers.{ok_is, bind_ok, bind_again, opaque_is, number_sound, number_complete, opaque_sound, opaque_complete}
 use Rattle.rb_xdr.proofs.Types.{number_bounded, opaque_bounded}
 use Rattle.rb_xdr.specs.Forms.{HasForm}
 use Rattle.rb_xdr.specs.Forms.Form.{Number, Content, Then}
@@ -13,6 +14,10 @@ use Rattle.rb_proto.specs.declared.mapping.Mapping.{Mapping}
 use Rattle.rb_proto.specs.declared.rpcb.Rpcb.{Rpcb}
 use Rattle.rb_proto.specs.declared.netbuf.Netbuf.{Netbuf}
 use Rattle.rb_proto.specs.declared.entry.Entry.{Entry}
+use Rattle.rb_forward.specs.Table.{longest_arguments}
+use Rattle.rb_proto.specs.declared.remote.RemoteCall.{RemoteCall}
+use Rattle.rb_proto.specs.Arguments.{value_of, front}
+use Rattle.rb_proto.specs.Remote.{read_remote, args_of, SpellsRemote}
 use Rattle.rb_proto.specs.Types.{IsMapping, mapping_spelling, max_mapping, mapping_form, read_mapping, IsRpcb, rpcb_spelling, max_rpcb, rpcb_form, read_rpcb, IsNetbuf, netbuf_spelling, max_netbuf, netbuf_form, read_netbuf, IsEntry, entry_spelling, max_entry, entry_form, read_entry}
 
 -- ---- one field after another
@@ -220,3 +225,51 @@ netbuf_has_form = then_form read_number Number _ (Content 128) (λ bytes. refl) 
 pub entry_has_form : HasForm entry_form read_entry
 unfolding read_entry
 entry_has_form = then_form (read_opaque 128) (Content 128) _ (Then (Content 32) (Then Number (Then (Content 32) (Content 32)))) (λ bytes. refl) (λ maddr. then_form (read_opaque 32) (Content 32) _ (Then Number (Then (Content 32) (Content 32))) (λ bytes. refl) (λ netid. then_form read_number Number _ (Then (Content 32) (Content 32)) (λ bytes. refl) (λ semantics. then_form (read_opaque 32) (Content 32) _ (Content 32) (λ bytes. refl) (λ protofmly. given_form (read_opaque 32) (Content 32) (λ proto. record { maddr = maddr; netid = netid; semantics = semantics; protofmly = protofmly; proto = proto }) (λ bytes. refl)))))
+
+-- ---- a call that is to be forwarded
+
+-- the content of args stands behind 16 bytes
+content_in : (a b c : ℕ) (content rest : List ℕ)
+    → slice_range (number a ++ (number b ++ (number c ++ (opaque content ++ rest)))) 16 (16 + length content) ≡ content
+content_in a b c content rest =
+    let n = length content in
+    let front : List ℕ = number a ++ (number b ++ (number c ++ number n)) in
+    let tail : List ℕ = replicate (residue n) 0 ++ rest in
+    let count : 16 + n - 16 ≡ n = omega arith in
+    let size : length front ≡ 16 =
+    length_of_four (number a) (number b) (number c) (number n) ∙ omega (arith, length-number a, length-number b, length-number c, length-number n) in
+    ap (λ (xs : List ℕ). slice_range (number a ++ (number b ++ (number c ++ xs))) 16 (16 + n)) (opaque_is content rest)
+    ∙ ap (λ (xs : List ℕ). slice_range xs 16 (16 + n)) (sym (four_in_row (number a) (number b) (number c) (number n) (content ++ tail)))
+    ∙ rw (count, drop_at front (content ++ tail) 16 size, take_at content tail n refl) refl
+
+pub remote_spelled : (bytes : List ℕ) (remote : RemoteCall) (n : ℕ) → AreBytes bytes → read_remote bytes ≡ Ok (remote, n) → SpellsRemote remote bytes
+unfolding read_remote
+remote_spelled bytes remote n are e =
+    let a = number_first _ bytes remote n are e in
+    let b = number_first _ a.rest remote a.more a.are a.was in
+    let c = number_first _ b.rest remote b.more b.are b.was in
+    let d = opaque_first longest_arguments _ c.rest remote c.more c.are c.was in
+    let made : RemoteCall = record { prog = a.x; vers = b.x; proc = c.x; count = length d.x } in
+    let z = ends made remote d.rest d.more d.was in
+    let whole : bytes ≡ number a.x ++ (number b.x ++ (number c.x ++ (opaque d.x ++ d.rest))) =
+    joined (number a.x) a.rest bytes _ a.whole (joined (number b.x) b.rest a.rest _ b.whole (joined (number c.x) c.rest b.rest _ c.whole d.whole)) in
+    let args : args_of made bytes ≡ d.x = ap (λ (xs : List ℕ). args_of made xs) whole ∙ content_in a.x b.x c.x d.x d.rest in
+    subst (λ (r : RemoteCall). SpellsRemote r bytes) z.same
+    (record {
+      prog = a.fits;
+      vers = b.fits;
+      proc = c.fits;
+      args = subst (λ (xs : List ℕ). IsContent longest_arguments xs) (sym args) d.fits;
+      count = ap length args;
+      rest = d.rest;
+      whole = whole ∙ ap (λ (xs : List ℕ). number a.x ++ (number b.x ++ (number c.x ++ (opaque xs ++ d.rest)))) (sym args);
+    })
+
+pub remote_read : (remote : RemoteCall) (bytes : List ℕ) → SpellsRemote remote bytes → front read_remote bytes ≡ Some remote
+unfolding read_remote
+remote_read remote bytes is =
+    let args : List ℕ = args_of remote bytes in
+    let made : RemoteCall = record remote { count = length args } in
+    ap (front read_remote) is.whole
+    ∙ ap (λ (r : Reading RemoteCall). value_of r) (number_again _ remote.prog _ made _ is.prog (number_again _ remote.vers _ made _ is.vers (number_again _ remote.proc _ made _ is.proc (opaque_again longest_arguments _ args is.rest made 0 is.args refl))))
+    ∙ ap (λ (k : ℕ). Some (record remote { count = k })) is.count

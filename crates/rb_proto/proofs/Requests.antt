@@ -7,9 +7,12 @@ use Rattle.rb_xdr.specs.XdrLaws.{IsSound, IsComplete}
 use Rattle.rb_xdr.proofs.Readers.{opaque_sound, opaque_complete}
 use Rattle.rb_proto.specs.declared.procedure.Procedure.{Procedure}
 use Rattle.rb_proto.specs.declared.procedure.Procedure.TheVariants as procedures
-use Rattle.rb_proto.specs.declared.request.Request.TheVariants.{Void, Mapping, Rpcb, Uaddr2taddr, Taddr2uaddr}
+use Rattle.rb_proto.specs.declared.request.Request.TheVariants.{Void, Mapping, Rpcb, Uaddr2taddr, Taddr2uaddr, Forward}
 use Rattle.rb_proto.specs.Types.{IsMapping, mapping_spelling, read_mapping, IsRpcb, rpcb_spelling, read_rpcb, IsNetbuf, netbuf_spelling, read_netbuf}
-use Rattle.rb_proto.proofs.Readings.{mapping_sound, mapping_complete, rpcb_sound, rpcb_complete, netbuf_sound, netbuf_complete}
+use Rattle.rb_forward.specs.declared.types.Kind.{Kind}
+use Rattle.rb_proto.specs.declared.remote.RemoteCall.{RemoteCall}
+use Rattle.rb_proto.specs.Remote.{read_remote, SpellsRemote}
+use Rattle.rb_proto.proofs.Readings.{mapping_sound, mapping_complete, rpcb_sound, rpcb_complete, netbuf_sound, netbuf_complete, remote_spelled, remote_read}
 use Rattle.rb_proto.specs.Arguments.{Request, procedure_at, value_of, front, arguments, request}
 use Rattle.rb_proto.specs.Grammar.{BeginsWith, SpellsRequest, procedure_of, Asks, RequestsAreOfTheGrammar}
 
@@ -35,6 +38,11 @@ module _ {A : Type 0} (is_value : A → Type 0) (spelling : A → List ℕ) (rea
   is_read complete v bytes b =
       ap (λ (xs : List ℕ). option_map made (front reads xs)) b.whole ∙ ap (λ (r : Reading A). option_map made (value_of r)) (complete v b.rest b.fits)
 
+forward_spelled : (kind : Kind) (read : Reading RemoteCall) (bytes : List ℕ) (r : Request)
+    → ((remote : RemoteCall) (n : ℕ) → read ≡ Ok (remote, n) → SpellsRemote remote bytes) → option_map (Forward kind) (value_of read) ≡ Some r → IsOf (procedures.Forward kind) bytes r
+forward_spelled kind (Ok read) bytes r h e = subst (IsOf (procedures.Forward kind) bytes) (same_Some (Forward kind read.0) r e) (refl, h read.0 read.1 refl)
+forward_spelled kind (Err fault) bytes r h e = absurd (none-some r e)
+
 -- ---- each type
 
 arguments_spelled : (p : Procedure) (bytes : List ℕ) → AreBytes bytes → (r : Request) → arguments p bytes ≡ Some r → IsOf p bytes r
@@ -44,6 +52,7 @@ arguments_spelled (procedures.Mapping p) bytes are r e = spelled IsMapping mappi
 arguments_spelled (procedures.Rpcb p) bytes are r e = spelled IsRpcb rpcb_spelling read_rpcb (Rpcb p) (procedures.Rpcb p) rpcb_sound (λ _ _ b. (refl, b)) bytes are r e
 arguments_spelled procedures.Uaddr2taddr bytes are r e = spelled (IsContent 128) opaque (read_opaque 128) Uaddr2taddr procedures.Uaddr2taddr (opaque_sound 128) (λ _ _ b. (refl, b)) bytes are r e
 arguments_spelled procedures.Taddr2uaddr bytes are r e = spelled IsNetbuf netbuf_spelling read_netbuf Taddr2uaddr procedures.Taddr2uaddr netbuf_sound (λ _ _ b. (refl, b)) bytes are r e
+arguments_spelled (procedures.Forward kind) bytes are r e = forward_spelled kind (read_remote bytes) bytes r (λ remote n was. remote_spelled bytes remote n are was) e
 
 arguments_read : (r : Request) (bytes : List ℕ) → SpellsRequest r bytes → arguments (procedure_of r) bytes ≡ Some r
 unfolding arguments
@@ -52,6 +61,7 @@ arguments_read (Mapping p m) bytes is = is_read IsMapping mapping_spelling read_
 arguments_read (Rpcb p r) bytes is = is_read IsRpcb rpcb_spelling read_rpcb (Rpcb p) rpcb_complete r bytes is
 arguments_read (Uaddr2taddr text) bytes is = is_read (IsContent 128) opaque (read_opaque 128) Uaddr2taddr (opaque_complete 128) text bytes is
 arguments_read (Taddr2uaddr n) bytes is = is_read IsNetbuf netbuf_spelling read_netbuf Taddr2uaddr netbuf_complete n bytes is
+arguments_read (Forward kind remote) bytes is = ap (option_map (Forward kind)) (remote_read remote bytes is)
 
 -- ---- the law
 

@@ -22,7 +22,8 @@ use Rattle.rb_proto.specs.declared.procedure.VoidProcedure.TheVariants as voids
 use Rattle.rb_proto.specs.declared.procedure.MappingProcedure.TheVariants as mappings
 use Rattle.rb_proto.specs.declared.procedure.RpcbProcedure.TheVariants as rpcbs
 use Rattle.rb_proto.specs.declared.request.Request.TheVariants as requests
-use Rattle.rb_proto.specs.declared.answers.Answer.TheVariants.{Results, Rows, Statistics}
+use Rattle.rb_proto.specs.declared.answers.Answer.TheVariants as answers
+use Rattle.rb_proto.specs.declared.answers.Results.TheVariants as results
 use Rattle.rb_proto.specs.declared.answers.Listing.{Listing}
 use Rattle.rb_proto.specs.declared.answers.Listing.TheVariants.{Mappings, Rpcbs, Entries}
 use Rattle.rb_proto.specs.declared.answers.Value.{Value}
@@ -31,7 +32,9 @@ use Rattle.rb_proto.specs.Arguments.{Request}
 use Rattle.rb_proto.specs.Callers.{is_local, peer_of, netid_of, owner_of}
 use Rattle.rb_proto.specs.Netids.{netid_named, netid_of_prot, which_of}
 use Rattle.rb_proto.specs.Ledger.{Ledger, rows_in, version_of, noted}
+use Rattle.rb_proto.specs.Forwarding.{forward_call}
 pub use Rattle.rb_proto.specs.declared.answers.Answer.{Answer}
+pub use Rattle.rb_proto.specs.declared.answers.Results.{Results}
 pub use Rattle.rb_proto.specs.declared.call.Call.{Call}
 pub use Rattle.rb_proto.specs.declared.context.Context.{Context}
 
@@ -169,39 +172,41 @@ uaddr_of netbuf = option_map_or text_of (from_transport netbuf.buf) []
 
 -- these results, and the ledger as it was
 abbrev pub tell : Value → Ledger → Answer × Ledger
-tell value l = (Results value, l)
+tell value l = (answers.Results (results.Value value), l)
 
 -- a list of the live rows, and the ledger as it was
 abbrev pub tell_rows : Listing → Ledger → Answer × Ledger
-tell_rows listing l = (Rows listing, l)
+tell_rows listing l = (answers.Results (results.Rows listing), l)
 
 -- what was done, as a result, and the ledger after it
 abbrev pub tell_done : {A : Type 0} → (A → Value) → A × Ledger → Answer × Ledger
-tell_done value done = (Results (value done.0), done.1)
+tell_done value done = (answers.Results (results.Value (value done.0)), done.1)
 
 -- what a procedure without arguments is answered, and the ledger stays
-abbrev pub answer_void : Context → VoidProcedure → Answer
-answer_void context voids.Null = Results values.Void
-answer_void context voids.PmapDump = Rows Mappings
-answer_void context voids.Dump = Rows Rpcbs
-answer_void context voids.Gettime = Results (values.Number (seconds context.clock))
-answer_void context voids.Getstat = Statistics
+abbrev pub answer_void : Context → VoidProcedure → Results
+answer_void context voids.Null = results.Value values.Void
+answer_void context voids.PmapDump = results.Rows Mappings
+answer_void context voids.Dump = results.Rows Rpcbs
+answer_void context voids.Gettime = results.Value (values.Number (seconds context.clock))
+answer_void context voids.Getstat = results.Statistics
 
--- What a call of this head is answered that asks for this, and what it leaves behind. SET, UNSET and the look-ups note
--- what they did.
-abbrev pub answer_to : Context → CallHead → Request → Ledger → Answer × Ledger
-answer_to context head (requests.Void procedure) l = (answer_void context procedure, l)
-answer_to context head (requests.Mapping mappings.Set m) l = tell_done values.Bool (set_row context head (row_of_mapping (owner_of head.cred) m) l)
-answer_to context head (requests.Mapping mappings.Unset m) l = tell_done values.Bool (unset_rows context head m.prog m.vers (Some Inet) l)
-answer_to context head (requests.Mapping mappings.Getport m) l = tell_done values.Number (getport head m l)
-answer_to context head (requests.Rpcb rpcbs.Set r) l = tell_done values.Bool (set_row context head (row_of_rpcb (owner_of head.cred) r) l)
-answer_to context head (requests.Rpcb rpcbs.Unset r) l = tell_done values.Bool (unset_rows context head r.prog r.vers (which_of r.netid) l)
-answer_to context head (requests.Rpcb rpcbs.Getaddr r) l = tell_done values.Text (getaddr context head r l)
-answer_to context head (requests.Rpcb rpcbs.Getversaddr r) l = tell_done values.Text (getversaddr context head r l)
-answer_to context head (requests.Rpcb rpcbs.Getaddrlist r) l = tell_rows (Entries r.prog r.vers) l
-answer_to context head (requests.Uaddr2taddr text) l = tell (values.Netbuf (taddr_of text)) l
-answer_to context head (requests.Taddr2uaddr netbuf) l = tell (values.Text (uaddr_of netbuf)) l
+-- What a call of this head is answered that asks for this, and what it leaves behind. SET, UNSET, the look-ups and calls
+-- that can't be forwarded note what they did. A call that is forwarded has its args in the bytes of the arguments, which
+-- count for nothing else.
+abbrev pub answer_to : Context → CallHead → Request → List ℕ → Ledger → Answer × Ledger
+answer_to context head (requests.Void procedure) arguments l = (answers.Results (answer_void context procedure), l)
+answer_to context head (requests.Mapping mappings.Set m) arguments l = tell_done values.Bool (set_row context head (row_of_mapping (owner_of head.cred) m) l)
+answer_to context head (requests.Mapping mappings.Unset m) arguments l = tell_done values.Bool (unset_rows context head m.prog m.vers (Some Inet) l)
+answer_to context head (requests.Mapping mappings.Getport m) arguments l = tell_done values.Number (getport head m l)
+answer_to context head (requests.Rpcb rpcbs.Set r) arguments l = tell_done values.Bool (set_row context head (row_of_rpcb (owner_of head.cred) r) l)
+answer_to context head (requests.Rpcb rpcbs.Unset r) arguments l = tell_done values.Bool (unset_rows context head r.prog r.vers (which_of r.netid) l)
+answer_to context head (requests.Rpcb rpcbs.Getaddr r) arguments l = tell_done values.Text (getaddr context head r l)
+answer_to context head (requests.Rpcb rpcbs.Getversaddr r) arguments l = tell_done values.Text (getversaddr context head r l)
+answer_to context head (requests.Rpcb rpcbs.Getaddrlist r) arguments l = tell_rows (Entries r.prog r.vers) l
+answer_to context head (requests.Uaddr2taddr text) arguments l = tell (values.Netbuf (taddr_of text)) l
+answer_to context head (requests.Taddr2uaddr netbuf) arguments l = tell (values.Text (uaddr_of netbuf)) l
+answer_to context head (requests.Forward kind remote) arguments l = forward_call context head.xid kind remote arguments l
 
--- what a call is answered, and the ledger after it
-unfoldable pub answer : Context → Call → Ledger → Answer × Ledger
-answer context call l = answer_to context call.head call.request l
+-- what a call is answered whose arguments are these bytes, and the ledger after it
+unfoldable pub answer : Context → Call → List ℕ → Ledger → Answer × Ledger
+answer context call arguments l = answer_to context call.head call.request arguments l

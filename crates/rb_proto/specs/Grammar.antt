@@ -2,10 +2,11 @@
 use Rattle.std.specs.Prelude.{◌≡◌, ◌↔◌, ℕ, List, ◌++◌, Some, ⊤}
 use Rattle.rb_xdr.specs.Xdr.{IsContent, AreBytes, opaque}
 use Rattle.rb_proto.specs.Types.{IsMapping, mapping_spelling, IsRpcb, rpcb_spelling, IsNetbuf, netbuf_spelling}
+use Rattle.rb_proto.specs.Remote.{SpellsRemote}
 use Rattle.rb_proto.specs.Arguments.{Request, procedure_at, request}
 use Rattle.rb_proto.specs.declared.procedure.Procedure.{Procedure}
 use Rattle.rb_proto.specs.declared.procedure.Procedure.TheVariants as procedures
-use Rattle.rb_proto.specs.declared.request.Request.TheVariants.{Void, Mapping, Rpcb, Uaddr2taddr, Taddr2uaddr}
+use Rattle.rb_proto.specs.declared.request.Request.TheVariants.{Void, Mapping, Rpcb, Uaddr2taddr, Taddr2uaddr, Forward}
 
 -- the bytes begin with a spelling of the value
 pub record BeginsWith {A : Type 0} (is_value : A → Type 0) (spelling : A → List ℕ) (x : A) (bytes : List ℕ) : Type 0 where
@@ -20,6 +21,7 @@ SpellsRequest (Mapping procedure m) bytes = BeginsWith IsMapping mapping_spellin
 SpellsRequest (Rpcb procedure r) bytes = BeginsWith IsRpcb rpcb_spelling r bytes
 SpellsRequest (Uaddr2taddr text) bytes = BeginsWith (IsContent 128) opaque text bytes
 SpellsRequest (Taddr2uaddr n) bytes = BeginsWith IsNetbuf netbuf_spelling n bytes
+SpellsRequest (Forward kind remote) bytes = SpellsRemote remote bytes
 
 -- the procedure that a request is for
 abbrev pub procedure_of : Request → Procedure
@@ -28,6 +30,7 @@ procedure_of (Mapping procedure m) = procedures.Mapping procedure
 procedure_of (Rpcb procedure r) = procedures.Rpcb procedure
 procedure_of (Uaddr2taddr text) = procedures.Uaddr2taddr
 procedure_of (Taddr2uaddr n) = procedures.Taddr2uaddr
+procedure_of (Forward kind remote) = procedures.Forward kind
 
 -- The version has the request's procedure under this number, and the bytes begin with its argument.
 abbrev pub Asks : ℕ → ℕ → Request → List ℕ → Type 0

@@ -2,24 +2,27 @@
 use Rattle.std.specs.Prelude.{◌≡◌, ℕ, ◌==◌, if◌then◌else◌, List, [], ◌∷◌, ◌++◌}
 use Rattle.rb_rpc.specs.declared.call.CallHead.{CallHead}
 use Rattle.rb_registry.specs.declared.row.Row.{Row}
-use Rattle.rb_registry.specs.Registry.{StandsForChanges}
+use Rattle.rb_registry.specs.Registry.{StandsForChanges, removals_of}
 use Rattle.rb_registry.specs.Rows.{Change, live}
 use Rattle.rb_stats.specs.declared.key.Version.{Version}
 use Rattle.rb_stats.specs.declared.key.Version.TheVariants.{Two, Three, Four}
 use Rattle.rb_stats.specs.Statistics.{Note}
 use Rattle.rb_stats.specs.Statistics.Note.{Called}
 use Rattle.rb_stats.specs.Stats.{StandsForHistory}
+use Rattle.rb_forward.specs.Forwards.{Forwards, no_forwards}
+use Rattle.rb_forward.specs.Table.{StandsForForwards}
 pub use Rattle.rb_proto.specs.declared.books.Books.{Books}
 
--- the daemon's own rows, the accepted changes, and the history of the calls, in their order
+-- the daemon's own rows, the accepted changes, the history of the calls, and the forwarded ones, in their order
 pub record Ledger : Type 0 where
   pub own : List Row
   pub changes : List Change
   pub history : List Note
+  pub forwards : Forwards
 
 -- nothing was called yet
 abbrev pub fresh_ledger : List Row → Ledger
-fresh_ledger own = record { own = own; changes = []; history = [] }
+fresh_ledger own = record { own = own; changes = []; history = []; forwards = no_forwards }
 
 -- the live rows
 abbrev pub rows_in : Ledger → List Row
@@ -41,10 +44,12 @@ called head l = noted (Called (version_of head.vers) head.proc) l
 
 -- ---- what stands for it
 
--- each of the books stands for its part
+-- each of the books stands for its part, and no removed row is kept
 pub record StandsForLedger (books : Books) (l : Ledger) : Type 0 where
   pub registry : StandsForChanges books.registry l.own l.changes
+  pub none_kept : removals_of books.registry ≡ []
   pub stats : StandsForHistory books.stats l.history
+  pub forwards : StandsForForwards books.forwards l.forwards
 
 -- From each ledger that the books stood for, they stand for what it becomes.
 abbrev pub Becomes : (Ledger → Ledger) → Books → Books → Type 0
@@ -61,9 +66,13 @@ pub record ActsAs {A : Type 0} (act : Ledger → A × Ledger) (old new : Books) 
 pub record AreTied (tie : ℕ) (books : Books) : Type 0 where
   pub registry : tie ≡ books.registry.tie
   pub stats : tie ≡ books.stats.tie
+  pub forwards : tie ≡ books.forwards.tie
 
--- the registry's limit of rows and the books' meter stay
+-- the limits of rows and of forwarded calls, the first xid of those, and the books' meter stay
 pub record SameFrame (old new : Books) : Type 0 where
   pub limit : new.registry.limit ≡ old.registry.limit
+  pub cap : new.forwards.cap ≡ old.forwards.cap
+  pub first_xid : new.forwards.first_xid ≡ old.forwards.first_xid
   pub registry : new.registry.tie ≡ old.registry.tie
   pub stats : new.stats.tie ≡ old.stats.tie
+  pub forwards : new.forwards.tie ≡ old.forwards.tie

@@ -1,11 +1,15 @@
 pub mod Types
+pub mod Remote
 pub mod Arguments
 pub mod Numbers
 pub mod Grammar
 pub mod Netids
 pub mod Callers
 pub mod Ledger
+pub mod Forwarding
+pub mod ForwardLaws
 pub mod Answers
 pub mod Results
 pub mod Puts
 pub mod Worked
+pub mod WorkedForwards

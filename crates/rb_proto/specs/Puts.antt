@@ -1,31 +1,41 @@
 -- What answering and putting results costs.
 use Rattle.std.specs.Prelude.{ℕ, ◌+◌, ◌-◌, ◌*◌, length}
 use Rattle.rb_xdr.specs.Kept.{Kept}
-use Rattle.rb_registry.specs.Registry.{Registry, rows_of}
+use Rattle.rb_registry.specs.Registry.{Registry, slots_of}
 use Rattle.rb_stats.specs.Stats.{most_keys}
+use Rattle.rb_forward.specs.Costs.{start_cost, end_cost}
+use Rattle.rb_forward.specs.Table.{longest_arguments}
 use Rattle.rb_proto.specs.declared.books.Books.{Books}
 
 -- one step for the length, and one for each byte that was put
 abbrev pub put_cost : Kept → Kept → ℕ
 put_cost old new = 1 + (length new.bytes - length old.bytes)
 
--- a walk over the rows, and one step for each byte that was put
+-- a walk over the rows, live or dead, and one step for each byte that was put
 abbrev pub write_cost : Registry → Kept → Kept → ℕ
-write_cost kept old new = 2 * length (rows_of kept) + 2 + (length new.bytes - length old.bytes)
+write_cost kept old new = 2 * length (slots_of kept) + 2 + (length new.bytes - length old.bytes)
 
 -- two walks over the rows beside it
 abbrev pub list_cost : Registry → Kept → Kept → ℕ
-list_cost kept old new = 4 * length (rows_of kept) + 4 + put_cost old new
+list_cost kept old new = 4 * length (slots_of kept) + 4 + put_cost old new
 
 -- a walk over the keys of the statistics, which notes a look-up
 abbrev pub note_cost : ℕ
 note_cost = 2 * most_keys
 
--- two walks over the rows, and what notes a look-up
-abbrev pub call_cost : Books → ℕ
-call_cost books = 4 * length (rows_of books.registry) + 4 + note_cost
+-- a new entry of forwarded calls, with as many arguments as there may be
+abbrev pub forward_cost : ℕ
+forward_cost = start_cost longest_arguments
 
--- a walk over them for each version, which shows them
+-- two walks that change rows, what notes a look-up, and a new entry
+abbrev pub call_cost : Books → ℕ
+call_cost books = 6 * length (slots_of books.registry) + 4 + note_cost + forward_cost
+
+-- an entry is looked for and ends, and that is noted
+abbrev pub ending_cost : Books → ℕ
+ending_cost books = end_cost books.forwards.cap + 2 + note_cost
+
+-- a walk over the keys for each version, which shows them
 abbrev pub statistics_cost : ℕ
 statistics_cost = 6 * most_keys
 

@@ -12,7 +12,7 @@ use Rattle.rb_proto.specs.declared.listener.Listener.{Listener}
 use Rattle.rb_proto.specs.declared.mapping.Mapping.{Mapping}
 use Rattle.rb_proto.specs.declared.rpcb.Rpcb.{Rpcb}
 use Rattle.rb_proto.specs.declared.entry.Entry.{Entry}
-use Rattle.rb_proto.specs.declared.answers.Answer.TheVariants.{Results, Rows, Statistics}
+use Rattle.rb_proto.specs.declared.answers.Results.TheVariants as results
 use Rattle.rb_proto.specs.declared.answers.Listing.{Listing}
 use Rattle.rb_proto.specs.declared.answers.Listing.TheVariants.{Mappings, Rpcbs, Entries}
 use Rattle.rb_proto.specs.declared.answers.Value.{Value}
@@ -21,7 +21,7 @@ use Rattle.rb_proto.specs.Types.{mapping_spelling, rpcb_spelling, netbuf_spellin
 use Rattle.rb_proto.specs.Callers.{owner_text}
 use Rattle.rb_proto.specs.Netids.{prot_of, semantics_of, family_text, proto_text}
 use Rattle.rb_proto.specs.Ledger.{Books, Ledger, rows_in}
-use Rattle.rb_proto.specs.Answers.{Answer, shown_text, shown_port}
+use Rattle.rb_proto.specs.Answers.{Results, shown_text, shown_port}
 
 -- ---- one result
 
@@ -74,17 +74,17 @@ abbrev pub shown_of : Ledger → Shown
 shown_of l = record { rows = rows_in l; statistics = statistics l.history }
 
 -- where the listener has this host and this is remembered
-unfoldable pub result_bytes : List ℕ → Shown → Answer → List ℕ
-result_bytes host shown (Results value) = value_bytes value
-result_bytes host shown (Rows list) = list_bytes host shown.rows list
-result_bytes host shown Statistics = shown.statistics
+unfoldable pub result_bytes : List ℕ → Shown → Results → List ℕ
+result_bytes host shown (results.Value value) = value_bytes value
+result_bytes host shown (results.Rows list) = list_bytes host shown.rows list
+result_bytes host shown results.Statistics = shown.statistics
 
 -- what books show
 abbrev pub shown_in : Books → Shown
 shown_in books = record { rows = rows_of books.registry; statistics = spelling books.stats }
 
-abbrev pub results_at : Listener → Books → Answer → List ℕ
-results_at listener books answer = result_bytes listener.host (shown_in books) answer
+abbrev pub results_at : Listener → Books → Results → List ℕ
+results_at listener books given = result_bytes listener.host (shown_in books) given
 
 -- ---- one row
 

@@ -13,6 +13,7 @@ use Rattle.rb_registry.specs.Rows.{rpcb_prog}
 use Rattle.rb_proto.specs.declared.listener.Listener.{Listener}
 use Rattle.rb_proto.specs.declared.request.ArgumentFault.{ArgumentFault}
 use Rattle.rb_proto.specs.declared.request.ArgumentFault.TheVariants.{ProcUnavail, GarbageArgs}
+use Rattle.rb_proto.specs.declared.answers.Answer.TheVariants as answers
 use Rattle.rb_proto.specs.declared.answers.Listing.TheVariants.{Mappings}
 use Rattle.rb_proto.specs.Arguments.{Request, read_request}
 use Rattle.rb_proto.specs.Callers.{own_rows}
@@ -53,7 +54,7 @@ abbrev pub call_as : ℕ → ℕ → ℕ → List ℕ → Message
 call_as uid vers proc numbers = call_with (credentials.Sys uid) vers proc (words numbers)
 
 abbrev pub context_of : ℕ → Message → Context
-context_of limit m = record { listener = listener; limit = limit; clock = m.clock; caller = m.caller }
+context_of limit m = record { listener = listener; limit = limit; forwards = 4; clock = m.clock; caller = m.caller }
 
 abbrev pub head_of : Message → CallHead
 head_of m = record { xid = 1; prog = rpcb_prog; vers = m.vers; proc = m.proc; cred = m.cred }
@@ -61,13 +62,19 @@ head_of m = record { xid = 1; prog = rpcb_prog; vers = m.vers; proc = m.proc; cr
 abbrev pub call_of : Message → Request → Call
 call_of m request = record { head = head_of m; request = request }
 
--- the results of an answer, over the ledger that it left
+-- the results of an answer, if it has any, over the ledger that it left
+abbrev pub results_in : Answer → Ledger → List ℕ
+results_in (answers.Results given) l = result_bytes listener.host (shown_of l) given
+results_in (answers.Refused status) l = []
+results_in answers.Forwarded l = []
+results_in answers.Silent l = []
+
 abbrev pub shown : Answer × Ledger → Result (List ℕ) ArgumentFault × Ledger
-shown given = (Ok (result_bytes listener.host (shown_of given.1) given.0), given.1)
+shown given = (Ok (results_in given.0 given.1), given.1)
 
 -- the results, or why there are none, and the ledger after it
 abbrev pub outcome : ℕ → Message → Ledger → Result Request ArgumentFault → Result (List ℕ) ArgumentFault × Ledger
-outcome limit m l (Ok request) = shown (answer (context_of limit m) (call_of m request) (called (head_of m) l))
+outcome limit m l (Ok request) = shown (answer (context_of limit m) (call_of m request) m.args (called (head_of m) l))
 outcome limit m l (Err GarbageArgs) = (Err GarbageArgs, called (head_of m) l)
 outcome limit m l (Err ProcUnavail) = (Err ProcUnavail, l)
 
@@ -231,9 +238,9 @@ LocalityAndGettime =
 abbrev pub RefusalsOfAcceptedCalls : Type 0
 RefusalsOfAcceptedCalls =
     results_of (
-    call 2 5 [] ∷ call 2 6 [] ∷ call 3 5 [] ∷ call 3 9 [] ∷ call 4 10 [] ∷ call 4 13 []
-    ∷ call 2 1 (1 ∷ 2 ∷ 3 ∷ []) ∷ call 2 0 (1 ∷ 2 ∷ 3 ∷ []) ∷ [])
-    ≡ replicate 6 (Err ProcUnavail) ++ Err GarbageArgs ∷ Ok [] ∷ []
+    call 2 6 [] ∷ call 3 9 [] ∷ call 4 13 [] ∷ call 2 1 (1 ∷ 2 ∷ 3 ∷ []) ∷ call 2 5 [] ∷ call 4 10 (1 ∷ 2 ∷ 3 ∷ [])
+    ∷ call 2 0 (1 ∷ 2 ∷ 3 ∷ []) ∷ [])
+    ≡ replicate 3 (Err ProcUnavail) ++ replicate 3 (Err GarbageArgs) ++ Ok [] ∷ []
 
 -- ---- statistics
 

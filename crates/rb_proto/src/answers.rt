@@ -1,11 +1,24 @@
 //! What is answered.
 use crate::netbuf::Netbuf;
+use rb_rpc::ReplyStatus;
 use rb_xdr::Text;
+
+/// What a call is answered.
+#[derive(PartialEq, Eq, Debug, Drop)]
+pub enum Answer {
+    Results(Results),
+    /// The call itself is refused (RFC 5531 section 9).
+    Refused(ReplyStatus),
+    /// Nothing yet: the call was forwarded, and is answered at its outcome.
+    Forwarded,
+    /// Nothing ever: a call could not be forwarded whose failures have no answer.
+    Silent,
+}
 
 /// The results of a procedure.
 #[derive(PartialEq, Eq, Debug, Drop)]
-pub enum Answer {
-    Results(Value),
+pub enum Results {
+    Value(Value),
     /// Rows of the registry, which are yet to be shown.
     Rows(Listing),
     /// The statistics, which are yet to be shown.

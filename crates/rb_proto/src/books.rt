@@ -3,18 +3,22 @@ ghost use Rattle.std.specs.Prelude.{◌≡◌};
 ghost use Rattle.rb_proto.specs.Callers.{owner_of};
 ghost use Rattle.rb_proto.specs.Ledger.{version_of};
 
+use crate::forwarding::note_end;
 use crate::listener::{Listener, own_rows};
+use rb_forward::{Ended, Forwards, FwdId, Gone, Outcome, Unsent};
 use rb_registry::{Owner, Registry, RegistryFault};
-use rb_rpc::{CallHead, Credential};
+use rb_rpc::{CallHead, Credential, Peer};
 use rb_stats::{Stats, Version};
 use rb_xdr::Meter;
 use std::alloc::Global;
 
-/// What is remembered of calls: the rows that they set, and what they were. One meter counts the steps on both.
+/// What is remembered of calls: the rows that they set, what they were, and those that were forwarded. One meter counts
+/// the steps on all of it.
 #[derive(Drop)]
 pub struct Books {
     pub registry: Registry,
     pub stats: Stats,
+    pub forwards: Forwards,
 }
 
 /// The version that counts a call. One of another number than 2, 3 and 4 has no procedures.
@@ -40,29 +44,46 @@ pub(crate) fn owner_of(cred: Credential) -> Owner
 }
 
 impl Books {
-    ghost use Rattle.std.specs.Prelude.{◌≡◌, ◌<◌, ◌↔◌, IfOk, IsErrOf};
+    ghost use Rattle.std.specs.Prelude.{◌≡◌, ◌<◌, ◌≤◌, ◌↔◌, ◌+◌, ◌*◌, [], false, length, IfOk, IsErrOf, IfSome, IsOk, IsTrue, OnOk, OnErr};
     ghost use Rattle.rb_xdr.specs.Meter.{PaysAtMost};
+    ghost use Rattle.rb_forward.specs.Costs.{sent_cost, unsent_cost};
+    ghost use Rattle.rb_forward.specs.Forwards.{unsent, can_be_sent};
+    ghost use Rattle.rb_forward.specs.Outcomes.{PassesWithin};
+    ghost use Rattle.rb_forward.specs.Table.{slots_of, seen, count_lent, longest_call, is_waiting, IsNew, NoneWaitsAnew};
+    ghost use Rattle.rb_proto.specs.Forwarding.{replied, fell_due, caller_dropped, call_sent};
+    ghost use Rattle.rb_proto.specs.Puts.{ending_cost};
     ghost use Rattle.rb_proto.specs.Callers.{own_rows};
-    ghost use Rattle.rb_proto.specs.Ledger.{StandsForLedger, Becomes, AreTied, SameFrame, fresh_ledger, called};
+    ghost use Rattle.rb_proto.specs.Ledger.{Ledger, StandsForLedger, ActsAs, Becomes, AreTied, SameFrame, fresh_ledger, called};
 
-    /// Nothing was called: the listener's own rows are there, of at most `limit`. BadLimits where they are more, else
-    /// NoMemory where an allocation is refused.
+    /// Nothing was called: the listener's own rows are there, of at most `limit`. At most so many calls will be forwarded
+    /// at a time, the first under this xid. BadLimits where the own rows are more, else NoMemory where an allocation is
+    /// refused.
     pub fn new(
         alloc: Global,
         limit: usize,
+        forwards: u32,
+        first_xid: u32,
         listener: &Listener,
         meter: &mut Meter,
     ) -> Result<Books, RegistryFault>
         ensures made { IfOk result
             (λ books. StandsForLedger books (fresh_ledger (own_rows listener.now))) }
         ensures limit { IfOk result (λ books. books.registry.limit ≡ limit) }
+        ensures cap { IfOk result (λ books. books.forwards.cap ≡ forwards) }
+        ensures first_xid { IfOk result (λ books. books.forwards.first_xid ≡ first_xid) }
+        ensures waiting { IfOk result (λ books. slots_of books.forwards ≡ []) }
         ensures tied { IfOk result (λ books. AreTied meter.old.tie books) }
         ensures bad { IsErrOf result RegistryFault.BadLimits ↔ (limit < 6) }
-        ensures cost { PaysAtMost meter.old meter.new 6 }
+        ensures cost { PaysAtMost meter.old meter.new (6 + 2 * forwards) }
     {
         let registry = Registry::new(alloc, limit, own_rows(listener), meter)?;
         let stats = Stats::new(alloc, meter)?;
-        Ok(Books { registry, stats })
+        let forwards = Forwards::new(alloc, forwards, first_xid, meter)?;
+        Ok(Books {
+            registry,
+            stats,
+            forwards,
+        })
     }
 
     /// Notes a call of a procedure that its version has, before it is answered: those too whose arguments can't be
@@ -71,8 +92,98 @@ impl Books {
     pub fn note_call(&mut self, head: &CallHead)
         ensures called { Becomes (called head.now) self.old self.new }
         ensures registry { self.new.registry ≡ self.old.registry }
+        ensures forwards { self.new.forwards ≡ self.old.forwards }
         ensures frame { SameFrame self.old self.new }
     {
         self.stats.note_call(version_of(head.vers), head.proc);
+    }
+
+    /// The unsent forwarded call of least number, whether or not its deadline has come. It has at most 8,840 bytes.
+    pub fn unsent(&self, meter: &mut Meter) -> Option<Unsent<'_>>
+        requires { AreTied meter.old.tie self.now }
+        ensures unsent { (l : Ledger) → StandsForLedger self.now l
+            → seen result ≡ unsent self.now.forwards.first_xid l.forwards }
+        ensures few { IfSome result (λ lent. length lent.call.now ≤ longest_call) }
+        ensures cost { PaysAtMost meter.old meter.new
+            (unsent_cost self.now.forwards.cap (count_lent result)) }
+    {
+        self.forwards.unsent(meter)
+    }
+
+    /// Notes that the forwarded call of this number was sent: from now on a reply counts, and its bytes are held no longer.
+    /// `Gone` where there is no such call, or it was sent before: then nothing changes.
+    #[tactic(auto, unfolding(crate::specs::Forwarding::call_sent))]
+    pub fn sent(&mut self, id: FwdId, meter: &mut Meter) -> Result<(), Gone>
+        requires { AreTied meter.old.tie self.old }
+        ensures there { (l : Ledger) → StandsForLedger self.old l
+            → IsOk result ↔ IsTrue (can_be_sent id.number l.forwards) }
+        ensures sent { OnOk result (Becomes (call_sent id.number) self.old self.new) }
+        ensures err { OnErr result (self.new ≡ self.old) }
+        ensures registry { self.new.registry ≡ self.old.registry }
+        ensures waiting { NoneWaitsAnew (slots_of self.old.forwards) (slots_of self.new.forwards) }
+        ensures frame { SameFrame self.old self.new }
+        ensures cost { PaysAtMost meter.old meter.new (sent_cost self.old.forwards.cap) }
+    {
+        self.forwards.sent(id, meter)
+    }
+
+    /// Takes a datagram that came from there at this moment. Where it is a reply to forwarded calls, that of least number
+    /// ends, and its outcome is noted. Any other datagram changes nothing.
+    #[tactic(auto, unfolding(crate::specs::Forwarding::replied))]
+    pub fn reply(
+        &mut self,
+        clock: u64,
+        from: Peer,
+        bytes: &[u8],
+        meter: &mut Meter,
+    ) -> Option<Ended>
+        requires { AreTied meter.old.tie self.old }
+        ensures acts { ActsAs (replied self.old.forwards.first_xid clock from bytes.now)
+            self.old self.new result }
+        ensures registry { self.new.registry ≡ self.old.registry }
+        ensures within { IfSome result (λ ended. PassesWithin ended.outcome (length bytes.now)) }
+        ensures alone { IfSome result
+            (λ ended. IsNew ended.forward.caller (slots_of self.new.forwards)) }
+        ensures waiting { NoneWaitsAnew (slots_of self.old.forwards) (slots_of self.new.forwards) }
+        ensures frame { SameFrame self.old self.new }
+        ensures cost { PaysAtMost meter.old meter.new (ending_cost self.old) }
+    {
+        let ended = self.forwards.reply(clock, from, bytes, meter)?;
+        note_end(&mut self.stats, &ended, meter);
+        Some(ended)
+    }
+
+    /// The forwarded call of least number whose deadline has come at this moment ends, as Failed, and that is noted.
+    #[tactic(auto, unfolding(crate::specs::Forwarding::fell_due))]
+    pub fn due(&mut self, clock: u64, meter: &mut Meter) -> Option<Ended>
+        requires { AreTied meter.old.tie self.old }
+        ensures acts { ActsAs (fell_due clock) self.old self.new result }
+        ensures registry { self.new.registry ≡ self.old.registry }
+        ensures failed { IfSome result (λ ended. ended.outcome ≡ Outcome.Failed) }
+        ensures alone { IfSome result
+            (λ ended. IsNew ended.forward.caller (slots_of self.new.forwards)) }
+        ensures waiting { NoneWaitsAnew (slots_of self.old.forwards) (slots_of self.new.forwards) }
+        ensures frame { SameFrame self.old self.new }
+        ensures cost { PaysAtMost meter.old meter.new (ending_cost self.old) }
+    {
+        let ended = self.forwards.due(clock, meter)?;
+        note_end(&mut self.stats, &ended, meter);
+        Some(ended)
+    }
+
+    /// The connection of this number is closed: its forwarded call ends, if it has one, and is noted as a failure.
+    #[tactic(auto, unfolding(crate::specs::Forwarding::caller_dropped))]
+    pub fn drop_caller(&mut self, id: u64, meter: &mut Meter)
+        requires { AreTied meter.old.tie self.old }
+        ensures dropped { Becomes (λ l. (caller_dropped id l).1) self.old self.new }
+        ensures registry { self.new.registry ≡ self.old.registry }
+        ensures none_left { is_waiting id (slots_of self.new.forwards) ≡ false }
+        ensures waiting { NoneWaitsAnew (slots_of self.old.forwards) (slots_of self.new.forwards) }
+        ensures frame { SameFrame self.old self.new }
+        ensures cost { PaysAtMost meter.old meter.new (ending_cost self.old) }
+    {
+        if let Some(ended) = self.forwards.drop_caller(id, meter) {
+            note_end(&mut self.stats, &ended, meter);
+        }
     }
 }

@@ -1,13 +1,17 @@
 //! A call, and what it is answered (RFC 1833 sections 2.2 and 3.2).
 ghost use Rattle.std.specs.Prelude.{◌≡◌};
 ghost use Rattle.rb_xdr.specs.Meter.{PaysAtMost};
+ghost use Rattle.rb_forward.specs.Table.{slots_of, IsNew, OnlyWaitsAnew};
 ghost use Rattle.rb_proto.specs.Ledger.{ActsAs, AreTied, SameFrame};
+ghost use Rattle.rb_proto.specs.Arguments.{HasArgs};
+ghost use Rattle.rb_proto.specs.Forwarding.{StayUnlessForwarded};
 ghost use Rattle.rb_proto.specs.Answers.{answer, answer_void};
 ghost use Rattle.rb_proto.specs.Puts.{call_cost};
 
-use crate::answers::{Answer, Listing, Value};
+use crate::answers::{Answer, Listing, Results, Value};
 use crate::books::{Books, owner_of};
 use crate::context::Context;
+use crate::forwarding::forward_call;
 use crate::lookups::{getaddr, getport, gettime, getversaddr, taddr2uaddr, uaddr2taddr};
 use crate::netids::which_of;
 use crate::procedure::{MappingProcedure, RpcbProcedure, VoidProcedure};
@@ -25,65 +29,89 @@ pub struct Call {
 }
 
 /// What a procedure without arguments is answered. It leaves nothing behind.
-fn answer_void(context: &Context, procedure: VoidProcedure) -> Answer
+fn answer_void(context: &Context, procedure: VoidProcedure) -> Results
     ensures { result ≡ answer_void context.now procedure }
 {
     match procedure {
-        VoidProcedure::Null => Answer::Results(Value::Void),
-        VoidProcedure::PmapDump => Answer::Rows(Listing::Mappings),
-        VoidProcedure::Dump => Answer::Rows(Listing::Rpcbs),
-        VoidProcedure::Gettime => Answer::Results(Value::Number(gettime(context.clock))),
-        VoidProcedure::Getstat => Answer::Statistics,
+        VoidProcedure::Null => Results::Value(Value::Void),
+        VoidProcedure::PmapDump => Results::Rows(Listing::Mappings),
+        VoidProcedure::Dump => Results::Rows(Listing::Rpcbs),
+        VoidProcedure::Gettime => Results::Value(Value::Number(gettime(context.clock))),
+        VoidProcedure::Getstat => Results::Statistics,
     }
 }
 
+/// A value that is an answer.
+fn told(value: Value) -> Answer
+    ensures { result ≡ Answer.Results (Results.Value value) }
+{
+    Answer::Results(Results::Value(value))
+}
+
 /// Does what a call asks for, and answers it. What the statistics count of it is noted, but that it was called at all,
-/// which `Books::note_call` does before.
+/// which `Books::note_call` does before, and the outcome of what is forwarded, which comes later.
+///
+/// `arguments` are the bytes that the request was read from. A caller on a connection has no other forwarded call.
 #[tactic(auto, unfolding(crate::specs::Answers::answer))]
-pub fn answer(books: &mut Books, context: &Context, call: Call, meter: &mut Meter) -> Answer
+pub fn answer(
+    books: &mut Books,
+    context: &Context,
+    call: Call,
+    arguments: &[u8],
+    meter: &mut Meter,
+) -> Answer
     requires tied { AreTied meter.old.tie books.old }
     requires limit { books.old.registry.limit ≡ context.now.limit }
-    ensures acts { ActsAs (answer context.now call) books.old books.new result }
+    requires forwards { books.old.forwards.cap ≡ context.now.forwards }
+    requires caller { IsNew context.now.caller (slots_of books.old.forwards) }
+    requires args { HasArgs call.request arguments.now }
+    ensures acts { ActsAs (answer context.now call arguments.now) books.old books.new result }
+    ensures quiet { StayUnlessForwarded result books.old.forwards books.new.forwards }
+    ensures waiting { OnlyWaitsAnew context.now.caller
+        (slots_of books.old.forwards) (slots_of books.new.forwards) }
     ensures frame { SameFrame books.old books.new }
     ensures cost { PaysAtMost meter.old meter.new (call_cost books.old) }
 {
     let Call { head, request } = call;
     match request {
-        Request::Void(procedure) => answer_void(context, procedure),
+        Request::Void(procedure) => Answer::Results(answer_void(context, procedure)),
         Request::Mapping(MappingProcedure::Set, mapping) => {
             let row = row_of_mapping(owner_of(head.cred), &mapping);
-            Answer::Results(Value::Bool(set_row(books, context, &head, row, meter)))
+            told(Value::Bool(set_row(books, context, &head, row, meter)))
         }
         Request::Mapping(MappingProcedure::Unset, mapping) => {
             let (prog, vers) = (mapping.prog, mapping.vers);
             let which = Some(Which::Inet);
             let done = unset_rows(books, context, &head, prog, vers, which, meter);
-            Answer::Results(Value::Bool(done))
+            told(Value::Bool(done))
         }
         Request::Mapping(MappingProcedure::Getport, mapping) => {
-            Answer::Results(Value::Number(getport(books, &head, &mapping, meter)))
+            told(Value::Number(getport(books, &head, &mapping, meter)))
         }
         Request::Rpcb(RpcbProcedure::Set, rpcb) => {
             let row = row_of_rpcb(owner_of(head.cred), rpcb);
-            Answer::Results(Value::Bool(set_row(books, context, &head, row, meter)))
+            told(Value::Bool(set_row(books, context, &head, row, meter)))
         }
         Request::Rpcb(RpcbProcedure::Unset, rpcb) => {
             let (prog, vers) = (rpcb.prog, rpcb.vers);
             let which = which_of(rpcb.netid.as_slice());
             let done = unset_rows(books, context, &head, prog, vers, which, meter);
-            Answer::Results(Value::Bool(done))
+            told(Value::Bool(done))
         }
         Request::Rpcb(RpcbProcedure::Getaddr, rpcb) => {
-            Answer::Results(Value::Text(getaddr(books, context, &head, &rpcb, meter)))
+            told(Value::Text(getaddr(books, context, &head, &rpcb, meter)))
         }
         Request::Rpcb(RpcbProcedure::Getversaddr, rpcb) => {
             let addr = getversaddr(books, context, &head, &rpcb, meter);
-            Answer::Results(Value::Text(addr))
+            told(Value::Text(addr))
         }
         Request::Rpcb(RpcbProcedure::Getaddrlist, rpcb) => {
-            Answer::Rows(Listing::Entries(rpcb.prog, rpcb.vers))
+            Answer::Results(Results::Rows(Listing::Entries(rpcb.prog, rpcb.vers)))
         }
-        Request::Uaddr2taddr(text) => Answer::Results(Value::Netbuf(uaddr2taddr(&text))),
-        Request::Taddr2uaddr(netbuf) => Answer::Results(Value::Text(taddr2uaddr(&netbuf))),
+        Request::Uaddr2taddr(text) => told(Value::Netbuf(uaddr2taddr(&text))),
+        Request::Taddr2uaddr(netbuf) => told(Value::Text(taddr2uaddr(&netbuf))),
+        Request::Forward(kind, remote) => {
+            forward_call(books, context, head.xid, kind, &remote, arguments, meter)
+        }
     }
 }

@@ -13,6 +13,8 @@ pub struct Context {
     pub listener: Listener,
     /// The greatest number of rows.
     pub limit: usize,
+    /// The greatest number of forwarded calls.
+    pub forwards: u32,
     /// Milliseconds since the start of 1970.
     pub clock: u64,
     pub caller: Caller,
@@ -23,6 +25,16 @@ fn peer_of(caller: &Caller) -> Peer
 {
     match caller {
         Caller::Tcp(_, peer) | Caller::Udp(peer) => *peer,
+    }
+}
+
+/// The transport on which a call of this caller came.
+pub(crate) fn netid_of(caller: &Caller) -> Netid
+    ensures { result ≡ netid_of caller.now }
+{
+    match caller {
+        Caller::Tcp(..) => Netid::Tcp,
+        Caller::Udp(_) => Netid::Udp,
     }
 }
 
@@ -39,9 +51,6 @@ impl Context {
     pub(crate) fn netid(&self) -> Netid
         ensures { result ≡ netid_of self.now.caller }
     {
-        match self.caller {
-            Caller::Tcp(..) => Netid::Tcp,
-            Caller::Udp(_) => Netid::Udp,
-        }
+        netid_of(&self.caller)
     }
 }

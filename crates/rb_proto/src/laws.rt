@@ -1,6 +1,17 @@
+ghost use Rattle.rb_proto.specs.ForwardLaws.{ForwardsGoToRows, ForwardsAreNotedOnce};
 ghost use Rattle.rb_proto.specs.Grammar.{RequestsAreOfTheGrammar};
 
 /// Arguments are read exactly where the bytes begin with a spelling of them.
 pub fn requests_are_of_the_grammar()
     ensures { RequestsAreOfTheGrammar }
+{}
+
+/// Where a call is forwarded, it goes to a live row on udp of exactly its program and version, and never to the portmapper.
+pub fn forwards_go_to_rows()
+    ensures { ForwardsGoToRows }
+{}
+
+/// Each call that asks for another is noted once, at its outcome: where it is refused, or where its entry ends.
+pub fn forwards_are_noted_once()
+    ensures { ForwardsAreNotedOnce }
 {}

@@ -1,9 +1,11 @@
 //! The table of procedures.
-ghost use Rattle.std.specs.Prelude.{◌≡◌, Option};
-ghost use Rattle.rb_proto.specs.Arguments.{front, procedure_at, arguments};
+ghost use Rattle.std.specs.Prelude.{◌≡◌, Option, IfSome};
+ghost use Rattle.rb_proto.specs.Arguments.{front, procedure_at, arguments, HasArgs};
 ghost use Rattle.rb_proto.specs.Numbers.{is_void, is_mapping, is_rpcb, is_procedure, number_of};
 
+use crate::remote::RemoteCall;
 use crate::request::Request;
+use rb_forward::Kind;
 use rb_xdr::Xdr;
 
 /// A procedure without arguments.
@@ -43,20 +45,24 @@ pub enum Procedure {
     Rpcb(RpcbProcedure),
     Uaddr2taddr,
     Taddr2uaddr,
+    /// A procedure that has another one called.
+    Forward(Kind),
 }
 
 /// Version, number and procedure (RFC 1833 sections 2.2 and 3.2).
-const PROCEDURES: [(u32, u32, Procedure); 24] = [
+const PROCEDURES: [(u32, u32, Procedure); 28] = [
     (2, 0, Procedure::Void(VoidProcedure::Null)),
     (2, 1, Procedure::Mapping(MappingProcedure::Set)),
     (2, 2, Procedure::Mapping(MappingProcedure::Unset)),
     (2, 3, Procedure::Mapping(MappingProcedure::Getport)),
     (2, 4, Procedure::Void(VoidProcedure::PmapDump)),
+    (2, 5, Procedure::Forward(Kind::Callit2)),
     (3, 0, Procedure::Void(VoidProcedure::Null)),
     (3, 1, Procedure::Rpcb(RpcbProcedure::Set)),
     (3, 2, Procedure::Rpcb(RpcbProcedure::Unset)),
     (3, 3, Procedure::Rpcb(RpcbProcedure::Getaddr)),
     (3, 4, Procedure::Void(VoidProcedure::Dump)),
+    (3, 5, Procedure::Forward(Kind::Callit3)),
     (3, 6, Procedure::Void(VoidProcedure::Gettime)),
     (3, 7, Procedure::Uaddr2taddr),
     (3, 8, Procedure::Taddr2uaddr),
@@ -65,10 +71,12 @@ const PROCEDURES: [(u32, u32, Procedure); 24] = [
     (4, 2, Procedure::Rpcb(RpcbProcedure::Unset)),
     (4, 3, Procedure::Rpcb(RpcbProcedure::Getaddr)),
     (4, 4, Procedure::Void(VoidProcedure::Dump)),
+    (4, 5, Procedure::Forward(Kind::Bcast)),
     (4, 6, Procedure::Void(VoidProcedure::Gettime)),
     (4, 7, Procedure::Uaddr2taddr),
     (4, 8, Procedure::Taddr2uaddr),
     (4, 9, Procedure::Rpcb(RpcbProcedure::Getversaddr)),
+    (4, 10, Procedure::Forward(Kind::Indirect)),
     (4, 11, Procedure::Rpcb(RpcbProcedure::Getaddrlist)),
     (4, 12, Procedure::Void(VoidProcedure::Getstat)),
 ];
@@ -98,7 +106,8 @@ impl Procedure {
     /// What the bytes ask of the procedure, unless its arguments can't be read.
     #[tactic(auto, unfolding(crate::specs::Arguments::arguments))]
     pub(crate) fn read(self, bytes: &[u8]) -> Option<Request>
-        ensures { result ≡ arguments self bytes.now }
+        ensures request { result ≡ arguments self bytes.now }
+        ensures args { IfSome result (λ request. HasArgs request bytes.now) }
     {
         match self {
             Procedure::Void(procedure) => Some(Request::Void(procedure)),
@@ -106,6 +115,7 @@ impl Procedure {
             Procedure::Rpcb(procedure) => Some(Request::Rpcb(procedure, front(bytes)?)),
             Procedure::Uaddr2taddr => Some(Request::Uaddr2taddr(front(bytes)?)),
             Procedure::Taddr2uaddr => Some(Request::Taddr2uaddr(front(bytes)?)),
+            Procedure::Forward(kind) => Some(Request::Forward(kind, RemoteCall::read(bytes)?)),
         }
     }
 }

@@ -6,15 +6,22 @@ ghost use Rattle.rb_stats.specs.Stats.{spelling};
 ghost use Rattle.rb_proto.specs.Ledger.{Ledger, StandsForLedger, AreTied};
 ghost use Rattle.rb_xdr.specs.Puts.{Puts};
 ghost use Rattle.rb_proto.specs.Puts.{put_cost, list_cost, statistics_cost, results_cost};
+ghost use Rattle.rb_forward.specs.Forwards.{longest_results};
+ghost use Rattle.rb_proto.specs.Forwarding.{forwarded_bytes};
 ghost use Rattle.rb_proto.specs.Results.{value_bytes, results_at, row_bytes, rows_bytes, shown_in, shown_of};
 
-use crate::answers::{Answer, Listing, Value};
+use crate::answers::{Listing, Results, Value};
 use crate::books::Books;
 use crate::listener::Listener;
 use crate::rows::{room_after_row, room_after_rows, write_row, write_rows};
+use rb_forward::{Forward, Kind};
 use rb_registry::{Registry, Row};
 use rb_stats::Stats;
-use rb_xdr::{Full, Kept, Meter, Xdr};
+use rb_uaddr::Uaddr;
+use rb_xdr::{Full, Kept, Meter, Opaque, Text, Xdr};
+
+/// So many bytes of results pass.
+const LONGEST_RESULTS: usize = 8800;
 
 /// Puts a value, unless the buffer would then have more than `limit` bytes.
 fn put_within<T: Xdr>(
@@ -99,10 +106,11 @@ fn put_rows(
     let Some(room) = limit.checked_sub(out.len(meter)) else {
         return Err(Full { value: () });
     };
-    if room_after_rows(list, registry, host, room, meter).is_none() {
+    let stamp = registry.stamp();
+    if room_after_rows(list, registry, stamp, host, room, meter).is_none() {
         return Err(Full { value: () });
     }
-    write_rows(list, registry, host, out, meter);
+    write_rows(list, registry, stamp, host, out, meter);
     Ok(())
 }
 
@@ -122,13 +130,13 @@ fn put_statistics(
     stats.put(limit, out, meter)
 }
 
-/// Puts the results of an answer behind what the buffer has, its head: rows and statistics are those of the books.
+/// Puts the results of a procedure behind what the buffer has, its head: rows and statistics are those of the books.
 ///
 /// They are refused where the buffer would then have more than `limit` bytes, and nothing is put. So the rows are walked
 /// twice: for the room that they want, and to be written.
 #[tactic(auto, using(crate::proofs::Shown::shown_where_standing), unfolding(crate::specs::Results::result_bytes))]
-pub fn put_answer(
-    answer: &Answer,
+pub fn put_results(
+    results: &Results,
     books: &Books,
     listener: &Listener,
     limit: usize,
@@ -138,16 +146,49 @@ pub fn put_answer(
     requires tied { AreTied meter.old.tie books.now }
     requires out { meter.old.tie ≡ out.old.tie }
     requires limit { limit ≤ out.old.cap }
-    ensures puts { Puts (results_at listener.now books.now answer.now) limit
+    ensures puts { Puts (results_at listener.now books.now results.now) limit
         out.old out.new result }
     ensures shows { (l : Ledger) → StandsForLedger books.now l
         → shown_in books.now ≡ shown_of l }
     ensures within { length out.old.bytes ≤ limit → length out.new.bytes ≤ limit }
     ensures cost { PaysAtMost meter.old meter.new (results_cost books.now out.old out.new) }
 {
-    match answer {
-        Answer::Results(value) => put_value(value, limit, out, meter),
-        Answer::Rows(list) => put_rows(*list, &books.registry, listener.host, limit, out, meter),
-        Answer::Statistics => put_statistics(&books.stats, limit, out, meter),
+    match results {
+        Results::Value(value) => put_value(value, limit, out, meter),
+        Results::Rows(list) => put_rows(*list, &books.registry, listener.host, limit, out, meter),
+        Results::Statistics => put_statistics(&books.stats, limit, out, meter),
+    }
+}
+
+/// Puts what the caller of a forwarded call is told when it passed: where the call went, and its results, of which there
+/// are at most 8,800 bytes (RFC 1833 section 2.1, rpcb_rmtcallres, and section 3.1, call_result).
+///
+/// They are refused where the buffer would then have more than `limit` bytes, and nothing is put.
+#[tactic(auto, unfolding(crate::specs::Forwarding::forwarded_bytes, rb_forward::specs::Forwards::longest_results))]
+pub fn put_forwarded(
+    forward: &Forward,
+    results: &[u8],
+    limit: usize,
+    out: &mut Kept,
+    meter: &mut Meter,
+) -> Result<(), Full>
+    requires tie { meter.old.tie ≡ out.old.tie }
+    requires limit { limit ≤ out.old.cap }
+    requires results { length results.now ≤ longest_results }
+    ensures puts { Puts (forwarded_bytes forward.now results.now) limit out.old out.new result }
+    ensures within { length out.old.bytes ≤ limit → length out.new.bytes ≤ limit }
+    ensures cost { PaysAtMost meter.old meter.new (put_cost out.old out.new) }
+{
+    let results = Opaque::<LONGEST_RESULTS>::new(results);
+    match forward.kind {
+        Kind::Callit2 => {
+            let port = u32::from(forward.shown.port);
+            put_within(&(port, results), limit, out, meter)
+        }
+        Kind::Callit3 | Kind::Bcast | Kind::Indirect => {
+            let address = Uaddr::V4(forward.shown.host, forward.shown.port);
+            let text = Text::<128>::new(address.text().as_slice());
+            put_within(&(text, results), limit, out, meter)
+        }
     }
 }

@@ -1,11 +1,13 @@
 //! What a call asks for.
-ghost use Rattle.std.specs.Prelude.{◌≡◌};
-ghost use Rattle.rb_proto.specs.Arguments.{read_request};
+ghost use Rattle.std.specs.Prelude.{◌≡◌, IfOk};
+ghost use Rattle.rb_proto.specs.Arguments.{read_request, HasArgs};
 
 use crate::mapping::Mapping;
 use crate::netbuf::Netbuf;
 use crate::procedure::{MappingProcedure, Procedure, RpcbProcedure, VoidProcedure};
+use crate::remote::RemoteCall;
 use crate::rpcb::Rpcb;
+use rb_forward::Kind;
 use rb_xdr::Text;
 use thiserror::Error;
 
@@ -17,6 +19,7 @@ pub enum Request {
     Rpcb(RpcbProcedure, Rpcb),
     Uaddr2taddr(Text<128>),
     Taddr2uaddr(Netbuf),
+    Forward(Kind, RemoteCall),
 }
 
 /// Why a call asks for nothing.
@@ -31,11 +34,11 @@ pub enum ArgumentFault {
 /// Reads the arguments of a procedure of version 2, 3 or 4 from the front of the bytes (RFC 1833 sections 2.2 and 3.2).
 /// Bytes behind them count for nothing.
 ///
-/// ProcUnavail comes before GarbageArgs. The procedures that forward calls (5 of each version, 10 of version 4) are
-/// unavailable.
+/// ProcUnavail comes before GarbageArgs. The args of a call that is to be forwarded stay in the bytes.
 #[tactic(auto, unfolding(crate::specs::Arguments::is_known, crate::specs::Arguments::request))]
 pub fn read_args(vers: u32, proc: u32, bytes: &[u8]) -> Result<Request, ArgumentFault>
-    ensures { result ≡ read_request vers proc bytes.now }
+    ensures request { result ≡ read_request vers proc bytes.now }
+    ensures args { IfOk result (λ request. HasArgs request bytes.now) }
 {
     let Some(procedure) = Procedure::at(vers, proc) else {
         return Err(ArgumentFault::ProcUnavail);

@@ -1,7 +1,7 @@
 //! Rows as a list shows them: the room that they want, and their bytes.
 ghost use Rattle.std.specs.Prelude.{◌≡◌, ◌+◌, ◌*◌, length};
 ghost use Rattle.rb_xdr.specs.Meter.{PaysAtMost};
-ghost use Rattle.rb_registry.specs.Registry.{rows_of};
+ghost use Rattle.rb_registry.specs.Registry.{Reaches, rows_at, slots_of};
 ghost use Rattle.rb_xdr.specs.Puts.{Appends, HasRoom, Leaves};
 ghost use Rattle.rb_proto.specs.Puts.{write_cost};
 ghost use Rattle.rb_proto.specs.Results.{is_shown, row_bytes, rows_bytes};
@@ -58,19 +58,21 @@ pub(crate) fn write_row(list: Listing, row: &Row, host: [u8; 4], out: &mut Kept,
     }
 }
 
-/// The room that is left of so much behind all rows that a list shows and its end, if they fit.
+/// The room that is left of so much behind all rows that a list shows, as they were after so many changes, and its end,
+/// if they fit.
 pub(crate) fn room_after_rows(
     list: Listing,
     registry: &Registry,
+    stamp: u64,
     host: [u8; 4],
     room: usize,
     meter: &mut Meter,
 ) -> Option<usize>
-    requires { meter.old.tie ≡ registry.now.tie }
-    ensures room { Leaves (rows_bytes host (rows_of registry.now) list) room result }
-    ensures cost { PaysAtMost meter.old meter.new (2 * length (rows_of registry.now) + 2) }
+    requires registry { meter.old.tie ≡ registry.now.tie }
+    requires stamp { Reaches registry.now stamp }
+    ensures room { Leaves (rows_bytes host (rows_at registry.now stamp) list) room result }
+    ensures cost { PaysAtMost meter.old meter.new (2 * length (slots_of registry.now) + 2) }
 {
-    let stamp = registry.stamp();
     let mut cursor = Cursor::start();
     let mut left = room;
     'rows: while let Some(found) = registry.next_row(stamp, cursor, meter) {
@@ -81,21 +83,22 @@ pub(crate) fn room_after_rows(
     false.room_after(left)
 }
 
-/// Writes the rows that a list shows, and its end.
+/// Writes the rows that a list shows, as they were after so many changes, and its end.
 pub(crate) fn write_rows(
     list: Listing,
     registry: &Registry,
+    stamp: u64,
     host: [u8; 4],
     out: &mut Kept,
     meter: &mut Meter,
 )
     requires registry { meter.old.tie ≡ registry.now.tie }
     requires tie { meter.old.tie ≡ out.old.tie }
-    requires room { HasRoom (rows_bytes host (rows_of registry.now) list) out.old }
-    ensures written { Appends (rows_bytes host (rows_of registry.now) list) out.old out.new }
+    requires stamp { Reaches registry.now stamp }
+    requires room { HasRoom (rows_bytes host (rows_at registry.now stamp) list) out.old }
+    ensures written { Appends (rows_bytes host (rows_at registry.now stamp) list) out.old out.new }
     ensures cost { PaysAtMost meter.old meter.new (write_cost registry.now out.old out.new) }
 {
-    let stamp = registry.stamp();
     let mut cursor = Cursor::start();
     'rows: while let Some(found) = registry.next_row(stamp, cursor, meter) {
         let (next, row) = found;

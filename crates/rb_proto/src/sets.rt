@@ -1,7 +1,7 @@
 //! SET and UNSET, the procedures that change the registry (RFC 1833 sections 2.2 and 3.2).
 ghost use Rattle.std.specs.Prelude.{◌≡◌, ◌+◌, ◌*◌, length};
 ghost use Rattle.rb_xdr.specs.Meter.{PaysAtMost};
-ghost use Rattle.rb_registry.specs.Registry.{rows_of};
+ghost use Rattle.rb_registry.specs.Registry.{slots_of};
 ghost use Rattle.rb_proto.specs.Ledger.{ActsAs, AreTied, SameFrame};
 ghost use Rattle.rb_proto.specs.Answers.{row_of_mapping, row_of_rpcb, can_be_set, set_row, unset_rows};
 
@@ -58,7 +58,7 @@ fn can_be_set(row: &Row) -> bool
 }
 
 /// Adds the row that a SET asks for, if there is one and it is accepted, and answers whether it was: then the SET is noted.
-#[tactic(auto, unfolding(crate::specs::Answers::set_row, crate::specs::Answers::accepts_row))]
+#[tactic(auto, using(crate::proofs::RowChanges::takes_what_has_place), unfolding(crate::specs::Answers::set_row, crate::specs::Answers::accepts_row))]
 pub(crate) fn set_row(
     books: &mut Books,
     context: &Context,
@@ -69,8 +69,9 @@ pub(crate) fn set_row(
     requires tied { AreTied meter.old.tie books.old }
     requires limit { books.old.registry.limit ≡ context.now.limit }
     ensures acts { ActsAs (set_row context.now head.now row) books.old books.new result }
+    ensures forwards { books.new.forwards ≡ books.old.forwards }
     ensures frame { SameFrame books.old books.new }
-    ensures cost { PaysAtMost meter.old meter.new (4 * length (rows_of books.old.registry) + 4) }
+    ensures cost { PaysAtMost meter.old meter.new (4 * length (slots_of books.old.registry) + 4) }
 {
     let Some(row) = row else {
         return false;
@@ -86,7 +87,7 @@ pub(crate) fn set_row(
 }
 
 /// Removes the rows of the program's version on these netids that the caller may remove, and answers
-/// whether there was one: then the UNSET is noted.
+/// whether there was one: then the UNSET is noted, and no removed row is kept.
 #[tactic(auto, unfolding(crate::specs::Answers::unset_rows, crate::specs::Answers::accepts_removal))]
 pub(crate) fn unset_rows(
     books: &mut Books,
@@ -100,8 +101,9 @@ pub(crate) fn unset_rows(
     requires tied { AreTied meter.old.tie books.old }
     ensures acts { ActsAs (unset_rows context.now head.now prog vers which)
         books.old books.new result }
+    ensures forwards { books.new.forwards ≡ books.old.forwards }
     ensures frame { SameFrame books.old books.new }
-    ensures cost { PaysAtMost meter.old meter.new (4 * length (rows_of books.old.registry) + 4) }
+    ensures cost { PaysAtMost meter.old meter.new (6 * length (slots_of books.old.registry) + 2) }
 {
     let Some(which) = which else {
         return false;
@@ -112,6 +114,7 @@ pub(crate) fn unset_rows(
     let owner = owner_of(head.cred);
     let removed = books.registry.unset(prog, vers, which, owner, meter);
     if removed {
+        books.registry.trim(None, meter);
         books.stats.note_unset(version_of(head.vers));
     }
     removed

@@ -1,4 +1,5 @@
 ghost use Rattle.rb_proto.specs.Worked.{DumpOwnRows, SetGetportSetAgain, GetportGreatestVersion, SetAtRowLimit, VersionTwoRefuses, OwnersRemove, UnsetByOwner, OtherAddressesRefused, GetaddrByTransport, Getaddrlist, AddressTransportForm, LocalityAndGettime, RefusalsOfAcceptedCalls, GetstatFirstCall, GetstatAfterCalls, GetstatOfOtherCalls, GetstatFirstKeys, LongDump, LongPmapDump};
+ghost use Rattle.rb_proto.specs.WorkedForwards.{ProceduresAreKnown, GreatestArguments, WithoutRow, WithOtherRows, PortmapperIsNotCalled, TableIsFull, FailuresAreCounted, AnyHostIsThisMachine, OtherHostsStay, EndsAreNoted, OthersAreNotNoted, PlacesAreShown};
 
 /// The definitions give what the worked examples say.
 pub fn worked_examples()
@@ -21,4 +22,20 @@ pub fn worked_examples()
     ensures getstat_first_keys { GetstatFirstKeys }
     ensures long_dump { LongDump }
     ensures long_pmap_dump { LongPmapDump }
+{}
+
+/// So they do of calls that are forwarded.
+pub fn worked_forwards()
+    ensures procedures_are_known { ProceduresAreKnown }
+    ensures greatest_arguments { GreatestArguments }
+    ensures without_row { WithoutRow }
+    ensures with_other_rows { WithOtherRows }
+    ensures portmapper_is_not_called { PortmapperIsNotCalled }
+    ensures table_is_full { TableIsFull }
+    ensures failures_are_counted { FailuresAreCounted }
+    ensures any_host_is_this_machine { AnyHostIsThisMachine }
+    ensures other_hosts_stay { OtherHostsStay }
+    ensures ends_are_noted { EndsAreNoted }
+    ensures others_are_not_noted { OthersAreNotNoted }
+    ensures places_are_shown { PlacesAreShown }
 {}

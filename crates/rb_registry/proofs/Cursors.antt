@@ -7,10 +7,12 @@ use Rattle.std.proofs.lemmas.Map.Entries.{length-values_of}
 use Rattle.rb_xdr.specs.Pool.{first_key, HasDistinctKeys}
 use Rattle.rb_registry.specs.declared.row.Row.{Row}
 use Rattle.rb_xdr.specs.Places.{behind, count_to, to_come, count_passed}
-use Rattle.rb_registry.specs.Registry.{Registry}
-use Rattle.rb_registry.specs.Cursors.{StandsIn, rows_at, rows_passed}
+use Rattle.rb_registry.specs.Registry.{Registry, table_of, rows_at}
+use Rattle.rb_registry.specs.Cursors.{StandsIn, rows_passed}
 use Rattle.rb_xdr.proofs.Walks.{step, up_to, passed}
+use Rattle.rb_registry.specs.Table.{table_at}
 use Rattle.rb_registry.proofs.Removing.{passed-to_come}
+use Rattle.rb_registry.proofs.Tables.{distinct_at, to_come_at}
 
 module _ {T : Type 0} where
   length-up_to : (entries : List (ℕ × T)) (key n : ℕ) → count_to entries key ≡ Some n → length (up_to entries key) ≡ n
@@ -66,33 +68,41 @@ module _ (kept inside : Registry) (stamp : ℕ) (cursor place : Option ℕ) (sam
   d : HasDistinctKeys kept.entries
   d = subst (λ (r : Registry). HasDistinctKeys r.entries) same distinct
 
-  here : count_passed kept.entries cursor ≡ Some (rows_passed kept stamp cursor)
-  here = counted (count_passed kept.entries cursor) h.place
+  here : count_passed (table_of kept stamp) cursor ≡ Some (rows_passed kept stamp cursor)
+  here = counted (count_passed (table_of kept stamp) cursor) h.place
 
-  pub no_row_left : to_come inside.entries place ≡ [] → rows_passed kept stamp cursor ≡ length (rows_at kept stamp)
-  no_row_left last =
-      let end : to_come inside.entries cursor ≡ [] = rw (← at) last in
-      let none : to_come kept.entries cursor ≡ [] = subst (λ (r : Registry). to_come r.entries cursor ≡ []) same end in
-      all_counted kept.entries cursor (rows_passed kept stamp cursor) here none
+  -- what is behind the cursor now and was live then, is what was behind it then
+  come : table_at stamp (to_come inside.entries place) ≡ to_come (table_of kept stamp) cursor
+  come =
+      let there : table_at stamp (to_come kept.entries cursor) ≡ to_come (table_of kept stamp) cursor = to_come_at stamp cursor kept.entries d h.place in
+      rw (same, at) there
 
-  module _ (key : ℕ) (row : Row) (found : to_come inside.entries place ≡ (key, row) ∷ behind inside.entries key) (behind_it : Option ℕ) (is_key : behind_it ≡ Some key) where
-    next : to_come kept.entries cursor ≡ (key, row) ∷ behind kept.entries key
+  pub no_row_left : table_at stamp (to_come inside.entries place) ≡ [] → rows_passed kept stamp cursor ≡ length (rows_at kept stamp)
+  no_row_left last = all_counted (table_of kept stamp) cursor (rows_passed kept stamp cursor) here (sym come ∙ last)
+
+  module _ (key : ℕ) (row : Row) (found : table_at stamp (to_come inside.entries place) ≡ (key, row) ∷ table_at stamp (behind inside.entries key)) (behind_it : Option ℕ) (is_key : behind_it ≡ Some key) where
+    abbrev first_value : Row → List (ℕ × Row) → Row
+    first_value other [] = other
+    first_value other (e ∷ es) = e.1
+
+    next : to_come (table_of kept stamp) cursor ≡ (key, row) ∷ behind (table_of kept stamp) key
     next =
-        let P : Registry → Type 0 = λ r. (to_come r.entries cursor ≡ (key, row) ∷ behind r.entries key) in
-        let there : to_come inside.entries cursor ≡ (key, row) ∷ behind inside.entries key = rw (← at) found in
-        subst P same there
+        let come_now : to_come (table_of kept stamp) cursor ≡ (key, row) ∷ table_at stamp (behind inside.entries key) = sym come ∙ found in
+        let s = step (table_of kept stamp) cursor key (distinct_at stamp kept.entries d) (ap (λ (es : List (ℕ × Row)). first_key es) come_now) in
+        let same_row : s.value ≡ row = ap (λ (es : List (ℕ × Row)). first_value row es) (sym s.come ∙ come_now) in
+        rw (← same_row) s.come
 
     pub row_given : slice_get (rows_at kept stamp) (rows_passed kept stamp cursor) ≡ Some row
-    row_given = row_counted kept.entries cursor (rows_passed kept stamp cursor) key row d here next
+    row_given = row_counted (table_of kept stamp) cursor (rows_passed kept stamp cursor) key row (distinct_at stamp kept.entries d) here next
 
-    passed_next : count_to kept.entries key ≡ Some (rows_passed kept stamp cursor + 1)
-    passed_next = one_more kept.entries cursor (rows_passed kept stamp cursor) key row d here next
+    passed_next : count_to (table_of kept stamp) key ≡ Some (rows_passed kept stamp cursor + 1)
+    passed_next = one_more (table_of kept stamp) cursor (rows_passed kept stamp cursor) key row (distinct_at stamp kept.entries d) here next
 
     pub one_passed : rows_passed kept stamp behind_it ≡ rows_passed kept stamp cursor + 1
     one_passed = rw (is_key, passed_next) refl
 
     pub stands_next : StandsIn kept stamp behind_it
-    stands_next = record { present = h.present; place = rw (is_key, passed_next) refl }
+    stands_next = record { reached = h.reached; place = rw (is_key, passed_next) refl }
 
     pub within_rows : rows_passed kept stamp behind_it ≤ length (rows_at kept stamp)
     within_rows =

@@ -1,8 +1,14 @@
 pub mod Removing
+pub mod Marking
+pub mod Tables
 pub mod Changes
 pub mod Finds
 pub mod Newest
+pub mod Holding
+pub mod Registries
+pub mod History
 pub mod Stands
 pub mod Cursors
+pub mod WalkLaws
 pub mod RowLaws
 pub mod FoundLaws

@@ -1,7 +1,6 @@
 -- A walk over a table that takes out the values that pass a test.
-use Rattle.std.proofs.Common.{◌≡◌, ℕ, ◌+◌, length, arith, Bool, true, false, not, cond, eqb, ◌||◌, List, [], ◌∷◌, ◌++◌, Option, Some, None, refl, sym, ap, ◌∙◌, append_assoc}
+use Rattle.std.proofs.Common.{◌≡◌, ℕ, ◌+◌, length, arith, Bool, true, false, not, cond, eqb, List, [], ◌∷◌, ◌++◌, Option, Some, None, refl, sym, ap, ◌∙◌, append_assoc}
 use Rattle.std.specs.Prelude.{filter}
-use Rattle.std.specs.List.{list_any}
 use Rattle.rb_xdr.specs.Pool.{value_at, without, first_key, HasDistinctKeys}
 use Rattle.rb_xdr.specs.Places.{behind, to_come}
 use Rattle.rb_xdr.proofs.Walks.{step, up_to, passed}
@@ -36,20 +35,11 @@ module _ {T : Type 0} where
       by_test false further = (still_missing rest key e.0 d.0, further)
 
   -- up to the place only what stays is left, and behind it nothing was looked at
-  pub record Removing (goes : T → Bool) (before now : List (ℕ × T)) (place : Option ℕ) (removed : Bool) : Type 0 where
+  pub record Removing (goes : T → Bool) (before now : List (ℕ × T)) (place : Option ℕ) : Type 0 where
     pub distinct : HasDistinctKeys now
     pub kept : passed now place ++ filter (λ e. not (goes e.1)) (to_come now place) ≡ filter (λ e. not (goes e.1)) before
-    pub any : (removed || list_any (λ e. goes e.1) (to_come now place)) ≡ list_any (λ e. goes e.1) before
 
-module _ {T : Type 0} (goes : T → Bool) (before now : List (ℕ × T)) (place : Option ℕ) (removed : Bool) (h : Removing goes before now place removed) where
-  or_true : (b : Bool) → (b || true) ≡ true
-  or_true true = refl
-  or_true false = refl
-
-  or_false : (b : Bool) → (b || false) ≡ b
-  or_false true = refl
-  or_false false = refl
-
+module _ {T : Type 0} (goes : T → Bool) (before now : List (ℕ × T)) (place : Option ℕ) (h : Removing goes before now place) where
   abbrev first_value : T → List (ℕ × T) → T
   first_value other [] = other
   first_value other (e ∷ es) = e.1
@@ -58,6 +48,12 @@ module _ {T : Type 0} (goes : T → Bool) (before now : List (ℕ × T)) (place 
     abbrev is_next : first_key (to_come now place) ≡ Some key
     is_next = ap (λ (es : List (ℕ × T)). first_key es) next
 
+    pub is_there : value_at now key ≡ Some value
+    is_there =
+        let s = step now place key h.distinct is_next in
+        let same : s.value ≡ value = ap (λ (es : List (ℕ × T)). first_value value es) (sym s.come ∙ next) in
+        s.found ∙ ap (λ (v : T). Some v) same
+
     pub one_fewer : length (to_come (without now key) place) + 1 ≡ length (to_come now place)
     one_fewer =
         let s = step now place key h.distinct is_next in
@@ -65,18 +61,16 @@ module _ {T : Type 0} (goes : T → Bool) (before now : List (ℕ × T)) (place 
         let f : length (to_come now place) ≡ length ((key, value) ∷ behind now key) = ap (λ (es : List (ℕ × T)). length es) next in
         omega (arith, e, f)
 
-    pub taken_out : goes value ≡ true → Removing goes before (without now key) place true
+    pub taken_out : goes value ≡ true → Removing goes before (without now key) place
     taken_out gone =
         let s = step now place key h.distinct is_next in
         let kept : passed now place ++ filter (λ e. not (goes e.1)) (behind now key) ≡ filter (λ e. not (goes e.1)) before = rw (next, gone) at h.kept in
-        let any : (removed || true) ≡ list_any (λ e. goes e.1) before = rw (next, gone) at h.any in
         record {
           distinct = distinct-without now key h.distinct;
           kept = rw (s.pass_without, s.come_without) kept;
-          any = sym (or_true removed) ∙ any;
         }
 
-    pub left_in : goes value ≡ false → Removing goes before now (Some key) removed
+    pub left_in : goes value ≡ false → Removing goes before now (Some key)
     left_in stays =
         let s = step now place key h.distinct is_next in
         let same : s.value ≡ value = ap (λ (es : List (ℕ × T)). first_value value es) (sym s.come ∙ next) in
@@ -85,7 +79,6 @@ module _ {T : Type 0} (goes : T → Bool) (before now : List (ℕ × T)) (place 
         record {
           distinct = h.distinct;
           kept = rw one (append_assoc (passed now place) ((key, value) ∷ []) (filter (λ e. not (goes e.1)) (behind now key)) ∙ kept);
-          any = rw (next, stays) at h.any;
         }
 
   pub all_passed : to_come now place ≡ [] → now ≡ filter (λ e. not (goes e.1)) before
@@ -94,6 +87,3 @@ module _ {T : Type 0} (goes : T → Bool) (before now : List (ℕ × T)) (place 
       let whole : passed now place ++ [] ≡ now = rw last at split in
       let kept : passed now place ++ [] ≡ filter (λ e. not (goes e.1)) before = rw last at h.kept in
       sym whole ∙ kept
-
-  pub any_removed : to_come now place ≡ [] → removed ≡ list_any (λ e. goes e.1) before
-  any_removed last = sym (or_false removed) ∙ (rw last at h.any)

@@ -1,6 +1,9 @@
 pub mod Rows
+pub mod Slots
+pub mod Table
 pub mod Registry
 pub mod Cursors
+pub mod Walks
 pub mod Removals
 pub mod Laws
 pub mod Worked

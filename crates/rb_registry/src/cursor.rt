@@ -1,7 +1,7 @@
 //! A place in the list of rows.
-ghost use Rattle.std.specs.Prelude.{◌≡◌, ℕ, Some};
-ghost use Rattle.rb_registry.specs.Registry.{Registry};
-ghost use Rattle.rb_registry.specs.Cursors.{StandsIn, rows_passed};
+ghost use Rattle.std.specs.Prelude.{◌≡◌, ℕ, Some, length};
+ghost use Rattle.rb_registry.specs.Registry.{Registry, Reaches, slots_of};
+ghost use Rattle.rb_registry.specs.Cursors.{StandsIn, rows_passed, slots_left};
 
 use std::marker::Model;
 
@@ -25,9 +25,10 @@ impl Model for Cursor {
 impl Cursor {
     /// The place before the first row.
     pub fn start() -> Cursor
-        ensures place { (rows : Registry) (stamp : ℕ) → stamp ≡ rows.stamp
+        ensures place { (rows : Registry) (stamp : ℕ) → Reaches rows stamp
             → StandsIn rows stamp result }
         ensures passed { (rows : Registry) (stamp : ℕ) → rows_passed rows stamp result ≡ 0 }
+        ensures slots { (rows : Registry) → slots_left rows result ≡ length (slots_of rows) }
     {
         Cursor { passed: None }
     }

@@ -7,6 +7,7 @@ mod laws;
 mod registry;
 mod removal;
 mod row;
+mod slot;
 mod walk;
 mod worked;
 

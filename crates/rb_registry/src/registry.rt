@@ -6,33 +6,43 @@ use crate::cursor::Cursor;
 use crate::fault::RegistryFault;
 use crate::removal::Removal;
 use crate::row::{Netid, Owner, Row, Which};
-use crate::walk::{find_exact, find_row, has_key, remove_covered};
+use crate::slot::Slot;
+use crate::walk::{count_dead, drop_dead, find_exact, find_row, has_key, live_after, mark_covered};
 use rb_xdr::{Meter, Pool};
 use std::alloc::Global;
 use std::marker::Model;
 
+// A table of so many rows would take more than 2^63 bytes.
+const TOO_MANY: usize = 1 << 56;
+
 /// The rows in the order in which they were set, the own rows first, and the number of changes that were accepted.
+///
+/// A row that was removed is kept as a dead one until a `trim` drops it, so that the rows can be told as they were after
+/// a number of changes that is not below the floor.
 #[derive(Drop)]
 pub struct Registry {
-    rows: Pool<Row>,
+    slots: Pool<Slot>,
     changes: u64,
+    floor: u64,
+    held: u64,
 }
 
 impl Model for Registry {
     ghost use Rattle.rb_registry.specs.Registry.{Registry as Contents};
-    ghost use Rattle.rb_xdr.specs.Pool.{HasDistinctKeys};
+    ghost use Rattle.rb_registry.specs.Table.{IsTable};
 
     ghost Value = { Contents };
 
     ghost view = { λ r. record {
-      entries = r.rows.entries;
-      limit = r.rows.cap;
-      memory = r.rows.memory;
+      entries = r.slots.entries;
+      limit = r.slots.cap;
+      memory = r.slots.memory;
       stamp = r.changes;
-      tie = r.rows.tie;
+      floor = r.floor;
+      tie = r.slots.tie;
     } };
 
-    ghost invariant = { λ r. HasDistinctKeys r.rows.entries };
+    ghost invariant = { λ r. IsTable r.changes r.floor r.slots.cap r.held r.slots.entries };
 }
 
 // Whether one more change has a number.
@@ -45,15 +55,17 @@ fn is_change_left(changes: u64) -> bool
 }
 
 impl Registry {
-    ghost use Rattle.std.specs.Prelude.{◌≡◌, ◌≤◌, ◌<◌, ◌+◌, ◌*◌, [], length, Some, None, Ok, Err, IfOk, OnOk, OnErr, IfSome, IfNone, IsErrOf, ◌↔◌, option_copied, if◌then◌else◌};
+    ghost use Rattle.std.specs.Prelude.{◌≡◌, ◌≤◌, ◌<◌, ◌+◌, ◌*◌, [], length, Some, None, Ok, Err, IfOk, OnOk, OnErr, IfSome, IfNone, IsErrOf, ◌↔◌, option_copied, if◌then◌else◌, max};
     ghost use Rattle.std.specs.Bool.{OnFalse};
     ghost use Rattle.rb_xdr.specs.Meter.{Pays, PaysAtMost};
     ghost use Rattle.rb_registry.specs.declared.row.Row.{Row};
-    ghost use Rattle.rb_registry.specs.Rows.{has_place, find_exact, find_row, live};
+    ghost use Rattle.rb_registry.specs.Rows.{find_exact, find_row, live};
     ghost use Rattle.rb_registry.specs.Rows.Change.{Added, Removed};
-    ghost use Rattle.rb_registry.specs.Registry.{rows_of, AreOwn, StandsForChanges, StandsForMore};
+    ghost use Rattle.rb_registry.specs.Registry.{rows_of, slots_of, removals_of, dead_count, takes, stamp_told, Reaches, AreOwn, StandsForChanges, StandsForMore, StandsForSame};
     ghost use Rattle.rb_registry.specs.Removals.{takes_removal};
-    ghost use Rattle.rb_registry.specs.Cursors.{RowsAreLive, StandsIn, PassesOne, IsWithin, rows_at, rows_passed, row_behind};
+    ghost use Rattle.rb_registry.specs.Cursors.{RowsAreLive, StandsIn, PassesOne, IsWithin, IsAtEnd, row_behind, slots_left, GoesOn};
+    ghost use Rattle.rb_registry.specs.Slots.{later_than, held_in};
+    ghost use Rattle.rb_registry.specs.Table.{IsLeast, PaysFor};
 
     /// A registry of these rows, with room for `cap` rows in all, for calls that this meter counts.
     ///
@@ -68,6 +80,8 @@ impl Registry {
         requires { AreOwn own_rows }
         ensures made { IfOk result (λ made. StandsForChanges made own_rows []) }
         ensures limit { IfOk result (λ made. made.limit ≡ cap) }
+        ensures floor { IfOk result (λ made. made.floor ≡ 0) }
+        ensures dead { IfOk result (λ made. removals_of made ≡ []) }
         ensures tie { IfOk result (λ made. made.tie ≡ meter.old.tie) }
         ensures bad { IsErrOf result RegistryFault.BadLimits ↔ (cap < 6) }
         ensures cost { OnOk result (Pays meter.old meter.new 6) }
@@ -76,36 +90,62 @@ impl Registry {
         if cap < own_rows.len() {
             return Err(RegistryFault::BadLimits);
         }
-        let mut rows = Pool::new(alloc, cap, meter)?;
+        let mut slots = Pool::new(alloc, cap, meter)?;
+        if cap >= TOO_MANY {
+            // Not reached: that much memory is refused.
+            return Err(RegistryFault::NoMemory);
+        }
+        let mut held = 0;
         'own: for row in own_rows {
-            let Ok(_) = rows.insert(row, meter) else {
+            held += row.charge();
+            let slot = Slot {
+                row,
+                added: 0,
+                removed: None,
+            };
+            let Ok(_) = slots.insert(slot, meter) else {
                 unreachable!()
             };
         }
-        Ok(Registry { rows, changes: 0 })
+        Ok(Registry {
+            slots,
+            changes: 0,
+            floor: 0,
+            held,
+        })
     }
 
-    /// Adds the row at the end and answers true (RFC 1833 section 2.2.1, RPCBPROC_SET), unless a row of
-    /// its program, version and netid is there, the limit of rows is reached, or 2^64 - 1 changes were
-    /// accepted: then nothing changes.
+    /// Adds the row at the end and answers true (RFC 1833 section 2.2.1, RPCBPROC_SET), unless a live
+    /// row of its program, version and netid is there, the live and the dead rows reach the limit, or
+    /// 2^64 - 1 changes were accepted: then nothing changes.
     ///
     /// Who may set it, and whether its address is one of its netid, is not looked at.
     pub fn set(&mut self, row: Row, meter: &mut Meter) -> bool
         requires { meter.old.tie ≡ self.old.tie }
-        ensures taken { result ≡ has_place self.old.limit (rows_of self.old) self.old.stamp row }
+        ensures taken { result ≡ takes self.old row }
         ensures changes { StandsForMore self.old self.new result (Added row) }
+        ensures dead { removals_of self.new ≡ removals_of self.old }
+        ensures cursors { GoesOn self.old self.new }
         ensures rejected { OnFalse result (self.new ≡ self.old) }
+        ensures floor { self.new.floor ≡ self.old.floor }
         ensures limit { self.new.limit ≡ self.old.limit }
         ensures memory { self.new.memory ≡ self.old.memory }
         ensures tie { self.new.tie ≡ self.old.tie }
-        ensures cost { PaysAtMost meter.old meter.new (2 * length (rows_of self.old) + 2) }
+        ensures cost { PaysAtMost meter.old meter.new (2 * length (slots_of self.old) + 2) }
     {
-        if !is_change_left(self.changes) || has_key(&self.rows, &row, meter) {
+        if !is_change_left(self.changes) || has_key(&self.slots, self.changes, &row, meter) {
             return false;
         }
-        match self.rows.insert(row, meter) {
+        let charge = row.charge();
+        let slot = Slot {
+            row,
+            added: self.changes + 1,
+            removed: None,
+        };
+        match self.slots.insert(slot, meter) {
             Ok(_) => {
                 self.changes += 1;
+                self.held += charge;
                 true
             }
             Err(_) => false,
@@ -114,7 +154,7 @@ impl Registry {
 
     /// Removes the rows of the program's version on these netids that a caller of this owner may
     /// remove (RFC 1833 section 2.2.1, RPCBPROC_UNSET), and answers whether there was one. Where
-    /// 2^64 - 1 changes were accepted, none is removed.
+    /// 2^64 - 1 changes were accepted, none is removed. They are kept as dead rows.
     pub fn unset(
         &mut self,
         prog: u32,
@@ -127,11 +167,14 @@ impl Registry {
         ensures taken { result ≡ takes_removal self.old (Removed prog vers which owner) }
         ensures changes { StandsForMore self.old self.new result
             (Removed prog vers which owner) }
+        ensures count { length (slots_of self.new) ≡ length (slots_of self.old) }
+        ensures cursors { GoesOn self.old self.new }
         ensures rejected { OnFalse result (self.new ≡ self.old) }
+        ensures floor { self.new.floor ≡ self.old.floor }
         ensures limit { self.new.limit ≡ self.old.limit }
         ensures memory { self.new.memory ≡ self.old.memory }
         ensures tie { self.new.tie ≡ self.old.tie }
-        ensures cost { PaysAtMost meter.old meter.new (3 * length (rows_of self.old) + 1) }
+        ensures cost { PaysAtMost meter.old meter.new (3 * length (slots_of self.old) + 1) }
     {
         let removal = Removal {
             prog,
@@ -142,7 +185,7 @@ impl Registry {
         if !is_change_left(self.changes) {
             return false;
         }
-        let removed = remove_covered(&mut self.rows, &removal, meter);
+        let removed = mark_covered(&mut self.slots, self.changes, &removal, meter);
         if removed {
             self.changes += 1;
         }
@@ -154,9 +197,9 @@ impl Registry {
     pub fn find(&self, prog: u32, vers: u32, netid: Netid, meter: &mut Meter) -> Option<&Row>
         requires { meter.old.tie ≡ self.now.tie }
         ensures found { option_copied result ≡ find_row prog vers netid (rows_of self.now) }
-        ensures cost { PaysAtMost meter.old meter.new (2 * length (rows_of self.now) + 1) }
+        ensures cost { PaysAtMost meter.old meter.new (2 * length (slots_of self.now) + 1) }
     {
-        find_row(&self.rows, prog, vers, netid, meter)
+        find_row(&self.slots, self.changes, prog, vers, netid, meter)
     }
 
     /// The row of exactly this version of the program on the netid (RFC 1833 section 2.2.2,
@@ -164,32 +207,76 @@ impl Registry {
     pub fn find_exact(&self, prog: u32, vers: u32, netid: Netid, meter: &mut Meter) -> Option<&Row>
         requires { meter.old.tie ≡ self.now.tie }
         ensures found { option_copied result ≡ find_exact prog vers netid (rows_of self.now) }
-        ensures cost { PaysAtMost meter.old meter.new (2 * length (rows_of self.now) + 1) }
+        ensures cost { PaysAtMost meter.old meter.new (2 * length (slots_of self.now) + 1) }
     {
-        find_exact(&self.rows, prog, vers, netid, meter)
+        find_exact(&self.slots, self.changes, prog, vers, netid, meter)
     }
 
-    /// How many rows there are, the own rows included.
+    /// How many live rows there are, the own rows included.
     pub fn len(&self, meter: &mut Meter) -> usize
         requires { meter.old.tie ≡ self.now.tie }
         ensures len { result ≡ length (rows_of self.now) }
         ensures within_limit { result ≤ self.now.limit }
-        ensures cost { Pays meter.old meter.new 1 }
+        ensures cost { PaysAtMost meter.old meter.new (2 * length (slots_of self.now) + 3) }
     {
-        self.rows.len(meter)
+        let (dead, _) = count_dead(&self.slots, meter);
+        self.slots.len(meter) - dead
     }
 
     /// How many changes were accepted: rows set, and removals of at least one row.
     pub fn stamp(&self) -> u64
-        ensures { result ≡ self.now.stamp }
+        ensures stamp { result ≡ self.now.stamp }
+        ensures reached { Reaches self.now result }
     {
         self.changes
     }
 
+    /// How many dead rows are still there, and the least change that removed one of them, 0 where
+    /// there is none.
+    pub fn kept(&self, meter: &mut Meter) -> (usize, u64)
+        requires { meter.old.tie ≡ self.now.tie }
+        ensures count { result.0 ≡ dead_count self.now }
+        ensures least { IsLeast (removals_of self.now) result.1 }
+        ensures cost { PaysAtMost meter.old meter.new (2 * length (slots_of self.now) + 2) }
+    {
+        count_dead(&self.slots, meter)
+    }
+
+    /// Drops the dead rows that were removed by that change or one before it, all where none is named.
+    ///
+    /// The floor rises to it, or to the number of changes that were accepted where that is less or none
+    /// is named. It never falls.
+    pub fn trim(&mut self, oldest: Option<u64>, meter: &mut Meter)
+        requires { meter.old.tie ≡ self.old.tie }
+        ensures dropped { removals_of self.new ≡ later_than oldest (removals_of self.old) }
+        ensures changes { StandsForSame self.old self.new }
+        ensures cursors { GoesOn self.old self.new }
+        ensures rows { rows_of self.new ≡ rows_of self.old }
+        ensures floor { self.new.floor ≡ max self.old.floor (stamp_told self.old oldest) }
+        ensures stamp { self.new.stamp ≡ self.old.stamp }
+        ensures limit { self.new.limit ≡ self.old.limit }
+        ensures memory { self.new.memory ≡ self.old.memory }
+        ensures tie { self.new.tie ≡ self.old.tie }
+        ensures cost { PaysAtMost meter.old meter.new (3 * length (slots_of self.old) + 1) }
+    {
+        self.held -= drop_dead(&mut self.slots, oldest, meter);
+        let told = oldest.unwrap_or(self.changes).min(self.changes);
+        self.floor = self.floor.max(told);
+    }
+
+    /// How many bytes are held: those of the address text of each row, live or dead, and 32 for the rest of it.
+    pub fn held(&self) -> u64
+        ensures held { result ≡ held_in (slots_of self.now) }
+        ensures bound { result ≤ (32 + 128) * self.now.limit }
+    {
+        self.held
+    }
+
     /// The row behind the cursor, of those that were live after `stamp` changes, and the cursor behind it.
     ///
-    /// From [`Cursor::start`] on, each of them comes once, in order, and then None. The stamp is the
-    /// registry's own, as [`Registry::stamp`] tells it: a cursor is of no use after the next change.
+    /// From [`Cursor::start`] on, each of them comes once, in order, and then None, whatever is called
+    /// in between while the floor isn't above the stamp. The stamp is from the floor to the registry's
+    /// own, as [`Registry::stamp`] tells it. Dead rows that are passed cost as live ones.
     pub fn next_row(&self, stamp: u64, cursor: Cursor, meter: &mut Meter) -> Option<(Cursor, &Row)>
         requires tie { meter.old.tie ≡ self.now.tie }
         requires place { StandsIn self.now stamp cursor }
@@ -197,12 +284,13 @@ impl Registry {
         ensures place { IfSome result (λ next. StandsIn self.now stamp next.0) }
         ensures passed { IfSome result (λ next. PassesOne self.now stamp cursor next.0) }
         ensures within { IfSome result (λ next. IsWithin self.now stamp next.0) }
-        ensures end { IfNone result
-            (rows_passed self.now stamp cursor ≡ length (rows_at self.now stamp)) }
+        ensures end { IfNone result (IsAtEnd self.now stamp cursor) }
         ensures rows { RowsAreLive self.now stamp }
-        ensures cost { PaysAtMost meter.old meter.new 2 }
+        ensures cost { PaysAtMost meter.old meter.new (2 * slots_left self.now cursor + 1) }
+        ensures cost_row { IfSome result
+            (λ n. PaysFor self.now.entries cursor n.0 meter.old meter.new) }
     {
-        match self.rows.entry_after(cursor.key(), meter) {
+        match live_after(&self.slots, stamp, cursor.key(), meter) {
             Some((key, row)) => Some((Cursor::behind(key), row)),
             None => None,
         }

@@ -1,12 +1,15 @@
 ghost use Rattle.std.specs.Prelude.{◌≡◌, ◌≤◌};
 ghost use Rattle.rb_proto.specs.Ledger.{SameFrame, AreTied};
 
+use rb_forward::{Forward, FwdId, Kind};
 use rb_proto::{
-    ArgumentFault, Books, Call, Context, Entry, Listener, Listing, Mapping, Netbuf, Rpcb, answer,
-    own_rows, put_answer, put_row, read_args, requests_are_of_the_grammar, worked_examples,
+    Answer, ArgumentFault, Books, Call, Context, Entry, Listener, Listing, Mapping, Netbuf,
+    RemoteCall, Rpcb, answer, forwards_are_noted_once, forwards_go_to_rows, own_rows,
+    put_forwarded, put_results, put_row, read_args, refusal, requests_are_of_the_grammar,
+    worked_examples, worked_forwards,
 };
 use rb_registry::{Cursor, Registry};
-use rb_rpc::{CallHead, Caller, Credential, Peer};
+use rb_rpc::{CallHead, Caller, Credential, Peer, ReplyStatus};
 use rb_xdr::{Kept, Meter, Xdr};
 use std::test::Fail;
 
@@ -32,9 +35,25 @@ const OWN_ROWS: &[u8] =
 \0\0\0\x01\0\x01\x86\xa0\0\0\0\x03\0\0\0\x11\0\0\0\x6f\0\0\0\x01\0\x01\x86\xa0\0\0\0\x02\0\0\0\x11\0\0\0\x6f\
 \0\0\0\0";
 
+// a call of procedure 0 of (200001, 1), and what its args have
+const REMOTE: &[u8] = b"\x00\x03\x0d\x41\0\0\0\x01\0\0\0\0\0\0\0\x04\0\0\0\x07";
+
+const ARGS: &[u8] = b"\0\0\0\x07";
+
+// where that row is on this machine
+const TARGET: Peer = Peer {
+    host: [127, 0, 0, 1],
+    port: 2049,
+};
+
+// an accepted reply of xid 1000, without results
+const SUCCESS: &[u8] = b"\0\0\x03\xe8\0\0\0\x01\0\0\0\0\0\0\0\0\0\0\0\0\0\0\0\0";
+
 const LIMIT: usize = 8;
 
-// Puts the results of a call of uid 500 from 127.0.0.1, in a datagram, into the empty buffer.
+const CLOCK: u64 = 1_000_000_000_500;
+
+// Puts the results of a call of uid 500 from 127.0.0.1, in a datagram, into the empty buffer, if it has any.
 fn serve(
     books: &mut Books,
     vers: u32,
@@ -45,6 +64,7 @@ fn serve(
 ) -> Result<(), Fail>
     requires tied { AreTied meter.old.tie books.old }
     requires limit { books.old.registry.limit ≡ 8 }
+    requires forwards { books.old.forwards.cap ≡ 1 }
     requires out { meter.old.tie ≡ out.old.tie }
     requires room { 1000 ≤ out.old.cap }
     ensures books { SameFrame books.old books.new }
@@ -66,14 +86,17 @@ fn serve(
     let context = Context {
         listener: LISTENER,
         limit: LIMIT,
-        clock: 1_000_000_000_500,
+        forwards: 1,
+        clock: CLOCK,
         caller: Caller::Udp(peer),
     };
     books.note_call(&head);
     let request = read_args(vers, proc, args)?;
-    let results = answer(books, &context, Call { head, request }, meter);
+    let given = answer(books, &context, Call { head, request }, args, meter);
     out.clear(meter);
-    put_answer(&results, books, &LISTENER, 1000, out, meter)?;
+    if let Answer::Results(results) = given {
+        put_results(&results, books, &LISTENER, 1000, out, meter)?;
+    }
     Ok(())
 }
 
@@ -81,7 +104,7 @@ fn serve(
 fn calls_are_read_answered_and_put(rt: HostRuntime) -> Result<(), Fail> {
     let mut meter = Meter::new();
     let mut out = Kept::new(rt.alloc(), 1000, &mut meter)?;
-    let mut books = Books::new(rt.alloc(), LIMIT, &LISTENER, &mut meter)?;
+    let mut books = Books::new(rt.alloc(), LIMIT, 1, 1000, &LISTENER, &mut meter)?;
     serve(&mut books, 2, 4, b"", &mut out, &mut meter)?;
     let len = out.len(&mut meter);
     assert_eq!(rt; out.lend(0..len, &mut meter), OWN_ROWS);
@@ -91,9 +114,60 @@ fn calls_are_read_answered_and_put(rt: HostRuntime) -> Result<(), Fail> {
 #[test]
 fn arguments_are_refused(rt: HostRuntime) {
     requests_are_of_the_grammar();
+    forwards_go_to_rows();
+    forwards_are_noted_once();
     worked_examples();
-    assert_eq!(rt; read_args(2, 5, b""), Err(ArgumentFault::ProcUnavail));
+    worked_forwards();
+    assert_eq!(rt; read_args(2, 6, b""), Err(ArgumentFault::ProcUnavail));
     assert_eq!(rt; read_args(2, 1, &[0; 12]), Err(ArgumentFault::GarbageArgs));
+}
+
+#[test]
+fn remote_calls_are_read(rt: HostRuntime) {
+    if let Some(remote) = RemoteCall::read(REMOTE) {
+        assert_eq!(rt; (remote.prog, remote.count), (200_001, 4));
+        assert_eq!(rt; remote.args(REMOTE), ARGS);
+    }
+    let refused = refusal(Kind::Indirect, ReplyStatus::SystemErr);
+    assert_eq!(rt; refused, Answer::Refused(ReplyStatus::SystemErr));
+}
+
+#[test]
+fn forwarded_calls_end(rt: HostRuntime) -> Result<(), Fail> {
+    let mut meter = Meter::new();
+    let mut out = Kept::new(rt.alloc(), 1000, &mut meter)?;
+    let mut books = Books::new(rt.alloc(), LIMIT, 1, 1000, &LISTENER, &mut meter)?;
+    serve(&mut books, 4, 1, UDP_ROW, &mut out, &mut meter)?;
+    serve(&mut books, 4, 10, REMOTE, &mut out, &mut meter)?;
+    assert!(rt; books.unsent(&mut meter).is_some());
+    assert!(rt; books.sent(FwdId { number: 1 }, &mut meter).is_ok());
+    assert!(rt; books.reply(CLOCK, TARGET, SUCCESS, &mut meter).is_some());
+    assert!(rt; books.due(CLOCK + 5000, &mut meter).is_none());
+    books.drop_caller(1, &mut meter);
+    Ok(())
+}
+
+// Results passed for a CALLIT of version 2.
+#[test]
+#[tactic(auto, unfolding(rb_forward::specs::Forwards::longest_results))]
+fn forwarded_results_are_put(rt: HostRuntime) -> Result<(), Fail> {
+    let mut meter = Meter::new();
+    let mut out = Kept::new(rt.alloc(), 100, &mut meter)?;
+    let forward = Forward {
+        caller: Caller::Udp(TARGET),
+        xid: 1,
+        kind: Kind::Callit2,
+        target: TARGET,
+        shown: TARGET,
+        prog: 200_001,
+        vers: 1,
+        proc: 0,
+    };
+    put_forwarded(&forward, ARGS, 100, &mut out, &mut meter)?;
+    let len = out.len(&mut meter);
+    let results = b"\0\0\x08\x01\0\0\0\x04\0\0\0\x07";
+    assert_eq!(rt; out.lend(0..len, &mut meter), results.as_slice());
+    Ok(())
 }
 
 #[test]

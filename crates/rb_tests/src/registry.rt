@@ -36,9 +36,10 @@ fn own_rows() -> [Row; 6]
 fn versions(registry: &Registry, meter: &mut Meter) -> u64
     requires { meter.old.tie ≡ registry.now.tie }
 {
+    let stamp = registry.stamp();
     let mut digits: u64 = 0;
     let mut cursor = Cursor::start();
-    'rows: while let Some((next, row)) = registry.next_row(registry.stamp(), cursor, meter) {
+    'rows: while let Some((next, row)) = registry.next_row(stamp, cursor, meter) {
         digits = digits
             .wrapping_mul(10)
             .wrapping_add(u64::from(row.vers % 10));

@@ -10,7 +10,7 @@ use Rattle.std.proofs.lemmas.Option.{none-some, same_Some}
 use Rattle.std.proofs.lemmas.Slice.Eq.{bytes_eq-Decides}
 use Rattle.rb_rpc.specs.declared.peer.Peer.{Peer}
 use Rattle.rb_core.specs.Step.{Event}
-use Rattle.rb_core.specs.Step.Event.{Datagram, Open, Bytes, Pending, Gave, Closed, NextLost}
+use Rattle.rb_core.specs.Step.Event.{Datagram, Open, Bytes, Pending, Gave, Closed, NextLost, Unsent, Sent, Forward, Expire}
 use Rattle.rpcbind.specs.Fields.{cut, decimal, peer, hex_bytes}
 use Rattle.rpcbind.specs.Lines.{datagram_line, open_line, bytes_line, gave_line, event, lone_event, event_of_parts, Line, happens_or_bad, line}
 use Rattle.rpcbind.specs.Lines.Line.{Skipped, Happens, Bad}
@@ -46,9 +46,17 @@ open_is text e h =
     let tail = spaced (SpellsNumber now) (SpellsPeer from) text parts.0 parts.1 is_cut (number_is parts.0 now is_now) (peer_is parts.1 from is_from) in
     subst (λ (e : Event). SpellsEvent e (codes "open" ++ 32 ∷ text)) (same_Some _ _ rest3) (worded (codes "open") text (SpellsNumber now ␣ SpellsPeer from) tail)
 
-datagram_is : (text : List ℕ) (e : Event) → datagram_line text ≡ Some e → SpellsEvent e (codes "datagram" ++ 32 ∷ text)
+-- a moment, a peer and bytes, of which an event is made
+record DatagramFields (make : ℕ → Peer → List ℕ → Event) (text : List ℕ) (e : Event) : Type 0 where
+  now : ℕ
+  from : Peer
+  bytes : List ℕ
+  spelled : (SpellsNumber now ␣ SpellsPeer from ␣ SpellsHex bytes) text
+  made : make now from bytes ≡ e
+
+datagram_fields : (make : ℕ → Peer → List ℕ → Event) (text : List ℕ) (e : Event) → datagram_line make text ≡ Some e → DatagramFields make text e
 unfolding datagram_line
-datagram_is text e h =
+datagram_fields make text e h =
     let (first, cut1, rest1) = bound (cut 32 text) _ e h in
     let (second, cut2, rest2) = bound (cut 32 first.1) _ e rest1 in
     let (now, is_now, rest3) = bound (decimal (2 ^ 64) first.0) _ e rest2 in
@@ -56,7 +64,17 @@ datagram_is text e h =
     let (bytes, is_bytes, rest5) = bound (hex_bytes second.1) _ e rest4 in
     let last = spaced (SpellsPeer from) (SpellsHex bytes) first.1 second.0 second.1 cut2 (peer_is second.0 from is_from) (hex_is second.1 bytes is_bytes) in
     let tail = spaced (SpellsNumber now) (SpellsPeer from ␣ SpellsHex bytes) text first.0 first.1 cut1 (number_is first.0 now is_now) last in
-    subst (λ (e : Event). SpellsEvent e (codes "datagram" ++ 32 ∷ text)) (same_Some _ _ rest5) (worded (codes "datagram") text (SpellsNumber now ␣ SpellsPeer from ␣ SpellsHex bytes) tail)
+    record { now = now; from = from; bytes = bytes; spelled = tail; made = same_Some _ _ rest5 }
+
+datagram_is : (text : List ℕ) (e : Event) → datagram_line Datagram text ≡ Some e → SpellsEvent e (codes "datagram" ++ 32 ∷ text)
+datagram_is text e h =
+    let f = datagram_fields Datagram text e h in
+    subst (λ (e : Event). SpellsEvent e (codes "datagram" ++ 32 ∷ text)) f.made (worded (codes "datagram") text (SpellsNumber f.now ␣ SpellsPeer f.from ␣ SpellsHex f.bytes) f.spelled)
+
+forward_is : (text : List ℕ) (e : Event) → datagram_line Forward text ≡ Some e → SpellsEvent e (codes "forward" ++ 32 ∷ text)
+forward_is text e h =
+    let f = datagram_fields Forward text e h in
+    subst (λ (e : Event). SpellsEvent e (codes "forward" ++ 32 ∷ text)) f.made (worded (codes "forward") text (SpellsNumber f.now ␣ SpellsPeer f.from ␣ SpellsHex f.bytes) f.spelled)
 
 bytes_is : (text : List ℕ) (e : Event) → bytes_line text ≡ Some e → SpellsEvent e (codes "bytes" ++ 32 ∷ text)
 unfolding bytes_line
@@ -96,6 +114,16 @@ closed_is text e h =
     let (id, is_id, made) = mapped Closed _ e h in
     subst (λ (e : Event). SpellsEvent e (codes "closed" ++ 32 ∷ text)) made (worded (codes "closed") text (SpellsNumber id) (number_is text id is_id))
 
+sent_is : (text : List ℕ) (e : Event) → option_map Sent (decimal (2 ^ 64) text) ≡ Some e → SpellsEvent e (codes "sent" ++ 32 ∷ text)
+sent_is text e h =
+    let (id, is_id, made) = mapped Sent _ e h in
+    subst (λ (e : Event). SpellsEvent e (codes "sent" ++ 32 ∷ text)) made (worded (codes "sent") text (SpellsNumber id) (number_is text id is_id))
+
+expire_is : (text : List ℕ) (e : Event) → option_map Expire (decimal (2 ^ 64) text) ≡ Some e → SpellsEvent e (codes "expire" ++ 32 ∷ text)
+expire_is text e h =
+    let (now, is_now, made) = mapped Expire _ e h in
+    subst (λ (e : Event). SpellsEvent e (codes "expire" ++ 32 ∷ text)) made (worded (codes "expire") text (SpellsNumber now) (number_is text now is_now))
+
 -- ---- the first word
 
 named : (word text name : List ℕ) (e : Event) → bytes_eq word name ≡ true → SpellsEvent e (name ++ 32 ∷ text) → SpellsEvent e (word ++ 32 ∷ text)
@@ -109,20 +137,25 @@ pub event_is : (word text : List ℕ) (e : Event) → event word text ≡ Some e
 unfolding event
 event_is word text e h =
     let P : Type 0 = SpellsEvent e (word ++ 32 ∷ text) in
-    else_word (bytes_eq word (codes "datagram")) (datagram_line text) _ e P h (λ same is. named word text (codes "datagram") e same (datagram_is text e is)) (λ h1.
+    else_word (bytes_eq word (codes "datagram")) (datagram_line Datagram text) _ e P h (λ same is. named word text (codes "datagram") e same (datagram_is text e is)) (λ h1.
     else_word (bytes_eq word (codes "open")) (open_line text) _ e P h1 (λ same is. named word text (codes "open") e same (open_is text e is)) (λ h2.
     else_word (bytes_eq word (codes "bytes")) (bytes_line text) _ e P h2 (λ same is. named word text (codes "bytes") e same (bytes_is text e is)) (λ h3.
     else_word (bytes_eq word (codes "pending")) (option_map Pending (decimal (2 ^ 64) text)) _ e P h3 (λ same is. named word text (codes "pending") e same (pending_is text e is)) (λ h4.
     else_word (bytes_eq word (codes "gave")) (gave_line text) _ e P h4 (λ same is. named word text (codes "gave") e same (gave_is text e is)) (λ h5.
-    else_word (bytes_eq word (codes "closed")) (option_map Closed (decimal (2 ^ 64) text)) None e P h5 (λ same is. named word text (codes "closed") e same (closed_is text e is)) (λ h6.
-    absurd (none-some e h6)))))))
+    else_word (bytes_eq word (codes "closed")) (option_map Closed (decimal (2 ^ 64) text)) _ e P h5 (λ same is. named word text (codes "closed") e same (closed_is text e is)) (λ h6.
+    else_word (bytes_eq word (codes "sent")) (option_map Sent (decimal (2 ^ 64) text)) _ e P h6 (λ same is. named word text (codes "sent") e same (sent_is text e is)) (λ h7.
+    else_word (bytes_eq word (codes "forward")) (datagram_line Forward text) _ e P h7 (λ same is. named word text (codes "forward") e same (forward_is text e is)) (λ h8.
+    else_word (bytes_eq word (codes "expire")) (option_map Expire (decimal (2 ^ 64) text)) None e P h8 (λ same is. named word text (codes "expire") e same (expire_is text e is)) (λ h9.
+    absurd (none-some e h9))))))))))
 
 lone_is : (text : List ℕ) (e : Event) → lone_event text ≡ Some e → SpellsEvent e text
 unfolding lone_event
 lone_is text e h =
-    else_word (bytes_eq text (codes "lost")) (Some NextLost) None e (SpellsEvent e text) h
-    (λ same is. subst (λ (e : Event). SpellsEvent e text) (same_Some _ _ is) ((bytes_eq-Decides text (codes "lost")).0 same))
-    (λ other. absurd (none-some e other))
+    else_word (bytes_eq text (codes "lost")) (Some NextLost) _ e (SpellsEvent e text) h
+    (λ same is. subst (λ (e : Event). SpellsEvent e text) (same_Some _ _ is) ((bytes_eq-Decides text (codes "lost")).0 same)) (λ other.
+    else_word (bytes_eq text (codes "unsent")) (Some Unsent) None e (SpellsEvent e text) other
+    (λ same is. subst (λ (e : Event). SpellsEvent e text) (same_Some _ _ is) ((bytes_eq-Decides text (codes "unsent")).0 same))
+    (λ none. absurd (none-some e none)))
 
 parts_are : (text : List ℕ) (o : Option (List ℕ × List ℕ)) (e : Event) → cut 32 text ≡ o → event_of_parts text o ≡ Some e → SpellsEvent e text
 parts_are text None e is h = lone_is text e h
@@ -158,10 +191,10 @@ open_reads : (text front back : List ℕ) (now : ℕ) (from : Peer) → cut 32 t
 unfolding open_line
 open_reads text front back now from is a b = rw (is, a, b) refl
 
-datagram_reads : (text front rest middle back : List ℕ) (now : ℕ) (from : Peer) (bytes : List ℕ) → cut 32 text ≡ Some (front, rest) → cut 32 rest ≡ Some (middle, back)
-    → decimal (2 ^ 64) front ≡ Some now → peer middle ≡ Some from → hex_bytes back ≡ Some bytes → datagram_line text ≡ Some (Datagram now from bytes)
+datagram_reads : (make : ℕ → Peer → List ℕ → Event) (text front rest middle back : List ℕ) (now : ℕ) (from : Peer) (bytes : List ℕ) → cut 32 text ≡ Some (front, rest) → cut 32 rest ≡ Some (middle, back)
+    → decimal (2 ^ 64) front ≡ Some now → peer middle ≡ Some from → hex_bytes back ≡ Some bytes → datagram_line make text ≡ Some (make now from bytes)
 unfolding datagram_line
-datagram_reads text front rest middle back now from bytes cut1 cut2 a b c = rw (cut1, cut2, a, b, c) refl
+datagram_reads make text front rest middle back now from bytes cut1 cut2 a b c = rw (cut1, cut2, a, b, c) refl
 
 bytes_reads : (text front rest middle back : List ℕ) (now id : ℕ) (bytes : List ℕ) → cut 32 text ≡ Some (front, rest) → cut 32 rest ≡ Some (middle, back)
     → decimal (2 ^ 64) front ≡ Some now → decimal (2 ^ 64) middle ≡ Some id → hex_bytes back ≡ Some bytes → bytes_line text ≡ Some (Bytes now id bytes)
@@ -204,9 +237,22 @@ line_of text NextLost s = ap line s
 line_of text (Datagram now from bytes) s =
     let t = s.behind in
     let u = t.behind in
-    let is = datagram_reads s.back t.front t.back u.front u.back now from bytes (cut_spaced (SpellsNumber now) (SpellsPeer from ␣ SpellsHex bytes) s.back t (number_apart now t.front t.in_front))
+    let is = datagram_reads Datagram s.back t.front t.back u.front u.back now from bytes (cut_spaced (SpellsNumber now) (SpellsPeer from ␣ SpellsHex bytes) s.back t (number_apart now t.front t.in_front))
     (cut_spaced (SpellsPeer from) (SpellsHex bytes) t.back u (peer_apart from u.front u.in_front)) (number_of t.front now t.in_front) (peer_of u.front from u.in_front) (hex_of u.back bytes u.behind) in
     named_line (codes "datagram") text s.back (Datagram now from bytes) s.front s.text_is s.in_front (said_word 100 (codes "atagram") s.back (Datagram now from bytes) refl refl is)
+line_of text Unsent s = ap line s
+line_of text (Sent id) s =
+    let is = ap (option_map Sent) (number_of s.back id s.behind) in
+    named_line (codes "sent") text s.back (Sent id) s.front s.text_is s.in_front (said_word 115 (codes "ent") s.back (Sent id) refl refl is)
+line_of text (Forward now from bytes) s =
+    let t = s.behind in
+    let u = t.behind in
+    let is = datagram_reads Forward s.back t.front t.back u.front u.back now from bytes (cut_spaced (SpellsNumber now) (SpellsPeer from ␣ SpellsHex bytes) s.back t (number_apart now t.front t.in_front))
+    (cut_spaced (SpellsPeer from) (SpellsHex bytes) t.back u (peer_apart from u.front u.in_front)) (number_of t.front now t.in_front) (peer_of u.front from u.in_front) (hex_of u.back bytes u.behind) in
+    named_line (codes "forward") text s.back (Forward now from bytes) s.front s.text_is s.in_front (said_word 102 (codes "orward") s.back (Forward now from bytes) refl refl is)
+line_of text (Expire now) s =
+    let is = ap (option_map Expire) (number_of s.back now s.behind) in
+    named_line (codes "expire") text s.back (Expire now) s.front s.text_is s.in_front (said_word 101 (codes "xpire") s.back (Expire now) refl refl is)
 
 -- ---- lines that say nothing, and bad ones
 

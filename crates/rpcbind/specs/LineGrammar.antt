@@ -5,7 +5,7 @@ use Rattle.std.specs.Str.Parse.{IsNumeral, digits_value}
 use Rattle.rb_rpc.specs.declared.peer.Peer.{Peer}
 use Rattle.rb_rpc.specs.Peers.{peer_text}
 use Rattle.rb_core.specs.Step.{Event}
-use Rattle.rb_core.specs.Step.Event.{Datagram, Open, Bytes, Pending, Gave, Closed, NextLost}
+use Rattle.rb_core.specs.Step.Event.{Datagram, Open, Bytes, Pending, Gave, Closed, NextLost, Unsent, Sent, Forward, Expire}
 use Rattle.rpcbind.specs.Fields.{peer}
 use Rattle.rpcbind.specs.Lines.{line}
 use Rattle.rpcbind.specs.Lines.Line.{Skipped, Happens, Bad}
@@ -67,6 +67,11 @@ SpellsEvent (Closed id) = Spells (codes "closed") ␣ SpellsNumber id
 SpellsEvent NextLost = Spells (codes "lost")
 SpellsEvent (Datagram now from bytes) =
     Spells (codes "datagram") ␣ SpellsNumber now ␣ SpellsPeer from ␣ SpellsHex bytes
+SpellsEvent Unsent = Spells (codes "unsent")
+SpellsEvent (Sent id) = Spells (codes "sent") ␣ SpellsNumber id
+SpellsEvent (Forward now from bytes) =
+    Spells (codes "forward") ␣ SpellsNumber now ␣ SpellsPeer from ␣ SpellsHex bytes
+SpellsEvent (Expire now) = Spells (codes "expire") ␣ SpellsNumber now
 
 -- an empty line, or one that begins with `#`
 abbrev pub SaysNothing : List ℕ → Type 0

@@ -3,25 +3,27 @@ use Rattle.std.specs.Prelude.{◌≡◌, ℕ, ◌+◌, ◌^◌, ◌==◌, nat_lt
 use Rattle.std.specs.List.{slice_split}
 use Rattle.std.specs.Option.{option_map}
 use Rattle.std.specs.Str.{bytes_eq}
+use Rattle.rb_rpc.specs.declared.peer.Peer.{Peer}
 use Rattle.rb_core.specs.Step.{Event}
-use Rattle.rb_core.specs.Step.Event.{Datagram, Open, Bytes, Pending, Gave, Closed, NextLost}
+use Rattle.rb_core.specs.Step.Event.{Datagram, Open, Bytes, Pending, Gave, Closed, NextLost, Unsent, Sent, Forward, Expire}
 use Rattle.rb_core.specs.declared.run.Event as event_type
 use Rattle.rb_core.specs.StandsFor.{event_of, events_of}
+use Rattle.rpcbind.specs.declared.lines.DatagramFields as fields_type
 use Rattle.rpcbind.specs.declared.lines.Line as line_type
 use Rattle.rpcbind.specs.declared.lines.Line.TheVariants as lines
 use Rattle.rpcbind.specs.declared.lines.ReadFault.{ReadFault}
 use Rattle.rpcbind.specs.declared.lines.ReadFault.TheVariants.{BadLine, TooLong, NoMemory}
 use Rattle.rpcbind.specs.Fields.{◌>>=◌, cut, decimal, peer, hex_bytes}
 
--- what follows the word `datagram`: a moment, a peer and bytes
-unfoldable pub datagram_line : List ℕ → Option Event
-datagram_line text = do
+-- what follows the words `datagram` and `forward`: a moment, a peer and bytes, of which the event is made
+unfoldable pub datagram_line : (ℕ → Peer → List ℕ → Event) → List ℕ → Option Event
+datagram_line make text = do
   first ← cut 32 text
   second ← cut 32 first.1
   now ← decimal (2 ^ 64) first.0
   from ← peer second.0
   bytes ← hex_bytes second.1
-  Some (Datagram now from bytes)
+  Some (make now from bytes)
 
 -- what follows the word `open`: a moment and a peer
 unfoldable pub open_line : List ℕ → Option Event
@@ -54,18 +56,22 @@ gave_line text = do
 -- the event of a line of more than one word: the first, and what stands behind the space after it
 unfoldable pub event : List ℕ → List ℕ → Option Event
 event word rest =
-    if bytes_eq word (codes "datagram") then datagram_line rest
+    if bytes_eq word (codes "datagram") then datagram_line Datagram rest
     else if bytes_eq word (codes "open") then open_line rest
     else if bytes_eq word (codes "bytes") then bytes_line rest
     else if bytes_eq word (codes "pending") then option_map Pending (decimal (2 ^ 64) rest)
     else if bytes_eq word (codes "gave") then gave_line rest
     else if bytes_eq word (codes "closed") then option_map Closed (decimal (2 ^ 64) rest)
+    else if bytes_eq word (codes "sent") then option_map Sent (decimal (2 ^ 64) rest)
+    else if bytes_eq word (codes "forward") then datagram_line Forward rest
+    else if bytes_eq word (codes "expire") then option_map Expire (decimal (2 ^ 64) rest)
     else None
 
 -- the event of a line of one word
 unfoldable pub lone_event : List ℕ → Option Event
 lone_event word =
     if bytes_eq word (codes "lost") then Some NextLost
+    else if bytes_eq word (codes "unsent") then Some Unsent
     else None
 
 abbrev pub event_of_parts : List ℕ → Option (List ℕ × List ℕ) → Option Event
@@ -117,6 +123,12 @@ abbrev pub line_of : line_type.Line → Line
 line_of lines.Skipped = Skipped
 line_of (lines.Happens event) = Happens (event_of event)
 line_of lines.Bad = Bad
+
+-- The fields are those of which any such event is made.
+abbrev pub AreFieldsOf : List ℕ → Option fields_type.DatagramFields → Type 0
+AreFieldsOf text read =
+    (make : ℕ → Peer → List ℕ → Event)
+    → option_map (λ f. make f.now f.from f.bytes.items) read ≡ datagram_line make text
 
 -- What a function returned is what reading gives, unless memory ran out.
 abbrev pub Fails : ReadFault → Result (List Event) ReadFault → Type 0

@@ -4,12 +4,15 @@ use Rattle.std.specs.List.{flat_map}
 use Rattle.std.specs.Fmt.{decimal}
 use Rattle.std.specs.Io.KnownBytes.{Appends}
 use Rattle.hex.specs.Hex.{encode_lower}
+use Rattle.rb_rpc.specs.declared.peer.Peer.{Peer}
+use Rattle.rb_rpc.specs.Peers.{peer_text}
+use Rattle.rb_forward.specs.Forwards.{Unsent}
 use Rattle.rb_core.specs.declared.types.CoreFault.{CoreFault}
 use Rattle.rb_core.specs.declared.types.CoreFault.TheVariants.{NoMemory, BadLimits, Full, Spent, Gone}
 use Rattle.rb_core.specs.declared.run.Output as output_type
 use Rattle.rb_core.specs.StandsFor.{outputs_of}
 use Rattle.rb_core.specs.Step.{Output}
-use Rattle.rb_core.specs.Step.Output.{Replied, Silent, Opened, Refused, Took, TookAndClosed, IsPending, Done, TooMuch, LostIs}
+use Rattle.rb_core.specs.Step.Output.{Replied, Silent, Opened, Refused, Took, TookAndClosed, IsPending, Done, TooMuch, LostIs, Forwarded, UnsentIs, Ignored, Nothing, ConnectionClosed, Ready, RepliedTo}
 
 -- two hexadecimal digits for each byte, in lower case, or `-` for no bytes
 abbrev pub hex_text : List ℕ → List ℕ
@@ -28,6 +31,13 @@ refusal_text BadLimits = codes "bad limits\n"
 abbrev pub bytes_line : List ℕ → List ℕ → List ℕ
 bytes_line word bytes = word ++ (hex_text bytes ++ codes "\n")
 
+-- a word, and bytes to or for a peer
+abbrev pub peer_line : List ℕ → Peer → List ℕ → List ℕ
+peer_line word peer bytes = word ++ (peer_text peer ++ (codes " " ++ (hex_text bytes ++ codes "\n")))
+
+abbrev pub unsent_line : Unsent → List ℕ
+unsent_line unsent = codes "unsent " ++ (decimal unsent.number ++ peer_line (codes " ") unsent.target unsent.call)
+
 -- the line of an output
 abbrev pub text_of : Output → List ℕ
 text_of (Replied bytes) = bytes_line (codes "reply ") bytes
@@ -41,6 +51,14 @@ text_of Done = codes "ok\n"
 text_of TooMuch = codes "toomuch\n"
 text_of (LostIs None) = codes "lost -\n"
 text_of (LostIs (Some id)) = codes "lost " ++ (decimal id ++ codes "\n")
+text_of Forwarded = codes "forwarded\n"
+text_of (UnsentIs None) = codes "unsent -\n"
+text_of (UnsentIs (Some unsent)) = unsent_line unsent
+text_of Ignored = codes "ignored\n"
+text_of Nothing = codes "nothing\n"
+text_of (ConnectionClosed id) = codes "closed " ++ (decimal id ++ codes "\n")
+text_of (Ready id) = codes "ready " ++ (decimal id ++ codes "\n")
+text_of (RepliedTo peer bytes) = peer_line (codes "datagram ") peer bytes
 
 unfoldable pub report_of : List Output → List ℕ
 report_of outputs = flat_map text_of outputs

@@ -3,9 +3,9 @@ use Rattle.std.specs.Prelude.{◌≡◌, ◌^◌, ◌-◌, List, ℕ, [], ◌∷
 use Rattle.std.specs.List.{flat_map}
 use Rattle.std.specs.Int.{w32, to_be_bytes}
 use Rattle.rb_rpc.specs.declared.peer.Peer.{Peer}
-use Rattle.rb_core.specs.Step.Event.{Datagram, Open, Bytes, Pending, Gave, Closed, NextLost}
+use Rattle.rb_core.specs.Step.Event.{Datagram, Open, Bytes, Pending, Gave, Closed, NextLost, Unsent, Sent, Forward, Expire}
 use Rattle.rb_core.specs.declared.types.CoreFault.TheVariants.{Full, Spent, Gone}
-use Rattle.rb_core.specs.Step.Output.{Replied, Silent, Opened, Refused, Took, TookAndClosed, IsPending, Done, TooMuch, LostIs}
+use Rattle.rb_core.specs.Step.Output.{Replied, Silent, Opened, Refused, Took, TookAndClosed, IsPending, Done, TooMuch, LostIs, Forwarded, UnsentIs, Ignored, Nothing, Ready, RepliedTo}
 use Rattle.rpcbind.specs.declared.lines.ReadFault.TheVariants.{BadLine}
 use Rattle.rpcbind.specs.Fields.{decimal, peer}
 use Rattle.rpcbind.specs.Lines.{read}
@@ -113,3 +113,27 @@ ConnectionsArePrinted =
     ≡ ended (codes "open 1") ++ ended (codes "full") ++ ended (codes "spent") ++ ended (codes "gone") ++ ended (codes "took 360")
     ++ ended (codes "took 12 closed") ++ ended (codes "pending 80000018") ++ ended (codes "pending -") ++ ended (codes "ok")
     ++ ended (codes "toomuch") ++ ended (codes "lost -") ++ ended (codes "lost 10")
+
+-- The lines of forwarded calls.
+abbrev pub ForwardsAreRead : Type 0
+ForwardsAreRead =
+    (read
+    (ended (codes "unsent") ++ ended (codes "sent 01") ++ ended (codes "forward 2000 127.0.0.1:900 000003e8")
+    ++ ended (codes "forward 2000 127.0.0.1:900 -") ++ codes "expire 6000")
+    ≡ Ok
+    (Unsent ∷ Sent 1 ∷ Forward 2000 here (0 ∷ 0 ∷ 3 ∷ 232 ∷ []) ∷ Forward 2000 here [] ∷ Expire 6000 ∷ []))
+    × (read (codes "unsent ") ≡ Err (BadLine 1))
+    × (read (codes "sent") ≡ Err (BadLine 1))
+    × (read (codes "sent 18446744073709551616") ≡ Err (BadLine 1))
+    × (read (codes "forward 2000 127.0.0.1:900") ≡ Err (BadLine 1))
+    × (read (codes "expire -1") ≡ Err (BadLine 1))
+
+abbrev pub ForwardsArePrinted : Type 0
+ForwardsArePrinted =
+    report_of
+    (Forwarded ∷ UnsentIs None
+    ∷ UnsentIs (Some (record { number = 1; target = here; call = 0 ∷ 0 ∷ 3 ∷ 232 ∷ [] }))
+    ∷ Ignored ∷ Nothing ∷ Ready 7 ∷ RepliedTo here (0 ∷ 0 ∷ 0 ∷ 15 ∷ []) ∷ [])
+    ≡ ended (codes "forwarded") ++ ended (codes "unsent -") ++ ended (codes "unsent 1 127.0.0.1:900 000003e8")
+    ++ ended (codes "ignored") ++ ended (codes "nothing") ++ ended (codes "ready 7")
+    ++ ended (codes "datagram 127.0.0.1:900 0000000f")

@@ -2,10 +2,10 @@
 ghost use Rattle.std.specs.Prelude.{◌≡◌, ◌≤◌, IfOk, IfErr, OnOk};
 ghost use Rattle.std.specs.Option.{option_map};
 ghost use Rattle.rb_core.specs.StandsFor.{event_of, events_of};
-ghost use Rattle.rpcbind.specs.Lines.{Adds, events_from, lines_of, IsFaultOf, datagram_line, open_line, bytes_line, gave_line, event, lone_event, line, line_of, longest_input, Gives, read};
+ghost use Rattle.rpcbind.specs.Lines.{Adds, AreFieldsOf, events_from, lines_of, IsFaultOf, datagram_line, open_line, bytes_line, gave_line, event, lone_event, line, line_of, longest_input, Gives, read};
 
 use crate::fields::{cut, decimal, hex_bytes, peer};
-use rb_core::{Event, NoMemory};
+use rb_core::{Event, NoMemory, Peer};
 use std::alloc::Global;
 use thiserror::Error;
 
@@ -38,10 +38,18 @@ enum Line {
     Bad,
 }
 
-/// What follows the word `datagram`: a moment, a peer and bytes.
+/// What follows the words `datagram` and `forward`.
+#[derive(Drop)]
+struct DatagramFields {
+    now: u64,
+    from: Peer,
+    bytes: Vec<u8>,
+}
+
+/// A moment, a peer and bytes.
 #[tactic(auto, unfolding(crate::specs::Lines::datagram_line))]
-fn datagram_line(alloc: Global, text: &[u8]) -> Result<Option<Event>, NoMemory>
-    ensures { IfOk result (λ read. option_map event_of read ≡ datagram_line text.now) }
+fn datagram_fields(alloc: Global, text: &[u8]) -> Result<Option<DatagramFields>, NoMemory>
+    ensures { IfOk result (AreFieldsOf text.now) }
 {
     let Some((now, rest)) = cut(text, b' ') else {
         return Ok(None);
@@ -58,7 +66,7 @@ fn datagram_line(alloc: Global, text: &[u8]) -> Result<Option<Event>, NoMemory>
     let Some(bytes) = hex_bytes(alloc, bytes)? else {
         return Ok(None);
     };
-    Ok(Some(Event::Datagram(now, from, bytes)))
+    Ok(Some(DatagramFields { now, from, bytes }))
 }
 
 /// What follows the word `open`: a moment and a peer.
@@ -114,7 +122,7 @@ fn read_event(alloc: Global, word: &[u8], rest: &[u8]) -> Result<Option<Event>, 
     ensures { IfOk result (λ read. option_map event_of read ≡ event word.now rest.now) }
 {
     if word == b"datagram".as_slice() {
-        return datagram_line(alloc, rest);
+        return Ok(datagram_fields(alloc, rest)?.map(|f| Event::Datagram(f.now, f.from, f.bytes)));
     }
     if word == b"open".as_slice() {
         return Ok(open_line(rest));
@@ -131,6 +139,15 @@ fn read_event(alloc: Global, word: &[u8], rest: &[u8]) -> Result<Option<Event>, 
     if word == b"closed".as_slice() {
         return Ok(decimal(rest).map(Event::Closed));
     }
+    if word == b"sent".as_slice() {
+        return Ok(decimal(rest).map(Event::Sent));
+    }
+    if word == b"forward".as_slice() {
+        return Ok(datagram_fields(alloc, rest)?.map(|f| Event::Forward(f.now, f.from, f.bytes)));
+    }
+    if word == b"expire".as_slice() {
+        return Ok(decimal(rest).map(Event::Expire));
+    }
     Ok(None)
 }
 
@@ -141,6 +158,9 @@ fn lone_event(word: &[u8]) -> Option<Event>
 {
     if word == b"lost".as_slice() {
         return Some(Event::NextLost);
+    }
+    if word == b"unsent".as_slice() {
+        return Some(Event::Unsent);
     }
     None
 }

@@ -1,10 +1,11 @@
 //! The lines that outputs are printed as.
 ghost use Rattle.std.specs.Prelude.{OnOk};
 ghost use Rattle.hex.specs.Hex.{encode_lower};
-ghost use Rattle.rb_core.specs.StandsFor.{output_of};
-ghost use Rattle.rpcbind.specs.Printing.{hex_text, bytes_line, refusal_text, text_of, report, Writes};
+ghost use Rattle.rb_core.specs.StandsFor.{output_of, unsent_of};
+ghost use Rattle.rb_rpc.specs.Peers.{peer_text};
+ghost use Rattle.rpcbind.specs.Printing.{hex_text, bytes_line, peer_line, unsent_line, refusal_text, text_of, report, Writes};
 
-use rb_core::{CoreFault, Output};
+use rb_core::{CoreFault, Output, Peer, UnsentCall};
 use std::io;
 use std::io::Write;
 use thiserror::Error;
@@ -52,6 +53,25 @@ fn print_bytes<W: Write>(word: &str, bytes: &[u8], writer: &mut W) -> io::Result
     writer.write_all(b"\n")
 }
 
+/// Writes a line of a word, and bytes to or for a peer.
+fn print_to<W: Write>(word: &str, to: Peer, bytes: &[u8], writer: &mut W) -> io::Result<()>
+    ensures { OnOk result (Writes W.contents writer.old writer.new (peer_line word.now to bytes.now)) }
+{
+    write!(writer, "{word}{to} ")?;
+    print_hex(bytes, writer)?;
+    writer.write_all(b"\n")
+}
+
+/// Writes the line of a forwarded call that is to be sent.
+fn print_unsent<W: Write>(call: &UnsentCall, writer: &mut W) -> io::Result<()>
+    ensures { OnOk result (Writes W.contents writer.old writer.new
+        (unsent_line (unsent_of call.now))) }
+{
+    let number = call.number;
+    write!(writer, "unsent {number}")?;
+    print_to(" ", call.target, &call.call, writer)
+}
+
 /// Writes the line of a refused call.
 fn print_refusal<W: Write>(fault: CoreFault, writer: &mut W) -> io::Result<()>
     ensures { OnOk result (Writes W.contents writer.old writer.new (refusal_text fault)) }
@@ -81,6 +101,14 @@ fn write_output<W: Write>(output: &Output, writer: &mut W) -> io::Result<()>
         Output::TooMuch => writer.write_all(b"toomuch\n"),
         Output::Lost(None) => writer.write_all(b"lost -\n"),
         Output::Lost(Some(id)) => writeln!(writer, "lost {id}"),
+        Output::Forwarded => writer.write_all(b"forwarded\n"),
+        Output::Unsent(None) => writer.write_all(b"unsent -\n"),
+        Output::Unsent(Some(unsent)) => print_unsent(unsent, writer),
+        Output::Ignored => writer.write_all(b"ignored\n"),
+        Output::Nothing => writer.write_all(b"nothing\n"),
+        Output::ConnectionClosed(id) => writeln!(writer, "closed {id}"),
+        Output::Ready(id) => writeln!(writer, "ready {id}"),
+        Output::RepliedTo(peer, bytes) => print_to("datagram ", *peer, bytes, writer),
     }
 }
 

@@ -1,5 +1,5 @@
 //! Worked examples of the definitions, which the proof computes.
-ghost use Rattle.rpcbind.specs.Worked.{StoredRunIsRead, StoredRunIsPrinted, BadEventLine, LinesAreCounted, NumbersOfLines, PeersOfLines, ConnectionsAreRead, ConnectionsArePrinted};
+ghost use Rattle.rpcbind.specs.Worked.{StoredRunIsRead, StoredRunIsPrinted, BadEventLine, LinesAreCounted, NumbersOfLines, PeersOfLines, ConnectionsAreRead, ConnectionsArePrinted, ForwardsAreRead, ForwardsArePrinted};
 
 /// The definitions give what the worked examples say.
 pub fn worked_examples()
@@ -11,4 +11,6 @@ pub fn worked_examples()
     ensures peers { PeersOfLines }
     ensures connections_are_read { ConnectionsAreRead }
     ensures connections_are_printed { ConnectionsArePrinted }
+    ensures forwards_are_read { ForwardsAreRead }
+    ensures forwards_are_printed { ForwardsArePrinted }
 {}

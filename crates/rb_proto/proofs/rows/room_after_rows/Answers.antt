@@ -5,13 +5,13 @@ use Rattle.rb_proto.proofs.rows.room_after_rows.Goals as goal
 
 pub rows-init : goal.rows-init
 rows-init c =
-    nothing_measured _ c.args.registry.now _ _ _ _ (c.start-cursor.ensures.place c.args.registry.now c.stamp-stamp.result c.stamp-stamp.ensures)
-    (c.start-cursor.ensures.passed c.args.registry.now c.stamp-stamp.result)
+    nothing_measured _ c.args.registry.now _ _ _ _ (c.start-cursor.ensures.place c.args.registry.now c.args.stamp c.requires.stamp)
+    (c.start-cursor.ensures.passed c.args.registry.now c.args.stamp) (c.start-cursor.ensures.slots c.args.registry.now)
 
 pub rows-preserved : goal.rows-preserved
 rows-preserved c =
     row_measured _ _ _ _ _ _ _ _ c.rows.invariant c.in-Some.found.1.now c.in-Some.found.0
-    (record { here = c.in-Some.ensures.row; place = c.in-Some.ensures.place; passed = c.in-Some.ensures.passed }) c.in_ok-left.left c.next_row.new.meter c.in_ok-left.ensures c.next_row.ensures.cost
+    (record { here = c.in-Some.ensures.row; place = c.in-Some.ensures.place; passed = c.in-Some.ensures.passed }) c.in_ok-left.left c.next_row.new.meter c.in_ok-left.ensures _ c.next_row.ensures.cost c.in-Some.ensures.cost_row
 
 pub returns-in_err-left-clause-room : goal.returns-in_err-left-clause-room
 returns-in_err-left-clause-room c =

@@ -5,8 +5,8 @@ use Rattle.rb_proto.proofs.rows.write_rows.Goals as goal
 
 pub rows-init : goal.rows-init
 rows-init c =
-    nothing_written _ c.args.registry.now _ _ _ _ (c.start-cursor.ensures.place c.args.registry.now c.stamp-stamp.result c.stamp-stamp.ensures)
-    (c.start-cursor.ensures.passed c.args.registry.now c.stamp-stamp.result)
+    nothing_written _ c.args.registry.now _ _ _ _ (c.start-cursor.ensures.place c.args.registry.now c.args.stamp c.requires.stamp)
+    (c.start-cursor.ensures.passed c.args.registry.now c.args.stamp) (c.start-cursor.ensures.slots c.args.registry.now)
 
 pub write_row-requires-clause-room : goal.write_row-requires-clause-room
 write_row-requires-clause-room c =
@@ -16,4 +16,4 @@ write_row-requires-clause-room c =
 pub rows-preserved : goal.rows-preserved
 rows-preserved c =
     row_written _ _ _ _ _ _ _ _ c.rows.invariant c.in-Some.found.1.now c.in-Some.found.0
-    (record { here = c.in-Some.ensures.row; place = c.in-Some.ensures.place; passed = c.in-Some.ensures.passed }) c.write_row.new.out c.next_row.new.meter c.write_row.new.meter c.write_row.ensures.written c.next_row.ensures.cost c.write_row.ensures.cost
+    (record { here = c.in-Some.ensures.row; place = c.in-Some.ensures.place; passed = c.in-Some.ensures.passed }) c.write_row.new.out c.next_row.new.meter c.write_row.new.meter c.write_row.ensures.written _ c.next_row.ensures.cost c.in-Some.ensures.cost_row c.write_row.ensures.cost

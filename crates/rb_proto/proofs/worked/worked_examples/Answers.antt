@@ -5,6 +5,8 @@ use Rattle.rb_uaddr.specs.Uaddr.{port_of, port_bytes, text_of, octet, of_parts, 
 use Rattle.rb_registry.specs.Rows.{is_netid, is_among, may_remove, covers, is_on, is_row, is_change_left, has_place, removes_some, find_exact, versions, greatest, find_row}
 use Rattle.rb_stats.specs.Statistics.{number_of, is_key, is_in, keys_of, items_of, stat, item_spelling, stat_spelling, statistics}
 use Rattle.rb_proto.specs.Ledger.{version_of, called}
+use Rattle.rb_proto.specs.Remote.{read_remote}
+use Rattle.rb_forward.specs.Table.{longest_arguments}
 use Rattle.rb_proto.specs.Types.{read_mapping, read_rpcb, read_netbuf}
 use Rattle.rb_proto.specs.Arguments.{procedure_at, is_known, arguments, request}
 use Rattle.rb_proto.specs.Netids.{netid_named, which_of, netid_of_prot}
@@ -14,7 +16,7 @@ use Rattle.rb_proto.specs.Results.{result_bytes}
 use Rattle.rb_proto.proofs.worked.worked_examples.Goals as goal
 
 pub returns : goal.returns
-unfolding digits number number_at boolean opaque listed read_number read_content read_opaque port_of port_bytes text_of octet of_parts parts_of parse merged transport_of from_transport is_netid is_among may_remove covers is_on is_row is_change_left has_place removes_some find_exact versions greatest find_row read_mapping read_rpcb read_netbuf procedure_at is_known arguments request netid_named which_of netid_of_prot own_rows is_local owner_text comes_from_here row_of_mapping row_of_rpcb can_be_set accepts_row set_row accepts_removal unset_rows shown_text shown_port getport getaddr getversaddr seconds taddr_of uaddr_of answer result_bytes number_of is_key is_in keys_of items_of stat item_spelling stat_spelling statistics version_of called
+unfolding digits number number_at boolean opaque listed read_number read_content read_opaque port_of port_bytes text_of octet of_parts parts_of parse merged transport_of from_transport is_netid is_among may_remove covers is_on is_row is_change_left has_place removes_some find_exact versions greatest find_row read_mapping read_rpcb read_netbuf read_remote longest_arguments procedure_at is_known arguments request netid_named which_of netid_of_prot own_rows is_local owner_text comes_from_here row_of_mapping row_of_rpcb can_be_set accepts_row set_row accepts_removal unset_rows shown_text shown_port getport getaddr getversaddr seconds taddr_of uaddr_of answer result_bytes number_of is_key is_in keys_of items_of stat item_spelling stat_spelling statistics version_of called
 returns c = record {
   dump_own_rows = refl;
   set_getport_set_again = refl;

@@ -37,3 +37,11 @@ returns-clause-connections_are_read c = (refl, refl, refl, refl, refl, refl, ref
 pub returns-clause-connections_are_printed : goal.returns-clause-connections_are_printed
 unfolding digits hex_on_literals report_of
 returns-clause-connections_are_printed c = refl
+
+pub returns-clause-forwards_are_read : goal.returns-clause-forwards_are_read
+unfolding hex_on_literals cut decimal plain host peer hex_bytes datagram_line open_line bytes_line gave_line event lone_event line events_from lines_of longest_input read
+returns-clause-forwards_are_read c = (refl, refl, refl, refl, refl, refl)
+
+pub returns-clause-forwards_are_printed : goal.returns-clause-forwards_are_printed
+unfolding digits hex_on_literals report_of
+returns-clause-forwards_are_printed c = refl

@@ -8,6 +8,7 @@ use Rattle.rb_core.specs.Connections.{closing_of}
 use Rattle.rb_core.specs.Slots.{Acts, StandsForConnections, HasBuffers, AreSpare}
 use Rattle.rb_core.proofs.Slots.{acts_from, none_closed, one_closed, slot_is_there, numbered-without}
 use Rattle.rb_xdr.proofs.PoolLemmas.{distinct-without, length-without}
+use Rattle.rb_core.proofs.Freed.{none_freed_by_close, freed_from}
 use Rattle.rb_core.proofs.connections.Connections.close.Goals as goal
 
 pub returns-in_default-clause-acts : goal.returns-in_default-clause-acts
@@ -44,3 +45,10 @@ returns-clause-acts c =
     rw c.remove.ensures.entries (
     acts_from (closing_of c.args.id) (the_view c.self.inside) c.args.self.now _ _ c.self.view_is
     (one_closed c.args.id (the_view c.self.inside) c.in-Some.key c.in-Some-remove.slot c.self.invariant.distinct c.self.invariant.numbers (sym c.in-Some.ensures.key) (sym c.in-Some-remove.ensures.value)))
+
+pub returns-in_default-clause-free : goal.returns-in_default-clause-free
+returns-in_default-clause-free c = λ id none. none
+
+pub returns-clause-free : goal.returns-clause-free
+returns-clause-free c =
+    rw c.remove.ensures.entries (freed_from (the_view c.self.inside) c.args.self.now _ c.self.view_is (none_freed_by_close (the_view c.self.inside) c.in-Some.key))

@@ -6,6 +6,7 @@ use Rattle.rb_core.specs.declared.types.CoreFault.TheVariants.{Gone}
 use Rattle.rb_core.specs.Connections.{on_live, giving}
 use Rattle.rb_core.specs.Slots.{Acts, StandsForConnections, HasBuffers}
 use Rattle.rb_core.proofs.Slots.{acts_from, gone_acts, live_acts, slot_is_there, table_changed}
+use Rattle.rb_core.proofs.Freed.{none_freed, freed_from}
 use Rattle.rb_core.proofs.connections.Connections.give.Goals as goal
 
 pub returns-in_default-clause-acts : goal.returns-in_default-clause-acts
@@ -32,3 +33,10 @@ pub returns-clause-acts : goal.returns-clause-acts
 returns-clause-acts c =
     acts_from (on_live c.args.id (giving c.args.clock c.args.n)) (the_view c.self.inside) c.args.self.now _ _ c.self.view_is
     (live_acts c.args.id (giving c.args.clock c.args.n) (the_view c.self.inside) c.in-Some.key c.in-Some-get_mut.slot.now c.give.new.self _ c.self.invariant.distinct (sym c.in-Some.ensures.key) (sym c.in-Some-get_mut.ensures.value) c.give.ensures.acts)
+
+pub returns-in_default-clause-free : goal.returns-in_default-clause-free
+returns-in_default-clause-free c = λ id none. none
+
+pub returns-clause-free : goal.returns-clause-free
+returns-clause-free c = freed_from (the_view c.self.inside) c.args.self.now _ c.self.view_is
+    (none_freed (the_view c.self.inside) c.in-Some.key c.in-Some-get_mut.slot.now c.give.new.self (sym c.in-Some-get_mut.ensures.value) c.give.ensures.stays.number c.give.ensures.awaits)

@@ -7,6 +7,7 @@ use Rattle.rb_core.specs.declared.types.CoreFault.TheVariants.{Full, Spent}
 use Rattle.rb_core.specs.Connections.{opening_of}
 use Rattle.rb_core.specs.Slots.{Acts, StandsForConnections, HasBuffers, AreBuffers, AreSpare}
 use Rattle.rb_core.proofs.Slots.{acts_from, full_acts, spent_acts, opened_acts, numbered-more}
+use Rattle.rb_core.proofs.Freed.{none_freed_by_open, freed_from}
 use Rattle.rb_core.proofs.connections.Connections.open.Goals as goal
 
 pub returns-then-len-self-clause-acts : goal.returns-then-len-self-clause-acts
@@ -48,3 +49,13 @@ returns-clause-acts c =
       mark = refl;
       phase = (c.take_buffers-buffer.ensures.made.buffer_empty, c.take_buffers-buffer.ensures.made.window_empty);
     }))
+
+pub returns-then-len-self-clause-free : goal.returns-then-len-self-clause-free
+returns-then-len-self-clause-free c = λ id none. none
+
+pub returns-then-self-clause-free : goal.returns-then-self-clause-free
+returns-then-self-clause-free c = λ id none. none
+
+pub returns-clause-free : goal.returns-clause-free
+returns-clause-free c =
+    freed_from (the_view c.self.inside) c.args.self.now _ c.self.view_is (none_freed_by_open (the_view c.self.inside) _ _ c.put_slot.ensures.last refl refl)

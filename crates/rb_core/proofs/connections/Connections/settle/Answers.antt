@@ -6,6 +6,9 @@ use Rattle.rb_core.specs.Connections.{changed_at, settled}
 use Rattle.rb_core.specs.StandsFor.{outcome_with}
 use Rattle.rb_core.specs.Slots.{StandsForConnections, HasBuffers}
 use Rattle.rb_core.proofs.Slots.{gone_stays, live_changed, slot_is_there, table_changed}
+use Rattle.std.proofs.Common.{◌≡◌, true, refl}
+use Rattle.rb_core.specs.Awaits.{has_live}
+use Rattle.rb_core.proofs.Freed.{found_live, none_live, one_freed, now_awaits, only_from}
 use Rattle.rb_core.proofs.connections.Connections.settle.Goals as goal
 
 pub returns-in_default-clause-stands : goal.returns-in_default-clause-stands
@@ -33,3 +36,21 @@ pub returns-clause-stands : goal.returns-clause-stands
 returns-clause-stands c = λ o h.
     let z = subst (λ t. StandsForConnections t o) (sym c.self.view_is) h in
     live_changed c.args.id (settled c.args.clock (outcome_with c.args.outcome c.args.reply.now.bytes)) (the_view c.self.inside) c.in-Some.key c.in-Some-get_mut.slot.now c.settle.new.self c.self.invariant.distinct (sym c.in-Some.ensures.key) (sym c.in-Some-get_mut.ensures.value) c.settle.ensures.stands o z
+
+pub returns-in_default-clause-others : goal.returns-in_default-clause-others
+returns-in_default-clause-others c = λ id apart none. none
+
+pub returns-clause-others : goal.returns-clause-others
+returns-clause-others c =
+    let l = found_live c.args.id c.in-Some.key c.self.inside.slots.entries c.in-Some-get_mut.slot.now c.self.invariant.distinct (sym c.in-Some.ensures.key) (sym c.in-Some-get_mut.ensures.value) in
+    only_from c.args.id (the_view c.self.inside) c.args.self.now _ c.self.view_is
+    (one_freed (the_view c.self.inside) c.args.id c.in-Some.key c.in-Some-get_mut.slot.now c.settle.new.self (sym c.in-Some-get_mut.ensures.value) l.0 c.settle.ensures.stays.number)
+
+pub returns-in_default-clause-awaits : goal.returns-in_default-clause-awaits
+returns-in_default-clause-awaits c = λ forwarded live.
+    absurd (none_live c.args.id c.self.inside.slots.entries (sym c.in_default.ensures.key) (the_view c.self.inside) refl (subst (λ t. has_live c.args.id t ≡ true) (sym c.self.view_is) live))
+
+pub returns-clause-awaits : goal.returns-clause-awaits
+returns-clause-awaits c = λ forwarded live.
+    let l = found_live c.args.id c.in-Some.key c.self.inside.slots.entries c.in-Some-get_mut.slot.now c.self.invariant.distinct (sym c.in-Some.ensures.key) (sym c.in-Some-get_mut.ensures.value) in
+    now_awaits (the_view c.self.inside) c.args.id c.in-Some.key c.in-Some-get_mut.slot.now c.settle.new.self c.self.invariant.numbers (sym c.in-Some-get_mut.ensures.value) l.0 c.settle.ensures.stays.number (c.settle.ensures.awaits forwarded)

@@ -17,3 +17,11 @@ returns-in-Reply-clause-stands c = λ x h.
       mark = refl;
       phase = subst (λ (k : Kept). IsGiving c.swap.new.x.bytes c.begin.new.window 0 (owed_of k.bytes 0)) c.swap.ensures.x_after c.begin.ensures.giving;
     })
+
+pub returns-in-Forwarded-clause-stands : goal.returns-in-Forwarded-clause-stands
+unfolding settled
+returns-in-Forwarded-clause-stands c = λ x h. rw (c.in-Forwarded.is, c.empty.ensures.emptied) (record { number = h.number; peer = h.peer; mark = refl; phase = (refl, refl) })
+
+pub returns-in-Silent-clause-stands : goal.returns-in-Silent-clause-stands
+unfolding settled
+returns-in-Silent-clause-stands c = λ x h. rw (c.in-Silent.is, c.empty-in-Silent.ensures.emptied) (record { number = h.number; peer = h.peer; mark = refl; phase = (refl, refl) })

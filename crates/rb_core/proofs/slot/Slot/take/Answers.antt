@@ -1,10 +1,14 @@
-use Rattle.std.proofs.Common.{◌≡◌, [], ◌∷◌, true, false, List, ℕ, length, eqb, arith, inl, inr, refl, sym, ap, ◌∙◌}
+use Rattle.std.proofs.Common.{◌≡◌, ◌⊎◌, [], ◌∷◌, true, false, List, ℕ, length, eqb, arith, inl, inr, refl, sym, ap, ◌∙◌}
 use Rattle.std.proofs.lemmas.Bool.Decides.{nat_tests}
-use Rattle.rb_core.specs.Connections.{taking_on, fed_in}
+use Rattle.rb_xdr.specs.Kept.{Kept}
+use Rattle.rb_core.specs.declared.slot.Stage.{Stage}
+use Rattle.rb_core.specs.declared.slot.Stage.TheVariants as stages
+use Rattle.rb_core.specs.State.{Phase}
+use Rattle.rb_core.specs.Connections.{taking, taking_on, fed_in}
 use Rattle.rb_core.specs.Connections.Taking.{TakesNone}
-use Rattle.rb_core.specs.Slots.{IsBeforePiece}
+use Rattle.rb_core.specs.Slots.{StandsForPhase, IsBeforePiece}
 use Rattle.rb_core.proofs.Slots.{reads_nothing}
-use Rattle.rb_core.proofs.OneSlot.{idle_phase, reading_phase, owing_phase, lost_phase, feeding_acts, nothing_of_nothing, nothing_where_owing, nothing_where_lost, some_where_fed, mark_of_idle, mark_of_reading}
+use Rattle.rb_core.proofs.OneSlot.{idle_phase, reading_phase, owing_phase, awaiting_phase, lost_phase, feeding_acts, taken_arguments, nothing_of_nothing, nothing_where_owing, nothing_where_awaiting, nothing_where_lost, some_where_fed, mark_of_idle, mark_of_reading}
 use Rattle.rb_core.proofs.slot.Slot.take.Goals as goal
 
 no_bytes : (piece : List ℕ) → eqb (length piece) 0 ≡ true → piece ≡ []
@@ -35,7 +39,7 @@ returns-in-Idle-clause-acts c =
       number = h.number;
       peer = h.peer;
       mark = sym (mark_of_idle c.args.clock x.mark x.phase p.0);
-      reads = reads_nothing c.new.result _ c.new.ensures.marks c.new.ensures.head p.1 c.requires.buffer_cap;
+      reads = reads_nothing c.new.result _ c.new.ensures.marks c.new.ensures.head p.1 c.requires.buffers.buffer_cap;
       window = p.2;
     } in
     record {
@@ -59,14 +63,48 @@ returns-in-Reading-clause-acts c =
       stands = c.feed-in-Reading.ensures.stands x p.0 before;
     })
 
+nothing_where : (stage : Stage) (buffer window : Kept) (phase : Phase) (piece : List ℕ) → ((given : ℕ) × (stage ≡ stages.Owing given)) ⊎ ((stage ≡ stages.Awaiting) ⊎ (stage ≡ stages.Lost)) → StandsForPhase stage buffer window phase → taking phase piece ≡ TakesNone
+nothing_where stage buffer window phase piece (inl o) h = let p = owing_phase o.0 stage buffer window phase o.1 h in nothing_where_owing phase p.0 piece p.1
+nothing_where stage buffer window phase piece (inr (inl a)) h = nothing_where_awaiting phase piece (awaiting_phase stage buffer window phase a h)
+nothing_where stage buffer window phase piece (inr (inr l)) h = nothing_where_lost phase piece (lost_phase stage buffer window phase l h)
+
 pub returns-in-Owing-clause-acts : goal.returns-in-Owing-clause-acts
 returns-in-Owing-clause-acts c =
     feeding_acts c.args.self.now _ c.args.clock c.args.piece.now _ (λ x h. record {
       taken = TakesNone;
-      is = elim c.in-Owing.is [
-        | inl o ↦ (let p = owing_phase o.0 _ _ _ x.phase o.1 h.phase in nothing_where_owing x.phase p.0 c.args.piece.now p.1)
-        | inr l ↦ nothing_where_lost x.phase c.args.piece.now (lost_phase _ _ _ x.phase l h.phase)
-      ];
+      is = nothing_where c.args.self.now.stage _ _ x.phase c.args.piece.now c.in-Owing.is h.phase;
       gives = c.nothing-in-Owing.ensures;
       stands = h;
     })
+
+pub returns-then-is_empty-clause-arguments : goal.returns-then-is_empty-clause-arguments
+returns-then-is_empty-clause-arguments c = λ x h.
+    let piece = c.args.piece.now in
+    let nothing = no_bytes piece (sym c.is_empty.ensures ∙ c.if-is_empty.true) in
+    taken_arguments _ _ piece x TakesNone (rw nothing (nothing_of_nothing x.phase)) refl
+
+pub returns-in-Idle-clause-arguments : goal.returns-in-Idle-clause-arguments
+returns-in-Idle-clause-arguments c = λ x h.
+    let piece = c.args.piece.now in
+    let some = some_bytes piece (sym c.is_empty.ensures ∙ c.if-is_empty.false) in
+    let p = idle_phase _ _ _ x.phase c.in-Idle.is h.phase in
+    let before : IsBeforePiece _ c.new.result c.args.clock x [] = record {
+      number = h.number;
+      peer = h.peer;
+      mark = sym (mark_of_idle c.args.clock x.mark x.phase p.0);
+      reads = reads_nothing c.new.result _ c.new.ensures.marks c.new.ensures.head p.1 c.requires.buffers.buffer_cap;
+      window = p.2;
+    } in
+    taken_arguments _ _ piece x (taking_on [] piece) (some_where_fed x.phase [] piece (ap fed_in p.0) some) (c.feed.ensures.arguments x [] before)
+
+pub returns-in-Reading-clause-arguments : goal.returns-in-Reading-clause-arguments
+returns-in-Reading-clause-arguments c = λ x h.
+    let piece = c.args.piece.now in
+    let some = some_bytes piece (sym c.is_empty.ensures ∙ c.if-is_empty.false) in
+    let p = reading_phase c.in-Reading.reader _ _ _ x.phase c.in-Reading.is h.phase in
+    let before : IsBeforePiece _ c.in-Reading.reader c.args.clock x p.0 = record { number = h.number; peer = h.peer; mark = h.mark ∙ sym (mark_of_reading c.args.clock x.mark x.phase p.0 p.1); reads = p.2; window = p.3 } in
+    taken_arguments _ _ piece x (taking_on p.0 piece) (some_where_fed x.phase p.0 piece (ap fed_in p.1) some) (c.feed-in-Reading.ensures.arguments x p.0 before)
+
+pub returns-in-Owing-clause-arguments : goal.returns-in-Owing-clause-arguments
+returns-in-Owing-clause-arguments c = λ x h.
+    taken_arguments _ _ c.args.piece.now x TakesNone (nothing_where c.args.self.now.stage _ _ x.phase c.args.piece.now c.in-Owing.is h.phase) refl

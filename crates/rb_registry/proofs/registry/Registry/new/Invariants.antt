@@ -1,16 +1,23 @@
-use Rattle.std.proofs.Common.{◌≡◌, ◌+◌, length}
+use Rattle.std.proofs.Common.{◌≡◌, ◌+◌, ◌++◌, length, []}
+use Rattle.std.specs.Array.Iter.{array_into_iter_items}
 use Rattle.std.specs.Map.{values_of}
-use Rattle.rb_xdr.specs.Pool.{HasDistinctKeys}
+use Rattle.rb_registry.specs.Slots.{slots_from}
+use Rattle.rb_registry.specs.Table.{IsTable, table_at, removals}
 use Rattle.rb_registry.proofs.registry.Registry.new.Given as goal
 
 abbrev pub invariant-own : goal.invariant-own
 invariant-own l = record {
   can_next : (goal.iterator-own).can_next l.row-iterator;
   finite : (goal.iterator-own).is_finite l.row-iterator;
-  distinct : HasDistinctKeys l.rows.entries;
-  rows : values_of l.rows.entries ≡ l.yielded;
-  cap : l.rows.cap ≡ l.fn.cap;
-  tie : l.rows.tie ≡ l.fn.meter.tie;
+  left : l.yielded ++ array_into_iter_items l.row-iterator ≡ l.fn.own_rows;
+  table : IsTable 0 0 l.slots.cap l.held l.slots.entries;
+  slots : values_of l.slots.entries ≡ slots_from 0 l.yielded [];
+  dead : removals l.slots.entries ≡ [];
+  counted : length (values_of (table_at 0 l.slots.entries)) + length (removals l.slots.entries) ≡ length l.slots.entries;
+  count : length l.slots.entries ≡ length l.yielded;
+  rows : values_of (table_at 0 l.slots.entries) ≡ l.yielded;
+  cap : l.slots.cap ≡ l.fn.cap;
+  tie : l.slots.tie ≡ l.fn.meter.tie;
   meter : l.meter.tie ≡ l.fn.meter.tie;
   steps : l.meter.steps ≡ l.fn.meter.steps + length l.yielded;
 }

@@ -1,0 +1,42 @@
+-- Whether a connection is due, by its slot.
+use Rattle.std.proofs.Common.{◌≡◌, ℕ, refl}
+use Rattle.rb_xdr.specs.Kept.{Kept}
+use Rattle.rb_core.specs.declared.slot.Slot.{Slot}
+use Rattle.rb_core.specs.declared.slot.Stage.{Stage}
+use Rattle.rb_core.specs.declared.slot.Stage.TheVariants as stages
+use Rattle.rb_core.specs.State.{Phase, Connection}
+use Rattle.rb_core.specs.State.Phase.{Idle, Reading, Owing, Awaiting, Lost}
+use Rattle.rb_core.specs.Deadlines.{time_in, is_due, is_due_slot, phase_like}
+use Rattle.rb_core.specs.Slots.{StandsForConnection, StandsForPhase}
+
+pub time_as_stage : (stage : Stage) (buffer window : Kept) (phase : Phase) → StandsForPhase stage buffer window phase
+    → time_in (phase_like stage) ≡ time_in phase
+time_as_stage stages.Idle buffer window Idle h = refl
+time_as_stage stages.Idle buffer window (Reading fed) h = absurd h
+time_as_stage stages.Idle buffer window (Owing o) h = absurd h
+time_as_stage stages.Idle buffer window Awaiting h = absurd h
+time_as_stage stages.Idle buffer window Lost h = absurd h
+time_as_stage (stages.Reading reader) buffer window Idle h = absurd h
+time_as_stage (stages.Reading reader) buffer window (Reading fed) h = refl
+time_as_stage (stages.Reading reader) buffer window (Owing o) h = absurd h
+time_as_stage (stages.Reading reader) buffer window Awaiting h = absurd h
+time_as_stage (stages.Reading reader) buffer window Lost h = absurd h
+time_as_stage (stages.Owing given) buffer window Idle h = absurd h
+time_as_stage (stages.Owing given) buffer window (Reading fed) h = absurd h
+time_as_stage (stages.Owing given) buffer window (Owing o) h = refl
+time_as_stage (stages.Owing given) buffer window Awaiting h = absurd h
+time_as_stage (stages.Owing given) buffer window Lost h = absurd h
+time_as_stage stages.Awaiting buffer window Idle h = absurd h
+time_as_stage stages.Awaiting buffer window (Reading fed) h = absurd h
+time_as_stage stages.Awaiting buffer window (Owing o) h = absurd h
+time_as_stage stages.Awaiting buffer window Awaiting h = refl
+time_as_stage stages.Awaiting buffer window Lost h = absurd h
+time_as_stage stages.Lost buffer window Idle h = absurd h
+time_as_stage stages.Lost buffer window (Reading fed) h = absurd h
+time_as_stage stages.Lost buffer window (Owing o) h = absurd h
+time_as_stage stages.Lost buffer window Awaiting h = absurd h
+time_as_stage stages.Lost buffer window Lost h = refl
+
+pub due_alike : (clock : ℕ) (slot : Slot) (c : Connection) → StandsForConnection slot c → is_due_slot clock slot ≡ is_due clock c
+unfolding is_due_slot is_due
+due_alike clock slot c h = rw (h.mark, time_as_stage slot.stage slot.buffer slot.window c.phase h.phase) refl

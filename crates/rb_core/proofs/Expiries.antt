@@ -1,0 +1,37 @@
+-- A core that stands for a state stands for it once the due connection is Lost.
+use Rattle.std.proofs.Common.{◌≡◌, ℕ, Option, Some, None, refl, ap, ◌∙◌}
+use Rattle.rb_core.specs.declared.types.Expired.{Expired}
+use Rattle.rb_core.specs.declared.types.Told.{Told}
+use Rattle.rb_core.specs.State.{State}
+use Rattle.rb_core.specs.Deadlines.{expiring}
+use Rattle.rb_core.specs.Ending.{closed_as, expire_connection, expired_as}
+use Rattle.rb_core.specs.Slots.{Acts, Table, StandsForConnections, StaysTable}
+use Rattle.rb_core.specs.StandsFor.{Held, StandsFor}
+
+pub due_closed : (old : Held) (table : Table) (found : Option ℕ) (result : Expired) → result ≡ closed_as found → StaysTable old.connections table
+    → Acts StandsForConnections (expiring old.clock) old.connections table found → Acts StandsFor expire_connection old (record old { connections = table }) result
+unfolding expire_connection
+due_closed old table found result is stays acts = record {
+  gives = λ s h. is ∙ ap closed_as (acts.gives s.connections h.connections) ∙ rw h.clock refl;
+  stands = λ s h. record {
+    setting = h.setting;
+    clock = h.clock;
+    conns = stays.conns ∙ h.conns;
+    connections = rw (← h.clock) (acts.stands s.connections h.connections);
+    limit = h.limit;
+    ledger = h.ledger;
+    forwards = h.forwards;
+    first_xid = h.first_xid;
+    reply = h.reply;
+    arguments = h.arguments;
+  };
+}
+
+-- where no entry ended, and this came of the connections
+pub none_ended_then : (old mid new : Held) (act : State → Option Told × State) (result : Expired) → Acts StandsFor act old mid None → Acts StandsFor expire_connection mid new result
+    → Acts StandsFor (λ s. expired_as (act s)) old new result
+none_ended_then old mid new act result acts then = record { gives = λ s h. (goes (act s) (acts.gives s h) (acts.stands s h)).0; stands = λ s h. (goes (act s) (acts.gives s h) (acts.stands s h)).1 }
+  where
+    goes : (r : Option Told × State) → None ≡ r.0 → StandsFor mid r.1 → (result ≡ (expired_as r).0) × StandsFor new (expired_as r).1
+    goes (None, t) e z = (then.gives t z, then.stands t z)
+    goes (Some told, t) e z = absurd cc

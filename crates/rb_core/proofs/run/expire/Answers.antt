@@ -1,0 +1,34 @@
+use Rattle.std.proofs.Common.{◌+◌, ◌∙◌, arith}
+use Rattle.rb_core.specs.Costs.{ended_cost}
+use Rattle.rb_core.specs.Step.{step}
+use Rattle.rb_core.specs.Ending.{expire}
+use Rattle.rb_core.proofs.RunSteps.{expired_shown, nothing_shown, closed_shown, one_then_other}
+use Rattle.rb_core.proofs.Spending.{by_both, at_most}
+use Rattle.rb_core.proofs.run.expire.Goals as goal
+
+pub returns-in-Ended-clause-ok : goal.returns-in-Ended-clause-ok
+unfolding step
+returns-in-Ended-clause-ok c = record {
+  step = λ s h. expired_shown (λ t. expire t c.args.now) c.args.core.now c.expire.new.self c.in-Ended.told _ c.in-Ended.ensures.acts c.show_told.ensures.told s h;
+  cost = λ s h. by_both (λ n m. ended_cost m n + 9001) c.args.core.now s _ _ h (one_then_other _ _ _ _ _ c.in-Ended.ensures.cost c.show_told.ensures.cost);
+  tie = c.in-Ended.ensures.tie;
+  meter = c.show_told.ensures.cost.tie ∙ c.in-Ended.ensures.cost.tie;
+}
+
+pub returns-in-Nothing-clause-ok : goal.returns-in-Nothing-clause-ok
+unfolding step
+returns-in-Nothing-clause-ok c = record {
+  step = λ s h. nothing_shown (λ t. expire t c.args.now) c.args.core.now c.expire.new.self c.in-Nothing.ensures.acts s h;
+  cost = λ s h. by_both (λ n m. ended_cost m n + 9001) c.args.core.now s _ _ h (at_most _ _ _ _ (omega arith) c.in-Nothing.ensures.cost);
+  tie = c.in-Nothing.ensures.tie;
+  meter = c.in-Nothing.ensures.cost.tie;
+}
+
+pub returns-in-ConnectionClosed-clause-ok : goal.returns-in-ConnectionClosed-clause-ok
+unfolding step
+returns-in-ConnectionClosed-clause-ok c = record {
+  step = λ s h. closed_shown (λ t. expire t c.args.now) c.args.core.now c.expire.new.self c.in-ConnectionClosed.id c.in-ConnectionClosed.ensures.acts s h;
+  cost = λ s h. by_both (λ n m. ended_cost m n + 9001) c.args.core.now s _ _ h (at_most _ _ _ _ (omega arith) c.in-ConnectionClosed.ensures.cost);
+  tie = c.in-ConnectionClosed.ensures.tie;
+  meter = c.in-ConnectionClosed.ensures.cost.tie;
+}

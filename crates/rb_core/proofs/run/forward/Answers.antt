@@ -1,0 +1,25 @@
+use Rattle.std.proofs.Common.{◌+◌, ◌∙◌, arith}
+use Rattle.rb_core.specs.Costs.{ended_cost}
+use Rattle.rb_core.specs.Step.{step}
+use Rattle.rb_core.specs.Ending.{forward_reply}
+use Rattle.rb_core.proofs.RunSteps.{end_shown, none_shown, one_then_other}
+use Rattle.rb_core.proofs.Spending.{by_both, at_most}
+use Rattle.rb_core.proofs.run.forward.Goals as goal
+
+pub returns-in-Some-clause-ok : goal.returns-in-Some-clause-ok
+unfolding step
+returns-in-Some-clause-ok c = record {
+  step = λ s h. end_shown (λ t. forward_reply t c.args.now c.args.from c.args.message.now) c.args.core.now c.forward_reply.new.self c.in-Some.told _ c.in-Some.ensures.acts c.show_told.ensures.told s h;
+  cost = λ s h. by_both (λ n m. ended_cost m n + 9001) c.args.core.now s _ _ h (one_then_other _ _ _ _ _ c.in-Some.ensures.cost c.show_told.ensures.cost);
+  tie = c.in-Some.ensures.tie;
+  meter = c.show_told.ensures.cost.tie ∙ c.in-Some.ensures.cost.tie;
+}
+
+pub returns-in-None-clause-ok : goal.returns-in-None-clause-ok
+unfolding step
+returns-in-None-clause-ok c = record {
+  step = λ s h. none_shown (λ t. forward_reply t c.args.now c.args.from c.args.message.now) c.args.core.now c.forward_reply.new.self c.in-None.ensures.acts s h;
+  cost = λ s h. by_both (λ n m. ended_cost m n + 9001) c.args.core.now s _ _ h (at_most _ _ _ _ (omega arith) c.in-None.ensures.cost);
+  tie = c.in-None.ensures.tie;
+  meter = c.in-None.ensures.cost.tie;
+}

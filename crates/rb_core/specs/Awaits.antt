@@ -1,0 +1,76 @@
+-- Which connections could begin a forwarded call: those that are not open yet, and those that await none.
+use Rattle.std.specs.Prelude.{◌≡◌, ⊤, ℕ, ◌==◌, nat_lt, not, Bool, true, false, ◌&&◌, ◌||◌, IfSome, Result, IfOk}
+use Rattle.std.specs.List.{list_any}
+use Rattle.std.specs.Map.{values_of}
+use Rattle.rb_forward.specs.Table.{Table as Entries, slots_of, is_waiting}
+use Rattle.rb_proto.specs.declared.answers.Answer.{Answer}
+use Rattle.rb_proto.specs.declared.answers.Answer.TheVariants as answers
+use Rattle.rb_core.specs.declared.slot.Slot.{Slot}
+use Rattle.rb_core.specs.declared.slot.Stage.{Stage}
+use Rattle.rb_core.specs.declared.slot.Stage.TheVariants as stages
+use Rattle.rb_core.specs.declared.slot.Received.{Received}
+use Rattle.rb_core.specs.declared.types.CoreFault.{CoreFault}
+use Rattle.rb_core.specs.declared.types.Outcome.{Outcome}
+use Rattle.rb_core.specs.declared.types.Outcome.TheVariants as outcomes
+use Rattle.rb_core.specs.Slots.{Table, is_lost_stage}
+
+abbrev pub is_awaiting_stage : Stage → Bool
+is_awaiting_stage stages.Awaiting = true
+is_awaiting_stage stages.Idle = false
+is_awaiting_stage (stages.Reading reader) = false
+is_awaiting_stage (stages.Owing given) = false
+is_awaiting_stage stages.Lost = false
+
+-- it has this number and awaits no forwarded call
+abbrev pub is_free_slot : ℕ → Slot → Bool
+is_free_slot id slot = slot.number == id && not (is_awaiting_stage slot.stage)
+
+-- the connection of this number is not open yet, or awaits no forwarded call
+unfoldable pub is_free : ℕ → Table → Bool
+is_free id table = nat_lt table.given id || list_any (is_free_slot id) (values_of table.slots)
+
+-- it is open and not Lost
+abbrev pub is_live_slot : ℕ → Slot → Bool
+is_live_slot id slot = slot.number == id && not (is_lost_stage slot.stage)
+
+unfoldable pub has_live : ℕ → Table → Bool
+has_live id table = list_any (is_live_slot id) (values_of table.slots)
+
+-- No connection is free for which a call is forwarded.
+abbrev pub AreAwaited : Entries → Table → Type 0
+AreAwaited entries table = (id : ℕ) → is_waiting id (slots_of entries) ≡ true → is_free id table ≡ false
+
+-- no connection is free that was not so before
+abbrev pub NoneIsFreed : Table → Table → Type 0
+NoneIsFreed old new = (id : ℕ) → is_free id old ≡ false → is_free id new ≡ false
+
+-- or it is the one of this number
+abbrev pub OnlyIsFreed : ℕ → Table → Table → Type 0
+OnlyIsFreed number old new = (id : ℕ) → (id == number) ≡ false → is_free id old ≡ false → is_free id new ≡ false
+
+-- A record ended on it: it awaited no forwarded call, and is not Lost.
+pub record HearsSlot (old new : Slot) : Type 0 where
+  pub awaited_none : is_awaiting_stage old.stage ≡ false
+  pub not_lost : is_lost_stage new.stage ≡ false
+
+-- A record ended on a connection that was free, and is live.
+pub record HeardFrom (id : ℕ) (old new : Table) : Type 0 where
+  pub was_free : is_free id old ≡ true
+  pub is_live : has_live id new ≡ true
+
+abbrev pub HearsFree : ℕ → Table → Table → Result Received CoreFault → Type 0
+HearsFree id old new result = IfOk result (λ got. IfSome got.heard (λ heard. HeardFrom id old new))
+
+-- what the code says of an answer
+abbrev pub kind_of : Answer → Outcome
+kind_of (answers.Results results) = outcomes.Reply
+kind_of (answers.Refused status) = outcomes.Reply
+kind_of answers.Forwarded = outcomes.Forwarded
+kind_of answers.Silent = outcomes.Silent
+
+-- no outcome of a call but this one leaves a new entry
+abbrev pub StayUnlessForwarded : Outcome → Entries → Entries → Type 0
+StayUnlessForwarded outcomes.NoCall old new = new ≡ old
+StayUnlessForwarded outcomes.Reply old new = new ≡ old
+StayUnlessForwarded outcomes.Forwarded old new = ⊤
+StayUnlessForwarded outcomes.Silent old new = new ≡ old

@@ -1,0 +1,102 @@
+//! Calls that are forwarded to a socket of the test.
+use crate::client::{Caller, Client};
+use crate::datagrams::answers;
+use crate::messages::{bytes_of, null_reply};
+use crate::turns::Host;
+use std::test::Fail;
+
+/// Where the target of forwarded calls listens: 20,119 is 78 times 256, and 151.
+const TARGET: u16 = 20_119;
+
+/// The words of the address 127.0.0.1.78.151 as a string, and of no results behind it.
+const AT_TARGET: [u32; 6] = [16, 0x3132_372e, 0x302e_302e, 0x312e_3738, 0x2e31_3531, 0];
+
+/// The program 200001 version 1 listens at the target.
+fn sets_target(rt: &HostRuntime, host: &mut Host<'_>, caller: &mut Caller) -> Option<bool> {
+    let set = [1, 0, 2, 100_000, 2, 1, 0, 0, 0, 0, 200_001, 1, 17, 20_119];
+    answers(rt, host, caller, &set, &[1, 1, 0, 0, 0, 0, 1])
+}
+
+/// The target answers the call of 40 bytes with a reply without results.
+fn target_answers(rt: &HostRuntime, host: &mut Host<'_>, target: &mut Caller) -> Option<bool> {
+    target.receive(host);
+    let xid = target.first_word_of(40)?;
+    Some(target.answer(&bytes_of(rt.alloc(), &null_reply(xid)).ok()?))
+}
+
+/// An INDIRECT reaches its target, and what the target answers reaches the caller.
+fn forwards_a_call(rt: &HostRuntime, host: &mut Host<'_>) -> Option<bool> {
+    let mut caller = Caller::new(rt, 0)?;
+    let mut target = Caller::new(rt, TARGET)?;
+    let indirect = [15, 0, 2, 100_000, 4, 10, 0, 0, 0, 0, 200_001, 1, 0, 0];
+    let is_set = sets_target(rt, host, &mut caller)?;
+    let is_sent = caller.send(&bytes_of(rt.alloc(), &indirect).ok()?);
+    let is_answered = target_answers(rt, host, &mut target)?;
+    caller.receive(host);
+    let reply = bytes_of(rt.alloc(), &passed_reply()).ok()?;
+    Some(is_set && is_sent && is_answered && caller.got_just(&reply) && host.is_well())
+}
+
+fn passed_reply() -> [u32; 12] {
+    let [xid, mtype, stat, flavor, len, status] = null_reply(15);
+    let [size, a, b, c, d, results] = AT_TARGET;
+    [
+        xid, mtype, stat, flavor, len, status, size, a, b, c, d, results,
+    ]
+}
+
+#[test]
+fn indirect_is_passed_back(rt: HostRuntime) -> Result<(), Fail> {
+    let mut host = Host::new(&rt, 1).ok_or("no daemon")?;
+    assert_eq!(rt; forwards_a_call(&rt, &mut host), Some(true));
+    Ok(())
+}
+
+/// So does an INDIRECT over TCP, whose connection waits meanwhile, and goes on with the call that came behind it.
+fn forwards_over_tcp(rt: &HostRuntime, host: &mut Host<'_>) -> Option<bool> {
+    let mut caller = Caller::new(rt, 0)?;
+    let mut target = Caller::new(rt, TARGET)?;
+    let mut client = Client::new(rt)?;
+    let is_set = sets_target(rt, host, &mut caller)?;
+    let is_sent = client.send(&bytes_of(rt.alloc(), &TWO_CALLS).ok()?);
+    let is_answered = target_answers(rt, host, &mut target)?;
+    client.receive(host, 80);
+    Some(is_set && is_sent && is_answered && client.len() == 80 && host.is_well())
+}
+
+/// An INDIRECT in a record of 56 bytes, and a NULL call in one of 40.
+const TWO_CALLS: [u32; 26] = [
+    0x8000_0038,
+    15,
+    0,
+    2,
+    100_000,
+    4,
+    10,
+    0,
+    0,
+    0,
+    0,
+    200_001,
+    1,
+    0,
+    0,
+    0x8000_0028,
+    16,
+    0,
+    2,
+    100_000,
+    4,
+    0,
+    0,
+    0,
+    0,
+    0,
+];
+
+#[test]
+fn connection_waits_for_indirect(rt: HostRuntime) -> Result<(), Fail> {
+    let mut host = Host::new(&rt, 1).ok_or("no daemon")?;
+    assert_eq!(rt; forwards_over_tcp(&rt, &mut host), Some(true));
+    Ok(())
+}

@@ -1,0 +1,140 @@
+-- Calls are forwarded to rows.
+use Rattle.std.proofs.Common.{◌≡◌, ℕ, suc, Bool, true, false, cond, eqb, ◌&&◌, eq-eqb, List, [], ◌∷◌, Option, Some, None, refl, sym, ap, subst, ◌∙◌, arith}
+use Rattle.std.specs.Prelude.{◌≢◌, find, Contains, option_and_then}
+use Rattle.std.proofs.lemmas.Bool.{eqb-true}
+use Rattle.std.proofs.lemmas.Option.{none-some, same_Some}
+use Rattle.rb_rpc.specs.declared.reply.ReplyStatus.{ReplyStatus}
+use Rattle.rb_rpc.specs.declared.reply.ReplyStatus.TheVariants as replies
+use Rattle.rb_uaddr.specs.declared.address.Uaddr.{Uaddr}
+use Rattle.rb_uaddr.specs.declared.address.Uaddr.TheVariants.{V4}
+use Rattle.rb_uaddr.specs.Uaddr.{parse, merged}
+use Rattle.rb_uaddr.proofs.GrammarLaws.{merges_any_host}
+use Rattle.rb_registry.specs.declared.row.Netid.{Netid}
+use Rattle.rb_registry.specs.declared.row.Netid.TheVariants.{Tcp, Udp}
+use Rattle.rb_registry.specs.declared.row.Row.{Row}
+use Rattle.rb_registry.specs.Rows.{rpcb_prog, is_netid, is_on, is_row, find_exact}
+use Rattle.rb_forward.specs.declared.types.Forward.{Forward}
+use Rattle.rb_forward.specs.declared.types.Kind.{Kind}
+use Rattle.rb_forward.specs.declared.types.Kind.TheVariants.{Callit2, Callit3, Bcast, Indirect}
+use Rattle.rb_forward.specs.Forwards.{can_start, started}
+use Rattle.rb_proto.specs.declared.answers.Answer.{Answer}
+use Rattle.rb_proto.specs.declared.answers.Answer.TheVariants as answers
+use Rattle.rb_proto.specs.declared.context.Context.{Context}
+use Rattle.rb_proto.specs.declared.remote.RemoteCall.{RemoteCall}
+use Rattle.rb_proto.specs.Remote.{args_of}
+use Rattle.rb_proto.specs.Ledger.{Ledger, rows_in}
+use Rattle.rb_proto.specs.Forwarding.{peer_at, refusal, refuse, address_to_forward, forward_of, forward_to, forward_call}
+use Rattle.rb_proto.specs.ForwardLaws.{IsRegisteredAt, StandsInForAny, AsksRegistered, ForwardsGoToRows}
+
+-- ---- the row
+
+found_here : (test : Row → Bool) (rows : List Row) (row : Row) → find test rows ≡ Some row → Contains rows row × (test row ≡ true)
+found_here test [] row h = absurd (none-some row h)
+found_here test (x ∷ rows) row h = by_cases (test x) refl (found_here test rows row)
+  where
+    by_cases : (t : Bool) → test x ≡ t → (find test rows ≡ Some row → Contains rows row × (test row ≡ true)) → Contains (x ∷ rows) row × (test row ≡ true)
+    by_cases true t further =
+        let same : x ≡ row = same_Some x row (rw t at h) in
+        ((0, omega arith, same), subst (λ (r : Row). test r ≡ true) same t)
+    by_cases false t further = let l = further (rw t at h) in ((suc l.0.0, omega (arith, l.0.1), l.0.2), l.1)
+
+both : (a b : Bool) → (a && b) ≡ true → (a ≡ true) × (b ≡ true)
+both true b h = (refl, h)
+both false b h = absurd cc
+
+udp_is : (netid : Netid) → is_netid netid Udp ≡ true → netid ≡ Udp
+unfolding is_netid
+udp_is Tcp h = absurd cc
+udp_is Udp h = refl
+
+-- program, version and netid of a row that is_row finds
+row_is : (prog vers : ℕ) (row : Row) → is_row prog vers Udp row ≡ true → (row.prog ≡ prog) × (row.vers ≡ vers) × (row.netid ≡ Udp)
+unfolding is_row is_on
+row_is prog vers row h =
+    let whole = both (eqb row.prog prog && is_netid row.netid Udp) (eqb row.vers vers) h in
+    let front = both (eqb row.prog prog) (is_netid row.netid Udp) whole.0 in
+    (eqb-true row.prog prog front.0, eqb-true row.vers vers whole.1, udp_is row.netid front.1)
+
+module _ (remote : RemoteCall) (rows : List Row) (host : List ℕ) (port : ℕ) where
+  by_row : remote.prog ≢ rpcb_prog → (o : Option Row) → find_exact remote.prog remote.vers Udp rows ≡ o
+      → option_and_then (λ (row : Row). parse row.addr) o ≡ Some (V4 host port) → IsRegisteredAt rows remote host port
+  unfolding find_exact
+  by_row other None found is = absurd (none-some (V4 host port) is)
+  by_row other (Some row) found is =
+      let here = found_here (is_row remote.prog remote.vers Udp) rows row found in
+      let has = row_is remote.prog remote.vers row here.1 in
+      record { row = row; is_there = here.0; prog = has.0; vers = has.1; netid = has.2; addr = is; is_other = other }
+
+  registered : address_to_forward remote.prog remote.vers rows ≡ Some (V4 host port) → IsRegisteredAt rows remote host port
+  unfolding address_to_forward
+  registered is = by_prog (eqb remote.prog rpcb_prog) refl is
+    where
+      by_prog : (b : Bool) → eqb remote.prog rpcb_prog ≡ b
+          → cond b None (option_and_then (λ (row : Row). parse row.addr) (find_exact remote.prog remote.vers Udp rows)) ≡ Some (V4 host port)
+          → IsRegisteredAt rows remote host port
+      by_prog true own is = absurd (none-some (V4 host port) is)
+      by_prog false own is =
+          by_row (λ same. let clash : true ≡ false = sym (eq-eqb remote.prog rpcb_prog same) ∙ own in absurd cc)
+          (find_exact remote.prog remote.vers Udp rows) refl is
+
+-- ---- the hosts
+
+stands_in : (other host : List ℕ) (port : ℕ) → StandsInForAny other host (peer_at (merged other (V4 host port))).host
+stands_in other host port = (
+  λ any. ap (λ (own : List ℕ). (peer_at (merged other (V4 own port))).host) any ∙ ap (λ (u : Uaddr). (peer_at u).host) (merges_any_host.replaced other port),
+  λ set. ap (λ (u : Uaddr). (peer_at u).host) (merges_any_host.kept other host port set),
+)
+
+port_stays : (other host : List ℕ) (port : ℕ) → (peer_at (merged other (V4 host port))).port ≡ port
+unfolding merged
+port_stays other host port = refl
+
+-- ---- the law
+
+refusal_is_none : (kind : Kind) (status : ReplyStatus) → refusal kind status ≡ answers.Forwarded → ⊥
+refusal_is_none Callit2 status e = absurd cc
+refusal_is_none Callit3 status e = absurd cc
+refusal_is_none Bcast status e = absurd cc
+refusal_is_none Indirect status e = absurd cc
+
+module _ (context : Context) (xid : ℕ) (kind : Kind) (remote : RemoteCall) (l : Ledger) where
+  asks : (host : List ℕ) (port : ℕ) → address_to_forward remote.prog remote.vers (rows_in l) ≡ Some (V4 host port)
+      → AsksRegistered context (rows_in l) remote (forward_of context xid kind remote (V4 host port))
+  unfolding forward_of
+  asks host port is = record {
+    host = host;
+    port = port;
+    is_registered = registered remote (rows_in l) host port is;
+    target_host = stands_in _ host port;
+    target_port = port_stays _ host port;
+    shown_host = stands_in context.listener.host host port;
+    shown_port = port_stays context.listener.host host port;
+    prog = refl;
+    vers = refl;
+    proc = refl;
+    caller = refl;
+  }
+
+  -- what is told and left, as an entry of a row
+  abbrev Goes : List ℕ → Answer × Ledger → Type 0
+  Goes args given =
+      given.0 ≡ answers.Forwarded
+      → (forward : Forward) × AsksRegistered context (rows_in l) remote forward × (given.1 ≡ record l { forwards = started context.clock forward args l.forwards })
+
+  by_address : (args : List ℕ) (address : Option Uaddr) → address_to_forward remote.prog remote.vers (rows_in l) ≡ address
+      → Goes args (forward_to context xid kind remote args address l)
+  by_address args None is told = absurd (refusal_is_none kind replies.ProgUnavail told)
+  by_address args (Some (V4 host port)) is told = by_room (can_start context.forwards l.forwards) told
+    where
+      begun : Answer × Ledger
+      begun = (answers.Forwarded, record l { forwards = started context.clock (forward_of context xid kind remote (V4 host port)) args l.forwards })
+
+      by_room : (b : Bool) → Goes args (cond b begun (refuse context kind remote replies.SystemErr l))
+      by_room true told = (forward_of context xid kind remote (V4 host port), asks host port is, refl)
+      by_room false told = absurd (refusal_is_none kind replies.SystemErr told)
+
+pub forwards_go_to_rows : ForwardsGoToRows
+unfolding forward_call
+forwards_go_to_rows context xid kind remote arguments l told =
+    let goes = by_address context xid kind remote l (args_of remote arguments) (address_to_forward remote.prog remote.vers (rows_in l)) refl told in
+    record { forward = goes.0; asks = goes.1; left = goes.2 }

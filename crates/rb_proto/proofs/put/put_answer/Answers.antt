@@ -1,7 +1,0 @@
-use Rattle.rb_proto.proofs.Lists.{rows_result}
-use Rattle.rb_proto.specs.Results.{shown_in}
-use Rattle.rb_proto.proofs.put.put_answer.Goals as goal
-
-pub returns-in-Rows-clause-puts : goal.returns-in-Rows-clause-puts
-returns-in-Rows-clause-puts c =
-    rw (rows_result c.args.listener.now.host (shown_in c.args.books.now) c.in-Rows.list c.args.answer.now c.in-Rows.is) c.put_rows.ensures.puts

@@ -1,0 +1,84 @@
+-- Laws of forwarded calls.
+use Rattle.std.specs.Prelude.{◌≡◌, ◌≢◌, ℕ, ◌+◌, Bool, true, false, List, length, Some, Contains}
+use Rattle.std.specs.List.{count_by}
+use Rattle.rb_rpc.specs.declared.peer.Peer.{Peer}
+use Rattle.rb_uaddr.specs.declared.address.Uaddr.TheVariants.{V4}
+use Rattle.rb_uaddr.specs.Uaddr.{any_host, parse}
+use Rattle.rb_registry.specs.declared.row.Netid.TheVariants as netids
+use Rattle.rb_registry.specs.declared.row.Row.{Row}
+use Rattle.rb_registry.specs.Rows.{rpcb_prog}
+use Rattle.rb_stats.specs.Statistics.{Note}
+use Rattle.rb_stats.specs.Statistics.Note.{Forwarded}
+use Rattle.rb_forward.specs.declared.types.Kind.{Kind}
+use Rattle.rb_forward.specs.declared.types.Forward.{Forward}
+use Rattle.rb_forward.specs.Forwards.{started}
+use Rattle.rb_proto.specs.declared.answers.Answer.TheVariants as answers
+use Rattle.rb_proto.specs.declared.context.Context.{Context}
+use Rattle.rb_proto.specs.declared.remote.RemoteCall.{RemoteCall}
+use Rattle.rb_proto.specs.Remote.{args_of}
+use Rattle.rb_proto.specs.Ledger.{Ledger, rows_in}
+use Rattle.rb_proto.specs.Forwarding.{loopback, forward_call, replied, fell_due, caller_dropped, call_sent}
+
+-- ---- where calls go
+
+-- One of the rows is at this host and port: on udp, of exactly the program and version that are called, and none of the
+-- portmapper's own.
+pub record IsRegisteredAt (rows : List Row) (remote : RemoteCall) (host : List ℕ) (port : ℕ) : Type 0 where
+  pub row : Row
+  pub is_there : Contains rows row
+  pub prog : row.prog ≡ remote.prog
+  pub vers : row.vers ≡ remote.vers
+  pub netid : row.netid ≡ netids.Udp
+  pub addr : parse row.addr ≡ Some (V4 host port)
+  pub is_other : remote.prog ≢ rpcb_prog
+
+-- the host is another's in place of 0.0.0.0, else the one that was registered
+abbrev pub StandsInForAny : List ℕ → List ℕ → List ℕ → Type 0
+StandsInForAny other registered host = (registered ≡ any_host → host ≡ other) × (registered ≢ any_host → host ≡ registered)
+
+-- what is asked where, and what its caller is shown
+pub record AsksRegistered (context : Context) (rows : List Row) (remote : RemoteCall) (forward : Forward) : Type 0 where
+  pub host : List ℕ
+  pub port : ℕ
+  pub is_registered : IsRegisteredAt rows remote host port
+  pub target_host : StandsInForAny loopback host forward.target.host
+  pub target_port : forward.target.port ≡ port
+  pub shown_host : StandsInForAny context.listener.host host forward.shown.host
+  pub shown_port : forward.shown.port ≡ port
+  pub prog : forward.prog ≡ remote.prog
+  pub vers : forward.vers ≡ remote.vers
+  pub proc : forward.proc ≡ remote.proc
+  pub caller : forward.caller ≡ context.caller
+
+-- Where a call is forwarded, it goes to a row that is live as it comes, and nothing is left of it but the entry.
+pub record IsForwarded (context : Context) (xid : ℕ) (kind : Kind) (remote : RemoteCall) (arguments : List ℕ) (l : Ledger) : Type 0 where
+  pub forward : Forward
+  pub asks : AsksRegistered context (rows_in l) remote forward
+  pub left : (forward_call context xid kind remote arguments l).1 ≡ record l { forwards = started context.clock forward (args_of remote arguments) l.forwards }
+
+abbrev pub ForwardsGoToRows : Type 0
+ForwardsGoToRows =
+    (context : Context) (xid : ℕ) (kind : Kind) (remote : RemoteCall) (arguments : List ℕ) (l : Ledger)
+    → (forward_call context xid kind remote arguments l).0 ≡ answers.Forwarded → IsForwarded context xid kind remote arguments l
+
+-- ---- what is noted
+
+abbrev pub is_outcome : Note → Bool
+is_outcome (Forwarded version target proc passed indirect) = true
+is_outcome _ = false
+
+-- the calls whose outcome was noted, and those that wait
+abbrev pub asked_so_far : Ledger → ℕ
+asked_so_far l = count_by is_outcome l.history + length l.forwards.all
+
+-- One more call counts where it comes, whether it is refused or waits, and none where one is sent or ends.
+pub record IsNotedOnce (l : Ledger) : Type 0 where
+  pub comes : (context : Context) (xid : ℕ) (kind : Kind) (remote : RemoteCall) (arguments : List ℕ) → asked_so_far (forward_call context xid kind remote arguments l).1 ≡ asked_so_far l + 1
+  pub is_sent : (number : ℕ) → asked_so_far (call_sent number l) ≡ asked_so_far l
+  pub is_answered : (first_xid clock : ℕ) (from : Peer) (message : List ℕ) → asked_so_far (replied first_xid clock from message l).1 ≡ asked_so_far l
+  pub falls_due : (clock : ℕ) → asked_so_far (fell_due clock l).1 ≡ asked_so_far l
+  pub is_dropped : (id : ℕ) → asked_so_far (caller_dropped id l).1 ≡ asked_so_far l
+
+-- Each call that asks for another is noted once, at its outcome.
+abbrev pub ForwardsAreNotedOnce : Type 0
+ForwardsAreNotedOnce = (l : Ledger) → IsNotedOnce l

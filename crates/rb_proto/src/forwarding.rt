@@ -1,0 +1,223 @@
+//! Calls that are forwarded (RFC 1833 sections 2.2.1 and 3.2).
+ghost use Rattle.std.specs.Prelude.{◌≡◌, ◌+◌, ◌*◌, length};
+ghost use Rattle.rb_xdr.specs.Meter.{PaysAtMost};
+ghost use Rattle.rb_registry.specs.Registry.{rows_of, slots_of as row_slots};
+ghost use Rattle.rb_stats.specs.Stats.{HasNoted};
+ghost use Rattle.rb_forward.specs.Table.{slots_of, IsNew, OnlyWaitsAnew};
+ghost use Rattle.rb_proto.specs.Callers.{netid_of};
+ghost use Rattle.rb_proto.specs.Ledger.{ActsAs, AreTied, SameFrame};
+ghost use Rattle.rb_proto.specs.Remote.{HasContent};
+ghost use Rattle.rb_proto.specs.Forwarding.{version_of_kind, is_indirect, is_pass, peer_at, address_to_forward, forward_of, refusal, refuse, forward_call, StayUnlessForwarded, outcome_note, end_note};
+ghost use Rattle.rb_proto.specs.Puts.{note_cost, call_cost};
+
+use crate::answers::Answer;
+use crate::books::Books;
+use crate::context::{Context, netid_of};
+use crate::remote::RemoteCall;
+use rb_forward::{Ended, Forward, Kind, Outcome};
+use rb_registry::{Netid, RPCB_PROG, Registry};
+use rb_rpc::{Caller, Peer, ReplyStatus};
+use rb_stats::{Stats, Target, Version};
+use rb_uaddr::Uaddr;
+use rb_xdr::Meter;
+
+/// Where a call to every host of the listener goes.
+const LOOPBACK: [u8; 4] = [127, 0, 0, 1];
+
+fn version_of_kind(kind: Kind) -> Version
+    ensures { result ≡ version_of_kind kind }
+{
+    match kind {
+        Kind::Callit2 => Version::Two,
+        Kind::Callit3 => Version::Three,
+        Kind::Bcast | Kind::Indirect => Version::Four,
+    }
+}
+
+/// What a forwarded call was for.
+#[derive(Clone, Copy)]
+struct Asked {
+    kind: Kind,
+    caller: Caller,
+    prog: u32,
+    vers: u32,
+    proc: u32,
+}
+
+/// Notes a forwarded call at its outcome.
+#[tactic(auto, unfolding(crate::specs::Forwarding::outcome_note))]
+fn note_outcome(stats: &mut Stats, asked: Asked, passed: bool, meter: &mut Meter)
+    requires { meter.old.tie ≡ stats.old.tie }
+    ensures history { HasNoted
+        (outcome_note asked.kind asked.caller asked.prog asked.vers asked.proc passed)
+        stats.old stats.new }
+    ensures tie { stats.new.tie ≡ stats.old.tie }
+    ensures cost { PaysAtMost meter.old meter.new (note_cost + 2) }
+{
+    let target = Target {
+        prog: asked.prog,
+        vers: asked.vers,
+        netid: netid_of(&asked.caller),
+    };
+    let indirect = matches!(asked.kind, Kind::Indirect);
+    stats.note_remote(
+        version_of_kind(asked.kind),
+        target,
+        asked.proc,
+        passed,
+        indirect,
+        meter,
+    );
+}
+
+/// Notes how an entry ended.
+#[tactic(auto, unfolding(crate::specs::Forwarding::end_note))]
+pub(crate) fn note_end(stats: &mut Stats, ended: &Ended, meter: &mut Meter)
+    requires { meter.old.tie ≡ stats.old.tie }
+    ensures history { HasNoted (end_note ended.now) stats.old stats.new }
+    ensures tie { stats.new.tie ≡ stats.old.tie }
+    ensures cost { PaysAtMost meter.old meter.new (note_cost + 2) }
+{
+    let Forward {
+        caller,
+        kind,
+        prog,
+        vers,
+        proc,
+        ..
+    } = ended.forward;
+    let asked = Asked {
+        kind,
+        caller,
+        prog,
+        vers,
+        proc,
+    };
+    let passed = matches!(ended.outcome, Outcome::Passed(_));
+    note_outcome(stats, asked, passed, meter);
+}
+
+fn peer_at(address: Uaddr) -> Peer
+    ensures { result ≡ peer_at address }
+{
+    let Uaddr::V4(host, port) = address;
+    Peer { host, port }
+}
+
+/// The address of the program's exact version on udp. The portmapper itself is not called.
+#[tactic(auto, unfolding(crate::specs::Forwarding::address_to_forward))]
+fn address_to_forward(registry: &Registry, remote: &RemoteCall, meter: &mut Meter) -> Option<Uaddr>
+    requires { meter.old.tie ≡ registry.now.tie }
+    ensures address { result
+        ≡ address_to_forward remote.now.prog remote.now.vers (rows_of registry.now) }
+    ensures cost { PaysAtMost meter.old meter.new (2 * length (row_slots registry.now) + 1) }
+{
+    if remote.prog == RPCB_PROG {
+        return None;
+    }
+    let row = registry.find_exact(remote.prog, remote.vers, Netid::Udp, meter)?;
+    Uaddr::parse(row.addr.as_slice()).ok()
+}
+
+/// What is asked at the address, for a call of this xid. In place of 0.0.0.0 the call goes to 127.0.0.1, and the
+/// listener's host is shown.
+#[tactic(auto, unfolding(crate::specs::Forwarding::forward_of))]
+fn forward_of(
+    context: &Context,
+    xid: u32,
+    kind: Kind,
+    remote: &RemoteCall,
+    address: Uaddr,
+) -> Forward
+    ensures forward { result ≡ forward_of context.now xid kind remote.now address }
+    ensures caller { result.caller ≡ context.now.caller }
+{
+    Forward {
+        caller: context.caller,
+        xid,
+        kind,
+        target: peer_at(address.merge(LOOPBACK)),
+        shown: peer_at(address.merge(context.listener.host)),
+        prog: remote.prog,
+        vers: remote.vers,
+        proc: remote.proc,
+    }
+}
+
+/// What the caller of a forwarded call is told that failed so: INDIRECT answers, and CALLIT and BCAST are silent.
+pub fn refusal(kind: Kind, status: ReplyStatus) -> Answer
+    ensures { result ≡ refusal kind status }
+{
+    match kind {
+        Kind::Indirect => Answer::Refused(status),
+        Kind::Callit2 | Kind::Callit3 | Kind::Bcast => Answer::Silent,
+    }
+}
+
+/// Refuses to forward a call, and notes that as a failure.
+fn refuse(
+    books: &mut Books,
+    context: &Context,
+    kind: Kind,
+    remote: &RemoteCall,
+    status: ReplyStatus,
+    meter: &mut Meter,
+) -> Answer
+    requires { AreTied meter.old.tie books.old }
+    ensures acts { ActsAs (refuse context.now kind remote.now status) books.old books.new result }
+    ensures told { result ≡ refusal kind status }
+    ensures forwards { books.new.forwards ≡ books.old.forwards }
+    ensures frame { SameFrame books.old books.new }
+    ensures cost { PaysAtMost meter.old meter.new (note_cost + 2) }
+{
+    let asked = Asked {
+        kind,
+        caller: context.caller,
+        prog: remote.prog,
+        vers: remote.vers,
+        proc: remote.proc,
+    };
+    note_outcome(&mut books.stats, asked, false, meter);
+    refusal(kind, status)
+}
+
+/// CALLIT, BCAST and INDIRECT, of this xid: the call that is asked for is to be forwarded, or is refused.
+#[tactic(auto, unfolding(crate::specs::Forwarding::forward_call))]
+pub(crate) fn forward_call(
+    books: &mut Books,
+    context: &Context,
+    xid: u32,
+    kind: Kind,
+    remote: &RemoteCall,
+    arguments: &[u8],
+    meter: &mut Meter,
+) -> Answer
+    requires tied { AreTied meter.old.tie books.old }
+    requires forwards { books.old.forwards.cap ≡ context.now.forwards }
+    requires caller { IsNew context.now.caller (slots_of books.old.forwards) }
+    requires content { HasContent remote.now arguments.now }
+    ensures acts { ActsAs (forward_call context.now xid kind remote.now arguments.now)
+        books.old books.new result }
+    ensures quiet { StayUnlessForwarded result books.old.forwards books.new.forwards }
+    ensures waiting { OnlyWaitsAnew context.now.caller
+        (slots_of books.old.forwards) (slots_of books.new.forwards) }
+    ensures frame { SameFrame books.old books.new }
+    ensures cost { PaysAtMost meter.old meter.new (call_cost books.old) }
+{
+    let Some(address) = address_to_forward(&books.registry, remote, meter) else {
+        return refuse(
+            books,
+            context,
+            kind,
+            remote,
+            ReplyStatus::ProgUnavail,
+            meter,
+        );
+    };
+    let forward = forward_of(context, xid, kind, remote, address);
+    let args = remote.args(arguments);
+    match books.forwards.start(context.clock, &forward, args, meter) {
+        Ok(_) => Answer::Forwarded,
+        Err(_) => refuse(books, context, kind, remote, ReplyStatus::SystemErr, meter),
+    }
+}

@@ -1,0 +1,15 @@
+use Rattle.std.proofs.Common.{◌≡◌, ◌+◌, ◌*◌, ◌≤◌, length}
+use Rattle.rb_xdr.specs.Places.{to_come}
+use Rattle.rb_registry.specs.Table.{table_at}
+use Rattle.rb_registry.proofs.walk.live_after.Given as goal
+
+abbrev pub invariant-rows : goal.invariant-rows
+invariant-rows l = record {
+  rest : table_at l.stamp (to_come l.slots.entries l.place) ≡ table_at l.stamp (to_come l.slots.entries l.fn.start);
+  tie : l.meter.tie ≡ l.fn.meter.tie;
+  rises : l.fn.meter.steps ≤ l.meter.steps;
+  steps : l.meter.steps + 2 * length (to_come l.slots.entries l.place) ≤ l.fn.meter.steps + 2 * length (to_come l.slots.entries l.fn.start);
+}
+
+abbrev pub decreases-rows : goal.decreases-rows
+decreases-rows l = length (to_come l.slots.entries l.place)

@@ -1,0 +1,64 @@
+-- Rows with the changes that added and removed them.
+use Rattle.std.specs.Prelude.{ℕ, ◌+◌, nat_lt, nat_le, Bool, true, false, ◌&&◌, if◌then◌else◌, List, [], ◌∷◌, ◌++◌, length, map, filter, not, Option, Some, None}
+use Rattle.std.specs.List.{sum_by}
+use Rattle.rb_registry.specs.declared.row.Row.{Row}
+use Rattle.rb_registry.specs.declared.slot.Slot.{Slot}
+use Rattle.rb_registry.specs.Rows.{Change, covers}
+use Rattle.rb_registry.specs.Rows.Change.{Added, Removed}
+
+-- ---- one of them
+
+-- not yet removed after n changes
+abbrev pub stays_at : ℕ → Option ℕ → Bool
+stays_at n None = true
+stays_at n (Some removed) = nat_lt n removed
+
+-- live after n changes: added by then, and not yet removed
+unfoldable pub is_live_at : ℕ → Slot → Bool
+is_live_at n slot = nat_le slot.added n && stays_at n slot.removed
+
+-- a row that this change adds
+abbrev pub slot_of : ℕ → Row → Slot
+slot_of added row = record { row = row; added = added; removed = None }
+
+-- removed by that change or one before it, or by any where none is named
+abbrev pub removed_by : Option ℕ → Option ℕ → Bool
+removed_by None oldest = false
+removed_by (Some removed) None = true
+removed_by (Some removed) (Some oldest) = nat_le removed oldest
+
+unfoldable pub is_dropped : Option ℕ → Slot → Bool
+is_dropped oldest slot = removed_by slot.removed oldest
+
+-- of changes that removed rows, those behind that one, none where none is named
+abbrev pub later_than : Option ℕ → List ℕ → List ℕ
+later_than oldest numbers = filter (λ number. not (removed_by (Some number) oldest)) numbers
+
+-- ---- those of a list of changes
+
+-- the number of the first of these changes that covers the row, where so many came before them
+abbrev pub removal_of : ℕ → Row → List Change → Option ℕ
+removal_of count row [] = None
+removal_of count row (change ∷ later) =
+    if covers row change then Some (count + 1) else removal_of (count + 1) row later
+
+-- the rows that these changes added, each with the change that added it and the one that removed it
+abbrev pub slots_by : ℕ → List Change → List Slot
+slots_by count [] = []
+slots_by count (Added row ∷ later) =
+    record { row = row; added = count + 1; removed = removal_of (count + 1) row later } ∷ slots_by (count + 1) later
+slots_by count (Removed prog vers which owner ∷ later) = slots_by (count + 1) later
+
+-- the rows that ever were there: the own rows, which no change added, and those of the changes
+abbrev pub all_slots : List Row → List Change → List Slot
+all_slots own changes = map (slot_of 0) own ++ slots_by 0 changes
+
+-- those of them that are live or were removed after the floor
+abbrev pub slots_from : ℕ → List Row → List Change → List Slot
+slots_from floor own changes = filter (λ slot. not (is_dropped (Some floor) slot)) (all_slots own changes)
+
+-- ---- what is held
+
+-- the bytes of a row's address text count, and 32 for its fixed part
+abbrev pub held_in : List Slot → ℕ
+held_in slots = sum_by (λ (slot : Slot). 32 + length slot.row.addr) slots

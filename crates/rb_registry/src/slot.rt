@@ -1,0 +1,39 @@
+//! A row with the changes that added and removed it.
+ghost use Rattle.std.specs.Prelude.{◌≡◌};
+ghost use Rattle.rb_registry.specs.Slots.{is_live_at, is_dropped};
+
+use crate::row::Row;
+
+/// A row, the number of the change that added it (0 for an own row), and of the one that removed it.
+#[derive(Drop)]
+pub(crate) struct Slot {
+    pub(crate) row: Row,
+    pub(crate) added: u64,
+    pub(crate) removed: Option<u64>,
+}
+
+impl Slot {
+    /// Whether the row was live after so many changes.
+    #[tactic(auto, unfolding(crate::specs::Slots::is_live_at))]
+    pub(crate) fn is_live_at(&self, stamp: u64) -> bool
+        ensures { result ≡ is_live_at stamp self.now }
+    {
+        self.added <= stamp
+            && match self.removed {
+                None => true,
+                Some(removed) => stamp < removed,
+            }
+    }
+
+    /// Whether the row was removed by that change or one before it, or by any where none is named.
+    #[tactic(auto, unfolding(crate::specs::Slots::is_dropped))]
+    pub(crate) fn is_dropped(&self, oldest: Option<u64>) -> bool
+        ensures { result ≡ is_dropped oldest self.now }
+    {
+        match (self.removed, oldest) {
+            (None, _) => false,
+            (Some(_), None) => true,
+            (Some(removed), Some(oldest)) => removed <= oldest,
+        }
+    }
+}
