@@ -194,7 +194,7 @@ impl Core {
         Ok(number)
     }
 
-    /// Takes bytes that arrive on a connection, up to the one that ends a record, and none while a reply is owed.
+    /// Takes bytes that arrive on a connection, up to the one that ends a record, and none while a reply is owed or awaited.
     /// `Gone` where there is no such connection, or it is Lost.
     pub fn bytes(
         &mut self,
@@ -313,6 +313,7 @@ impl Core {
     {
         self.connections.next_lost(meter)
     }
+
     /// The forwarded call that is to be sent next: the unsent one of least number, whether or not its deadline has come. It
     /// has at most 8,840 bytes.
     pub fn unsent(&self, meter: &mut Meter) -> Option<Unsent<'_>>

@@ -2,17 +2,17 @@
 ghost use Rattle.rb_core.specs.Grammar.{MessagesAreOfTheGrammar};
 ghost use Rattle.rb_core.specs.Laws.{RunsAppend, StatesAppend, RefusedEventsChangeNothing, NumbersNeverRecur, CutsDoNotMatter, NextLostIsLeast, BytesAreTakenExactly, RepliesAreGivenWhole, OwedRepliesStay, LedgersAreWellKept};
 ghost use Rattle.rb_core.specs.Closings.{ConnectionsCloseExactly};
-ghost use Rattle.rb_core.specs.ForwardLaws.{ConnectionsAwait, RepliesEndTheirOwn, DeadlinesEndOne, EntriesEndOnce};
+ghost use Rattle.rb_core.specs.ForwardLaws.{ConnectionsAwait, RepliesEndTheirOwn, DeadlinesEndOne, EventsChangeAtMostOne, EntriesEndOnce};
 ghost use Rattle.rb_core.specs.Sessions.{SessionsAreWhole};
 ghost use Rattle.rb_core.specs.DeadlineLaws.{ExpireDoesOneThing, NothingIsDueSoon};
 ghost use Rattle.rb_core.specs.WorkedConnections.{NoCallCloses, OtherRpcVersionOnTcp, CrumbsInOnePiece, CrumbsInSingleBytes, CrumbsInSevens, BytesBehindArguments, OneRecordAtATime, OneRecordAtATimePasses, NoCallPasses, GivenInParts, TooMuchIsRefused, GoodLimits, NumbersDoNotRecur};
-ghost use Rattle.rb_core.specs.WorkedForwards.{ForwardWithoutRow, RefusedCallsAreCounted, ForwardUntilDeadline, IndirectPasses, CallitPasses, TargetRefuses, DeniedIsSystemErr, CallitIsSilent, GreatestResults, NoPlace, GreatestArguments, SilentOnTcp, ForwardPassesOnTcp, ForwardOnTcpIsWhole, ClosedCallerIsDropped};
+ghost use Rattle.rb_core.specs.WorkedForwards.{ForwardWithoutRow, RefusedCallsAreCounted, ForwardUntilDeadline, IndirectPasses, CallitPasses, TargetRefuses, DeniedIsSystemErr, CallitIsSilent, GreatestResults, NoPlace, GreatestArguments, SilentOnTcp, ForwardPassesOnTcp, ForwardOnTcpIsWhole, ClosedCallerIsDropped, EachEndsInTurn};
 ghost use Rattle.rb_core.specs.WorkedDeadlines.{IdleEnds, ReadingEnds, TwoEnd, OwingEnds, GivenBytesMoveTheMark, IdleAfterTheReply, DueAtOnceAtTheGreatestMoment, ForwardedCallsComeFirst};
 ghost use Rattle.rb_core.specs.Worked.{NullIsAnswered, SetThenAskThenSetAgain, GreatestVersionElse, OwnRowsAreAsked, LimitIsReached, LocalCallersSet, NothingIsSilent, NullBySys, OtherRpcVersion, TooShort, GreatestCredential, OverlongCredential, SysBodyCutShort, OverlongVerifier, BadResidue, GoodResidue, GssBeforeProgram, OtherVersion, UnknownProcedure, GarbageArguments, OtherProgram, NullOfThree, NullOfFour, GetstatFirstCall, GetstatOfRefusals};
 
 /// For each connection in each run: the bytes taken on it are the marked records of its calls and an unfinished rest;
 /// those given on it, and then those still owed, are the marked replies to these calls, joined in order; and no byte is
-/// taken while a reply is owed. Of one that is Lost or gone, those given are a front of the replies.
+/// taken while a reply is owed or awaited. Of one that is Lost or gone, those given are a front of the replies.
 pub fn sessions_are_whole()
     ensures { SessionsAreWhole }
 {}
@@ -80,6 +80,7 @@ pub fn worked_forwards()
     ensures forward_passes_on_tcp { ForwardPassesOnTcp }
     ensures forward_on_tcp_is_whole { ForwardOnTcpIsWhole }
     ensures closed_caller_is_dropped { ClosedCallerIsDropped }
+    ensures each_ends_in_turn { EachEndsInTurn }
 {}
 
 /// A message asks for a procedure exactly where its bytes begin with a call of it and its arguments.
@@ -149,9 +150,11 @@ pub fn calls_end_by_their_own()
     ensures deadlines { DeadlinesEndOne }
 {}
 
-/// In each state that a run reaches, each forwarded call that began has ended once, or is still there.
+/// From every state, an event ends one of the forwarded calls, or begins one behind them, with the next number, or does
+/// neither. In every run from an opening, each that has begun has ended with exactly one event, or is still there, once.
 pub fn entries_end_once()
-    ensures { EntriesEndOnce }
+    ensures events { EventsChangeAtMostOne }
+    ensures runs { EntriesEndOnce }
 {}
 
 /// In each state that a run reaches, for every listener: each change was accepted, no two live rows are of one program,
