@@ -10,15 +10,15 @@ use Rattle.rb_core.specs.Connections.Taking.{TakesNone, GoesOn, Ends}
 use Rattle.rb_core.specs.Step.{Taken, bytes, bytes_to}
 use Rattle.rb_core.specs.Slots.{Acts}
 use Rattle.rb_core.specs.StandsFor.{Held, StandsFor, IsCheapIfQuiet}
-use Rattle.rb_core.specs.Costs.{find_cost, heard_cost, exchange_cost, read_cost, serve_cost, settle_cost, answer_cost, connection_count, row_count, NoRecordEnds, take_cost, taking_cost, piece_cost, record_cost}
+use Rattle.rb_core.specs.Costs.{find_cost, heard_cost, exchange_cost, read_cost, serve_cost, settle_cost, answer_cost, connection_count, row_count, NoRecordEnds, take_cost, recount_cost, taking_cost, piece_cost, record_cost}
 use Rattle.rb_core.proofs.Slots.{as_many}
 
 -- a record ended, and it was answered
 pub answered_cost : (m0 m1 m2 : Meter) (n other rows left count : ℕ) (h : Option Heard) (x : Heard) → h ≡ Some x → other ≡ n
-    → PaysAtMost m0 m1 (find_cost n + (take_cost count + heard_cost h)) → PaysAtMost m1 m2 (read_cost + serve_cost rows left + settle_cost other)
-    → PaysAtMost m0 m2 (find_cost n + take_cost count + answer_cost n rows left)
+    → PaysAtMost m0 m1 (find_cost n + (take_cost count + heard_cost h + recount_cost)) → PaysAtMost m1 m2 (read_cost + serve_cost rows left + settle_cost other)
+    → PaysAtMost m0 m2 (find_cost n + (take_cost count + recount_cost) + answer_cost n rows left)
 answered_cost m0 m1 m2 n other rows left count h x is same first second =
-    let taken : PaysAtMost m0 m1 (find_cost n + (take_cost count + exchange_cost)) = rw is at first in
+    let taken : PaysAtMost m0 m1 (find_cost n + (take_cost count + exchange_cost + recount_cost)) = rw is at first in
     record {
       steps = omega (arith, taken.steps, second.steps, same);
       rises = omega (arith, taken.rises, second.rises);
@@ -85,19 +85,19 @@ module _ (old new : Held) (s : State) (h : StandsFor old s) (a b : Meter) (now i
   no_one (Some c) e taken g = absurd cc
 
   pub taken_cost_of : (taken : Taken) → result ≡ Ok taken → taken.count ≤ length piece
-      → PaysAtMost a b (find_cost (length old.connections.slots) + take_cost taken.count + answer_cost (length old.connections.slots) (length (slots_of old.books.registry)) (length (slots_of new.books.registry)))
+      → PaysAtMost a b (find_cost (length old.connections.slots) + (take_cost taken.count + recount_cost) + answer_cost (length old.connections.slots) (length (slots_of old.books.registry)) (length (slots_of new.books.registry)))
       → IsPaid (live_connection id s.connections.all)
   unfolding bytes
   taken_cost_of taken is within cost = by_there (live_connection id s.connections.all) refl
     where
-      all_cost : PaysAtMost a b (find_cost (connection_count s) + (take_cost (length piece) + answer_cost (connection_count s) (row_count s) (row_count (bytes s now id piece).1)))
+      all_cost : PaysAtMost a b (find_cost (connection_count s) + (take_cost (length piece) + recount_cost + answer_cost (connection_count s) (row_count s) (row_count (bytes s now id piece).1)))
       all_cost =
-          at_most a b (find_cost (connection_count s) + take_cost taken.count + answer_cost (connection_count s) (row_count s) (row_count (bytes s now id piece).1)) _ (omega (arith, within))
-          (by_all (λ n r l. find_cost n + take_cost taken.count + answer_cost n r l) old new s (bytes s now id piece).1 a b h (acts.stands s h) cost)
+          at_most a b (find_cost (connection_count s) + (take_cost taken.count + recount_cost) + answer_cost (connection_count s) (row_count s) (row_count (bytes s now id piece).1)) _ (omega (arith, within))
+          (by_all (λ n r l. find_cost n + (take_cost taken.count + recount_cost) + answer_cost n r l) old new s (bytes s now id piece).1 a b h (acts.stands s h) cost)
 
-      by_taking : (c : Connection) (t : Taking) → live_connection id s.connections.all ≡ Some c → taking c.phase piece ≡ t → PaysAtMost a b (find_cost (connection_count s) + (take_cost (length piece) + record_cost s (bytes s now id piece).1 t))
-      by_taking c TakesNone e t = cheaply (take_cost (length piece) + 0) (rw is (omega (arith, within))) (rw e (rw t refl))
-      by_taking c (GoesOn fed) e t = cheaply (take_cost (length piece) + 0) (rw is (omega (arith, within))) (rw e (rw t refl))
+      by_taking : (c : Connection) (t : Taking) → live_connection id s.connections.all ≡ Some c → taking c.phase piece ≡ t → PaysAtMost a b (find_cost (connection_count s) + (take_cost (length piece) + recount_cost + record_cost s (bytes s now id piece).1 t))
+      by_taking c TakesNone e t = cheaply (take_cost (length piece) + recount_cost + 0) (rw is (omega (arith, within))) (rw e (rw t refl))
+      by_taking c (GoesOn fed) e t = cheaply (take_cost (length piece) + recount_cost + 0) (rw is (omega (arith, within))) (rw e (rw t refl))
       by_taking c (Ends n content) e t = all_cost
 
       by_there : (m : Option Connection) → live_connection id s.connections.all ≡ m → IsPaid m

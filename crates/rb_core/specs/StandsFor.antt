@@ -122,7 +122,7 @@ bytes_cost old new result =
 
 -- to close a connection, and to end the call that was forwarded for it
 abbrev pub closing_cost : Held → ℕ
-closing_cost held = look_cost held.connections + 3 + entry_cost (forwards_cap held.books)
+closing_cost held = look_cost held.connections + 5 + entry_cost (forwards_cap held.books)
 
 -- to end an entry, and to tell its caller
 abbrev pub ending_cost : Held → ℕ

@@ -76,7 +76,7 @@ impl Core {
     ghost use Rattle.rb_core.specs.Awaits.{has_live};
     ghost use Rattle.rb_core.specs.Slots.{Acts, Shows, Lends};
     ghost use Rattle.rb_core.specs.StandsFor.{StandsFor, ActsWithReply, answering_heard, without_arguments, context_of, answering_cost, bytes_cost, closing_cost, ending_cost, IsCheapIfQuiet};
-    ghost use Rattle.rb_core.specs.Costs.{look_cost, slot_count, serving_cost, tell_cost, pending_cost, give_cost};
+    ghost use Rattle.rb_core.specs.Costs.{look_cost, slot_count, serving_cost, tell_cost, pending_cost, giving_cost};
 
     /// A core with the daemon's own rows alone, at the moment `now` (milliseconds since the start of 1970).
     /// `first_xid` is the number of the first call that it forwards. `BadLimits` where a limit is out of its
@@ -283,7 +283,7 @@ impl Core {
         ensures acts { Acts StandsFor (λ s. gave s now id n) self.old self.new result }
         ensures refused { OnErr result (self.new ≡ self.old) }
         ensures tie { self.new.tie ≡ self.old.tie }
-        ensures cost { PaysAtMost meter.old meter.new (look_cost self.old.connections + give_cost) }
+        ensures cost { PaysAtMost meter.old meter.new (look_cost self.old.connections + giving_cost) }
     {
         let clock = self.clock.max(now);
         self.connections.give(id, n, clock, meter)?;
