@@ -2,7 +2,7 @@
 use Rattle.std.proofs.Common.{◌≡◌, ℕ, ◌+◌, ◌*◌, ◌^◌, ◌≤◌, ◌<◌, eqb, Some, List, [], ◌∷◌, ◌++◌, refl, ap, length, ◌∙◌, arith}
 use Rattle.std.specs.Prelude.{All, unwrap_or, option_map}
 use Rattle.std.specs.Map.{values_of}
-use Rattle.std.proofs.Math.Nat.{mul-le-mul_right}
+use Rattle.std.proofs.Math.Nat.{mul-le-mul_left, mul-le-mul_right}
 use Rattle.std.proofs.lemmas.List.Sums.{sum_by-le, sum_by_push}
 use Rattle.std.proofs.lemmas.List.Elements.{All-push}
 use Rattle.std.proofs.lemmas.Map.Entries.{length-values_of, sum_by-remove_entry}
@@ -11,6 +11,7 @@ use Rattle.rb_xdr.specs.Pool.{Pool, value_at, without, with_value}
 use Rattle.rb_xdr.proofs.PoolLemmas.{All-value_at, All-with_value}
 use Rattle.rb_core.specs.declared.slot.Slot.{Slot}
 use Rattle.rb_core.specs.declared.slot.Buffers.{Buffers}
+use Rattle.rb_forward.specs.Table.{longest_arguments as args, longest_call}
 use Rattle.rb_core.specs.Calls.{longest_reply}
 use Rattle.rb_core.specs.Giving.{longest_fragment}
 use Rattle.rb_core.specs.Reading.{longest_arguments, buffer_size}
@@ -82,3 +83,10 @@ recounted_cost m0 m1 m2 m3 m4 m5 look act looks gets counts acts recounts most e
   where
     ties : m5.tie ≡ m0.tie
     ties = ap (λ (m : Meter). m.tie) recounts ∙ acts.tie ∙ ap (λ (m : Meter). m.tie) counts ∙ ap (λ (m : Meter). m.tie) gets ∙ looks.tie
+
+-- what a core holds, by its parts
+pub parts_fit : (a b c d e conns rows cap : ℕ) → a ≤ most_charge * conns → conns ≤ 256 → b ≤ (32 + 128) * rows → rows ≤ 4096 → c ≤ 48 * 192 → d ≤ (128 + longest_call) * cap → cap ≤ 64 → e ≤ longest_reply
+    → a + b + c + d + e < 2 ^ 64
+unfolding longest_reply longest_arguments buffer_size longest_fragment args
+parts_fit a b c d e conns rows cap ha hc hb hr hk hd hf he =
+    omega (arith, ha, hb, hk, hd, he, mul-le-mul_left most_charge hc, mul-le-mul_left (32 + 128) hr, mul-le-mul_left (128 + longest_call) hf)

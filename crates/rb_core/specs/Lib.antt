@@ -11,6 +11,7 @@ pub mod Reading
 pub mod Slots
 pub mod Awaits
 pub mod StandsFor
+pub mod HeldBytes
 pub mod Costs
 pub mod Grammar
 pub mod Laws

@@ -1,8 +1,9 @@
 //! The core: what it holds, and its calls.
 ghost use Rattle.std.specs.Prelude.{◌≡◌, ◌≤◌, IsTrue};
 ghost use Rattle.rb_core.specs.State.{are_good};
+ghost use Rattle.rb_core.specs.HeldBytes.{bytes_bound};
 
-use crate::connections::{BUFFER_SIZE, Connections};
+use crate::connections::{BUFFER_SIZE, Connections, LONGEST_FRAGMENT};
 use crate::message::{arguments_behind, message_with};
 use crate::serve::{LONGEST_REPLY, put_end, serve};
 use crate::slot::{Heard, Received};
@@ -14,6 +15,18 @@ use rb_xdr::{Kept, Meter};
 use std::alloc::Global;
 use std::marker::Model;
 
+/// The longest call that is served: a head of 840 bytes, and arguments.
+const GREATEST_CALL: u64 = 9_656;
+
+/// The longest address text of a row.
+const LONGEST_ADDRESS: u64 = 24;
+
+/// The longest forwarded call: a head of 40 bytes, and arguments.
+const LONGEST_FORWARD: u64 = 8_840;
+
+/// How many keys the statistics may have.
+const MOST_KEYS: u64 = 192;
+
 /// The daemon's logic. All of its memory is reserved by `new`.
 #[derive(Drop)]
 pub struct Core {
@@ -23,8 +36,9 @@ pub struct Core {
     clock: u64,
     connections: Connections,
     books: Books,
-    /// The last reply over UDP.
+    /// The last reply over UDP, and how many bytes it has.
     reply: Kept,
+    reply_len: u64,
     /// Where a reply on a connection is written, empty between two events: the connection takes it for its own.
     draft: Kept,
     /// The arguments of a record that ended, empty between two events: the connection gives its own buffer for it.
@@ -47,12 +61,29 @@ impl Model for Core {
     } };
 
     ghost invariant = { λ c. IsCore (record { limits = c.limits; listener = c.listener; first_xid = c.first_xid })
-        c.connections c.books c.reply c.draft c.arguments };
+        c.connections c.books c.reply c.draft c.arguments c.reply_len };
+}
+
+/// How many bytes a core of these limits may hold: of each connection, beside its fixed part, a whole call and a whole
+/// fragment; of each row an address text of 24 bytes; of each forwarded call itself; the keys of the statistics; and a reply.
+#[tactic(auto, unfolding(crate::specs::Calls::longest_reply, crate::specs::Giving::longest_fragment, rb_forward::specs::Table::longest_arguments))]
+fn bytes_bound(limits: &Limits) -> u64
+    requires conns { limits.now.conns ≤ 256 }
+    requires rows { limits.now.rows ≤ 4096 }
+    requires forwards { limits.now.forwards ≤ 64 }
+    ensures { result ≡ bytes_bound limits.now }
+{
+    let conns = limits.conns as u64 * (128 + GREATEST_CALL + LONGEST_FRAGMENT as u64);
+    let rows = limits.rows as u64 * (32 + LONGEST_ADDRESS);
+    let forwards = limits.forwards as u64 * (128 + LONGEST_FORWARD);
+    conns + rows + forwards + MOST_KEYS * 48 + LONGEST_REPLY as u64
 }
 
 fn are_good(limits: &Limits) -> bool
     ensures value { result ≡ are_good limits.now }
+    ensures conns { IsTrue result → limits.now.conns ≤ 256 }
     ensures rows { IsTrue result → 6 ≤ limits.now.rows }
+    ensures few_rows { IsTrue result → limits.now.rows ≤ 4096 }
     ensures forwards { IsTrue result → limits.now.forwards ≤ 64 }
 {
     1 <= limits.conns
@@ -74,6 +105,7 @@ impl Core {
     ghost use Rattle.rb_core.specs.Step.{datagram, open_connection, bytes, pending, pending_count, gave, close_connection, next_lost, unsent_call, sent_call};
     ghost use Rattle.rb_core.specs.Ending.{told_at, tell, forward_reply, expire_connection, expire};
     ghost use Rattle.rb_core.specs.Awaits.{has_live};
+    ghost use Rattle.rb_core.specs.HeldBytes.{held, bytes_bound};
     ghost use Rattle.rb_core.specs.Slots.{Acts, Shows, Lends};
     ghost use Rattle.rb_core.specs.StandsFor.{StandsFor, ActsWithReply, answering_heard, without_arguments, context_of, answering_cost, bytes_cost, closing_cost, ending_cost, IsCheapIfQuiet};
     ghost use Rattle.rb_core.specs.Costs.{look_cost, slot_count, serving_cost, tell_cost, pending_cost, giving_cost};
@@ -125,6 +157,7 @@ impl Core {
             connections,
             books,
             reply,
+            reply_len: 0,
             draft,
             arguments,
         })
@@ -150,21 +183,23 @@ impl Core {
         ensures acts { ActsWithReply (λ s. datagram s now peer content.now) self.old self.new result }
         ensures tie { self.new.tie ≡ self.old.tie }
         ensures short { length self.new.reply ≤ longest_reply }
-        ensures cost { PaysAtMost meter.old meter.new (1 + serving_cost self.old.books self.new.books) }
+        ensures cost { PaysAtMost meter.old meter.new (2 + serving_cost self.old.books self.new.books) }
     {
         self.clock = self.clock.max(now);
         let context = self.context(Caller::Udp(peer));
         self.reply.clear(meter);
         let verdict = read_call(content);
         let arguments = arguments_behind(verdict, content);
-        serve(
+        let outcome = serve(
             &mut self.books,
             &context,
             message_with(verdict, arguments),
             arguments,
             &mut self.reply,
             meter,
-        )
+        );
+        self.reply_len = self.reply.len(meter) as u64;
+        outcome
     }
 
     /// The reply that the last `datagram`, `forward_reply` or `expire` gave over UDP: no bytes where there is none.
@@ -359,6 +394,7 @@ impl Core {
     {
         self.clock = self.clock.max(now);
         self.reply.clear(meter);
+        self.reply_len = 0;
         let Some(ended) = self.books.reply(self.clock, from, bytes, meter) else {
             return None;
         };
@@ -376,6 +412,7 @@ impl Core {
     {
         self.clock = self.clock.max(now);
         self.reply.clear(meter);
+        self.reply_len = 0;
         let Some(ended) = self.books.due(self.clock, meter) else {
             return self.expire_connection(meter);
         };
@@ -394,6 +431,26 @@ impl Core {
             Some(id) => Expired::ConnectionClosed(id),
             None => Expired::Nothing,
         }
+    }
+
+    /// How many bytes are held: 128 for each connection, Lost ones too, with those of its buffers; 32 for each row, with
+    /// those of its address text; 48 for each key of the statistics; 128 for each forwarded call, with those that are
+    /// still to be sent; and those of the last reply over UDP.
+    pub fn held(&self) -> u64
+        ensures { result ≡ held self.now }
+    {
+        self.connections.held()
+            + self.books.registry.held()
+            + self.books.stats.held()
+            + self.books.forwards.held()
+            + self.reply_len
+    }
+
+    /// What `held` never passes.
+    pub fn bytes_bound(&self) -> u64
+        ensures { result ≡ bytes_bound self.now.setting.limits }
+    {
+        bytes_bound(&self.limits)
     }
 
     /// Tells the caller of a forwarded call how it ended, where it ended by this datagram.
@@ -416,10 +473,14 @@ impl Core {
                     .settle(id, outcome, &mut self.draft, self.clock, meter);
                 Told::TcpReady(id)
             }
-            Caller::Udp(peer) => match put_end(ended, message, &mut self.reply, meter) {
-                Outcome::Reply => Told::Datagram(peer),
-                Outcome::NoCall | Outcome::Forwarded | Outcome::Silent => Told::Silent,
-            },
+            Caller::Udp(peer) => {
+                let outcome = put_end(ended, message, &mut self.reply, meter);
+                self.reply_len = self.reply.len(meter) as u64;
+                match outcome {
+                    Outcome::Reply => Told::Datagram(peer),
+                    Outcome::NoCall | Outcome::Forwarded | Outcome::Silent => Told::Silent,
+                }
+            }
         }
     }
 }
