@@ -17,6 +17,7 @@ pub mod Grammar
 pub mod Laws
 pub mod Sessions
 pub mod DeadlineLaws
+pub mod HeldLaws
 pub mod Closings
 pub mod ForwardLaws
 pub mod Worked

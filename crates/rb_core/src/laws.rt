@@ -5,6 +5,7 @@ ghost use Rattle.rb_core.specs.Closings.{ConnectionsCloseExactly};
 ghost use Rattle.rb_core.specs.ForwardLaws.{ConnectionsAwait, RepliesEndTheirOwn, DeadlinesEndOne, EventsChangeAtMostOne, EntriesEndOnce};
 ghost use Rattle.rb_core.specs.Sessions.{SessionsAreWhole};
 ghost use Rattle.rb_core.specs.DeadlineLaws.{ExpireDoesOneThing, NothingIsDueSoon};
+ghost use Rattle.rb_core.specs.HeldLaws.{HeldBytesAreBounded};
 ghost use Rattle.rb_core.specs.WorkedConnections.{NoCallCloses, OtherRpcVersionOnTcp, CrumbsInOnePiece, CrumbsInSingleBytes, CrumbsInSevens, BytesBehindArguments, OneRecordAtATime, OneRecordAtATimePasses, NoCallPasses, GivenInParts, TooMuchIsRefused, GoodLimits, NumbersDoNotRecur};
 ghost use Rattle.rb_core.specs.WorkedForwards.{ForwardWithoutRow, RefusedCallsAreCounted, ForwardUntilDeadline, IndirectPasses, CallitPasses, TargetRefuses, DeniedIsSystemErr, CallitIsSilent, GreatestResults, NoPlace, GreatestArguments, SilentOnTcp, ForwardPassesOnTcp, ForwardOnTcpIsWhole, ClosedCallerIsDropped, EachEndsInTurn};
 ghost use Rattle.rb_core.specs.WorkedDeadlines.{IdleEnds, ReadingEnds, TwoEnd, OwingEnds, GivenBytesMoveTheMark, IdleAfterTheReply, DueAtOnceAtTheGreatestMoment, ForwardedCallsComeFirst};
@@ -185,4 +186,10 @@ pub fn nothing_is_due_soon()
 /// connection of least number is Lost; and where none is due either, it changes nothing but the clock and the last reply.
 pub fn expire_does_one_thing()
     ensures { ExpireDoesOneThing }
+{}
+
+/// In each state that a run reaches, what the core holds is at most the bound, less 1,868 bytes for each connection that is
+/// Idle or Reading; and of such a connection it holds at most 128 + 8,816 bytes.
+pub fn held_bytes_are_bounded()
+    ensures { HeldBytesAreBounded }
 {}
