@@ -24,3 +24,4 @@ pub mod Worked
 pub mod WorkedConnections
 pub mod WorkedForwards
 pub mod WorkedDeadlines
+pub mod WorkedHeld

@@ -8,6 +8,7 @@ ghost use Rattle.rb_core.specs.DeadlineLaws.{ExpireDoesOneThing, NothingIsDueSoo
 ghost use Rattle.rb_core.specs.HeldLaws.{HeldBytesAreBounded};
 ghost use Rattle.rb_core.specs.WorkedConnections.{NoCallCloses, OtherRpcVersionOnTcp, CrumbsInOnePiece, CrumbsInSingleBytes, CrumbsInSevens, BytesBehindArguments, OneRecordAtATime, OneRecordAtATimePasses, NoCallPasses, GivenInParts, TooMuchIsRefused, GoodLimits, NumbersDoNotRecur};
 ghost use Rattle.rb_core.specs.WorkedForwards.{ForwardWithoutRow, RefusedCallsAreCounted, ForwardUntilDeadline, IndirectPasses, CallitPasses, TargetRefuses, DeniedIsSystemErr, CallitIsSilent, GreatestResults, NoPlace, GreatestArguments, SilentOnTcp, ForwardPassesOnTcp, ForwardOnTcpIsWhole, ClosedCallerIsDropped, EachEndsInTurn};
+ghost use Rattle.rb_core.specs.WorkedHeld.{BytesBounds, FreshCoreHolds};
 ghost use Rattle.rb_core.specs.WorkedDeadlines.{IdleEnds, ReadingEnds, TwoEnd, OwingEnds, GivenBytesMoveTheMark, IdleAfterTheReply, DueAtOnceAtTheGreatestMoment, ForwardedCallsComeFirst};
 ghost use Rattle.rb_core.specs.Worked.{NullIsAnswered, SetThenAskThenSetAgain, GreatestVersionElse, OwnRowsAreAsked, LimitIsReached, LocalCallersSet, NothingIsSilent, NullBySys, OtherRpcVersion, TooShort, GreatestCredential, OverlongCredential, SysBodyCutShort, OverlongVerifier, BadResidue, GoodResidue, GssBeforeProgram, OtherVersion, UnknownProcedure, GarbageArguments, OtherProgram, NullOfThree, NullOfFour, GetstatFirstCall, GetstatOfRefusals};
 
@@ -192,4 +193,10 @@ pub fn expire_does_one_thing()
 /// Idle or Reading; and of such a connection it holds at most 128 + 8,816 bytes.
 pub fn held_bytes_are_bounded()
     ensures { HeldBytesAreBounded }
+{}
+
+/// The definitions give what the worked examples of held bytes say.
+pub fn worked_held()
+    ensures bytes_bounds { BytesBounds }
+    ensures fresh_core { FreshCoreHolds }
 {}
