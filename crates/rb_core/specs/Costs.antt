@@ -157,10 +157,17 @@ record_cost s after TakesNone = 0
 record_cost s after (GoesOn fed) = 0
 record_cost s after (Ends n content) = answer_cost (connection_count s) (row_count s) (row_count after)
 
--- by whether a record ended
+-- how many bytes of the piece are taken
+abbrev pub count_taken : List ℕ → Taking → ℕ
+count_taken piece TakesNone = 0
+count_taken piece (GoesOn fed) = length piece
+count_taken piece (Ends n content) = n
+
+-- by how many bytes are taken, and whether a record ended
 abbrev pub piece_cost : State → State → List ℕ → Option Connection → ℕ
 piece_cost s after piece None = 0
-piece_cost s after piece (Some c) = take_cost (length piece) + recount_cost + record_cost s after (taking c.phase piece)
+piece_cost s after piece (Some c) =
+    take_cost (count_taken piece (taking c.phase piece)) + recount_cost + record_cost s after (taking c.phase piece)
 
 -- what an event costs from a state, where it leaves this one
 abbrev pub cost_between : State → State → Event → ℕ

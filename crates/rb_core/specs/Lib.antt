@@ -18,6 +18,7 @@ pub mod Laws
 pub mod Sessions
 pub mod DeadlineLaws
 pub mod HeldLaws
+pub mod StepLaws
 pub mod Closings
 pub mod ForwardLaws
 pub mod Worked

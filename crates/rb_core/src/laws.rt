@@ -6,6 +6,7 @@ ghost use Rattle.rb_core.specs.ForwardLaws.{ConnectionsAwait, RepliesEndTheirOwn
 ghost use Rattle.rb_core.specs.Sessions.{SessionsAreWhole};
 ghost use Rattle.rb_core.specs.DeadlineLaws.{ExpireDoesOneThing, NothingIsDueSoon};
 ghost use Rattle.rb_core.specs.HeldLaws.{HeldBytesAreBounded};
+ghost use Rattle.rb_core.specs.StepLaws.{StepsAreBounded, RunsAreBounded};
 ghost use Rattle.rb_core.specs.WorkedConnections.{NoCallCloses, OtherRpcVersionOnTcp, CrumbsInOnePiece, CrumbsInSingleBytes, CrumbsInSevens, BytesBehindArguments, OneRecordAtATime, OneRecordAtATimePasses, NoCallPasses, GivenInParts, TooMuchIsRefused, GoodLimits, NumbersDoNotRecur};
 ghost use Rattle.rb_core.specs.WorkedForwards.{ForwardWithoutRow, RefusedCallsAreCounted, ForwardUntilDeadline, IndirectPasses, CallitPasses, TargetRefuses, DeniedIsSystemErr, CallitIsSilent, GreatestResults, NoPlace, GreatestArguments, SilentOnTcp, ForwardPassesOnTcp, ForwardOnTcpIsWhole, ClosedCallerIsDropped, EachEndsInTurn};
 ghost use Rattle.rb_core.specs.WorkedHeld.{BytesBounds, FreshCoreHolds};
@@ -199,4 +200,12 @@ pub fn held_bytes_are_bounded()
 pub fn worked_held()
     ensures bytes_bounds { BytesBounds }
     ensures fresh_core { FreshCoreHolds }
+{}
+
+/// In each state that a run reaches at good limits, an event costs at most 8 steps for each byte that it takes, lends or tells
+/// that it was given, 64 for each connection, row, key and forwarded call that there may be, and 16 for each byte of the
+/// longest call; and so over each run from there.
+pub fn steps_are_bounded()
+    ensures events { StepsAreBounded }
+    ensures runs { RunsAreBounded }
 {}

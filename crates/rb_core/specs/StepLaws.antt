@@ -1,0 +1,56 @@
+-- Laws of counted steps: no event takes more than a bound that the limits and its own bytes give.
+use Rattle.std.specs.Prelude.{◌≡◌, ◌≤◌, ℕ, ◌+◌, ◌*◌, true, List, [], ◌∷◌, length, Some}
+use Rattle.rb_stats.specs.Stats.{most_keys}
+use Rattle.rb_core.specs.declared.types.Limits.{Limits}
+use Rattle.rb_core.specs.State.{State, are_good}
+use Rattle.rb_core.specs.Step.{Event, Output, step}
+use Rattle.rb_core.specs.Step.Event.{Gave, Datagram, Forward}
+use Rattle.rb_core.specs.Step.Output.{IsPending, Done, Replied, UnsentIs, RepliedTo}
+use Rattle.rb_core.specs.Sessions.{count_in}
+use Rattle.rb_core.specs.Costs.{event_cost, run_cost}
+use Rattle.rb_core.specs.HeldBytes.{greatest_call}
+use Rattle.rb_core.specs.Laws.{IsReached}
+
+-- ---- the bound
+
+-- for an event at these limits that takes so many bytes, and lends so many or tells that so many were given
+abbrev pub steps_bound : Limits → ℕ → ℕ → ℕ
+steps_bound limits taken given =
+    8 * taken + 8 * given + 64 * (limits.conns + limits.rows + most_keys + limits.forwards) + 16 * greatest_call
+
+-- the bytes that an event takes, by its output: a datagram counts whole, and what is refused takes none
+abbrev pub taken_by : Event → Output → ℕ
+taken_by (Datagram now peer content) output = length content
+taken_by (Forward now from message) output = length message
+taken_by event output = count_in output
+
+-- the bytes that it lends, or tells that they were given
+abbrev pub given_by : Event → Output → ℕ
+given_by (Gave now id n) Done = n
+given_by event (IsPending bytes) = length bytes
+given_by event (Replied reply) = length reply
+given_by event (UnsentIs (Some unsent)) = length unsent.call
+given_by event (RepliedTo peer reply) = length reply
+given_by event other = 0
+
+-- of an event in a state
+abbrev pub bound_at : State → Event → ℕ
+bound_at s event =
+    let output : Output = (step s event).0 in steps_bound s.setting.limits (taken_by event output) (given_by event output)
+
+-- of each event from the state that it meets, added up
+abbrev pub run_bound : State → List Event → ℕ
+run_bound s [] = 0
+run_bound s (event ∷ events) = bound_at s event + run_bound (step s event).1 events
+
+-- ---- the laws
+
+-- in each state that a run reaches
+abbrev pub StepsAreBounded : Type 0
+StepsAreBounded =
+    (s : State) → IsReached s → are_good s.setting.limits ≡ true → (event : Event) → event_cost s event ≤ bound_at s event
+
+-- and so over a run from there
+abbrev pub RunsAreBounded : Type 0
+RunsAreBounded =
+    (s : State) → IsReached s → are_good s.setting.limits ≡ true → (events : List Event) → run_cost s events ≤ run_bound s events
