@@ -1,11 +1,11 @@
 -- What an event costs is within the bound on its steps.
-use Rattle.std.proofs.Common.{◌≡◌, ◌≤◌, ℕ, ◌+◌, ◌*◌, Bool, true, false, cond, Option, Some, None, Result, Ok, Err, List, [], ◌∷◌, ◌++◌, length, refl, sym, ap, subst, ◌∙◌, arith}
+use Rattle.std.proofs.Common.{◌≡◌, ◌≤◌, ◌<◌, ℕ, ◌+◌, ◌*◌, ◌^◌, Bool, true, false, cond, Option, Some, None, Result, Ok, Err, List, [], ◌∷◌, ◌++◌, length, refl, sym, ap, subst, ◌∙◌, arith}
 use Rattle.rb_forward.specs.Table.{longest_arguments as longest_args}
 use Rattle.rb_core.specs.declared.types.Limits.{Limits}
 use Rattle.rb_core.specs.declared.types.CoreFault.{CoreFault}
 use Rattle.rb_core.specs.Calls.{longest_reply}
 use Rattle.rb_core.specs.Reading.{longest_arguments, buffer_size}
-use Rattle.rb_core.specs.State.{State, Connection, at_moment, opening, are_good}
+use Rattle.rb_core.specs.State.{Setting, State, Connection, at_moment, opening, are_good}
 use Rattle.rb_core.specs.Connections.{Taking, taking, live_connection}
 use Rattle.rb_core.specs.Connections.Taking.{TakesNone, GoesOn, Ends}
 use Rattle.rb_core.specs.Step.{Event, Output, Taken, answering, with_count, when_taken, bytes_to, bytes, output_or, show_taken, step}
@@ -18,6 +18,12 @@ use Rattle.rb_core.specs.StepLaws.{steps_bound, bound_at, run_bound, StepsAreBou
 use Rattle.rb_core.proofs.Ledgers.{step-setting, ledgers_are_well_kept}
 use Rattle.rb_core.proofs.Room.{reached-room}
 use Rattle.rb_core.proofs.RunLaws.{after-append}
+use Rattle.rb_xdr.specs.Meter.{Meter, PaysAtMost}
+use Rattle.rb_core.specs.StandsFor.{Held, StandsFor}
+use Rattle.rb_core.specs.HeldBytes.{held, bytes_bound}
+use Rattle.rb_core.proofs.EntriesKept.{after-setting}
+use Rattle.rb_core.proofs.Bounds.{held_bytes_are_bounded}
+use Rattle.rb_core.proofs.Spending.{at_most}
 
 -- an event more
 reached-step : (s : State) → IsReached s → (event : Event) → IsReached (step s event).1
@@ -90,3 +96,19 @@ runs_are_bounded s reached good (event ∷ events) =
     let one = steps_are_bounded s reached good event in
     let rest = runs_are_bounded (step s event).1 (reached-step s reached event) (rw (step-setting s event) good) events in
     omega (arith, one, rest)
+
+pub paid_within : (s : State) (events : List Event) (a b : Meter) → IsReached s → are_good s.setting.limits ≡ true → PaysAtMost a b (run_cost s events) → PaysAtMost a b (run_bound s events)
+paid_within s events a b reached good pays = at_most a b (run_cost s events) (run_bound s events) (runs_are_bounded s reached good events) pays
+
+-- ---- what is held after a run
+
+reached-after : (s : State) (events : List Event) → IsReached s → IsReached (after s events)
+reached-after s [] reached = reached
+reached-after s (event ∷ events) reached = reached-after (step s event).1 events (reached-step s reached event)
+
+pub held_within_after : (core : Held) (s : State) (events : List Event) → StandsFor core (after s events) → IsReached s → s.setting.listener.port < 2 ^ 16 → held core ≤ bytes_bound s.setting.limits
+held_within_after core s events stands reached port =
+    let same = after-setting s events in
+    let whole = (held_bytes_are_bounded core (after s events) stands (reached-after s events reached) (rw same port)).whole in
+    let bound : bytes_bound (after s events).setting.limits ≡ bytes_bound s.setting.limits = ap (λ (x : Setting). bytes_bound x.limits) same in
+    omega (arith, whole, bound)

@@ -32,3 +32,8 @@ pub record IsBounded (core : Held) (s : State) : Type 0 where
 abbrev pub HeldBytesAreBounded : Type 0
 HeldBytesAreBounded =
     (core : Held) (s : State) → StandsFor core s → IsReached s → s.setting.listener.port < 2 ^ 16 → IsBounded core s
+
+-- From each such state that the old core stood for, the new one holds no more than the bound.
+abbrev pub StaysWithinBound : Held → Held → Type 0
+StaysWithinBound old new =
+    (s : State) → StandsFor old s → IsReached s → s.setting.listener.port < 2 ^ 16 → held new ≤ bytes_bound s.setting.limits

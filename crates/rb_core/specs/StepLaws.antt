@@ -8,6 +8,8 @@ use Rattle.rb_core.specs.Step.Event.{Gave, Datagram, Forward}
 use Rattle.rb_core.specs.Step.Output.{IsPending, Done, Replied, UnsentIs, RepliedTo}
 use Rattle.rb_core.specs.Sessions.{count_in}
 use Rattle.rb_core.specs.Costs.{event_cost, run_cost}
+use Rattle.rb_xdr.specs.Meter.{Meter, PaysAtMost}
+use Rattle.rb_core.specs.StandsFor.{Held, StandsFor}
 use Rattle.rb_core.specs.HeldBytes.{greatest_call}
 use Rattle.rb_core.specs.Laws.{IsReached}
 
@@ -54,3 +56,8 @@ StepsAreBounded =
 abbrev pub RunsAreBounded : Type 0
 RunsAreBounded =
     (s : State) → IsReached s → are_good s.setting.limits ≡ true → (events : List Event) → run_cost s events ≤ run_bound s events
+
+-- From each such state that was held, no more is paid for these events than their bound.
+abbrev pub PaysWithinBound : Held → List Event → Meter → Meter → Type 0
+PaysWithinBound core events before now =
+    (s : State) → StandsFor core s → IsReached s → are_good s.setting.limits ≡ true → PaysAtMost before now (run_bound s events)
