@@ -98,3 +98,61 @@ fn connections_have_memory(rt: HostRuntime) -> Result<(), Fail> {
     assert!(rt; taken.count == 44 && pending == 25 && lost.is_none());
     Ok(())
 }
+
+/// The size of a fragment that is both the first and the last of its record: a NULL call, and 100,000 bytes behind it.
+const OVERLONG: u32 = 0x8001_86c8;
+
+/// Bytes arrive on connection 1, in one piece.
+fn arrive(
+    alloc: Global,
+    core: &mut Core,
+    piece: &[u8],
+    meter: &mut Meter,
+) -> Result<bool, AllocError> {
+    let mut events = Vec::new(alloc);
+    let mut bytes = Vec::new(alloc);
+    bytes.extend_from_slice(piece)?;
+    events.push(Event::Bytes(0, 1, bytes))?;
+    let mut outputs = Vec::new(alloc);
+    let Ok(()) = replay(alloc, core, &events, &mut outputs, meter) else {
+        return Err(AllocError);
+    };
+    Ok(matches!(outputs.last(), Some(Output::Took(count)) if *count == piece.len()))
+}
+
+/// What is held, on a fresh core and while a record of 100,044 bytes comes in.
+#[test]
+fn overlong_record_is_answered(rt: HostRuntime) -> Result<(), Fail> {
+    let mut meter = Meter::new();
+    let mut core = Core::new(rt.alloc(), limits(300), LISTENER, 1000, 0, &mut meter)?;
+    assert_eq!(rt; core.held(), 270);
+    assert_eq!(rt; core.open(0, LOOPBACK, &mut meter)?, 1);
+    assert_eq!(rt; core.held(), 398);
+    let call = words(rt.alloc(), &[OVERLONG, 1, 0, 2, 100_000, 2, 0, 0, 0, 0, 0])?;
+    assert!(rt; arrive(rt.alloc(), &mut core, &call, &mut meter)?);
+    assert_eq!(rt; core.held(), 398);
+    for _i in 0..99 {
+        assert!(rt; arrive(rt.alloc(), &mut core, &[0xff; 1000], &mut meter)?);
+        assert!(rt; core.held() <= 9214);
+    }
+    assert!(rt; arrive(rt.alloc(), &mut core, &[0xff; 1000], &mut meter)?);
+    assert!(rt; core.pending(1, &mut meter)?.len() == 28 && core.held() == 450);
+    assert!(rt; core.held() <= core.bytes_bound());
+    Ok(())
+}
+
+/// A NULL call and its reply, of which 24 bytes are held.
+#[test]
+fn null_reply(rt: HostRuntime) -> Result<(), Fail> {
+    let mut meter = Meter::new();
+    let mut core = Core::new(rt.alloc(), limits(300), LISTENER, 1000, 0, &mut meter)?;
+    assert_eq!(rt; core.held(), 270);
+    let call = words(rt.alloc(), &[1, 0, 2, 100_000, 2, 0, 0, 0, 0, 0])?;
+    let mut events = Vec::new(rt.alloc());
+    events.push(Event::Datagram(0, LOOPBACK, call))?;
+    let mut outputs = Vec::new(rt.alloc());
+    replay(rt.alloc(), &mut core, &events, &mut outputs, &mut meter)?;
+    assert!(rt; matches!(outputs.last(), Some(Output::Replied(reply)) if reply.len() == 24));
+    assert_eq!(rt; core.held(), 294);
+    Ok(())
+}
