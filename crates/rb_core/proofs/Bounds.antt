@@ -38,7 +38,7 @@ use Rattle.rb_core.specs.Slots.{StandsForPhase, StandsForConnection, charge, hel
 use Rattle.rb_core.specs.StandsFor.{Held, StandsFor}
 use Rattle.rb_core.specs.HeldBytes.{held, greatest_call, bytes_bound}
 use Rattle.rb_core.specs.Laws.{IsReached}
-use Rattle.rb_core.specs.HeldLaws.{takes_bytes, HoldsArguments, unheld_share, IsBounded, HeldBytesAreBounded}
+use Rattle.rb_core.specs.HeldLaws.{takes_bytes, HoldsArguments, unheld_share, IsBounded, HeldBytesAreBounded, NeverPasses}
 use Rattle.rb_core.proofs.EntriesKept.{HasShortArgs, reached-kept}
 use Rattle.rb_core.proofs.Ledgers.{IsShortChange, reached-short}
 use Rattle.rb_core.proofs.Room.{reached-room}
@@ -168,3 +168,6 @@ held_bytes_are_bounded core s h reached port =
       each = each_holds (values_of core.connections.slots) s.connections.all h.connections.all;
       whole = omega (arith, connections, room, in_rows, keys, calls, h.short);
     }
+
+pub never_passes : (core : Held) → NeverPasses core
+never_passes core = record { within = λ s stands reached port. let whole = (held_bytes_are_bounded core s stands reached port).whole in omega (arith, whole) }

@@ -33,6 +33,11 @@ abbrev pub HeldBytesAreBounded : Type 0
 HeldBytesAreBounded =
     (core : Held) (s : State) → StandsFor core s → IsReached s → s.setting.listener.port < 2 ^ 16 → IsBounded core s
 
+-- Whatever such state a core stands for, it holds no more than the bound.
+pub record NeverPasses (core : Held) : Type 0 where
+  pub within : (s : State) → StandsFor core s → IsReached s → s.setting.listener.port < 2 ^ 16
+      → held core ≤ bytes_bound s.setting.limits
+
 -- From each such state that the old core stood for, the new one holds no more than the bound.
 abbrev pub StaysWithinBound : Held → Held → Type 0
 StaysWithinBound old new =

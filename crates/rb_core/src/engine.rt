@@ -106,6 +106,7 @@ impl Core {
     ghost use Rattle.rb_core.specs.Ending.{told_at, tell, forward_reply, expire_connection, expire};
     ghost use Rattle.rb_core.specs.Awaits.{has_live};
     ghost use Rattle.rb_core.specs.HeldBytes.{held, bytes_bound};
+    ghost use Rattle.rb_core.specs.HeldLaws.{NeverPasses};
     ghost use Rattle.rb_core.specs.Slots.{Acts, Shows, Lends};
     ghost use Rattle.rb_core.specs.StandsFor.{StandsFor, ActsWithReply, answering_heard, without_arguments, context_of, answering_cost, bytes_cost, closing_cost, ending_cost, IsCheapIfQuiet};
     ghost use Rattle.rb_core.specs.Costs.{look_cost, slot_count, serving_cost, tell_cost, pending_cost, giving_cost};
@@ -178,10 +179,12 @@ impl Core {
 
     /// Takes a datagram in. The reply is that of `udp_reply`. `Forwarded` where it is a call that is forwarded: its reply
     /// comes with `forward_reply` or `expire`.
+    #[tactic(auto, using(crate::proofs::Bounds::never_passes))]
     pub fn datagram(&mut self, now: u64, peer: Peer, content: &[u8], meter: &mut Meter) -> Outcome
         requires { meter.old.tie ≡ self.old.tie }
         ensures acts { ActsWithReply (λ s. datagram s now peer content.now) self.old self.new result }
         ensures tie { self.new.tie ≡ self.old.tie }
+        ensures held { NeverPasses self.new }
         ensures short { length self.new.reply ≤ longest_reply }
         ensures cost { PaysAtMost meter.old meter.new (2 + serving_cost self.old.books self.new.books) }
     {
@@ -215,12 +218,14 @@ impl Core {
 
     /// Opens a connection, and gives its number, from 1 upwards. `Full` where there are as many connections as there
     /// may be, lost ones among them, else `Spent` where no number is left.
+    #[tactic(auto, using(crate::proofs::Bounds::never_passes))]
     pub fn open(&mut self, now: u64, peer: Peer, meter: &mut Meter) -> Result<u64, CoreFault>
         requires { meter.old.tie ≡ self.old.tie }
         ensures acts { Acts StandsFor (λ s. open_connection s now peer)
             self.old self.new result }
         ensures refused { OnErr result (self.new ≡ self.old) }
         ensures tie { self.new.tie ≡ self.old.tie }
+        ensures held { NeverPasses self.new }
         ensures cost { PaysAtMost meter.old meter.new 4 }
     {
         let clock = self.clock.max(now);
@@ -231,6 +236,7 @@ impl Core {
 
     /// Takes bytes that arrive on a connection, up to the one that ends a record, and none while a reply is owed or awaited.
     /// `Gone` where there is no such connection, or it is Lost.
+    #[tactic(auto, using(crate::proofs::Bounds::never_passes))]
     pub fn bytes(
         &mut self,
         now: u64,
@@ -243,6 +249,7 @@ impl Core {
         ensures within { IfOk result (λ taken. taken.count ≤ length piece.now) }
         ensures refused { OnErr result (self.new ≡ self.old) }
         ensures tie { self.new.tie ≡ self.old.tie }
+        ensures held { NeverPasses self.new }
         ensures cost { PaysAtMost meter.old meter.new (bytes_cost self.old self.new result) }
         ensures cheap { IsCheapIfQuiet self.old id piece.now result meter.old meter.new }
     {
@@ -313,11 +320,13 @@ impl Core {
 
     /// n of the pending bytes of a connection were given, or as many as are pending. `Gone` where there is no such
     /// connection, or it is Lost.
+    #[tactic(auto, using(crate::proofs::Bounds::never_passes))]
     pub fn gave(&mut self, now: u64, id: u64, n: usize, meter: &mut Meter) -> Result<(), CoreFault>
         requires { meter.old.tie ≡ self.old.tie }
         ensures acts { Acts StandsFor (λ s. gave s now id n) self.old self.new result }
         ensures refused { OnErr result (self.new ≡ self.old) }
         ensures tie { self.new.tie ≡ self.old.tie }
+        ensures held { NeverPasses self.new }
         ensures cost { PaysAtMost meter.old meter.new (look_cost self.old.connections + giving_cost) }
     {
         let clock = self.clock.max(now);
@@ -328,11 +337,13 @@ impl Core {
 
     /// A connection was closed: it is there no longer, live or Lost, and its forwarded call is dropped. `Gone` where there
     /// is none of that number.
+    #[tactic(auto, using(crate::proofs::Bounds::never_passes))]
     pub fn closed(&mut self, id: u64, meter: &mut Meter) -> Result<(), CoreFault>
         requires { meter.old.tie ≡ self.old.tie }
         ensures acts { Acts StandsFor (λ s. close_connection s id) self.old self.new result }
         ensures refused { OnErr result (self.new ≡ self.old) }
         ensures tie { self.new.tie ≡ self.old.tie }
+        ensures held { NeverPasses self.new }
         ensures cost { PaysAtMost meter.old meter.new (closing_cost self.old) }
     {
         self.connections.close(id, meter)?;
@@ -363,11 +374,13 @@ impl Core {
 
     /// The forwarded call of this number was sent: from now on a reply to it counts. `Gone` where there is no such call, or
     /// it was sent before.
+    #[tactic(auto, using(crate::proofs::Bounds::never_passes))]
     pub fn sent(&mut self, id: FwdId, meter: &mut Meter) -> Result<(), CoreFault>
         requires { meter.old.tie ≡ self.old.tie }
         ensures acts { Acts StandsFor (λ s. sent_call s id.number) self.old self.new result }
         ensures refused { OnErr result (self.new ≡ self.old) }
         ensures tie { self.new.tie ≡ self.old.tie }
+        ensures held { NeverPasses self.new }
         ensures cost { PaysAtMost meter.old meter.new (sent_cost self.old.books.forwards.cap) }
     {
         let Ok(()) = self.books.sent(id, meter) else {
@@ -379,6 +392,7 @@ impl Core {
     /// Takes a datagram that came in where forwarded calls are sent from: the host and port that it came from, and its
     /// bytes. Where it is the reply to a forwarded call whose deadline is later than `now`, that call has ended, and its
     /// caller is told so. `None` where it is no such reply: it is ignored.
+    #[tactic(auto, using(crate::proofs::Bounds::never_passes))]
     pub fn forward_reply(
         &mut self,
         now: u64,
@@ -389,6 +403,7 @@ impl Core {
         requires { meter.old.tie ≡ self.old.tie }
         ensures acts { Acts StandsFor (λ s. forward_reply s now from bytes.now) self.old self.new result }
         ensures tie { self.new.tie ≡ self.old.tie }
+        ensures held { NeverPasses self.new }
         ensures short { length self.new.reply ≤ longest_reply }
         ensures cost { PaysAtMost meter.old meter.new (ending_cost self.old) }
     {
@@ -403,10 +418,12 @@ impl Core {
 
     /// Does one thing that is due at this moment: the forwarded call of least number whose deadline has come ends; where
     /// there is none, the connection of least number whose deadline has come is Lost. `Nothing` where nothing is due.
+    #[tactic(auto, using(crate::proofs::Bounds::never_passes))]
     pub fn expire(&mut self, now: u64, meter: &mut Meter) -> Expired
         requires { meter.old.tie ≡ self.old.tie }
         ensures acts { Acts StandsFor (λ s. expire s now) self.old self.new result }
         ensures tie { self.new.tie ≡ self.old.tie }
+        ensures held { NeverPasses self.new }
         ensures short { length self.new.reply ≤ longest_reply }
         ensures cost { PaysAtMost meter.old meter.new (ending_cost self.old) }
     {
