@@ -1,7 +1,7 @@
 -- What a core holds that stands for a state that a run reaches is within the bound.
-use Rattle.std.proofs.Common.{◌≡◌, ℕ, ◌+◌, ◌-◌, ◌*◌, ◌^◌, ◌≤◌, ◌<◌, Bool, true, false, cond, not, get_or, Some, List, [], ◌∷◌, ◌++◌, length, take, map, refl, ap, sym, subst, ◌∙◌, arith}
+use Rattle.std.proofs.Common.{◌≡◌, ℕ, ◌+◌, ◌*◌, ◌^◌, ◌≤◌, ◌<◌, Bool, true, false, cond, not, get_or, Some, List, [], ◌∷◌, length, map, refl, ap, sym, subst, arith}
 use Rattle.std.specs.Prelude.{All, count_by}
-use Rattle.std.specs.List.{AllZip, sum_by}
+use Rattle.std.specs.List.{AllZip}
 use Rattle.std.specs.Map.{values_of}
 use Rattle.std.proofs.Math.Nat.{mul-le-mul_right}
 use Rattle.std.proofs.lemmas.List.{length-append, length-take}
@@ -11,17 +11,15 @@ use Rattle.rb_xdr.specs.Kept.{Kept}
 use Rattle.rb_rpc.specs.Records.{data_of}
 use Rattle.rb_rpc.specs.CallBytes.{call_bytes}
 use Rattle.rb_feed.specs.Feeds.{arguments_of}
-use Rattle.rb_rpc.specs.declared.call.Credential.TheVariants as credentials
 use Rattle.rb_registry.specs.declared.row.Row.{Row}
 use Rattle.rb_registry.specs.declared.slot.Slot.{Slot as RowSlot}
 use Rattle.rb_registry.specs.Rows.{Change}
 use Rattle.rb_registry.specs.Rows.Change.{Added, Removed}
 use Rattle.rb_registry.specs.Registry.{Registry, StandsForChanges, slots_of as rows_of}
 use Rattle.rb_registry.specs.Slots.{slot_of, is_dropped, slots_by, all_slots, slots_from, held_in as held_of_rows}
-use Rattle.rb_stats.specs.Stats.{key_count}
 use Rattle.rb_stats.proofs.Sizes.{few_keys}
-use Rattle.rb_forward.specs.Forwards.{Entry, Forwards, held_call, question, head_of, held as held_of_entries}
-use Rattle.rb_forward.specs.Table.{Table as Entries, StandsForForwards, slots_of as calls_of, held_in as held_of_calls, longest_arguments as longest_args, longest_call}
+use Rattle.rb_forward.specs.Forwards.{Entry, Forwards, held_call, question, head_of}
+use Rattle.rb_forward.specs.Table.{Table as Entries, StandsForForwards, slots_of as calls_of, held_in as held_of_calls, longest_call}
 use Rattle.rb_forward.proofs.Heads.{length-head}
 use Rattle.rb_forward.proofs.Stands.{held_alike}
 use Rattle.rb_proto.specs.declared.listener.Listener.{Listener}
@@ -32,13 +30,12 @@ use Rattle.rb_core.specs.declared.slot.Stage.TheVariants as stages
 use Rattle.rb_core.specs.Calls.{longest_reply}
 use Rattle.rb_core.specs.Giving.{longest_fragment}
 use Rattle.rb_core.specs.Reading.{longest_arguments, buffer_size, kept_of}
-use Rattle.rb_core.specs.State.{State, Phase, Connection}
+use Rattle.rb_core.specs.State.{Phase, Connection}
 use Rattle.rb_core.specs.State.Phase.{Idle, Reading, Owing, Awaiting, Lost}
-use Rattle.rb_core.specs.Slots.{StandsForPhase, StandsForConnection, charge, held_in, most_charge, IsWithin}
-use Rattle.rb_core.specs.StandsFor.{Held, StandsFor}
-use Rattle.rb_core.specs.HeldBytes.{held, greatest_call, bytes_bound}
-use Rattle.rb_core.specs.Laws.{IsReached}
-use Rattle.rb_core.specs.HeldLaws.{takes_bytes, HoldsArguments, unheld_share, IsBounded, HeldBytesAreBounded, NeverPasses}
+use Rattle.rb_core.specs.Slots.{StandsForPhase, StandsForConnection, charge, held_in, IsWithin}
+use Rattle.rb_core.specs.StandsFor.{Held}
+use Rattle.rb_core.specs.HeldBytes.{greatest_call}
+use Rattle.rb_core.specs.HeldLaws.{takes_bytes, HoldsArguments, unheld_share, HeldBytesAreBounded, NeverPasses}
 use Rattle.rb_core.proofs.EntriesKept.{HasShortArgs, reached-kept}
 use Rattle.rb_core.proofs.Ledgers.{IsShortChange, reached-short}
 use Rattle.rb_core.proofs.Room.{reached-room}
@@ -122,7 +119,7 @@ rows_within : (kept : Registry) (own : List Row) (changes : List Change) → Sta
     → held_of_rows (rows_of kept) ≤ kept.limit * (32 + 24)
 rows_within kept own changes stands owned changed =
     let all : All HasShortRow (all_slots own changes) =
-        All-append HasShortRow (map (slot_of 0) own) (slots_by 0 changes) (All-map HasShortRow (slot_of 0) own owned) (by_short 0 changes changed) in
+    All-append HasShortRow (map (slot_of 0) own) (slots_by 0 changes) (All-map HasShortRow (slot_of 0) own owned) (by_short 0 changes changed) in
     let kept_short : All HasShortRow (slots_from kept.floor own changes) = All-filter (λ (slot : RowSlot). not (is_dropped (Some kept.floor) slot)) HasShortRow (all_slots own changes) all in
     let here : All HasShortRow (rows_of kept) = subst (All HasShortRow) (sym stands.slots) kept_short in
     let sum = sum_by-le (λ (slot : RowSlot). 32 + length slot.row.addr) (32 + 24) (rows_of kept) (λ k slot lt. let few = here k slot lt in omega (arith, few)) in
@@ -147,7 +144,7 @@ calls_within : (table : Entries) (f : Forwards) (most : ℕ) → StandsForForwar
 calls_within table f most stands short few =
     let alike = held_alike table.first_xid (calls_of table) f stands.all in
     let sum = sum_by-le (λ (e : Entry). 128 + length (held_call table.first_xid e)) (128 + longest_call) f.all
-        (λ k e lt. let one = call_short table.first_xid (get_or f.all k e) (short k e lt) in omega (arith, one)) in
+    (λ k e lt. let one = call_short table.first_xid (get_or f.all k e) (short k e lt) in omega (arith, one)) in
     let more = mul-le-mul_right (128 + longest_call) few in
     omega (arith, alike, sum, more)
 
@@ -161,7 +158,7 @@ held_bytes_are_bounded core s h reached port =
     let connections = connections_within (values_of core.connections.slots) s.connections.all h.connections.all h.within in
     let room = mul-le-mul_right share (reached-room s reached) in
     let in_rows : held_of_rows (rows_of core.books.registry) ≤ s.setting.limits.rows * (32 + 24) =
-        subst (λ n. held_of_rows (rows_of core.books.registry) ≤ n * (32 + 24)) h.limit (rows_within core.books.registry s.ledger.own s.ledger.changes h.ledger.registry own rows.1) in
+    subst (λ n. held_of_rows (rows_of core.books.registry) ≤ n * (32 + 24)) h.limit (rows_within core.books.registry s.ledger.own s.ledger.changes h.ledger.registry own rows.1) in
     let keys = few_keys core.books.stats s.ledger.history h.ledger.stats in
     let calls = calls_within core.books.forwards s.ledger.forwards s.setting.limits.forwards h.ledger.forwards kept.short kept.few in
     record {

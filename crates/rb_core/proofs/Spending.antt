@@ -63,6 +63,15 @@ at_most a b less more le pays = record { steps = omega (arith, pays.steps, le); 
 
 -- ---- a piece of bytes
 
+with_count-counts : (n : ℕ) (r : Bool × State) → (with_count n r).0.count ≡ n
+with_count-counts n (closed, s) = refl
+
+-- so many of its bytes are taken
+pub taken-counts : (s : State) (id : ℕ) (piece : List ℕ) (c : Connection) (t : Taking) → (when_taken s id piece c t).0.count ≡ count_taken piece t
+taken-counts s id piece c TakesNone = refl
+taken-counts s id piece c (GoesOn fed) = refl
+taken-counts s id piece c (Ends n content) = with_count-counts n (answering s id c.peer content)
+
 module _ (old new : Held) (s : State) (h : StandsFor old s) (a b : Meter) (now id : ℕ) (piece : List ℕ) (result : Result Taken CoreFault)
     (acts : Acts StandsFor (λ t. bytes t now id piece) old new result)
     (cheap : IsCheapIfQuiet old id piece result a b) where
@@ -83,14 +92,6 @@ module _ (old new : Held) (s : State) (h : StandsFor old s) (a b : Meter) (now i
   no_one : (m : Option Connection) → m ≡ None → (taken : Taken) → Ok taken ≡ (bytes_to s now id piece m).0 → ⊥
   no_one None e taken g = absurd cc
   no_one (Some c) e taken g = absurd cc
-
-  with_count-counts : (n : ℕ) (r : Bool × State) → (with_count n r).0.count ≡ n
-  with_count-counts n (closed, t) = refl
-
-  counts : (c : Connection) (t : Taking) → (when_taken (at_moment now s) id piece c t).0.count ≡ count_taken piece t
-  counts c TakesNone = refl
-  counts c (GoesOn fed) = refl
-  counts c (Ends n content) = with_count-counts n (answering (at_moment now s) id c.peer content)
 
   abbrev taken_ok : Taken → Result Taken CoreFault
   taken_ok taken = Ok taken
@@ -117,4 +118,4 @@ module _ (old new : Held) (s : State) (h : StandsFor old s) (a b : Meter) (now i
       by_there None e = absurd (no_one (live_connection id s.connections.all) e taken (sym is ∙ acts.gives s h))
       by_there (Some c) e =
           let gives : taken_ok taken ≡ (bytes_to s now id piece (Some c)).0 = rw e at (sym is ∙ acts.gives s h) in
-          by_taking c (taking c.phase piece) e refl (same_taken taken (when_taken (at_moment now s) id piece c (taking c.phase piece)).0 gives ∙ counts c (taking c.phase piece))
+          by_taking c (taking c.phase piece) e refl (same_taken taken (when_taken (at_moment now s) id piece c (taking c.phase piece)).0 gives ∙ taken-counts (at_moment now s) id piece c (taking c.phase piece))

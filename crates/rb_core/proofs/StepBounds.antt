@@ -1,18 +1,16 @@
 -- What an event costs is within the bound on its steps.
-use Rattle.std.proofs.Common.{◌≡◌, ◌≤◌, ◌<◌, ℕ, ◌+◌, ◌*◌, ◌^◌, Bool, true, false, cond, Option, Some, None, Result, Ok, Err, List, [], ◌∷◌, ◌++◌, length, refl, sym, ap, subst, ◌∙◌, arith}
+use Rattle.std.proofs.Common.{◌≡◌, ◌≤◌, ◌<◌, ℕ, ◌+◌, ◌^◌, true, false, cond, Option, Some, None, List, [], ◌∷◌, ◌++◌, refl, sym, ap, ◌∙◌, arith}
 use Rattle.rb_forward.specs.Table.{longest_arguments as longest_args}
-use Rattle.rb_core.specs.declared.types.Limits.{Limits}
-use Rattle.rb_core.specs.declared.types.CoreFault.{CoreFault}
 use Rattle.rb_core.specs.Calls.{longest_reply}
 use Rattle.rb_core.specs.Reading.{longest_arguments, buffer_size}
 use Rattle.rb_core.specs.State.{Setting, State, Connection, at_moment, opening, are_good}
 use Rattle.rb_core.specs.Connections.{Taking, taking, live_connection}
 use Rattle.rb_core.specs.Connections.Taking.{TakesNone, GoesOn, Ends}
-use Rattle.rb_core.specs.Step.{Event, Output, Taken, answering, with_count, when_taken, bytes_to, bytes, output_or, show_taken, step}
+use Rattle.rb_core.specs.Step.{Event, Output, Taken, when_taken, bytes_to, bytes, output_or, show_taken, step}
 use Rattle.rb_core.specs.Step.Event.{Open, Bytes, Pending, Gave, Closed, NextLost, Datagram, Unsent, Sent, Forward, Expire}
 use Rattle.rb_core.specs.Run.{after}
 use Rattle.rb_core.specs.Sessions.{count_in}
-use Rattle.rb_core.specs.Costs.{connection_count, row_count, count_taken, piece_cost, record_cost, answer_cost, find_cost, event_cost, run_cost}
+use Rattle.rb_core.specs.Costs.{connection_count, row_count, count_taken, piece_cost, record_cost, find_cost, event_cost, run_cost}
 use Rattle.rb_core.specs.Laws.{IsReached}
 use Rattle.rb_core.specs.StepLaws.{steps_bound, bound_at, run_bound, StepsAreBounded, RunsAreBounded}
 use Rattle.rb_core.proofs.Ledgers.{step-setting, ledgers_are_well_kept}
@@ -23,7 +21,7 @@ use Rattle.rb_core.specs.StandsFor.{Held, StandsFor}
 use Rattle.rb_core.specs.HeldBytes.{held, bytes_bound}
 use Rattle.rb_core.proofs.EntriesKept.{after-setting}
 use Rattle.rb_core.proofs.Bounds.{held_bytes_are_bounded}
-use Rattle.rb_core.proofs.Spending.{at_most}
+use Rattle.rb_core.proofs.Spending.{at_most, taken-counts}
 
 -- an event more
 reached-step : (s : State) → IsReached s → (event : Event) → IsReached (step s event).1
@@ -48,14 +46,6 @@ module _ (s : State) (reached : IsReached s) (good : are_good s.setting.limits �
   -- ---- a piece of bytes
 
   module _ (now id : ℕ) (piece : List ℕ) where
-    with_count-counts : (n : ℕ) (r : Bool × State) → (with_count n r).0.count ≡ n
-    with_count-counts n (closed, t) = refl
-
-    counts : (c : Connection) (t : Taking) → (when_taken (at_moment now s) id piece c t).0.count ≡ count_taken piece t
-    counts c TakesNone = refl
-    counts c (GoesOn fed) = refl
-    counts c (Ends n content) = with_count-counts n (answering (at_moment now s) id c.peer content)
-
     shows : (t : Taken) → count_in (show_taken t) ≡ t.count
     shows t = elim t.closed as (λ b. count_in (cond b (Output.TookAndClosed t.count) (Output.Took t.count)) ≡ t.count) [ true ↦ refl | false ↦ refl ]
 
@@ -63,7 +53,7 @@ module _ (s : State) (reached : IsReached s) (good : are_good s.setting.limits �
         → find_cost (connection_count s) + piece_cost s (step s (Bytes now id piece)).1 piece m ≤ steps_bound s.setting.limits (count_in (output_or show_taken (bytes_to s now id piece m)).0) 0
     unfolding longest_reply longest_arguments buffer_size longest_args
     piece_within None e = omega (arith, conns_few)
-    piece_within (Some c) e = by_taking (taking c.phase piece) (shows (when_taken (at_moment now s) id piece c (taking c.phase piece)).0 ∙ counts c (taking c.phase piece))
+    piece_within (Some c) e = by_taking (taking c.phase piece) (shows (when_taken (at_moment now s) id piece c (taking c.phase piece)).0 ∙ taken-counts (at_moment now s) id piece c (taking c.phase piece))
       where
         by_taking : (t : Taking) → count_in (show_taken (when_taken (at_moment now s) id piece c t).0) ≡ count_taken piece t
             → find_cost (connection_count s) + (count_taken piece t + 1 + 4 + record_cost s (step s (Bytes now id piece)).1 t) ≤ steps_bound s.setting.limits (count_in (show_taken (when_taken (at_moment now s) id piece c t).0)) 0

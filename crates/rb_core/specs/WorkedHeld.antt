@@ -1,5 +1,5 @@
 -- Worked examples: held bytes and their bound.
-use Rattle.std.specs.Prelude.{◌≡◌, ℕ, List, [], ◌∷◌, map}
+use Rattle.std.specs.Prelude.{◌≡◌, [], ◌∷◌, map}
 use Rattle.rb_core.specs.StandsFor.{Held, StandsFor}
 use Rattle.rb_core.specs.HeldBytes.{held, bytes_bound}
 use Rattle.rb_core.specs.Worked.{fresh}

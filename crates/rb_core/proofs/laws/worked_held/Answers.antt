@@ -1,25 +1,18 @@
-use Rattle.std.proofs.Common.{◌≡◌, ◌+◌, ◌*◌, ℕ, List, [], ◌∷◌, length, refl, ap, sym, ◌∙◌, arith}
+use Rattle.std.proofs.Common.{◌≡◌, ◌+◌, ℕ, List, [], ◌∷◌, length, refl, ap, arith}
 use Rattle.std.specs.List.{AllZip}
 use Rattle.std.specs.Map.{values_of}
 use Rattle.rb_registry.specs.Registry.{slots_of as rows_of}
 use Rattle.rb_registry.specs.Slots.{is_dropped, held_in as held_of_rows}
-use Rattle.rb_stats.specs.Stats.{key_count}
 use Rattle.rb_stats.specs.Statistics.{stat, items_of, keys_of}
-use Rattle.rb_stats.specs.declared.key.Version.TheVariants.{Two, Three, Four}
 use Rattle.rb_forward.specs.Table.{slots_of as calls_of, held_in as held_of_calls, longest_arguments}
 use Rattle.rb_forward.specs.Forwards.{no_forwards}
 use Rattle.rb_forward.proofs.Stands.{held_alike}
 use Rattle.rb_uaddr.specs.Uaddr.{text_of, port_bytes}
 use Rattle.rb_proto.specs.Callers.{own_rows}
 use Rattle.rb_core.specs.declared.slot.Slot.{Slot}
-use Rattle.rb_core.specs.State.{Connection}
 use Rattle.rb_core.specs.Calls.{longest_reply}
 use Rattle.rb_core.specs.Giving.{longest_fragment}
 use Rattle.rb_core.specs.Slots.{StandsForConnection, held_in}
-use Rattle.rb_core.specs.StandsFor.{Held, StandsFor}
-use Rattle.rb_core.specs.HeldBytes.{held}
-use Rattle.rb_core.specs.Worked.{fresh}
-use Rattle.rb_core.specs.WorkedHeld.{BytesBounds, FreshCoreHolds}
 use Rattle.std.specs.Fmt.{digits}
 use Rattle.rb_core.proofs.laws.worked_held.Goals as goal
 
