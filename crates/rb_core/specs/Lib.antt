@@ -19,6 +19,7 @@ pub mod Sessions
 pub mod DeadlineLaws
 pub mod HeldLaws
 pub mod StepLaws
+pub mod Headline
 pub mod Closings
 pub mod ForwardLaws
 pub mod Worked

@@ -21,24 +21,24 @@ steps_bound limits taken given =
     8 * taken + 8 * given + 64 * (limits.conns + limits.rows + most_keys + limits.forwards) + 16 * greatest_call
 
 -- the bytes that an event takes, by its output: a datagram counts whole, and what is refused takes none
-abbrev pub taken_by : Event → Output → ℕ
-taken_by (Datagram now peer content) output = length content
-taken_by (Forward now from message) output = length message
-taken_by event output = count_in output
+abbrev pub bytes_in : Event → Output → ℕ
+bytes_in (Datagram now peer content) output = length content
+bytes_in (Forward now from message) output = length message
+bytes_in event output = count_in output
 
 -- the bytes that it lends, or tells that they were given
-abbrev pub given_by : Event → Output → ℕ
-given_by (Gave now id n) Done = n
-given_by event (IsPending bytes) = length bytes
-given_by event (Replied reply) = length reply
-given_by event (UnsentIs (Some unsent)) = length unsent.call
-given_by event (RepliedTo peer reply) = length reply
-given_by event other = 0
+abbrev pub bytes_out : Event → Output → ℕ
+bytes_out (Gave now id n) Done = n
+bytes_out event (IsPending bytes) = length bytes
+bytes_out event (Replied reply) = length reply
+bytes_out event (UnsentIs (Some unsent)) = length unsent.call
+bytes_out event (RepliedTo peer reply) = length reply
+bytes_out event other = 0
 
 -- of an event in a state
 abbrev pub bound_at : State → Event → ℕ
 bound_at s event =
-    let output : Output = (step s event).0 in steps_bound s.setting.limits (taken_by event output) (given_by event output)
+    let output : Output = (step s event).0 in steps_bound s.setting.limits (bytes_in event output) (bytes_out event output)
 
 -- of each event from the state that it meets, added up
 abbrev pub run_bound : State → List Event → ℕ

@@ -5,6 +5,7 @@ ghost use Rattle.rb_core.specs.Closings.{ConnectionsCloseExactly};
 ghost use Rattle.rb_core.specs.ForwardLaws.{ConnectionsAwait, RepliesEndTheirOwn, DeadlinesEndOne, EventsChangeAtMostOne, EntriesEndOnce};
 ghost use Rattle.rb_core.specs.Sessions.{SessionsAreWhole};
 ghost use Rattle.rb_core.specs.DeadlineLaws.{ExpireDoesOneThing, NothingIsDueSoon};
+ghost use Rattle.rb_core.specs.Headline.{RunsAreServedWithinBounds};
 ghost use Rattle.rb_core.specs.HeldLaws.{HeldBytesAreBounded};
 ghost use Rattle.rb_core.specs.StepLaws.{StepsAreBounded, RunsAreBounded};
 ghost use Rattle.rb_core.specs.WorkedConnections.{NoCallCloses, OtherRpcVersionOnTcp, CrumbsInOnePiece, CrumbsInSingleBytes, CrumbsInSevens, BytesBehindArguments, OneRecordAtATime, OneRecordAtATimePasses, NoCallPasses, GivenInParts, TooMuchIsRefused, GoodLimits, NumbersDoNotRecur};
@@ -12,6 +13,13 @@ ghost use Rattle.rb_core.specs.WorkedForwards.{ForwardWithoutRow, RefusedCallsAr
 ghost use Rattle.rb_core.specs.WorkedHeld.{BytesBounds, FreshCoreHolds};
 ghost use Rattle.rb_core.specs.WorkedDeadlines.{IdleEnds, ReadingEnds, TwoEnd, OwingEnds, GivenBytesMoveTheMark, IdleAfterTheReply, DueAtOnceAtTheGreatestMoment, ForwardedCallsComeFirst};
 ghost use Rattle.rb_core.specs.Worked.{NullIsAnswered, SetThenAskThenSetAgain, GreatestVersionElse, OwnRowsAreAsked, LimitIsReached, LocalCallersSet, NothingIsSilent, NullBySys, OtherRpcVersion, TooShort, GreatestCredential, OverlongCredential, SysBodyCutShort, OverlongVerifier, BadResidue, GoodResidue, GssBeforeProgram, OtherVersion, UnknownProcedure, GarbageArguments, OtherProgram, NullOfThree, NullOfFour, GetstatFirstCall, GetstatOfRefusals};
+
+/// For every list of openings, arriving bytes in any cut, datagrams, moments, closings and refused or partial writes, each
+/// completed call has exactly the reply that is defined over the SETs and UNSETs accepted before it; the bytes held never
+/// pass their bound, and each event takes at most so many counted steps as its own bound says.
+pub fn runs_are_served_within_bounds()
+    ensures { RunsAreServedWithinBounds }
+{}
 
 /// For each connection in each run: the bytes taken on it are the marked records of its calls and an unfinished rest;
 /// those given on it, and then those still owed, are the marked replies to these calls, joined in order; and no byte is
