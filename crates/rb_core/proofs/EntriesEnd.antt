@@ -46,7 +46,7 @@ ended test (e ∷ all) = by_test (test e) (behind_one e.number (map number_of al
 goes-one : (cap : ℕ) (s t : State) → Goes cap s.ledger.forwards t.ledger.forwards → ChangesAtMostOne s t
 unfolding started next_entry sent
 goes-one cap s t (goes.Same is) = Same (ap (λ (f : Forwards). map number_of f.all) is) (ap (λ (f : Forwards). f.next) is)
-goes-one cap s t (goes.Begins clock forward args can is) =
+goes-one cap s t (goes.Begins clock forward args short can is) =
     OneBegins (ap (λ (f : Forwards). map number_of f.all) is ∙ map-append number_of s.ledger.forwards.all (next_entry clock forward args s.ledger.forwards ∷ [])) (ap (λ (f : Forwards). f.next) is)
 goes-one cap s t (goes.IsSent number is) =
     Same (ap (λ (f : Forwards). map number_of f.all) is ∙ marked number s.ledger.forwards.all) (ap (λ (f : Forwards). f.next) is)

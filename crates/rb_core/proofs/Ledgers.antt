@@ -262,6 +262,10 @@ step-follows s (Expire now) =
     expired-follows s (tell_end [] (at_fresh_moment now s) (fell_due (max s.clock now) s.ledger))
     (tell-follows s now [] (fell_due (max s.clock now) s.ledger) (due-ends s.ledger (max s.clock now)))
 
+-- no event changes the setting
+pub step-setting : (s : State) (event : Event) → (step s event).1.setting ≡ s.setting
+step-setting s event = (step-follows s event).setting
+
 -- ---- what stays so
 
 -- the own rows
