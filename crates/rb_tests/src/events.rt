@@ -1,3 +1,5 @@
+ghost use Rattle.std.specs.Prelude.{◌≡◌, IfOk};
+
 use rb_core::{Core, CoreFault, Event, Limits, Listener, Outcome, Output, Peer, replay};
 use rb_xdr::Meter;
 use std::alloc::{AllocError, Global};
@@ -21,6 +23,12 @@ fn limits(rows: usize) -> Limits {
     }
 }
 
+fn new_core(alloc: Global, meter: &mut Meter) -> Result<Core, CoreFault>
+    ensures tie { IfOk result (λ core. core.tie ≡ meter.new.tie) }
+{
+    Core::new(alloc, limits(300), LISTENER, 1000, 0, meter)
+}
+
 fn words(alloc: Global, numbers: &[u32]) -> Result<Vec<u8>, AllocError> {
     let mut bytes = Vec::new(alloc);
     for n in numbers {
@@ -32,7 +40,8 @@ fn words(alloc: Global, numbers: &[u32]) -> Result<Vec<u8>, AllocError> {
 #[test]
 fn new_core_has_memory(rt: HostRuntime) -> Result<(), Fail> {
     let mut meter = Meter::new();
-    let mut core = Core::new(rt.alloc(), limits(300), LISTENER, 1000, 0, &mut meter)?;
+    let mut core = new_core(rt.alloc(), &mut meter)?;
+    assert_eq!(rt; core.held(), 270);
     let call = words(rt.alloc(), &[1, 0, 2, 100_000, 2, 0, 0, 0, 0, 0])?;
     assert_eq!(rt;
         core.datagram(0, LOOPBACK, &call, &mut meter),
@@ -40,6 +49,8 @@ fn new_core_has_memory(rt: HostRuntime) -> Result<(), Fail> {
     );
     let reply = words(rt.alloc(), &[1, 1, 0, 0, 0, 0])?;
     assert_eq!(rt; core.udp_reply(&mut meter), reply.as_slice());
+    assert_eq!(rt; core.held(), 294);
+    assert!(rt; core.held() <= core.bytes_bound());
     Ok(())
 }
 
@@ -71,7 +82,7 @@ fn set_and_nothing(alloc: Global) -> Result<Vec<Event>, AllocError> {
 #[test]
 fn replay_has_memory(rt: HostRuntime) -> Result<(), Fail> {
     let mut meter = Meter::new();
-    let mut core = Core::new(rt.alloc(), limits(300), LISTENER, 1000, 0, &mut meter)?;
+    let mut core = new_core(rt.alloc(), &mut meter)?;
     let events = set_and_nothing(rt.alloc())?;
     let mut outputs = Vec::new(rt.alloc());
     replay(rt.alloc(), &mut core, &events, &mut outputs, &mut meter)?;
@@ -84,75 +95,30 @@ fn null_record(alloc: Global) -> Result<Vec<u8>, AllocError> {
 }
 
 /// A connection is opened, calls, is answered and is closed: each call of a connection once.
+fn one_connection(alloc: Global) -> Result<Vec<Event>, AllocError> {
+    let mut events = Vec::new(alloc);
+    events.push(Event::Open(0, LOOPBACK))?;
+    events.push(Event::Bytes(0, 1, null_record(alloc)?))?;
+    events.push(Event::Gave(0, 1, 3))?;
+    events.push(Event::Pending(1))?;
+    events.push(Event::NextLost)?;
+    events.push(Event::Closed(1))?;
+    Ok(events)
+}
+
+fn rest_is_pending(outputs: &[Output]) -> bool {
+    matches!(outputs.get(3), Some(Output::Pending(rest)) if rest.len() == 25)
+}
+
 #[test]
 fn connections_have_memory(rt: HostRuntime) -> Result<(), Fail> {
     let mut meter = Meter::new();
-    let mut core = Core::new(rt.alloc(), limits(300), LISTENER, 1000, 0, &mut meter)?;
-    let call = null_record(rt.alloc())?;
-    let id = core.open(0, LOOPBACK, &mut meter)?;
-    let taken = core.bytes(0, id, &call, &mut meter)?;
-    core.gave(0, id, 3, &mut meter)?;
-    let pending = core.pending(id, &mut meter)?.len();
-    let lost = core.next_lost(&mut meter);
-    core.closed(id, &mut meter)?;
-    assert!(rt; taken.count == 44 && pending == 25 && lost.is_none());
-    Ok(())
-}
-
-/// The size of a fragment that is both the first and the last of its record: a NULL call, and 100,000 bytes behind it.
-const OVERLONG: u32 = 0x8001_86c8;
-
-/// Bytes arrive on connection 1, in one piece.
-fn arrive(
-    alloc: Global,
-    core: &mut Core,
-    piece: &[u8],
-    meter: &mut Meter,
-) -> Result<bool, AllocError> {
-    let mut events = Vec::new(alloc);
-    let mut bytes = Vec::new(alloc);
-    bytes.extend_from_slice(piece)?;
-    events.push(Event::Bytes(0, 1, bytes))?;
-    let mut outputs = Vec::new(alloc);
-    let Ok(()) = replay(alloc, core, &events, &mut outputs, meter) else {
-        return Err(AllocError);
-    };
-    Ok(matches!(outputs.last(), Some(Output::Took(count)) if *count == piece.len()))
-}
-
-/// What is held, on a fresh core and while a record of 100,044 bytes comes in.
-#[test]
-fn overlong_record_is_answered(rt: HostRuntime) -> Result<(), Fail> {
-    let mut meter = Meter::new();
-    let mut core = Core::new(rt.alloc(), limits(300), LISTENER, 1000, 0, &mut meter)?;
-    assert_eq!(rt; core.held(), 270);
-    assert_eq!(rt; core.open(0, LOOPBACK, &mut meter)?, 1);
-    assert_eq!(rt; core.held(), 398);
-    let call = words(rt.alloc(), &[OVERLONG, 1, 0, 2, 100_000, 2, 0, 0, 0, 0, 0])?;
-    assert!(rt; arrive(rt.alloc(), &mut core, &call, &mut meter)?);
-    assert_eq!(rt; core.held(), 398);
-    for _i in 0..99 {
-        assert!(rt; arrive(rt.alloc(), &mut core, &[0xff; 1000], &mut meter)?);
-        assert!(rt; core.held() <= 9214);
-    }
-    assert!(rt; arrive(rt.alloc(), &mut core, &[0xff; 1000], &mut meter)?);
-    assert!(rt; core.pending(1, &mut meter)?.len() == 28 && core.held() == 450);
-    assert!(rt; core.held() <= core.bytes_bound());
-    Ok(())
-}
-
-/// A NULL call and its reply, of which 24 bytes are held.
-#[test]
-fn null_reply(rt: HostRuntime) -> Result<(), Fail> {
-    let mut meter = Meter::new();
-    let mut core = Core::new(rt.alloc(), limits(300), LISTENER, 1000, 0, &mut meter)?;
-    assert_eq!(rt; core.held(), 270);
-    let call = words(rt.alloc(), &[1, 0, 2, 100_000, 2, 0, 0, 0, 0, 0])?;
-    let mut events = Vec::new(rt.alloc());
-    events.push(Event::Datagram(0, LOOPBACK, call))?;
+    let mut core = new_core(rt.alloc(), &mut meter)?;
+    let events = one_connection(rt.alloc())?;
     let mut outputs = Vec::new(rt.alloc());
     replay(rt.alloc(), &mut core, &events, &mut outputs, &mut meter)?;
-    assert!(rt; matches!(outputs.last(), Some(Output::Replied(reply)) if reply.len() == 24));
-    assert_eq!(rt; core.held(), 294);
+    assert!(rt; outputs.len() == 6 && rest_is_pending(&outputs));
+    assert!(rt; matches!(outputs.last(), Some(Output::Done)));
+    assert_eq!(rt; core.held(), 270);
     Ok(())
 }
