@@ -17,14 +17,12 @@ due_closed old table found result is stays acts = record {
     setting = h.setting;
     clock = h.clock;
     conns = stays.conns ∙ h.conns;
-    within = stays.within;
     connections = rw (← h.clock) (acts.stands s.connections h.connections);
     limit = h.limit;
     ledger = h.ledger;
     forwards = h.forwards;
     first_xid = h.first_xid;
     reply = h.reply;
-    short = h.short;
     arguments = h.arguments;
   };
 }

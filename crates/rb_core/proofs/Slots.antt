@@ -13,7 +13,7 @@ use Rattle.rb_rpc.specs.Verdict.{verdict}
 use Rattle.rb_feed.specs.Feeds.{StandsForCall, arguments_of}
 use Rattle.rb_core.specs.declared.types.CoreFault.TheVariants.{Full, Spent, Gone}
 use Rattle.rb_core.specs.Reading.{Reader, longest_arguments, buffer_size, kept_of, IsReading}
-use Rattle.std.proofs.lemmas.Map.Entries.{length-values_of, sum_by-set_value}
+use Rattle.std.proofs.lemmas.Map.Entries.{length-values_of}
 use Rattle.rb_xdr.specs.Search.{key_of}
 use Rattle.rb_xdr.proofs.PoolLemmas.{All-with_value, distinct-with, length-with}
 use Rattle.rb_core.specs.declared.slot.Buffers.{Buffers}
@@ -24,7 +24,7 @@ use Rattle.rb_core.specs.declared.slot.Wanted.TheVariants as wanted
 use Rattle.rb_core.specs.State.{Phase, Connection, Connections, greatest_number}
 use Rattle.rb_core.specs.State.Phase.{Idle, Reading, Owing, Awaiting, Lost}
 use Rattle.rb_core.specs.Connections.{change_first, changed_at, is_lost, is_live, live_connection, on_live, has_number, number_for, opening_of, is_there, without_number, closing_of}
-use Rattle.rb_core.specs.Slots.{Acts, Shows, StandsForConnection, StandsForPhase, StandsForConnections, Table, is_lost_stage, is_wanted_slot, is_wanted, wanted_slot, IsFound, is_numbered, AreNumbered, IsTable, HasBuffers, arguments_heard, arguments_on, charge, IsWithin}
+use Rattle.rb_core.specs.Slots.{Acts, Shows, StandsForConnection, StandsForPhase, StandsForConnections, Table, is_lost_stage, is_wanted_slot, is_wanted, wanted_slot, IsFound, is_numbered, AreNumbered, IsTable, HasBuffers, arguments_heard, arguments_on}
 use Rattle.rb_core.specs.declared.slot.Stage.{Stage}
 use Rattle.rb_core.specs.declared.slot.Stage.TheVariants as stages
 use Rattle.rb_core.proofs.DueSlots.{due_alike}
@@ -465,9 +465,9 @@ module _ (conns : ℕ) (peer : Peer) (clock : ℕ) (table : Table) where
 
 -- ---- the table with a slot changed
 
-pub table_changed : (slots : Pool Slot) (spare : Pool Buffers) (given conns held k : ℕ) (old new : Slot) → IsTable slots spare given conns held → value_at slots.entries k ≡ Some old → new.number ≡ old.number → HasBuffers slots.tie new
-    → (now : ℕ) → now + charge old ≡ held + charge new → IsWithin new → IsTable (record slots { entries = with_value slots.entries k new }) spare given conns now
-table_changed slots spare given conns held k old new t found same buffers now sum fits = record {
+pub table_changed : (slots : Pool Slot) (spare : Pool Buffers) (given conns k : ℕ) (old new : Slot) → IsTable slots spare given conns → value_at slots.entries k ≡ Some old → new.number ≡ old.number → HasBuffers slots.tie new
+    → IsTable (record slots { entries = with_value slots.entries k new }) spare given conns
+table_changed slots spare given conns k old new t found same buffers = record {
   distinct = distinct-with slots.entries k new t.distinct;
   spare_distinct = t.spare_distinct;
   room = rw (length-with slots.entries k new) t.room;
@@ -477,7 +477,4 @@ table_changed slots spare given conns held k old new t found same buffers now su
   buffers = All-with_value (HasBuffers slots.tie) slots.entries k new t.buffers buffers;
   spare_buffers = t.spare_buffers;
   numbers = numbered-with given slots.entries k old new found same t.numbers;
-  few = t.few;
-  within = All-with_value IsWithin slots.entries k new t.within fits;
-  is_held = let sums = sum_by-set_value charge (λ n. eqb n k) slots.entries old new found in omega (arith, sum, sums, t.is_held);
 }

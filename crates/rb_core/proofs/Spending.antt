@@ -1,24 +1,24 @@
 -- What calls pay, added up.
-use Rattle.std.proofs.Common.{◌≡◌, ◌≤◌, ℕ, ◌+◌, Bool, List, length, Option, Some, None, Result, Ok, Err, refl, sym, ap, subst, ◌∙◌, arith}
+use Rattle.std.proofs.Common.{◌≡◌, ◌≤◌, ℕ, ◌+◌, List, length, Option, Some, None, Result, Ok, Err, refl, sym, ap, subst, ◌∙◌, arith}
 use Rattle.rb_xdr.specs.Meter.{Meter, PaysAtMost}
 use Rattle.rb_core.specs.declared.slot.Heard.{Heard}
 use Rattle.rb_registry.specs.Registry.{rows_of, slots_of, dead_count}
 use Rattle.rb_core.specs.declared.types.CoreFault.{CoreFault}
-use Rattle.rb_core.specs.State.{State, Connection, at_moment}
+use Rattle.rb_core.specs.State.{State, Connection}
 use Rattle.rb_core.specs.Connections.{Taking, taking, live_connection}
 use Rattle.rb_core.specs.Connections.Taking.{TakesNone, GoesOn, Ends}
-use Rattle.rb_core.specs.Step.{Taken, answering, with_count, when_taken, bytes, bytes_to}
+use Rattle.rb_core.specs.Step.{Taken, bytes, bytes_to}
 use Rattle.rb_core.specs.Slots.{Acts}
 use Rattle.rb_core.specs.StandsFor.{Held, StandsFor, IsCheapIfQuiet}
-use Rattle.rb_core.specs.Costs.{find_cost, heard_cost, exchange_cost, read_cost, serve_cost, settle_cost, answer_cost, connection_count, row_count, NoRecordEnds, take_cost, recount_cost, taking_cost, count_taken, piece_cost, record_cost}
+use Rattle.rb_core.specs.Costs.{find_cost, heard_cost, exchange_cost, read_cost, serve_cost, settle_cost, answer_cost, connection_count, row_count, NoRecordEnds, take_cost, taking_cost, piece_cost, record_cost}
 use Rattle.rb_core.proofs.Slots.{as_many}
 
 -- a record ended, and it was answered
 pub answered_cost : (m0 m1 m2 : Meter) (n other rows left count : ℕ) (h : Option Heard) (x : Heard) → h ≡ Some x → other ≡ n
-    → PaysAtMost m0 m1 (find_cost n + (take_cost count + heard_cost h + recount_cost)) → PaysAtMost m1 m2 (read_cost + serve_cost rows left + settle_cost other)
-    → PaysAtMost m0 m2 (find_cost n + (take_cost count + recount_cost) + answer_cost n rows left)
+    → PaysAtMost m0 m1 (find_cost n + (take_cost count + heard_cost h)) → PaysAtMost m1 m2 (read_cost + serve_cost rows left + settle_cost other)
+    → PaysAtMost m0 m2 (find_cost n + take_cost count + answer_cost n rows left)
 answered_cost m0 m1 m2 n other rows left count h x is same first second =
-    let taken : PaysAtMost m0 m1 (find_cost n + (take_cost count + exchange_cost + recount_cost)) = rw is at first in
+    let taken : PaysAtMost m0 m1 (find_cost n + (take_cost count + exchange_cost)) = rw is at first in
     record {
       steps = omega (arith, taken.steps, second.steps, same);
       rises = omega (arith, taken.rises, second.rises);
@@ -63,15 +63,6 @@ at_most a b less more le pays = record { steps = omega (arith, pays.steps, le); 
 
 -- ---- a piece of bytes
 
-with_count-counts : (n : ℕ) (r : Bool × State) → (with_count n r).0.count ≡ n
-with_count-counts n (closed, s) = refl
-
--- so many of its bytes are taken
-pub taken-counts : (s : State) (id : ℕ) (piece : List ℕ) (c : Connection) (t : Taking) → (when_taken s id piece c t).0.count ≡ count_taken piece t
-taken-counts s id piece c TakesNone = refl
-taken-counts s id piece c (GoesOn fed) = refl
-taken-counts s id piece c (Ends n content) = with_count-counts n (answering s id c.peer content)
-
 module _ (old new : Held) (s : State) (h : StandsFor old s) (a b : Meter) (now id : ℕ) (piece : List ℕ) (result : Result Taken CoreFault)
     (acts : Acts StandsFor (λ t. bytes t now id piece) old new result)
     (cheap : IsCheapIfQuiet old id piece result a b) where
@@ -93,29 +84,22 @@ module _ (old new : Held) (s : State) (h : StandsFor old s) (a b : Meter) (now i
   no_one None e taken g = absurd cc
   no_one (Some c) e taken g = absurd cc
 
-  abbrev taken_ok : Taken → Result Taken CoreFault
-  taken_ok taken = Ok taken
-
-  same_taken : (x y : Taken) → taken_ok x ≡ taken_ok y → x.count ≡ y.count
-  same_taken x y e = cc
-
-  pub taken_cost_of : (taken : Taken) → result ≡ Ok taken
-      → PaysAtMost a b (find_cost (length old.connections.slots) + (take_cost taken.count + recount_cost) + answer_cost (length old.connections.slots) (length (slots_of old.books.registry)) (length (slots_of new.books.registry)))
+  pub taken_cost_of : (taken : Taken) → result ≡ Ok taken → taken.count ≤ length piece
+      → PaysAtMost a b (find_cost (length old.connections.slots) + take_cost taken.count + answer_cost (length old.connections.slots) (length (slots_of old.books.registry)) (length (slots_of new.books.registry)))
       → IsPaid (live_connection id s.connections.all)
   unfolding bytes
-  taken_cost_of taken is cost = by_there (live_connection id s.connections.all) refl
+  taken_cost_of taken is within cost = by_there (live_connection id s.connections.all) refl
     where
-      all_cost : PaysAtMost a b (find_cost (connection_count s) + (take_cost taken.count + recount_cost) + answer_cost (connection_count s) (row_count s) (row_count (bytes s now id piece).1))
-      all_cost = by_all (λ n r l. find_cost n + (take_cost taken.count + recount_cost) + answer_cost n r l) old new s (bytes s now id piece).1 a b h (acts.stands s h) cost
+      all_cost : PaysAtMost a b (find_cost (connection_count s) + (take_cost (length piece) + answer_cost (connection_count s) (row_count s) (row_count (bytes s now id piece).1)))
+      all_cost =
+          at_most a b (find_cost (connection_count s) + take_cost taken.count + answer_cost (connection_count s) (row_count s) (row_count (bytes s now id piece).1)) _ (omega (arith, within))
+          (by_all (λ n r l. find_cost n + take_cost taken.count + answer_cost n r l) old new s (bytes s now id piece).1 a b h (acts.stands s h) cost)
 
-      by_taking : (c : Connection) (t : Taking) → live_connection id s.connections.all ≡ Some c → taking c.phase piece ≡ t → taken.count ≡ count_taken piece t
-          → PaysAtMost a b (find_cost (connection_count s) + (take_cost (count_taken piece t) + recount_cost + record_cost s (bytes s now id piece).1 t))
-      by_taking c TakesNone e t k = cheaply (take_cost 0 + recount_cost + 0) (rw is (omega (arith, k))) (rw e (rw t refl))
-      by_taking c (GoesOn fed) e t k = cheaply (take_cost (length piece) + recount_cost + 0) (rw is (omega (arith, k))) (rw e (rw t refl))
-      by_taking c (Ends n content) e t k = at_most a b (find_cost (connection_count s) + (take_cost taken.count + recount_cost) + answer_cost (connection_count s) (row_count s) (row_count (bytes s now id piece).1)) _ (omega (arith, k)) all_cost
+      by_taking : (c : Connection) (t : Taking) → live_connection id s.connections.all ≡ Some c → taking c.phase piece ≡ t → PaysAtMost a b (find_cost (connection_count s) + (take_cost (length piece) + record_cost s (bytes s now id piece).1 t))
+      by_taking c TakesNone e t = cheaply (take_cost (length piece) + 0) (rw is (omega (arith, within))) (rw e (rw t refl))
+      by_taking c (GoesOn fed) e t = cheaply (take_cost (length piece) + 0) (rw is (omega (arith, within))) (rw e (rw t refl))
+      by_taking c (Ends n content) e t = all_cost
 
       by_there : (m : Option Connection) → live_connection id s.connections.all ≡ m → IsPaid m
       by_there None e = absurd (no_one (live_connection id s.connections.all) e taken (sym is ∙ acts.gives s h))
-      by_there (Some c) e =
-          let gives : taken_ok taken ≡ (bytes_to s now id piece (Some c)).0 = rw e at (sym is ∙ acts.gives s h) in
-          by_taking c (taking c.phase piece) e refl (same_taken taken (when_taken (at_moment now s) id piece c (taking c.phase piece)).0 gives ∙ taken-counts (at_moment now s) id piece c (taking c.phase piece))
+      by_there (Some c) e = by_taking c (taking c.phase piece) e refl

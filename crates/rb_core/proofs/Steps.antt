@@ -1,5 +1,5 @@
 -- A core that stands for a state before a call stands for the state after it.
-use Rattle.std.proofs.Common.{◌≡◌, ◌≤◌, ℕ, Bool, true, false, cond, List, [], ◌∷◌, Option, Some, None, Result, Ok, Err, length, eqb, refl, sym, ap, subst, ◌∙◌, max, arith}
+use Rattle.std.proofs.Common.{◌≡◌, ℕ, Bool, true, false, cond, List, [], ◌∷◌, Option, Some, None, Result, Ok, Err, length, eqb, refl, sym, ap, subst, ◌∙◌, max}
 use Rattle.std.specs.Prelude.{find, not, IfSome}
 use Rattle.std.specs.Option.{option_map_or}
 use Rattle.std.proofs.lemmas.Bool.{and_parts}
@@ -20,7 +20,7 @@ use Rattle.rb_core.specs.declared.slot.Received.{Received}
 use Rattle.rb_core.specs.declared.types.CoreFault.{CoreFault}
 use Rattle.rb_core.specs.declared.types.CoreFault.TheVariants.{Gone}
 use Rattle.rb_rpc.specs.Verdict.{verdict}
-use Rattle.rb_core.specs.Calls.{Outcome, outcome, message_with, message_of, is_no_call, reply_in, longest_reply}
+use Rattle.rb_core.specs.Calls.{Outcome, outcome, message_with, message_of, is_no_call, reply_in}
 use Rattle.rb_core.specs.Reading.{kept_of}
 use Rattle.rb_core.specs.State.{State, Connection, Connections, at_moment}
 use Rattle.rb_core.specs.State.Phase.{Idle}
@@ -47,14 +47,12 @@ module _ (old : Held) (s : State) (h : StandsFor old s) where
     setting = h.setting;
     clock = is ∙ ap (λ (n : ℕ). max n now) h.clock;
     conns = stays.conns ∙ h.conns;
-    within = stays.within;
     connections = stands;
     limit = h.limit;
     forwards = h.forwards;
     first_xid = h.first_xid;
     ledger = h.ledger;
     reply = h.reply;
-    short = h.short;
     arguments = h.arguments;
   }
 
@@ -145,14 +143,12 @@ closed_acts old id table books u stays frame acts dropped = record {
       setting = h.setting;
       clock = h.clock;
       conns = stays.conns ∙ h.conns;
-      within = stays.within;
       connections = z;
       limit = frame.limit ∙ h.limit;
       forwards = frame.cap ∙ h.forwards;
       first_xid = frame.first_xid ∙ h.first_xid;
       ledger = dropped s.ledger h.ledger;
       reply = h.reply;
-      short = h.short;
       arguments = h.arguments;
     }
 
@@ -202,7 +198,6 @@ answer_acts old id peer message arguments books given table served stays settles
     setting = h.setting;
     clock = h.clock;
     conns = stays.conns ∙ h.conns;
-    within = stays.within;
     connections =
         subst (λ (o : Outcome). StandsForConnections table (changed_at id (settled s.clock o) s.connections)) (serve_gives old (Tcp id peer) message arguments books given served s h)
         (subst (λ (n : ℕ). StandsForConnections table (changed_at id (settled n given) s.connections)) h.clock (settles s.connections h.connections));
@@ -211,26 +206,23 @@ answer_acts old id peer message arguments books given table served stays settles
     first_xid = served.frame.first_xid ∙ h.first_xid;
     ledger = serve_stands old (Tcp id peer) message arguments books given served s h;
     reply = h.reply;
-    short = h.short;
     arguments = h.arguments;
   };
 }
 
 -- a datagram is answered
-module _ (old : Held) (now clock : ℕ) (peer : Peer) (content : List ℕ) (books : Books) (reply : List ℕ) (tie : ℕ) (is : clock ≡ max old.clock now) (few : length reply ≤ longest_reply) where
+module _ (old : Held) (now clock : ℕ) (peer : Peer) (content : List ℕ) (books : Books) (reply : List ℕ) (tie : ℕ) (is : clock ≡ max old.clock now) where
   moment : (s : State) → StandsFor old s → StandsFor (record old { clock = clock }) (at_moment now s)
   moment s h = record {
     setting = h.setting;
     clock = is ∙ ap (λ (n : ℕ). max n now) h.clock;
     conns = h.conns;
-    within = h.within;
     connections = h.connections;
     limit = h.limit;
     forwards = h.forwards;
     first_xid = h.first_xid;
     ledger = h.ledger;
     reply = h.reply;
-    short = h.short;
     arguments = h.arguments;
   }
 
@@ -245,14 +237,12 @@ module _ (old : Held) (now clock : ℕ) (peer : Peer) (content : List ℕ) (book
       setting = h.setting;
       clock = is ∙ ap (λ (n : ℕ). max n now) h.clock;
       conns = h.conns;
-      within = h.within;
       connections = h.connections;
       limit = frame.limit ∙ h.limit;
       forwards = frame.cap ∙ h.forwards;
       first_xid = frame.first_xid ∙ h.first_xid;
       ledger = z;
       reply = holds ∙ ap reply_in e;
-      short = few;
       arguments = h.arguments;
     },
   )
@@ -396,14 +386,12 @@ module _ (old : Held) (now clock id : ℕ) (piece : List ℕ) (is : clock ≡ ma
     setting = h.setting;
     clock = is ∙ ap (λ (n : ℕ). max n now) h.clock;
     conns = stays.conns ∙ h.conns;
-    within = stays.within;
     connections = z;
     limit = h.limit;
     forwards = h.forwards;
     first_xid = h.first_xid;
     ledger = h.ledger;
     reply = h.reply;
-    short = h.short;
     arguments = none;
   }
 
@@ -533,14 +521,12 @@ module _ (old : Held) (number : ℕ) (books : Books) where
       setting = h.setting;
       clock = h.clock;
       conns = h.conns;
-      within = h.within;
       connections = h.connections;
       limit = frame.limit ∙ h.limit;
       forwards = frame.cap ∙ h.forwards;
       first_xid = frame.first_xid ∙ h.first_xid;
       ledger = becomes s.ledger h.ledger;
       reply = h.reply;
-      short = h.short;
       arguments = h.arguments;
     });
   }
@@ -562,34 +548,30 @@ tcp_told old id peer said table stays settles = record {
     setting = h.setting;
     clock = h.clock;
     conns = stays.conns ∙ h.conns;
-    within = stays.within;
     connections = subst (λ (n : ℕ). StandsForConnections table (changed_at id (settled n said) s.connections)) h.clock (settles s.connections h.connections);
     limit = h.limit;
     forwards = h.forwards;
     first_xid = h.first_xid;
     ledger = h.ledger;
     reply = h.reply;
-    short = h.short;
     arguments = h.arguments;
   };
 }
 
-pub udp_told : (old : Held) (peer : Peer) (said : Outcome) (reply : List ℕ) (tie : ℕ) (told : Told) → length reply ≤ longest_reply → reply ≡ reply_in said → told ≡ told_over_udp peer said
+pub udp_told : (old : Held) (peer : Peer) (said : Outcome) (reply : List ℕ) (tie : ℕ) (told : Told) → reply ≡ reply_in said → told ≡ told_over_udp peer said
     → Acts StandsFor (tell (Udp peer) said) old (record old { reply = reply; tie = tie }) told
-udp_told old peer said reply tie told few holds is = record {
+udp_told old peer said reply tie told holds is = record {
   gives = λ s h. is;
   stands = λ s h. record {
     setting = h.setting;
     clock = h.clock;
     conns = h.conns;
-    within = h.within;
     connections = h.connections;
     limit = h.limit;
     forwards = h.forwards;
     first_xid = h.first_xid;
     ledger = h.ledger;
     reply = holds;
-    short = few;
     arguments = h.arguments;
   };
 }
@@ -608,14 +590,12 @@ module _ (old : Held) (now clock : ℕ) (is : clock ≡ max old.clock now) (mess
     setting = h.setting;
     clock = is ∙ ap (λ (n : ℕ). max n now) h.clock;
     conns = h.conns;
-    within = h.within;
     connections = h.connections;
     limit = frame.limit ∙ h.limit;
     forwards = frame.cap ∙ h.forwards;
     first_xid = frame.first_xid ∙ h.first_xid;
     ledger = z;
     reply = refl;
-    short = omega arith;
     arguments = h.arguments;
   }
 

@@ -40,17 +40,9 @@ advance_cost = 2056
 abbrev pub pending_cost : ℕ
 pending_cost = 1029
 
--- what it costs to look at what a connection counts as, before a change and after it
-abbrev pub recount_cost : ℕ
-recount_cost = 4
-
 -- what it costs to count bytes as given: the look at how many are pending, the next fragment, or both buffers emptied
 abbrev pub give_cost : ℕ
 give_cost = 3 + advance_cost
-
--- the same of a connection among others
-abbrev pub giving_cost : ℕ
-giving_cost = give_cost + recount_cost
 
 -- what it costs to look a connection up among so many, and its slot
 abbrev pub find_cost : ℕ → ℕ
@@ -77,12 +69,12 @@ abbrev pub received_cost : Received → ℕ
 received_cost got = take_cost got.count + heard_cost got.heard
 
 abbrev pub taken_cost : Result Received CoreFault → ℕ
-taken_cost (Ok got) = received_cost got + recount_cost
+taken_cost (Ok got) = received_cost got
 taken_cost (Err fault) = 0
 
 -- what it costs to take bytes, nothing where the call was refused
 abbrev pub taking_cost : Result Taken CoreFault → ℕ
-taking_cost (Ok taken) = take_cost taken.count + recount_cost
+taking_cost (Ok taken) = take_cost taken.count
 taking_cost (Err fault) = 0
 
 abbrev pub has_ended : Taking → Bool
@@ -96,7 +88,7 @@ NoRecordEnds s id piece = IfSome (live_connection id s.connections.all) (λ c. h
 
 -- what it costs to begin a reply on a connection that is found among so many
 abbrev pub settle_cost : ℕ → ℕ
-settle_cost connections = find_cost connections + show_cost + 1 + recount_cost
+settle_cost connections = find_cost connections + show_cost + 1
 
 -- what it costs to answer the record that ended, among so many connections and rows
 abbrev pub answer_cost : ℕ → ℕ → ℕ → ℕ
@@ -157,17 +149,10 @@ record_cost s after TakesNone = 0
 record_cost s after (GoesOn fed) = 0
 record_cost s after (Ends n content) = answer_cost (connection_count s) (row_count s) (row_count after)
 
--- how many bytes of the piece are taken
-abbrev pub count_taken : List ℕ → Taking → ℕ
-count_taken piece TakesNone = 0
-count_taken piece (GoesOn fed) = length piece
-count_taken piece (Ends n content) = n
-
--- by how many bytes are taken, and whether a record ended
+-- by whether a record ended
 abbrev pub piece_cost : State → State → List ℕ → Option Connection → ℕ
 piece_cost s after piece None = 0
-piece_cost s after piece (Some c) =
-    take_cost (count_taken piece (taking c.phase piece)) + recount_cost + record_cost s after (taking c.phase piece)
+piece_cost s after piece (Some c) = take_cost (length piece) + record_cost s after (taking c.phase piece)
 
 -- what an event costs from a state, where it leaves this one
 abbrev pub cost_between : State → State → Event → ℕ
@@ -175,10 +160,10 @@ cost_between s after (Open now peer) = 4
 cost_between s after (Bytes now id piece) =
     find_cost (connection_count s) + piece_cost s after piece (live_connection id s.connections.all)
 cost_between s after (Pending id) = find_cost (connection_count s) + pending_cost
-cost_between s after (Gave now id n) = 2 * find_cost (connection_count s) + 1 + giving_cost
-cost_between s after (Closed id) = find_cost (connection_count s) + 5 + entry_cost s.setting.limits.forwards
+cost_between s after (Gave now id n) = 2 * find_cost (connection_count s) + 1 + give_cost
+cost_between s after (Closed id) = find_cost (connection_count s) + 3 + entry_cost s.setting.limits.forwards
 cost_between s after NextLost = find_cost (connection_count s)
-cost_between s after (Datagram now peer content) = serve_cost (row_count s) (row_count after) + 9003
+cost_between s after (Datagram now peer content) = serve_cost (row_count s) (row_count after) + 9002
 cost_between s after Unsent = unsent_cost s.setting.limits.forwards longest_call
 cost_between s after (Sent number) = sent_cost s.setting.limits.forwards
 cost_between s after (Forward now from message) = ended_cost s.setting.limits.forwards (connection_count s) + 9001

@@ -1,7 +1,7 @@
 -- What the slots of connections hold, and the connections that they stand for.
 use Rattle.std.specs.Prelude.{◌≡◌, ℕ, ◌+◌, ◌≤◌, ◌==◌, not, Bool, true, false, ◌&&◌, List, [], ◌∷◌, Option, Some, None, find, length, All, ⊤, Result, Ok, Err, MatchOption, MatchResult}
 use Rattle.std.specs.Borrow.{Bor}
-use Rattle.std.specs.List.{AllZip, list_any, sum_by}
+use Rattle.std.specs.List.{AllZip, list_any}
 use Rattle.std.specs.Map.{values_of}
 use Rattle.std.specs.Option.{option_map_or}
 use Rattle.rb_xdr.specs.Kept.{Kept}
@@ -155,25 +155,6 @@ abbrev pub Finds : Wanted → Table → Option (Bor Slot) → Type 0
 Finds sought table result =
     (c : Connections) → StandsForConnections table c → MatchOption result (find (is_wanted sought) c.all ≡ None) (λ slot. IsFound sought c.all slot.now)
 
--- ---- what is held
-
--- the bytes of its buffer and its window count, and 128 for its fixed part
-abbrev pub charge : Slot → ℕ
-charge slot = 128 + length slot.buffer.bytes + length slot.window.bytes
-
-abbrev pub held_in : List Slot → ℕ
-held_in slots = sum_by charge slots
-
--- with a full buffer and a full window
-abbrev pub most_charge : ℕ
-most_charge = 128 + buffer_size + longest_fragment
-
-abbrev pub IsWithin : Slot → Type 0
-IsWithin slot = charge slot ≤ most_charge
-
-abbrev pub AreWithin : List (ℕ × Slot) → Type 0
-AreWithin slots = All IsWithin (values_of slots)
-
 -- ---- what is true of all slots and buffers
 
 abbrev pub is_numbered : ℕ → Slot → Bool
@@ -210,15 +191,13 @@ pub record StaysSlot (tie : ℕ) (old new : Slot) : Type 0 where
   pub number : new.number ≡ old.number
   pub buffers : HasBuffers tie new
 
--- as many connections as before may be there, counted by the same meter, and none holds more than its buffers have room for
+-- as many connections as before may be there, counted by the same meter
 pub record StaysTable (old new : Table) : Type 0 where
   pub conns : new.conns ≡ old.conns
   pub tie : new.tie ≡ old.tie
-  pub within : AreWithin new.slots
 
--- What is true of all that is kept of connections: each connection that is not open has its buffers spare, and the number of
--- bytes that are held is counted.
-pub record IsTable (slots : Pool Slot) (spare : Pool Buffers) (given conns held : ℕ) : Type 0 where
+-- What is true of all that is kept of connections: each connection that is not open has its buffers spare.
+pub record IsTable (slots : Pool Slot) (spare : Pool Buffers) (given conns : ℕ) : Type 0 where
   pub distinct : HasDistinctKeys slots.entries
   pub spare_distinct : HasDistinctKeys spare.entries
   pub room : length slots.entries + length spare.entries ≡ conns
@@ -228,6 +207,3 @@ pub record IsTable (slots : Pool Slot) (spare : Pool Buffers) (given conns held 
   pub buffers : All (HasBuffers slots.tie) (values_of slots.entries)
   pub spare_buffers : All (AreSpare slots.tie) (values_of spare.entries)
   pub numbers : AreNumbered given (values_of slots.entries)
-  pub few : conns ≤ 256
-  pub within : AreWithin slots.entries
-  pub is_held : held ≡ held_in (values_of slots.entries)

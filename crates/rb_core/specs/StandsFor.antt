@@ -1,5 +1,5 @@
 -- What a core holds, and the states that it stands for.
-use Rattle.std.specs.Prelude.{◌≡◌, ◌≤◌, ℕ, ◌+◌, List, [], ◌++◌, length, map, Bool, Result, IfOk, option_map}
+use Rattle.std.specs.Prelude.{◌≡◌, ◌≤◌, ℕ, ◌+◌, List, [], ◌++◌, map, Bool, Result, IfOk, option_map}
 use Rattle.rb_xdr.specs.Kept.{Kept}
 use Rattle.rb_xdr.specs.Meter.{Meter, PaysAtMost}
 use Rattle.rb_core.specs.declared.run.Event as event
@@ -19,7 +19,7 @@ use Rattle.rb_rpc.specs.declared.peer.Caller.TheVariants.{Tcp}
 use Rattle.rb_proto.specs.declared.context.Context.{Context}
 use Rattle.rb_xdr.specs.declared.memory.NoMemory.{NoMemory}
 use Rattle.rb_core.specs.Calls.{Outcome, Outcome as said, message_with, longest_reply}
-use Rattle.rb_core.specs.Slots.{Table, StandsForConnections, IsDraft, Acts, AreWithin}
+use Rattle.rb_core.specs.Slots.{Table, StandsForConnections, IsDraft, Acts}
 use Rattle.rb_core.specs.Awaits.{AreAwaited}
 use Rattle.rb_core.specs.declared.run.UnsentCall.{UnsentCall}
 use Rattle.rb_forward.specs.Forwards.{Unsent as UnsentPlain}
@@ -39,30 +39,22 @@ pub record Held : Type 0 where
   pub arguments : List ℕ
   pub tie : ℕ
 
--- Neither the changes nor the history of calls is held. Between two events no arguments are, and no more bytes of a
--- connection and of the reply than there is room for.
+-- Neither the changes nor the history of calls is held. Between two events no arguments are.
 pub record StandsFor (held : Held) (s : State) : Type 0 where
   pub setting : held.setting ≡ s.setting
   pub clock : held.clock ≡ s.clock
   pub conns : held.connections.conns ≡ s.setting.limits.conns
   pub connections : StandsForConnections held.connections s.connections
-  pub within : AreWithin held.connections.slots
   pub limit : held.books.registry.limit ≡ s.setting.limits.rows
   pub ledger : StandsForLedger held.books s.ledger
   pub forwards : held.books.forwards.cap ≡ s.setting.limits.forwards
   pub first_xid : held.books.forwards.first_xid ≡ s.setting.first_xid
   pub reply : held.reply ≡ s.reply
-  pub short : length held.reply ≤ longest_reply
   pub arguments : held.arguments ≡ []
 
--- What is true of all that a core holds: it has one meter, its draft is empty between two events, each connection for
--- which a call is forwarded awaits it, and the reply has so many bytes.
-pub record IsCore (setting : Setting) (connections : Table) (books : Books) (reply draft arguments : Kept) (reply_len : ℕ) : Type 0 where
-  pub conns : connections.conns ≡ setting.limits.conns
-  pub few_conns : setting.limits.conns ≤ 256
-  pub few_rows : setting.limits.rows ≤ 4096
-  pub len : reply_len ≡ length reply.bytes
-  pub short : length reply.bytes ≤ longest_reply
+-- What is true of all that a core holds: it has one meter, its draft is empty between two events, and each connection
+-- for which a call is forwarded awaits it.
+pub record IsCore (setting : Setting) (connections : Table) (books : Books) (reply draft arguments : Kept) : Type 0 where
   pub limit : books.registry.limit ≡ setting.limits.rows
   pub forwards : books.forwards.cap ≡ setting.limits.forwards
   pub few : setting.limits.forwards ≤ 64
@@ -130,7 +122,7 @@ bytes_cost old new result =
 
 -- to close a connection, and to end the call that was forwarded for it
 abbrev pub closing_cost : Held → ℕ
-closing_cost held = look_cost held.connections + 5 + entry_cost (forwards_cap held.books)
+closing_cost held = look_cost held.connections + 3 + entry_cost (forwards_cap held.books)
 
 -- to end an entry, and to tell its caller
 abbrev pub ending_cost : Held → ℕ

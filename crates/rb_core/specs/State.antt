@@ -42,7 +42,7 @@ pub record Connections : Type 0 where
 
 -- ---- the whole
 
--- The ledger has what is remembered of the calls. `reply` is the last reply over UDP.
+-- The ledger has what is remembered of the calls. `reply` is the reply to the last datagram.
 pub record State : Type 0 where
   pub setting : Setting
   pub clock : ℕ

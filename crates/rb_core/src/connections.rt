@@ -1,14 +1,14 @@
 //! The connections that are open, in the order of their openings.
-ghost use Rattle.std.specs.Prelude.{◌≡◌, ◌<◌, ◌≤◌, ◌+◌, ◌*◌, ◌++◌, ◌∷◌, [], All, length, IfOk};
+ghost use Rattle.std.specs.Prelude.{◌≡◌, ◌<◌, ◌+◌, ◌*◌, ◌++◌, ◌∷◌, [], All, length, IfOk};
 ghost use Rattle.std.specs.Option.{option_map};
 ghost use Rattle.std.specs.Map.{values_of};
-ghost use Rattle.rb_xdr.specs.Meter.{Pays, PaysAtMost};
+ghost use Rattle.rb_xdr.specs.Meter.{PaysAtMost};
 ghost use Rattle.rb_xdr.specs.Pool.{HasDistinctKeys};
-ghost use Rattle.rb_core.specs.Slots.{wanted_slot, AreBuffers, AreSpare, HasBuffers, charge, most_charge, IsWithin};
+ghost use Rattle.rb_core.specs.Slots.{wanted_slot, AreBuffers, AreSpare};
 
 use crate::reading::LONGEST_ARGUMENTS;
 use crate::serve::LONGEST_REPLY;
-use crate::slot::{Buffers, CHARGE, Received, Slot, Stage, Wanted};
+use crate::slot::{Buffers, Received, Slot, Stage, Wanted};
 use crate::types::{CoreFault, Outcome};
 use rb_rpc::Peer;
 use rb_xdr::{Kept, Meter, NoMemory, Pool};
@@ -32,7 +32,6 @@ pub struct Connections {
     spare: Pool<Buffers>,
     given: u64,
     conns: usize,
-    held: u64,
 }
 
 impl Model for Connections {
@@ -42,7 +41,7 @@ impl Model for Connections {
 
     ghost view = { λ c. record { slots = c.slots.entries; given = c.given; conns = c.conns; tie = c.slots.tie } };
 
-    ghost invariant = { λ c. IsTable c.slots c.spare c.given c.conns c.held };
+    ghost invariant = { λ c. IsTable c.slots c.spare c.given c.conns };
 }
 
 /// Takes the first spare buffers out.
@@ -136,19 +135,6 @@ fn wanted_key(slots: &Pool<Slot>, wanted: Wanted, meter: &mut Meter) -> Option<u
     slots.find_key(|slot| slot.is_wanted(wanted), meter)
 }
 
-/// How many bytes are held of all connections, of which this one counted as so many before.
-#[tactic(auto, unfolding(crate::specs::Calls::longest_reply, crate::specs::Reading::longest_arguments, crate::specs::Reading::buffer_size, crate::specs::Giving::longest_fragment))]
-fn recounted(held: u64, before: u64, slot: &Slot, meter: &mut Meter) -> u64
-    requires buffers { HasBuffers meter.old.tie slot.now }
-    requires before { before ≤ held }
-    requires few { held ≤ 256 * most_charge }
-    ensures held { result + before ≡ held + charge slot.now }
-    ensures within { IsWithin slot.now }
-    ensures cost { Pays meter.old meter.new 2 }
-{
-    held - before + slot.charge(meter)
-}
-
 impl Connections {
     ghost use Rattle.std.specs.Prelude.{◌≡◌, ◌≤◌, ◌<◌, ◌+◌, ◌*◌, [], true, false, length, OnErr, IfOk, IfSome};
     ghost use Rattle.rb_core.specs.Connections.{on_live, giving, opening_of, closing_of, first_lost};
@@ -156,14 +142,12 @@ impl Connections {
     ghost use Rattle.rb_core.specs.StandsFor.{given_in, settling};
     ghost use Rattle.rb_core.specs.Step.{pending_at, pending_count};
     ghost use Rattle.rb_core.specs.Giving.{longest_fragment};
-    ghost use Rattle.rb_core.specs.Costs.{slot_count, look_cost, taken_cost, settle_cost, giving_cost, pending_cost};
+    ghost use Rattle.rb_core.specs.Costs.{slot_count, look_cost, taken_cost, settle_cost, give_cost, pending_cost};
     ghost use Rattle.rb_core.specs.Awaits.{is_free, has_live, NoneIsFreed, OnlyIsFreed, HearsFree};
-    ghost use Rattle.rb_core.specs.Slots.{Shows, Lends, Finds, TableActs, TableBecomes, StandsForConnections, StaysTable, IsDraft, empty_table, feeding, arguments_on, HasBuffers, held_in, most_charge};
-    ghost use Rattle.std.specs.Map.{values_of};
+    ghost use Rattle.rb_core.specs.Slots.{Shows, Lends, Finds, TableActs, TableBecomes, StandsForConnections, StaysTable, IsDraft, empty_table, feeding, arguments_on, HasBuffers};
 
     /// No connections yet, of at most so many. All of their memory is taken.
     pub fn new(alloc: Global, conns: usize, meter: &mut Meter) -> Result<Connections, NoMemory>
-        requires { conns ≤ 256 }
         ensures empty { IfOk result (λ c. c ≡ empty_table conns meter.old.tie) }
         ensures cost { PaysAtMost meter.old meter.new (3 * conns) }
     {
@@ -173,7 +157,6 @@ impl Connections {
             spare,
             given: 0,
             conns,
-            held: 0,
         })
     }
 
@@ -195,7 +178,6 @@ impl Connections {
         }
         let Buffers { buffer, window } = take_buffers(&mut self.spare, meter);
         self.given += 1;
-        self.held += CHARGE;
         let slot = Slot {
             number: self.given,
             peer,
@@ -215,7 +197,7 @@ impl Connections {
         ensures free { NoneIsFreed self.old self.new }
         ensures refused { OnErr result (self.new ≡ self.old) }
         ensures stays { StaysTable self.old self.new }
-        ensures cost { PaysAtMost meter.old meter.new (look_cost self.old + 5) }
+        ensures cost { PaysAtMost meter.old meter.new (look_cost self.old + 3) }
     {
         let Some(key) = wanted_key(&self.slots, Wanted::Numbered(id), meter) else {
             return Err(CoreFault::Gone);
@@ -223,7 +205,6 @@ impl Connections {
         let Some(slot) = self.slots.remove(key, meter) else {
             unreachable!()
         };
-        self.held -= slot.charge(meter);
         let Slot { buffer, window, .. } = slot;
         put_buffers(&mut self.spare, Buffers { buffer, window }, meter);
         Ok(())
@@ -260,10 +241,7 @@ impl Connections {
         let Some(slot) = self.slots.get_mut(key, meter) else {
             unreachable!()
         };
-        let before = slot.charge(meter);
-        let received = slot.take(piece, clock, arguments, meter);
-        self.held = recounted(self.held, before, slot, meter);
-        Ok(received)
+        Ok(slot.take(piece, clock, arguments, meter))
     }
 
     /// The live connection of the number goes on as its record is answered, or its call that was forwarded: it takes the
@@ -295,9 +273,7 @@ impl Connections {
         let Some(slot) = self.slots.get_mut(key, meter) else {
             unreachable!()
         };
-        let before = slot.charge(meter);
         slot.settle(outcome, reply, clock, meter);
-        self.held = recounted(self.held, before, slot, meter);
     }
 
     /// Counts n of the pending bytes of the live connection of the number as given, or as many as there are: `Gone`
@@ -314,7 +290,7 @@ impl Connections {
         ensures free { NoneIsFreed self.old self.new }
         ensures refused { OnErr result (self.new ≡ self.old) }
         ensures stays { StaysTable self.old self.new }
-        ensures cost { PaysAtMost meter.old meter.new (look_cost self.old + giving_cost) }
+        ensures cost { PaysAtMost meter.old meter.new (look_cost self.old + give_cost) }
     {
         let Some(key) = wanted_key(&self.slots, Wanted::Live(id), meter) else {
             return Err(CoreFault::Gone);
@@ -322,9 +298,7 @@ impl Connections {
         let Some(slot) = self.slots.get_mut(key, meter) else {
             unreachable!()
         };
-        let before = slot.charge(meter);
         slot.give(n, clock, meter);
-        self.held = recounted(self.held, before, slot, meter);
         Ok(())
     }
 
@@ -344,14 +318,6 @@ impl Connections {
         };
         slot.stage = Stage::Lost;
         Some(slot.number)
-    }
-
-    /// How many bytes are held: those of the buffers of each connection, Lost ones too, and 128 for the rest of each.
-    pub fn held(&self) -> u64
-        ensures held { result ≡ held_in (values_of self.now.slots) }
-        ensures bound { result ≤ most_charge * self.now.conns }
-    {
-        self.held
     }
 
     /// The first connection that is wanted.

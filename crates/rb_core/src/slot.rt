@@ -1,6 +1,6 @@
 //! The slot of a connection: bytes that arrive on it, and bytes that are given on it.
 ghost use Rattle.std.specs.Prelude.{◌≡◌, ◌+◌, [], Some, None};
-ghost use Rattle.rb_xdr.specs.Meter.{Pays, PaysAtMost};
+ghost use Rattle.rb_xdr.specs.Meter.{PaysAtMost};
 
 use crate::deadlines::time_in;
 use crate::giving::{advance, begin, pending, pending_len};
@@ -9,9 +9,6 @@ use crate::types::Outcome;
 use rb_rpc::{Peer, Verdict};
 use rb_xdr::{Kept, Meter};
 use std::mem;
-
-/// What the fixed part of a connection counts as, in bytes.
-pub const CHARGE: u64 = 128;
 
 /// What a connection is about.
 #[derive(Clone, Copy, Debug, PartialEq, Eq)]
@@ -90,7 +87,7 @@ impl Slot {
     ghost use Rattle.rb_core.specs.State.{Connection};
     ghost use Rattle.rb_core.specs.Connections.{taking_on, settled, giving, pending_in};
     ghost use Rattle.rb_core.specs.Deadlines.{is_due_slot};
-    ghost use Rattle.rb_core.specs.Slots.{Acts, StandsForConnection, IsBeforePiece, Shows, HasBuffers, IsDraft, StaysSlot, received, fed_with, feeding, arguments_after, arguments_heard, is_lost_stage, is_wanted_slot, charge, most_charge};
+    ghost use Rattle.rb_core.specs.Slots.{Acts, StandsForConnection, IsBeforePiece, Shows, HasBuffers, IsDraft, StaysSlot, received, fed_with, feeding, arguments_after, arguments_heard, is_lost_stage, is_wanted_slot};
     ghost use Rattle.rb_core.specs.Awaits.{is_awaiting_stage, HearsSlot};
     ghost use Rattle.rb_core.specs.StandsFor.{outcome_with};
     ghost use Rattle.rb_core.specs.Giving.{longest_fragment};
@@ -281,17 +278,6 @@ impl Slot {
                 self.window.clear(meter);
             }
         }
-    }
-
-    /// How many bytes are held of it: those of its buffer and its window, and 128 for the rest.
-    #[tactic(auto, unfolding(crate::specs::Calls::longest_reply, crate::specs::Reading::longest_arguments, crate::specs::Reading::buffer_size, crate::specs::Giving::longest_fragment))]
-    pub fn charge(&self, meter: &mut Meter) -> u64
-        requires { HasBuffers meter.old.tie self.now }
-        ensures charge { result ≡ charge self.now }
-        ensures within { result ≤ most_charge }
-        ensures cost { Pays meter.old meter.new 2 }
-    {
-        CHARGE + self.buffer.len(meter) as u64 + self.window.len(meter) as u64
     }
 
     /// How many bytes are pending.

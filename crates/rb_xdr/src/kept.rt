@@ -1,5 +1,5 @@
 //! A byte buffer of fixed capacity, whose calls are counted.
-ghost use Rattle.std.specs.Prelude.{◌≡◌, ◌+◌, ◌-◌, ◌<◌, ◌≤◌, [], ◌∷◌, length, IfOk, slice_range, vec_len, vec_capacity};
+ghost use Rattle.std.specs.Prelude.{◌≡◌, ◌+◌, ◌-◌, ◌<◌, ◌≤◌, [], ◌∷◌, ◌++◌, length, IfOk, slice_range, vec_len, vec_capacity};
 ghost use Rattle.rb_xdr.specs.Puts.{Puts};
 ghost use Rattle.rb_xdr.specs.Meter.{Pays};
 
@@ -11,42 +11,37 @@ use std::marker::Model;
 use std::ops::Range;
 use std::snapshot::Snapshot;
 
-/// Bytes in memory for `cap` of them, which `new` took and wrote to. No call changes `cap`, so none takes memory.
+/// Bytes in memory for `cap` of them, which `new` took. No call changes `cap`, so none takes memory.
 ///
 /// Each call raises the meter by its cost, and wants the meter that the buffer was made with.
 #[derive(Drop)]
 pub struct Kept {
-    /// All of the memory, of which the first `len` bytes count.
-    memory: Vec<u8>,
-    len: usize,
+    bytes: Vec<u8>,
     made_with: Snapshot<Meter>,
 }
 
 impl Model for Kept {
-    ghost use Rattle.std.specs.Prelude.{take, vec_capacity};
-    ghost use Rattle.rb_xdr.specs.Kept.{Kept as Buffer, IsKept};
+    ghost use Rattle.std.specs.Prelude.{vec_capacity};
+    ghost use Rattle.rb_xdr.specs.Kept.{Kept as Buffer};
 
     ghost Value = { Buffer };
 
     ghost view = { λ k. record {
-      bytes = take k.len k.memory.items;
-      cap = vec_capacity k.memory;
+      bytes = k.bytes.items;
+      cap = vec_capacity k.bytes;
       tie = k.made_with.value.tie;
     } };
-
-    ghost invariant = { λ k. IsKept k.memory.items (vec_capacity k.memory) k.len };
 }
 
-/// So many zeros, in memory for just these.
-fn zeros(alloc: Global, len: usize) -> Result<Vec<u8>, NoMemory>
-    ensures len { IfOk result (λ memory. vec_len memory ≡ len) }
-    ensures capacity { IfOk result (λ memory. vec_capacity memory ≡ len) }
+// Adds bytes for which there is memory. `Vec::extend_from_slice` does not promise to take none.
+fn append(to: &mut Vec<u8>, bytes: &[u8])
+    requires { vec_len to.old + length bytes.now ≤ vec_capacity to.old }
+    ensures items { to.new.items ≡ to.old.items ++ bytes.now }
+    ensures memory { vec_capacity to.new ≡ vec_capacity to.old }
 {
-    let mut memory = Vec::with_capacity(alloc, len)?;
-    'zeros: for _i in 0..len {
-        memory.push_reserved(0);
+    'bytes: for byte in bytes {
+        to.push_reserved(*byte);
     }
-    Ok(memory)
 }
 
 impl Kept {
@@ -58,8 +53,7 @@ impl Kept {
         ensures free { meter.new ≡ meter.old }
     {
         Ok(Kept {
-            memory: zeros(alloc, cap)?,
-            len: 0,
+            bytes: Vec::with_capacity(alloc, cap)?,
             made_with: Snapshot::of(meter),
         })
     }
@@ -71,11 +65,10 @@ impl Kept {
         ensures cost { Pays meter.old meter.new 1 }
     {
         meter.pay(1);
-        if self.len == self.memory.len() {
+        if self.bytes.len() == self.bytes.capacity() {
             return Err(Full { value: () });
         }
-        self.memory[self.len] = byte;
-        self.len += 1;
+        self.bytes.push_reserved(byte);
         Ok(())
     }
 
@@ -87,12 +80,10 @@ impl Kept {
         ensures cost { Pays meter.old meter.new (length bytes.now) }
     {
         meter.pay(bytes.len() as u64);
-        if self.memory.len() - self.len < bytes.len() {
+        if self.bytes.capacity() - self.bytes.len() < bytes.len() {
             return Err(Full { value: () });
         }
-        let end = self.len + bytes.len();
-        self.memory[self.len..end].copy_from_slice(bytes);
-        self.len = end;
+        append(&mut self.bytes, bytes);
         Ok(())
     }
 
@@ -105,7 +96,7 @@ impl Kept {
         ensures cost { Pays meter.old meter.new (range.end - range.start) }
     {
         meter.pay((range.end - range.start) as u64);
-        &self.memory[range.start..range.end]
+        &self.bytes[range.start..range.end]
     }
 
     /// How many bytes there are, in 1 step.
@@ -116,7 +107,7 @@ impl Kept {
         ensures cost { Pays meter.old meter.new 1 }
     {
         meter.pay(1);
-        self.len
+        self.bytes.len()
     }
 
     /// How many more bytes there may be, in 1 step.
@@ -126,7 +117,7 @@ impl Kept {
         ensures cost { Pays meter.old meter.new 1 }
     {
         meter.pay(1);
-        self.memory.len() - self.len
+        self.bytes.capacity() - self.bytes.len()
     }
 
     /// Removes every byte, in 1 step.
@@ -136,6 +127,6 @@ impl Kept {
         ensures cost { Pays meter.old meter.new 1 }
     {
         meter.pay(1);
-        self.len = 0;
+        self.bytes.clear();
     }
 }

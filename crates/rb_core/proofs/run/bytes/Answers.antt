@@ -9,7 +9,7 @@ unfolding step
 returns-in-Ok c = record {
   step = λ s h. let d = done show_taken (λ t. bytes t c.args.now c.args.id c.args.piece.now) c.args.core.now c.bytes.new.self c.in-Ok.taken c.in-Ok.ensures.acts s h in (c.show_taken.ensures ∙ d.0, d.1);
   cost = λ s h. rw (same_state show_taken (λ t. bytes t c.args.now c.args.id c.args.piece.now) c.args.core.now c.bytes.new.self (bytes s c.args.now c.args.id c.args.piece.now))
-      (taken_cost_of c.args.core.now c.bytes.new.self s h _ _ c.args.now c.args.id c.args.piece.now (Ok c.in-Ok.taken) c.in-Ok.ensures.acts c.in-Ok.ensures.cheap c.in-Ok.taken refl c.in-Ok.ensures.cost);
+      (taken_cost_of c.args.core.now c.bytes.new.self s h _ _ c.args.now c.args.id c.args.piece.now (Ok c.in-Ok.taken) c.in-Ok.ensures.acts c.in-Ok.ensures.cheap c.in-Ok.taken refl c.in-Ok.ensures.within c.in-Ok.ensures.cost);
   tie = c.in-Ok.ensures.tie;
   meter = c.in-Ok.ensures.cost.tie;
 }

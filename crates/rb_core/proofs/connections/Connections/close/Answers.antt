@@ -1,13 +1,11 @@
-use Rattle.std.proofs.Common.{[], Err, refl, sym, ap, subst, ◌∙◌, arith}
+use Rattle.std.proofs.Common.{[], Err, sym, subst, ◌∙◌, arith}
 use Rattle.std.specs.Prelude.{All}
 use Rattle.std.specs.Map.{values_of}
 use Rattle.rb_xdr.proofs.PoolLemmas.{All-value_at, All-without}
-use Rattle.rb_xdr.specs.Meter.{Meter}
 use Rattle.rb_core.specs.contracts.connections.Connections.{the_view}
 use Rattle.rb_core.specs.declared.types.CoreFault.TheVariants.{Gone}
 use Rattle.rb_core.specs.Connections.{closing_of}
-use Rattle.rb_core.specs.Slots.{Acts, StandsForConnections, HasBuffers, AreSpare, IsWithin}
-use Rattle.rb_core.proofs.Holding.{its_buffers, charge_fits, held_without}
+use Rattle.rb_core.specs.Slots.{Acts, StandsForConnections, HasBuffers, AreSpare}
 use Rattle.rb_core.proofs.Slots.{acts_from, none_closed, one_closed, slot_is_there, numbered-without}
 use Rattle.rb_xdr.proofs.PoolLemmas.{distinct-without, length-without}
 use Rattle.rb_core.proofs.Freed.{none_freed_by_close, freed_from}
@@ -20,14 +18,6 @@ returns-in_default-clause-acts c =
 
 pub unreachable-requires : goal.unreachable-requires
 unreachable-requires c = slot_is_there _ c.self.inside.slots.entries [] c.in-Some.key (sym c.in-Some.ensures.key) (sym c.in_default-remove.ensures.value)
-
-pub charge-requires : goal.charge-requires
-charge-requires c =
-    its_buffers c.self.inside.slots c.self.inside.spare c.self.inside.given c.self.inside.conns c.self.inside.held c.self.invariant c.in-Some.key c.in-Some-remove.slot (sym c.in-Some-remove.ensures.value) c.remove.new.meter
-    (ap (λ (m : Meter). m.tie) c.remove.ensures.cost ∙ c.wanted_key.ensures.cost.tie ∙ c.requires ∙ sym (ap (λ t. t.tie) c.self.view_is))
-
-pub overflow_sub-self : goal.overflow_sub-self
-overflow_sub-self c = rw c.charge.ensures.charge (charge_fits c.self.inside.slots c.self.inside.spare c.self.inside.given c.self.inside.conns c.self.inside.held c.self.invariant c.in-Some.key c.in-Some-remove.slot (sym c.in-Some-remove.ensures.value))
 
 pub put_buffers-requires-clause-made : goal.put_buffers-requires-clause-made
 put_buffers-requires-clause-made c =
@@ -48,17 +38,7 @@ invariant_of-self c =
       buffers = All-without (HasBuffers c.self.inside.slots.tie) es c.in-Some.key c.self.invariant.buffers;
       spare_buffers = subst (λ t. All (AreSpare t) (values_of c.put_buffers.new.spare.entries)) c.self.invariant.tie c.put_buffers.ensures.buffers;
       numbers = numbered-without c.self.inside.given es c.in-Some.key c.self.invariant.numbers;
-      few = c.self.invariant.few;
-      within = All-without IsWithin es c.in-Some.key c.self.invariant.within;
-      is_held =
-          let sum = held_without c.self.inside.slots c.self.inside.spare c.self.inside.given c.self.inside.conns c.self.inside.held c.self.invariant c.in-Some.key c.in-Some-remove.slot (sym c.in-Some-remove.ensures.value) in
-          rw c.charge.ensures.charge (omega (arith, sum));
     })
-
-pub returns-clause-stays : goal.returns-clause-stays
-returns-clause-stays c =
-    rw (c.remove.ensures.entries, ← c.self.view_is)
-    (record { conns = refl; tie = refl; within = All-without IsWithin c.self.inside.slots.entries c.in-Some.key c.self.invariant.within })
 
 pub returns-clause-acts : goal.returns-clause-acts
 returns-clause-acts c =

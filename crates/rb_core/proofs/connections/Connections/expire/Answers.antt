@@ -3,8 +3,7 @@ use Rattle.rb_xdr.proofs.PoolLemmas.{All-value_at}
 use Rattle.rb_core.specs.declared.slot.Stage.TheVariants as stages
 use Rattle.rb_core.specs.contracts.connections.Connections.{the_view}
 use Rattle.rb_core.specs.Deadlines.{expiring}
-use Rattle.rb_core.specs.Slots.{Acts, Table, StandsForConnections, HasBuffers, IsWithin}
-use Rattle.rb_core.proofs.Holding.{stays_changed}
+use Rattle.rb_core.specs.Slots.{Acts, Table, StandsForConnections, HasBuffers}
 use Rattle.rb_core.proofs.Slots.{acts_from, slot_is_there, table_changed}
 use Rattle.rb_core.specs.Awaits.{NoneIsFreed}
 use Rattle.rb_core.proofs.Freed.{none_freed}
@@ -21,16 +20,8 @@ unreachable-requires c = slot_is_there _ c.self.inside.slots.entries [] c.in-Som
 
 pub invariant_of-self : goal.invariant_of-self
 invariant_of-self c =
-    let fits = All-value_at IsWithin c.self.inside.slots.entries c.in-Some.key c.in-Some-get_mut.slot.now c.self.invariant.within (sym c.in-Some-get_mut.ensures.value) in
-    table_changed c.self.inside.slots c.self.inside.spare c.self.inside.given c.self.inside.conns c.self.inside.held c.in-Some.key c.in-Some-get_mut.slot.now _ c.self.invariant (sym c.in-Some-get_mut.ensures.value) refl
+    table_changed c.self.inside.slots c.self.inside.spare c.self.inside.given c.self.inside.conns c.in-Some.key c.in-Some-get_mut.slot.now _ c.self.invariant (sym c.in-Some-get_mut.ensures.value) refl
     (All-value_at (HasBuffers c.self.inside.slots.tie) c.self.inside.slots.entries c.in-Some.key c.in-Some-get_mut.slot.now c.self.invariant.buffers (sym c.in-Some-get_mut.ensures.value))
-    c.self.inside.held refl fits
-
-pub returns-clause-stays : goal.returns-clause-stays
-returns-clause-stays c =
-    let slot = c.in-Some-get_mut.slot.now in
-    stays_changed (the_view c.self.inside) c.args.self.now c.in-Some.key (record slot { stage = stages.Lost }) c.self.view_is c.self.invariant.within
-    (All-value_at IsWithin c.self.inside.slots.entries c.in-Some.key slot c.self.invariant.within (sym c.in-Some-get_mut.ensures.value))
 
 pub returns-clause-acts : goal.returns-clause-acts
 returns-clause-acts c =

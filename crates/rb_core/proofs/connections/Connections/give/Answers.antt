@@ -1,11 +1,10 @@
-use Rattle.std.proofs.Common.{◌+◌, ◌*◌, [], length, Err, ap, sym, subst, ◌∙◌, arith}
-use Rattle.rb_core.specs.Costs.{give_cost}
+use Rattle.std.proofs.Common.{[], Err, ap, sym, subst, ◌∙◌}
 use Rattle.rb_xdr.specs.Meter.{Meter}
+use Rattle.rb_xdr.proofs.PoolLemmas.{All-value_at}
 use Rattle.rb_core.specs.contracts.connections.Connections.{the_view}
 use Rattle.rb_core.specs.declared.types.CoreFault.TheVariants.{Gone}
 use Rattle.rb_core.specs.Connections.{on_live, giving}
 use Rattle.rb_core.specs.Slots.{Acts, StandsForConnections, HasBuffers}
-use Rattle.rb_core.proofs.Holding.{its_buffers, charge_fits, held_few, stays_changed, recounted_cost}
 use Rattle.rb_core.proofs.Slots.{acts_from, gone_acts, live_acts, slot_is_there, table_changed}
 use Rattle.rb_core.proofs.Freed.{none_freed, freed_from}
 use Rattle.rb_core.proofs.connections.Connections.give.Goals as goal
@@ -18,37 +17,17 @@ returns-in_default-clause-acts c =
 pub unreachable-requires : goal.unreachable-requires
 unreachable-requires c = slot_is_there _ c.self.inside.slots.entries [] c.in-Some.key (sym c.in-Some.ensures.key) (sym c.in_default-get_mut.ensures.value)
 
-pub charge-before-requires : goal.charge-before-requires
-charge-before-requires c =
-    its_buffers c.self.inside.slots c.self.inside.spare c.self.inside.given c.self.inside.conns c.self.inside.held c.self.invariant c.in-Some.key c.in-Some-get_mut.slot.now (sym c.in-Some-get_mut.ensures.value) c.get_mut.new.meter
-    (ap (λ (m : Meter). m.tie) c.get_mut.ensures.cost ∙ c.wanted_key.ensures.cost.tie ∙ c.requires ∙ sym (ap (λ t. t.tie) c.self.view_is))
-
 pub give-requires : goal.give-requires
 give-requires c =
-    its_buffers c.self.inside.slots c.self.inside.spare c.self.inside.given c.self.inside.conns c.self.inside.held c.self.invariant c.in-Some.key c.in-Some-get_mut.slot.now (sym c.in-Some-get_mut.ensures.value) c.charge-before.new.meter
-    (ap (λ (m : Meter). m.tie) c.charge-before.ensures.cost ∙ ap (λ (m : Meter). m.tie) c.get_mut.ensures.cost ∙ c.wanted_key.ensures.cost.tie ∙ c.requires ∙ sym (ap (λ t. t.tie) c.self.view_is))
-
-pub recounted-self-inside-requires-clause-before : goal.recounted-self-inside-requires-clause-before
-recounted-self-inside-requires-clause-before c =
-    rw c.charge-before.ensures.charge (charge_fits c.self.inside.slots c.self.inside.spare c.self.inside.given c.self.inside.conns c.self.inside.held c.self.invariant c.in-Some.key c.in-Some-get_mut.slot.now (sym c.in-Some-get_mut.ensures.value))
-
-pub recounted-self-inside-requires-clause-few : goal.recounted-self-inside-requires-clause-few
-recounted-self-inside-requires-clause-few c = held_few c.self.inside.slots c.self.inside.spare c.self.inside.given c.self.inside.conns c.self.inside.held c.self.invariant
+    let tie = ap (λ (m : Meter). m.tie) c.get_mut.ensures.cost ∙ c.wanted_key.ensures.cost.tie ∙ c.requires ∙ sym (ap (λ t. t.tie) c.self.view_is) in
+    subst (λ t. HasBuffers t c.in-Some-get_mut.slot.now) (sym tie)
+    (All-value_at (HasBuffers c.self.inside.slots.tie) c.self.inside.slots.entries c.in-Some.key c.in-Some-get_mut.slot.now c.self.invariant.buffers (sym c.in-Some-get_mut.ensures.value))
 
 pub invariant_of-self : goal.invariant_of-self
 invariant_of-self c =
-    let tie = ap (λ (m : Meter). m.tie) c.charge-before.ensures.cost ∙ ap (λ (m : Meter). m.tie) c.get_mut.ensures.cost ∙ c.wanted_key.ensures.cost.tie ∙ c.requires ∙ sym (ap (λ t. t.tie) c.self.view_is) in
-    table_changed c.self.inside.slots c.self.inside.spare c.self.inside.given c.self.inside.conns c.self.inside.held c.in-Some.key c.in-Some-get_mut.slot.now c.give.new.self c.self.invariant (sym c.in-Some-get_mut.ensures.value)
+    let tie = ap (λ (m : Meter). m.tie) c.get_mut.ensures.cost ∙ c.wanted_key.ensures.cost.tie ∙ c.requires ∙ sym (ap (λ t. t.tie) c.self.view_is) in
+    table_changed c.self.inside.slots c.self.inside.spare c.self.inside.given c.self.inside.conns c.in-Some.key c.in-Some-get_mut.slot.now c.give.new.self c.self.invariant (sym c.in-Some-get_mut.ensures.value)
     c.give.ensures.stays.number (subst (λ t. HasBuffers t c.give.new.self) tie c.give.ensures.stays.buffers)
-    c.recounted-self-inside.result (rw (← c.charge-before.ensures.charge) c.recounted-self-inside.ensures.held) c.recounted-self-inside.ensures.within
-
-pub returns-clause-stays : goal.returns-clause-stays
-returns-clause-stays c = stays_changed (the_view c.self.inside) c.args.self.now c.in-Some.key c.give.new.self c.self.view_is c.self.invariant.within c.recounted-self-inside.ensures.within
-
-pub returns-clause-cost : goal.returns-clause-cost
-returns-clause-cost c =
-    rw (← c.self.view_is)
-    (recounted_cost _ _ _ _ _ _ (2 * length c.self.inside.slots.entries + 2) (give_cost) c.wanted_key.ensures.cost c.get_mut.ensures.cost c.charge-before.ensures.cost c.give.ensures.cost c.recounted-self-inside.ensures.cost _ (omega arith))
 
 pub returns-clause-acts : goal.returns-clause-acts
 returns-clause-acts c =

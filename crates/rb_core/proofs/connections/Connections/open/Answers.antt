@@ -6,7 +6,6 @@ use Rattle.rb_core.specs.contracts.connections.Connections.{the_view}
 use Rattle.rb_core.specs.declared.types.CoreFault.TheVariants.{Full, Spent}
 use Rattle.rb_core.specs.Connections.{opening_of}
 use Rattle.rb_core.specs.Slots.{Acts, StandsForConnections, HasBuffers, AreBuffers, AreSpare}
-use Rattle.rb_core.proofs.Holding.{room_for_one, within_pushed, held_pushed}
 use Rattle.rb_core.proofs.Slots.{acts_from, full_acts, spent_acts, opened_acts, numbered-more}
 use Rattle.rb_core.proofs.Freed.{none_freed_by_open, freed_from}
 use Rattle.rb_core.proofs.connections.Connections.open.Goals as goal
@@ -20,9 +19,6 @@ pub returns-then-self-clause-acts : goal.returns-then-self-clause-acts
 returns-then-self-clause-acts c =
     subst (λ t. Acts StandsForConnections (opening_of t.conns c.args.peer c.args.clock) t t (Err Spent)) c.self.view_is
     (spent_acts c.self.inside.conns c.args.peer c.args.clock (the_view c.self.inside) (omega (arith, c.len.ensures.len, c.if-len-self.false)) c.if-self.true)
-
-pub overflow_add-self-2 : goal.overflow_add-self-2
-overflow_add-self-2 c = let room = room_for_one c.self.inside.slots c.self.inside.spare c.self.inside.given c.self.inside.conns c.self.inside.held c.self.invariant in omega (arith, room)
 
 pub invariant_of-self : goal.invariant_of-self
 invariant_of-self c = record {
@@ -40,24 +36,7 @@ invariant_of-self c = record {
       subst (λ t. All (AreSpare t) (values_of c.take_buffers-buffer.new.spare.entries)) (c.self.invariant.tie ∙ sym c.put_slot.ensures.tie)
       c.take_buffers-buffer.ensures.buffers;
   numbers = rw c.put_slot.ensures.last (numbered-more c.self.inside.given (values_of c.self.inside.slots.entries) _ c.self.invariant.numbers refl);
-  few = c.self.invariant.few;
-  within =
-      rw c.put_slot.ensures.last
-      (within_pushed (values_of c.self.inside.slots.entries) _ c.take_buffers-buffer.ensures.made.buffer_empty c.take_buffers-buffer.ensures.made.window_empty c.self.invariant.within);
-  is_held =
-      rw c.put_slot.ensures.last
-      (held_pushed (values_of c.self.inside.slots.entries) _ c.take_buffers-buffer.ensures.made.buffer_empty c.take_buffers-buffer.ensures.made.window_empty c.self.inside.held c.self.invariant.is_held);
 }
-
-pub returns-clause-stays : goal.returns-clause-stays
-returns-clause-stays c =
-    rw (← c.self.view_is) (record {
-      conns = refl;
-      tie = c.put_slot.ensures.tie;
-      within =
-          rw c.put_slot.ensures.last
-          (within_pushed (values_of c.self.inside.slots.entries) _ c.take_buffers-buffer.ensures.made.buffer_empty c.take_buffers-buffer.ensures.made.window_empty c.self.invariant.within);
-    })
 
 pub returns-clause-acts : goal.returns-clause-acts
 returns-clause-acts c =

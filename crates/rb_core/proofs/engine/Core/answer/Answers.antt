@@ -65,11 +65,6 @@ anew_in c = subst (λ (x : Context). OnlyWaitsAnew x.caller (slots_of c.self.ins
 
 pub invariant_of-self : goal.invariant_of-self
 invariant_of-self c = record {
-  conns = c.settle.ensures.stays.conns ∙ c.self.invariant.conns;
-  few_conns = c.self.invariant.few_conns;
-  few_rows = c.self.invariant.few_rows;
-  len = c.self.invariant.len;
-  short = c.self.invariant.short;
   limit = search rules;
   forwards = search rules;
   few = search rules;

@@ -3,7 +3,7 @@ use Rattle.std.proofs.lemmas.Result.{err_from_is_err_and}
 use Rattle.rb_core.specs.contracts.engine.Core.{the_view}
 use Rattle.rb_xdr.specs.Meter.{PaysAtMost}
 use Rattle.rb_registry.specs.Registry.{slots_of}
-use Rattle.rb_core.specs.Costs.{find_cost, take_cost, recount_cost, answer_cost}
+use Rattle.rb_core.specs.Costs.{find_cost, take_cost, answer_cost}
 use Rattle.rb_core.specs.StandsFor.{Held, StandsFor}
 use Rattle.rb_core.proofs.Spending.{answered_cost}
 use Rattle.rb_core.specs.Slots.{Acts, StandsForConnections, feeding}
@@ -36,7 +36,7 @@ returns-clause-acts c =
 pub returns-clause-cost : goal.returns-clause-cost
 returns-clause-cost c =
     subst (λ (held : Held). PaysAtMost c.args.meter.now c.answer-closed.new.meter
-    (find_cost (length held.connections.slots) + (take_cost c.in_ok-count.field-0.count + recount_cost) + answer_cost (length held.connections.slots) (length (slots_of held.books.registry)) (length (slots_of c.answer-closed.new.self.books.registry))))
+    (find_cost (length held.connections.slots) + take_cost c.in_ok-count.field-0.count + answer_cost (length held.connections.slots) (length (slots_of held.books.registry)) (length (slots_of c.answer-closed.new.self.books.registry))))
     c.self.view_is
     (answered_cost c.args.meter.now c.take.new.meter c.answer-closed.new.meter (length c.self.inside.connections.slots) (length c.take.new.self.slots) (length (slots_of c.self.inside.books.registry)) (length (slots_of c.answer-closed.new.self.books.registry)) c.in_ok-count.field-0.count c.in_ok-count.field-0.heard c.in-Some.heard c.in-Some.is c.in_ok-count.ensures.as_many
     c.in_ok-count.ensures.cost c.answer-closed.ensures.cost)

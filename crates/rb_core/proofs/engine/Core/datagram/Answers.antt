@@ -22,14 +22,14 @@ of_content context said arguments content old new given says behind acts = subst
 pub returns-clause-acts : goal.returns-clause-acts
 returns-clause-acts c =
     acts_from _ (the_view c.self.inside) c.args.self.now _ _ c.self.view_is
-    (datagram_acts (the_view c.self.inside) c.args.now c.max-self-inside.result c.args.peer c.args.content.now c.serve-outcome.new.books c.serve-outcome.new.out.bytes c.serve-outcome.new.out.tie c.max-self-inside.ensures c.serve-outcome.ensures.short
-    (outcome_with c.serve-outcome.result c.serve-outcome.new.out.bytes)
+    (datagram_acts (the_view c.self.inside) c.args.now c.max-self-inside.result c.args.peer c.args.content.now c.serve.new.books c.serve.new.out.bytes c.serve.new.out.tie c.max-self-inside.ensures
+    (outcome_with c.serve.result c.serve.new.out.bytes)
     (record {
       context = c.context-context.result;
       is = c.context-context.ensures;
       acts = of_content c.context-context.result c.message_with.result c.arguments_behind-arguments.result.now c.args.content.now _ _ _
           (says_so c.message_with.result c.read_call-verdict.result c.arguments_behind-arguments.result.now c.args.content.now c.message_with.ensures.message c.read_call-verdict.ensures.verdict c.arguments_behind-arguments.ensures)
-          c.arguments_behind-arguments.ensures c.serve-outcome.ensures.acts;
-      frame = c.serve-outcome.ensures.frame;
+          c.arguments_behind-arguments.ensures c.serve.ensures.acts;
+      frame = c.serve.ensures.frame;
     })
-    c.serve-outcome.ensures.held)
+    c.serve.ensures.held)
