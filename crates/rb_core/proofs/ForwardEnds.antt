@@ -150,7 +150,7 @@ sent-steps s number false = unmoved s s.ledger.forwards refl
 
 outcome-steps : (s : State) (r : Outcome × State) → TableSteps s r.1.ledger.forwards → TableSteps s (show_outcome (with_reply r)).1.ledger.forwards
 outcome-steps s (outcomes.NoCall, t) k = k
-outcome-steps s (outcomes.Reply reply, t) k = k
+outcome-steps s (outcomes.Reply reply began, t) k = k
 outcome-steps s (outcomes.Forwarded, t) k = k
 outcome-steps s (outcomes.Silent, t) k = k
 

@@ -2,15 +2,20 @@ pub mod State
 pub mod Calls
 pub mod Giving
 pub mod Windows
+pub mod Streams
 pub mod Connections
 pub mod Deadlines
+pub mod Evictions
 pub mod Ending
 pub mod Step
 pub mod Run
 pub mod Reading
 pub mod Slots
 pub mod Awaits
+pub mod Listings
+pub mod Rooms
 pub mod StandsFor
+pub mod Serving
 pub mod Costs
 pub mod Grammar
 pub mod Laws
@@ -22,3 +27,4 @@ pub mod Worked
 pub mod WorkedConnections
 pub mod WorkedForwards
 pub mod WorkedDeadlines
+pub mod WorkedLists

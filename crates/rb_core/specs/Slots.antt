@@ -21,6 +21,7 @@ use Rattle.rb_core.specs.Connections.{Taking, taking, mark_when_fed, reading, is
 use Rattle.rb_core.specs.Connections.Taking.{TakesNone, GoesOn, Ends}
 use Rattle.rb_core.specs.Deadlines.{is_due, is_due_slot}
 use Rattle.rb_core.specs.Giving.{longest_fragment, IsGiving}
+use Rattle.rb_core.specs.Streams.{Source, IsStreaming}
 use Rattle.rb_core.specs.Reading.{Reader, buffer_size, kept_of, IsReading}
 
 -- An act on what something stands for, which gives a result: from whatever the old one stood for, this result came,
@@ -40,20 +41,29 @@ Lends {Held} {Plain} StandsFor show held result =
 
 -- ---- one slot
 
--- The stage and the buffers hold what there is to know of the phase.
-abbrev pub StandsForPhase : Stage → Kept → Kept → Phase → Type 0
-StandsForPhase stages.Idle buffer window Idle = (buffer.bytes ≡ []) × (window.bytes ≡ [])
-StandsForPhase (stages.Reading reader) buffer window (Reading fed) = IsReading reader buffer fed × (window.bytes ≡ [])
-StandsForPhase (stages.Owing given) buffer window (Owing o) = IsGiving buffer.bytes window given o
-StandsForPhase stages.Awaiting buffer window Awaiting = (buffer.bytes ≡ []) × (window.bytes ≡ [])
-StandsForPhase stages.Lost buffer window Lost = ⊤
-StandsForPhase stage buffer window phase = ⊥
+-- The stage and the buffers hold what there is to know of the phase, but for the rest of a list, which is made from its source.
+abbrev pub StandsForPhase : Source → Stage → Kept → Kept → Phase → Type 0
+StandsForPhase source stages.Idle buffer window Idle = (buffer.bytes ≡ []) × (window.bytes ≡ [])
+StandsForPhase source (stages.Reading reader) buffer window (Reading fed) = IsReading reader buffer fed × (window.bytes ≡ [])
+StandsForPhase source (stages.Owing given) buffer window (Owing o) = IsGiving buffer.bytes window given o × (o.began ≡ None)
+StandsForPhase source (stages.Streaming stream) buffer window (Owing o) = IsStreaming source stream window o
+StandsForPhase source stages.Awaiting buffer window Awaiting = (buffer.bytes ≡ []) × (window.bytes ≡ [])
+StandsForPhase source stages.Lost buffer window Lost = ⊤
+StandsForPhase source stage buffer window phase = ⊥
 
-pub record StandsForConnection (slot : Slot) (c : Connection) : Type 0 where
+pub record StandsForConnection (source : Source) (slot : Slot) (c : Connection) : Type 0 where
   pub number : slot.number ≡ c.number
   pub peer : slot.peer ≡ c.peer
   pub mark : slot.mark ≡ c.mark
-  pub phase : StandsForPhase slot.stage slot.buffer slot.window c.phase
+  pub phase : StandsForPhase source slot.stage slot.buffer slot.window c.phase
+
+-- an act on the connection that a slot stands for, whatever lists are made from
+abbrev pub SlotActs : {Result : Type 0} → (Connection → Result × Connection) → Slot → Slot → Result → Type 0
+SlotActs act old new result = (source : Source) → Acts (StandsForConnection source) act old new result
+
+-- what a slot shows, whatever lists are made from
+abbrev pub SlotShows : {Result : Type 0} → (Connection → Result) → Slot → Result → Type 0
+SlotShows show slot result = (source : Source) → Shows (StandsForConnection source) show slot result
 
 -- The slot is about to be fed a piece behind these bytes of a record.
 pub record IsBeforePiece (slot : Slot) (reader : Reader) (clock : ℕ) (c : Connection) (fed : List ℕ) : Type 0 where
@@ -99,17 +109,26 @@ pub record Table : Type 0 where
   pub conns : ℕ
   pub tie : ℕ
 
-pub record StandsForConnections (table : Table) (connections : Connections) : Type 0 where
-  pub all : AllZip StandsForConnection (values_of table.slots) connections.all
+pub record StandsForConnections (source : Source) (table : Table) (connections : Connections) : Type 0 where
+  pub all : AllZip (StandsForConnection source) (values_of table.slots) connections.all
   pub next : connections.next ≡ table.given + 1
 
--- an act on the connections
+-- an act on the connections, whatever lists are made from
 abbrev pub TableActs : {Result : Type 0} → (Connections → Result × Connections) → Table → Table → Result → Type 0
-TableActs act old new result = Acts StandsForConnections act old new result
+TableActs act old new result = (source : Source) → Acts (StandsForConnections source) act old new result
+
+-- what a table shows of them, whatever lists are made from
+abbrev pub TableShows : {Result : Type 0} → (Connections → Result) → Table → Result → Type 0
+TableShows show table result = (source : Source) → Shows (StandsForConnections source) show table result
 
 -- From whatever connections the old table stood for, the new one stands for what they become.
+abbrev pub BecomesFrom : Source → (Connections → Connections) → Table → Table → Type 0
+BecomesFrom source change old new =
+    (c : Connections) → StandsForConnections source old c → StandsForConnections source new (change c)
+
+-- the same whatever lists are made from
 abbrev pub TableBecomes : (Connections → Connections) → Table → Table → Type 0
-TableBecomes change old new = (c : Connections) → StandsForConnections old c → StandsForConnections new (change c)
+TableBecomes change old new = (source : Source) → BecomesFrom source change old new
 
 -- the arguments that the core has once a piece for the connection of a number was taken
 abbrev pub arguments_on : ℕ → List ℕ → List ℕ → Connections → List ℕ
@@ -126,7 +145,16 @@ is_lost_stage stages.Lost = true
 is_lost_stage stages.Idle = false
 is_lost_stage (stages.Reading reader) = false
 is_lost_stage (stages.Owing given) = false
+is_lost_stage (stages.Streaming stream) = false
 is_lost_stage stages.Awaiting = false
+
+abbrev pub is_idle_stage : Stage → Bool
+is_idle_stage stages.Idle = true
+is_idle_stage stages.Lost = false
+is_idle_stage (stages.Reading reader) = false
+is_idle_stage (stages.Owing given) = false
+is_idle_stage (stages.Streaming stream) = false
+is_idle_stage stages.Awaiting = false
 
 unfoldable pub is_wanted_slot : Wanted → Slot → Bool
 is_wanted_slot (wanted.Live id) slot = slot.number == id && not (is_lost_stage slot.stage)
@@ -145,15 +173,16 @@ unfoldable pub wanted_slot : Wanted → List (ℕ × Slot) → Option (ℕ × Sl
 wanted_slot sought slots = find (λ (e : ℕ × Slot). is_wanted_slot sought e.1) slots
 
 -- the first connection that is wanted, and its slot
-pub record IsFound (sought : Wanted) (all : List Connection) (slot : Slot) : Type 0 where
+pub record IsFound (source : Source) (sought : Wanted) (all : List Connection) (slot : Slot) : Type 0 where
   pub connection : Connection
   pub found : find (is_wanted sought) all ≡ Some connection
-  pub stands : StandsForConnection slot connection
+  pub stands : StandsForConnection source slot connection
 
 -- The first connection that is wanted was found, or there is none.
 abbrev pub Finds : Wanted → Table → Option (Bor Slot) → Type 0
 Finds sought table result =
-    (c : Connections) → StandsForConnections table c → MatchOption result (find (is_wanted sought) c.all ≡ None) (λ slot. IsFound sought c.all slot.now)
+    (source : Source) (c : Connections) → StandsForConnections source table c
+    → MatchOption result (find (is_wanted sought) c.all ≡ None) (λ slot. IsFound source sought c.all slot.now)
 
 -- ---- what is true of all slots and buffers
 

@@ -4,7 +4,8 @@ ghost use Rattle.rb_core.specs.State.{are_good};
 
 use crate::connections::{BUFFER_SIZE, Connections};
 use crate::message::{arguments_behind, message_with};
-use crate::serve::{LONGEST_REPLY, put_end, serve};
+use crate::rooms::make_room;
+use crate::serve::{LONGEST_REPLY, Served, put_end, serve};
 use crate::slot::{Heard, Received};
 use crate::types::{CoreFault, Expired, Limits, Outcome, Taken, Told};
 use rb_forward::{Ended, FwdId, Unsent};
@@ -73,10 +74,10 @@ impl Core {
     ghost use Rattle.rb_forward.specs.Table.{slots_of, seen, count_lent, longest_call, is_waiting, IsNew};
     ghost use Rattle.rb_core.specs.Step.{datagram, open_connection, bytes, pending, pending_count, gave, close_connection, next_lost, unsent_call, sent_call};
     ghost use Rattle.rb_core.specs.Ending.{told_at, tell, forward_reply, expire_connection, expire};
-    ghost use Rattle.rb_core.specs.Awaits.{has_live};
+    ghost use Rattle.rb_core.specs.Awaits.{has_idle};
     ghost use Rattle.rb_core.specs.Slots.{Acts, Shows, Lends};
-    ghost use Rattle.rb_core.specs.StandsFor.{StandsFor, ActsWithReply, answering_heard, without_arguments, context_of, answering_cost, bytes_cost, closing_cost, ending_cost, IsCheapIfQuiet};
-    ghost use Rattle.rb_core.specs.Costs.{look_cost, slot_count, serving_cost, tell_cost, pending_cost, give_cost};
+    ghost use Rattle.rb_core.specs.StandsFor.{StandsFor, ActsWithReply, answering_heard, without_arguments, context_of, answering_cost, datagram_cost, bytes_cost, gave_cost, closing_cost, ending_cost, IsCheapIfQuiet};
+    ghost use Rattle.rb_core.specs.Costs.{look_cost, slot_count, tell_cost, pending_cost};
 
     /// A core with the daemon's own rows alone, at the moment `now` (milliseconds since the start of 1970).
     /// `first_xid` is the number of the first call that it forwards. `BadLimits` where a limit is out of its
@@ -150,21 +151,27 @@ impl Core {
         ensures acts { ActsWithReply (λ s. datagram s now peer content.now) self.old self.new result }
         ensures tie { self.new.tie ≡ self.old.tie }
         ensures short { length self.new.reply ≤ longest_reply }
-        ensures cost { PaysAtMost meter.old meter.new (1 + serving_cost self.old.books self.new.books) }
+        ensures cost { PaysAtMost meter.old meter.new (datagram_cost self.old self.new) }
     {
         self.clock = self.clock.max(now);
         let context = self.context(Caller::Udp(peer));
         self.reply.clear(meter);
         let verdict = read_call(content);
         let arguments = arguments_behind(verdict, content);
-        serve(
+        let message = message_with(verdict, arguments);
+        make_room(&mut self.connections, &mut self.books, &context, &message, meter);
+        let served = serve(
             &mut self.books,
             &context,
-            message_with(verdict, arguments),
+            message,
             arguments,
             &mut self.reply,
             meter,
-        )
+        );
+        match served {
+            Served::Told(outcome) => outcome,
+            Served::Listed(_) => unreachable!(),
+        }
     }
 
     /// The reply that the last `datagram`, `forward_reply` or `expire` gave over UDP: no bytes where there is none.
@@ -231,7 +238,7 @@ impl Core {
     #[tactic(auto, unfolding(crate::specs::Calls::longest_reply, crate::specs::Reading::longest_arguments, crate::specs::Reading::buffer_size))]
     fn answer(&mut self, id: u64, heard: Heard, meter: &mut Meter) -> bool
         requires tie { meter.old.tie ≡ self.old.tie }
-        requires live { has_live id self.old.connections ≡ true }
+        requires idle { has_idle id self.old.connections ≡ true }
         requires caller { is_waiting id (slots_of self.old.books.forwards) ≡ false }
         ensures acts { Acts StandsFor (answering_heard id heard self.old.arguments)
             (without_arguments self.old) self.new result }
@@ -242,7 +249,8 @@ impl Core {
         let len = self.arguments.len(meter);
         let arguments = self.arguments.lend(0..len, meter);
         let message = message_with(heard.verdict, arguments);
-        let outcome = serve(
+        make_room(&mut self.connections, &mut self.books, &context, &message, meter);
+        let served = serve(
             &mut self.books,
             &context,
             message,
@@ -251,9 +259,11 @@ impl Core {
             meter,
         );
         self.arguments.clear(meter);
+        let host = self.listener.host;
+        let registry = &self.books.registry;
+        let draft = &mut self.draft;
         self.connections
-            .settle(id, outcome, &mut self.draft, self.clock, meter);
-        outcome.is_no_call()
+            .go_on(id, served, self.clock, host, registry, draft, meter)
     }
 
     /// How many bytes are pending on a connection. `Gone` where there is no such connection, or it is Lost.
@@ -283,10 +293,18 @@ impl Core {
         ensures acts { Acts StandsFor (λ s. gave s now id n) self.old self.new result }
         ensures refused { OnErr result (self.new ≡ self.old) }
         ensures tie { self.new.tie ≡ self.old.tie }
-        ensures cost { PaysAtMost meter.old meter.new (look_cost self.old.connections + give_cost) }
+        ensures cost { PaysAtMost meter.old meter.new (gave_cost self.old) }
     {
         let clock = self.clock.max(now);
-        self.connections.give(id, n, clock, meter)?;
+        self.connections.give(
+            id,
+            n,
+            clock,
+            self.listener.host,
+            &self.books.registry,
+            &mut self.draft,
+            meter,
+        )?;
         self.clock = clock;
         Ok(())
     }

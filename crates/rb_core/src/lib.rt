@@ -8,6 +8,7 @@ mod giving;
 mod laws;
 mod message;
 mod reading;
+mod rooms;
 mod run;
 mod serve;
 mod slot;
@@ -19,7 +20,7 @@ pub use laws::{
     cuts_do_not_matter, entries_end_once, expire_does_one_thing, ledgers_are_well_kept,
     messages_are_of_the_grammar, next_lost_is_least, nothing_is_due_soon, numbers_never_recur,
     owed_replies_stay, refused_events_change_nothing, replies_are_given_whole, runs_append,
-    sessions_are_whole, worked_connections, worked_deadlines, worked_examples, worked_forwards,
+    sessions_are_whole, worked_connections, worked_deadlines, worked_examples, worked_forwards, worked_lists,
 };
 pub use message::{Message, read_message};
 pub use rb_forward::{FwdId, Unsent};

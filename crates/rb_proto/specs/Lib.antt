@@ -14,4 +14,3 @@ pub mod ListReplies
 pub mod Puts
 pub mod Worked
 pub mod WorkedForwards
-pub mod WorkedLists

@@ -21,11 +21,9 @@ longest_part = 1024
 abbrev pub longest_row : ℕ
 longest_row = max_number + max_rpcb
 
--- the bytes are no more than those
 abbrev pub IsShort : List ℕ → Type 0
 IsShort bytes = length bytes ≤ longest_row
 
--- and then there is room for them
 abbrev pub FitsIfShort : List ℕ → Kept → Type 0
 FitsIfShort bytes kept = IsShort bytes → HasRoom bytes kept
 
@@ -51,8 +49,8 @@ abbrev pub bytes_behind : List ℕ → Registry → ListReply → List ℕ
 bytes_behind host kept r =
     head_unless r.begun r.xid ++ rows_bytes host (rows_behind kept r.stamp r.cursor) r.list
 
--- A buffer shows the bytes from the old cursor on, all of them or more than `most`. The first `base` of them stand before
--- the new cursor, and what is shown behind these is no more than a row adds.
+-- A buffer shows the bytes from the old cursor on, all of them or more than so many. So many of these stand before the
+-- new cursor, and no more than a row adds is shown behind it.
 pub record Fills (host : List ℕ) (kept : Registry) (old new : ListReply) (most : ℕ) (shown : List ℕ) (base : ℕ) : Type 0 where
   pub moved : new ≡ record old { cursor = new.cursor }
   pub place : StandsIn kept new.stamp new.cursor

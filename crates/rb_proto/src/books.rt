@@ -127,6 +127,7 @@ impl Books {
         ensures stands { Becomes (λ l. l) self.old self.new }
         ensures dropped { removals_of self.new.registry
             ≡ later_than oldest (removals_of self.old.registry) }
+        ensures fewer { length (row_slots self.new.registry) ≤ length (row_slots self.old.registry) }
         ensures rows { rows_of self.new.registry ≡ rows_of self.old.registry }
         ensures stamp { self.new.registry.stamp ≡ self.old.registry.stamp }
         ensures floor { self.new.registry.floor

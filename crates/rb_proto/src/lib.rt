@@ -42,4 +42,4 @@ pub use put::{put_forwarded, put_results, put_row};
 pub use remote::RemoteCall;
 pub use request::{ArgumentFault, Request, read_args};
 pub use rpcb::Rpcb;
-pub use worked::{worked_examples, worked_forwards, worked_lists};
+pub use worked::{worked_examples, worked_forwards};

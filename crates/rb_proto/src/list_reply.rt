@@ -92,7 +92,6 @@ impl ListReply {
         let base = self.fill(registry, host, target, out, meter);
         let len = out.len(meter);
         let end = len.min(target);
-        // what stands at the cursor is never less than was given of it
         let start = self.given.min(end);
         self.begun = true;
         self.given = end - base;

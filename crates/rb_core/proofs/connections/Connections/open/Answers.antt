@@ -8,17 +8,18 @@ use Rattle.rb_core.specs.Connections.{opening_of}
 use Rattle.rb_core.specs.Slots.{Acts, StandsForConnections, HasBuffers, AreBuffers, AreSpare}
 use Rattle.rb_core.proofs.Slots.{acts_from, full_acts, spent_acts, opened_acts, numbered-more}
 use Rattle.rb_core.proofs.Freed.{none_freed_by_open, freed_from}
+use Rattle.rb_core.proofs.Telling.{keeps_more}
 use Rattle.rb_core.proofs.connections.Connections.open.Goals as goal
 
 pub returns-then-len-self-clause-acts : goal.returns-then-len-self-clause-acts
 returns-then-len-self-clause-acts c =
-    subst (λ t. Acts StandsForConnections (opening_of t.conns c.args.peer c.args.clock) t t (Err Full)) c.self.view_is
-    (full_acts c.self.inside.conns c.args.peer c.args.clock (the_view c.self.inside) (omega (arith, c.len.ensures.len, c.if-len-self.true)))
+    λ source. subst (λ t. Acts (StandsForConnections source) (opening_of t.conns c.args.peer c.args.clock) t t (Err Full)) c.self.view_is
+    (full_acts source c.self.inside.conns c.args.peer c.args.clock (the_view c.self.inside) (omega (arith, c.len.ensures.len, c.if-len-self.true)))
 
 pub returns-then-self-clause-acts : goal.returns-then-self-clause-acts
 returns-then-self-clause-acts c =
-    subst (λ t. Acts StandsForConnections (opening_of t.conns c.args.peer c.args.clock) t t (Err Spent)) c.self.view_is
-    (spent_acts c.self.inside.conns c.args.peer c.args.clock (the_view c.self.inside) (omega (arith, c.len.ensures.len, c.if-len-self.false)) c.if-self.true)
+    λ source. subst (λ t. Acts (StandsForConnections source) (opening_of t.conns c.args.peer c.args.clock) t t (Err Spent)) c.self.view_is
+    (spent_acts source c.self.inside.conns c.args.peer c.args.clock (the_view c.self.inside) (omega (arith, c.len.ensures.len, c.if-len-self.false)) c.if-self.true)
 
 pub invariant_of-self : goal.invariant_of-self
 invariant_of-self c = record {
@@ -39,10 +40,10 @@ invariant_of-self c = record {
 }
 
 pub returns-clause-acts : goal.returns-clause-acts
-returns-clause-acts c =
+returns-clause-acts c = λ source.
     let conns = ap (λ t. t.conns) c.self.view_is in
-    acts_from (opening_of c.args.self.now.conns c.args.peer c.args.clock) (the_view c.self.inside) c.args.self.now _ _ c.self.view_is
-    (opened_acts c.args.self.now.conns c.args.peer c.args.clock (the_view c.self.inside) _ _ (omega (arith, conns, c.len.ensures.len, c.if-len-self.false)) (omega (arith, c.if-self.false)) c.put_slot.ensures.last refl
+    acts_from source (opening_of c.args.self.now.conns c.args.peer c.args.clock) (the_view c.self.inside) c.args.self.now _ _ c.self.view_is
+    (opened_acts source c.args.self.now.conns c.args.peer c.args.clock (the_view c.self.inside) _ _ (omega (arith, conns, c.len.ensures.len, c.if-len-self.false)) (omega (arith, c.if-self.false)) c.put_slot.ensures.last refl
     (record {
       number = refl;
       peer = refl;
@@ -59,3 +60,13 @@ returns-then-self-clause-free c = λ id none. none
 pub returns-clause-free : goal.returns-clause-free
 returns-clause-free c =
     freed_from (the_view c.self.inside) c.args.self.now _ c.self.view_is (none_freed_by_open (the_view c.self.inside) _ _ c.put_slot.ensures.last refl refl)
+
+pub returns-then-len-self-clause-told : goal.returns-then-len-self-clause-told
+returns-then-len-self-clause-told c = λ source told. told
+
+pub returns-then-self-clause-told : goal.returns-then-self-clause-told
+returns-then-self-clause-told c = λ source told. told
+
+pub returns-clause-told : goal.returns-clause-told
+returns-clause-told c =
+    keeps_more (the_view c.self.inside) c.args.self.now c.self.view_is _ c.put_slot.new.slots.entries c.put_slot.ensures.last (λ source. tt)
