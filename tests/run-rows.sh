@@ -106,9 +106,10 @@ join_pieces() {
 }
 
 run_row_in_pieces() {
-    local base=$1
+    local base=$1 words=(replay)
+    [ -f "$base.args" ] && mapfile -t words < "$base.args"
     cut_into_pieces "$base.events" "$2" "$work/counts" > "$work/events"
-    run "$work/events" replay
+    run "$work/events" "${words[@]}"
     join_pieces "$work/counts" "$work/stdout" > "$work/joined"
     mv "$work/joined" "$work/stdout"
     as_wanted "$base.expected" /dev/null 0

@@ -142,7 +142,7 @@ giving-awaits clock n c =
 pub settled-awaiting : (clock : ℕ) (said : Outcome) (c : Connection) → is_awaiting (settled clock said c).phase ≡ is_forwarded said
 unfolding settled
 settled-awaiting clock NoCall c = refl
-settled-awaiting clock (Reply reply began) c = refl
+settled-awaiting clock (Reply reply) c = refl
 settled-awaiting clock Forwarded c = refl
 settled-awaiting clock Silent c = refl
 
@@ -186,7 +186,7 @@ module _ (k : ℕ) (all : List Connection) (c : Connection) (there : live_connec
 
       by_said : (o : Outcome) → said ≡ o → awaits id (change_first (is_live k) (settled clock o) all) ≡ cond (eqb k id) (if_one (is_forwarded o)) (awaits id all)
       by_said NoCall e = is-gone (eqb k id) refl
-      by_said (Reply reply began) e = lives (Reply reply began) refl
+      by_said (Reply reply) e = lives (Reply reply) refl
       by_said Forwarded e = lives Forwarded refl
       by_said Silent e = lives Silent refl
 
@@ -335,7 +335,7 @@ module _ (s : State) (sound : IsSound s) (h : Await s) where
 
       by_said : (o : Outcome) → Keeps (show_outcome (with_reply (o, t)))
       by_said NoCall = holds
-      by_said (Reply reply began) = holds
+      by_said (Reply reply) = holds
       by_said Forwarded = holds
       by_said Silent = holds
 
@@ -381,7 +381,7 @@ module _ (s : State) (sound : IsSound s) (h : Await s) where
             where
               plain : (said : Outcome) → IsFinal said → is_forwarded said ≡ false
               plain NoCall f = absurd f
-              plain (Reply reply began) f = refl
+              plain (Reply reply) f = refl
               plain Forwarded f = absurd f
               plain Silent f = refl
 

@@ -1,6 +1,9 @@
 -- What an event does to the entries of forwarded calls, and what holds of them in each state that a run reaches.
-use Rattle.std.proofs.Common.{◌≡◌, ℕ, suc, ◌+◌, ◌≤◌, ◌<◌, max, Bool, true, false, cond, ◌&&◌, nat_lt, nat_le, Option, Some, None, Result, Ok, Err, List, [], ◌∷◌, ◌++◌, length, refl, sym, ap, subst, ◌∙◌, arith}
+use Rattle.std.proofs.Common.{◌≡◌, ℕ, suc, ◌+◌, ◌-◌, ◌≤◌, ◌<◌, max, Bool, true, false, cond, ◌&&◌, nat_lt, nat_le, Option, Some, None, Result, Ok, Err, List, [], ◌∷◌, ◌++◌, length, refl, sym, ap, subst, ◌∙◌, arith}
+use Rattle.std.specs.Prelude.{All, drop}
 use Rattle.std.proofs.lemmas.Bool.{ltb-true}
+use Rattle.std.proofs.lemmas.List.{length-take}
+use Rattle.std.proofs.lemmas.List.Elements.{All-nil, All-cons, All-head, All-tail, All-push}
 use Rattle.rb_rpc.specs.declared.peer.Caller.{Caller}
 use Rattle.rb_rpc.specs.declared.peer.Caller.TheVariants.{Tcp, Udp}
 use Rattle.rb_rpc.specs.declared.call.CallHead.{CallHead}
@@ -21,7 +24,13 @@ use Rattle.rb_proto.specs.declared.request.Request.{Request}
 use Rattle.rb_proto.specs.declared.request.Request.TheVariants as requests
 use Rattle.rb_proto.specs.Ledger.{Ledger, rows_in, called}
 use Rattle.rb_proto.specs.Netids.{netid_of_prot}
-use Rattle.rb_proto.specs.Remote.{args_of}
+use Rattle.rb_proto.specs.Remote.{args_of, HasContent}
+use Rattle.rb_proto.specs.Arguments.{HasArgs}
+use Rattle.rb_forward.specs.Table.{longest_arguments}
+use Rattle.rb_rpc.specs.Verdict.{verdict}
+use Rattle.rb_feed.specs.Feeds.{arguments_of}
+use Rattle.rb_core.specs.Reading.{HasArgsIn}
+use Rattle.rb_core.proofs.AskedArgs.{message_has}
 use Rattle.rb_proto.specs.Forwarding.{address_to_forward, forward_of, forward_to, forward_call, replied, fell_due, caller_dropped, call_sent}
 use Rattle.rb_proto.specs.Answers.{set_row, unset_rows, port_on, getport, getaddr, getversaddr, answer_to, answer}
 use Rattle.rb_core.specs.declared.message.Message.{Message}
@@ -44,10 +53,10 @@ use Rattle.rb_core.specs.Step.Output.{Opened, TooMuch, IsPending}
 
 -- ---- what a call leaves of them
 
--- They are as they were, or one more began, for which there is room; or a call was sent; or one ended.
+-- They are as they were, or one more began, for which there is room and whose arguments are short; or a call was sent; or one ended.
 pub data Goes (cap : ℕ) (old new : Forwards) : Type 0 where
   Same : new ≡ old → Goes cap old new
-  Begins : (clock : ℕ) (forward : Forward) (args : List ℕ) → can_start cap old ≡ true → new ≡ started clock forward args old → Goes cap old new
+  Begins : (clock : ℕ) (forward : Forward) (args : List ℕ) → length args ≤ longest_arguments → can_start cap old ≡ true → new ≡ started clock forward args old → Goes cap old new
   IsSent : (number : ℕ) → new ≡ sent number old → Goes cap old new
   Ends1 : (test : Entry → Bool) → new ≡ record old { all = without_first test old.all } → Goes cap old new
 
@@ -73,9 +82,12 @@ getport-stays cap head m l = by_netid (netid_of_prot m.prot)
     by_netid None = Same refl
     by_netid (Some netid) = Same refl
 
-forward-goes : (context : Context) (xid : ℕ) (kind : Kind) (remote : RemoteCall) (arguments : List ℕ) (l : Ledger) → Goes context.forwards l.forwards (forward_call context xid kind remote arguments l).1.forwards
+args-short : (remote : RemoteCall) (arguments : List ℕ) → HasContent remote arguments → length (args_of remote arguments) ≤ longest_arguments
+args-short remote arguments has = let few = length-take (16 + remote.count - 16) (drop 16 arguments) in omega (arith, few, has.few)
+
+forward-goes : (context : Context) (xid : ℕ) (kind : Kind) (remote : RemoteCall) (arguments : List ℕ) (l : Ledger) → HasContent remote arguments → Goes context.forwards l.forwards (forward_call context xid kind remote arguments l).1.forwards
 unfolding forward_call
-forward-goes context xid kind remote arguments l = by_address (address_to_forward remote.prog remote.vers (rows_in l))
+forward-goes context xid kind remote arguments l has = by_address (address_to_forward remote.prog remote.vers (rows_in l))
   where
     args : List ℕ
     args = args_of remote arguments
@@ -85,30 +97,30 @@ forward-goes context xid kind remote arguments l = by_address (address_to_forwar
     by_address (Some address) = by_room (can_start context.forwards l.forwards) refl
       where
         by_room : (b : Bool) → can_start context.forwards l.forwards ≡ b → Goes context.forwards l.forwards (forward_to context xid kind remote args (Some address) l).1.forwards
-        by_room true e = rw e (Begins context.clock (forward_of context xid kind remote address) args e refl)
+        by_room true e = rw e (Begins context.clock (forward_of context xid kind remote address) args (args-short remote arguments has) e refl)
         by_room false e = rw e (Same refl)
 
-answer-goes : (context : Context) (head : CallHead) (request : Request) (arguments : List ℕ) (l : Ledger) → Goes context.forwards l.forwards (answer_to context head request arguments l).1.forwards
+answer-goes : (context : Context) (head : CallHead) (request : Request) (arguments : List ℕ) (l : Ledger) → HasArgs request arguments → Goes context.forwards l.forwards (answer_to context head request arguments l).1.forwards
 unfolding getaddr getversaddr
-answer-goes context head (requests.Mapping mappings.Set m) arguments l = set-stays context.forwards context head _ l
-answer-goes context head (requests.Mapping mappings.Unset m) arguments l = unset-stays context.forwards context head m.prog m.vers _ l
-answer-goes context head (requests.Mapping mappings.Getport m) arguments l = getport-stays context.forwards head m l
-answer-goes context head (requests.Rpcb rpcbs.Set r) arguments l = set-stays context.forwards context head _ l
-answer-goes context head (requests.Rpcb rpcbs.Unset r) arguments l = unset-stays context.forwards context head r.prog r.vers _ l
-answer-goes context head (requests.Rpcb rpcbs.Getaddr r) arguments l = Same refl
-answer-goes context head (requests.Rpcb rpcbs.Getversaddr r) arguments l = Same refl
-answer-goes context head (requests.Rpcb rpcbs.Getaddrlist r) arguments l = Same refl
-answer-goes context head (requests.Void procedure) arguments l = Same refl
-answer-goes context head (requests.Uaddr2taddr text) arguments l = Same refl
-answer-goes context head (requests.Taddr2uaddr netbuf) arguments l = Same refl
-answer-goes context head (requests.Forward kind remote) arguments l = forward-goes context head.xid kind remote arguments l
+answer-goes context head (requests.Mapping mappings.Set m) arguments l has = set-stays context.forwards context head _ l
+answer-goes context head (requests.Mapping mappings.Unset m) arguments l has = unset-stays context.forwards context head m.prog m.vers _ l
+answer-goes context head (requests.Mapping mappings.Getport m) arguments l has = getport-stays context.forwards head m l
+answer-goes context head (requests.Rpcb rpcbs.Set r) arguments l has = set-stays context.forwards context head _ l
+answer-goes context head (requests.Rpcb rpcbs.Unset r) arguments l has = unset-stays context.forwards context head r.prog r.vers _ l
+answer-goes context head (requests.Rpcb rpcbs.Getaddr r) arguments l has = Same refl
+answer-goes context head (requests.Rpcb rpcbs.Getversaddr r) arguments l has = Same refl
+answer-goes context head (requests.Rpcb rpcbs.Getaddrlist r) arguments l has = Same refl
+answer-goes context head (requests.Void procedure) arguments l has = Same refl
+answer-goes context head (requests.Uaddr2taddr text) arguments l has = Same refl
+answer-goes context head (requests.Taddr2uaddr netbuf) arguments l has = Same refl
+answer-goes context head (requests.Forward kind remote) arguments l has = forward-goes context head.xid kind remote arguments l has
 
-outcome-goes : (context : Context) (message : Message) (arguments : List ℕ) (l : Ledger) → Goes context.forwards l.forwards (outcome context message arguments l).1.forwards
+outcome-goes : (context : Context) (message : Message) (arguments : List ℕ) (l : Ledger) → HasArgsIn message arguments → Goes context.forwards l.forwards (outcome context message arguments l).1.forwards
 unfolding outcome answer called
-outcome-goes context says.NoCall arguments l = Same refl
-outcome-goes context (says.Refused head) arguments l = Same refl
-outcome-goes context (says.Garbage head) arguments l = Same refl
-outcome-goes context (says.Asked call) arguments l = answer-goes context call.head call.request arguments (called call.head l)
+outcome-goes context says.NoCall arguments l has = Same refl
+outcome-goes context (says.Refused head) arguments l has = Same refl
+outcome-goes context (says.Garbage head) arguments l has = Same refl
+outcome-goes context (says.Asked call) arguments l has = answer-goes context call.head call.request arguments (called call.head l) has
 
 -- ---- what an event leaves of them
 
@@ -120,8 +132,9 @@ stays : (s : State) → Follows s s
 stays s = record { setting = refl; goes = Same refl }
 
 serve-follows : (s : State) (now : ℕ) (caller : Caller) (content : List ℕ) → Follows s (serve (at_moment now s) caller content).1
-unfolding serve
-serve-follows s now caller content = record { setting = refl; goes = outcome-goes (context_in (at_moment now s) caller) (message_of content) _ s.ledger }
+unfolding serve message_of
+serve-follows s now caller content =
+    record { setting = refl; goes = outcome-goes (context_in (at_moment now s) caller) (message_of content) _ s.ledger (message_has (verdict content) (arguments_of content)) }
 
 moved-follows : {A : Type 0} (s : State) (now : ℕ) (show : A → Output) (r : Result A CoreFault × Connections) → Follows s (output_or show (moved now s r)).1
 moved-follows s now show (Ok x, c) = record { setting = refl; goes = Same refl }
@@ -145,7 +158,7 @@ shown-follows s show (Err fault) u f = f
 
 outcome-follows : (s : State) (r : Outcome × State) → Follows s r.1 → Follows s (show_outcome (with_reply r)).1
 outcome-follows s (outcomes.NoCall, u) f = record { setting = f.setting; goes = f.goes }
-outcome-follows s (outcomes.Reply reply began, u) f = record { setting = f.setting; goes = f.goes }
+outcome-follows s (outcomes.Reply reply, u) f = record { setting = f.setting; goes = f.goes }
 outcome-follows s (outcomes.Forwarded, u) f = record { setting = f.setting; goes = f.goes }
 outcome-follows s (outcomes.Silent, u) f = record { setting = f.setting; goes = f.goes }
 
@@ -207,9 +220,13 @@ abbrev pub AreRising : ℕ → ℕ → List Entry → Type 0
 AreRising least next [] = least ≤ next
 AreRising least next (e ∷ all) = (least ≤ e.number) × AreRising (e.number + 1) next all
 
+abbrev pub HasShortArgs : Entry → Type 0
+HasShortArgs e = length e.args ≤ longest_arguments
+
 pub record AreKept (cap : ℕ) (f : Forwards) : Type 0 where
   pub order : AreRising 1 f.next f.all
   pub few : length f.all ≤ cap
+  pub short : All HasShortArgs f.all
 
 lower : (low least next : ℕ) (all : List Entry) → low ≤ least → AreRising least next all → AreRising low next all
 lower low least next [] le s = omega arith
@@ -255,6 +272,22 @@ ended-length test (e ∷ all) = by_test (test e) (ended-length test all)
     by_test true rest = omega arith
     by_test false rest = omega (arith, rest)
 
+marked-short : (number : ℕ) (all : List Entry) → All HasShortArgs all → All HasShortArgs (change_first (is_unsent number) as_sent all)
+marked-short number [] s = s
+marked-short number (e ∷ all) s = by_test (is_unsent number e) (marked-short number all (All-tail HasShortArgs e all s))
+  where
+    by_test : (b : Bool) → All HasShortArgs (change_first (is_unsent number) as_sent all) → All HasShortArgs (cond b (as_sent e ∷ all) (e ∷ change_first (is_unsent number) as_sent all))
+    by_test true rest = All-cons HasShortArgs (as_sent e) all (All-head HasShortArgs e all s) (All-tail HasShortArgs e all s)
+    by_test false rest = All-cons HasShortArgs e (change_first (is_unsent number) as_sent all) (All-head HasShortArgs e all s) rest
+
+ended-short : (test : Entry → Bool) (all : List Entry) → All HasShortArgs all → All HasShortArgs (without_first test all)
+ended-short test [] s = s
+ended-short test (e ∷ all) s = by_test (test e) (ended-short test all (All-tail HasShortArgs e all s))
+  where
+    by_test : (b : Bool) → All HasShortArgs (without_first test all) → All HasShortArgs (cond b all (e ∷ without_first test all))
+    by_test true rest = All-tail HasShortArgs e all s
+    by_test false rest = All-cons HasShortArgs e (without_first test all) (All-head HasShortArgs e all s) rest
+
 room : (cap : ℕ) (f : Forwards) → can_start cap f ≡ true → length f.all < cap
 unfolding can_start
 room cap f e = ltb-true (length f.all) cap (first (nat_lt (length f.all) cap) (nat_le f.next greatest_number) e)
@@ -266,16 +299,16 @@ room cap f e = ltb-true (length f.all) cap (first (nat_lt (length f.all) cap) (n
 goes-kept : (cap : ℕ) (old new : Forwards) → Goes cap old new → AreKept cap old → AreKept cap new
 unfolding started next_entry sent
 goes-kept cap old new (Same is) k = subst (AreKept cap) (sym is) k
-goes-kept cap old new (Begins clock forward args can is) k =
+goes-kept cap old new (Begins clock forward args short can is) k =
     let free = room cap old can in
     let more = pushed-length old.all (next_entry clock forward args old) in
-    subst (AreKept cap) (sym is) (record { order = pushed 1 old.next old.all _ refl k.order; few = omega (arith, free, more) })
+    subst (AreKept cap) (sym is) (record { order = pushed 1 old.next old.all _ refl k.order; few = omega (arith, free, more); short = All-push HasShortArgs old.all _ k.short short })
 goes-kept cap old new (IsSent number is) k =
     let same = marked-length number old.all in
-    subst (AreKept cap) (sym is) (record { order = marked number 1 old.next old.all k.order; few = omega (arith, same, k.few) })
+    subst (AreKept cap) (sym is) (record { order = marked number 1 old.next old.all k.order; few = omega (arith, same, k.few); short = marked-short number old.all k.short })
 goes-kept cap old new (Ends1 test is) k =
     let less = ended-length test old.all in
-    subst (AreKept cap) (sym is) (record { order = ended test 1 old.next old.all k.order; few = omega (arith, less, k.few) })
+    subst (AreKept cap) (sym is) (record { order = ended test 1 old.next old.all k.order; few = omega (arith, less, k.few); short = ended-short test old.all k.short })
 
 abbrev pub HasKept : State → Type 0
 HasKept s = AreKept s.setting.limits.forwards s.ledger.forwards
@@ -296,4 +329,4 @@ after-setting s (event ∷ events) = after-setting (step s event).1 events ∙ (
 pub reached-kept : (s : State) → IsReached s → HasKept s
 reached-kept s r =
     let start : State = opening r.limits r.listener r.first_xid r.now in
-    subst HasKept (sym r.is) (after-kept start r.events (record { order = omega arith; few = omega arith }))
+    subst HasKept (sym r.is) (after-kept start r.events (record { order = omega arith; few = omega arith; short = All-nil HasShortArgs }))

@@ -1,5 +1,5 @@
 -- What is remembered of the calls, in each state that a run reaches.
-use Rattle.std.proofs.Common.{◌≡◌, ℕ, ◌≤◌, max, Bool, true, false, cond, ◌&&◌, nat_le, Option, Some, None, Result, Ok, Err, List, [], ◌∷◌, ◌++◌, length, refl, sym, subst, ◌∙◌, arith}
+use Rattle.std.proofs.Common.{◌≡◌, ℕ, ◌≤◌, max, Bool, true, false, cond, ◌&&◌, nat_le, eqb, Option, Some, None, Result, Ok, Err, List, [], ◌∷◌, ◌++◌, length, refl, sym, subst, ◌∙◌, arith}
 use Rattle.std.proofs.lemmas.Bool.{leb-true}
 use Rattle.rb_rpc.specs.declared.peer.Caller.{Caller}
 use Rattle.rb_rpc.specs.declared.peer.Caller.TheVariants.{Tcp, Udp}
@@ -21,7 +21,7 @@ use Rattle.rb_core.specs.Ending.{told_at, tell, tell_end, at_fresh_moment, forwa
 use Rattle.rb_registry.specs.declared.row.Row.{Row}
 use Rattle.rb_registry.specs.declared.row.Which.{Which}
 use Rattle.rb_registry.specs.Rows.{Change, is_netid, is_on, is_row, are_distinct, has_place, removes_some}
-use Rattle.rb_registry.specs.Rows.Change.{Added}
+use Rattle.rb_registry.specs.Rows.Change.{Added, Removed}
 use Rattle.rb_registry.specs.Registry.{AreOwn}
 use Rattle.rb_registry.specs.Laws.{is_accepted, are_accepted}
 use Rattle.rb_registry.proofs.RowLaws.{accepted_more, keys_are_distinct, live_rows_fit}
@@ -51,7 +51,12 @@ use Rattle.rb_core.specs.Step.{Event, Output, Taken, context_in, serve, dropped_
 use Rattle.rb_core.specs.Step.Event.{Open, Bytes, Pending, Gave, Closed, NextLost, Datagram, Unsent, Sent, Forward, Expire}
 use Rattle.rb_core.specs.Step.Output.{Opened, TooMuch, IsPending}
 use Rattle.rb_core.specs.Run.{after}
-use Rattle.rb_core.specs.Laws.{LedgersAreWellKept}
+use Rattle.rb_core.specs.Laws.{IsReached, LedgersAreWellKept}
+use Rattle.rb_core.proofs.ShortTexts.{read_short}
+use Rattle.rb_uaddr.specs.Uaddr.{parse, port_of}
+use Rattle.std.proofs.lemmas.List.Elements.{All-nil, All-push}
+use Rattle.std.specs.Prelude.{All, ⊤, not}
+use Rattle.std.specs.Option.{option_map_or}
 use Rattle.rb_core.proofs.Happenings.{Arriving, arriving}
 use Rattle.rb_core.proofs.Happenings.Arriving.{NotThere, NotTaken, ReadOn, Ended}
 
@@ -62,20 +67,40 @@ both false b e = absurd cc
 
 -- ---- what a call leaves behind
 
+-- a row with an address text of at most 24 bytes, or a removal
+abbrev pub IsShortChange : Change → Type 0
+IsShortChange (Added row) = length row.addr ≤ 24
+IsShortChange (Removed prog vers which owner) = ⊤
+
 -- its changes as they were, or one more, which was accepted
 data Grows (limit : ℕ) (old new : Ledger) : Type 0 where
   Same : new.own ≡ old.own → new.changes ≡ old.changes → Grows limit old new
-  More : (change : Change) → is_accepted limit old.own old.changes change ≡ true → new.own ≡ old.own → new.changes ≡ old.changes ++ change ∷ [] → Grows limit old new
+  More : (change : Change) → is_accepted limit old.own old.changes change ≡ true → IsShortChange change → new.own ≡ old.own → new.changes ≡ old.changes ++ change ∷ [] → Grows limit old new
 
-change-grows : (limit : ℕ) (change : Change) (note : Note) (l : Ledger) (b : Bool) → (b ≡ true → is_accepted limit l.own l.changes change ≡ true) → Grows limit l (change_if b change note l).1
-change-grows limit change note l true accepted = More change (accepted refl) refl refl
-change-grows limit change note l false accepted = Same refl refl
+change-grows : (limit : ℕ) (change : Change) (note : Note) (l : Ledger) (b : Bool) → (b ≡ true → is_accepted limit l.own l.changes change ≡ true) → (b ≡ true → IsShortChange change) → Grows limit l (change_if b change note l).1
+change-grows limit change note l true accepted short = More change (accepted refl) (short refl) refl refl
+change-grows limit change note l false accepted short = Same refl refl
+
+-- its address is one
+settable-short : (row : Row) → can_be_set row ≡ true → length row.addr ≤ 24
+unfolding can_be_set
+settable-short row e = by_address (parse row.addr) refl (both _ (option_map_or (λ u. not (eqb (port_of u) 0)) (parse row.addr) false) e).1
+  where
+    by_address : (o : Option Uaddr) → parse row.addr ≡ o → option_map_or (λ u. not (eqb (port_of u) 0)) o false ≡ true → length row.addr ≤ 24
+    by_address None is e = absurd cc
+    by_address (Some u) is e = read_short row.addr u is
 
 set-grows : (context : Context) (head : CallHead) (o : Option Row) (l : Ledger) → Grows context.limit l (set_row context head o l).1
 unfolding set_row accepts_row
 set-grows context head None l = Same refl refl
 set-grows context head (Some row) l = change-grows context.limit (Added row) (WasSet (version_of head.vers)) l (accepts_row context l row) (λ e. last (comes_from_here context) (can_be_set row) (has_place context.limit (rows_in l) (length l.changes) row) e)
+    (λ e. settable-short row (middle (comes_from_here context) (can_be_set row) (has_place context.limit (rows_in l) (length l.changes) row) e))
   where
+    middle : (a b c : Bool) → (a && b && c) ≡ true → b ≡ true
+    middle true true c e = refl
+    middle true false c e = absurd cc
+    middle false b c e = absurd cc
+
     last : (a b c : Bool) → (a && b && c) ≡ true → c ≡ true
     last true true true e = refl
     last true true false e = absurd cc
@@ -87,7 +112,7 @@ unfolding unset_rows accepts_removal
 unset-grows context head prog vers None l = Same refl refl
 unset-grows context head prog vers (Some which) l =
     change-grows context.limit (removal_of head prog vers which) (WasUnset (version_of head.vers)) l (accepts_removal context l (removal_of head prog vers which))
-    (λ e. (both (comes_from_here context) (removes_some (rows_in l) (length l.changes) (removal_of head prog vers which)) e).1)
+    (λ e. (both (comes_from_here context) (removes_some (rows_in l) (length l.changes) (removal_of head prog vers which)) e).1) (λ e. tt)
 
 getport-grows : (limit : ℕ) (head : CallHead) (m : Mapping) (l : Ledger) → Grows limit l (getport head m l).1
 unfolding getport
@@ -134,7 +159,7 @@ outcome-grows context (says.Asked call) arguments l = by_growth (answer_to conte
   where
     by_growth : (new : Ledger) → Grows context.limit (called call.head l) new → Grows context.limit l new
     by_growth new (Same own same) = Same own same
-    by_growth new (More change accepted own same) = More change accepted own same
+    by_growth new (More change accepted short own same) = More change accepted short own same
 
 -- ---- what an event leaves behind
 
@@ -166,7 +191,7 @@ shown-follows s show (Err fault) u f = f
 
 outcome-follows : (s : State) (r : Outcome × State) → Follows s r.1 → Follows s (show_outcome (with_reply r)).1
 outcome-follows s (outcomes.NoCall, u) f = record { setting = f.setting; grows = f.grows }
-outcome-follows s (outcomes.Reply reply began, u) f = record { setting = f.setting; grows = f.grows }
+outcome-follows s (outcomes.Reply reply, u) f = record { setting = f.setting; grows = f.grows }
 outcome-follows s (outcomes.Forwarded, u) f = record { setting = f.setting; grows = f.grows }
 outcome-follows s (outcomes.Silent, u) f = record { setting = f.setting; grows = f.grows }
 
@@ -260,15 +285,18 @@ six-own listener = refl
 record KeepsLedger (limit : ℕ) (listener : Listener) (l : Ledger) : Type 0 where
   own : l.own ≡ own_rows listener
   accepted : are_accepted limit l.own [] l.changes ≡ true
+  short : All IsShortChange l.changes
 
 grown : (limit : ℕ) (listener : Listener) (old new : Ledger) → Grows limit old new → KeepsLedger limit listener old → KeepsLedger limit listener new
 grown limit listener old new (Same own same) k = record {
   own = own ∙ k.own;
   accepted = rw (own, same) k.accepted;
+  short = rw same k.short;
 }
-grown limit listener old new (More change accepted own same) k = record {
+grown limit listener old new (More change accepted short own same) k = record {
   own = own ∙ k.own;
   accepted = rw (own, same) (accepted_more limit old.own [] old.changes change k.accepted accepted);
+  short = rw same (All-push IsShortChange old.changes change k.short short);
 }
 
 abbrev KeepsIn : State → Type 0
@@ -287,6 +315,7 @@ opening-keeps : (limits : Limits) (listener : Listener) (first_xid now : ℕ) �
 opening-keeps limits listener first_xid now = record {
   own = refl;
   accepted = refl;
+  short = All-nil IsShortChange;
 }
 
 eight : (limits : Limits) → are_good limits ≡ true → 6 ≤ limits.rows
@@ -297,10 +326,18 @@ eight limits good =
     let more : 8 ≤ limits.rows = leb-true 8 limits.rows c.1 in
     omega (arith, more)
 
+reached-keeps : (s : State) → IsReached s → KeepsIn s
+reached-keeps s r =
+    let start : State = opening r.limits r.listener r.first_xid r.now in
+    subst KeepsIn (sym r.is) (after-keeps start r.events (opening-keeps r.limits r.listener r.first_xid r.now))
+
+-- the own rows are the listener's, and each change is short
+pub reached-short : (s : State) → IsReached s → (s.ledger.own ≡ own_rows s.setting.listener) × All IsShortChange s.ledger.changes
+reached-short s r = let k = reached-keeps s r in (k.own, k.short)
+
 pub ledgers_are_well_kept : LedgersAreWellKept
 ledgers_are_well_kept s r =
-    let start : State = opening r.limits r.listener r.first_xid r.now in
-    let k : KeepsIn s = subst KeepsIn (sym r.is) (after-keeps start r.events (opening-keeps r.limits r.listener r.first_xid r.now)) in
+    let k = reached-keeps s r in
     let distinct : are_distinct s.ledger.own ≡ true = rw k.own (own-distinct s.setting.listener) in
     let own : AreOwn s.ledger.own = subst AreOwn (sym k.own) (are-own s.setting.listener) in
     record {

@@ -1,21 +1,25 @@
 -- Laws of forwarded calls (RFC 1833 sections 2.2.1 and 3.2).
-use Rattle.std.specs.Prelude.{◌≡◌, ℕ, ◌+◌, ◌≤◌, ◌==◌, max, if◌then◌else◌, List, [], Option, Some, None}
+use Rattle.std.specs.Prelude.{◌≡◌, ℕ, ◌+◌, ◌≤◌, ◌==◌, nat_le, nat_lt, max, Bool, ◌&&◌, if◌then◌else◌, List, [], ◌∷◌, ◌++◌, map, filter, Option, Some, None}
 use Rattle.std.specs.List.{count_by}
 use Rattle.rb_rpc.specs.declared.peer.Peer.{Peer}
 use Rattle.rb_rpc.specs.declared.peer.Caller.{Caller}
 use Rattle.rb_rpc.specs.declared.peer.Caller.TheVariants.{Tcp, Udp}
 use Rattle.rb_forward.specs.declared.types.Outcome.TheVariants.{Failed}
-use Rattle.rb_forward.specs.Forwards.{Entry, is_of_connection, outcome_of, ended_by, no_forwards}
+use Rattle.rb_forward.specs.Forwards.{Entry, is_of_connection, outcome_of, ended_by}
 use Rattle.rb_forward.specs.Ends.{NoneIs, IsFirst, IsReplyTo}
-use Rattle.rb_forward.specs.Laws.{Event as TableEvent, Run, run, times}
+use Rattle.rb_forward.specs.Laws.{number_of, times}
+use Rattle.rb_proto.specs.declared.listener.Listener.{Listener}
+use Rattle.rb_core.specs.declared.types.Limits.{Limits}
 use Rattle.rb_core.specs.declared.types.Told.{Told}
 use Rattle.rb_core.specs.declared.types.Told.TheVariants.{TcpReady}
 use Rattle.rb_core.specs.declared.types.Expired.{Expired}
 use Rattle.rb_core.specs.declared.types.Expired.TheVariants.{Nothing, Ended, ConnectionClosed}
 use Rattle.rb_core.specs.Calls.{Outcome, reply_in}
-use Rattle.rb_core.specs.State.{State, Connection}
+use Rattle.rb_core.specs.State.{State, Connection, opening}
 use Rattle.rb_core.specs.Connections.{is_awaiting, live_connection, settled, changed_at}
 use Rattle.rb_core.specs.Ending.{told_at, told_over_udp, at_fresh_moment, forward_reply, expire}
+use Rattle.rb_core.specs.Step.{Event, step}
+use Rattle.rb_core.specs.Run.{after}
 use Rattle.rb_core.specs.Laws.{IsReached}
 
 -- ---- connections that wait
@@ -88,16 +92,50 @@ DeadlinesEndOne = (s : State) (now : ℕ) → EndsByDeadline s now (expire s now
 
 -- ---- each ends once
 
--- what passed of a table of entries in a state's limits
-abbrev pub run_in : State → List TableEvent → Run
-run_in s events = run s.setting.limits.forwards s.setting.first_xid no_forwards events
+-- the numbers of the entries that are there
+abbrev pub numbers_in : State → List ℕ
+numbers_in s = map number_of s.ledger.forwards.all
 
--- The entries are those that these calls on the table leave: each that began has ended once, or is still there.
-pub record EndOnce (s : State) : Type 0 where
-  pub events : List TableEvent
-  pub left : s.ledger.forwards ≡ (run_in s events).left
-  pub once : (number : ℕ) → times number (run_in s events).begun
-      ≡ times number (run_in s events).ended + count_by (λ (e : Entry). e.number == number) s.ledger.forwards.all
+-- the number of the next one
+abbrev pub next_in : State → ℕ
+next_in s = s.ledger.forwards.next
 
+-- One of these numbers is gone, and the others stay in their order.
+pub record OneIsGone (numbers left : List ℕ) : Type 0 where
+  pub before : List ℕ
+  pub gone : ℕ
+  pub behind : List ℕ
+  pub were : numbers ≡ before ++ gone ∷ behind
+  pub are_left : left ≡ before ++ behind
+
+-- The entries that are there are the same, or one of them has ended, or one has begun behind them, with the next number.
+pub data ChangesAtMostOne (old new : State) : Type 0 where
+  Same : numbers_in new ≡ numbers_in old → next_in new ≡ next_in old → ChangesAtMostOne old new
+  OneEnds : OneIsGone (numbers_in old) (numbers_in new) → next_in new ≡ next_in old
+      → ChangesAtMostOne old new
+  OneBegins : numbers_in new ≡ numbers_in old ++ next_in old ∷ [] → next_in new ≡ next_in old + 1
+      → ChangesAtMostOne old new
+
+abbrev pub EventsChangeAtMostOne : Type 0
+EventsChangeAtMostOne = (s : State) (event : Event) → ChangesAtMostOne s (step s event).1
+
+-- the numbers of the entries that are there before the event and not after it
+abbrev pub gone_with : State → Event → List ℕ
+gone_with s event = filter (λ n. times n (numbers_in (step s event).1) == 0) (numbers_in s)
+
+-- these of each event of the run, in order
+abbrev pub ended_in : State → List Event → List ℕ
+ended_in s [] = []
+ended_in s (event ∷ events) = gone_with s event ++ ended_in (step s event).1 events
+
+-- the entries that have begun have the numbers from 1 up to that of the next one
+abbrev pub has_begun : ℕ → State → Bool
+has_begun number s = nat_le 1 number && nat_lt number (next_in s)
+
+-- In every run, each entry that has begun has ended with one event, or is there, once. No other number occurs.
 abbrev pub EntriesEndOnce : Type 0
-EntriesEndOnce = (s : State) → IsReached s → EndOnce s
+EntriesEndOnce =
+    (limits : Limits) (listener : Listener) (first_xid now : ℕ) (events : List Event) (number : ℕ)
+    → let start : State = opening limits listener first_xid now in
+    let end : State = after start events in
+    times number (ended_in start events) + times number (numbers_in end) ≡ if has_begun number end then 1 else 0

@@ -1,7 +1,7 @@
 -- What the slots of connections hold, and the connections that they stand for.
 use Rattle.std.specs.Prelude.{◌≡◌, ℕ, ◌+◌, ◌≤◌, ◌==◌, not, Bool, true, false, ◌&&◌, List, [], ◌∷◌, Option, Some, None, find, length, All, ⊤, Result, Ok, Err, MatchOption, MatchResult}
 use Rattle.std.specs.Borrow.{Bor}
-use Rattle.std.specs.List.{AllZip, list_any}
+use Rattle.std.specs.List.{AllZip, list_any, sum_by}
 use Rattle.std.specs.Map.{values_of}
 use Rattle.std.specs.Option.{option_map_or}
 use Rattle.rb_xdr.specs.Kept.{Kept}
@@ -21,7 +21,6 @@ use Rattle.rb_core.specs.Connections.{Taking, taking, mark_when_fed, reading, is
 use Rattle.rb_core.specs.Connections.Taking.{TakesNone, GoesOn, Ends}
 use Rattle.rb_core.specs.Deadlines.{is_due, is_due_slot}
 use Rattle.rb_core.specs.Giving.{longest_fragment, IsGiving}
-use Rattle.rb_core.specs.Streams.{Source, IsStreaming}
 use Rattle.rb_core.specs.Reading.{Reader, buffer_size, kept_of, IsReading}
 
 -- An act on what something stands for, which gives a result: from whatever the old one stood for, this result came,
@@ -41,29 +40,20 @@ Lends {Held} {Plain} StandsFor show held result =
 
 -- ---- one slot
 
--- The stage and the buffers hold what there is to know of the phase, but for the rest of a list, which is made from its source.
-abbrev pub StandsForPhase : Source → Stage → Kept → Kept → Phase → Type 0
-StandsForPhase source stages.Idle buffer window Idle = (buffer.bytes ≡ []) × (window.bytes ≡ [])
-StandsForPhase source (stages.Reading reader) buffer window (Reading fed) = IsReading reader buffer fed × (window.bytes ≡ [])
-StandsForPhase source (stages.Owing given) buffer window (Owing o) = IsGiving buffer.bytes window given o × (o.began ≡ None)
-StandsForPhase source (stages.Streaming stream) buffer window (Owing o) = IsStreaming source stream window o
-StandsForPhase source stages.Awaiting buffer window Awaiting = (buffer.bytes ≡ []) × (window.bytes ≡ [])
-StandsForPhase source stages.Lost buffer window Lost = ⊤
-StandsForPhase source stage buffer window phase = ⊥
+-- The stage and the buffers hold what there is to know of the phase.
+abbrev pub StandsForPhase : Stage → Kept → Kept → Phase → Type 0
+StandsForPhase stages.Idle buffer window Idle = (buffer.bytes ≡ []) × (window.bytes ≡ [])
+StandsForPhase (stages.Reading reader) buffer window (Reading fed) = IsReading reader buffer fed × (window.bytes ≡ [])
+StandsForPhase (stages.Owing given) buffer window (Owing o) = IsGiving buffer.bytes window given o
+StandsForPhase stages.Awaiting buffer window Awaiting = (buffer.bytes ≡ []) × (window.bytes ≡ [])
+StandsForPhase stages.Lost buffer window Lost = ⊤
+StandsForPhase stage buffer window phase = ⊥
 
-pub record StandsForConnection (source : Source) (slot : Slot) (c : Connection) : Type 0 where
+pub record StandsForConnection (slot : Slot) (c : Connection) : Type 0 where
   pub number : slot.number ≡ c.number
   pub peer : slot.peer ≡ c.peer
   pub mark : slot.mark ≡ c.mark
-  pub phase : StandsForPhase source slot.stage slot.buffer slot.window c.phase
-
--- an act on the connection that a slot stands for, whatever lists are made from
-abbrev pub SlotActs : {Result : Type 0} → (Connection → Result × Connection) → Slot → Slot → Result → Type 0
-SlotActs act old new result = (source : Source) → Acts (StandsForConnection source) act old new result
-
--- what a slot shows, whatever lists are made from
-abbrev pub SlotShows : {Result : Type 0} → (Connection → Result) → Slot → Result → Type 0
-SlotShows show slot result = (source : Source) → Shows (StandsForConnection source) show slot result
+  pub phase : StandsForPhase slot.stage slot.buffer slot.window c.phase
 
 -- The slot is about to be fed a piece behind these bytes of a record.
 pub record IsBeforePiece (slot : Slot) (reader : Reader) (clock : ℕ) (c : Connection) (fed : List ℕ) : Type 0 where
@@ -109,26 +99,17 @@ pub record Table : Type 0 where
   pub conns : ℕ
   pub tie : ℕ
 
-pub record StandsForConnections (source : Source) (table : Table) (connections : Connections) : Type 0 where
-  pub all : AllZip (StandsForConnection source) (values_of table.slots) connections.all
+pub record StandsForConnections (table : Table) (connections : Connections) : Type 0 where
+  pub all : AllZip StandsForConnection (values_of table.slots) connections.all
   pub next : connections.next ≡ table.given + 1
 
--- an act on the connections, whatever lists are made from
+-- an act on the connections
 abbrev pub TableActs : {Result : Type 0} → (Connections → Result × Connections) → Table → Table → Result → Type 0
-TableActs act old new result = (source : Source) → Acts (StandsForConnections source) act old new result
-
--- what a table shows of them, whatever lists are made from
-abbrev pub TableShows : {Result : Type 0} → (Connections → Result) → Table → Result → Type 0
-TableShows show table result = (source : Source) → Shows (StandsForConnections source) show table result
+TableActs act old new result = Acts StandsForConnections act old new result
 
 -- From whatever connections the old table stood for, the new one stands for what they become.
-abbrev pub BecomesFrom : Source → (Connections → Connections) → Table → Table → Type 0
-BecomesFrom source change old new =
-    (c : Connections) → StandsForConnections source old c → StandsForConnections source new (change c)
-
--- the same whatever lists are made from
 abbrev pub TableBecomes : (Connections → Connections) → Table → Table → Type 0
-TableBecomes change old new = (source : Source) → BecomesFrom source change old new
+TableBecomes change old new = (c : Connections) → StandsForConnections old c → StandsForConnections new (change c)
 
 -- the arguments that the core has once a piece for the connection of a number was taken
 abbrev pub arguments_on : ℕ → List ℕ → List ℕ → Connections → List ℕ
@@ -145,16 +126,7 @@ is_lost_stage stages.Lost = true
 is_lost_stage stages.Idle = false
 is_lost_stage (stages.Reading reader) = false
 is_lost_stage (stages.Owing given) = false
-is_lost_stage (stages.Streaming stream) = false
 is_lost_stage stages.Awaiting = false
-
-abbrev pub is_idle_stage : Stage → Bool
-is_idle_stage stages.Idle = true
-is_idle_stage stages.Lost = false
-is_idle_stage (stages.Reading reader) = false
-is_idle_stage (stages.Owing given) = false
-is_idle_stage (stages.Streaming stream) = false
-is_idle_stage stages.Awaiting = false
 
 unfoldable pub is_wanted_slot : Wanted → Slot → Bool
 is_wanted_slot (wanted.Live id) slot = slot.number == id && not (is_lost_stage slot.stage)
@@ -173,16 +145,34 @@ unfoldable pub wanted_slot : Wanted → List (ℕ × Slot) → Option (ℕ × Sl
 wanted_slot sought slots = find (λ (e : ℕ × Slot). is_wanted_slot sought e.1) slots
 
 -- the first connection that is wanted, and its slot
-pub record IsFound (source : Source) (sought : Wanted) (all : List Connection) (slot : Slot) : Type 0 where
+pub record IsFound (sought : Wanted) (all : List Connection) (slot : Slot) : Type 0 where
   pub connection : Connection
   pub found : find (is_wanted sought) all ≡ Some connection
-  pub stands : StandsForConnection source slot connection
+  pub stands : StandsForConnection slot connection
 
 -- The first connection that is wanted was found, or there is none.
 abbrev pub Finds : Wanted → Table → Option (Bor Slot) → Type 0
 Finds sought table result =
-    (source : Source) (c : Connections) → StandsForConnections source table c
-    → MatchOption result (find (is_wanted sought) c.all ≡ None) (λ slot. IsFound source sought c.all slot.now)
+    (c : Connections) → StandsForConnections table c → MatchOption result (find (is_wanted sought) c.all ≡ None) (λ slot. IsFound sought c.all slot.now)
+
+-- ---- what is held
+
+-- the bytes of its buffer and its window count, and 128 for its fixed part
+abbrev pub charge : Slot → ℕ
+charge slot = 128 + length slot.buffer.bytes + length slot.window.bytes
+
+abbrev pub held_in : List Slot → ℕ
+held_in slots = sum_by charge slots
+
+-- with a full buffer and a full window
+abbrev pub most_charge : ℕ
+most_charge = 128 + buffer_size + longest_fragment
+
+abbrev pub IsWithin : Slot → Type 0
+IsWithin slot = charge slot ≤ most_charge
+
+abbrev pub AreWithin : List (ℕ × Slot) → Type 0
+AreWithin slots = All IsWithin (values_of slots)
 
 -- ---- what is true of all slots and buffers
 
@@ -220,13 +210,15 @@ pub record StaysSlot (tie : ℕ) (old new : Slot) : Type 0 where
   pub number : new.number ≡ old.number
   pub buffers : HasBuffers tie new
 
--- as many connections as before may be there, counted by the same meter
+-- as many connections as before may be there, counted by the same meter, and none holds more than its buffers have room for
 pub record StaysTable (old new : Table) : Type 0 where
   pub conns : new.conns ≡ old.conns
   pub tie : new.tie ≡ old.tie
+  pub within : AreWithin new.slots
 
--- What is true of all that is kept of connections: each connection that is not open has its buffers spare.
-pub record IsTable (slots : Pool Slot) (spare : Pool Buffers) (given conns : ℕ) : Type 0 where
+-- What is true of all that is kept of connections: each connection that is not open has its buffers spare, and the number of
+-- bytes that are held is counted.
+pub record IsTable (slots : Pool Slot) (spare : Pool Buffers) (given conns held : ℕ) : Type 0 where
   pub distinct : HasDistinctKeys slots.entries
   pub spare_distinct : HasDistinctKeys spare.entries
   pub room : length slots.entries + length spare.entries ≡ conns
@@ -236,3 +228,6 @@ pub record IsTable (slots : Pool Slot) (spare : Pool Buffers) (given conns : ℕ
   pub buffers : All (HasBuffers slots.tie) (values_of slots.entries)
   pub spare_buffers : All (AreSpare slots.tie) (values_of spare.entries)
   pub numbers : AreNumbered given (values_of slots.entries)
+  pub few : conns ≤ 256
+  pub within : AreWithin slots.entries
+  pub is_held : held ≡ held_in (values_of slots.entries)

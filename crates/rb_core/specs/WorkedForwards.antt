@@ -10,6 +10,7 @@ use Rattle.rb_core.specs.Step.Output.{Opened, Took, IsPending, Done, Replied, Fo
 use Rattle.rb_core.specs.Calls.{Outcome as said}
 use Rattle.rb_core.specs.Sessions.{session}
 use Rattle.rb_core.specs.Run.{run}
+use Rattle.rb_core.specs.ForwardLaws.{ended_in}
 use Rattle.rb_core.specs.Worked.{fresh, loopback, call2, call_by_none, accepted}
 use Rattle.rb_core.specs.WorkedConnections.{opens, in_one, null_call}
 
@@ -154,7 +155,7 @@ ForwardOnTcpIsWhole =
       taken = in_one (indirect 15 200001);
       given = [];
       unfinished = [];
-      calls = record { content = indirect 15 200001; said = said.Reply passed None } ∷ [];
+      calls = record { content = indirect 15 200001; said = said.Reply passed } ∷ [];
     }
 
 -- A later connection never gets the reply to a call of a closed one.
@@ -162,3 +163,11 @@ abbrev pub ClosedCallerIsDropped : Type 0
 ClosedCallerIsDropped =
     run fresh (asks_on_one ++ Sent 1 ∷ Closed 1 ∷ opens ∷ Forward 5999 target (accepted 1000 []) ∷ Pending 2 ∷ [])
     ≡ asked_on_one ++ Done ∷ Done ∷ Opened 2 ∷ Ignored ∷ IsPending [] ∷ []
+
+-- Three calls are forwarded: the second ends by its reply, the first with its connection, and the third at its deadline.
+abbrev pub EachEndsInTurn : Type 0
+EachEndsInTurn =
+    ended_in fresh
+    (asks_on_one ++ Datagram 1000 loopback (indirect 16 200001) ∷ Datagram 1000 loopback (indirect 17 200001) ∷ Sent 2
+    ∷ Forward 2000 target (accepted 1001 []) ∷ Closed 1 ∷ Expire 6000 ∷ Expire 6000 ∷ [])
+    ≡ 2 ∷ 1 ∷ 3 ∷ []

@@ -1,19 +1,15 @@
 //! The connections that are open, in the order of their openings.
-ghost use Rattle.std.specs.Prelude.{◌≡◌, ◌<◌, ◌+◌, ◌*◌, ◌++◌, ◌∷◌, [], All, length, IfOk};
+ghost use Rattle.std.specs.Prelude.{◌≡◌, ◌<◌, ◌≤◌, ◌+◌, ◌*◌, ◌++◌, ◌∷◌, [], All, length, IfOk};
 ghost use Rattle.std.specs.Option.{option_map};
 ghost use Rattle.std.specs.Map.{values_of};
-ghost use Rattle.rb_xdr.specs.Meter.{PaysAtMost};
+ghost use Rattle.rb_xdr.specs.Meter.{Pays, PaysAtMost};
 ghost use Rattle.rb_xdr.specs.Pool.{HasDistinctKeys};
-ghost use Rattle.rb_core.specs.Slots.{wanted_slot, AreBuffers, AreSpare};
-ghost use Rattle.rb_core.specs.Listings.{earlier, began_early, with_evicted, stamps_in, IsOldest};
-ghost use Rattle.rb_core.specs.Costs.{oldest_cost, evict_cost};
+ghost use Rattle.rb_core.specs.Slots.{wanted_slot, AreBuffers, AreSpare, HasBuffers, charge, most_charge, IsWithin};
 
 use crate::reading::LONGEST_ARGUMENTS;
-use crate::serve::{LONGEST_REPLY, Served};
-use crate::slot::{Buffers, Received, Slot, Stage, Wanted};
+use crate::serve::LONGEST_REPLY;
+use crate::slot::{Buffers, CHARGE, Received, Slot, Stage, Wanted};
 use crate::types::{CoreFault, Outcome};
-use rb_proto::ListReply;
-use rb_registry::Registry;
 use rb_rpc::Peer;
 use rb_xdr::{Kept, Meter, NoMemory, Pool};
 use std::alloc::Global;
@@ -36,6 +32,7 @@ pub struct Connections {
     spare: Pool<Buffers>,
     given: u64,
     conns: usize,
+    held: u64,
 }
 
 impl Model for Connections {
@@ -45,7 +42,7 @@ impl Model for Connections {
 
     ghost view = { λ c. record { slots = c.slots.entries; given = c.given; conns = c.conns; tie = c.slots.tie } };
 
-    ghost invariant = { λ c. IsTable c.slots c.spare c.given c.conns };
+    ghost invariant = { λ c. IsTable c.slots c.spare c.given c.conns c.held };
 }
 
 /// Takes the first spare buffers out.
@@ -109,61 +106,6 @@ fn put_slot(slots: &mut Pool<Slot>, slot: Slot, meter: &mut Meter)
     };
 }
 
-/// The lesser of two numbers, as far as they are there.
-fn earlier(a: Option<u64>, b: Option<u64>) -> Option<u64>
-    ensures { result ≡ earlier a b }
-{
-    match (a, b) {
-        (Some(a), Some(b)) => Some(a.min(b)),
-        (Some(a), None) => Some(a),
-        (None, b) => b,
-    }
-}
-
-/// The least number of changes after which a list began that is being given.
-fn oldest_in(slots: &Pool<Slot>, meter: &mut Meter) -> Option<u64>
-    requires tie { meter.old.tie ≡ slots.now.tie }
-    ensures oldest { IsOldest (stamps_in slots.now.entries) result }
-    ensures cost { PaysAtMost meter.old meter.new (oldest_cost (length slots.now.entries)) }
-{
-    let mut oldest = None;
-    let mut place = None;
-    'slots: while let Some((key, slot)) = slots.entry_after(place, meter) {
-        oldest = earlier(oldest, slot.began());
-        place = Some(key);
-    }
-    oldest
-}
-
-/// Whether a list that began after so many changes did so before a change.
-fn is_early(began: Option<u64>, earliest: u64) -> bool
-    ensures { result ≡ began_early earliest began }
-{
-    match began {
-        Some(stamp) => stamp < earliest,
-        None => false,
-    }
-}
-
-/// Each slot becomes Lost whose list began before a change.
-fn evict_slots(slots: &mut Pool<Slot>, earliest: u64, meter: &mut Meter)
-    requires tie { meter.old.tie ≡ slots.old.tie }
-    requires distinct { HasDistinctKeys slots.old.entries }
-    ensures evicted { slots.new ≡ with_evicted earliest slots.old }
-    ensures cost { PaysAtMost meter.old meter.new (evict_cost (length slots.old.entries)) }
-{
-    let mut place = None;
-    'slots: while let Some((key, slot)) = slots.entry_after(place, meter) {
-        if is_early(slot.began(), earliest) {
-            let Some(reader) = slots.get_mut(key, meter) else {
-                unreachable!()
-            };
-            reader.stage = Stage::Lost;
-        }
-        place = Some(key);
-    }
-}
-
 /// As many buffers as there may be connections.
 #[tactic(auto, unfolding(crate::specs::Reading::longest_arguments, crate::specs::Reading::buffer_size, crate::specs::Calls::longest_reply, crate::specs::Giving::longest_fragment))]
 fn make_spare(alloc: Global, conns: usize, meter: &mut Meter) -> Result<Pool<Buffers>, NoMemory>
@@ -194,25 +136,34 @@ fn wanted_key(slots: &Pool<Slot>, wanted: Wanted, meter: &mut Meter) -> Option<u
     slots.find_key(|slot| slot.is_wanted(wanted), meter)
 }
 
+/// How many bytes are held of all connections, of which this one counted as so many before.
+#[tactic(auto, unfolding(crate::specs::Calls::longest_reply, crate::specs::Reading::longest_arguments, crate::specs::Reading::buffer_size, crate::specs::Giving::longest_fragment))]
+fn recounted(held: u64, before: u64, slot: &Slot, meter: &mut Meter) -> u64
+    requires buffers { HasBuffers meter.old.tie slot.now }
+    requires before { before ≤ held }
+    requires few { held ≤ 256 * most_charge }
+    ensures held { result + before ≡ held + charge slot.now }
+    ensures within { IsWithin slot.now }
+    ensures cost { Pays meter.old meter.new 2 }
+{
+    held - before + slot.charge(meter)
+}
+
 impl Connections {
-    ghost use Rattle.std.specs.Prelude.{◌≡◌, ◌≤◌, ◌<◌, ◌+◌, ◌*◌, [], true, false, ℕ, List, length, Some, OnErr, IfOk, IfSome, All};
-    ghost use Rattle.rb_core.specs.Calls.{Outcome as said, is_no_call};
+    ghost use Rattle.std.specs.Prelude.{◌≡◌, ◌≤◌, ◌<◌, ◌+◌, ◌*◌, [], true, false, length, OnErr, IfOk, IfSome};
     ghost use Rattle.rb_core.specs.Connections.{on_live, giving, opening_of, closing_of, first_lost};
-    ghost use Rattle.rb_core.specs.Evictions.{evicting};
-    ghost use Rattle.rb_core.specs.Streams.{Source, IsToldBy};
-    ghost use Rattle.rb_core.specs.Serving.{served_in, kind_in, IsWritten, IsToldIn};
-    ghost use Rattle.rb_core.specs.Listings.{AreTold, KeepsTold, stamps_of, IsOldest, IsEarliest};
-    ghost use Rattle.rb_proto.specs.ListReplies.{rest_of};
     ghost use Rattle.rb_core.specs.Deadlines.{expiring};
     ghost use Rattle.rb_core.specs.StandsFor.{given_in, settling};
     ghost use Rattle.rb_core.specs.Step.{pending_at, pending_count};
     ghost use Rattle.rb_core.specs.Giving.{longest_fragment};
-    ghost use Rattle.rb_core.specs.Costs.{slot_count, look_cost, taken_cost, settle_cost, list_cost, give_cost, pending_cost, oldest_cost, evict_cost};
-    ghost use Rattle.rb_core.specs.Awaits.{is_free, has_idle, NoneIsFreed, OnlyIsFreed, HearsFree};
-    ghost use Rattle.rb_core.specs.Slots.{Acts, Lends, Finds, TableActs, TableShows, TableBecomes, BecomesFrom, StandsForConnections, StaysTable, IsDraft, empty_table, feeding, arguments_on, HasBuffers};
+    ghost use Rattle.rb_core.specs.Costs.{slot_count, look_cost, taken_cost, settle_cost, giving_cost, pending_cost};
+    ghost use Rattle.rb_core.specs.Awaits.{is_free, has_live, NoneIsFreed, OnlyIsFreed, HearsFree};
+    ghost use Rattle.rb_core.specs.Slots.{Shows, Lends, Finds, TableActs, TableBecomes, StandsForConnections, StaysTable, IsDraft, empty_table, feeding, arguments_on, HasBuffers, held_in, most_charge};
+    ghost use Rattle.std.specs.Map.{values_of};
 
     /// No connections yet, of at most so many. All of their memory is taken.
     pub fn new(alloc: Global, conns: usize, meter: &mut Meter) -> Result<Connections, NoMemory>
+        requires { conns ≤ 256 }
         ensures empty { IfOk result (λ c. c ≡ empty_table conns meter.old.tie) }
         ensures cost { PaysAtMost meter.old meter.new (3 * conns) }
     {
@@ -222,6 +173,7 @@ impl Connections {
             spare,
             given: 0,
             conns,
+            held: 0,
         })
     }
 
@@ -230,7 +182,6 @@ impl Connections {
     pub fn open(&mut self, clock: u64, peer: Peer, meter: &mut Meter) -> Result<u64, CoreFault>
         requires { meter.old.tie ≡ self.old.tie }
         ensures acts { TableActs (opening_of self.old.conns peer clock) self.old self.new result }
-        ensures told { KeepsTold self.old self.new }
         ensures free { NoneIsFreed self.old self.new }
         ensures refused { OnErr result (self.new ≡ self.old) }
         ensures stays { StaysTable self.old self.new }
@@ -244,6 +195,7 @@ impl Connections {
         }
         let Buffers { buffer, window } = take_buffers(&mut self.spare, meter);
         self.given += 1;
+        self.held += CHARGE;
         let slot = Slot {
             number: self.given,
             peer,
@@ -260,11 +212,10 @@ impl Connections {
     pub fn close(&mut self, id: u64, meter: &mut Meter) -> Result<(), CoreFault>
         requires { meter.old.tie ≡ self.old.tie }
         ensures acts { TableActs (closing_of id) self.old self.new result }
-        ensures told { KeepsTold self.old self.new }
         ensures free { NoneIsFreed self.old self.new }
         ensures refused { OnErr result (self.new ≡ self.old) }
         ensures stays { StaysTable self.old self.new }
-        ensures cost { PaysAtMost meter.old meter.new (look_cost self.old + 3) }
+        ensures cost { PaysAtMost meter.old meter.new (look_cost self.old + 5) }
     {
         let Some(key) = wanted_key(&self.slots, Wanted::Numbered(id), meter) else {
             return Err(CoreFault::Gone);
@@ -272,6 +223,7 @@ impl Connections {
         let Some(slot) = self.slots.remove(key, meter) else {
             unreachable!()
         };
+        self.held -= slot.charge(meter);
         let Slot { buffer, window, .. } = slot;
         put_buffers(&mut self.spare, Buffers { buffer, window }, meter);
         Ok(())
@@ -290,9 +242,8 @@ impl Connections {
         requires tie { meter.old.tie ≡ self.old.tie }
         requires arguments { IsDraft meter.old.tie arguments.old }
         ensures acts { TableActs (on_live id (feeding clock piece.now)) self.old self.new result }
-        ensures arguments { TableShows
+        ensures arguments { Shows StandsForConnections
             (arguments_on id arguments.old.bytes piece.now) self.old arguments.new.bytes }
-        ensures told { KeepsTold self.old self.new }
         ensures free { NoneIsFreed self.old self.new }
         ensures hears { HearsFree id self.old self.new result }
         ensures within { IfOk result (λ got. got.count ≤ length piece.now) }
@@ -309,7 +260,10 @@ impl Connections {
         let Some(slot) = self.slots.get_mut(key, meter) else {
             unreachable!()
         };
-        Ok(slot.take(piece, clock, arguments, meter))
+        let before = slot.charge(meter);
+        let received = slot.take(piece, clock, arguments, meter);
+        self.held = recounted(self.held, before, slot, meter);
+        Ok(received)
     }
 
     /// The live connection of the number goes on as its record is answered, or its call that was forwarded: it takes the
@@ -327,9 +281,8 @@ impl Connections {
         requires some { outcome ≡ Outcome.Reply → 0 < length reply.old.bytes }
         ensures stands { TableBecomes (settling id clock (given_in outcome reply.old)) self.old self.new }
         ensures others { OnlyIsFreed id self.old self.new }
-        ensures awaits { outcome ≡ Outcome.Forwarded → has_idle id self.old ≡ true
+        ensures awaits { outcome ≡ Outcome.Forwarded → has_live id self.old ≡ true
             → is_free id self.new ≡ false }
-        ensures told { KeepsTold self.old self.new }
         ensures stays { StaysTable self.old self.new }
         ensures draft { IsDraft meter.old.tie reply.new }
         ensures empty { reply.new.bytes ≡ [] }
@@ -342,121 +295,26 @@ impl Connections {
         let Some(slot) = self.slots.get_mut(key, meter) else {
             unreachable!()
         };
+        let before = slot.charge(meter);
         slot.settle(outcome, reply, clock, meter);
-    }
-
-    /// The live connection of the number goes on as its record is answered by a list: it owes that, and its first fragment
-    /// is made in a buffer that is empty before and after.
-    pub fn list(
-        &mut self,
-        id: u64,
-        list: ListReply,
-        clock: u64,
-        host: [u8; 4],
-        registry: &Registry,
-        scratch: &mut Kept,
-        meter: &mut Meter,
-    )
-        requires registry { meter.old.tie ≡ registry.now.tie }
-        requires tie { meter.old.tie ≡ self.old.tie }
-        requires scratch { IsDraft meter.old.tie scratch.old }
-        requires empty { scratch.old.bytes ≡ [] }
-        requires list { IsToldBy (record { host = host; registry = registry.now }) list }
-        requires told { AreTold (record { host = host; registry = registry.now }) self.old }
-        ensures stands {
-            let source : Source = record { host = host; registry = registry.now } in
-            let reply : said = said.Reply (rest_of host registry.now list) (Some list.stamp) in
-            BecomesFrom source (settling id clock reply) self.old self.new }
-        ensures told { AreTold (record { host = host; registry = registry.now }) self.new }
-        ensures others { OnlyIsFreed id self.old self.new }
-        ensures stays { StaysTable self.old self.new }
-        ensures draft { IsDraft meter.old.tie scratch.new }
-        ensures empty { scratch.new.bytes ≡ [] }
-        ensures cost { PaysAtMost meter.old meter.new
-            (list_cost (slot_count self.old) registry.now) }
-    {
-        let Some(key) = wanted_key(&self.slots, Wanted::Live(id), meter) else {
-            return;
-        };
-        let Some(slot) = self.slots.get_mut(key, meter) else {
-            unreachable!()
-        };
-        slot.list(list, clock, host, registry, scratch, meter);
-    }
-
-    /// The live connection of the number goes on with what its record is answered with, where a reply is written in this
-    /// buffer, which is empty after it. It says whether the connection is Lost now.
-    pub fn go_on(
-        &mut self,
-        id: u64,
-        served: Served,
-        clock: u64,
-        host: [u8; 4],
-        registry: &Registry,
-        draft: &mut Kept,
-        meter: &mut Meter,
-    ) -> bool
-        requires registry { meter.old.tie ≡ registry.now.tie }
-        requires tie { meter.old.tie ≡ self.old.tie }
-        requires draft { IsDraft meter.old.tie draft.old }
-        requires written { IsWritten served draft.old.bytes }
-        requires list { IsToldIn (record { host = host; registry = registry.now }) served }
-        requires told { AreTold (record { host = host; registry = registry.now }) self.old }
-        ensures stands {
-            let source : Source = record { host = host; registry = registry.now } in
-            let given : said = served_in source served draft.old.bytes in
-            BecomesFrom source (settling id clock given) self.old self.new }
-        ensures closed {
-            let source : Source = record { host = host; registry = registry.now } in
-            result ≡ is_no_call (served_in source served draft.old.bytes) }
-        ensures told { AreTold (record { host = host; registry = registry.now }) self.new }
-        ensures others { OnlyIsFreed id self.old self.new }
-        ensures awaits { kind_in served ≡ Outcome.Forwarded → has_idle id self.old ≡ true
-            → is_free id self.new ≡ false }
-        ensures stays { StaysTable self.old self.new }
-        ensures draft { IsDraft meter.old.tie draft.new }
-        ensures empty { draft.new.bytes ≡ [] }
-        ensures cost { PaysAtMost meter.old meter.new
-            (list_cost (slot_count self.old) registry.now) }
-    {
-        match served {
-            Served::Told(outcome) => {
-                self.settle(id, outcome, draft, clock, meter);
-                outcome.is_no_call()
-            }
-            Served::Listed(list) => {
-                self.list(id, list, clock, host, registry, draft, meter);
-                false
-            }
-        }
+        self.held = recounted(self.held, before, slot, meter);
     }
 
     /// Counts n of the pending bytes of the live connection of the number as given, or as many as there are: `Gone`
-    /// where there is none. The next fragment of a list is made in a buffer that is empty before and after.
+    /// where there is none.
     pub fn give(
         &mut self,
         id: u64,
         n: usize,
         clock: u64,
-        host: [u8; 4],
-        registry: &Registry,
-        scratch: &mut Kept,
         meter: &mut Meter,
     ) -> Result<(), CoreFault>
-        requires registry { meter.old.tie ≡ registry.now.tie }
-        requires tie { meter.old.tie ≡ self.old.tie }
-        requires scratch { IsDraft meter.old.tie scratch.old }
-        requires empty { scratch.old.bytes ≡ [] }
-        requires told { AreTold (record { host = host; registry = registry.now }) self.old }
-        ensures acts { Acts (StandsForConnections (record { host = host; registry = registry.now }))
-            (on_live id (giving clock n)) self.old self.new result }
-        ensures told { AreTold (record { host = host; registry = registry.now }) self.new }
+        requires { meter.old.tie ≡ self.old.tie }
+        ensures acts { TableActs (on_live id (giving clock n)) self.old self.new result }
         ensures free { NoneIsFreed self.old self.new }
         ensures refused { OnErr result (self.new ≡ self.old) }
         ensures stays { StaysTable self.old self.new }
-        ensures draft { IsDraft meter.old.tie scratch.new }
-        ensures empty { scratch.new.bytes ≡ [] }
-        ensures cost { PaysAtMost meter.old meter.new (look_cost self.old + give_cost registry.now) }
+        ensures cost { PaysAtMost meter.old meter.new (look_cost self.old + giving_cost) }
     {
         let Some(key) = wanted_key(&self.slots, Wanted::Live(id), meter) else {
             return Err(CoreFault::Gone);
@@ -464,40 +322,16 @@ impl Connections {
         let Some(slot) = self.slots.get_mut(key, meter) else {
             unreachable!()
         };
-        slot.give(n, clock, host, registry, scratch, meter);
+        let before = slot.charge(meter);
+        slot.give(n, clock, meter);
+        self.held = recounted(self.held, before, slot, meter);
         Ok(())
-    }
-
-    /// The least number of changes after which a list began that is being given.
-    pub fn oldest(&self, meter: &mut Meter) -> Option<u64>
-        requires { meter.old.tie ≡ self.now.tie }
-        ensures oldest { IsOldest (stamps_of self.now) result }
-        ensures cost { PaysAtMost meter.old meter.new (oldest_cost (slot_count self.now)) }
-    {
-        oldest_in(&self.slots, meter)
-    }
-
-    /// Each connection becomes Lost whose list began before a change.
-    pub fn evict(&mut self, earliest: u64, meter: &mut Meter)
-        requires { meter.old.tie ≡ self.old.tie }
-        ensures evicts { (changes : List ℕ) → IsEarliest changes earliest
-            → TableBecomes (evicting changes) self.old self.new }
-        ensures told { KeepsTold self.old self.new }
-        ensures later { All (λ stamp. earliest ≤ stamp) (stamps_of self.new) }
-        ensures idle { (id : ℕ) → has_idle id self.old ≡ true → has_idle id self.new ≡ true }
-        ensures free { NoneIsFreed self.old self.new }
-        ensures stays { StaysTable self.old self.new }
-        ensures as_many { length self.new.slots ≡ length self.old.slots }
-        ensures cost { PaysAtMost meter.old meter.new (evict_cost (slot_count self.old)) }
-    {
-        evict_slots(&mut self.slots, earliest, meter);
     }
 
     /// The connection of least number whose deadline has come becomes Lost.
     pub fn expire(&mut self, clock: u64, meter: &mut Meter) -> Option<u64>
         requires { meter.old.tie ≡ self.old.tie }
         ensures acts { TableActs (expiring clock) self.old self.new result }
-        ensures told { KeepsTold self.old self.new }
         ensures free { NoneIsFreed self.old self.new }
         ensures stays { StaysTable self.old self.new }
         ensures cost { PaysAtMost meter.old meter.new (look_cost self.old) }
@@ -510,6 +344,14 @@ impl Connections {
         };
         slot.stage = Stage::Lost;
         Some(slot.number)
+    }
+
+    /// How many bytes are held: those of the buffers of each connection, Lost ones too, and 128 for the rest of each.
+    pub fn held(&self) -> u64
+        ensures held { result ≡ held_in (values_of self.now.slots) }
+        ensures bound { result ≤ most_charge * self.now.conns }
+    {
+        self.held
     }
 
     /// The first connection that is wanted.
@@ -531,7 +373,7 @@ impl Connections {
     /// How many bytes are pending on the live connection of the number: `Gone` where there is none.
     pub fn pending_len(&self, id: u64, meter: &mut Meter) -> Result<usize, CoreFault>
         requires { meter.old.tie ≡ self.now.tie }
-        ensures len { TableShows (λ c. pending_count (pending_at id c)) self.now result }
+        ensures len { Shows StandsForConnections (λ c. pending_count (pending_at id c)) self.now result }
         ensures cost { PaysAtMost meter.old meter.new (look_cost self.now + 1) }
     {
         let Some(slot) = self.first(Wanted::Live(id), meter) else {
@@ -544,8 +386,7 @@ impl Connections {
     /// none: `Gone` where there is no such connection.
     pub fn pending(&self, id: u64, meter: &mut Meter) -> Result<&[u8], CoreFault>
         requires { meter.old.tie ≡ self.now.tie }
-        ensures lent { (source : Source)
-            → Lends (StandsForConnections source) (pending_at id) self.now result }
+        ensures lent { Lends StandsForConnections (pending_at id) self.now result }
         ensures few { IfOk result (λ bytes. length bytes.now ≤ longest_fragment) }
         ensures cost { PaysAtMost meter.old meter.new (look_cost self.now + pending_cost) }
     {
@@ -558,7 +399,7 @@ impl Connections {
     /// The least number of those that are Lost.
     pub fn next_lost(&self, meter: &mut Meter) -> Option<u64>
         requires { meter.old.tie ≡ self.now.tie }
-        ensures lost { TableShows first_lost self.now result }
+        ensures lost { Shows StandsForConnections first_lost self.now result }
         ensures cost { PaysAtMost meter.old meter.new (look_cost self.now) }
     {
         match self.first(Wanted::AnyLost, meter) {

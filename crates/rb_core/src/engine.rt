@@ -1,11 +1,11 @@
 //! The core: what it holds, and its calls.
 ghost use Rattle.std.specs.Prelude.{◌≡◌, ◌≤◌, IsTrue};
 ghost use Rattle.rb_core.specs.State.{are_good};
+ghost use Rattle.rb_core.specs.HeldBytes.{bytes_bound};
 
-use crate::connections::{BUFFER_SIZE, Connections};
+use crate::connections::{BUFFER_SIZE, Connections, LONGEST_FRAGMENT};
 use crate::message::{arguments_behind, message_with};
-use crate::rooms::make_room;
-use crate::serve::{LONGEST_REPLY, Served, put_end, serve};
+use crate::serve::{LONGEST_REPLY, put_end, serve};
 use crate::slot::{Heard, Received};
 use crate::types::{CoreFault, Expired, Limits, Outcome, Taken, Told};
 use rb_forward::{Ended, FwdId, Unsent};
@@ -14,6 +14,18 @@ use rb_rpc::{Caller, Peer, read_call};
 use rb_xdr::{Kept, Meter};
 use std::alloc::Global;
 use std::marker::Model;
+
+/// The longest call that is served: a head of 840 bytes, and arguments.
+const GREATEST_CALL: u64 = 9_656;
+
+/// The longest address text of a row.
+const LONGEST_ADDRESS: u64 = 24;
+
+/// The longest forwarded call: a head of 40 bytes, and arguments.
+const LONGEST_FORWARD: u64 = 8_840;
+
+/// How many keys the statistics may have.
+const MOST_KEYS: u64 = 192;
 
 /// The daemon's logic. All of its memory is reserved by `new`.
 #[derive(Drop)]
@@ -24,8 +36,9 @@ pub struct Core {
     clock: u64,
     connections: Connections,
     books: Books,
-    /// The last reply over UDP.
+    /// The last reply over UDP, and how many bytes it has.
     reply: Kept,
+    reply_len: u64,
     /// Where a reply on a connection is written, empty between two events: the connection takes it for its own.
     draft: Kept,
     /// The arguments of a record that ended, empty between two events: the connection gives its own buffer for it.
@@ -48,12 +61,29 @@ impl Model for Core {
     } };
 
     ghost invariant = { λ c. IsCore (record { limits = c.limits; listener = c.listener; first_xid = c.first_xid })
-        c.connections c.books c.reply c.draft c.arguments };
+        c.connections c.books c.reply c.draft c.arguments c.reply_len };
+}
+
+/// How many bytes a core of these limits may hold: of each connection, beside its fixed part, a whole call and a whole
+/// fragment; of each row an address text of 24 bytes; of each forwarded call itself; the keys of the statistics; and a reply.
+#[tactic(auto, unfolding(crate::specs::Calls::longest_reply, crate::specs::Giving::longest_fragment, rb_forward::specs::Table::longest_arguments))]
+fn bytes_bound(limits: &Limits) -> u64
+    requires conns { limits.now.conns ≤ 256 }
+    requires rows { limits.now.rows ≤ 4096 }
+    requires forwards { limits.now.forwards ≤ 64 }
+    ensures { result ≡ bytes_bound limits.now }
+{
+    let conns = limits.conns as u64 * (128 + GREATEST_CALL + LONGEST_FRAGMENT as u64);
+    let rows = limits.rows as u64 * (32 + LONGEST_ADDRESS);
+    let forwards = limits.forwards as u64 * (128 + LONGEST_FORWARD);
+    conns + rows + forwards + MOST_KEYS * 48 + LONGEST_REPLY as u64
 }
 
 fn are_good(limits: &Limits) -> bool
     ensures value { result ≡ are_good limits.now }
+    ensures conns { IsTrue result → limits.now.conns ≤ 256 }
     ensures rows { IsTrue result → 6 ≤ limits.now.rows }
+    ensures few_rows { IsTrue result → limits.now.rows ≤ 4096 }
     ensures forwards { IsTrue result → limits.now.forwards ≤ 64 }
 {
     1 <= limits.conns
@@ -74,10 +104,12 @@ impl Core {
     ghost use Rattle.rb_forward.specs.Table.{slots_of, seen, count_lent, longest_call, is_waiting, IsNew};
     ghost use Rattle.rb_core.specs.Step.{datagram, open_connection, bytes, pending, pending_count, gave, close_connection, next_lost, unsent_call, sent_call};
     ghost use Rattle.rb_core.specs.Ending.{told_at, tell, forward_reply, expire_connection, expire};
-    ghost use Rattle.rb_core.specs.Awaits.{has_idle};
+    ghost use Rattle.rb_core.specs.Awaits.{has_live};
+    ghost use Rattle.rb_core.specs.HeldBytes.{held, bytes_bound};
+    ghost use Rattle.rb_core.specs.HeldLaws.{NeverPasses};
     ghost use Rattle.rb_core.specs.Slots.{Acts, Shows, Lends};
-    ghost use Rattle.rb_core.specs.StandsFor.{StandsFor, ActsWithReply, answering_heard, without_arguments, context_of, answering_cost, datagram_cost, bytes_cost, gave_cost, closing_cost, ending_cost, IsCheapIfQuiet};
-    ghost use Rattle.rb_core.specs.Costs.{look_cost, slot_count, tell_cost, pending_cost};
+    ghost use Rattle.rb_core.specs.StandsFor.{StandsFor, ActsWithReply, answering_heard, without_arguments, context_of, answering_cost, bytes_cost, closing_cost, ending_cost, IsCheapIfQuiet};
+    ghost use Rattle.rb_core.specs.Costs.{look_cost, slot_count, serving_cost, tell_cost, pending_cost, giving_cost};
 
     /// A core with the daemon's own rows alone, at the moment `now` (milliseconds since the start of 1970).
     /// `first_xid` is the number of the first call that it forwards. `BadLimits` where a limit is out of its
@@ -126,6 +158,7 @@ impl Core {
             connections,
             books,
             reply,
+            reply_len: 0,
             draft,
             arguments,
         })
@@ -146,32 +179,30 @@ impl Core {
 
     /// Takes a datagram in. The reply is that of `udp_reply`. `Forwarded` where it is a call that is forwarded: its reply
     /// comes with `forward_reply` or `expire`.
+    #[tactic(auto, using(crate::proofs::Bounds::never_passes))]
     pub fn datagram(&mut self, now: u64, peer: Peer, content: &[u8], meter: &mut Meter) -> Outcome
         requires { meter.old.tie ≡ self.old.tie }
         ensures acts { ActsWithReply (λ s. datagram s now peer content.now) self.old self.new result }
         ensures tie { self.new.tie ≡ self.old.tie }
+        ensures held { NeverPasses self.new }
         ensures short { length self.new.reply ≤ longest_reply }
-        ensures cost { PaysAtMost meter.old meter.new (datagram_cost self.old self.new) }
+        ensures cost { PaysAtMost meter.old meter.new (2 + serving_cost self.old.books self.new.books) }
     {
         self.clock = self.clock.max(now);
         let context = self.context(Caller::Udp(peer));
         self.reply.clear(meter);
         let verdict = read_call(content);
         let arguments = arguments_behind(verdict, content);
-        let message = message_with(verdict, arguments);
-        make_room(&mut self.connections, &mut self.books, &context, &message, meter);
-        let served = serve(
+        let outcome = serve(
             &mut self.books,
             &context,
-            message,
+            message_with(verdict, arguments),
             arguments,
             &mut self.reply,
             meter,
         );
-        match served {
-            Served::Told(outcome) => outcome,
-            Served::Listed(_) => unreachable!(),
-        }
+        self.reply_len = self.reply.len(meter) as u64;
+        outcome
     }
 
     /// The reply that the last `datagram`, `forward_reply` or `expire` gave over UDP: no bytes where there is none.
@@ -187,12 +218,14 @@ impl Core {
 
     /// Opens a connection, and gives its number, from 1 upwards. `Full` where there are as many connections as there
     /// may be, lost ones among them, else `Spent` where no number is left.
+    #[tactic(auto, using(crate::proofs::Bounds::never_passes))]
     pub fn open(&mut self, now: u64, peer: Peer, meter: &mut Meter) -> Result<u64, CoreFault>
         requires { meter.old.tie ≡ self.old.tie }
         ensures acts { Acts StandsFor (λ s. open_connection s now peer)
             self.old self.new result }
         ensures refused { OnErr result (self.new ≡ self.old) }
         ensures tie { self.new.tie ≡ self.old.tie }
+        ensures held { NeverPasses self.new }
         ensures cost { PaysAtMost meter.old meter.new 4 }
     {
         let clock = self.clock.max(now);
@@ -201,8 +234,9 @@ impl Core {
         Ok(number)
     }
 
-    /// Takes bytes that arrive on a connection, up to the one that ends a record, and none while a reply is owed.
+    /// Takes bytes that arrive on a connection, up to the one that ends a record, and none while a reply is owed or awaited.
     /// `Gone` where there is no such connection, or it is Lost.
+    #[tactic(auto, using(crate::proofs::Bounds::never_passes))]
     pub fn bytes(
         &mut self,
         now: u64,
@@ -215,6 +249,7 @@ impl Core {
         ensures within { IfOk result (λ taken. taken.count ≤ length piece.now) }
         ensures refused { OnErr result (self.new ≡ self.old) }
         ensures tie { self.new.tie ≡ self.old.tie }
+        ensures held { NeverPasses self.new }
         ensures cost { PaysAtMost meter.old meter.new (bytes_cost self.old self.new result) }
         ensures cheap { IsCheapIfQuiet self.old id piece.now result meter.old meter.new }
     {
@@ -238,7 +273,7 @@ impl Core {
     #[tactic(auto, unfolding(crate::specs::Calls::longest_reply, crate::specs::Reading::longest_arguments, crate::specs::Reading::buffer_size))]
     fn answer(&mut self, id: u64, heard: Heard, meter: &mut Meter) -> bool
         requires tie { meter.old.tie ≡ self.old.tie }
-        requires idle { has_idle id self.old.connections ≡ true }
+        requires live { has_live id self.old.connections ≡ true }
         requires caller { is_waiting id (slots_of self.old.books.forwards) ≡ false }
         ensures acts { Acts StandsFor (answering_heard id heard self.old.arguments)
             (without_arguments self.old) self.new result }
@@ -249,8 +284,7 @@ impl Core {
         let len = self.arguments.len(meter);
         let arguments = self.arguments.lend(0..len, meter);
         let message = message_with(heard.verdict, arguments);
-        make_room(&mut self.connections, &mut self.books, &context, &message, meter);
-        let served = serve(
+        let outcome = serve(
             &mut self.books,
             &context,
             message,
@@ -259,11 +293,9 @@ impl Core {
             meter,
         );
         self.arguments.clear(meter);
-        let host = self.listener.host;
-        let registry = &self.books.registry;
-        let draft = &mut self.draft;
         self.connections
-            .go_on(id, served, self.clock, host, registry, draft, meter)
+            .settle(id, outcome, &mut self.draft, self.clock, meter);
+        outcome.is_no_call()
     }
 
     /// How many bytes are pending on a connection. `Gone` where there is no such connection, or it is Lost.
@@ -288,34 +320,30 @@ impl Core {
 
     /// n of the pending bytes of a connection were given, or as many as are pending. `Gone` where there is no such
     /// connection, or it is Lost.
+    #[tactic(auto, using(crate::proofs::Bounds::never_passes))]
     pub fn gave(&mut self, now: u64, id: u64, n: usize, meter: &mut Meter) -> Result<(), CoreFault>
         requires { meter.old.tie ≡ self.old.tie }
         ensures acts { Acts StandsFor (λ s. gave s now id n) self.old self.new result }
         ensures refused { OnErr result (self.new ≡ self.old) }
         ensures tie { self.new.tie ≡ self.old.tie }
-        ensures cost { PaysAtMost meter.old meter.new (gave_cost self.old) }
+        ensures held { NeverPasses self.new }
+        ensures cost { PaysAtMost meter.old meter.new (look_cost self.old.connections + giving_cost) }
     {
         let clock = self.clock.max(now);
-        self.connections.give(
-            id,
-            n,
-            clock,
-            self.listener.host,
-            &self.books.registry,
-            &mut self.draft,
-            meter,
-        )?;
+        self.connections.give(id, n, clock, meter)?;
         self.clock = clock;
         Ok(())
     }
 
     /// A connection was closed: it is there no longer, live or Lost, and its forwarded call is dropped. `Gone` where there
     /// is none of that number.
+    #[tactic(auto, using(crate::proofs::Bounds::never_passes))]
     pub fn closed(&mut self, id: u64, meter: &mut Meter) -> Result<(), CoreFault>
         requires { meter.old.tie ≡ self.old.tie }
         ensures acts { Acts StandsFor (λ s. close_connection s id) self.old self.new result }
         ensures refused { OnErr result (self.new ≡ self.old) }
         ensures tie { self.new.tie ≡ self.old.tie }
+        ensures held { NeverPasses self.new }
         ensures cost { PaysAtMost meter.old meter.new (closing_cost self.old) }
     {
         self.connections.close(id, meter)?;
@@ -331,6 +359,7 @@ impl Core {
     {
         self.connections.next_lost(meter)
     }
+
     /// The forwarded call that is to be sent next: the unsent one of least number, whether or not its deadline has come. It
     /// has at most 8,840 bytes.
     pub fn unsent(&self, meter: &mut Meter) -> Option<Unsent<'_>>
@@ -345,11 +374,13 @@ impl Core {
 
     /// The forwarded call of this number was sent: from now on a reply to it counts. `Gone` where there is no such call, or
     /// it was sent before.
+    #[tactic(auto, using(crate::proofs::Bounds::never_passes))]
     pub fn sent(&mut self, id: FwdId, meter: &mut Meter) -> Result<(), CoreFault>
         requires { meter.old.tie ≡ self.old.tie }
         ensures acts { Acts StandsFor (λ s. sent_call s id.number) self.old self.new result }
         ensures refused { OnErr result (self.new ≡ self.old) }
         ensures tie { self.new.tie ≡ self.old.tie }
+        ensures held { NeverPasses self.new }
         ensures cost { PaysAtMost meter.old meter.new (sent_cost self.old.books.forwards.cap) }
     {
         let Ok(()) = self.books.sent(id, meter) else {
@@ -361,6 +392,7 @@ impl Core {
     /// Takes a datagram that came in where forwarded calls are sent from: the host and port that it came from, and its
     /// bytes. Where it is the reply to a forwarded call whose deadline is later than `now`, that call has ended, and its
     /// caller is told so. `None` where it is no such reply: it is ignored.
+    #[tactic(auto, using(crate::proofs::Bounds::never_passes))]
     pub fn forward_reply(
         &mut self,
         now: u64,
@@ -371,11 +403,13 @@ impl Core {
         requires { meter.old.tie ≡ self.old.tie }
         ensures acts { Acts StandsFor (λ s. forward_reply s now from bytes.now) self.old self.new result }
         ensures tie { self.new.tie ≡ self.old.tie }
+        ensures held { NeverPasses self.new }
         ensures short { length self.new.reply ≤ longest_reply }
         ensures cost { PaysAtMost meter.old meter.new (ending_cost self.old) }
     {
         self.clock = self.clock.max(now);
         self.reply.clear(meter);
+        self.reply_len = 0;
         let Some(ended) = self.books.reply(self.clock, from, bytes, meter) else {
             return None;
         };
@@ -384,15 +418,18 @@ impl Core {
 
     /// Does one thing that is due at this moment: the forwarded call of least number whose deadline has come ends; where
     /// there is none, the connection of least number whose deadline has come is Lost. `Nothing` where nothing is due.
+    #[tactic(auto, using(crate::proofs::Bounds::never_passes))]
     pub fn expire(&mut self, now: u64, meter: &mut Meter) -> Expired
         requires { meter.old.tie ≡ self.old.tie }
         ensures acts { Acts StandsFor (λ s. expire s now) self.old self.new result }
         ensures tie { self.new.tie ≡ self.old.tie }
+        ensures held { NeverPasses self.new }
         ensures short { length self.new.reply ≤ longest_reply }
         ensures cost { PaysAtMost meter.old meter.new (ending_cost self.old) }
     {
         self.clock = self.clock.max(now);
         self.reply.clear(meter);
+        self.reply_len = 0;
         let Some(ended) = self.books.due(self.clock, meter) else {
             return self.expire_connection(meter);
         };
@@ -411,6 +448,26 @@ impl Core {
             Some(id) => Expired::ConnectionClosed(id),
             None => Expired::Nothing,
         }
+    }
+
+    /// How many bytes are held: 128 for each connection, Lost ones too, with those of its buffers; 32 for each row, with
+    /// those of its address text; 48 for each key of the statistics; 128 for each forwarded call, with those that are
+    /// still to be sent; and those of the last reply over UDP.
+    pub fn held(&self) -> u64
+        ensures { result ≡ held self.now }
+    {
+        self.connections.held()
+            + self.books.registry.held()
+            + self.books.stats.held()
+            + self.books.forwards.held()
+            + self.reply_len
+    }
+
+    /// What `held` never passes.
+    pub fn bytes_bound(&self) -> u64
+        ensures { result ≡ bytes_bound self.now.setting.limits }
+    {
+        bytes_bound(&self.limits)
     }
 
     /// Tells the caller of a forwarded call how it ended, where it ended by this datagram.
@@ -433,10 +490,14 @@ impl Core {
                     .settle(id, outcome, &mut self.draft, self.clock, meter);
                 Told::TcpReady(id)
             }
-            Caller::Udp(peer) => match put_end(ended, message, &mut self.reply, meter) {
-                Outcome::Reply => Told::Datagram(peer),
-                Outcome::NoCall | Outcome::Forwarded | Outcome::Silent => Told::Silent,
-            },
+            Caller::Udp(peer) => {
+                let outcome = put_end(ended, message, &mut self.reply, meter);
+                self.reply_len = self.reply.len(meter) as u64;
+                match outcome {
+                    Outcome::Reply => Told::Datagram(peer),
+                    Outcome::NoCall | Outcome::Forwarded | Outcome::Silent => Told::Silent,
+                }
+            }
         }
     }
 }

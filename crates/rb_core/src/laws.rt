@@ -2,18 +2,28 @@
 ghost use Rattle.rb_core.specs.Grammar.{MessagesAreOfTheGrammar};
 ghost use Rattle.rb_core.specs.Laws.{RunsAppend, StatesAppend, RefusedEventsChangeNothing, NumbersNeverRecur, CutsDoNotMatter, NextLostIsLeast, BytesAreTakenExactly, RepliesAreGivenWhole, OwedRepliesStay, LedgersAreWellKept};
 ghost use Rattle.rb_core.specs.Closings.{ConnectionsCloseExactly};
-ghost use Rattle.rb_core.specs.ForwardLaws.{ConnectionsAwait, RepliesEndTheirOwn, DeadlinesEndOne, EntriesEndOnce};
+ghost use Rattle.rb_core.specs.ForwardLaws.{ConnectionsAwait, RepliesEndTheirOwn, DeadlinesEndOne, EventsChangeAtMostOne, EntriesEndOnce};
 ghost use Rattle.rb_core.specs.Sessions.{SessionsAreWhole};
 ghost use Rattle.rb_core.specs.DeadlineLaws.{ExpireDoesOneThing, NothingIsDueSoon};
+ghost use Rattle.rb_core.specs.Headline.{RunsAreServedWithinBounds};
+ghost use Rattle.rb_core.specs.HeldLaws.{HeldBytesAreBounded};
+ghost use Rattle.rb_core.specs.StepLaws.{StepsAreBounded, RunsAreBounded};
 ghost use Rattle.rb_core.specs.WorkedConnections.{NoCallCloses, OtherRpcVersionOnTcp, CrumbsInOnePiece, CrumbsInSingleBytes, CrumbsInSevens, BytesBehindArguments, OneRecordAtATime, OneRecordAtATimePasses, NoCallPasses, GivenInParts, TooMuchIsRefused, GoodLimits, NumbersDoNotRecur};
-ghost use Rattle.rb_core.specs.WorkedForwards.{ForwardWithoutRow, RefusedCallsAreCounted, ForwardUntilDeadline, IndirectPasses, CallitPasses, TargetRefuses, DeniedIsSystemErr, CallitIsSilent, GreatestResults, NoPlace, GreatestArguments, SilentOnTcp, ForwardPassesOnTcp, ForwardOnTcpIsWhole, ClosedCallerIsDropped};
-ghost use Rattle.rb_core.specs.WorkedLists.{DumpSurvivesUnsetAndEvicts, OldReadersAreEvicted, FullTableRefuses, RowsThatCameAndWentAreKept, ListInTwoFragments, ListAsOfItsCall};
+ghost use Rattle.rb_core.specs.WorkedForwards.{ForwardWithoutRow, RefusedCallsAreCounted, ForwardUntilDeadline, IndirectPasses, CallitPasses, TargetRefuses, DeniedIsSystemErr, CallitIsSilent, GreatestResults, NoPlace, GreatestArguments, SilentOnTcp, ForwardPassesOnTcp, ForwardOnTcpIsWhole, ClosedCallerIsDropped, EachEndsInTurn};
+ghost use Rattle.rb_core.specs.WorkedHeld.{BytesBounds, FreshCoreHolds};
 ghost use Rattle.rb_core.specs.WorkedDeadlines.{IdleEnds, ReadingEnds, TwoEnd, OwingEnds, GivenBytesMoveTheMark, IdleAfterTheReply, DueAtOnceAtTheGreatestMoment, ForwardedCallsComeFirst};
 ghost use Rattle.rb_core.specs.Worked.{NullIsAnswered, SetThenAskThenSetAgain, GreatestVersionElse, OwnRowsAreAsked, LimitIsReached, LocalCallersSet, NothingIsSilent, NullBySys, OtherRpcVersion, TooShort, GreatestCredential, OverlongCredential, SysBodyCutShort, OverlongVerifier, BadResidue, GoodResidue, GssBeforeProgram, OtherVersion, UnknownProcedure, GarbageArguments, OtherProgram, NullOfThree, NullOfFour, GetstatFirstCall, GetstatOfRefusals};
 
+/// For every list of openings, arriving bytes in any cut, datagrams, moments, closings and refused or partial writes, each
+/// completed call has exactly the reply that is defined over the SETs and UNSETs accepted before it; the bytes held never
+/// pass their bound, and each event takes at most so many counted steps as its own bound says.
+pub fn runs_are_served_within_bounds()
+    ensures { RunsAreServedWithinBounds }
+{}
+
 /// For each connection in each run: the bytes taken on it are the marked records of its calls and an unfinished rest;
 /// those given on it, and then those still owed, are the marked replies to these calls, joined in order; and no byte is
-/// taken while a reply is owed. Of one that is Lost or gone, those given are a front of the replies.
+/// taken while a reply is owed or awaited. Of one that is Lost or gone, those given are a front of the replies.
 pub fn sessions_are_whole()
     ensures { SessionsAreWhole }
 {}
@@ -81,6 +91,7 @@ pub fn worked_forwards()
     ensures forward_passes_on_tcp { ForwardPassesOnTcp }
     ensures forward_on_tcp_is_whole { ForwardOnTcpIsWhole }
     ensures closed_caller_is_dropped { ClosedCallerIsDropped }
+    ensures each_ends_in_turn { EachEndsInTurn }
 {}
 
 /// A message asks for a procedure exactly where its bytes begin with a call of it and its arguments.
@@ -130,9 +141,8 @@ pub fn owed_replies_stay()
     ensures { OwedRepliesStay }
 {}
 
-/// In each state that a run reaches, a live connection becomes Lost exactly by the end of a record that is no call; or at
-/// its deadline, when no forwarded call is due and no connection of lesser number is; or where a SET wants room, by the list
-/// that is given on it. It is gone exactly by its close.
+/// In each state that a run reaches, a live connection becomes Lost exactly by the end of a record that is no call or at
+/// its deadline, when no forwarded call is due and no connection of lesser number is; and it is gone exactly by its close.
 pub fn connections_close_exactly()
     ensures { ConnectionsCloseExactly }
 {}
@@ -151,25 +161,17 @@ pub fn calls_end_by_their_own()
     ensures deadlines { DeadlinesEndOne }
 {}
 
-/// In each state that a run reaches, each forwarded call that began has ended once, or is still there.
+/// From every state, an event ends one of the forwarded calls, or begins one behind them, with the next number, or does
+/// neither. In every run from an opening, each that has begun has ended with exactly one event, or is still there, once.
 pub fn entries_end_once()
-    ensures { EntriesEndOnce }
+    ensures events { EventsChangeAtMostOne }
+    ensures runs { EntriesEndOnce }
 {}
 
 /// In each state that a run reaches, for every listener: each change was accepted, no two live rows are of one program,
 /// version and netid, and at good limits at most `limits.rows` rows are live.
 pub fn ledgers_are_well_kept()
     ensures { LedgersAreWellKept }
-{}
-
-/// The definitions give what the worked examples of lists that are streamed say.
-pub fn worked_lists()
-    ensures dump_survives_unset_and_evicts { DumpSurvivesUnsetAndEvicts }
-    ensures old_readers { OldReadersAreEvicted }
-    ensures full_table { FullTableRefuses }
-    ensures came_and_went { RowsThatCameAndWentAreKept }
-    ensures two_fragments { ListInTwoFragments }
-    ensures as_of_its_call { ListAsOfItsCall }
 {}
 
 /// The definitions give what the worked examples of deadlines say.
@@ -194,4 +196,24 @@ pub fn nothing_is_due_soon()
 /// connection of least number is Lost; and where none is due either, it changes nothing but the clock and the last reply.
 pub fn expire_does_one_thing()
     ensures { ExpireDoesOneThing }
+{}
+
+/// In each state that a run reaches, what the core holds is at most the bound, less 1,868 bytes for each connection that is
+/// Idle or Reading; and of such a connection it holds at most 128 + 8,816 bytes.
+pub fn held_bytes_are_bounded()
+    ensures { HeldBytesAreBounded }
+{}
+
+/// The definitions give what the worked examples of held bytes say.
+pub fn worked_held()
+    ensures bytes_bounds { BytesBounds }
+    ensures fresh_core { FreshCoreHolds }
+{}
+
+/// In each state that a run reaches at good limits, an event costs at most 8 steps for each byte that it takes, lends or tells
+/// that it was given, 64 for each connection, row, key and forwarded call that there may be, and 16 for each byte of the
+/// longest call; and so over each run from there.
+pub fn steps_are_bounded()
+    ensures events { StepsAreBounded }
+    ensures runs { RunsAreBounded }
 {}

@@ -8,7 +8,6 @@ mod giving;
 mod laws;
 mod message;
 mod reading;
-mod rooms;
 mod run;
 mod serve;
 mod slot;
@@ -17,10 +16,11 @@ mod types;
 pub use engine::Core;
 pub use laws::{
     bytes_are_taken_exactly, calls_end_by_their_own, connections_await, connections_close_exactly,
-    cuts_do_not_matter, entries_end_once, expire_does_one_thing, ledgers_are_well_kept,
-    messages_are_of_the_grammar, next_lost_is_least, nothing_is_due_soon, numbers_never_recur,
-    owed_replies_stay, refused_events_change_nothing, replies_are_given_whole, runs_append,
-    sessions_are_whole, worked_connections, worked_deadlines, worked_examples, worked_forwards, worked_lists,
+    cuts_do_not_matter, entries_end_once, expire_does_one_thing, held_bytes_are_bounded,
+    ledgers_are_well_kept, messages_are_of_the_grammar, next_lost_is_least, nothing_is_due_soon,
+    numbers_never_recur, owed_replies_stay, refused_events_change_nothing, replies_are_given_whole,
+    runs_append, runs_are_served_within_bounds, sessions_are_whole, steps_are_bounded,
+    worked_connections, worked_deadlines, worked_examples, worked_forwards, worked_held,
 };
 pub use message::{Message, read_message};
 pub use rb_forward::{FwdId, Unsent};

@@ -5,6 +5,8 @@ ghost use Rattle.rb_core.specs.Calls.{longest_reply};
 ghost use Rattle.rb_core.specs.Step.{show_taken, show_told, pending, is_too_much};
 ghost use Rattle.rb_core.specs.Step.Event.{Open, Bytes, Pending, Gave, Closed, NextLost, Datagram, Unsent, Sent, Forward, Expire};
 ghost use Rattle.rb_core.specs.StandsFor.{StandsFor, event_of, output_of, events_of, outputs_of, HasHappened, MayHappen, Happened, PaysForRun};
+ghost use Rattle.rb_core.specs.HeldLaws.{StaysWithinBound};
+ghost use Rattle.rb_core.specs.StepLaws.{PaysWithinBound};
 ghost use Rattle.rb_xdr.specs.Meter.{PaysAtMost};
 ghost use Rattle.rb_core.specs.Slots.{Shows};
 ghost use Rattle.rb_core.specs.Costs.{look_cost};
@@ -356,6 +358,8 @@ pub fn replay(
         × Happened s (take n (events_of events.now)) (outputs_of out.old.items) (outputs_of out.new.items) core.new) }
     ensures tie { core.new.tie ≡ core.old.tie }
     ensures cost { PaysForRun core.old (events_of events.now) meter.old meter.new }
+    ensures bound { PaysWithinBound core.old (events_of events.now) meter.old meter.new }
+    ensures held { StaysWithinBound core.old core.new }
     ensures same_meter { meter.new.tie ≡ meter.old.tie }
 {
     for event in events {

@@ -7,7 +7,9 @@ use Rattle.rb_core.specs.State.{State}
 use Rattle.rb_forward.specs.Forwards.{Unsent}
 use Rattle.rb_core.specs.declared.types.Told.TheVariants.{TcpReady, Datagram, Silent}
 use Rattle.rb_core.specs.declared.types.Expired.TheVariants.{Nothing as NothingDue, Ended, ConnectionClosed}
-use Rattle.rb_core.specs.Ending.{Told, Expired, forward_reply, expire}
+use Rattle.rb_core.specs.declared.types.Told.{Told}
+use Rattle.rb_core.specs.declared.types.Expired.{Expired}
+use Rattle.rb_core.specs.Ending.{forward_reply, expire}
 use Rattle.rb_core.specs.Step.{gave, unsent_call, sent_call}
 use Rattle.rb_core.specs.StandsFor.{Held, StandsFor}
 use Rattle.rb_core.specs.Laws.{IsReached}

@@ -1,11 +1,9 @@
 -- What the calls of procedures that were served left behind, and what a call on it is.
 use Rattle.std.specs.Prelude.{◌≡◌, ℕ, ◌==◌, if◌then◌else◌, List, [], ◌∷◌, ◌++◌}
-use Rattle.std.specs.List.{filter_map}
 use Rattle.rb_rpc.specs.declared.call.CallHead.{CallHead}
 use Rattle.rb_registry.specs.declared.row.Row.{Row}
-use Rattle.rb_registry.specs.Registry.{StandsForChanges}
+use Rattle.rb_registry.specs.Registry.{StandsForChanges, removals_of}
 use Rattle.rb_registry.specs.Rows.{Change, live}
-use Rattle.rb_registry.specs.Slots.{slots_from}
 use Rattle.rb_stats.specs.declared.key.Version.{Version}
 use Rattle.rb_stats.specs.declared.key.Version.TheVariants.{Two, Three, Four}
 use Rattle.rb_stats.specs.Statistics.{Note}
@@ -30,10 +28,6 @@ fresh_ledger own = record { own = own; changes = []; history = []; forwards = no
 abbrev pub rows_in : Ledger → List Row
 rows_in l = live l.own l.changes
 
--- the changes behind the first n that removed rows, in the order of these rows
-abbrev pub removals_after : ℕ → Ledger → List ℕ
-removals_after n l = filter_map (λ slot. slot.removed) (slots_from n l.own l.changes)
-
 -- ---- the history
 
 -- the version that counts a call (one of another number has no procedures)
@@ -50,9 +44,10 @@ called head l = noted (Called (version_of head.vers) head.proc) l
 
 -- ---- what stands for it
 
--- each of the books stands for its part
+-- each of the books stands for its part, and no removed row is kept
 pub record StandsForLedger (books : Books) (l : Ledger) : Type 0 where
   pub registry : StandsForChanges books.registry l.own l.changes
+  pub none_kept : removals_of books.registry ≡ []
   pub stats : StandsForHistory books.stats l.history
   pub forwards : StandsForForwards books.forwards l.forwards
 

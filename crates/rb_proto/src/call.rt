@@ -5,8 +5,7 @@ ghost use Rattle.rb_forward.specs.Table.{slots_of, IsNew, OnlyWaitsAnew};
 ghost use Rattle.rb_proto.specs.Ledger.{ActsAs, AreTied, SameFrame};
 ghost use Rattle.rb_proto.specs.Arguments.{HasArgs};
 ghost use Rattle.rb_proto.specs.Forwarding.{StayUnlessForwarded};
-ghost use Rattle.rb_registry.specs.Cursors.{GoesOn};
-ghost use Rattle.rb_proto.specs.Answers.{answer, answer_void, HasRowRoom};
+ghost use Rattle.rb_proto.specs.Answers.{answer, answer_void};
 ghost use Rattle.rb_proto.specs.Puts.{call_cost};
 
 use crate::answers::{Answer, Listing, Results, Value};
@@ -53,7 +52,7 @@ fn told(value: Value) -> Answer
 /// which `Books::note_call` does before, and the outcome of what is forwarded, which comes later.
 ///
 /// `arguments` are the bytes that the request was read from. A caller on a connection has no other forwarded call.
-#[tactic(auto, using(crate::proofs::ListReplies::goes_on_same), unfolding(crate::specs::Answers::answer, crate::specs::Answers::adds_row, crate::specs::Answers::row_to_set))]
+#[tactic(auto, unfolding(crate::specs::Answers::answer))]
 pub fn answer(
     books: &mut Books,
     context: &Context,
@@ -66,13 +65,10 @@ pub fn answer(
     requires forwards { books.old.forwards.cap ≡ context.now.forwards }
     requires caller { IsNew context.now.caller (slots_of books.old.forwards) }
     requires args { HasArgs call.request arguments.now }
-    requires room { HasRowRoom context.now call books.old.registry }
     ensures acts { ActsAs (answer context.now call arguments.now) books.old books.new result }
     ensures quiet { StayUnlessForwarded result books.old.forwards books.new.forwards }
     ensures waiting { OnlyWaitsAnew context.now.caller
         (slots_of books.old.forwards) (slots_of books.new.forwards) }
-    ensures cursors { GoesOn books.old.registry books.new.registry }
-    ensures floor { books.new.registry.floor ≡ books.old.registry.floor }
     ensures frame { SameFrame books.old books.new }
     ensures cost { PaysAtMost meter.old meter.new (call_cost books.old) }
 {
@@ -93,7 +89,7 @@ pub fn answer(
             told(Value::Number(getport(books, &head, &mapping, meter)))
         }
         Request::Rpcb(RpcbProcedure::Set, rpcb) => {
-            let row = row_of_rpcb(owner_of(head.cred), &rpcb);
+            let row = row_of_rpcb(owner_of(head.cred), rpcb);
             told(Value::Bool(set_row(books, context, &head, row, meter)))
         }
         Request::Rpcb(RpcbProcedure::Unset, rpcb) => {

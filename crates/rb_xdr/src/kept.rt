@@ -1,5 +1,5 @@
 //! A byte buffer of fixed capacity, whose calls are counted.
-ghost use Rattle.std.specs.Prelude.{◌≡◌, ◌+◌, ◌-◌, ◌<◌, ◌≤◌, [], ◌∷◌, ◌++◌, length, IfOk, slice_range, vec_len, vec_capacity};
+ghost use Rattle.std.specs.Prelude.{◌≡◌, ◌+◌, ◌-◌, ◌<◌, ◌≤◌, [], ◌∷◌, length, IfOk, slice_range, vec_len, vec_capacity};
 ghost use Rattle.rb_xdr.specs.Puts.{Puts};
 ghost use Rattle.rb_xdr.specs.Meter.{Pays};
 
@@ -11,37 +11,42 @@ use std::marker::Model;
 use std::ops::Range;
 use std::snapshot::Snapshot;
 
-/// Bytes in memory for `cap` of them, which `new` took. No call changes `cap`, so none takes memory.
+/// Bytes in memory for `cap` of them, which `new` took and wrote to. No call changes `cap`, so none takes memory.
 ///
 /// Each call raises the meter by its cost, and wants the meter that the buffer was made with.
 #[derive(Drop)]
 pub struct Kept {
-    bytes: Vec<u8>,
+    /// All of the memory, of which the first `len` bytes count.
+    memory: Vec<u8>,
+    len: usize,
     made_with: Snapshot<Meter>,
 }
 
 impl Model for Kept {
-    ghost use Rattle.std.specs.Prelude.{vec_capacity};
-    ghost use Rattle.rb_xdr.specs.Kept.{Kept as Buffer};
+    ghost use Rattle.std.specs.Prelude.{take, vec_capacity};
+    ghost use Rattle.rb_xdr.specs.Kept.{Kept as Buffer, IsKept};
 
     ghost Value = { Buffer };
 
     ghost view = { λ k. record {
-      bytes = k.bytes.items;
-      cap = vec_capacity k.bytes;
+      bytes = take k.len k.memory.items;
+      cap = vec_capacity k.memory;
       tie = k.made_with.value.tie;
     } };
+
+    ghost invariant = { λ k. IsKept k.memory.items (vec_capacity k.memory) k.len };
 }
 
-// Adds bytes for which there is memory. `Vec::extend_from_slice` does not promise to take none.
-fn append(to: &mut Vec<u8>, bytes: &[u8])
-    requires { vec_len to.old + length bytes.now ≤ vec_capacity to.old }
-    ensures items { to.new.items ≡ to.old.items ++ bytes.now }
-    ensures memory { vec_capacity to.new ≡ vec_capacity to.old }
+/// So many zeros, in memory for just these.
+fn zeros(alloc: Global, len: usize) -> Result<Vec<u8>, NoMemory>
+    ensures len { IfOk result (λ memory. vec_len memory ≡ len) }
+    ensures capacity { IfOk result (λ memory. vec_capacity memory ≡ len) }
 {
-    'bytes: for byte in bytes {
-        to.push_reserved(*byte);
+    let mut memory = Vec::with_capacity(alloc, len)?;
+    'zeros: for _i in 0..len {
+        memory.push_reserved(0);
     }
+    Ok(memory)
 }
 
 impl Kept {
@@ -53,7 +58,8 @@ impl Kept {
         ensures free { meter.new ≡ meter.old }
     {
         Ok(Kept {
-            bytes: Vec::with_capacity(alloc, cap)?,
+            memory: zeros(alloc, cap)?,
+            len: 0,
             made_with: Snapshot::of(meter),
         })
     }
@@ -65,10 +71,11 @@ impl Kept {
         ensures cost { Pays meter.old meter.new 1 }
     {
         meter.pay(1);
-        if self.bytes.len() == self.bytes.capacity() {
+        if self.len == self.memory.len() {
             return Err(Full { value: () });
         }
-        self.bytes.push_reserved(byte);
+        self.memory[self.len] = byte;
+        self.len += 1;
         Ok(())
     }
 
@@ -80,10 +87,12 @@ impl Kept {
         ensures cost { Pays meter.old meter.new (length bytes.now) }
     {
         meter.pay(bytes.len() as u64);
-        if self.bytes.capacity() - self.bytes.len() < bytes.len() {
+        if self.memory.len() - self.len < bytes.len() {
             return Err(Full { value: () });
         }
-        append(&mut self.bytes, bytes);
+        let end = self.len + bytes.len();
+        self.memory[self.len..end].copy_from_slice(bytes);
+        self.len = end;
         Ok(())
     }
 
@@ -96,7 +105,7 @@ impl Kept {
         ensures cost { Pays meter.old meter.new (range.end - range.start) }
     {
         meter.pay((range.end - range.start) as u64);
-        &self.bytes[range.start..range.end]
+        &self.memory[range.start..range.end]
     }
 
     /// How many bytes there are, in 1 step.
@@ -107,7 +116,7 @@ impl Kept {
         ensures cost { Pays meter.old meter.new 1 }
     {
         meter.pay(1);
-        self.bytes.len()
+        self.len
     }
 
     /// How many more bytes there may be, in 1 step.
@@ -117,7 +126,7 @@ impl Kept {
         ensures cost { Pays meter.old meter.new 1 }
     {
         meter.pay(1);
-        self.bytes.capacity() - self.bytes.len()
+        self.memory.len() - self.len
     }
 
     /// Removes every byte, in 1 step.
@@ -127,6 +136,6 @@ impl Kept {
         ensures cost { Pays meter.old meter.new 1 }
     {
         meter.pay(1);
-        self.bytes.clear();
+        self.len = 0;
     }
 }

@@ -33,7 +33,7 @@ bytes_line word bytes = word ++ (hex_text bytes ++ codes "\n")
 
 -- a word, and bytes to or for a peer
 abbrev pub peer_line : List ℕ → Peer → List ℕ → List ℕ
-peer_line word peer bytes = word ++ (peer_text peer ++ (codes " " ++ (hex_text bytes ++ codes "\n")))
+peer_line word peer bytes = word ++ (peer_text peer ++ bytes_line (codes " ") bytes)
 
 abbrev pub unsent_line : Unsent → List ℕ
 unsent_line unsent = codes "unsent " ++ (decimal unsent.number ++ peer_line (codes " ") unsent.target unsent.call)

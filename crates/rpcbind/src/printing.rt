@@ -57,9 +57,8 @@ fn print_bytes<W: Write>(word: &str, bytes: &[u8], writer: &mut W) -> io::Result
 fn print_to<W: Write>(word: &str, to: Peer, bytes: &[u8], writer: &mut W) -> io::Result<()>
     ensures { OnOk result (Writes W.contents writer.old writer.new (peer_line word.now to bytes.now)) }
 {
-    write!(writer, "{word}{to} ")?;
-    print_hex(bytes, writer)?;
-    writer.write_all(b"\n")
+    write!(writer, "{word}{to}")?;
+    print_bytes(" ", bytes, writer)
 }
 
 /// Writes the line of a forwarded call that is to be sent.

@@ -1,7 +1,8 @@
-use Rattle.std.proofs.Common.{◌≡◌, ◌∷◌, [], ◌++◌, refl, ap, ◌∙◌}
+use Rattle.std.proofs.Common.{take, ◌≡◌, ◌∷◌, [], ◌++◌, refl, ap, ◌∙◌}
 use Rattle.std.proofs.lemmas.List.{map_push}
 use Rattle.rb_core.specs.StandsFor.{events_of, output_of, outputs_of}
 use Rattle.rb_core.proofs.Runs.{one_more, pays_more, pays_within}
+use Rattle.rb_core.proofs.StepBounds.{paid_within, held_within_after}
 use Rattle.rb_core.proofs.run.replay.Goals as goal
 
 pub loop-event-preserved : goal.loop-event-preserved
@@ -23,3 +24,23 @@ returns-in_default-clause-cost c s h = pays_within s (events_of c.args.events.no
 
 pub returns-in_err-output-clause-cost : goal.returns-in_err-output-clause-cost
 returns-in_err-output-clause-cost c s h = rw c.in_err-output.ensures.free (pays_within s (events_of c.args.events.now) c.loop-event.event-index _ _ (c.loop-event.invariant.cost s h))
+
+pub returns-clause-bound : goal.returns-clause-bound
+returns-clause-bound c s h reached good = paid_within s (events_of c.args.events.now) _ _ reached good (pays_within s (events_of c.args.events.now) c.loop-event.event-index _ _ (c.loop-event.invariant.cost s h))
+
+pub returns-clause-held : goal.returns-clause-held
+returns-clause-held c s h reached port = held_within_after _ s (take c.loop-event.event-index (events_of c.args.events.now)) (c.loop-event.invariant.happened s h).state reached port
+
+pub returns-in_default-clause-bound : goal.returns-in_default-clause-bound
+returns-in_default-clause-bound c s h reached good = paid_within s (events_of c.args.events.now) _ _ reached good (pays_within s (events_of c.args.events.now) c.loop-event.event-index _ _ (c.loop-event.invariant.cost s h))
+
+pub returns-in_err-output-clause-bound : goal.returns-in_err-output-clause-bound
+returns-in_err-output-clause-bound c s h reached good =
+    rw c.in_err-output.ensures.free (paid_within s (events_of c.args.events.now) _ _ reached good (pays_within s (events_of c.args.events.now) c.loop-event.event-index _ _ (c.loop-event.invariant.cost s h)))
+
+pub returns-in_default-clause-held : goal.returns-in_default-clause-held
+returns-in_default-clause-held c s h reached port = held_within_after _ s (take c.loop-event.event-index (events_of c.args.events.now)) (c.loop-event.invariant.happened s h).state reached port
+
+pub returns-in_err-output-clause-held : goal.returns-in_err-output-clause-held
+returns-in_err-output-clause-held c s h reached port =
+    rw c.in_err-output.ensures.err (held_within_after _ s (take c.loop-event.event-index (events_of c.args.events.now)) (c.loop-event.invariant.happened s h).state reached port)

@@ -1,24 +1,33 @@
-use Rattle.std.proofs.Common.{[], Err, sym, subst, ◌∙◌, arith}
+use Rattle.std.proofs.Common.{[], Err, refl, sym, ap, subst, ◌∙◌, arith}
 use Rattle.std.specs.Prelude.{All}
 use Rattle.std.specs.Map.{values_of}
 use Rattle.rb_xdr.proofs.PoolLemmas.{All-value_at, All-without}
+use Rattle.rb_xdr.specs.Meter.{Meter}
 use Rattle.rb_core.specs.contracts.connections.Connections.{the_view}
 use Rattle.rb_core.specs.declared.types.CoreFault.TheVariants.{Gone}
 use Rattle.rb_core.specs.Connections.{closing_of}
-use Rattle.rb_core.specs.Slots.{Acts, StandsForConnections, HasBuffers, AreSpare}
+use Rattle.rb_core.specs.Slots.{Acts, StandsForConnections, HasBuffers, AreSpare, IsWithin}
+use Rattle.rb_core.proofs.Holding.{its_buffers, charge_fits, held_without}
 use Rattle.rb_core.proofs.Slots.{acts_from, none_closed, one_closed, slot_is_there, numbered-without}
 use Rattle.rb_xdr.proofs.PoolLemmas.{distinct-without, length-without}
 use Rattle.rb_core.proofs.Freed.{none_freed_by_close, freed_from}
-use Rattle.rb_core.proofs.Telling.{keeps_less}
 use Rattle.rb_core.proofs.connections.Connections.close.Goals as goal
 
 pub returns-in_default-clause-acts : goal.returns-in_default-clause-acts
 returns-in_default-clause-acts c =
-    λ source. subst (λ t. Acts (StandsForConnections source) (closing_of c.args.id) t t (Err Gone)) c.self.view_is
-    (none_closed source c.args.id (the_view c.self.inside) (sym c.in_default.ensures.key))
+    subst (λ t. Acts StandsForConnections (closing_of c.args.id) t t (Err Gone)) c.self.view_is
+    (none_closed c.args.id (the_view c.self.inside) (sym c.in_default.ensures.key))
 
 pub unreachable-requires : goal.unreachable-requires
 unreachable-requires c = slot_is_there _ c.self.inside.slots.entries [] c.in-Some.key (sym c.in-Some.ensures.key) (sym c.in_default-remove.ensures.value)
+
+pub charge-requires : goal.charge-requires
+charge-requires c =
+    its_buffers c.self.inside.slots c.self.inside.spare c.self.inside.given c.self.inside.conns c.self.inside.held c.self.invariant c.in-Some.key c.in-Some-remove.slot (sym c.in-Some-remove.ensures.value) c.remove.new.meter
+    (ap (λ (m : Meter). m.tie) c.remove.ensures.cost ∙ c.wanted_key.ensures.cost.tie ∙ c.requires ∙ sym (ap (λ t. t.tie) c.self.view_is))
+
+pub overflow_sub-self : goal.overflow_sub-self
+overflow_sub-self c = rw c.charge.ensures.charge (charge_fits c.self.inside.slots c.self.inside.spare c.self.inside.given c.self.inside.conns c.self.inside.held c.self.invariant c.in-Some.key c.in-Some-remove.slot (sym c.in-Some-remove.ensures.value))
 
 pub put_buffers-requires-clause-made : goal.put_buffers-requires-clause-made
 put_buffers-requires-clause-made c =
@@ -39,13 +48,23 @@ invariant_of-self c =
       buffers = All-without (HasBuffers c.self.inside.slots.tie) es c.in-Some.key c.self.invariant.buffers;
       spare_buffers = subst (λ t. All (AreSpare t) (values_of c.put_buffers.new.spare.entries)) c.self.invariant.tie c.put_buffers.ensures.buffers;
       numbers = numbered-without c.self.inside.given es c.in-Some.key c.self.invariant.numbers;
+      few = c.self.invariant.few;
+      within = All-without IsWithin es c.in-Some.key c.self.invariant.within;
+      is_held =
+          let sum = held_without c.self.inside.slots c.self.inside.spare c.self.inside.given c.self.inside.conns c.self.inside.held c.self.invariant c.in-Some.key c.in-Some-remove.slot (sym c.in-Some-remove.ensures.value) in
+          rw c.charge.ensures.charge (omega (arith, sum));
     })
+
+pub returns-clause-stays : goal.returns-clause-stays
+returns-clause-stays c =
+    rw (c.remove.ensures.entries, ← c.self.view_is)
+    (record { conns = refl; tie = refl; within = All-without IsWithin c.self.inside.slots.entries c.in-Some.key c.self.invariant.within })
 
 pub returns-clause-acts : goal.returns-clause-acts
 returns-clause-acts c =
-    λ source. rw c.remove.ensures.entries (
-    acts_from source (closing_of c.args.id) (the_view c.self.inside) c.args.self.now _ _ c.self.view_is
-    (one_closed source c.args.id (the_view c.self.inside) c.in-Some.key c.in-Some-remove.slot c.self.invariant.distinct c.self.invariant.numbers (sym c.in-Some.ensures.key) (sym c.in-Some-remove.ensures.value)))
+    rw c.remove.ensures.entries (
+    acts_from (closing_of c.args.id) (the_view c.self.inside) c.args.self.now _ _ c.self.view_is
+    (one_closed c.args.id (the_view c.self.inside) c.in-Some.key c.in-Some-remove.slot c.self.invariant.distinct c.self.invariant.numbers (sym c.in-Some.ensures.key) (sym c.in-Some-remove.ensures.value)))
 
 pub returns-in_default-clause-free : goal.returns-in_default-clause-free
 returns-in_default-clause-free c = λ id none. none
@@ -53,10 +72,3 @@ returns-in_default-clause-free c = λ id none. none
 pub returns-clause-free : goal.returns-clause-free
 returns-clause-free c =
     rw c.remove.ensures.entries (freed_from (the_view c.self.inside) c.args.self.now _ c.self.view_is (none_freed_by_close (the_view c.self.inside) c.in-Some.key))
-
-pub returns-in_default-clause-told : goal.returns-in_default-clause-told
-returns-in_default-clause-told c = λ source told. told
-
-pub returns-clause-told : goal.returns-clause-told
-returns-clause-told c =
-    rw c.remove.ensures.entries (keeps_less (the_view c.self.inside) c.args.self.now c.self.view_is c.in-Some.key)

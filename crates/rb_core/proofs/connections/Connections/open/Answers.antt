@@ -6,20 +6,23 @@ use Rattle.rb_core.specs.contracts.connections.Connections.{the_view}
 use Rattle.rb_core.specs.declared.types.CoreFault.TheVariants.{Full, Spent}
 use Rattle.rb_core.specs.Connections.{opening_of}
 use Rattle.rb_core.specs.Slots.{Acts, StandsForConnections, HasBuffers, AreBuffers, AreSpare}
+use Rattle.rb_core.proofs.Holding.{room_for_one, within_pushed, held_pushed}
 use Rattle.rb_core.proofs.Slots.{acts_from, full_acts, spent_acts, opened_acts, numbered-more}
 use Rattle.rb_core.proofs.Freed.{none_freed_by_open, freed_from}
-use Rattle.rb_core.proofs.Telling.{keeps_more}
 use Rattle.rb_core.proofs.connections.Connections.open.Goals as goal
 
 pub returns-then-len-self-clause-acts : goal.returns-then-len-self-clause-acts
 returns-then-len-self-clause-acts c =
-    λ source. subst (λ t. Acts (StandsForConnections source) (opening_of t.conns c.args.peer c.args.clock) t t (Err Full)) c.self.view_is
-    (full_acts source c.self.inside.conns c.args.peer c.args.clock (the_view c.self.inside) (omega (arith, c.len.ensures.len, c.if-len-self.true)))
+    subst (λ t. Acts StandsForConnections (opening_of t.conns c.args.peer c.args.clock) t t (Err Full)) c.self.view_is
+    (full_acts c.self.inside.conns c.args.peer c.args.clock (the_view c.self.inside) (omega (arith, c.len.ensures.len, c.if-len-self.true)))
 
 pub returns-then-self-clause-acts : goal.returns-then-self-clause-acts
 returns-then-self-clause-acts c =
-    λ source. subst (λ t. Acts (StandsForConnections source) (opening_of t.conns c.args.peer c.args.clock) t t (Err Spent)) c.self.view_is
-    (spent_acts source c.self.inside.conns c.args.peer c.args.clock (the_view c.self.inside) (omega (arith, c.len.ensures.len, c.if-len-self.false)) c.if-self.true)
+    subst (λ t. Acts StandsForConnections (opening_of t.conns c.args.peer c.args.clock) t t (Err Spent)) c.self.view_is
+    (spent_acts c.self.inside.conns c.args.peer c.args.clock (the_view c.self.inside) (omega (arith, c.len.ensures.len, c.if-len-self.false)) c.if-self.true)
+
+pub overflow_add-self-2 : goal.overflow_add-self-2
+overflow_add-self-2 c = let room = room_for_one c.self.inside.slots c.self.inside.spare c.self.inside.given c.self.inside.conns c.self.inside.held c.self.invariant in omega (arith, room)
 
 pub invariant_of-self : goal.invariant_of-self
 invariant_of-self c = record {
@@ -37,13 +40,30 @@ invariant_of-self c = record {
       subst (λ t. All (AreSpare t) (values_of c.take_buffers-buffer.new.spare.entries)) (c.self.invariant.tie ∙ sym c.put_slot.ensures.tie)
       c.take_buffers-buffer.ensures.buffers;
   numbers = rw c.put_slot.ensures.last (numbered-more c.self.inside.given (values_of c.self.inside.slots.entries) _ c.self.invariant.numbers refl);
+  few = c.self.invariant.few;
+  within =
+      rw c.put_slot.ensures.last
+      (within_pushed (values_of c.self.inside.slots.entries) _ c.take_buffers-buffer.ensures.made.buffer_empty c.take_buffers-buffer.ensures.made.window_empty c.self.invariant.within);
+  is_held =
+      rw c.put_slot.ensures.last
+      (held_pushed (values_of c.self.inside.slots.entries) _ c.take_buffers-buffer.ensures.made.buffer_empty c.take_buffers-buffer.ensures.made.window_empty c.self.inside.held c.self.invariant.is_held);
 }
 
+pub returns-clause-stays : goal.returns-clause-stays
+returns-clause-stays c =
+    rw (← c.self.view_is) (record {
+      conns = refl;
+      tie = c.put_slot.ensures.tie;
+      within =
+          rw c.put_slot.ensures.last
+          (within_pushed (values_of c.self.inside.slots.entries) _ c.take_buffers-buffer.ensures.made.buffer_empty c.take_buffers-buffer.ensures.made.window_empty c.self.invariant.within);
+    })
+
 pub returns-clause-acts : goal.returns-clause-acts
-returns-clause-acts c = λ source.
+returns-clause-acts c =
     let conns = ap (λ t. t.conns) c.self.view_is in
-    acts_from source (opening_of c.args.self.now.conns c.args.peer c.args.clock) (the_view c.self.inside) c.args.self.now _ _ c.self.view_is
-    (opened_acts source c.args.self.now.conns c.args.peer c.args.clock (the_view c.self.inside) _ _ (omega (arith, conns, c.len.ensures.len, c.if-len-self.false)) (omega (arith, c.if-self.false)) c.put_slot.ensures.last refl
+    acts_from (opening_of c.args.self.now.conns c.args.peer c.args.clock) (the_view c.self.inside) c.args.self.now _ _ c.self.view_is
+    (opened_acts c.args.self.now.conns c.args.peer c.args.clock (the_view c.self.inside) _ _ (omega (arith, conns, c.len.ensures.len, c.if-len-self.false)) (omega (arith, c.if-self.false)) c.put_slot.ensures.last refl
     (record {
       number = refl;
       peer = refl;
@@ -60,13 +80,3 @@ returns-then-self-clause-free c = λ id none. none
 pub returns-clause-free : goal.returns-clause-free
 returns-clause-free c =
     freed_from (the_view c.self.inside) c.args.self.now _ c.self.view_is (none_freed_by_open (the_view c.self.inside) _ _ c.put_slot.ensures.last refl refl)
-
-pub returns-then-len-self-clause-told : goal.returns-then-len-self-clause-told
-returns-then-len-self-clause-told c = λ source told. told
-
-pub returns-then-self-clause-told : goal.returns-then-self-clause-told
-returns-then-self-clause-told c = λ source told. told
-
-pub returns-clause-told : goal.returns-clause-told
-returns-clause-told c =
-    keeps_more (the_view c.self.inside) c.args.self.now c.self.view_is _ c.put_slot.new.slots.entries c.put_slot.ensures.last (λ source. tt)

@@ -1,42 +1,62 @@
-use Rattle.std.proofs.Common.{[], ap, sym, subst, ◌∙◌}
+use Rattle.std.proofs.Common.{◌+◌, ◌*◌, [], length, ap, sym, subst, ◌∙◌, arith}
 use Rattle.rb_xdr.specs.Meter.{Meter}
-use Rattle.rb_xdr.proofs.PoolLemmas.{All-value_at}
 use Rattle.rb_core.specs.contracts.connections.Connections.{the_view}
 use Rattle.rb_core.specs.Connections.{changed_at, settled}
+use Rattle.rb_core.specs.Costs.{show_cost}
 use Rattle.rb_core.specs.StandsFor.{outcome_with}
 use Rattle.rb_core.specs.Slots.{StandsForConnections, HasBuffers}
+use Rattle.rb_core.proofs.Holding.{its_buffers, charge_fits, held_few, stays_changed, recounted_cost}
 use Rattle.rb_core.proofs.Slots.{gone_stays, live_changed, slot_is_there, table_changed}
 use Rattle.std.proofs.Common.{◌≡◌, true, refl}
-use Rattle.rb_core.specs.Awaits.{has_idle}
-use Rattle.rb_core.proofs.Freed.{found_live, none_idle, one_freed, now_awaits, only_from}
-use Rattle.rb_core.proofs.Telling.{keeps_changed, no_list_told}
+use Rattle.rb_core.specs.Awaits.{has_live}
+use Rattle.rb_core.proofs.Freed.{found_live, none_live, one_freed, now_awaits, only_from}
 use Rattle.rb_core.proofs.connections.Connections.settle.Goals as goal
 
 pub returns-in_default-clause-stands : goal.returns-in_default-clause-stands
-returns-in_default-clause-stands c = λ source o h.
-    let z = subst (λ t. StandsForConnections source t o) (sym c.self.view_is) h in
-    subst (λ t. StandsForConnections source t (changed_at c.args.id (settled c.args.clock (outcome_with c.args.outcome c.args.reply.now.bytes)) o)) c.self.view_is
-    (gone_stays source c.args.id (settled c.args.clock (outcome_with c.args.outcome c.args.reply.now.bytes)) (the_view c.self.inside) (sym c.in_default.ensures.key) o z)
+returns-in_default-clause-stands c = λ o h.
+    let z = subst (λ t. StandsForConnections t o) (sym c.self.view_is) h in
+    subst (λ t. StandsForConnections t (changed_at c.args.id (settled c.args.clock (outcome_with c.args.outcome c.args.reply.now.bytes)) o)) c.self.view_is
+    (gone_stays c.args.id (settled c.args.clock (outcome_with c.args.outcome c.args.reply.now.bytes)) (the_view c.self.inside) (sym c.in_default.ensures.key) o z)
 
 pub unreachable-requires : goal.unreachable-requires
 unreachable-requires c = slot_is_there _ c.self.inside.slots.entries [] c.in-Some.key (sym c.in-Some.ensures.key) (sym c.in_default-get_mut.ensures.value)
 
+pub charge-before-requires : goal.charge-before-requires
+charge-before-requires c =
+    its_buffers c.self.inside.slots c.self.inside.spare c.self.inside.given c.self.inside.conns c.self.inside.held c.self.invariant c.in-Some.key c.in-Some-get_mut.slot.now (sym c.in-Some-get_mut.ensures.value) c.get_mut.new.meter
+    (ap (λ (m : Meter). m.tie) c.get_mut.ensures.cost ∙ c.wanted_key.ensures.cost.tie ∙ c.requires.tie ∙ sym (ap (λ t. t.tie) c.self.view_is))
+
 pub settle-requires-clause-buffers : goal.settle-requires-clause-buffers
 settle-requires-clause-buffers c =
-    let tie = ap (λ (m : Meter). m.tie) c.get_mut.ensures.cost ∙ c.wanted_key.ensures.cost.tie ∙ c.requires.tie ∙ sym (ap (λ t. t.tie) c.self.view_is) in
-    subst (λ t. HasBuffers t c.in-Some-get_mut.slot.now) (sym tie)
-    (All-value_at (HasBuffers c.self.inside.slots.tie) c.self.inside.slots.entries c.in-Some.key c.in-Some-get_mut.slot.now c.self.invariant.buffers (sym c.in-Some-get_mut.ensures.value))
+    its_buffers c.self.inside.slots c.self.inside.spare c.self.inside.given c.self.inside.conns c.self.inside.held c.self.invariant c.in-Some.key c.in-Some-get_mut.slot.now (sym c.in-Some-get_mut.ensures.value) c.charge-before.new.meter
+    (ap (λ (m : Meter). m.tie) c.charge-before.ensures.cost ∙ ap (λ (m : Meter). m.tie) c.get_mut.ensures.cost ∙ c.wanted_key.ensures.cost.tie ∙ c.requires.tie ∙ sym (ap (λ t. t.tie) c.self.view_is))
+
+pub recounted-self-inside-requires-clause-before : goal.recounted-self-inside-requires-clause-before
+recounted-self-inside-requires-clause-before c =
+    rw c.charge-before.ensures.charge (charge_fits c.self.inside.slots c.self.inside.spare c.self.inside.given c.self.inside.conns c.self.inside.held c.self.invariant c.in-Some.key c.in-Some-get_mut.slot.now (sym c.in-Some-get_mut.ensures.value))
+
+pub recounted-self-inside-requires-clause-few : goal.recounted-self-inside-requires-clause-few
+recounted-self-inside-requires-clause-few c = held_few c.self.inside.slots c.self.inside.spare c.self.inside.given c.self.inside.conns c.self.inside.held c.self.invariant
 
 pub invariant_of-self : goal.invariant_of-self
 invariant_of-self c =
-    let tie = ap (λ (m : Meter). m.tie) c.get_mut.ensures.cost ∙ c.wanted_key.ensures.cost.tie ∙ c.requires.tie ∙ sym (ap (λ t. t.tie) c.self.view_is) in
-    table_changed c.self.inside.slots c.self.inside.spare c.self.inside.given c.self.inside.conns c.in-Some.key c.in-Some-get_mut.slot.now c.settle.new.self c.self.invariant (sym c.in-Some-get_mut.ensures.value)
+    let tie = ap (λ (m : Meter). m.tie) c.charge-before.ensures.cost ∙ ap (λ (m : Meter). m.tie) c.get_mut.ensures.cost ∙ c.wanted_key.ensures.cost.tie ∙ c.requires.tie ∙ sym (ap (λ t. t.tie) c.self.view_is) in
+    table_changed c.self.inside.slots c.self.inside.spare c.self.inside.given c.self.inside.conns c.self.inside.held c.in-Some.key c.in-Some-get_mut.slot.now c.settle.new.self c.self.invariant (sym c.in-Some-get_mut.ensures.value)
     c.settle.ensures.stays.number (subst (λ t. HasBuffers t c.settle.new.self) tie c.settle.ensures.stays.buffers)
+    c.recounted-self-inside.result (rw (← c.charge-before.ensures.charge) c.recounted-self-inside.ensures.held) c.recounted-self-inside.ensures.within
+
+pub returns-clause-stays : goal.returns-clause-stays
+returns-clause-stays c = stays_changed (the_view c.self.inside) c.args.self.now c.in-Some.key c.settle.new.self c.self.view_is c.self.invariant.within c.recounted-self-inside.ensures.within
+
+pub returns-clause-cost : goal.returns-clause-cost
+returns-clause-cost c =
+    rw (← c.self.view_is)
+    (recounted_cost _ _ _ _ _ _ (2 * length c.self.inside.slots.entries + 2) (show_cost + 1) c.wanted_key.ensures.cost c.get_mut.ensures.cost c.charge-before.ensures.cost c.settle.ensures.cost c.recounted-self-inside.ensures.cost _ (omega arith))
 
 pub returns-clause-stands : goal.returns-clause-stands
-returns-clause-stands c = λ source o h.
-    let z = subst (λ t. StandsForConnections source t o) (sym c.self.view_is) h in
-    live_changed source c.args.id (settled c.args.clock (outcome_with c.args.outcome c.args.reply.now.bytes)) (the_view c.self.inside) c.in-Some.key c.in-Some-get_mut.slot.now c.settle.new.self c.self.invariant.distinct (sym c.in-Some.ensures.key) (sym c.in-Some-get_mut.ensures.value) (c.settle.ensures.stands source) o z
+returns-clause-stands c = λ o h.
+    let z = subst (λ t. StandsForConnections t o) (sym c.self.view_is) h in
+    live_changed c.args.id (settled c.args.clock (outcome_with c.args.outcome c.args.reply.now.bytes)) (the_view c.self.inside) c.in-Some.key c.in-Some-get_mut.slot.now c.settle.new.self c.self.invariant.distinct (sym c.in-Some.ensures.key) (sym c.in-Some-get_mut.ensures.value) c.settle.ensures.stands o z
 
 pub returns-in_default-clause-others : goal.returns-in_default-clause-others
 returns-in_default-clause-others c = λ id apart none. none
@@ -48,18 +68,10 @@ returns-clause-others c =
     (one_freed (the_view c.self.inside) c.args.id c.in-Some.key c.in-Some-get_mut.slot.now c.settle.new.self (sym c.in-Some-get_mut.ensures.value) l.0 c.settle.ensures.stays.number)
 
 pub returns-in_default-clause-awaits : goal.returns-in_default-clause-awaits
-returns-in_default-clause-awaits c = λ forwarded idle.
-    absurd (none_idle c.args.id c.self.inside.slots.entries (sym c.in_default.ensures.key) (the_view c.self.inside) refl (subst (λ t. has_idle c.args.id t ≡ true) (sym c.self.view_is) idle))
+returns-in_default-clause-awaits c = λ forwarded live.
+    absurd (none_live c.args.id c.self.inside.slots.entries (sym c.in_default.ensures.key) (the_view c.self.inside) refl (subst (λ t. has_live c.args.id t ≡ true) (sym c.self.view_is) live))
 
 pub returns-clause-awaits : goal.returns-clause-awaits
-returns-clause-awaits c = λ forwarded idle.
+returns-clause-awaits c = λ forwarded live.
     let l = found_live c.args.id c.in-Some.key c.self.inside.slots.entries c.in-Some-get_mut.slot.now c.self.invariant.distinct (sym c.in-Some.ensures.key) (sym c.in-Some-get_mut.ensures.value) in
     now_awaits (the_view c.self.inside) c.args.id c.in-Some.key c.in-Some-get_mut.slot.now c.settle.new.self c.self.invariant.numbers (sym c.in-Some-get_mut.ensures.value) l.0 c.settle.ensures.stays.number (c.settle.ensures.awaits forwarded)
-
-pub returns-in_default-clause-told : goal.returns-in_default-clause-told
-returns-in_default-clause-told c = λ source told. told
-
-pub returns-clause-told : goal.returns-clause-told
-returns-clause-told c =
-    keeps_changed (the_view c.self.inside) c.args.self.now c.self.view_is c.in-Some.key c.in-Some-get_mut.slot.now c.settle.new.self (sym c.in-Some-get_mut.ensures.value)
-    (λ source told. no_list_told source c.settle.new.self c.settle.ensures.told)

@@ -14,7 +14,7 @@ returns-in_default-clause-acts c =
     (none_ended_then old _ c.expire_connection.new.self (λ s. tell_end [] (at_fresh_moment c.args.now s) (fell_due (max s.clock c.args.now) s.ledger)) c.expire_connection.result
     (none_ended old c.args.now c.max-self-inside.result c.max-self-inside.ensures [] c.due.new.self c.self.inside.reply.tie
     (fell_due c.max-self-inside.result) (λ s. fell_due (max s.clock c.args.now))
-    (due_alike old c.args.now c.max-self-inside.result c.max-self-inside.ensures) c.in_default.ensures.registry c.in_default.ensures.frame c.in_default.ensures.acts)
+    (due_alike old c.args.now c.max-self-inside.result c.max-self-inside.ensures) c.in_default.ensures.frame c.in_default.ensures.acts)
     (rw c.clear.ensures.empty at c.expire_connection.ensures.acts))
 
 pub returns-clause-acts : goal.returns-clause-acts
@@ -25,5 +25,5 @@ returns-clause-acts c =
     (one_expired old _ (λ s. tell_end [] (at_fresh_moment c.args.now s) (fell_due (max s.clock c.args.now) s.ledger)) c.tell.result
     (one_ended old c.args.now c.max-self-inside.result c.max-self-inside.ensures [] c.due.new.self c.self.inside.reply.tie
     (fell_due c.max-self-inside.result) (λ s. fell_due (max s.clock c.args.now))
-    (due_alike old c.args.now c.max-self-inside.result c.max-self-inside.ensures) c.in-Some.ensures.registry c.in-Some.ensures.frame
+    (due_alike old c.args.now c.max-self-inside.result c.max-self-inside.ensures) c.in-Some.ensures.frame
     c.in-Some.ended c.tell.result c.tell.new.self c.in-Some.ensures.acts (rw c.clear.ensures.empty at c.tell.ensures.acts)))

@@ -13,7 +13,7 @@ returns-in_default-clause-acts c =
     acts_from _ old c.args.self.now _ _ c.self.view_is
     (none_ended old c.args.now c.max-self-inside.result c.max-self-inside.ensures c.args.bytes.now c.reply.new.self c.self.inside.reply.tie
     (replied c.self.inside.books.forwards.first_xid c.max-self-inside.result c.args.from c.args.bytes.now) (λ s. replied s.setting.first_xid (max s.clock c.args.now) c.args.from c.args.bytes.now)
-    (replied_alike old c.args.now c.max-self-inside.result c.args.from c.args.bytes.now c.max-self-inside.ensures) c.in_default.ensures.registry c.in_default.ensures.frame c.in_default.ensures.acts))
+    (replied_alike old c.args.now c.max-self-inside.result c.args.from c.args.bytes.now c.max-self-inside.ensures) c.in_default.ensures.frame c.in_default.ensures.acts))
 
 pub returns-clause-acts : goal.returns-clause-acts
 unfolding forward_reply
@@ -22,5 +22,5 @@ returns-clause-acts c =
     acts_from _ old c.args.self.now _ _ c.self.view_is
     (one_ended old c.args.now c.max-self-inside.result c.max-self-inside.ensures c.args.bytes.now c.reply.new.self c.self.inside.reply.tie
     (replied c.self.inside.books.forwards.first_xid c.max-self-inside.result c.args.from c.args.bytes.now) (λ s. replied s.setting.first_xid (max s.clock c.args.now) c.args.from c.args.bytes.now)
-    (replied_alike old c.args.now c.max-self-inside.result c.args.from c.args.bytes.now c.max-self-inside.ensures) c.in-Some.ensures.registry c.in-Some.ensures.frame
+    (replied_alike old c.args.now c.max-self-inside.result c.args.from c.args.bytes.now c.max-self-inside.ensures) c.in-Some.ensures.frame
     c.in-Some.ended c.tell.result c.tell.new.self c.in-Some.ensures.acts (rw c.clear.ensures.empty at c.tell.ensures.acts))

@@ -27,5 +27,5 @@ returns-in_default-clause-acts c =
 pub returns-clause-acts : goal.returns-clause-acts
 returns-clause-acts c =
     acts_from _ (the_view c.self.inside) c.args.self.now _ _ c.self.view_is
-    (sent_acts (the_view c.self.inside) c.args.id.number c.sent.new.self tt c.in-Ok.ensures.registry c.in-Ok.ensures.frame
+    (sent_acts (the_view c.self.inside) c.args.id.number c.sent.new.self tt c.in-Ok.ensures.frame
     (λ l h. (c.sent.ensures.there l h).0 (is_ok c.sent.result tt c.in-Ok.is)) c.in-Ok.ensures.sent)

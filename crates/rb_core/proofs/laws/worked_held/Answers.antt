@@ -1,0 +1,37 @@
+use Rattle.std.proofs.Common.{◌≡◌, ◌+◌, ℕ, List, [], ◌∷◌, length, refl, ap, arith}
+use Rattle.std.specs.List.{AllZip}
+use Rattle.std.specs.Map.{values_of}
+use Rattle.rb_registry.specs.Registry.{slots_of as rows_of}
+use Rattle.rb_registry.specs.Slots.{is_dropped, held_in as held_of_rows}
+use Rattle.rb_stats.specs.Statistics.{stat, items_of, keys_of}
+use Rattle.rb_forward.specs.Table.{slots_of as calls_of, held_in as held_of_calls, longest_arguments}
+use Rattle.rb_forward.specs.Forwards.{no_forwards}
+use Rattle.rb_forward.proofs.Stands.{held_alike}
+use Rattle.rb_uaddr.specs.Uaddr.{text_of, port_bytes}
+use Rattle.rb_proto.specs.Callers.{own_rows}
+use Rattle.rb_core.specs.declared.slot.Slot.{Slot}
+use Rattle.rb_core.specs.Calls.{longest_reply}
+use Rattle.rb_core.specs.Giving.{longest_fragment}
+use Rattle.rb_core.specs.Slots.{StandsForConnection, held_in}
+use Rattle.std.specs.Fmt.{digits}
+use Rattle.rb_core.proofs.laws.worked_held.Goals as goal
+
+no_slots : (slots : List Slot) → AllZip StandsForConnection slots [] → held_in slots ≡ 0
+no_slots [] z = refl
+no_slots (slot ∷ slots) z = absurd z
+
+pub returns-clause-bytes_bounds : goal.returns-clause-bytes_bounds
+unfolding longest_reply longest_fragment longest_arguments
+returns-clause-bytes_bounds c = refl
+
+pub returns-clause-fresh_core : goal.returns-clause-fresh_core
+unfolding own_rows text_of port_bytes is_dropped stat items_of keys_of digits
+returns-clause-fresh_core c core h =
+    let connections = no_slots (values_of core.connections.slots) h.connections.all in
+    let rows : held_of_rows (rows_of core.books.registry) ≡ 270 = ap held_of_rows h.ledger.registry.slots in
+    let two : length core.books.stats.two.addrinfo + length core.books.stats.two.rmtinfo ≡ 0 = rw h.ledger.stats.two refl in
+    let three : length core.books.stats.three.addrinfo + length core.books.stats.three.rmtinfo ≡ 0 = rw h.ledger.stats.three refl in
+    let four : length core.books.stats.four.addrinfo + length core.books.stats.four.rmtinfo ≡ 0 = rw h.ledger.stats.four refl in
+    let calls : held_of_calls (calls_of core.books.forwards) ≡ 0 = held_alike core.books.forwards.first_xid (calls_of core.books.forwards) no_forwards h.ledger.forwards.all in
+    let reply : length core.reply ≡ 0 = ap (λ (xs : List ℕ). length xs) h.reply in
+    omega (arith, connections, rows, two, three, four, calls, reply)

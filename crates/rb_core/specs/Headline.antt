@@ -1,0 +1,50 @@
+-- What is promised of every run from an opening, in one law.
+use Rattle.std.specs.Prelude.{◌≡◌, ◌≤◌, ◌<◌, ◌^◌, ℕ, true, List}
+use Rattle.rb_rpc.specs.declared.peer.Peer.{Peer}
+use Rattle.rb_rpc.specs.declared.peer.Caller.TheVariants.{Udp}
+use Rattle.rb_feed.specs.Feeds.{arguments_of}
+use Rattle.rb_proto.specs.declared.listener.Listener.{Listener}
+use Rattle.rb_core.specs.declared.types.Limits.{Limits}
+use Rattle.rb_core.specs.Calls.{Outcome, message_of, outcome}
+use Rattle.rb_core.specs.Calls.Outcome.{NoCall, Reply, Forwarded, Silent}
+use Rattle.rb_core.specs.State.{State, are_good, at_moment, opening}
+use Rattle.rb_core.specs.Step.{Event, Output, Output as outputs, context_in, step}
+use Rattle.rb_core.specs.Step.Event.{Datagram}
+use Rattle.rb_core.specs.Run.{after}
+use Rattle.rb_core.specs.Sessions.{session, IsWholeSession}
+use Rattle.rb_core.specs.Costs.{event_cost}
+use Rattle.rb_core.specs.StandsFor.{Held, StandsFor}
+use Rattle.rb_core.specs.HeldBytes.{held, bytes_bound}
+use Rattle.rb_core.specs.StepLaws.{steps_bound, bytes_in, bytes_out}
+
+-- what the sender of a datagram gets
+abbrev pub shown_as : Outcome → Output
+shown_as NoCall = outputs.Silent
+shown_as (Reply reply) = outputs.Replied reply
+shown_as Forwarded = outputs.Forwarded
+shown_as Silent = outputs.Silent
+
+-- A datagram that comes now has exactly the reply that is defined over the SETs and UNSETs accepted before it.
+abbrev pub AnswersDatagrams : State → Type 0
+AnswersDatagrams s =
+    (now : ℕ) (peer : Peer) (content : List ℕ)
+    → (step s (Datagram now peer content)).0
+    ≡ shown_as (outcome (context_in (at_moment now s) (Udp peer)) (message_of content) (arguments_of content) s.ledger).0
+
+-- After these events, at these limits:
+pub record IsServedWithin (limits : Limits) (start : State) (events : List Event) : Type 0 where
+  -- each completed call on a connection has exactly its reply, and on UDP too;
+  pub sessions : (id : ℕ) → IsWholeSession id (after start events) (session start id events)
+  pub datagrams : AnswersDatagrams (after start events)
+  -- what is held has not passed its bound;
+  pub bytes : (core : Held) → StandsFor core (after start events) → held core ≤ bytes_bound limits
+  -- and whatever event is next, its steps stay within theirs.
+  pub steps : (event : Event)
+      → let output : Output = (step (after start events) event).0 in
+      event_cost (after start events) event ≤ steps_bound limits (bytes_in event output) (bytes_out event output)
+
+-- for every list of events from an opening at good limits, with a listener on a port of 16 bits
+abbrev pub RunsAreServedWithinBounds : Type 0
+RunsAreServedWithinBounds =
+    (limits : Limits) (listener : Listener) (first_xid now : ℕ) → are_good limits ≡ true → listener.port < 2 ^ 16
+    → (events : List Event) → IsServedWithin limits (opening limits listener first_xid now) events
