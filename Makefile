@@ -8,7 +8,7 @@ UNITS = $(PREFIX)/lib/systemd/system
 SBINDIR = $(DESTDIR)$(PREFIX)/sbin
 MANDIR = $(DESTDIR)$(PREFIX)/share/man/man8
 
-.PHONY: all run test rows peers bench measure install uninstall clean
+.PHONY: all run test rows peers memory bench measure install uninstall clean
 
 # Proves each crate and builds the programs, crates/rpcbind/out/rpcbind and crates/rpcinfo/out/rpcinfo.
 all:
@@ -32,7 +32,11 @@ rows:
 peers:
 	tests/run-peers.sh
 
-# The time of a call, over the built program: TCP in single bytes and in one piece, and datagrams over 300 rows.
+# What of the built daemon is resident before and after a load of a million calls.
+memory:
+	tests/run-memory.sh
+
+# The time of a call, over the built program: TCP in single bytes and in one piece, datagrams over 300 rows, and long lists.
 bench:
 	tests/run-bench.sh
 

@@ -1,6 +1,7 @@
 #!/usr/bin/env bash
-# Times the built program over three runs, and prints the time of each per call: 1,000 TCP NULL calls of 40 bytes in
-# single-byte pieces, the same in one piece each, and 10,000 datagram GETPORTs over 300 rows.
+# Times the built program, and prints the time of a call: of 1,000 TCP NULL calls of 40 bytes in single-byte pieces, of the
+# same in one piece each, and of 10,000 datagram GETPORTs over 300 rows; and that of a row in 1,000 DUMPs of 4,096 rows over
+# TCP, fragment by fragment, without the SETs of these rows.
 set -eu
 cd "$(dirname "$0")/.."
 
@@ -28,22 +29,54 @@ whole_calls() {
     done
 }
 
-getports() {
-    for i in $(seq 294); do
+# SETs of so many programs
+sets() {
+    for i in $(seq "$1"); do
         printf 'datagram 0 127.0.0.1:900 %s\n' "$(printf '%08x' "$i" 0 2 100000 2 1 0 0 0 0 $((200000 + i)) 1 6 2049)"
     done
+}
+
+getports() {
+    sets 294
     local ask
     ask=$(printf '%08x' 1 0 2 100000 2 3 0 0 0 0 200294 1 6 0)
     for _ in $(seq 10000); do echo "datagram 0 127.0.0.1:900 $ask"; done
 }
 
-# Runs the program over a file of events, and prints the time for each of so many calls.
-time_run() {
-    local name=$1 calls=$2 begin end
+# a DUMP of version 2 shows 4,096 rows in 81,948 bytes: 80 fragments of 1,024 bytes, and one of 28
+dumps() {
+    local dump
+    dump=$(
+        echo "bytes 0 1 80000028$(printf '%08x' 1 0 2 100000 2 4 0 0 0 0)"
+        for _ in $(seq 80); do echo 'gave 0 1 1028'; done
+        echo 'gave 0 1 32'
+    )
+    for _ in $(seq 1000); do echo "$dump"; done
+}
+
+# Runs the program over a file of events, and prints how many nanoseconds it took.
+nanoseconds() {
+    local begin end
     begin=$(date +%s%N)
-    "$program" replay < "$work/events" > "$work/outputs"
+    "$program" replay "$@" < "$work/events" > "$work/outputs"
     end=$(date +%s%N)
-    echo "$name: $(((end - begin) / calls / 1000)).$(printf '%03d' $(((end - begin) / calls % 1000))) microseconds per call"
+    echo $((end - begin))
+}
+
+# The time for each of so many calls.
+time_run() {
+    local name=$1 calls=$2 taken
+    taken=$(nanoseconds)
+    echo "$name: $((taken / calls / 1000)).$(printf '%03d' $((taken / calls % 1000))) microseconds per call"
+}
+
+time_dumps() {
+    local before all
+    { echo 'open 0 127.0.0.1:900'; sets 4090; } > "$work/events"
+    before=$(nanoseconds --rows 4096)
+    dumps >> "$work/events"
+    all=$(nanoseconds --rows 4096)
+    echo "1,000 DUMPs of 4,096 rows: $(((all - before) / 4096000)) nanoseconds per row"
 }
 
 single_bytes > "$work/events"
@@ -52,3 +85,4 @@ whole_calls > "$work/events"
 time_run '1,000 TCP calls in one piece' 1000
 getports > "$work/events"
 time_run '10,000 GETPORTs over 300 rows' 10000
+time_dumps

@@ -33,7 +33,8 @@ use Rattle.rb_core.specs.Reading.{longest_arguments, buffer_size, kept_of}
 use Rattle.rb_core.specs.State.{Phase, Connection}
 use Rattle.rb_core.specs.State.Phase.{Idle, Reading, Owing, Awaiting, Lost}
 use Rattle.rb_core.specs.Slots.{StandsForPhase, StandsForConnection, charge, held_in, IsWithin}
-use Rattle.rb_core.specs.StandsFor.{Held}
+use Rattle.rb_core.specs.StandsFor.{Held, source_of}
+use Rattle.rb_core.specs.Streams.{Source}
 use Rattle.rb_core.specs.HeldBytes.{greatest_call}
 use Rattle.rb_core.specs.HeldLaws.{takes_bytes, HoldsArguments, unheld_share, HeldBytesAreBounded, NeverPasses}
 use Rattle.rb_core.proofs.EntriesKept.{HasShortArgs, reached-kept}
@@ -46,47 +47,47 @@ use Rattle.rb_core.proofs.ShortTexts.{own_short}
 empty_charge : (buffer window : Kept) → buffer.bytes ≡ [] → window.bytes ≡ [] → 128 + length buffer.bytes + length window.bytes ≡ 128
 empty_charge buffer window b w = rw (b, w) refl
 
-phase_holds : (stage : Stage) (buffer window : Kept) (phase : Phase) (c : Connection) → c.phase ≡ phase → StandsForPhase stage buffer window phase → takes_bytes c ≡ true
+phase_holds : (source : Source) (stage : Stage) (buffer window : Kept) (phase : Phase) (c : Connection) → c.phase ≡ phase → StandsForPhase source stage buffer window phase → takes_bytes c ≡ true
     → 128 + length buffer.bytes + length window.bytes ≤ 128 + longest_arguments
-phase_holds stages.Idle buffer window Idle c is h takes = let e = empty_charge buffer window h.0 h.1 in omega (arith, e)
-phase_holds (stages.Reading reader) buffer window (Reading fed) c is h takes =
+phase_holds source stages.Idle buffer window Idle c is h takes = let e = empty_charge buffer window h.0 h.1 in omega (arith, e)
+phase_holds source (stages.Reading reader) buffer window (Reading fed) c is h takes =
     let kept : length buffer.bytes ≡ length (kept_of (data_of fed)) = ap (λ (xs : List ℕ). length xs) h.0.data_is.kept_is in
     let few = length-take longest_arguments (arguments_of (data_of fed)) in
     let none : length window.bytes ≡ 0 = ap (λ (xs : List ℕ). length xs) h.1 in
     omega (arith, kept, few, none)
-phase_holds stage buffer window (Owing o) c is h takes = let clash : false ≡ true = rw is at takes in absurd cc
-phase_holds stage buffer window Awaiting c is h takes = let clash : false ≡ true = rw is at takes in absurd cc
-phase_holds stage buffer window Lost c is h takes = let clash : false ≡ true = rw is at takes in absurd cc
-phase_holds stage buffer window phase c is h takes = absurd h
+phase_holds source stage buffer window (Owing o) c is h takes = let clash : false ≡ true = rw is at takes in absurd cc
+phase_holds source stage buffer window Awaiting c is h takes = let clash : false ≡ true = rw is at takes in absurd cc
+phase_holds source stage buffer window Lost c is h takes = let clash : false ≡ true = rw is at takes in absurd cc
+phase_holds source stage buffer window phase c is h takes = absurd h
 
-holds_arguments : (slot : Slot) (c : Connection) → StandsForConnection slot c → HoldsArguments slot c
-holds_arguments slot c z takes = phase_holds slot.stage slot.buffer slot.window c.phase c refl z.phase takes
+holds_arguments : (source : Source) (slot : Slot) (c : Connection) → StandsForConnection source slot c → HoldsArguments slot c
+holds_arguments source slot c z takes = phase_holds source slot.stage slot.buffer slot.window c.phase c refl z.phase takes
 
 abbrev share : ℕ
 share = 128 + greatest_call + longest_fragment
 
-one_share : (slot : Slot) (c : Connection) → StandsForConnection slot c → IsWithin slot → charge slot + unheld_share * cond (takes_bytes c) 1 0 ≤ share
+one_share : (source : Source) (slot : Slot) (c : Connection) → StandsForConnection source slot c → IsWithin slot → charge slot + unheld_share * cond (takes_bytes c) 1 0 ≤ share
 unfolding longest_reply longest_arguments buffer_size longest_fragment
-one_share slot c z within = by_test (takes_bytes c) refl
+one_share source slot c z within = by_test (takes_bytes c) refl
   where
     by_test : (b : Bool) → takes_bytes c ≡ b → charge slot + unheld_share * cond b 1 0 ≤ share
-    by_test true e = let few = holds_arguments slot c z e in omega (arith, few)
+    by_test true e = let few = holds_arguments source slot c z e in omega (arith, few)
     by_test false e = omega (arith, within)
 
-each_holds : (slots : List Slot) (all : List Connection) → AllZip StandsForConnection slots all → AllZip HoldsArguments slots all
-each_holds [] [] z = tt
-each_holds [] (c ∷ all) z = absurd z
-each_holds (slot ∷ slots) [] z = absurd z
-each_holds (slot ∷ slots) (c ∷ all) z = (holds_arguments slot c z.0, each_holds slots all z.1)
+each_holds : (source : Source) (slots : List Slot) (all : List Connection) → AllZip (StandsForConnection source) slots all → AllZip HoldsArguments slots all
+each_holds source [] [] z = tt
+each_holds source [] (c ∷ all) z = absurd z
+each_holds source (slot ∷ slots) [] z = absurd z
+each_holds source (slot ∷ slots) (c ∷ all) z = (holds_arguments source slot c z.0, each_holds source slots all z.1)
 
-connections_within : (slots : List Slot) (all : List Connection) → AllZip StandsForConnection slots all → All IsWithin slots
+connections_within : (source : Source) (slots : List Slot) (all : List Connection) → AllZip (StandsForConnection source) slots all → All IsWithin slots
     → held_in slots + unheld_share * count_by takes_bytes all ≤ length all * share
-connections_within [] [] z w = omega arith
-connections_within [] (c ∷ all) z w = absurd z
-connections_within (slot ∷ slots) [] z w = absurd z
-connections_within (slot ∷ slots) (c ∷ all) z w =
-    let one = one_share slot c z.0 (All-head IsWithin slot slots w) in
-    let rest = connections_within slots all z.1 (All-tail IsWithin slot slots w) in
+connections_within source [] [] z w = omega arith
+connections_within source [] (c ∷ all) z w = absurd z
+connections_within source (slot ∷ slots) [] z w = absurd z
+connections_within source (slot ∷ slots) (c ∷ all) z w =
+    let one = one_share source slot c z.0 (All-head IsWithin slot slots w) in
+    let rest = connections_within source slots all z.1 (All-tail IsWithin slot slots w) in
     let held = sum_by-cons charge slot slots in
     let counted = sum_by-cons (λ x. cond (takes_bytes x) 1 0) c all in
     omega (arith, one, rest, held, counted)
@@ -155,14 +156,14 @@ held_bytes_are_bounded core s h reached port =
     let kept = reached-kept s reached in
     let rows = reached-short s reached in
     let own : All IsShortRow s.ledger.own = subst (All IsShortRow) (sym rows.0) (own_are_short s.setting.listener port) in
-    let connections = connections_within (values_of core.connections.slots) s.connections.all h.connections.all h.within in
+    let connections = connections_within (source_of core) (values_of core.connections.slots) s.connections.all h.connections.all h.within in
     let room = mul-le-mul_right share (reached-room s reached) in
     let in_rows : held_of_rows (rows_of core.books.registry) ≤ s.setting.limits.rows * (32 + 24) =
     subst (λ n. held_of_rows (rows_of core.books.registry) ≤ n * (32 + 24)) h.limit (rows_within core.books.registry s.ledger.own s.ledger.changes h.ledger.registry own rows.1) in
     let keys = few_keys core.books.stats s.ledger.history h.ledger.stats in
     let calls = calls_within core.books.forwards s.ledger.forwards s.setting.limits.forwards h.ledger.forwards kept.short kept.few in
     record {
-      each = each_holds (values_of core.connections.slots) s.connections.all h.connections.all;
+      each = each_holds (source_of core) (values_of core.connections.slots) s.connections.all h.connections.all;
       whole = omega (arith, connections, room, in_rows, keys, calls, h.short);
     }
 

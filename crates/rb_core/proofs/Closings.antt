@@ -1,12 +1,14 @@
 -- A live connection becomes Lost by the end of a record that is no call or at its deadline, and is gone by its close.
-use Rattle.std.proofs.Common.{◌≡◌, ◌⊎◌, inl, inr, ◌<◌, ◌≤◌, ℕ, ◌+◌, max, Bool, true, false, cond, not, ◌&&◌, ◌||◌, eqb, Option, Some, None, Result, Ok, Err, List, [], ◌∷◌, ◌++◌, take, refl, sym, ap, subst, ◌∙◌, append-nil, arith}
+use Rattle.std.proofs.Common.{◌≡◌, ◌⊎◌, inl, inr, ◌<◌, ◌≤◌, ℕ, ◌+◌, max, Bool, true, false, cond, not, ◌&&◌, ◌||◌, eqb, Option, Some, None, Result, Ok, Err, List, [], ◌∷◌, ◌++◌, length, map, nat_lt, take, refl, sym, ap, subst, ◌∙◌, append-nil, arith}
 use Rattle.std.specs.Prelude.{find}
-use Rattle.std.specs.List.{list_any}
-use Rattle.std.proofs.lemmas.Bool.{and_parts, eqb-true, eq-eqb, ne_eqb}
+use Rattle.std.specs.List.{list_any, list_all}
+use Rattle.std.proofs.lemmas.Bool.{and_parts, eqb-true, eq-eqb, ne_eqb, lt-ltb, ltb-true, ltb-false}
 use Rattle.rb_rpc.specs.Records.{first_record, data_of}
-use Rattle.rb_rpc.specs.declared.peer.Caller.TheVariants.{Tcp}
+use Rattle.rb_rpc.specs.declared.peer.Caller.{Caller}
+use Rattle.rb_rpc.specs.declared.peer.Caller.TheVariants.{Tcp, Udp}
+use Rattle.rb_rpc.specs.declared.peer.Peer.{Peer}
 use Rattle.rb_proto.specs.declared.context.Context.{Context}
-use Rattle.rb_proto.specs.Ledger.{Ledger, called}
+use Rattle.rb_proto.specs.Ledger.{Ledger, rows_in, called}
 use Rattle.rb_core.specs.declared.message.Message.{Message}
 use Rattle.rb_core.specs.declared.message.Message.TheVariants as says
 use Rattle.rb_core.specs.declared.types.CoreFault.{CoreFault}
@@ -14,15 +16,17 @@ use Rattle.rb_core.specs.declared.types.CoreFault.TheVariants.{Gone}
 use Rattle.rb_feed.specs.Feeds.{arguments_of}
 use Rattle.rb_proto.specs.declared.answers.Answer.{Answer}
 use Rattle.rb_proto.specs.declared.answers.Answer.TheVariants as answers
+use Rattle.rb_proto.specs.declared.answers.Results.{Results}
+use Rattle.rb_proto.specs.declared.answers.Results.TheVariants as results
 use Rattle.rb_proto.specs.Answers.{answer}
-use Rattle.rb_core.specs.Calls.{Outcome, is_no_call, message_of, reply_with, outcome}
+use Rattle.rb_core.specs.Calls.{Outcome, is_no_call, message_of, told_results, reply_with, outcome}
 use Rattle.rb_core.specs.Calls.Outcome.{NoCall, Reply, Forwarded, Silent}
 use Rattle.rb_core.specs.Sessions.{IsFinal}
 use Rattle.rb_core.specs.State.{State, Connection, Connections, at_moment}
 use Rattle.rb_core.specs.State.Phase.{Idle}
 use Rattle.rb_core.specs.Connections.{is_lost, has_number, is_live, live_connection, is_there, fed_in, change_first, changed_at, reading, settled, giving, without_number, closing_of}
-use Rattle.rb_core.specs.Step.{Event, Output, Taken, serve_message, serve, dropped_with, bytes, close_connection, output_or, show_taken, show_done, show_expired, step}
-use Rattle.rb_core.specs.Step.Event.{Bytes, Closed, Expire}
+use Rattle.rb_core.specs.Step.{Event, Output, Taken, context_in, with_reply, datagram, show_outcome, serve_message, serve, dropped_with, bytes, close_connection, output_or, show_taken, show_done, show_expired, step}
+use Rattle.rb_core.specs.Step.Event.{Open, Bytes, Pending, Gave, Closed, NextLost, Datagram, Unsent, Sent, Forward, Expire}
 use Rattle.rb_core.specs.Laws.{IsReached, IsLive, IsLeast}
 use Rattle.rb_core.specs.DeadlineLaws.{NoEntryIsDue}
 use Rattle.rb_core.specs.declared.types.Expired.{Expired}
@@ -33,18 +37,21 @@ use Rattle.rb_forward.specs.Forwards.{Entry, Forwards, is_due as entry_is_due, e
 use Rattle.rb_forward.specs.Ends.{NoneIs, EndsFirst}
 use Rattle.rb_forward.proofs.Ends.{ends_first, due_means, due_tested}
 use Rattle.std.specs.Prelude.{All, option_map}
-use Rattle.std.proofs.lemmas.List.Elements.{All-head, All-tail}
+use Rattle.std.proofs.lemmas.List.Elements.{All-head, All-tail, All-nil, All-cons}
 use Rattle.rb_core.proofs.Slots.{none_any}
 use Rattle.rb_core.proofs.Expiring.{AreApart, due-one}
 use Rattle.rb_core.proofs.LeastLost.{first-least}
 use Rattle.rb_core.proofs.DueThings.{Expiry, expiry}
 use Rattle.rb_core.proofs.DueThings.Expiry.{EntryEnds, ConnectionEnds, NothingDue}
-use Rattle.rb_core.specs.Closings.{EndsNoCall, EndsAtDeadline, ClosesExactly, ConnectionsCloseExactly}
-use Rattle.rb_core.proofs.Cuts.{IsFeeding, find-changed, find-holds, number-is, reading-feeds}
+use Rattle.rb_core.specs.Closings.{EndsNoCall, EndsAtDeadline, EndsRecord, Brings, EndsForRoom, ClosesExactly, ConnectionsCloseExactly}
+use Rattle.rb_core.proofs.Cuts.{IsFeeding, find-changed, find-holds, number-is, reading-feeds, fed-no-list}
+use Rattle.rb_core.proofs.Crowding.{crowded, row_within}
+use Rattle.rb_core.proofs.Crowds.{is_lost_one, live_or_lost, lost_stays, plain_lives}
+use Rattle.rb_core.specs.Evictions.{began_in, kept_removals, asks_room, is_crowded, crowding, began_before, evicted, evicting}
 use Rattle.rb_core.proofs.ExactTaking.{fed-none}
-use Rattle.rb_core.proofs.Happenings.{Arriving, arriving, Happening, happening, said_in, find-any}
+use Rattle.rb_core.proofs.Happenings.{Arriving, arriving, Happening, happening, said_in, crowd_at, find-any}
 use Rattle.rb_core.proofs.Happenings.Arriving.{NotThere, NotTaken, ReadOn, Ended}
-use Rattle.rb_core.proofs.Happenings.Happening.{Stays, Opens, Reads, Ends, Gives, Closes, Tells, TimesOut}
+use Rattle.rb_core.proofs.Happenings.Happening.{Stays, Evicts, Opens, Reads, Ends, Gives, Closes, Tells, TimesOut}
 use Rattle.rb_core.proofs.Live.{without, changed-other, closed-other, find-before, answering-feeds, replying-feeds, giving-feeds}
 use Rattle.rb_core.proofs.Reached.{AreSound, SoundIn, live-sound, reached-sound, step-sound, giving-keeps, settled-keeps, lost-keeps, IsSound}
 
@@ -187,6 +194,15 @@ not-due clock (x ∷ all) e none is = by_test (entry_is_due clock x) refl is (no
 
 -- ---- what a message is answered with
 
+-- results are a reply
+results-reply : (caller : Caller) (count xid : ℕ) (bytes : List ℕ) (given : Results) → told_results caller count xid bytes given ≡ NoCall → ⊥
+results-reply (Tcp id peer) count xid bytes (results.Rows list) is = absurd cc
+results-reply (Udp peer) count xid bytes (results.Rows list) is = absurd cc
+results-reply (Tcp id peer) count xid bytes (results.Value value) is = absurd cc
+results-reply (Udp peer) count xid bytes (results.Value value) is = absurd cc
+results-reply (Tcp id peer) count xid bytes results.Statistics is = absurd cc
+results-reply (Udp peer) count xid bytes results.Statistics is = absurd cc
+
 no-call-says : (context : Context) (message : Message) (arguments : List ℕ) (ledger : Ledger) → (outcome context message arguments ledger).0 ≡ NoCall → message ≡ says.NoCall
 unfolding outcome
 no-call-says context says.NoCall arguments ledger is = refl
@@ -195,7 +211,7 @@ no-call-says context (says.Garbage head) arguments ledger is = absurd cc
 no-call-says context (says.Asked call) arguments ledger is = by_answer (answer context call arguments (called call.head ledger)) is
   where
     by_answer : (r : Answer × Ledger) → (reply_with context call.head.xid r).0 ≡ NoCall → says.Asked call ≡ says.NoCall
-    by_answer (answers.Results results, l) is = absurd cc
+    by_answer (answers.Results given, l) is = absurd (results-reply context.caller _ call.head.xid _ given is)
     by_answer (answers.Refused status, l) is = absurd cc
     by_answer (answers.Forwarded, l) is = absurd cc
     by_answer (answers.Silent, l) is = absurd cc
@@ -210,15 +226,81 @@ none-said s at id c record_bytes is = ap (λ (m : Message). (serve_message (at_m
 
 pub final-call : (said : Outcome) → IsFinal said → is_no_call said ≡ false
 final-call NoCall f = absurd f
-final-call (Reply reply) f = refl
+final-call (Reply reply began) f = refl
 final-call Forwarded f = absurd f
 final-call Silent f = refl
+
+-- ---- the room of a row
+
+all-later : (n : ℕ) (changes : List ℕ) → list_all (λ later. nat_lt n later) changes ≡ true → All (λ change. n < change) changes
+all-later n [] is = All-nil (λ change. n < change)
+all-later n (x ∷ xs) is = let parts = and_parts (nat_lt n x) (list_all (λ later. nat_lt n later) xs) is in All-cons (λ change. n < change) x xs (ltb-true n x parts.0) (all-later n xs parts.1)
+
+later-all : (n : ℕ) (changes : List ℕ) → All (λ change. n < change) changes → list_all (λ later. nat_lt n later) changes ≡ true
+later-all n [] h = refl
+later-all n (x ∷ xs) h =
+    let first : nat_lt n x ≡ true = lt-ltb n x (All-head (λ change. n < change) x xs h) in
+    let rest = later-all n xs (All-tail (λ change. n < change) x xs h) in
+    rw (first, rest) refl
+
+-- a connection whose list is in the way
+record InTheWay (changes : List ℕ) (began : Option ℕ) : Type 0 where
+  n : ℕ
+  is : began ≡ Some n
+  later : All (λ change. n < change) changes
+
+in-the-way : (changes : List ℕ) (began : Option ℕ) → began_before changes began ≡ true → InTheWay changes began
+in-the-way [] began is = absurd cc
+in-the-way (x ∷ xs) None is = absurd cc
+in-the-way (x ∷ xs) (Some n) is = record { n = n; is = refl; later = all-later n (x ∷ xs) is }
+
+way-of : (changes : List ℕ) (began : Option ℕ) (n : ℕ) → began ≡ Some n → 0 < length changes → All (λ change. n < change) changes → began_before changes began ≡ true
+way-of [] began n is some later = absurd (omega (arith, some))
+way-of (x ∷ xs) began n is some later = rw is (later-all n (x ∷ xs) later)
+
+asks-within : (context : Context) (message : Message) (l : Ledger) → asks_room context message l ≡ true → length (rows_in l) < context.limit
+asks-within context (says.Asked call) l is = row_within context call (rows_in l) (length l.changes) is
+asks-within context says.NoCall l is = absurd cc
+asks-within context (says.Refused head) l is = absurd cc
+asks-within context (says.Garbage head) l is = absurd cc
+
+is-false-too : (b : Bool) → not b ≡ true → b ≡ false
+is-false-too true h = absurd cc
+is-false-too false h = refl
+
+-- where something is in the way, room is asked for and there is none
+record IsCrowding (context : Context) (message : Message) (all : List Connection) (l : Ledger) (c : Connection) : Type 0 where
+  asks : asks_room context message l ≡ true
+  full : context.limit ≤ length (rows_in l) + length (kept_removals all l)
+  way : InTheWay (kept_removals all l) (began_in c.phase)
+
+crowds : (context : Context) (message : Message) (all : List Connection) (l : Ledger) (c : Connection) → began_before (crowding context message all l) (began_in c.phase) ≡ true → IsCrowding context message all l c
+unfolding crowding
+crowds context message all l c is = by_test (asks_room context message l) refl (is_crowded context.limit all l) refl is
+  where
+    by_test : (a : Bool) → asks_room context message l ≡ a → (b : Bool) → is_crowded context.limit all l ≡ b
+        → began_before (cond (a && b) (kept_removals all l) []) (began_in c.phase) ≡ true → IsCrowding context message all l c
+    by_test true asks true full way = record {
+      asks = asks;
+      full = ltb-false _ context.limit (is-false-too (nat_lt (length (rows_in l) + length (kept_removals all l)) context.limit) full);
+      way = in-the-way (kept_removals all l) (began_in c.phase) way;
+    }
+    by_test true asks false full way = absurd cc
+    by_test false asks b full way = absurd cc
+
+lost-there : (id : ℕ) (all : List Connection) → lost_in id all ≡ true → there_in id all ≡ true
+lost-there id [] is = absurd cc
+lost-there id (d ∷ all) is = by_number (eqb d.number id) is (lost-there id all)
+  where
+    by_number : (b : Bool) → ((b && is_lost d.phase) || lost_in id all) ≡ true → (lost_in id all ≡ true → there_in id all ≡ true) → (b || there_in id all) ≡ true
+    by_number true h later = refl
+    by_number false h later = later h
 
 -- ---- what becomes of the live connection of a number
 
 data Fate (s : State) (id : ℕ) (c : Connection) (event : Event) (now : Connections) : Type 0 where
   Lives : (d : Connection) → find (is_live id) now.all ≡ Some d → Fate s id c event now
-  Loses : EndsNoCall id c event ⊎ EndsAtDeadline s id c event → there_in id now.all ≡ true → Fate s id c event now
+  Loses : EndsNoCall id c event ⊎ EndsAtDeadline s id c event ⊎ EndsForRoom s c event → there_in id now.all ≡ true → Fate s id c event now
   Leaves : event ≡ Closed id → lost_in id now.all ≡ false → Fate s id c event now
 
 module _ (s : State) (sound : IsSound s) (id : ℕ) (c : Connection) (there : find (is_live id) s.connections.all ≡ Some c) where
@@ -234,14 +316,51 @@ module _ (s : State) (sound : IsSound s) (id : ℕ) (c : Connection) (there : fi
   on-this : (event : Event) (f : Connection → Connection) (now : Connections) → IsFeeding id f → now ≡ changed_at id f s.connections → Fate s id c event now
   on-this event f now feeds same = Lives (f c) (ap (λ (x : Connections). find (is_live id) x.all) same ∙ find-changed id f feeds s.connections.all c there)
 
-  ends-here : (at : ℕ) (piece fed : List ℕ) (n : ℕ) (now : Connections) → fed_in c.phase ≡ Some fed → first_record (fed ++ piece) ≡ Some n → (said : Outcome) → said_in s at id c (take n (fed ++ piece)) ≡ said
-      → now ≡ changed_at id (settled (max s.clock at) said) s.connections → Fate s id c (Bytes at id piece) now
-  ends-here at piece fed n now feeds some (Reply reply) says_so same = on-this (Bytes at id piece) (settled (max s.clock at) (Reply reply)) now (replying-feeds id (max s.clock at) reply) same
-  ends-here at piece fed n now feeds some Forwarded says_so same = on-this (Bytes at id piece) (settled (max s.clock at) Forwarded) now (answering-feeds id (max s.clock at) Forwarded refl) same
-  ends-here at piece fed n now feeds some Silent says_so same = on-this (Bytes at id piece) (settled (max s.clock at) Silent) now (answering-feeds id (max s.clock at) Silent refl) same
-  ends-here at piece fed n now feeds some NoCall says_so same =
+  for-room : (event : Event) (at : ℕ) (caller : Caller) (content : List ℕ) → Brings s event at caller content → began_before (crowd_at s at caller content) (began_in c.phase) ≡ true → EndsForRoom s c event
+  for-room event at caller content brings way =
+      let crowd = crowds (context_in (at_moment at s) caller) (message_of content) s.connections.all s.ledger c way in
+      record {
+        now = at;
+        caller = caller;
+        content = content;
+        brings = brings;
+        asks = crowd.asks;
+        full = crowd.full;
+        began = crowd.way.n;
+        lists = crowd.way.is;
+        before = crowd.way.later;
+      }
+
+  gives-way : (event : Event) (at : ℕ) (caller : Caller) (content : List ℕ) → Brings s event at caller content → (now : Connections) → now ≡ evicting (crowd_at s at caller content) s.connections → Fate s id c event now
+  gives-way event at caller content brings now same = elim (live_or_lost id (crowd_at s at caller content) s.connections.all c there) [
+    | inl stays ↦ Lives c (ap (λ (x : Connections). find (is_live id) x.all) same ∙ stays.1)
+    | inr goes ↦ Loses (inr (inr (for-room event at caller content brings goes.0))) (ap (λ (x : Connections). there_in id x.all) same ∙ lost-there id _ goes.1)
+  ]
+
+  -- where another's record is answered
+  gives-way-to : (event : Event) (at k : ℕ) (caller : Caller) (content : List ℕ) → Brings s event at caller content → (f : Connection → Connection) → ((d : Connection) → (f d).number ≡ d.number) → eqb k id ≡ false
+      → (now : Connections) → now ≡ changed_at k f (evicting (crowd_at s at caller content) s.connections) → Fate s id c event now
+  gives-way-to event at k caller content brings f keeps e now same = elim (live_or_lost id (crowd_at s at caller content) s.connections.all c there) [
+    | inl stays ↦ Lives c (ap (λ (x : Connections). find (is_live id) x.all) same ∙ changed-other id k f keeps e (map (evicted (crowd_at s at caller content)) s.connections.all) ∙ stays.1)
+    | inr goes ↦
+        Loses (inr (inr (for-room event at caller content brings goes.0)))
+        (ap (λ (x : Connections). there_in id x.all) same ∙ lost-there id _ (lost_stays id k f keeps e (map (evicted (crowd_at s at caller content)) s.connections.all) goes.1))
+  ]
+
+  still-this : (event : Event) (changes fed : List ℕ) (f : Connection → Connection) (now : Connections) → fed_in c.phase ≡ Some fed → IsFeeding id f → now ≡ changed_at id f (evicting changes s.connections) → Fate s id c event now
+  still-this event changes fed f now feeds feeding same =
+      Lives (f c) (ap (λ (x : Connections). find (is_live id) x.all) same
+      ∙ find-changed id f feeding (map (evicted changes) s.connections.all) c (plain_lives id changes s.connections.all c there (fed-no-list c.phase fed feeds)))
+
+  ends-here : (at : ℕ) (piece fed changes : List ℕ) (n : ℕ) (now : Connections) → fed_in c.phase ≡ Some fed → first_record (fed ++ piece) ≡ Some n → (said : Outcome) → said_in s at id c (take n (fed ++ piece)) ≡ said
+      → now ≡ changed_at id (settled (max s.clock at) said) (evicting changes s.connections) → Fate s id c (Bytes at id piece) now
+  ends-here at piece fed changes n now feeds some (Reply reply began) says_so same = still-this (Bytes at id piece) changes fed (settled (max s.clock at) (Reply reply began)) now feeds (replying-feeds id (max s.clock at) reply began) same
+  ends-here at piece fed changes n now feeds some Forwarded says_so same = still-this (Bytes at id piece) changes fed (settled (max s.clock at) Forwarded) now feeds (answering-feeds id (max s.clock at) Forwarded refl) same
+  ends-here at piece fed changes n now feeds some Silent says_so same = still-this (Bytes at id piece) changes fed (settled (max s.clock at) Silent) now feeds (answering-feeds id (max s.clock at) Silent refl) same
+  ends-here at piece fed changes n now feeds some NoCall says_so same =
       Loses (inl (record { now = at; piece = piece; is = refl; fed = fed; takes = feeds; n = n; ends = some; no_call = said-none s at id c (take n (fed ++ piece)) says_so }))
-      (ap (λ (x : Connections). there_in id x.all) same ∙ (now-lost id (settled (max s.clock at) NoCall) (losing (max s.clock at)) s.connections.all c there).1)
+      (ap (λ (x : Connections). there_in id x.all) same
+      ∙ (now-lost id (settled (max s.clock at) NoCall) (losing (max s.clock at)) (map (evicted changes) s.connections.all) c (plain_lives id changes s.connections.all c there (fed-no-list c.phase fed feeds))).1)
 
   reads-at : (at k : ℕ) (piece fed : List ℕ) (now : Connections) → now ≡ changed_at k (reading (max s.clock at) (fed ++ piece)) s.connections → (b : Bool) → eqb k id ≡ b → (event : Event) → Fate s id c event now
   unfolding reading
@@ -251,16 +370,20 @@ module _ (s : State) (sound : IsSound s) (id : ℕ) (c : Connection) (there : fi
       (same ∙ ap (λ (j : ℕ). changed_at j (reading (max s.clock at) (fed ++ piece)) s.connections) (eqb-true k id e))
 
   ends-at : (at k : ℕ) (piece : List ℕ) (d : Connection) (fed : List ℕ) (n : ℕ) (now : Connections) → live_connection k s.connections.all ≡ Some d → fed_in d.phase ≡ Some fed → first_record (fed ++ piece) ≡ Some n
-      → now ≡ changed_at k (settled (max s.clock at) (said_in s at k d (take n (fed ++ piece)))) s.connections → (b : Bool) → eqb k id ≡ b → Fate s id c (Bytes at k piece) now
+      → now ≡ changed_at k (settled (max s.clock at) (said_in s at k d (take n (fed ++ piece)))) (evicting (crowd_at s at (Tcp k d.peer) (data_of (take n (fed ++ piece)))) s.connections)
+      → (b : Bool) → eqb k id ≡ b → Fate s id c (Bytes at k piece) now
   ends-at at k piece d fed n now here feeds some same false e =
-      on-another (Bytes at k piece) k (settled (max s.clock at) (said_in s at k d (take n (fed ++ piece)))) now (settled-keeps (max s.clock at) (said_in s at k d (take n (fed ++ piece)))).number e same
+      gives-way-to (Bytes at k piece) at k (Tcp k d.peer) (data_of (take n (fed ++ piece)))
+      (refl, record { connection = d; live = here; fed = fed; takes = feeds; n = n; ends = some; caller_is = refl; content_is = refl })
+      (settled (max s.clock at) (said_in s at k d (take n (fed ++ piece)))) (settled-keeps (max s.clock at) (said_in s at k d (take n (fed ++ piece)))).number e now same
   ends-at at k piece d fed n now here feeds some same true e =
       let number : k ≡ id = eqb-true k id e in
       let one : d ≡ c = same-one k d here number in
+      let crowd : List ℕ = crowd_at s at (Tcp k d.peer) (data_of (take n (fed ++ piece))) in
       subst (λ (j : ℕ). Fate s id c (Bytes at j piece) now) (sym number)
-      (ends-here at piece fed n now (ap (λ (x : Connection). fed_in x.phase) (sym one) ∙ feeds) some (said_in s at id c (take n (fed ++ piece))) refl
-      (same ∙ ap (λ (j : ℕ). changed_at j (settled (max s.clock at) (said_in s at j d (take n (fed ++ piece)))) s.connections) number
-      ∙ ap (λ (x : Connection). changed_at id (settled (max s.clock at) (said_in s at id x (take n (fed ++ piece)))) s.connections) one))
+      (ends-here at piece fed crowd n now (ap (λ (x : Connection). fed_in x.phase) (sym one) ∙ feeds) some (said_in s at id c (take n (fed ++ piece))) refl
+      (same ∙ ap (λ (j : ℕ). changed_at j (settled (max s.clock at) (said_in s at j d (take n (fed ++ piece)))) (evicting crowd s.connections)) number
+      ∙ ap (λ (x : Connection). changed_at id (settled (max s.clock at) (said_in s at id x (take n (fed ++ piece)))) (evicting crowd s.connections)) one))
 
   gives-at : (at k n : ℕ) (now : Connections) → now ≡ changed_at k (λ x. (giving (max s.clock at) n x).1) s.connections → (b : Bool) → eqb k id ≡ b → (event : Event) → Fate s id c event now
   gives-at at k n now same false e event = on-another event k (λ x. (giving (max s.clock at) n x).1) now (giving-keeps (max s.clock at) n).number e same
@@ -281,13 +404,13 @@ module _ (s : State) (sound : IsSound s) (id : ℕ) (c : Connection) (there : fi
       let number : d.number ≡ id = eqb-true d.number id e in
       let here : find (is_live d.number) s.connections.all ≡ Some c = ap (λ (k : ℕ). find (is_live k) s.connections.all) number ∙ there in
       let one : c ≡ d = due-one (max s.clock at) s.connections.all c d (sound-apart 0 s.connections.next s.connections.all sound) found here in
-      Loses (inr (record {
+      Loses (inr (inl (record {
         now = at;
         is = refl;
         due = ap (is_due (max s.clock at)) one ∙ find-holds (is_due (max s.clock at)) s.connections.all d found;
         entries = none-are-due (max s.clock at) s.ledger.forwards none;
         least = subst (λ (k : ℕ). All (λ (x : Connection). is_due (max s.clock at) x ≡ true → k ≤ x.number) s.connections.all) number (due-least (max s.clock at) 0 s.connections.next s.connections.all d sound found);
-      }))
+      })))
       (ap (λ (x : Connections). there_in id x.all) (same ∙ ap (λ (k : ℕ). changed_at k lost s.connections) number) ∙ (now-lost id lost timing-out s.connections.all c there).1)
 
   closes-at : (k : ℕ) (now : Connections) → now.all ≡ without k s.connections.all → (b : Bool) → eqb k id ≡ b → Fate s id c (Closed k) now
@@ -299,6 +422,8 @@ module _ (s : State) (sound : IsSound s) (id : ℕ) (c : Connection) (there : fi
   fate : (event : Event) (output : Output) (now : Connections) → Happening s event output now → Fate s id c event now
   unfolding without_number
   fate event output now (Stays q same) = Lives c (ap (λ (x : Connections). find (is_live id) x.all) same ∙ there)
+  fate event output now (Evicts at peer content is q same) =
+      subst (λ (ev : Event). Fate s id c ev now) (sym is) (gives-way (Datagram at peer content) at (Udp peer) content (refl, refl, refl) now same)
   fate event output now (Opens at peer is out same) =
       Lives c (ap (λ (x : Connections). find (is_live id) x.all) same
       ∙ find-before (is_live id) s.connections.all c (record { number = s.connections.next; peer = peer; phase = Idle; mark = max s.clock at }) there)
@@ -347,9 +472,10 @@ module _ (s : State) (reached : IsReached s) (id : ℕ) (c : Connection) (there 
       let bytes_are : take m (other ++ piece) ≡ take n (fed ++ piece) = ap (λ (k : ℕ). take k (other ++ piece)) count ∙ ap (λ (xs : List ℕ). take n (xs ++ piece)) same in
       let said : said_in s now id d (take m (other ++ piece)) ≡ NoCall =
       ap (λ (xs : List ℕ). said_in s now id d xs) bytes_are ∙ none-said s now id d (take n (fed ++ piece)) no_call in
+      let crowd : List ℕ = crowd_at s now (Tcp id d.peer) (data_of (take m (other ++ piece))) in
       ap (λ (x : Result Taken CoreFault × State). lost_in id (output_or show_taken x).1.connections.all) is
-      ∙ ap (λ (o : Outcome). lost_in id (change_first (is_live id) (settled (max s.clock now) o) s.connections.all)) said
-      ∙ (now-lost id (settled (max s.clock now) NoCall) (losing (max s.clock now)) s.connections.all c found).0
+      ∙ ap (λ (o : Outcome). lost_in id (change_first (is_live id) (settled (max s.clock now) o) (map (evicted crowd) s.connections.all))) said
+      ∙ (now-lost id (settled (max s.clock now) NoCall) (losing (max s.clock now)) (map (evicted crowd) s.connections.all) c (plain_lives id crowd s.connections.all c found (fed-no-list c.phase fed takes))).0
 
   lost-at : (now : ℕ) (piece fed : List ℕ) (n : ℕ) → fed_in c.phase ≡ Some fed → first_record (fed ++ piece) ≡ Some n → message_of (data_of (take n (fed ++ piece))) ≡ says.NoCall
       → lost_in id (step s (Bytes now id piece)).1.connections.all ≡ true
@@ -381,9 +507,97 @@ module _ (s : State) (reached : IsReached s) (id : ℕ) (c : Connection) (there 
   unfolding step
   timed-out-at at due entries least = times-out at due entries least (expire s at) (expiry s at)
 
-  lost-by-either : (event : Event) → EndsNoCall id c event ⊎ EndsAtDeadline s id c event → lost_in id (step s event).1.connections.all ≡ true
+  -- for room
+  crowded-out : (at : ℕ) (caller : Caller) (content : List ℕ) → asks_room (context_in (at_moment at s) caller) (message_of content) s.ledger ≡ true
+      → s.setting.limits.rows ≤ length (rows_in s.ledger) + length (kept_removals s.connections.all s.ledger) → (n : ℕ) → began_in c.phase ≡ Some n → All (λ change. n < change) (kept_removals s.connections.all s.ledger)
+      → list_any (is_lost_one id) (map (evicted (crowd_at s at caller content)) s.connections.all) ≡ true
+  crowded-out at caller content asks full n lists before =
+      let crowd = crowded (context_in (at_moment at s) caller) (message_of content) s.connections.all s.ledger asks full in
+      let within = asks-within (context_in (at_moment at s) caller) (message_of content) s.ledger asks in
+      let way : began_before (crowd_at s at caller content) (began_in c.phase) ≡ true =
+      ap (λ (xs : List ℕ). began_before xs (began_in c.phase)) crowd ∙ way-of (kept_removals s.connections.all s.ledger) (began_in c.phase) n lists (omega (arith, within, full)) before in
+      elim (live_or_lost id (crowd_at s at caller content) s.connections.all c found) [
+        | inl stays ↦ let clash : true ≡ false = sym way ∙ stays.0 in absurd cc
+        | inr goes ↦ goes.1
+      ]
+
+  shown-leaves : (r : Outcome × State) → (show_outcome (with_reply r)).1.connections ≡ r.1.connections
+  shown-leaves (NoCall, t) = refl
+  shown-leaves (Reply reply began, t) = refl
+  shown-leaves (Forwarded, t) = refl
+  shown-leaves (Silent, t) = refl
+
+  after-datagram : (at : ℕ) (peer : Peer) (content : List ℕ) → (step s (Datagram at peer content)).1.connections ≡ evicting (crowd_at s at (Udp peer) content) s.connections
+  unfolding step datagram serve
+  after-datagram at peer content = shown-leaves (serve (at_moment at s) (Udp peer) content)
+
+  listing-elsewhere : (k n : ℕ) (d : Connection) (fed : List ℕ) → live_connection k s.connections.all ≡ Some d → fed_in d.phase ≡ Some fed → began_in c.phase ≡ Some n → (b : Bool) → eqb k id ≡ b → eqb k id ≡ false
+  listing-elsewhere k n d fed here feeds lists false e = e
+  listing-elsewhere k n d fed here feeds lists true e =
+      let who : d ≡ c = one d (ap (λ (j : ℕ). live_connection j s.connections.all) (sym (eqb-true k id e)) ∙ here) in
+      absurd (none-some n (sym (fed-no-list d.phase fed feeds) ∙ ap (λ (x : Connection). began_in x.phase) who ∙ lists))
+
+  way-at : (at k n : ℕ) (piece : List ℕ) (caller : Caller) (content : List ℕ) → EndsRecord s k piece caller content → began_in c.phase ≡ Some n
+      → list_any (is_lost_one id) (map (evicted (crowd_at s at caller content)) s.connections.all) ≡ true
+      → (r : Result Taken CoreFault × State) → Arriving s at k piece r → lost_in id (output_or show_taken r).1.connections.all ≡ true
+  unfolding serve
+  way-at at k n piece caller content e lists goes r (NotThere gone is) = absurd (none-some e.connection (sym gone ∙ e.live))
+  way-at at k n piece caller content e lists goes r (NotTaken d here (inl none) is) =
+      absurd (none-some e.fed (sym none ∙ ap (λ (x : Connection). fed_in x.phase) (some-is d e.connection (sym here ∙ e.live)) ∙ e.takes))
+  way-at at k n piece caller content e lists goes r (NotTaken d here (inr empty) is) =
+      let none : first_record e.fed ≡ None = fed-none e.connection.phase (live-sound s reached k e.connection e.live) e.fed e.takes in
+      absurd (none-some e.n (sym none ∙ ap first_record (sym (ap (λ (xs : List ℕ). e.fed ++ xs) empty ∙ append-nil e.fed)) ∙ e.ends))
+  way-at at k n piece caller content e lists goes r (ReadOn d other here feeds none is) =
+      let same : other ≡ e.fed = some-is other e.fed (sym feeds ∙ ap (λ (x : Connection). fed_in x.phase) (some-is d e.connection (sym here ∙ e.live)) ∙ e.takes) in
+      absurd (none-some e.n (sym none ∙ ap (λ (xs : List ℕ). first_record (xs ++ piece)) same ∙ e.ends))
+  way-at at k n piece caller content e lists goes r (Ended d other m here feeds some is) =
+      let who : d ≡ e.connection = some-is d e.connection (sym here ∙ e.live) in
+      let same : other ≡ e.fed = some-is other e.fed (sym feeds ∙ ap (λ (x : Connection). fed_in x.phase) who ∙ e.takes) in
+      let count : m ≡ e.n = some-is m e.n (sym some ∙ ap (λ (xs : List ℕ). first_record (xs ++ piece)) same ∙ e.ends) in
+      let bytes_are : take m (other ++ piece) ≡ take e.n (e.fed ++ piece) = ap (λ (k : ℕ). take k (other ++ piece)) count ∙ ap (λ (xs : List ℕ). take e.n (xs ++ piece)) same in
+      let crowd : crowd_at s at (Tcp k d.peer) (data_of (take m (other ++ piece))) ≡ crowd_at s at caller content =
+      ap (λ (x : Connection). crowd_at s at (Tcp k x.peer) (data_of (take m (other ++ piece)))) who
+      ∙ ap (λ (xs : List ℕ). crowd_at s at (Tcp k e.connection.peer) (data_of xs)) bytes_are
+      ∙ ap (λ (x : Caller). crowd_at s at x (data_of (take e.n (e.fed ++ piece)))) (sym e.caller_is)
+      ∙ ap (λ (xs : List ℕ). crowd_at s at caller xs) (sym e.content_is) in
+      let apart : eqb k id ≡ false = listing-elsewhere k n d other here feeds lists (eqb k id) refl in
+      ap (λ (x : Result Taken CoreFault × State). lost_in id (output_or show_taken x).1.connections.all) is
+      ∙ ap (λ (xs : List ℕ). lost_in id (change_first (is_live k) (settled (max s.clock at) (said_in s at k d (take m (other ++ piece)))) (map (evicted xs) s.connections.all))) crowd
+      ∙ lost_stays id k (settled (max s.clock at) (said_in s at k d (take m (other ++ piece)))) (settled-keeps (max s.clock at) (said_in s at k d (take m (other ++ piece)))).number apart
+      (map (evicted (crowd_at s at caller content)) s.connections.all) goes
+
+  lost-by-bytes : (at k n : ℕ) (piece : List ℕ) (caller : Caller) (content : List ℕ) → EndsRecord s k piece caller content → began_in c.phase ≡ Some n
+      → list_any (is_lost_one id) (map (evicted (crowd_at s at caller content)) s.connections.all) ≡ true → lost_in id (step s (Bytes at k piece)).1.connections.all ≡ true
+  unfolding step
+  lost-by-bytes at k n piece caller content e lists goes = way-at at k n piece caller content e lists goes (bytes s at k piece) (arriving s at k piece)
+
+  room-at : (event : Event) (at n : ℕ) (caller : Caller) (content : List ℕ) → Brings s event at caller content → began_in c.phase ≡ Some n
+      → list_any (is_lost_one id) (map (evicted (crowd_at s at caller content)) s.connections.all) ≡ true → lost_in id (step s event).1.connections.all ≡ true
+  room-at (Datagram now peer content) at n caller bytes brings lists goes =
+      ap (λ (x : Connections). lost_in id x.all) (after-datagram now peer content)
+      ∙ ap (λ (j : ℕ). lost_in id (map (evicted (crowd_at s j (Udp peer) content)) s.connections.all)) (sym brings.0)
+      ∙ ap (λ (x : Caller). lost_in id (map (evicted (crowd_at s at x content)) s.connections.all)) (sym brings.1)
+      ∙ ap (λ (xs : List ℕ). lost_in id (map (evicted (crowd_at s at caller xs)) s.connections.all)) (sym brings.2)
+      ∙ goes
+  room-at (Bytes now k piece) at n caller content brings lists goes =
+      subst (λ (j : ℕ). lost_in id (step s (Bytes j k piece)).1.connections.all ≡ true) brings.0 (lost-by-bytes at k n piece caller content brings.1 lists goes)
+  room-at (Open at peer) now n caller content brings lists goes = absurd brings
+  room-at (Pending k) now n caller content brings lists goes = absurd brings
+  room-at (Gave at k m) now n caller content brings lists goes = absurd brings
+  room-at (Closed k) now n caller content brings lists goes = absurd brings
+  room-at NextLost now n caller content brings lists goes = absurd brings
+  room-at Unsent now n caller content brings lists goes = absurd brings
+  room-at (Sent number) now n caller content brings lists goes = absurd brings
+  room-at (Forward at from message) now n caller content brings lists goes = absurd brings
+  room-at (Expire at) now n caller content brings lists goes = absurd brings
+
+  lost-by-room : (event : Event) → EndsForRoom s c event → lost_in id (step s event).1.connections.all ≡ true
+  lost-by-room event e = room-at event e.now e.began e.caller e.content e.brings e.lists (crowded-out e.now e.caller e.content e.asks e.full e.began e.lists e.before)
+
+  lost-by-either : (event : Event) → EndsNoCall id c event ⊎ EndsAtDeadline s id c event ⊎ EndsForRoom s c event → lost_in id (step s event).1.connections.all ≡ true
   lost-by-either event (inl e) = lost-by event e
-  lost-by-either event (inr e) = subst (λ (ev : Event). lost_in id (step s ev).1.connections.all ≡ true) (sym e.is) (timed-out-at e.now e.due e.entries e.least)
+  lost-by-either event (inr (inr e)) = lost-by-room event e
+  lost-by-either event (inr (inl e)) = subst (λ (ev : Event). lost_in id (step s ev).1.connections.all ≡ true) (sym e.is) (timed-out-at e.now e.due e.entries e.least)
 
   abbrev closed_or : Bool → Result (Unit {0}) CoreFault × Connections
   closed_or b = cond b (Ok tt, without_number id s.connections) (Err Gone, s.connections)
@@ -400,7 +614,7 @@ module _ (s : State) (reached : IsReached s) (id : ℕ) (c : Connection) (there 
   gone-by : (event : Event) → event ≡ Closed id → there_in id (step s event).1.connections.all ≡ false
   gone-by event is = subst (λ (ev : Event). there_in id (step s ev).1.connections.all ≡ false) (sym is) gone-at
 
-  lost-only : (event : Event) (now : Connections) → SoundIn now → Fate s id c event now → lost_in id now.all ≡ true → EndsNoCall id c event ⊎ EndsAtDeadline s id c event
+  lost-only : (event : Event) (now : Connections) → SoundIn now → Fate s id c event now → lost_in id now.all ≡ true → EndsNoCall id c event ⊎ EndsAtDeadline s id c event ⊎ EndsForRoom s c event
   lost-only event now sound (Lives d live) lost = let none = live-not-lost id 0 now.next now.all d sound live in absurd cc
   lost-only event now sound (Loses e t) lost = e
   lost-only event now sound (Leaves is none) lost = absurd cc

@@ -1,5 +1,5 @@
 -- Bytes in two pieces.
-use Rattle.std.proofs.Common.{◌≡◌, ℕ, ◌+◌, ◌-◌, ◌<◌, max, Bool, true, false, cond, not, ◌&&◌, eqb, Option, Some, None, Result, Ok, Err, List, [], ◌∷◌, ◌++◌, length, take, refl, sym, ap, ◌∙◌, append_assoc, append-nil, arith}
+use Rattle.std.proofs.Common.{◌≡◌, ℕ, ◌+◌, ◌-◌, ◌<◌, max, Bool, true, false, cond, not, ◌&&◌, eqb, Option, Some, None, Result, Ok, Err, List, [], ◌∷◌, ◌++◌, length, map, take, refl, sym, ap, ◌∙◌, append_assoc, append-nil, arith}
 use Rattle.std.specs.Prelude.{find, IfSome}
 use Rattle.std.proofs.lemmas.List.{length-append}
 use Rattle.std.proofs.lemmas.Bool.{and_parts, eqb-true}
@@ -14,6 +14,10 @@ use Rattle.rb_core.specs.State.{State, Connection, Phase, at_moment}
 use Rattle.rb_core.specs.State.Phase.{Idle, Reading, Owing, Awaiting, Lost}
 use Rattle.rb_core.specs.Connections.{is_live, is_lost, live_connection, change_first, reading, settled, fed_in, taking, taking_up_to, taking_behind}
 use Rattle.rb_core.specs.Step.{Taken, serve, on_connection, answering, when_taken, bytes_to, bytes}
+use Rattle.rb_core.specs.Evictions.{began_in, crowding, evicted}
+use Rattle.rb_core.specs.Calls.{message_of}
+use Rattle.rb_core.specs.Step.{context_in}
+use Rattle.rb_core.proofs.Crowds.{begins_changed, evicted_changed, crowding_alike}
 use Rattle.rb_core.specs.Laws.{SameInOnePiece, CutsDoNotMatter, one_after_another}
 
 -- ---- a connection that is fed further
@@ -46,15 +50,32 @@ changed-twice id f g h feeds same (d ∷ all) = by_test (is_live id d) refl (cha
     by_test true e later = rw (e, feeds.live d e) (ap (λ x. x ∷ all) (same d))
     by_test false e later = rw (e, e) (ap (λ xs. d ∷ xs) later)
 
--- a message is answered as it was, with the change
-answering-along : (id : ℕ) (f : Connection → Connection) (s : State) (peer : Peer) (content : List ℕ) → IsFeeding id f
-    → ((clock : ℕ) (said : Outcome) (c : Connection) → settled clock said (f c) ≡ settled clock said c)
+-- a message is answered as it was, with the change of a connection that has no list
+answering-along : (id : ℕ) (f : Connection → Connection) (s : State) (peer : Peer) (content : List ℕ) (c : Connection) → find (is_live id) s.connections.all ≡ Some c → began_in c.phase ≡ None → began_in (f c).phase ≡ None
+    → is_live id (f c) ≡ true → ((clock : ℕ) (said : Outcome) → settled clock said (f c) ≡ settled clock said c)
     → answering (on_connection id f s) id peer content ≡ answering s id peer content
 unfolding answering serve
-answering-along id f s peer content feeds same =
+answering-along id f s peer content c there none still live same =
     let r = serve s (Tcp id peer) content in
-    let twice = changed-twice id f (settled s.clock r.0) (settled s.clock r.0) feeds (same s.clock r.0) s.connections.all in
+    let changes : List ℕ = crowding (context_in s (Tcp id peer)) (message_of content) s.connections.all s.ledger in
+    let crowd = crowding_alike (context_in s (Tcp id peer)) (message_of content) (change_first (is_live id) f s.connections.all) s.connections.all s.ledger (begins_changed id f s.connections.all c there none still) in
+    let twice : change_first (is_live id) (settled s.clock r.0) (map (evicted (crowding (context_in s (Tcp id peer)) (message_of content) (change_first (is_live id) f s.connections.all) s.ledger)) (change_first (is_live id) f s.connections.all))
+    ≡ change_first (is_live id) (settled s.clock r.0) (map (evicted changes) s.connections.all) =
+    ap (λ (ns : List ℕ). change_first (is_live id) (settled s.clock r.0) (map (evicted ns) (change_first (is_live id) f s.connections.all))) crowd
+    ∙ evicted_changed id f (settled s.clock r.0) changes s.connections.all c there none still live (same s.clock r.0) in
     ap (λ (xs : List Connection). (is_no_call r.0, record r.1 { connections = record s.connections { all = xs } })) twice
+
+-- a connection that is fed has none
+pub fed-no-list : (p : Phase) (fed : List ℕ) → fed_in p ≡ Some fed → began_in p ≡ None
+fed-no-list Idle fed feeds = refl
+fed-no-list (Reading xs) fed feeds = refl
+fed-no-list (Owing o) fed feeds = absurd cc
+fed-no-list Awaiting fed feeds = refl
+fed-no-list Lost fed feeds = refl
+
+reading-no-list : (clock : ℕ) (fed : List ℕ) (c : Connection) → began_in (reading clock fed c).phase ≡ None
+unfolding reading
+reading-no-list clock fed c = refl
 
 -- ---- moments
 
@@ -165,9 +186,15 @@ record Same (one : Result Taken CoreFault × State) (before : ℕ) (rest : Resul
 abbrev ended : ℕ → Bool × State → Result Taken CoreFault × State
 ended n r = (Ok (record { count = n; closed = r.0 }), r.1)
 
-fed-cut : (t : State) (id : ℕ) (c : Connection) (fed first second : List ℕ) (m : Option ℕ) → ((n : ℕ) → m ≡ Some n → length (fed ++ first) < n)
+along-fed : (t : State) (id : ℕ) (front : List ℕ) (peer : Peer) (whole : List ℕ) (c : Connection) → live_connection id t.connections.all ≡ Some c → began_in c.phase ≡ None → answering (fed_on t id front) id peer whole ≡ answering t id peer whole
+unfolding live_connection
+along-fed t id front peer whole c here none =
+    answering-along id (reading t.clock front) t peer whole c here none (reading-no-list t.clock front c)
+    ((reading-feeds id t.clock front).live c (find-holds (is_live id) t.connections.all c here)) (λ clock said. settled-fed t.clock front clock said c)
+
+fed-cut : (t : State) (id : ℕ) (c : Connection) (fed first second : List ℕ) (m : Option ℕ) → live_connection id t.connections.all ≡ Some c → fed_in c.phase ≡ Some fed → ((n : ℕ) → m ≡ Some n → length (fed ++ first) < n)
     → Same (fed_to t id c fed (first ++ second) m) (length first) (fed_to (fed_on t id (fed ++ first)) id (reading t.clock (fed ++ first) c) (fed ++ first) second m)
-fed-cut t id c fed first second None longer =
+fed-cut t id c fed first second None here feeds longer =
     let front : List ℕ = fed ++ first in
     let change : List Connection → State = λ xs. record t { connections = record t.connections { all = xs } } in
     let joined : front ++ second ≡ fed ++ (first ++ second) = append_assoc fed first second in
@@ -176,14 +203,15 @@ fed-cut t id c fed first second None longer =
       state = ap change (sym (changed-twice id (reading t.clock front) (reading t.clock (front ++ second)) (reading t.clock (fed ++ (first ++ second))) (reading-feeds id t.clock front)
           (λ d. read-on t.clock front (front ++ second) d ∙ ap (λ (xs : List ℕ). reading t.clock xs d) joined) t.connections.all));
     }
-fed-cut t id c fed first second (Some n) longer =
+fed-cut t id c fed first second (Some n) here feeds longer =
     let front : List ℕ = fed ++ first in
     let joined : front ++ second ≡ fed ++ (first ++ second) = append_assoc fed first second in
     let later : length front < n = longer n refl in
     let message : List ℕ → List ℕ = λ xs. data_of (take n xs) in
     let whole : List ℕ = message (fed ++ (first ++ second)) in
     let r : Bool × State = answering t id c.peer whole in
-    let along : answering (fed_on t id front) id c.peer whole ≡ r = answering-along id (reading t.clock front) t c.peer whole (reading-feeds id t.clock front) (settled-fed t.clock front) in
+    let along : answering (fed_on t id front) id c.peer whole ≡ r =
+    along-fed t id front c.peer whole c here (fed-no-list c.phase fed feeds) in
     let there : answering (fed_on t id front) id (reading t.clock front c).peer (message (front ++ second)) ≡ r =
     ap (λ (p : Peer). answering (fed_on t id front) id p (message (front ++ second))) (peer-on t.clock front c)
     ∙ ap (λ (xs : List ℕ). answering (fed_on t id front) id c.peer (message xs)) joined ∙ along in
@@ -234,7 +262,7 @@ by_phase s now id (b ∷ first) (d ∷ second) c there (Some fed) phase none =
     ∙ ap (λ (u : State). taken_from u id (reading t.clock front c) (d ∷ second) (Some front)) (moment-on s now id front)
     ∙ ap (λ (xs : List ℕ). fed_to y.1 id (reading t.clock front c) front (d ∷ second) (first_record xs)) joined in
     let longer : (n : ℕ) → first_record all ≡ Some n → length front < n = λ n e. ends_later front (d ∷ second) n none (ap first_record joined ∙ e) in
-    let same : Same x (length (b ∷ first)) z = fed-cut t id c fed (b ∷ first) (d ∷ second) (first_record all) longer in
+    let same : Same x (length (b ∷ first)) z = fed-cut t id c fed (b ∷ first) (d ∷ second) (first_record all) there phase longer in
     same-from s now id (b ∷ first) (d ∷ second) x y z (fed-at s now id (b ∷ first ++ d ∷ second) c (Some fed) there phase) ey ez same.taken same.state
 
 by_connection : (s : State) (now id : ℕ) (first second : List ℕ) (o : Option Connection) → live_connection id s.connections.all ≡ o → IfSome o (λ (c : Connection). IfSome (fed_in c.phase) (λ fed. first_record (fed ++ first) ≡ None)) → SameInOnePiece s now id first second

@@ -1,7 +1,8 @@
 -- What a call does to the entries of forwarded calls: it begins one where it is forwarded, and else leaves them.
-use Rattle.std.proofs.Common.{◌≡◌, ℕ, Bool, true, false, cond, Option, Some, None, List, refl}
+use Rattle.std.proofs.Common.{◌≡◌, ℕ, Bool, true, false, cond, Option, Some, None, List, length, refl}
 use Rattle.rb_rpc.specs.declared.call.CallHead.{CallHead}
 use Rattle.rb_rpc.specs.declared.peer.Caller.{Caller}
+use Rattle.rb_rpc.specs.declared.peer.Caller.TheVariants.{Tcp, Udp}
 use Rattle.rb_rpc.specs.declared.reply.ReplyStatus.{ReplyStatus}
 use Rattle.rb_rpc.specs.declared.reply.ReplyStatus.TheVariants as replies
 use Rattle.rb_feed.specs.Feeds.{arguments_of}
@@ -15,6 +16,8 @@ use Rattle.rb_forward.specs.declared.types.Kind.TheVariants.{Callit2, Callit3, B
 use Rattle.rb_forward.specs.Forwards.{Forwards, can_start, started}
 use Rattle.rb_proto.specs.declared.answers.Answer.{Answer}
 use Rattle.rb_proto.specs.declared.answers.Answer.TheVariants as answers
+use Rattle.rb_proto.specs.declared.answers.Results.{Results}
+use Rattle.rb_proto.specs.declared.answers.Results.TheVariants as results
 use Rattle.rb_proto.specs.declared.context.Context.{Context}
 use Rattle.rb_proto.specs.declared.mapping.Mapping.{Mapping}
 use Rattle.rb_proto.specs.declared.procedure.MappingProcedure.TheVariants as mappings
@@ -23,20 +26,21 @@ use Rattle.rb_proto.specs.declared.remote.RemoteCall.{RemoteCall}
 use Rattle.rb_proto.specs.declared.request.Request.{Request}
 use Rattle.rb_proto.specs.declared.request.Request.TheVariants as requests
 use Rattle.rb_proto.specs.Ledger.{Ledger, rows_in, called}
+use Rattle.rb_proto.specs.Results.{result_bytes, shown_of}
 use Rattle.rb_proto.specs.Netids.{netid_of_prot}
 use Rattle.rb_proto.specs.Remote.{args_of}
 use Rattle.rb_proto.specs.Forwarding.{refusal, address_to_forward, forward_of, refuse, forward_to, forward_call}
 use Rattle.rb_proto.specs.Answers.{set_row, unset_rows, port_on, getport, getaddr, getversaddr, answer_to, answer}
 use Rattle.rb_core.specs.declared.message.Message.{Message}
 use Rattle.rb_core.specs.declared.message.Message.TheVariants as says
-use Rattle.rb_core.specs.Calls.{Outcome, message_of, reply_with, outcome}
+use Rattle.rb_core.specs.Calls.{Outcome, message_of, told_results, reply_with, outcome}
 use Rattle.rb_core.specs.Calls.Outcome.{NoCall, Reply, Forwarded, Silent}
 use Rattle.rb_core.specs.State.{State}
 use Rattle.rb_core.specs.Step.{context_in, serve}
 
 abbrev pub is_forwarded : Outcome → Bool
 is_forwarded NoCall = false
-is_forwarded (Reply reply) = false
+is_forwarded (Reply reply began) = false
 is_forwarded Forwarded = true
 is_forwarded Silent = false
 
@@ -106,6 +110,15 @@ answer-enters context head (requests.Uaddr2taddr text) arguments l = Same refl r
 answer-enters context head (requests.Taddr2uaddr netbuf) arguments l = Same refl refl
 answer-enters context head (requests.Forward kind remote) arguments l = forward-enters context head.xid kind remote arguments l
 
+-- results are told at once
+results-now : (caller : Caller) (count xid : ℕ) (bytes : List ℕ) (given : Results) → is_forwarded (told_results caller count xid bytes given) ≡ false
+results-now (Tcp id peer) count xid bytes (results.Rows list) = refl
+results-now (Udp peer) count xid bytes (results.Rows list) = refl
+results-now (Tcp id peer) count xid bytes (results.Value value) = refl
+results-now (Udp peer) count xid bytes (results.Value value) = refl
+results-now (Tcp id peer) count xid bytes results.Statistics = refl
+results-now (Udp peer) count xid bytes results.Statistics = refl
+
 abbrev Served : Context → Ledger → Outcome × Ledger → Type 0
 Served context l r = Entering context l.forwards r.1.forwards (is_forwarded r.0)
 
@@ -117,7 +130,7 @@ outcome-enters context (says.Garbage head) arguments l = Same refl refl
 outcome-enters context (says.Asked call) arguments l = by_answer (answer_to context call.head call.request arguments (called call.head l)) (answer-enters context call.head call.request arguments (called call.head l))
   where
     by_answer : (r : Answer × Ledger) → Entering context l.forwards r.1.forwards (answers_later r.0) → Served context l (reply_with context call.head.xid r)
-    by_answer (answers.Results results, new) (Same e same) = Same refl same
+    by_answer (answers.Results results, new) (Same e same) = Same (results-now context.caller (length new.changes) call.head.xid (result_bytes context.listener.host (shown_of new) results) results) same
     by_answer (answers.Results results, new) (Begins e forward args by can more) = absurd cc
     by_answer (answers.Refused status, new) (Same e same) = Same refl same
     by_answer (answers.Refused status, new) (Begins e forward args by can more) = absurd cc

@@ -1,6 +1,6 @@
 -- While a connection is Awaiting, one entry is of it, and no other connection has one.
 use Rattle.std.proofs.Common.{◌≡◌, ◌⊎◌, inl, inr, ◌≤◌, ℕ, ◌+◌, max, min, Bool, true, false, cond, eqb, nat_lt, Option, Some, None, Result, Ok, Err, List, [], ◌∷◌, ◌++◌, length, take, refl, sym, ap, subst, ◌∙◌, arith}
-use Rattle.std.specs.Prelude.{find, option_map}
+use Rattle.std.specs.Prelude.{find, map, option_map, ◌&&◌}
 use Rattle.std.specs.List.{list_any, sum_by}
 use Rattle.std.proofs.lemmas.List.Sums.{sum_by-cons, sum_by_push}
 use Rattle.std.proofs.lemmas.Bool.{eqb-true, eq-eqb}
@@ -31,6 +31,7 @@ use Rattle.rb_core.specs.Step.{Event, Output, Taken, context_in, serve, bytes, m
 use Rattle.rb_core.specs.Step.Event.{Open, Bytes, Pending, Gave, Closed, NextLost, Datagram, Unsent, Sent, Forward, Expire}
 use Rattle.rb_core.specs.Step.Output.{Opened, TooMuch, IsPending}
 use Rattle.rb_core.specs.Run.{after}
+use Rattle.rb_rpc.specs.Records.{data_of}
 use Rattle.rb_core.specs.Laws.{IsReached}
 use Rattle.rb_core.specs.Sessions.{IsFinal}
 use Rattle.rb_core.specs.ForwardLaws.{count_awaiting, ConnectionsAwait}
@@ -41,13 +42,15 @@ use Rattle.rb_core.proofs.FewDue.{live-found}
 use Rattle.rb_core.proofs.DueThings.{end_of, Expiry, expiry}
 use Rattle.rb_core.proofs.DueThings.Expiry.{EntryEnds, ConnectionEnds, NothingDue}
 use Rattle.rb_core.proofs.Closings.{sound-apart}
-use Rattle.rb_core.proofs.Cuts.{IsFeeding, find-changed, find-holds, reading-feeds}
+use Rattle.rb_core.specs.Evictions.{began_in, began_before, evicted, evicting}
+use Rattle.rb_core.proofs.Crowds.{none_before, plain_lives, stays_dead}
+use Rattle.rb_core.proofs.Cuts.{IsFeeding, number-is, find-changed, find-holds, reading-feeds}
 use Rattle.rb_core.proofs.Entering.{is_forwarded, Entering, serve-enters}
 use Rattle.rb_core.proofs.Entering.Entering.{Same, Begins}
-use Rattle.rb_core.proofs.Happenings.{Arriving, arriving, said_in, answered_in, told-final, has_entry}
+use Rattle.rb_core.proofs.Happenings.{Arriving, arriving, said_in, answered_in, crowd_at, told-final, has_entry}
 use Rattle.rb_core.proofs.Happenings.Arriving.{NotThere, NotTaken, ReadOn, Ended}
-use Rattle.rb_core.proofs.Live.{without, changed-other, closed-other, find-before, closed-gone, lost-gone, timed-out-gone, answering-feeds, giving-feeds}
-use Rattle.rb_core.proofs.Reached.{AreSound, IsSound, settled-keeps, giving-keeps, step-sound}
+use Rattle.rb_core.proofs.Live.{without, changed-other, closed-other, find-before, none-above, closed-gone, lost-gone, timed-out-gone, answering-feeds, giving-feeds}
+use Rattle.rb_core.proofs.Reached.{AreSound, SoundIn, IsSound, mapped, settled-keeps, giving-keeps, evicted-keeps, step-sound}
 
 -- ---- counts
 
@@ -126,6 +129,13 @@ fed-awaits (Owing o) fed is = refl
 fed-awaits Awaiting fed is = absurd cc
 fed-awaits Lost fed is = refl
 
+fed-plain : (p : Phase) (fed : List ℕ) → fed_in p ≡ Some fed → began_in p ≡ None
+fed-plain Idle fed is = refl
+fed-plain (Reading xs) fed is = refl
+fed-plain (Owing o) fed is = absurd cc
+fed-plain Awaiting fed is = refl
+fed-plain Lost fed is = refl
+
 given-awaits : (n : ℕ) (p : Phase) → is_awaiting (phase_when_given n p) ≡ is_awaiting p
 given-awaits n Idle = refl
 given-awaits n (Reading fed) = refl
@@ -142,7 +152,7 @@ giving-awaits clock n c =
 pub settled-awaiting : (clock : ℕ) (said : Outcome) (c : Connection) → is_awaiting (settled clock said c).phase ≡ is_forwarded said
 unfolding settled
 settled-awaiting clock NoCall c = refl
-settled-awaiting clock (Reply reply) c = refl
+settled-awaiting clock (Reply reply began) c = refl
 settled-awaiting clock Forwarded c = refl
 settled-awaiting clock Silent c = refl
 
@@ -186,7 +196,7 @@ module _ (k : ℕ) (all : List Connection) (c : Connection) (there : live_connec
 
       by_said : (o : Outcome) → said ≡ o → awaits id (change_first (is_live k) (settled clock o) all) ≡ cond (eqb k id) (if_one (is_forwarded o)) (awaits id all)
       by_said NoCall e = is-gone (eqb k id) refl
-      by_said (Reply reply) e = lives (Reply reply) refl
+      by_said (Reply reply began) e = lives (Reply reply began) refl
       by_said Forwarded e = lives Forwarded refl
       by_said Silent e = lives Silent refl
 
@@ -218,40 +228,89 @@ opened-awaits id all new idle = by_value (find (is_live id) all) refl
             by_test true h later = absurd cc
             by_test false h later = later h
 
+-- ---- room for a row
+
+-- a connection whose list is in the way awaits nothing
+list-awaits : (changes : List ℕ) (p : Phase) → began_before changes (began_in p) ≡ true → is_awaiting p ≡ false
+list-awaits changes Idle t = refl
+list-awaits changes (Reading fed) t = refl
+list-awaits changes (Owing o) t = refl
+list-awaits changes Lost t = refl
+list-awaits changes Awaiting t = let clash : true ≡ false = sym t ∙ none_before changes in absurd cc
+
+never : (b : Bool) → (b && false) ≡ false
+never true = refl
+never false = refl
+
+lost-dead : (id : ℕ) (c : Connection) → is_live id (lost c) ≡ false
+unfolding is_live
+lost-dead id c = never (eqb c.number id)
+
+-- those that become Lost awaited nothing, and the others stay
+evicted-awaits : (changes : List ℕ) (id least next : ℕ) (all : List Connection) → AreSound least next all → awaits id (map (evicted changes) all) ≡ awaits id all
+unfolding live_connection evicted
+evicted-awaits changes id least next [] sound = refl
+evicted-awaits changes id least next (x ∷ all) sound = by_live (is_live id x) refl (evicted-awaits changes id (x.number + 1) next all sound.2)
+  where
+    by_began : is_live id x ≡ true → (b : Bool) → began_before changes (began_in x.phase) ≡ b → count_awaiting (find (is_live id) (map (evicted changes) (x ∷ all))) ≡ count_awaiting (find (is_live id) (x ∷ all))
+    by_began live false t = rw (t, live) refl
+    by_began live true t =
+        let number : x.number ≡ id = number-is id x live in
+        let rest = mapped (evicted changes) (evicted-keeps changes) (x.number + 1) next all sound.2 in
+        let none : find (is_live id) (map (evicted changes) all) ≡ None = none-above id (x.number + 1) next (map (evicted changes) all) rest (omega (arith, number)) in
+        rw (t, lost-dead id x, none, live) (sym (ap if_one (list-awaits changes x.phase t)))
+
+    by_live : (b : Bool) → is_live id x ≡ b → count_awaiting (find (is_live id) (map (evicted changes) all)) ≡ count_awaiting (find (is_live id) all)
+        → count_awaiting (find (is_live id) (map (evicted changes) (x ∷ all))) ≡ count_awaiting (find (is_live id) (x ∷ all))
+    by_live true t later = by_began t (began_before changes (began_in x.phase)) refl
+    by_live false t later = let dead : is_live id (evicted changes x) ≡ false = stays_dead id changes x t in rw (dead, t) later
+
 -- ---- events
 
 of-other : (k id : ℕ) (caller : Caller) → is_connection k caller ≡ true → eqb k id ≡ false → is_connection id caller ≡ false
 of-other k id (Tcp number peer) of apart = ap (λ (n : ℕ). eqb n id) (eqb-true number k of) ∙ apart
 of-other k id (Udp peer) of apart = absurd cc
 
+module _ (old : Forwards) (cs : Connections) (sound : SoundIn cs) (h : AwaitIn old cs) where
+  -- a record on a live connection is answered
+  ended-awaits : (clock k : ℕ) (c : Connection) (peer : Peer) (context : Context) (said : Outcome) (new : Forwards) → live_connection k cs.all ≡ Some c → is_awaiting c.phase ≡ false → context.caller ≡ Tcp k peer
+      → Entering context old new (is_forwarded said) → AwaitIn new (changed_at k (settled clock said) cs)
+  ended-awaits clock k c peer context said new there plain from (Same e same) = λ id.
+      ap (present id) same ∙ h id ∙ by_number id (eqb k id) refl ∙ ap (λ (b : Bool). cond (eqb k id) (if_one b) (awaits id cs.all)) (sym e) ∙ sym (settled-awaits k cs.all c there clock cs.next said sound id)
+    where
+      by_number : (id : ℕ) (b : Bool) → eqb k id ≡ b → awaits id cs.all ≡ cond b 0 (awaits id cs.all)
+      by_number id false e = refl
+      by_number id true e = ap (λ (j : ℕ). awaits j cs.all) (sym (eqb-true k id e)) ∙ ap count_awaiting there ∙ ap if_one plain
+  ended-awaits clock k c peer context said new there plain from (Begins e forward args by can more) = λ id.
+      ap (present id) more ∙ pushed id context.clock forward args old
+      ∙ ap (λ (x : Caller). present id old + if_one (is_connection id x)) (by ∙ from)
+      ∙ ap (λ (n : ℕ). n + if_one (eqb k id)) (h id)
+      ∙ by_number id (eqb k id) refl ∙ ap (λ (b : Bool). cond (eqb k id) (if_one b) (awaits id cs.all)) (sym e) ∙ sym (settled-awaits k cs.all c there clock cs.next said sound id)
+    where
+      by_number : (id : ℕ) (b : Bool) → eqb k id ≡ b → awaits id cs.all + if_one b ≡ cond b 1 (awaits id cs.all)
+      by_number id false e = omega arith
+      by_number id true e =
+          let none : awaits id cs.all ≡ 0 = ap (λ (j : ℕ). awaits j cs.all) (sym (eqb-true k id e)) ∙ ap count_awaiting there ∙ ap if_one plain in
+          omega (arith, none)
+
 module _ (s : State) (sound : IsSound s) (h : Await s) where
   abbrev Keeps : Output × State → Type 0
   Keeps r = Await r.1
 
+  -- once there is room for a row
+  room-sound : (changes : List ℕ) → SoundIn (evicting changes s.connections)
+  room-sound changes = mapped (evicted changes) (evicted-keeps changes) 0 s.connections.next s.connections.all sound
+
+  room-awaits : (changes : List ℕ) → AwaitIn s.ledger.forwards (evicting changes s.connections)
+  room-awaits changes = λ id. h id ∙ sym (evicted-awaits changes id 0 s.connections.next s.connections.all sound)
+
+  still-there : (changes : List ℕ) (k : ℕ) (c : Connection) → live_connection k s.connections.all ≡ Some c → began_in c.phase ≡ None → live_connection k (map (evicted changes) s.connections.all) ≡ Some c
+  unfolding live_connection
+  still-there changes k c there no_list = plain_lives k changes s.connections.all c there no_list
+
   open-awaits : (at : ℕ) (peer : Peer) (r : Result ℕ CoreFault) → Keeps (output_or Opened (moved at s (opening_as peer (max s.clock at) s.connections r)))
   open-awaits at peer (Err fault) = h
   open-awaits at peer (Ok number) = λ id. h id ∙ sym (opened-awaits id s.connections.all _ refl)
-
-  -- a record on a live connection is answered
-  ended-awaits : (clock k : ℕ) (c : Connection) (peer : Peer) (context : Context) (said : Outcome) (new : Forwards) → live_connection k s.connections.all ≡ Some c → is_awaiting c.phase ≡ false → context.caller ≡ Tcp k peer
-      → Entering context s.ledger.forwards new (is_forwarded said) → AwaitIn new (changed_at k (settled clock said) s.connections)
-  ended-awaits clock k c peer context said new there plain from (Same e same) = λ id.
-      ap (present id) same ∙ h id ∙ by_number id (eqb k id) refl ∙ ap (λ (b : Bool). cond (eqb k id) (if_one b) (awaits id s.connections.all)) (sym e) ∙ sym (settled-awaits k s.connections.all c there clock s.connections.next said sound id)
-    where
-      by_number : (id : ℕ) (b : Bool) → eqb k id ≡ b → awaits id s.connections.all ≡ cond b 0 (awaits id s.connections.all)
-      by_number id false e = refl
-      by_number id true e = ap (λ (j : ℕ). awaits j s.connections.all) (sym (eqb-true k id e)) ∙ ap count_awaiting there ∙ ap if_one plain
-  ended-awaits clock k c peer context said new there plain from (Begins e forward args by can more) = λ id.
-      ap (present id) more ∙ pushed id context.clock forward args s.ledger.forwards
-      ∙ ap (λ (x : Caller). present id s.ledger.forwards + if_one (is_connection id x)) (by ∙ from)
-      ∙ ap (λ (n : ℕ). n + if_one (eqb k id)) (h id)
-      ∙ by_number id (eqb k id) refl ∙ ap (λ (b : Bool). cond (eqb k id) (if_one b) (awaits id s.connections.all)) (sym e) ∙ sym (settled-awaits k s.connections.all c there clock s.connections.next said sound id)
-    where
-      by_number : (id : ℕ) (b : Bool) → eqb k id ≡ b → awaits id s.connections.all + if_one b ≡ cond b 1 (awaits id s.connections.all)
-      by_number id false e = omega arith
-      by_number id true e =
-          let none : awaits id s.connections.all ≡ 0 = ap (λ (j : ℕ). awaits j s.connections.all) (sym (eqb-true k id e)) ∙ ap count_awaiting there ∙ ap if_one plain in
-          omega (arith, none)
 
   bytes-await : (at k : ℕ) (piece : List ℕ) (r : Result Taken CoreFault × State) → Arriving s at k piece r → Keeps (output_or show_taken r)
   unfolding reading serve
@@ -259,12 +318,14 @@ module _ (s : State) (sound : IsSound s) (h : Await s) where
   bytes-await at k piece r (NotTaken c there why is) = rw is h
   bytes-await at k piece r (ReadOn c fed there feeds none is) = rw is (λ id.
       h id ∙ sym (kept-awaits k s.connections.all c there (reading (max s.clock at) (fed ++ piece)) (reading-feeds k (max s.clock at) (fed ++ piece)) (λ d. refl) (sym (fed-awaits c.phase fed feeds)) id))
-  bytes-await at k piece r (Ended c fed n there feeds some is) = rw is (answered-awaits at k c (take n (fed ++ piece)) there (fed-awaits c.phase fed feeds))
+  bytes-await at k piece r (Ended c fed n there feeds some is) = rw is (answered-awaits at k c (take n (fed ++ piece)) there (fed-plain c.phase fed feeds) (fed-awaits c.phase fed feeds))
     where
-      answered-awaits : (at k : ℕ) (c : Connection) (record_bytes : List ℕ) → live_connection k s.connections.all ≡ Some c → is_awaiting c.phase ≡ false
+      answered-awaits : (at k : ℕ) (c : Connection) (record_bytes : List ℕ) → live_connection k s.connections.all ≡ Some c → began_in c.phase ≡ None → is_awaiting c.phase ≡ false
           → Await (on_connection k (settled (max s.clock at) (said_in s at k c record_bytes)) (answered_in s at k c record_bytes))
-      answered-awaits at k c record_bytes there plain =
-          ended-awaits (max s.clock at) k c c.peer (context_in (at_moment at s) (Tcp k c.peer)) (said_in s at k c record_bytes) _ there plain refl (serve-enters (at_moment at s) (Tcp k c.peer) _)
+      answered-awaits at k c record_bytes there no_list plain =
+          let changes : List ℕ = crowd_at s at (Tcp k c.peer) (data_of record_bytes) in
+          ended-awaits s.ledger.forwards (evicting changes s.connections) (room-sound changes) (room-awaits changes) (max s.clock at) k c c.peer (context_in (at_moment at s) (Tcp k c.peer)) (said_in s at k c record_bytes) _
+          (still-there changes k c there no_list) plain refl (serve-enters (at_moment at s) (Tcp k c.peer) _)
 
   gave-awaits : (at k n : ℕ) (o : Option Connection) → live_connection k s.connections.all ≡ o
       → Keeps (cond (is_too_much n (pending_on o)) (TooMuch, s) (output_or show_done (moved at s (on_found k (giving (max s.clock at) n) s.connections o))))
@@ -320,22 +381,22 @@ module _ (s : State) (sound : IsSound s) (h : Await s) where
       by_number id false n = h id ∙ sym (ap count_awaiting (closed-other id k n s.connections.all))
       by_number id true n = sym (ap (λ (j : ℕ). awaits id (without j s.connections.all)) (eqb-true k id n) ∙ ap count_awaiting (closed-gone id s.connections.all))
 
-  datagram-awaits : (context : Context) (peer : Peer) (t : State) (said : Outcome) → t.connections ≡ s.connections → context.caller ≡ Udp peer → Entering context s.ledger.forwards t.ledger.forwards (is_forwarded said) → Keeps (show_outcome (with_reply (said, t)))
-  datagram-awaits context peer t said same from enters = by_said said
+  datagram-awaits : (context : Context) (peer : Peer) (changes : List ℕ) (t : State) (said : Outcome) → t.connections ≡ evicting changes s.connections → context.caller ≡ Udp peer → Entering context s.ledger.forwards t.ledger.forwards (is_forwarded said) → Keeps (show_outcome (with_reply (said, t)))
+  datagram-awaits context peer changes t said same from enters = by_said said
     where
       holds : Await t
       holds = by_entering enters
         where
           by_entering : Entering context s.ledger.forwards t.ledger.forwards (is_forwarded said) → Await t
-          by_entering (Same e new) = λ id. ap (present id) new ∙ h id ∙ ap (λ (c : Connections). awaits id c.all) (sym same)
+          by_entering (Same e new) = λ id. ap (present id) new ∙ room-awaits changes id ∙ ap (λ (c : Connections). awaits id c.all) (sym same)
           by_entering (Begins e forward args by can more) = λ id.
               ap (present id) more ∙ pushed id context.clock forward args s.ledger.forwards
               ∙ ap (λ (x : Caller). present id s.ledger.forwards + if_one (is_connection id x)) (by ∙ from) ∙ omega arith
-              ∙ h id ∙ ap (λ (c : Connections). awaits id c.all) (sym same)
+              ∙ room-awaits changes id ∙ ap (λ (c : Connections). awaits id c.all) (sym same)
 
       by_said : (o : Outcome) → Keeps (show_outcome (with_reply (o, t)))
       by_said NoCall = holds
-      by_said (Reply reply) = holds
+      by_said (Reply reply began) = holds
       by_said Forwarded = holds
       by_said Silent = holds
 
@@ -381,7 +442,7 @@ module _ (s : State) (sound : IsSound s) (h : Await s) where
             where
               plain : (said : Outcome) → IsFinal said → is_forwarded said ≡ false
               plain NoCall f = absurd f
-              plain (Reply reply) f = refl
+              plain (Reply reply began) f = refl
               plain Forwarded f = absurd f
               plain Silent f = refl
 
@@ -450,9 +511,9 @@ module _ (s : State) (sound : IsSound s) (h : Await s) where
   step-awaits (Closed id) = closed-await id (is_there id s.connections) refl
   step-awaits NextLost = h
   step-awaits (Datagram at peer content) =
-      datagram-awaits (context_in (at_moment at s) (Udp peer)) peer (serve (at_moment at s) (Udp peer) content).1 (serve (at_moment at s) (Udp peer) content).0 (same at peer content) refl (serve-enters (at_moment at s) (Udp peer) content)
+      datagram-awaits (context_in (at_moment at s) (Udp peer)) peer (crowd_at s at (Udp peer) content) (serve (at_moment at s) (Udp peer) content).1 (serve (at_moment at s) (Udp peer) content).0 (same at peer content) refl (serve-enters (at_moment at s) (Udp peer) content)
     where
-      same : (at : ℕ) (peer : Peer) (content : List ℕ) → (serve (at_moment at s) (Udp peer) content).1.connections ≡ s.connections
+      same : (at : ℕ) (peer : Peer) (content : List ℕ) → (serve (at_moment at s) (Udp peer) content).1.connections ≡ evicting (crowd_at s at (Udp peer) content) s.connections
       same at peer content = refl
   step-awaits Unsent = h
   step-awaits (Sent number) = sent-await number (can_be_sent number s.ledger.forwards)

@@ -1,7 +1,6 @@
 -- Of a piece just the bytes are taken that end the first record, or all where there is none.
-use Rattle.std.proofs.Common.{◌≡◌, ◌⊎◌, ℕ, ◌+◌, ◌-◌, max, false, Option, Some, None, Result, Ok, List, [], ◌∷◌, ◌++◌, length, take, refl, sym, ap, subst, ◌∙◌, inl, inr, arith}
+use Rattle.std.proofs.Common.{◌≡◌, ◌⊎◌, ℕ, ◌+◌, ◌-◌, max, false, Option, Some, None, Result, Ok, List, [], ◌∷◌, ◌++◌, length, map, take, refl, sym, ap, subst, ◌∙◌, inl, inr, arith}
 use Rattle.rb_xdr.specs.Xdr.{AreBytes}
-use Rattle.rb_rpc.specs.Records.{first_record}
 use Rattle.rb_rpc.specs.RecordLaws.{IsFirstRecord}
 use Rattle.rb_rpc.proofs.Markings.{first_is_least, none_where_no_front}
 use Rattle.rb_rpc.proofs.RecordCuts.{ends_later}
@@ -13,10 +12,14 @@ use Rattle.rb_core.specs.State.Phase.{Idle, Reading, Owing, Awaiting, Lost}
 use Rattle.rb_core.specs.Connections.{live_connection, changed_at, reading, settled, fed_in}
 use Rattle.rb_core.specs.Step.{Taken, serve, answering, on_connection, bytes}
 use Rattle.rb_core.specs.Laws.{IsReached, IsLive, Arrival, IsSettled, TakesNothing, ReadsOn, IsAnswered, EndsRecord, TakesExactly, BytesAreTakenExactly}
-use Rattle.rb_core.proofs.Cuts.{find-changed, reading-feeds, fed-at}
-use Rattle.rb_core.proofs.Happenings.{said_in, answered_in}
+use Rattle.rb_core.proofs.Cuts.{find-changed, reading-feeds, fed-at, fed-no-list}
+use Rattle.rb_core.proofs.Happenings.{said_in, answered_in, crowd_at}
 use Rattle.rb_core.proofs.Live.{answering-feeds, replying-feeds, lost-gone}
-use Rattle.rb_core.proofs.Reached.{IsSoundPhase, live-sound, reached-sound}
+use Rattle.rb_core.proofs.Reached.{IsSoundPhase, live-sound, reached-sound, mapped, evicted-keeps}
+use Rattle.rb_core.proofs.Crowds.{plain_lives}
+use Rattle.rb_core.specs.Evictions.{began_in, evicted, evicting}
+use Rattle.rb_rpc.specs.Records.{data_of, first_record}
+use Rattle.rb_rpc.specs.declared.peer.Caller.TheVariants.{Tcp}
 
 -- the bytes that a connection was fed hold no record
 pub fed-none : (p : Phase) → IsSoundPhase p → (fed : List ℕ) → fed_in p ≡ Some fed → first_record fed ≡ None
@@ -41,20 +44,21 @@ module _ (s : State) (now id : ℕ) (c : Connection) (reached : IsReached s) (th
   unfolding live_connection
   goes-on fed piece = find-changed id (reading (max s.clock now) (fed ++ piece)) (reading-feeds id (max s.clock now) (fed ++ piece)) s.connections.all c there
 
-  settles : (piece : List ℕ) (t : State) (said : Outcome) → t.connections ≡ changed_at id (settled (max s.clock now) said) s.connections → (bytes s now id piece).1 ≡ t → IsSettled (arrival piece) said
+  settles : (piece : List ℕ) (t : State) (said : Outcome) (changes : List ℕ) → began_in c.phase ≡ None → t.connections ≡ changed_at id (settled (max s.clock now) said) (evicting changes s.connections) → (bytes s now id piece).1 ≡ t
+      → IsSettled (arrival piece) said
   unfolding live_connection settled
-  settles piece t NoCall same is =
+  settles piece t NoCall changes none same is =
       ap (λ (u : State). live_connection id u.connections.all) is ∙ ap (λ (u : Connections). live_connection id u.all) same
-      ∙ lost-gone id (max s.clock now) 0 s.connections.next s.connections.all (reached-sound s reached)
-  settles piece t Forwarded same is =
+      ∙ lost-gone id (max s.clock now) 0 s.connections.next (map (evicted changes) s.connections.all) (mapped (evicted changes) (evicted-keeps changes) 0 s.connections.next s.connections.all (reached-sound s reached))
+  settles piece t Forwarded changes none same is =
       ap (λ (u : State). live_connection id u.connections.all) is ∙ ap (λ (u : Connections). live_connection id u.all) same
-      ∙ find-changed id (settled (max s.clock now) Forwarded) (answering-feeds id (max s.clock now) Forwarded refl) s.connections.all c there
-  settles piece t Silent same is =
+      ∙ find-changed id (settled (max s.clock now) Forwarded) (answering-feeds id (max s.clock now) Forwarded refl) (map (evicted changes) s.connections.all) c (plain_lives id changes s.connections.all c there none)
+  settles piece t Silent changes none same is =
       ap (λ (u : State). live_connection id u.connections.all) is ∙ ap (λ (u : Connections). live_connection id u.all) same
-      ∙ find-changed id (settled (max s.clock now) Silent) (answering-feeds id (max s.clock now) Silent refl) s.connections.all c there
-  settles piece t (Reply reply) same is =
+      ∙ find-changed id (settled (max s.clock now) Silent) (answering-feeds id (max s.clock now) Silent refl) (map (evicted changes) s.connections.all) c (plain_lives id changes s.connections.all c there none)
+  settles piece t (Reply reply began) changes none same is =
       ap (λ (u : State). live_connection id u.connections.all) is ∙ ap (λ (u : Connections). live_connection id u.all) same
-      ∙ find-changed id (settled (max s.clock now) (Reply reply)) (replying-feeds id (max s.clock now) reply) s.connections.all c there
+      ∙ find-changed id (settled (max s.clock now) (Reply reply began)) (replying-feeds id (max s.clock now) reply began) (map (evicted changes) s.connections.all) c (plain_lives id changes s.connections.all c there none)
 
   -- the first record of these bytes
   ended-at : (fed : List ℕ) (b : ℕ) (piece : List ℕ) (n : ℕ) → fed_in c.phase ≡ Some fed → first_record (fed ++ b ∷ piece) ≡ Some n
@@ -69,7 +73,8 @@ module _ (s : State) (now id : ℕ) (c : Connection) (reached : IsReached s) (th
       → bytes s now id (b ∷ piece) ≡ (Ok (record { count = length (b ∷ piece); closed = false }), on_connection id (reading (max s.clock now) (fed ++ b ∷ piece)) (at_moment now s))
   read-at fed b piece feeds none = fed-at s now id (b ∷ piece) c (Some fed) there feeds ∙ (rw none refl)
 
-  same_connections : (record_bytes : List ℕ) (said : Outcome) → (on_connection id (settled (max s.clock now) said) (answered_in s now id c record_bytes)).connections ≡ changed_at id (settled (max s.clock now) said) s.connections
+  same_connections : (record_bytes : List ℕ) (said : Outcome) → (on_connection id (settled (max s.clock now) said) (answered_in s now id c record_bytes)).connections
+      ≡ changed_at id (settled (max s.clock now) said) (evicting (crowd_at s now (Tcp id c.peer) (data_of record_bytes)) s.connections)
   unfolding serve
   same_connections record_bytes said = refl
 
@@ -93,7 +98,7 @@ module _ (s : State) (now id : ℕ) (c : Connection) (reached : IsReached s) (th
         ends = subst (λ (k : ℕ). IsFirstRecord k all) (sym up) ((first_is_least all are n).0 some);
         answers = subst (λ (k : ℕ). IsAnswered (arrival (b ∷ piece)) (n - length fed) (said_in s now id c (take k all))) (sym up) (record {
           taken = ap (λ (r : Result Taken CoreFault × State). r.0) e;
-          settles = settles (b ∷ piece) _ (said_in s now id c (take n all)) (same_connections (take n all) (said_in s now id c (take n all))) (ap (λ (r : Result Taken CoreFault × State). r.1) e);
+          settles = settles (b ∷ piece) _ (said_in s now id c (take n all)) (crowd_at s now (Tcp id c.peer) (data_of (take n all))) (fed-no-list c.phase fed feeds) (same_connections (take n all) (said_in s now id c (take n all))) (ap (λ (r : Result Taken CoreFault × State). r.1) e);
         });
       })
 

@@ -6,10 +6,10 @@ use Rattle.rb_core.specs.State.{State}
 use Rattle.rb_core.specs.Deadlines.{expiring}
 use Rattle.rb_core.specs.Ending.{closed_as, expire_connection, expired_as}
 use Rattle.rb_core.specs.Slots.{Acts, Table, StandsForConnections, StaysTable}
-use Rattle.rb_core.specs.StandsFor.{Held, StandsFor}
+use Rattle.rb_core.specs.StandsFor.{Held, StandsFor, source_of}
 
 pub due_closed : (old : Held) (table : Table) (found : Option ℕ) (result : Expired) → result ≡ closed_as found → StaysTable old.connections table
-    → Acts StandsForConnections (expiring old.clock) old.connections table found → Acts StandsFor expire_connection old (record old { connections = table }) result
+    → Acts (StandsForConnections (source_of old)) (expiring old.clock) old.connections table found → Acts StandsFor expire_connection old (record old { connections = table }) result
 unfolding expire_connection
 due_closed old table found result is stays acts = record {
   gives = λ s h. is ∙ ap closed_as (acts.gives s.connections h.connections) ∙ rw h.clock refl;
@@ -17,7 +17,7 @@ due_closed old table found result is stays acts = record {
     setting = h.setting;
     clock = h.clock;
     conns = stays.conns ∙ h.conns;
-    within = stays.within;
+    within = stays.within h.within;
     connections = rw (← h.clock) (acts.stands s.connections h.connections);
     limit = h.limit;
     ledger = h.ledger;

@@ -13,6 +13,7 @@ use Rattle.rb_core.specs.State.{Phase, Connection}
 use Rattle.rb_core.specs.State.Phase.{Idle, Reading, Owing, Awaiting, Lost}
 use Rattle.rb_core.specs.Connections.{change_first, has_number, is_lost, is_live, is_awaiting}
 use Rattle.rb_core.specs.Deadlines.{is_due, has_come, deadline, first_due, lost, expiring, phase_like, is_due_slot}
+use Rattle.rb_core.specs.Streams.{Source}
 use Rattle.rb_core.specs.Slots.{Acts, StandsForConnection, StandsForConnections, Table, AreNumbered, is_wanted_slot, is_wanted, wanted_slot}
 use Rattle.rb_core.specs.Awaits.{is_awaiting_stage}
 use Rattle.rb_forward.proofs.Tables.{some_is, is_first}
@@ -123,35 +124,35 @@ module _ (clock : ℕ) where
 
 -- ---- the table
 
-apart : (given : ℕ) (slots : List Slot) (all : List Connection) → AllZip StandsForConnection slots all → AreNumbered given slots → AreApart all
-apart given [] [] z n = tt
-apart given [] (c ∷ all) z n = absurd z
-apart given (s ∷ slots) [] z n = absurd z
-apart given (s ∷ slots) (c ∷ all) z n =
-    (subst (λ (k : ℕ). list_any (has_number k) all ≡ false) z.0.number (sym (any_alike s.number slots all z.1) ∙ n.1), apart given slots all z.1 n.2)
+apart : (source : Source) (given : ℕ) (slots : List Slot) (all : List Connection) → AllZip (StandsForConnection source) slots all → AreNumbered given slots → AreApart all
+apart source given [] [] z n = tt
+apart source given [] (c ∷ all) z n = absurd z
+apart source given (s ∷ slots) [] z n = absurd z
+apart source given (s ∷ slots) (c ∷ all) z n =
+    (subst (λ (k : ℕ). list_any (has_number k) all ≡ false) z.0.number (sym (any_alike source s.number slots all z.1) ∙ n.1), apart source given slots all z.1 n.2)
 
 abbrev first-number : Option Connection → Option ℕ
 first-number o = option_map (λ (x : Connection). x.number) o
 
-module _ (clock : ℕ) (table : Table) where
-  pub none_expires : option_map (λ e. e.0) (wanted_slot (wanted.Due clock) table.slots) ≡ None → Acts StandsForConnections (expiring clock) table table None
+module _ (source : Source) (clock : ℕ) (table : Table) where
+  pub none_expires : option_map (λ e. e.0) (wanted_slot (wanted.Due clock) table.slots) ≡ None → Acts (StandsForConnections source) (expiring clock) table table None
   unfolding expiring first_due is_wanted
   none_expires h = record {
-    gives = λ c z. rw (no_slot (wanted.Due clock) table.slots c.all z.all h) refl;
-    stands = λ c z. rw (no_slot (wanted.Due clock) table.slots c.all z.all h) z;
+    gives = λ c z. rw (no_slot source (wanted.Due clock) table.slots c.all z.all h) refl;
+    stands = λ c z. rw (no_slot source (wanted.Due clock) table.slots c.all z.all h) z;
   }
 
   pub one_expires : (k : ℕ) (slot new : Slot) (x : ℕ) → HasDistinctKeys table.slots → AreNumbered table.given (values_of table.slots)
       → option_map (λ e. e.0) (wanted_slot (wanted.Due clock) table.slots) ≡ Some k → value_at table.slots k ≡ Some slot
-      → new ≡ record slot { stage = stages.Lost } → x ≡ slot.number → Acts StandsForConnections (expiring clock) table (record table { slots = with_value table.slots k new }) (Some x)
+      → new ≡ record slot { stage = stages.Lost } → x ≡ slot.number → Acts (StandsForConnections source) (expiring clock) table (record table { slots = with_value table.slots k new }) (Some x)
   unfolding expiring first_due is_wanted wanted_slot
   one_expires k slot new x d n h v becomes number = record {
     gives = λ c z.
-        let l = locate StandsForConnection (is_wanted_slot (wanted.Due clock)) (is_wanted (wanted.Due clock)) (wanted_alike (wanted.Due clock)) table.slots c.all k slot d z.all h v in
+        let l = locate (StandsForConnection source) (is_wanted_slot (wanted.Due clock)) (is_wanted (wanted.Due clock)) (wanted_alike source (wanted.Due clock)) table.slots c.all k slot d z.all h v in
         ap Some (number ∙ l.related.number) ∙ sym (ap first-number l.found);
     stands = λ c z.
-        let l = locate StandsForConnection (is_wanted_slot (wanted.Due clock)) (is_wanted (wanted.Due clock)) (wanted_alike (wanted.Due clock)) table.slots c.all k slot d z.all h v in
-        let same = due-changed clock lost c.all l.value (apart table.given (values_of table.slots) c.all z.all n) l.found in
+        let l = locate (StandsForConnection source) (is_wanted_slot (wanted.Due clock)) (is_wanted (wanted.Due clock)) (wanted_alike source (wanted.Due clock)) table.slots c.all k slot d z.all h v in
+        let same = due-changed clock lost c.all l.value (apart source table.given (values_of table.slots) c.all z.all n) l.found in
         rw l.found (record {
           all = rw same (l.changed new lost (rw becomes (record { number = l.related.number; peer = l.related.peer; mark = l.related.mark; phase = tt })));
           next = z.next;
@@ -164,6 +165,7 @@ not-awaiting : (clock mark : ℕ) (stage : Stage) → has_come clock (deadline m
 not-awaiting clock mark stages.Idle h = refl
 not-awaiting clock mark (stages.Reading reader) h = refl
 not-awaiting clock mark (stages.Owing given) h = refl
+not-awaiting clock mark (stages.Streaming stream) h = refl
 not-awaiting clock mark stages.Awaiting h = absurd cc
 not-awaiting clock mark stages.Lost h = refl
 

@@ -17,7 +17,8 @@ use Rattle.rb_core.specs.Calls.{Outcome}
 use Rattle.rb_core.specs.State.{State}
 use Rattle.rb_core.specs.Deadlines.{first_due, with_lost, expiring}
 use Rattle.rb_core.specs.Ending.{told_at, tell, tell_end, at_fresh_moment, forward_reply, closed_as, expire_connection, expired_as, expire}
-use Rattle.rb_core.specs.ForwardLaws.{IsTold, EndsFirst, EndsNone, EndsByReply, RepliesEndTheirOwn, HasComeFor, EndsByDeadline, DeadlinesEndOne}
+use Rattle.rb_core.specs.DeadlineLaws.{EntryIsDue}
+use Rattle.rb_core.specs.ForwardLaws.{IsTold, EndsFirst, EndsNone, EndsByReply, RepliesEndTheirOwn, EndsByDeadline, DeadlinesEndOne}
 
 -- ---- one event
 
@@ -79,9 +80,9 @@ replies_end_their_own s now from message = as_reply _ _ (ends_or_not Is (counts_
 pub deadlines_end_one : DeadlinesEndOne
 unfolding expire fell_due due expire_connection expiring
 deadlines_end_one s now = as_expired (tell_end [] (at_fresh_moment now s) (noted_end (with_end (is_due (max s.clock now)) Failed s.ledger.forwards) s.ledger))
-    (ends_or_not (HasComeFor (max s.clock now)) (is_due (max s.clock now)) (due_means (max s.clock now)) (due_tested (max s.clock now)) s now [] Failed)
+    (ends_or_not (EntryIsDue (max s.clock now)) (is_due (max s.clock now)) (due_means (max s.clock now)) (due_tested (max s.clock now)) s now [] Failed)
   where
-    as_expired : (r : Option Told × State) → EndsOrNot (HasComeFor (max s.clock now)) (is_due (max s.clock now)) (due_means (max s.clock now)) (due_tested (max s.clock now)) s now [] Failed r.0 r.1 → EndsByDeadline s now (expired_as r).0 (expired_as r).1
+    as_expired : (r : Option Told × State) → EndsOrNot (EntryIsDue (max s.clock now)) (is_due (max s.clock now)) (due_means (max s.clock now)) (due_tested (max s.clock now)) s now [] Failed r.0 r.1 → EndsByDeadline s now (expired_as r).0 (expired_as r).1
     as_expired (Some told, t) e = e
     as_expired (None, t) e = by_found (first_due t.clock t.connections)
       where

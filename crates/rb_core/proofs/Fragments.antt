@@ -1,7 +1,7 @@
 -- The fragments of a marked reply, and where the giving of it stands.
-use Rattle.std.proofs.Common.{◌≡◌, ◌<◌, ◌≤◌, ◌+◌, ◌-◌, ◌*◌, ◌/◌, ◌%◌, ◌^◌, Some, None, ℕ, zero, suc, Bool, true, false, cond, ltb, leb, List, [], ◌∷◌, ◌++◌, length, take, drop, min, refl, sym, ap, subst, ◌∙◌, append-nil, arith, inl, inr, ◌⊎◌, length-append}
+use Rattle.std.proofs.Common.{Option, ◌≡◌, ◌<◌, ◌≤◌, ◌+◌, ◌-◌, ◌*◌, ◌/◌, ◌%◌, ◌^◌, Some, None, ℕ, zero, suc, Bool, true, false, cond, ltb, leb, List, [], ◌∷◌, ◌++◌, length, take, drop, min, refl, sym, ap, subst, ◌∙◌, append-nil, arith, inl, inr, ◌⊎◌, length-append}
 use Rattle.std.specs.Prelude.{slice_range}
-use Rattle.std.proofs.lemmas.List.{length-take, length-drop, take_at, drop_at, take_all, drop-drop, drop-take}
+use Rattle.std.proofs.lemmas.List.{length-take, length-drop, take_at, drop_at, take_all, take_min, drop-drop, drop-take}
 use Rattle.std.proofs.lemmas.Bool.{le-ltb, lt-ltb, cond-true, cond-false, cases_lt, le-leb, lt-leb}
 use Rattle.rb_xdr.specs.Kept.{Kept}
 use Rattle.rb_rpc.specs.Records.{Fragment, fragment_header, markings, fragment_size, cut_up, reply_fragments, marked}
@@ -129,6 +129,21 @@ first_fragment reply start left len last left_is len_is last_is =
           ∙ sym (take_all longest_fragment (marked rest) (omega (arith, longest_is, few, length-short rest few))))
     ]
 
+-- a part of a list in the buffer that it was made in is as long as that, and with its header it is the first fragment
+pub part_size : (made rest : List ℕ) (start end : ℕ) → slice_range made start end ≡ take 1024 rest → start ≤ end → end ≤ length made
+    → end - start ≡ min 1024 (length rest)
+part_size made rest start end is le within =
+    let same : length (take (end - start) (drop start made)) ≡ length (take 1024 rest) = ap (λ (xs : List ℕ). length xs) is in
+    omega (arith, same, length-take (end - start) (drop start made), length-drop start made, length-take 1024 rest)
+
+pub part_shown : (rest part : List ℕ) (len : ℕ) (last : Bool) → part ≡ take 1024 rest → len ≡ min 1024 (length rest) → last ≡ leb (length rest) 1024
+    → fragment_header len last ++ part ≡ take longest_fragment (marked rest)
+part_shown rest part len last is len_is last_is =
+    let count : min 1024 (length rest) ≡ 0 + len - 0 = omega (arith, len_is) in
+    let cut : part ≡ slice_range rest 0 (0 + len) = is ∙ sym (take_min 1024 rest) ∙ ap (λ (n : ℕ). take n rest) count in
+    ap (λ (xs : List ℕ). fragment_header len last ++ xs) cut
+    ∙ first_fragment rest 0 (length rest) len last (omega arith) (omega (arith, len_is)) last_is
+
 -- ---- where the giving stands
 
 pub window_at : (reply : List ℕ) (o : Owed) → o.marked ≡ marked reply → o.given < length o.marked
@@ -198,12 +213,12 @@ pending_shown reply shown given o g =
 
 -- ---- the giving begins, stays in its fragment, moves to the next one, ends
 
-pub giving_begins : (reply : List ℕ) (shown : Kept) → shown.bytes ≡ take longest_fragment (marked (drop 0 reply)) → shown.cap ≡ longest_fragment → IsGiving reply shown 0 (owed_of reply 0)
-giving_begins reply shown is cap = record {
+pub giving_begins : (reply : List ℕ) (shown : Kept) (began : Option ℕ) → shown.bytes ≡ take longest_fragment (marked (drop 0 reply)) → shown.cap ≡ longest_fragment → IsGiving reply shown 0 (owed_of reply began 0)
+giving_begins reply shown began is cap = record {
   marked = refl;
   given_is = refl;
   owes = omega (arith, some-marked reply);
-  shown_is = is ∙ sym (window_at reply (owed_of reply 0) refl (omega (arith, some-marked reply)));
+  shown_is = is ∙ sym (window_at reply (owed_of reply began 0) refl (omega (arith, some-marked reply)));
   cap = cap;
 }
 
@@ -273,8 +288,8 @@ pending_count reply shown given o g =
     omega (arith, place_inside reply shown given o g, ap (λ (xs : List ℕ). length xs) (pending_shown reply shown given o g), length-drop (given % longest_fragment) shown.bytes)
 
 -- what stands for what is owed stands for what is owed of that reply
-pub giving_of : (reply : List ℕ) (shown : Kept) (given : ℕ) (o : Owed) → IsGiving reply shown given o → o ≡ owed_of reply given
-giving_of reply shown given o g = ap (λ (xs : List ℕ). record o { marked = xs }) g.marked ∙ ap (λ (n : ℕ). owed_of reply n) (sym g.given_is)
+pub giving_of : (reply : List ℕ) (shown : Kept) (given : ℕ) (o : Owed) → IsGiving reply shown given o → o ≡ owed_of reply o.began given
+giving_of reply shown given o g = ap (λ (xs : List ℕ). record o { marked = xs }) g.marked ∙ ap (λ (n : ℕ). owed_of reply o.began n) (sym g.given_is)
 
 pub giving_fits : (reply : List ℕ) (shown : Kept) (given n : ℕ) (o : Owed) → IsGiving reply shown given o → given % longest_fragment + n ≤ length shown.bytes
     → length reply < 2 ^ 32 → given + n < 2 ^ 64
@@ -294,9 +309,17 @@ none_given reply shown given n o g full none =
     let end : given + n ≡ length (marked reply) = giving_ends reply shown given n o g full none in
     sym (cond-false _ _ _ (le-ltb (o.given + n) (length o.marked) (omega (arith, same, end, g.given_is))))
 
-pub giving_itself : (reply : List ℕ) (shown : Kept) (given : ℕ) (o : Owed) → IsGiving reply shown given o → IsGiving reply shown given (owed_of reply given)
+pub giving_itself : (reply : List ℕ) (shown : Kept) (given : ℕ) (o : Owed) → IsGiving reply shown given o → IsGiving reply shown given (owed_of reply o.began given)
 giving_itself reply shown given o g = subst (λ (owed : Owed). IsGiving reply shown given owed) (giving_of reply shown given o g) g
 
 pub pending_within : (reply : List ℕ) (shown : Kept) (given n : ℕ) (o : Owed) → IsGiving reply shown given o → n ≤ length (pending_of o)
     → given % longest_fragment + n ≤ length shown.bytes
 pending_within reply shown given n o g few = omega (arith, few, pending_count reply shown given o g)
+
+-- the fragment is no longer than a whole one, and it is whole where more follows
+pub fragment_few : (reply : List ℕ) (shown : Kept) (given : ℕ) (o : Owed) → IsGiving reply shown given o → length shown.bytes ≤ longest_fragment
+fragment_few reply shown given o g = omega (arith, (place_of reply shown given o g).few, longest_is)
+
+pub fragment_full : (reply : List ℕ) (shown : Kept) (given : ℕ) (o : Owed) → IsGiving reply shown given o → 1024 * (given / 1028) + 1024 < length reply → length shown.bytes ≡ 1028
+fragment_full reply shown given o g more =
+    elim (place_of reply shown given o g).ends [ inl there ↦ there.1 | inr none ↦ absurd (omega (arith, none.0, more)) ]

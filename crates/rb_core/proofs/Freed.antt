@@ -8,17 +8,19 @@ use Rattle.std.proofs.lemmas.Bool.Decides.{nat_tests}
 use Rattle.rb_xdr.specs.Pool.{value_at, without, with_value, HasDistinctKeys}
 use Rattle.rb_forward.proofs.Tables.{some_is, is_first, nothing_found}
 use Rattle.rb_core.specs.declared.slot.Slot.{Slot}
+use Rattle.rb_core.specs.declared.slot.Stage.{Stage}
+use Rattle.rb_core.specs.declared.slot.Stage.TheVariants as stages
 use Rattle.rb_core.specs.declared.slot.Wanted.TheVariants as wanted
 use Rattle.rb_core.specs.declared.slot.Heard.{Heard}
 use Rattle.rb_core.specs.declared.slot.Received.{Received}
 use Rattle.rb_core.specs.declared.types.CoreFault.{CoreFault}
-use Rattle.rb_core.specs.Slots.{Table, AreNumbered, is_numbered, is_lost_stage, is_wanted_slot, wanted_slot}
-use Rattle.rb_core.specs.Awaits.{is_awaiting_stage, is_free_slot, is_free, is_live_slot, has_live, NoneIsFreed, OnlyIsFreed, HearsSlot, HeardFrom, HearsFree}
+use Rattle.rb_core.specs.Slots.{Table, AreNumbered, is_numbered, is_idle_stage, is_lost_stage, is_wanted_slot, wanted_slot}
+use Rattle.rb_core.specs.Awaits.{is_awaiting_stage, is_free_slot, is_free, is_idle_slot, has_idle, NoneIsFreed, OnlyIsFreed, HearsSlot, HeardFrom, HearsFree}
 use Rattle.rb_core.proofs.Slots.{any-without, none_any}
 
 -- ---- whether any slot is so
 
-any-there-of : (test : Slot → Bool) (es : List (ℕ × Slot)) (k : ℕ) (a : Slot) → value_at es k ≡ Some a → test a ≡ true → list_any test (values_of es) ≡ true
+pub any-there-of : (test : Slot → Bool) (es : List (ℕ × Slot)) (k : ℕ) (a : Slot) → value_at es k ≡ Some a → test a ≡ true → list_any test (values_of es) ≡ true
 any-there-of test [] k a v t = absurd cc
 any-there-of test (e ∷ es) k a v t = by_key (eqb e.0 k) refl (any-there-of test es k a)
   where
@@ -177,9 +179,9 @@ module _ (table : Table) where
       either-true true = refl
       either-true false = refl
 
-  pub is_live : (id k : ℕ) (old new : Slot) → value_at table.slots k ≡ Some old → new.number ≡ id → is_lost_stage new.stage ≡ false → has_live id (record table { slots = with_value table.slots k new }) ≡ true
-  unfolding has_live
-  is_live id k old new v number stage = any-put (is_live_slot id) table.slots k old new v (rw (eq-eqb new.number id number, stage) refl)
+  pub is_idle : (id k : ℕ) (old new : Slot) → value_at table.slots k ≡ Some old → new.number ≡ id → is_idle_stage new.stage ≡ true → has_idle id (record table { slots = with_value table.slots k new }) ≡ true
+  unfolding has_idle
+  is_idle id k old new v number stage = any-put (is_idle_slot id) table.slots k old new v (rw (eq-eqb new.number id number, stage) refl)
 
 -- the slot that was found is live, and of the number
 pub found_live : (id k : ℕ) (es : List (ℕ × Slot)) (slot : Slot) → HasDistinctKeys es → option_map (λ e. e.0) (wanted_slot (wanted.Live id) es) ≡ Some k → value_at es k ≡ Some slot → (slot.number ≡ id) × (is_lost_stage slot.stage ≡ false)
@@ -194,14 +196,32 @@ found_live id k es slot d h v =
     not-true true e = absurd cc
     not-true false e = refl
 
--- where none is found, none is live
-pub none_live : (id : ℕ) (es : List (ℕ × Slot)) → option_map (λ e. e.0) (wanted_slot (wanted.Live id) es) ≡ None → (table : Table) → table.slots ≡ es → has_live id table ≡ true → ⊥
-unfolding wanted_slot is_wanted_slot has_live
-none_live id es none table is live =
-    let found : find (is_live_slot id) (values_of es) ≡ None = nothing_found (is_live_slot id) es none in
-    let all : list_any (is_live_slot id) (values_of es) ≡ true = ap (λ (xs : List (ℕ × Slot)). list_any (is_live_slot id) (values_of xs)) (sym is) ∙ live in
-    let clash : true ≡ false = sym all ∙ none_any (is_live_slot id) (values_of es) found in
+-- where none is found, none is Idle
+pub none_idle : (id : ℕ) (es : List (ℕ × Slot)) → option_map (λ e. e.0) (wanted_slot (wanted.Live id) es) ≡ None → (table : Table) → table.slots ≡ es → has_idle id table ≡ true → ⊥
+unfolding wanted_slot is_wanted_slot has_idle
+none_idle id es none table is idle =
+    let found : find (is_wanted_slot (wanted.Live id)) (values_of es) ≡ None = nothing_found (is_wanted_slot (wanted.Live id)) es none in
+    let all : list_any (is_idle_slot id) (values_of es) ≡ true = ap (λ (xs : List (ℕ × Slot)). list_any (is_idle_slot id) (values_of xs)) (sym is) ∙ idle in
+    let clash : true ≡ false = sym all ∙ none_there (values_of es) (none_any (is_wanted_slot (wanted.Live id)) (values_of es) found) in
     absurd cc
+  where
+    idle-lost : (stage : Stage) (b : Bool) → (b && not (is_lost_stage stage)) ≡ false → (b && is_idle_stage stage) ≡ false
+    idle-lost stages.Idle b e = e
+    idle-lost (stages.Reading reader) true e = refl
+    idle-lost (stages.Reading reader) false e = refl
+    idle-lost (stages.Owing given) true e = refl
+    idle-lost (stages.Owing given) false e = refl
+    idle-lost (stages.Streaming stream) true e = refl
+    idle-lost (stages.Streaming stream) false e = refl
+    idle-lost stages.Awaiting true e = refl
+    idle-lost stages.Awaiting false e = refl
+    idle-lost stages.Lost b e = e
+
+    none_there : (slots : List Slot) → list_any (is_wanted_slot (wanted.Live id)) slots ≡ false → list_any (is_idle_slot id) slots ≡ false
+    none_there [] h = refl
+    none_there (s ∷ slots) h =
+        let p = either-false (is_wanted_slot (wanted.Live id) s) (list_any (is_wanted_slot (wanted.Live id)) slots) h in
+        rw (idle-lost s.stage (eqb s.number id) p.0) (none_there slots p.1)
 
 -- a record ended on it
 pub heard_from : (table : Table) (id k : ℕ) (old new : Slot) (got : Received) → value_at table.slots k ≡ Some old → old.number ≡ id → new.number ≡ old.number → IfSome got.heard (λ heard. HearsSlot old new)
@@ -210,7 +230,7 @@ heard_from table id k old new got v number same hears = by_heard got.heard hears
   where
     by_heard : (m : Option Heard) → IfSome m (λ heard. HearsSlot old new) → IfSome m (λ heard. HeardFrom id table (record table { slots = with_value table.slots k new }))
     by_heard None h = tt
-    by_heard (Some heard) h = record { was_free = was_free table id k old v number h.awaited_none; is_live = is_live table id k old new v (same ∙ number) h.not_lost }
+    by_heard (Some heard) h = record { was_free = was_free table id k old v number h.awaited_none; is_idle = is_idle table id k old new v (same ∙ number) h.is_idle }
 
 -- the same of a table by its other name
 pub freed_from : (view now new : Table) → view ≡ now → NoneIsFreed view new → NoneIsFreed now new

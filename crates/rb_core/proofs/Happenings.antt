@@ -28,7 +28,9 @@ use Rattle.rb_core.specs.Calls.{Outcome, Outcome as outcomes, is_no_call}
 use Rattle.rb_core.specs.State.{State, Connection, Connections, at_moment, greatest_number}
 use Rattle.rb_core.specs.Connections.{fed_in, taking, taking_up_to, reading, settled, giving, pending_in, live_connection, changed_at, on_found, number_for, with_new, opening_as, opening_of, is_there, without_number, closing_of}
 use Rattle.rb_core.specs.Ending.{refused_by, told_failed, told_of, told_at, tell, tell_end, at_fresh_moment, forward_reply, expired_as, expire}
-use Rattle.rb_core.specs.Step.{Event, Output, Taken, serve, answering, moved, when_taken, bytes_to, bytes, pending, pending_on, gave, is_too_much, open_connection, dropped_with, close_connection, next_lost, with_reply, datagram, unsent_call, sent_call, output_or, show_taken, show_done, show_outcome, show_told, show_end, show_expired, on_connection, step}
+use Rattle.rb_core.specs.Evictions.{crowding, evicting}
+use Rattle.rb_core.specs.Calls.{message_of}
+use Rattle.rb_core.specs.Step.{Event, Output, Taken, context_in, serve, answering, moved, when_taken, bytes_to, bytes, pending, pending_on, gave, is_too_much, open_connection, dropped_with, close_connection, next_lost, with_reply, datagram, unsent_call, sent_call, output_or, show_taken, show_done, show_outcome, show_told, show_end, show_expired, on_connection, step}
 use Rattle.rb_core.specs.Step.Event.{Open, Bytes, Pending, Gave, Closed, NextLost, Datagram, Unsent, Sent, Forward, Expire}
 use Rattle.rb_core.specs.Step.Output.{Opened, Refused, TooMuch, Took, IsPending, Done, LostIs, Replied, Forwarded, Silent, UnsentIs, Ignored, Nothing, ConnectionClosed, Ready, RepliedTo}
 use Rattle.rb_core.specs.declared.types.Expired.{Expired}
@@ -100,8 +102,13 @@ is_end other = false
 abbrev pub has_entry : ℕ → State → Bool
 has_entry id s = list_any (is_of_connection id) s.ledger.forwards.all
 
+-- what is in the way of the row that a message brings
+abbrev pub crowd_at : State → ℕ → Caller → List ℕ → List ℕ
+crowd_at s at caller content = crowding (context_in (at_moment at s) caller) (message_of content) s.connections.all s.ledger
+
 pub data Happening (s : State) (event : Event) (output : Output) (now : Connections) : Type 0 where
   Stays : IsQuiet s event output → now ≡ s.connections → Happening s event output now
+  Evicts : (at : ℕ) (peer : Peer) (content : List ℕ) → event ≡ Datagram at peer content → IsQuiet s event output → now ≡ evicting (crowd_at s at (Udp peer) content) s.connections → Happening s event output now
   Opens : (at : ℕ) (peer : Peer) → event ≡ Open at peer → output ≡ Opened s.connections.next → now ≡ with_new peer (max s.clock at) s.connections → Happening s event output now
   Reads : (at id : ℕ) (piece : List ℕ) (c : Connection) (fed : List ℕ) → event ≡ Bytes at id piece
       → live_connection id s.connections.all ≡ Some c → fed_in c.phase ≡ Some fed → first_record (fed ++ piece) ≡ None
@@ -109,7 +116,8 @@ pub data Happening (s : State) (event : Event) (output : Output) (now : Connecti
   Ends : (at id : ℕ) (piece : List ℕ) (c : Connection) (fed : List ℕ) (n : ℕ) → event ≡ Bytes at id piece
       → live_connection id s.connections.all ≡ Some c → fed_in c.phase ≡ Some fed → first_record (fed ++ piece) ≡ Some n
       → output ≡ show_taken (record { count = n - length fed; closed = is_no_call (said_in s at id c (take n (fed ++ piece))) })
-      → now ≡ changed_at id (settled (max s.clock at) (said_in s at id c (take n (fed ++ piece)))) s.connections → Happening s event output now
+      → now ≡ changed_at id (settled (max s.clock at) (said_in s at id c (take n (fed ++ piece)))) (evicting (crowd_at s at (Tcp id c.peer) (data_of (take n (fed ++ piece)))) s.connections)
+      → Happening s event output now
   Gives : (at id n : ℕ) (c : Connection) → event ≡ Gave at id n → live_connection id s.connections.all ≡ Some c → n ≤ length (pending_in c.phase)
       → output ≡ Done → now ≡ changed_at id (λ x. (giving (max s.clock at) n x).1) s.connections → Happening s event output now
   Closes : (id : ℕ) → event ≡ Closed id → output ≡ Done → is_there id s.connections ≡ true → now ≡ without_number id s.connections → Happening s event output now
@@ -215,15 +223,15 @@ module _ (s : State) where
   close-happens id true e = Closes id refl refl e refl
   close-happens id false e = Stays (quiet (Closed id) (Refused Gone) refl refl (λ k. refl)) refl
 
-  outcome-happens : (at : ℕ) (peer : Peer) (content : List ℕ) (r : Outcome × State) → r.1.connections ≡ s.connections → Happens (Datagram at peer content) (show_outcome (with_reply r))
-  outcome-happens at peer content (outcomes.NoCall, t) same = Stays (quiet (Datagram at peer content) Silent refl refl (λ k. refl)) same
-  outcome-happens at peer content (outcomes.Reply reply, t) same = Stays (quiet (Datagram at peer content) (Replied reply) refl refl (λ k. refl)) same
-  outcome-happens at peer content (outcomes.Forwarded, t) same = Stays (quiet (Datagram at peer content) Forwarded refl refl (λ k. refl)) same
-  outcome-happens at peer content (outcomes.Silent, t) same = Stays (quiet (Datagram at peer content) Silent refl refl (λ k. refl)) same
+  outcome-happens : (at : ℕ) (peer : Peer) (content : List ℕ) (r : Outcome × State) → r.1.connections ≡ evicting (crowd_at s at (Udp peer) content) s.connections → Happens (Datagram at peer content) (show_outcome (with_reply r))
+  outcome-happens at peer content (outcomes.NoCall, t) same = Evicts at peer content refl (quiet (Datagram at peer content) Silent refl refl (λ k. refl)) same
+  outcome-happens at peer content (outcomes.Reply reply began, t) same = Evicts at peer content refl (quiet (Datagram at peer content) (Replied reply) refl refl (λ k. refl)) same
+  outcome-happens at peer content (outcomes.Forwarded, t) same = Evicts at peer content refl (quiet (Datagram at peer content) Forwarded refl refl (λ k. refl)) same
+  outcome-happens at peer content (outcomes.Silent, t) same = Evicts at peer content refl (quiet (Datagram at peer content) Silent refl refl (λ k. refl)) same
 
-  served-connections : (t : State) (caller : Caller) (content : List ℕ) → (serve t caller content).1.connections ≡ t.connections
+  served-connections : (at : ℕ) (caller : Caller) (content : List ℕ) → (serve (at_moment at s) caller content).1.connections ≡ evicting (crowd_at s at caller content) s.connections
   unfolding serve
-  served-connections t caller content = refl
+  served-connections at caller content = refl
 
   sent-happens : (number : ℕ) (b : Bool) → Happens (Sent number) (output_or show_done (cond b (Ok tt, record s { ledger = call_sent number s.ledger }) (Err Gone, s)))
   sent-happens number true = Stays (quiet (Sent number) Done refl refl (λ k. refl)) refl
@@ -295,7 +303,7 @@ module _ (s : State) where
   happening (Closed id) = close-happens id (is_there id s.connections) refl
   happening NextLost = Stays (quiet NextLost (LostIs (next_lost s)) refl refl (λ k. refl)) refl
   happening (Datagram at peer content) =
-      outcome-happens at peer content (serve (at_moment at s) (Udp peer) content) (served-connections (at_moment at s) (Udp peer) content)
+      outcome-happens at peer content (serve (at_moment at s) (Udp peer) content) (served-connections at (Udp peer) content)
   happening Unsent = Stays (quiet Unsent (UnsentIs (unsent_call s)) refl refl (λ k. refl)) refl
   happening (Sent number) = sent-happens number (can_be_sent number s.ledger.forwards)
   happening (Forward at from message) =

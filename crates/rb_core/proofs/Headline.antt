@@ -7,6 +7,7 @@ use Rattle.rb_core.specs.Calls.{Outcome, message_of, outcome}
 use Rattle.rb_core.specs.Calls.Outcome.{NoCall, Reply, Forwarded, Silent}
 use Rattle.rb_core.specs.State.{Setting, State, at_moment, opening}
 use Rattle.rb_core.specs.Step.{context_in, with_ledger, with_reply, serve, datagram, show_outcome, step}
+use Rattle.rb_core.specs.Evictions.{with_room}
 use Rattle.rb_core.specs.Run.{after}
 use Rattle.rb_core.specs.Laws.{IsReached}
 use Rattle.rb_core.specs.Costs.{event_cost}
@@ -20,9 +21,12 @@ answers_datagrams : (s : State) → AnswersDatagrams s
 unfolding step datagram serve
 answers_datagrams s now peer content = by_outcome (outcome (context_in (at_moment now s) (Udp peer)) (message_of content) (arguments_of content) s.ledger)
   where
-    by_outcome : (r : Outcome × Ledger) → (show_outcome (with_reply (with_ledger (at_moment now s) r))).0 ≡ shown_as r.0
+    roomy : State
+    roomy = with_room (context_in (at_moment now s) (Udp peer)) (message_of content) (at_moment now s)
+
+    by_outcome : (r : Outcome × Ledger) → (show_outcome (with_reply (with_ledger roomy r))).0 ≡ shown_as r.0
     by_outcome (NoCall, ledger) = refl
-    by_outcome (Reply reply, ledger) = refl
+    by_outcome (Reply reply began, ledger) = refl
     by_outcome (Forwarded, ledger) = refl
     by_outcome (Silent, ledger) = refl
 

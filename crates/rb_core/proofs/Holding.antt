@@ -15,7 +15,7 @@ use Rattle.rb_forward.specs.Table.{longest_arguments as args, longest_call}
 use Rattle.rb_core.specs.Calls.{longest_reply}
 use Rattle.rb_core.specs.Giving.{longest_fragment}
 use Rattle.rb_core.specs.Reading.{longest_arguments, buffer_size}
-use Rattle.rb_core.specs.Slots.{Table, StaysTable, IsTable, charge, held_in, most_charge, IsWithin, AreWithin, HasBuffers}
+use Rattle.rb_core.specs.Slots.{Table, StaysTable, IsTable, charge, held_in, most_charge, IsWithin, HasBuffers}
 
 module _ (slots : Pool Slot) (spare : Pool Buffers) (given conns held : ℕ) (t : IsTable slots spare given conns held) where
   turned : (a b : ℕ) → b * a ≡ a * b
@@ -65,8 +65,8 @@ module _ (slots : List Slot) (slot : Slot) (buffer : slot.buffer.bytes ≡ []) (
   held_pushed held is = let few = empty_charge in omega (arith, few, sum_by_push charge slots slot, is)
 
 -- the table with a slot changed
-pub stays_changed : (view now : Table) (k : ℕ) (new : Slot) → view ≡ now → AreWithin view.slots → IsWithin new → StaysTable now (record view { slots = with_value view.slots k new })
-stays_changed view now k new is within fits = rw (← is) (record { conns = refl; tie = refl; within = All-with_value IsWithin view.slots k new within fits })
+pub stays_changed : (view now : Table) (k : ℕ) (new : Slot) → view ≡ now → IsWithin new → StaysTable now (record view { slots = with_value view.slots k new })
+stays_changed view now k new is fits = rw (← is) (record { conns = refl; tie = refl; within = λ within. All-with_value IsWithin view.slots k new within fits })
 
 -- a slot is looked up and counted, an act on it is paid for, and it is counted again
 pub recounted_cost : (m0 m1 m2 m3 m4 m5 : Meter) (look act : ℕ) → PaysAtMost m0 m1 look → Pays m1 m2 1 → Pays m2 m3 2 → PaysAtMost m3 m4 act → Pays m4 m5 2

@@ -191,7 +191,7 @@ shown-follows s show (Err fault) u f = f
 
 outcome-follows : (s : State) (r : Outcome × State) → Follows s r.1 → Follows s (show_outcome (with_reply r)).1
 outcome-follows s (outcomes.NoCall, u) f = record { setting = f.setting; grows = f.grows }
-outcome-follows s (outcomes.Reply reply, u) f = record { setting = f.setting; grows = f.grows }
+outcome-follows s (outcomes.Reply reply began, u) f = record { setting = f.setting; grows = f.grows }
 outcome-follows s (outcomes.Forwarded, u) f = record { setting = f.setting; grows = f.grows }
 outcome-follows s (outcomes.Silent, u) f = record { setting = f.setting; grows = f.grows }
 

@@ -20,12 +20,12 @@ still-live false l e = e
 pub answering-feeds : (id clock : ℕ) (said : Outcome) → is_no_call said ≡ false → IsFeeding id (settled clock said)
 unfolding is_live settled
 answering-feeds id clock NoCall is = absurd cc
-answering-feeds id clock (Reply reply) is = record { live = λ c e. still-live (eqb c.number id) (not (is_lost c.phase)) e }
+answering-feeds id clock (Reply reply began) is = record { live = λ c e. still-live (eqb c.number id) (not (is_lost c.phase)) e }
 answering-feeds id clock Forwarded is = record { live = λ c e. still-live (eqb c.number id) (not (is_lost c.phase)) e }
 answering-feeds id clock Silent is = record { live = λ c e. still-live (eqb c.number id) (not (is_lost c.phase)) e }
 
-pub replying-feeds : (id clock : ℕ) (reply : List ℕ) → IsFeeding id (settled clock (Reply reply))
-replying-feeds id clock reply = answering-feeds id clock (Reply reply) refl
+pub replying-feeds : (id clock : ℕ) (reply : List ℕ) (began : Option ℕ) → IsFeeding id (settled clock (Reply reply began))
+replying-feeds id clock reply began = answering-feeds id clock (Reply reply began) refl
 
 given-feeds : (id clock n : ℕ) (c : Connection) → is_live id c ≡ true → is_live id (when_given clock n c) ≡ true
 unfolding is_live when_given
@@ -107,7 +107,7 @@ number-below p least next (d ∷ all) c a is = by_test (p d) is (number-below p 
     by_test false e later = later e
 
 -- no connection of a lesser number
-none-above : (id least next : ℕ) (all : List Connection) → AreSound least next all → id < least → find (is_live id) all ≡ None
+pub none-above : (id least next : ℕ) (all : List Connection) → AreSound least next all → id < least → find (is_live id) all ≡ None
 unfolding is_live
 none-above id least next [] a low = refl
 none-above id least next (d ∷ all) a low =

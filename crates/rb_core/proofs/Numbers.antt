@@ -9,7 +9,7 @@ use Rattle.rb_core.specs.Step.Output.{Took, TookAndClosed}
 use Rattle.rb_core.specs.Run.{run}
 use Rattle.rb_core.specs.Laws.{number_given, AreRisingFrom}
 use Rattle.rb_core.proofs.Happenings.{Happening, happening}
-use Rattle.rb_core.proofs.Happenings.Happening.{Stays, Opens, Reads, Ends, Gives, Closes, Tells, TimesOut}
+use Rattle.rb_core.proofs.Happenings.Happening.{Stays, Evicts, Opens, Reads, Ends, Gives, Closes, Tells, TimesOut}
 
 -- a number that is given is the next one, and no other event moves it
 abbrev pub GivesNext : Option ℕ → ℕ → ℕ → Type 0
@@ -25,6 +25,7 @@ none_given output old now none same = subst (λ (o : Option ℕ). GivesNext o ol
 pub happening-next : (s : State) (event : Event) (output : Output) (now : Connections) → Happening s event output now → GivesNext (number_given output) s.connections.next now.next
 unfolding without_number
 happening-next s event output now (Stays q same) = none_given output s.connections.next now q.no_number (ap (λ (c : Connections). c.next) same)
+happening-next s event output now (Evicts at peer content is q same) = none_given output s.connections.next now q.no_number (ap (λ (c : Connections). c.next) same)
 happening-next s event output now (Opens at peer is out same) =
     subst (λ (o : Option ℕ). GivesNext o s.connections.next now.next) (sym (ap number_given out)) (refl, ap (λ (c : Connections). c.next) same)
 happening-next s event output now (Reads at id piece c fed is there feeds none out same) = none_given output s.connections.next now (ap number_given out) (ap (λ (c : Connections). c.next) same)

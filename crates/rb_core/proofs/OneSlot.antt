@@ -1,6 +1,7 @@
 -- One connection's slot beside the connection that it stands for.
-use Rattle.std.proofs.Common.{◌≡◌, ℕ, ◌+◌, ◌-◌, ◌<◌, Bool, true, false, cond, nat_lt, eqb, List, [], ◌∷◌, ◌++◌, length, Option, Some, None, refl, sym, ap, subst, ◌∙◌, arith}
+use Rattle.std.proofs.Common.{◌≡◌, ℕ, ◌+◌, ◌-◌, ◌<◌, ◌≤◌, Bool, true, false, cond, nat_lt, eqb, List, [], ◌∷◌, ◌++◌, length, Option, Some, None, refl, sym, ap, subst, ◌∙◌, arith}
 use Rattle.std.specs.Prelude.{min, take}
+use Rattle.std.proofs.lemmas.Bool.{lt-ltb, le-ltb}
 use Rattle.std.proofs.lemmas.Bool.Decides.{nat_tests}
 use Rattle.rb_xdr.specs.Kept.{Kept}
 use Rattle.rb_rpc.specs.declared.peer.Peer.{Peer}
@@ -17,57 +18,70 @@ use Rattle.rb_core.specs.Connections.{Taking, taking, taking_on, mark_when_fed, 
 use Rattle.rb_core.specs.Connections.Taking.{TakesNone}
 use Rattle.rb_core.specs.Giving.{IsGiving, pending_of}
 use Rattle.rb_core.specs.Reading.{Fed, Reader, fed_until, IsReading}
+use Rattle.rb_core.specs.declared.giving.Stream.{Stream}
+use Rattle.rb_core.specs.Streams.{Source, IsStreaming}
 use Rattle.rb_core.specs.Slots.{Acts, StandsForPhase, StandsForConnection, received, fed_with, feeding, arguments_after, arguments_heard}
 
 -- ---- the phase by the stage
 
-pub idle_phase : (stage : Stage) (buffer window : Kept) (phase : Phase) → stage ≡ stages.Idle → StandsForPhase stage buffer window phase
+pub idle_phase : (source : Source) (stage : Stage) (buffer window : Kept) (phase : Phase) → stage ≡ stages.Idle → StandsForPhase source stage buffer window phase
     → (phase ≡ Idle) × (buffer.bytes ≡ []) × (window.bytes ≡ [])
-idle_phase stage buffer window phase is h = at phase (subst (λ (s : Stage). StandsForPhase s buffer window phase) is h)
+idle_phase source stage buffer window phase is h = at phase (subst (λ (s : Stage). StandsForPhase source s buffer window phase) is h)
   where
-    at : (phase : Phase) → StandsForPhase stages.Idle buffer window phase → (phase ≡ Idle) × (buffer.bytes ≡ []) × (window.bytes ≡ [])
+    at : (phase : Phase) → StandsForPhase source stages.Idle buffer window phase → (phase ≡ Idle) × (buffer.bytes ≡ []) × (window.bytes ≡ [])
     at Idle h = (refl, h.0, h.1)
     at (Reading fed) h = absurd h
     at (Owing o) h = absurd h
     at Awaiting h = absurd h
     at Lost h = absurd h
 
-pub reading_phase : (reader : Reader) (stage : Stage) (buffer window : Kept) (phase : Phase) → stage ≡ stages.Reading reader → StandsForPhase stage buffer window phase
+pub reading_phase : (source : Source) (reader : Reader) (stage : Stage) (buffer window : Kept) (phase : Phase) → stage ≡ stages.Reading reader → StandsForPhase source stage buffer window phase
     → (fed : List ℕ) × (phase ≡ Reading fed) × IsReading reader buffer fed × (window.bytes ≡ [])
-reading_phase reader stage buffer window phase is h = at phase (subst (λ (s : Stage). StandsForPhase s buffer window phase) is h)
+reading_phase source reader stage buffer window phase is h = at phase (subst (λ (s : Stage). StandsForPhase source s buffer window phase) is h)
   where
-    at : (phase : Phase) → StandsForPhase (stages.Reading reader) buffer window phase → (fed : List ℕ) × (phase ≡ Reading fed) × IsReading reader buffer fed × (window.bytes ≡ [])
+    at : (phase : Phase) → StandsForPhase source (stages.Reading reader) buffer window phase → (fed : List ℕ) × (phase ≡ Reading fed) × IsReading reader buffer fed × (window.bytes ≡ [])
     at Idle h = absurd h
     at (Reading fed) h = (fed, refl, h.0, h.1)
     at (Owing o) h = absurd h
     at Awaiting h = absurd h
     at Lost h = absurd h
 
-pub owing_phase : (given : ℕ) (stage : Stage) (buffer window : Kept) (phase : Phase) → stage ≡ stages.Owing given → StandsForPhase stage buffer window phase
-    → (o : Owed) × (phase ≡ Owing o) × IsGiving buffer.bytes window given o
-owing_phase given stage buffer window phase is h = at phase (subst (λ (s : Stage). StandsForPhase s buffer window phase) is h)
+pub owing_phase : (source : Source) (given : ℕ) (stage : Stage) (buffer window : Kept) (phase : Phase) → stage ≡ stages.Owing given → StandsForPhase source stage buffer window phase
+    → (o : Owed) × (phase ≡ Owing o) × IsGiving buffer.bytes window given o × (o.began ≡ None)
+owing_phase source given stage buffer window phase is h = at phase (subst (λ (s : Stage). StandsForPhase source s buffer window phase) is h)
   where
-    at : (phase : Phase) → StandsForPhase (stages.Owing given) buffer window phase → (o : Owed) × (phase ≡ Owing o) × IsGiving buffer.bytes window given o
+    at : (phase : Phase) → StandsForPhase source (stages.Owing given) buffer window phase → (o : Owed) × (phase ≡ Owing o) × IsGiving buffer.bytes window given o × (o.began ≡ None)
+    at Idle h = absurd h
+    at (Reading fed) h = absurd h
+    at (Owing o) h = (o, refl, h.0, h.1)
+    at Awaiting h = absurd h
+    at Lost h = absurd h
+
+pub streaming_phase : (source : Source) (stream : Stream) (stage : Stage) (buffer window : Kept) (phase : Phase) → stage ≡ stages.Streaming stream → StandsForPhase source stage buffer window phase
+    → (o : Owed) × (phase ≡ Owing o) × IsStreaming source stream window o
+streaming_phase source stream stage buffer window phase is h = at phase (subst (λ (s : Stage). StandsForPhase source s buffer window phase) is h)
+  where
+    at : (phase : Phase) → StandsForPhase source (stages.Streaming stream) buffer window phase → (o : Owed) × (phase ≡ Owing o) × IsStreaming source stream window o
     at Idle h = absurd h
     at (Reading fed) h = absurd h
     at (Owing o) h = (o, refl, h)
     at Awaiting h = absurd h
     at Lost h = absurd h
 
-pub lost_phase : (stage : Stage) (buffer window : Kept) (phase : Phase) → stage ≡ stages.Lost → StandsForPhase stage buffer window phase → phase ≡ Lost
-lost_phase stage buffer window phase is h = at phase (subst (λ (s : Stage). StandsForPhase s buffer window phase) is h)
+pub lost_phase : (source : Source) (stage : Stage) (buffer window : Kept) (phase : Phase) → stage ≡ stages.Lost → StandsForPhase source stage buffer window phase → phase ≡ Lost
+lost_phase source stage buffer window phase is h = at phase (subst (λ (s : Stage). StandsForPhase source s buffer window phase) is h)
   where
-    at : (phase : Phase) → StandsForPhase stages.Lost buffer window phase → phase ≡ Lost
+    at : (phase : Phase) → StandsForPhase source stages.Lost buffer window phase → phase ≡ Lost
     at Idle h = absurd h
     at (Reading fed) h = absurd h
     at (Owing o) h = absurd h
     at Awaiting h = absurd h
     at Lost h = refl
 
-pub awaiting_phase : (stage : Stage) (buffer window : Kept) (phase : Phase) → stage ≡ stages.Awaiting → StandsForPhase stage buffer window phase → phase ≡ Awaiting
-awaiting_phase stage buffer window phase is h = at phase (subst (λ (s : Stage). StandsForPhase s buffer window phase) is h)
+pub awaiting_phase : (source : Source) (stage : Stage) (buffer window : Kept) (phase : Phase) → stage ≡ stages.Awaiting → StandsForPhase source stage buffer window phase → phase ≡ Awaiting
+awaiting_phase source stage buffer window phase is h = at phase (subst (λ (s : Stage). StandsForPhase source s buffer window phase) is h)
   where
-    at : (phase : Phase) → StandsForPhase stages.Awaiting buffer window phase → phase ≡ Awaiting
+    at : (phase : Phase) → StandsForPhase source stages.Awaiting buffer window phase → phase ≡ Awaiting
     at Idle h = absurd h
     at (Reading fed) h = absurd h
     at (Owing o) h = absurd h
@@ -77,18 +91,18 @@ awaiting_phase stage buffer window phase is h = at phase (subst (λ (s : Stage).
 -- ---- a piece that is taken
 
 -- What a piece comes to on the connections that a slot stands for.
-pub record Took (old new : Slot) (clock : ℕ) (piece : List ℕ) (result : Received) (c : Connection) : Type 0 where
+pub record Took (source : Source) (old new : Slot) (clock : ℕ) (piece : List ℕ) (result : Received) (c : Connection) : Type 0 where
   pub taken : Taking
   pub is : taking c.phase piece ≡ taken
   pub gives : result ≡ received piece c taken
-  pub stands : StandsForConnection new (fed_with clock c taken)
+  pub stands : StandsForConnection source new (fed_with clock c taken)
 
-pub feeding_acts : (old new : Slot) (clock : ℕ) (piece : List ℕ) (result : Received)
-    → ((c : Connection) → StandsForConnection old c → Took old new clock piece result c) → Acts StandsForConnection (feeding clock piece) old new result
+pub feeding_acts : (source : Source) (old new : Slot) (clock : ℕ) (piece : List ℕ) (result : Received)
+    → ((c : Connection) → StandsForConnection source old c → Took source old new clock piece result c) → Acts (StandsForConnection source) (feeding clock piece) old new result
 unfolding feeding
-feeding_acts old new clock piece result took = record {
+feeding_acts source old new clock piece result took = record {
   gives = λ c h. let t = took c h in t.gives ∙ ap (received piece c) (sym t.is);
-  stands = λ c h. let t = took c h in subst (λ (x : Taking). StandsForConnection new (fed_with clock c x)) (sym t.is) t.stands;
+  stands = λ c h. let t = took c h in subst (λ (x : Taking). StandsForConnection source new (fed_with clock c x)) (sym t.is) t.stands;
 }
 
 -- with what is held of arguments after it
@@ -159,62 +173,91 @@ mark_of_reading clock mark phase fed is = rw is refl
 -- ---- bytes that are given
 
 -- No byte is given.
-pub none_given : (old : Slot) (clock n : ℕ) → ((c : Connection) → StandsForConnection old c → min n (length (pending_in c.phase)) ≡ 0) → Acts StandsForConnection (giving clock n) old old tt
+pub none_given : (source : Source) (old : Slot) (clock n : ℕ) → ((c : Connection) → StandsForConnection source old c → min n (length (pending_in c.phase)) ≡ 0) → Acts (StandsForConnection source) (giving clock n) old old tt
 unfolding giving when_given
-none_given old clock n none = record {
+none_given source old clock n none = record {
   gives = λ c h. refl;
   stands = λ c h. rw (none c h) h;
 }
 
 -- nothing is pending but where a reply is owed
-pub nothing_pending : (stage : Stage) (buffer window : Kept) (phase : Phase) → ((x : ℕ) → stage ≡ stages.Owing x → ⊥) → StandsForPhase stage buffer window phase → pending_in phase ≡ []
-nothing_pending stages.Idle buffer window Idle other h = refl
-nothing_pending stages.Idle buffer window (Reading fed) other h = absurd h
-nothing_pending stages.Idle buffer window (Owing o) other h = absurd h
-nothing_pending stages.Idle buffer window Awaiting other h = absurd h
-nothing_pending stages.Idle buffer window Lost other h = absurd h
-nothing_pending (stages.Reading reader) buffer window Idle other h = absurd h
-nothing_pending (stages.Reading reader) buffer window (Reading fed) other h = refl
-nothing_pending (stages.Reading reader) buffer window (Owing o) other h = absurd h
-nothing_pending (stages.Reading reader) buffer window Awaiting other h = absurd h
-nothing_pending (stages.Reading reader) buffer window Lost other h = absurd h
-nothing_pending (stages.Owing given) buffer window phase other h = absurd (other given refl)
-nothing_pending stages.Awaiting buffer window Idle other h = absurd h
-nothing_pending stages.Awaiting buffer window (Reading fed) other h = absurd h
-nothing_pending stages.Awaiting buffer window (Owing o) other h = absurd h
-nothing_pending stages.Awaiting buffer window Awaiting other h = refl
-nothing_pending stages.Awaiting buffer window Lost other h = absurd h
-nothing_pending stages.Lost buffer window Idle other h = absurd h
-nothing_pending stages.Lost buffer window (Reading fed) other h = absurd h
-nothing_pending stages.Lost buffer window (Owing o) other h = absurd h
-nothing_pending stages.Lost buffer window Awaiting other h = absurd h
-nothing_pending stages.Lost buffer window Lost other h = refl
+pub nothing_pending : (source : Source) (stage : Stage) (buffer window : Kept) (phase : Phase) → ((x : ℕ) → stage ≡ stages.Owing x → ⊥) → ((x : Stream) → stage ≡ stages.Streaming x → ⊥) → StandsForPhase source stage buffer window phase → pending_in phase ≡ []
+nothing_pending source stages.Idle buffer window Idle other another h = refl
+nothing_pending source stages.Idle buffer window (Reading fed) other another h = absurd h
+nothing_pending source stages.Idle buffer window (Owing o) other another h = absurd h
+nothing_pending source stages.Idle buffer window Awaiting other another h = absurd h
+nothing_pending source stages.Idle buffer window Lost other another h = absurd h
+nothing_pending source (stages.Reading reader) buffer window Idle other another h = absurd h
+nothing_pending source (stages.Reading reader) buffer window (Reading fed) other another h = refl
+nothing_pending source (stages.Reading reader) buffer window (Owing o) other another h = absurd h
+nothing_pending source (stages.Reading reader) buffer window Awaiting other another h = absurd h
+nothing_pending source (stages.Reading reader) buffer window Lost other another h = absurd h
+nothing_pending source (stages.Owing given) buffer window phase other another h = absurd (other given refl)
+nothing_pending source (stages.Streaming stream) buffer window phase other another h = absurd (another stream refl)
+nothing_pending source stages.Awaiting buffer window Idle other another h = absurd h
+nothing_pending source stages.Awaiting buffer window (Reading fed) other another h = absurd h
+nothing_pending source stages.Awaiting buffer window (Owing o) other another h = absurd h
+nothing_pending source stages.Awaiting buffer window Awaiting other another h = refl
+nothing_pending source stages.Awaiting buffer window Lost other another h = absurd h
+nothing_pending source stages.Lost buffer window Idle other another h = absurd h
+nothing_pending source stages.Lost buffer window (Reading fed) other another h = absurd h
+nothing_pending source stages.Lost buffer window (Owing o) other another h = absurd h
+nothing_pending source stages.Lost buffer window Awaiting other another h = absurd h
+nothing_pending source stages.Lost buffer window Lost other another h = refl
 
-module _ (old new : Slot) (clock n more given : ℕ) (result : Option ℕ)
+module _ (source : Source) (old new : Slot) (clock n more given : ℕ) (result : Option ℕ)
     (stage : old.stage ≡ stages.Owing given)
     (count : (o : Owed) → IsGiving old.buffer.bytes old.window given o → result ≡ cond (nat_lt (o.given + more) (length o.marked)) (Some (o.given + more)) None)
     (all_given : (o : Owed) → IsGiving old.buffer.bytes old.window given o → more ≡ min n (length (pending_of o)))
     (some : 0 < more)
     (number : new.number ≡ old.number) (peer : new.peer ≡ old.peer) (mark : new.mark ≡ clock)
-    (goes_on : (o : Owed) (k : ℕ) → IsGiving old.buffer.bytes old.window given o → result ≡ Some k → StandsForPhase new.stage new.buffer new.window (Owing (record o { given = o.given + more })))
-    (ends : result ≡ None → StandsForPhase new.stage new.buffer new.window Idle) where
-  pub some_given : Acts StandsForConnection (giving clock n) old new tt
+    (goes_on : (o : Owed) (k : ℕ) → IsGiving old.buffer.bytes old.window given o → o.began ≡ None → result ≡ Some k → StandsForPhase source new.stage new.buffer new.window (Owing (record o { given = o.given + more })))
+    (ends : result ≡ None → StandsForPhase source new.stage new.buffer new.window Idle) where
+  pub some_given : Acts (StandsForConnection source) (giving clock n) old new tt
   unfolding giving when_given
   some_given = record {
     gives = λ c h. refl;
     stands = λ c h.
-        let w = owing_phase given old.stage old.buffer old.window c.phase stage h.phase in
+        let w = owing_phase source given old.stage old.buffer old.window c.phase stage h.phase in
         let m : more ≡ min n (length (pending_in c.phase)) = rw w.1 (all_given w.0 w.2) in
         let test : eqb more 0 ≡ false = grind (arith, nat_tests) in
-        let phase = by_end w.0 w.2 (nat_lt (w.0.given + more) (length w.0.marked)) refl in
+        let phase = by_end w.0 w.2 w.3 (nat_lt (w.0.given + more) (length w.0.marked)) refl in
         rw (← m) (rw test (record { number = number ∙ h.number; peer = peer ∙ h.peer; mark = mark; phase = rw w.1 phase }));
   }
     where
-      by_end : (o : Owed) → IsGiving old.buffer.bytes old.window given o → (b : Bool) → nat_lt (o.given + more) (length o.marked) ≡ b
-          → StandsForPhase new.stage new.buffer new.window (phase_when_given more (Owing o))
-      by_end o g true e =
+      by_end : (o : Owed) → IsGiving old.buffer.bytes old.window given o → o.began ≡ None → (b : Bool) → nat_lt (o.given + more) (length o.marked) ≡ b
+          → StandsForPhase source new.stage new.buffer new.window (phase_when_given more (Owing o))
+      by_end o g none true e =
           let is : result ≡ Some (o.given + more) = rw e at (count o g) in
-          rw e (goes_on o (o.given + more) g is)
-      by_end o g false e =
+          rw e (goes_on o (o.given + more) g none is)
+      by_end o g none false e =
           let is : result ≡ None = rw e at (count o g) in
           rw e (ends is)
+
+-- ---- bytes of a list that are given
+
+pub list_goes_on : (source : Source) (stream : Stream) (buffer window : Kept) (more : ℕ) (o : Owed) → IsStreaming source stream window (record o { given = o.given + more })
+    → StandsForPhase source (stages.Streaming stream) buffer window (phase_when_given more (Owing o))
+list_goes_on source stream buffer window more o g = rw (lt-ltb (o.given + more) (length o.marked) g.gives.owes) g
+
+pub list_is_over : (source : Source) (buffer window : Kept) (more : ℕ) (o : Owed) → length o.marked ≤ o.given + more → buffer.bytes ≡ [] → window.bytes ≡ []
+    → StandsForPhase source stages.Idle buffer window (phase_when_given more (Owing o))
+list_is_over source buffer window more o all b w = rw (le-ltb (o.given + more) (length o.marked) all) (b, w)
+
+module _ (source : Source) (old new : Slot) (clock n more : ℕ) (stream : Stream)
+    (stage : old.stage ≡ stages.Streaming stream)
+    (counted : (o : Owed) → IsStreaming source stream old.window o → more ≡ min n (length (pending_of o)))
+    (some : 0 < more)
+    (number : new.number ≡ old.number) (peer : new.peer ≡ old.peer) (mark : new.mark ≡ clock)
+    (goes_on : (o : Owed) → IsStreaming source stream old.window o → StandsForPhase source new.stage new.buffer new.window (phase_when_given more (Owing o))) where
+  pub list_given : Acts (StandsForConnection source) (giving clock n) old new tt
+  unfolding giving when_given
+  list_given = record {
+    gives = λ c h. refl;
+    stands = λ c h.
+        let w = streaming_phase source stream old.stage old.buffer old.window c.phase stage h.phase in
+        let m : more ≡ min n (length (pending_in c.phase)) = rw w.1 (counted w.0 w.2) in
+        let test : eqb more 0 ≡ false = grind (arith, nat_tests) in
+        let phase = goes_on w.0 w.2 in
+        rw (← m) (rw test (record { number = number ∙ h.number; peer = peer ∙ h.peer; mark = mark; phase = rw w.1 phase }));
+  }

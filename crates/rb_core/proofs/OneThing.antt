@@ -17,7 +17,7 @@ use Rattle.rb_core.specs.State.{State, Connection}
 use Rattle.rb_core.specs.Deadlines.{is_due}
 use Rattle.rb_core.specs.Ending.{told_failed, told_at, tell, at_fresh_moment, expire}
 use Rattle.rb_core.specs.Laws.{IsReached, IsLeast}
-use Rattle.rb_core.specs.DeadlineLaws.{EntryIsDue, DoesOneThing, ExpireDoesOneThing}
+use Rattle.rb_core.specs.DeadlineLaws.{clock_at, EntryIsDue, DoesOneThing, ExpireDoesOneThing}
 use Rattle.rb_core.proofs.Reached.{reached-sound}
 use Rattle.rb_core.proofs.LeastLost.{first-least}
 use Rattle.rb_core.proofs.EntriesKept.{AreRising, reached-kept}
@@ -63,10 +63,10 @@ module _ (s : State) (reached : IsReached s) (now : ℕ) where
   clock = max s.clock now
 
   ending : (o : Option Entry) → find (entry_is_due clock) s.ledger.forwards.all ≡ o
-      → EndsFirst (EntryIsDue now s) Failed s.ledger.forwards (option_map (ended_by Failed) o) (record s.ledger.forwards { all = without_first (entry_is_due clock) s.ledger.forwards.all })
+      → EndsFirst (EntryIsDue (clock_at now s)) Failed s.ledger.forwards (option_map (ended_by Failed) o) (record s.ledger.forwards { all = without_first (entry_is_due clock) s.ledger.forwards.all })
   ending o is =
-      subst (λ (x : Option Entry). EndsFirst (EntryIsDue now s) Failed s.ledger.forwards (option_map (ended_by Failed) x) (record s.ledger.forwards { all = without_first (entry_is_due clock) s.ledger.forwards.all })) is
-      (ends_first (EntryIsDue now s) (entry_is_due clock) (due_means clock) (due_tested clock) Failed s.ledger.forwards)
+      subst (λ (x : Option Entry). EndsFirst (EntryIsDue (clock_at now s)) Failed s.ledger.forwards (option_map (ended_by Failed) x) (record s.ledger.forwards { all = without_first (entry_is_due clock) s.ledger.forwards.all })) is
+      (ends_first (EntryIsDue (clock_at now s)) (entry_is_due clock) (due_means clock) (due_tested clock) Failed s.ledger.forwards)
 
   least-found : (o : Option Connection) → find (is_due clock) s.connections.all ≡ o → IsLeast (is_due clock) s.connections.all (option_map (λ (c : Connection). c.number) o)
   least-found o is =
@@ -81,9 +81,9 @@ module _ (s : State) (reached : IsReached s) (now : ℕ) where
       let said : Outcome = told_at [] (end_of e) in
       subst (DoesOneThing now s) (sym is) (record {
         entry = ends.0;
-        ends = subst (λ l. IsFirst (EntryIsDue now s) s.ledger.forwards.all ends.0 l.forwards.all) (sym (tell-ledger mid e.forward.caller said))
-            (subst (λ f. IsFirst (EntryIsDue now s) s.ledger.forwards.all ends.0 f.all) (sym left) ends.1);
-        least = first-is-least (EntryIsDue now s) s.ledger.forwards.next s.ledger.forwards.all _ ends.0 (reached-kept s reached).order ends.1;
+        ends = subst (λ l. IsFirst (EntryIsDue (clock_at now s)) s.ledger.forwards.all ends.0 l.forwards.all) (sym (tell-ledger mid e.forward.caller said))
+            (subst (λ f. IsFirst (EntryIsDue (clock_at now s)) s.ledger.forwards.all ends.0 f.all) (sym left) ends.1);
+        least = first-is-least (EntryIsDue (clock_at now s)) s.ledger.forwards.next s.ledger.forwards.all _ ends.0 (reached-kept s reached).order ends.1;
         tells = tell-told s mid e.forward.caller said ∙ ap (λ (f : Forward). (tell f.caller (told_failed f SystemErr) s).0) same;
       })
   by_case r (ConnectionEnds none c found is) =

@@ -1,13 +1,17 @@
 -- A reply that is owed stays so until its bytes are given or its connection is closed.
-use Rattle.std.proofs.Common.{◌≡◌, ℕ, max, Bool, true, false, eqb, Some, List, ◌++◌, take, refl, sym, ap, ◌∙◌, ◌⊎◌, inl, inr}
+use Rattle.std.proofs.Common.{◌≡◌, ℕ, max, Bool, true, false, eqb, Some, List, ◌++◌, map, take, refl, sym, ap, ◌∙◌, ◌⊎◌, inl, inr}
 use Rattle.std.proofs.lemmas.Bool.{eqb-true}
 use Rattle.rb_core.specs.State.{State, Phase, Connection, Connections}
 use Rattle.rb_core.specs.State.Phase.{Idle, Reading, Owing, Awaiting, Lost}
 use Rattle.rb_core.specs.Connections.{is_live, live_connection, fed_in, change_first, changed_at, reading, settled, giving, without_number}
 use Rattle.rb_core.specs.Step.{Event, Output, step}
 use Rattle.rb_core.specs.Laws.{IsLive, is_owing, gives_or_closes, OwedRepliesStay}
-use Rattle.rb_core.proofs.Happenings.{Happening, happening, said_in}
-use Rattle.rb_core.proofs.Happenings.Happening.{Stays, Opens, Reads, Ends, Gives, Closes, Tells, TimesOut}
+use Rattle.rb_rpc.specs.declared.peer.Caller.TheVariants.{Tcp, Udp}
+use Rattle.rb_rpc.specs.Records.{data_of}
+use Rattle.rb_core.specs.Evictions.{evicted, evicting}
+use Rattle.rb_core.proofs.Crowds.{live_or_lost, lost_stays}
+use Rattle.rb_core.proofs.Happenings.{Happening, happening, said_in, crowd_at}
+use Rattle.rb_core.proofs.Happenings.Happening.{Stays, Evicts, Opens, Reads, Ends, Gives, Closes, Tells, TimesOut}
 use Rattle.rb_core.specs.Deadlines.{lost}
 use Rattle.rb_core.proofs.Closings.{lost_in, now-lost, timing-out}
 use Rattle.rb_core.proofs.Live.{changed-other, closed-other, find-before}
@@ -50,16 +54,33 @@ module _ (s : State) (waits : Await s) (event : Event) (id : ℕ) (c : Connectio
   unfolding live_connection
   changed k f now keeps e same = ap (λ (x : Connections). live_connection id x.all) same ∙ changed-other id k f keeps e s.connections.all ∙ there
 
+  -- where it is in the way of a row it is Lost, and else it stays; so too where another goes on then
+  in-the-way : (changes : List ℕ) (now : Connections) → now ≡ evicting changes s.connections → (live_connection id now.all ≡ Some c) ⊎ (lost_in id now.all ≡ true)
+  unfolding live_connection
+  in-the-way changes now same = elim (live_or_lost id changes s.connections.all c there) [
+    | inl stays ↦ inl (ap (λ (x : Connections). live_connection id x.all) same ∙ stays.1)
+    | inr goes ↦ inr (ap (λ (x : Connections). lost_in id x.all) same ∙ goes.1)
+  ]
+
+  another-goes-on : (changes : List ℕ) (k : ℕ) (f : Connection → Connection) (now : Connections) → ((d : Connection) → (f d).number ≡ d.number) → eqb k id ≡ false → now ≡ changed_at k f (evicting changes s.connections)
+      → (live_connection id now.all ≡ Some c) ⊎ (lost_in id now.all ≡ true)
+  unfolding live_connection
+  another-goes-on changes k f now keeps e same = elim (live_or_lost id changes s.connections.all c there) [
+    | inl stays ↦ inl (ap (λ (x : Connections). live_connection id x.all) same ∙ changed-other id k f keeps e (map (evicted changes) s.connections.all) ∙ stays.1)
+    | inr goes ↦ inr (ap (λ (x : Connections). lost_in id x.all) same ∙ lost_stays id k f keeps e (map (evicted changes) s.connections.all) goes.1)
+  ]
+
   by_case : (output : Output) (now : Connections) → gives_or_closes id event ≡ false → Happening s event output now → (live_connection id now.all ≡ Some c) ⊎ (lost_in id now.all ≡ true)
   unfolding live_connection reading settled without_number
   by_case output now not_it (Stays q same) = inl (ap (λ (x : Connections). live_connection id x.all) same ∙ there)
+  by_case output now not_it (Evicts at peer content e q same) = in-the-way (crowd_at s at (Udp peer) content) now same
   by_case output now not_it (Opens at peer e out same) =
       inl (ap (λ (x : Connections). live_connection id x.all) same
       ∙ find-before (is_live id) s.connections.all c (record { number = s.connections.next; peer = peer; phase = Idle; mark = max s.clock at }) there)
   by_case output now not_it (Reads at k piece d fed e here feeds none out same) =
       inl (changed k (reading (max s.clock at) (fed ++ piece)) now (λ x. refl) (other k d fed here feeds) same)
   by_case output now not_it (Ends at k piece d fed n e here feeds some out same) =
-      inl (changed k (settled (max s.clock at) (said_in s at k d (take n (fed ++ piece)))) now (λ x. refl) (other k d fed here feeds) same)
+      another-goes-on (crowd_at s at (Tcp k d.peer) (data_of (take n (fed ++ piece)))) k (settled (max s.clock at) (said_in s at k d (take n (fed ++ piece)))) now (λ x. refl) (other k d fed here feeds) same
   by_case output now not_it (Gives at k n d e here few out same) =
       inl (changed k (λ x. (giving (max s.clock at) n x).1) now (giving-keeps (max s.clock at) n).number (ap (gives_or_closes id) (sym e) ∙ not_it) same)
   by_case output now not_it (Tells at k said e q final told has same) =

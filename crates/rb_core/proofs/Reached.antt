@@ -1,5 +1,5 @@
 -- What holds of the connections in each state that a run reaches.
-use Rattle.std.proofs.Common.{◌≡◌, ◌<◌, ◌≤◌, ℕ, ◌+◌, max, Bool, true, false, cond, not, eqb, nat_lt, min, Some, None, List, [], ◌∷◌, ◌++◌, length, refl, sym, subst, arith}
+use Rattle.std.proofs.Common.{◌≡◌, ◌<◌, ◌≤◌, ℕ, ◌+◌, max, Bool, true, false, cond, not, eqb, nat_lt, min, Some, None, List, [], ◌∷◌, ◌++◌, length, map, take, refl, sym, subst, arith}
 use Rattle.std.specs.Prelude.{find, filter}
 use Rattle.std.proofs.lemmas.Bool.{ltb-true}
 use Rattle.rb_rpc.specs.Records.{first_record}
@@ -13,8 +13,11 @@ use Rattle.rb_core.specs.Step.{Event, Output, step}
 use Rattle.rb_core.specs.Run.{after}
 use Rattle.rb_core.specs.Laws.{IsReached, IsLive}
 use Rattle.rb_core.proofs.Fragments.{some-marked}
-use Rattle.rb_core.proofs.Happenings.{Happening, happening}
-use Rattle.rb_core.proofs.Happenings.Happening.{Stays, Opens, Reads, Ends, Gives, Closes, Tells, TimesOut}
+use Rattle.rb_rpc.specs.declared.peer.Caller.TheVariants.{Tcp, Udp}
+use Rattle.rb_rpc.specs.Records.{data_of}
+use Rattle.rb_core.specs.Evictions.{began_in, began_before, evicted}
+use Rattle.rb_core.proofs.Happenings.{Happening, happening, crowd_at}
+use Rattle.rb_core.proofs.Happenings.Happening.{Stays, Evicts, Opens, Reads, Ends, Gives, Closes, Tells, TimesOut}
 
 -- no record is in the bytes that were fed, and of a reply that is owed some byte is still to be given
 abbrev pub IsSoundPhase : Phase → Type 0
@@ -83,7 +86,7 @@ settled-keeps clock said = record { number = λ c. refl; phase = λ c s. by_outc
   where
     by_outcome : (o : Outcome) → IsSoundPhase (phase_after o)
     by_outcome NoCall = tt
-    by_outcome (Reply reply) = omega (arith, some-marked reply)
+    by_outcome (Reply reply began) = omega (arith, some-marked reply)
     by_outcome Forwarded = tt
     by_outcome Silent = tt
 
@@ -118,6 +121,18 @@ giving-keeps clock n = record {
 pub lost-keeps : Keeps lost
 lost-keeps = record { number = λ c. refl; phase = λ c s. tt }
 
+pub evicted-keeps : (changes : List ℕ) → Keeps (evicted changes)
+unfolding evicted
+evicted-keeps changes = record {
+  number = λ c. elim (began_before changes (began_in c.phase)) as (λ b. (cond b (lost c) c).number ≡ c.number) [ true ↦ refl | false ↦ refl ];
+  phase = λ c s. elim (began_before changes (began_in c.phase)) as (λ b. IsSoundPhase (cond b (lost c) c).phase) [ true ↦ tt | false ↦ s ];
+}
+
+pub mapped : (f : Connection → Connection) → Keeps f → (least next : ℕ) (all : List Connection) → AreSound least next all → AreSound least next (map f all)
+mapped f k least next [] s = s
+mapped f k least next (c ∷ all) s =
+    (omega (arith, k.number c, s.0), k.phase c s.1, subst (λ (n : ℕ). AreSound (n + 1) next (map f all)) (sym (k.number c)) (mapped f k (c.number + 1) next all s.2))
+
 -- ---- steps and runs
 
 abbrev pub SoundIn : Connections → Type 0
@@ -126,12 +141,16 @@ SoundIn c = AreSound 0 c.next c.all
 pub happening-sound : (s : State) (event : Event) (output : Output) (now : Connections) → IsSound s → Happening s event output now → SoundIn now
 unfolding without_number
 happening-sound s event output now sound (Stays q same) = subst SoundIn (sym same) sound
+happening-sound s event output now sound (Evicts at peer content is q same) =
+    subst SoundIn (sym same) (mapped (evicted (crowd_at s at (Udp peer) content)) (evicted-keeps _) 0 s.connections.next s.connections.all sound)
 happening-sound s event output now sound (Opens at peer is out same) =
     subst SoundIn (sym same) (one_more 0 s.connections.next s.connections.all (record { number = s.connections.next; peer = peer; phase = Idle; mark = max s.clock at }) refl tt sound)
 happening-sound s event output now sound (Reads at id piece c fed is there feeds none out same) =
     subst SoundIn (sym same) (changed id _ (reading-keeps (max s.clock at) (fed ++ piece) none) 0 s.connections.next s.connections.all sound)
 happening-sound s event output now sound (Ends at id piece c fed n is there feeds some out same) =
-    subst SoundIn (sym same) (changed id _ (settled-keeps (max s.clock at) _) 0 s.connections.next s.connections.all sound)
+    let changes : List ℕ = crowd_at s at (Tcp id c.peer) (data_of (take n (fed ++ piece))) in
+    subst SoundIn (sym same) (changed id _ (settled-keeps (max s.clock at) _) 0 s.connections.next (map (evicted changes) s.connections.all)
+    (mapped (evicted changes) (evicted-keeps changes) 0 s.connections.next s.connections.all sound))
 happening-sound s event output now sound (Gives at id n c is there few out same) =
     subst SoundIn (sym same) (changed id _ (giving-keeps (max s.clock at) n) 0 s.connections.next s.connections.all sound)
 happening-sound s event output now sound (Tells at id said is q final told there same) =

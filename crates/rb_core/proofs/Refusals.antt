@@ -56,7 +56,7 @@ shows_taken : (s : State) (t : Taken) (u : State) → IsKeptIfRefused (show_take
 shows_taken s t u = elim (t.closed) as (λ b. IsKeptIfRefused (cond b (TookAndClosed t.count) (Took t.count)) s u) [ true ↦ tt | false ↦ tt ]
 
 shows_outcome : (s : State) (r : Outcome × State) → IsKeptIfRefused (show_outcome r).0 s (show_outcome r).1
-shows_outcome s (outcomes.Reply reply, t) = tt
+shows_outcome s (outcomes.Reply reply began, t) = tt
 shows_outcome s (outcomes.NoCall, t) = tt
 shows_outcome s (outcomes.Forwarded, t) = tt
 shows_outcome s (outcomes.Silent, t) = tt

@@ -1,6 +1,8 @@
 -- There are no more connections than there may be.
 use Rattle.std.proofs.Common.{◌≡◌, ℕ, suc, ◌+◌, ◌≤◌, max, Bool, true, false, cond, not, nat_lt, eqb, Option, Some, None, Result, Ok, Err, List, [], ◌∷◌, ◌++◌, length, refl, sym, ap, subst, arith}
 use Rattle.std.specs.Prelude.{filter}
+use Rattle.std.proofs.lemmas.List.{length-map}
+use Rattle.rb_core.specs.Evictions.{crowding, evicted}
 use Rattle.std.proofs.lemmas.Bool.{ltb-true}
 use Rattle.rb_rpc.specs.declared.peer.Peer.{Peer}
 use Rattle.rb_rpc.specs.declared.peer.Caller.{Caller}
@@ -14,14 +16,14 @@ use Rattle.rb_core.specs.declared.types.CoreFault.TheVariants.{Full, Spent, Gone
 use Rattle.rb_core.specs.declared.types.Told.{Told}
 use Rattle.rb_core.specs.declared.types.Expired.{Expired}
 use Rattle.rb_core.specs.declared.types.Expired.TheVariants as expiries
-use Rattle.rb_core.specs.Calls.{Outcome, Outcome as outcomes}
+use Rattle.rb_core.specs.Calls.{Outcome, Outcome as outcomes, message_of}
 use Rattle.rb_core.specs.State.{State, Connection, at_moment, greatest_number, opening}
 use Rattle.rb_core.specs.Connections.{Taking, taking, reading, settled, change_first, is_live, live_connection, giving, on_found, number_for, opening_as, opening_of, is_there, without_number, closing_of}
 use Rattle.rb_core.specs.State.Phase.{Idle}
 use Rattle.rb_core.specs.Deadlines.{lost}
 use Rattle.rb_core.specs.Connections.Taking.{TakesNone, GoesOn, Ends}
 use Rattle.rb_core.specs.Ending.{told_at, tell, tell_end, at_fresh_moment, forward_reply, expire}
-use Rattle.rb_core.specs.Step.{Event, Output, serve, answering, moved, when_taken, bytes_to, bytes, pending, gave, is_too_much, open_connection, dropped_with, close_connection, with_reply, datagram, sent_call, output_or, show_taken, show_done, show_outcome, show_end, show_expired, step}
+use Rattle.rb_core.specs.Step.{Event, Output, context_in, serve, answering, moved, when_taken, bytes_to, bytes, pending, gave, is_too_much, open_connection, dropped_with, close_connection, with_reply, datagram, sent_call, output_or, show_taken, show_done, show_outcome, show_end, show_expired, step}
 use Rattle.rb_core.specs.Step.Event.{Open, Bytes, Pending, Gave, Closed, NextLost, Datagram, Unsent, Sent, Forward as ForwardCame, Expire}
 use Rattle.rb_core.specs.Step.Output.{Opened, TooMuch, IsPending}
 use Rattle.rb_core.specs.Run.{after}
@@ -61,7 +63,7 @@ module _ (s : State) where
 
   serve-few : (now : ℕ) (caller : Caller) (content : List ℕ) → count (serve (at_moment now s) caller content).1 ≤ count s
   unfolding serve
-  serve-few now caller content = omega arith
+  serve-few now caller content = let same = length-map s.connections.all (evicted (crowding (context_in (at_moment now s) caller) (message_of content) s.connections.all s.ledger)) in omega (arith, same)
 
   bytes-few : (now id : ℕ) (piece : List ℕ) (o : Option Connection) → count (output_or show_taken (bytes_to s now id piece o)).1 ≤ count s
   unfolding answering
@@ -110,7 +112,7 @@ module _ (s : State) where
 
   outcome-few : (r : Outcome × State) → count r.1 ≤ count s → count (show_outcome (with_reply r)).1 ≤ count s
   outcome-few (outcomes.NoCall, u) few = few
-  outcome-few (outcomes.Reply reply, u) few = few
+  outcome-few (outcomes.Reply reply began, u) few = few
   outcome-few (outcomes.Forwarded, u) few = few
   outcome-few (outcomes.Silent, u) few = few
 

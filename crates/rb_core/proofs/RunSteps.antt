@@ -8,8 +8,9 @@ use Rattle.rb_core.specs.declared.types.Told.{Told}
 use Rattle.rb_core.specs.declared.types.Expired.{Expired}
 use Rattle.rb_core.specs.declared.types.Expired.TheVariants.{Ended}
 use Rattle.rb_core.specs.declared.types.Expired.TheVariants as expiries
-use Rattle.rb_core.specs.Step.{Output, output_or, show_told, show_end, show_expired}
-use Rattle.rb_core.specs.Step.Output.{Refused, Ignored, Nothing, ConnectionClosed}
+use Rattle.rb_core.specs.Calls.{Outcome, Outcome as said}
+use Rattle.rb_core.specs.Step.{Output, output_or, show_outcome, show_told, show_end, show_expired}
+use Rattle.rb_core.specs.Step.Output.{Refused, Ignored, Nothing, ConnectionClosed, Replied, Forwarded, Silent}
 use Rattle.rb_core.specs.StandsFor.{Held, StandsFor}
 
 module _ {A : Type 0} (show : A → Output) (act : State → Result A CoreFault × State) (old new : Held) where
@@ -93,3 +94,21 @@ module _ (act : State → Expired × State) (old new : Held) where
 
 pub one_then_other : (a b c : Meter) (x y : ℕ) → PaysAtMost a b x → PaysAtMost b c y → PaysAtMost a c (x + y)
 one_then_other a b c x y p q = record { steps = omega (arith, p.steps, q.steps); rises = omega (arith, p.rises, q.rises); tie = q.tie ∙ p.tie }
+
+-- ---- datagrams
+
+-- what is shown of an outcome over UDP
+abbrev pub shown_of : Outcome → Output
+shown_of said.NoCall = Silent
+shown_of (said.Reply reply began) = Replied reply
+shown_of said.Forwarded = Forwarded
+shown_of said.Silent = Silent
+
+pub datagram_shown : (old new : Held) (act : State → Outcome × State) (given : Outcome) → Acts StandsFor act old new given → (s : State) → StandsFor old s → (shown_of given ≡ (show_outcome (act s)).0) × StandsFor new (show_outcome (act s)).1
+datagram_shown old new act given acts s h = by_result (act s) (acts.gives s h) (acts.stands s h)
+  where
+    by_result : (r : Outcome × State) → given ≡ r.0 → StandsFor new r.1 → (shown_of given ≡ (show_outcome r).0) × StandsFor new (show_outcome r).1
+    by_result (said.NoCall, t) e z = (ap shown_of e, z)
+    by_result (said.Reply reply began, t) e z = (ap shown_of e, z)
+    by_result (said.Forwarded, t) e z = (ap shown_of e, z)
+    by_result (said.Silent, t) e z = (ap shown_of e, z)

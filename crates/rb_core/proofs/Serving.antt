@@ -1,5 +1,5 @@
 -- What a call leaves behind, from what its parts do to the books.
-use Rattle.std.proofs.Common.{◌≡◌, List, ℕ, refl, sym, ap, ◌∙◌}
+use Rattle.std.proofs.Common.{◌≡◌, List, ℕ, length, Some, refl, sym, ap, ◌∙◌, arith, length-append}
 use Rattle.rb_rpc.specs.declared.call.CallHead.{CallHead}
 use Rattle.rb_forward.specs.Table.{Table}
 use Rattle.rb_proto.specs.declared.answers.Answer.{Answer}
@@ -8,11 +8,25 @@ use Rattle.rb_proto.specs.Forwarding.{StayUnlessForwarded}
 use Rattle.rb_proto.specs.declared.books.Books.{Books}
 use Rattle.rb_proto.specs.declared.call.Call.{Call}
 use Rattle.rb_proto.specs.declared.context.Context.{Context}
-use Rattle.rb_proto.specs.Ledger.{Ledger, StandsForLedger, ActsAs, called}
+use Rattle.rb_proto.specs.Ledger.{Ledger, StandsForLedger, ActsAs, called, rows_in}
 use Rattle.rb_proto.specs.Answers.{answer}
-use Rattle.rb_proto.specs.Results.{result_bytes, shown_of}
+use Rattle.rb_proto.specs.Results.{result_bytes, list_bytes, shown_of}
+use Rattle.rb_rpc.specs.declared.peer.Caller.{Caller}
+use Rattle.rb_rpc.specs.declared.peer.Caller.TheVariants.{Tcp, Udp}
+use Rattle.rb_rpc.specs.declared.reply.ReplyStatus.TheVariants.{Success}
+use Rattle.rb_rpc.specs.Replies.{reply_head}
+use Rattle.rb_registry.specs.declared.row.Row.{Row}
+use Rattle.rb_registry.specs.Registry.{rows_of}
+use Rattle.rb_proto.specs.declared.answers.Results.{Results}
+use Rattle.rb_proto.specs.declared.answers.Results.TheVariants as results
+use Rattle.rb_proto.specs.declared.list_reply.ListReply.{ListReply}
+use Rattle.rb_proto.specs.ListReplies.{rest_of, list_reply}
+use Rattle.rb_core.specs.declared.serve.Served.TheVariants.{Listed}
+use Rattle.rb_core.specs.Rooms.{source_in}
+use Rattle.rb_core.specs.Serving.{list_outcome, HasList, IsListFor}
+use Rattle.rb_core.proofs.Replies.{some_head}
 use Rattle.rb_core.specs.declared.message.Message.TheVariants as says
-use Rattle.rb_core.specs.Calls.{Outcome, told_as, reply_with, outcome}
+use Rattle.rb_core.specs.Calls.{Outcome, told_as, told_results, reply_with, outcome}
 use Rattle.rb_core.specs.Awaits.{kind_of, StayUnlessForwarded as StaysUnless}
 
 -- the books stand for the ledger in which the call is noted, with the registry as it was
@@ -21,14 +35,14 @@ pub record Notes (head : CallHead) (old new : Books) : Type 0 where
   pub registry : new.registry ≡ old.registry
 
 module _ (context : Context) (call : Call) (arguments : List ℕ) (old mid new : Books) (given : Answer) (said : Outcome) (notes : Notes call.head old mid) (acts : ActsAs (answer context call arguments) mid new given) where
-  replied : ((l : Ledger) → StandsForLedger new l → said ≡ told_as call.head.xid (result_bytes context.listener.host (shown_of l)) given)
+  replied : ((l : Ledger) → StandsForLedger new l → said ≡ told_as context.caller (length l.changes) call.head.xid (result_bytes context.listener.host (shown_of l)) given)
       → (p : Answer × Ledger) → given ≡ p.0 → StandsForLedger new p.1 → said ≡ (reply_with context call.head.xid p).0
-  replied told (a, l) e s = told l s ∙ ap (told_as call.head.xid (result_bytes context.listener.host (shown_of l))) e
+  replied told (a, l) e s = told l s ∙ ap (told_as context.caller (length l.changes) call.head.xid (result_bytes context.listener.host (shown_of l))) e
 
   left : (p : Answer × Ledger) → (reply_with context call.head.xid p).1 ≡ p.1
   left (a, l) = refl
 
-  pub asked_acts : ((l : Ledger) → StandsForLedger new l → said ≡ told_as call.head.xid (result_bytes context.listener.host (shown_of l)) given)
+  pub asked_acts : ((l : Ledger) → StandsForLedger new l → said ≡ told_as context.caller (length l.changes) call.head.xid (result_bytes context.listener.host (shown_of l)) given)
       → ActsAs (outcome context (says.Asked call) arguments) old new said
   unfolding outcome called
   asked_acts told = record {
@@ -44,3 +58,26 @@ quiet_as (answers.Results results) old new same = same
 quiet_as (answers.Refused status) old new same = same
 quiet_as answers.Forwarded old new same = tt
 quiet_as answers.Silent old new same = same
+
+-- ---- lists
+
+pub listed : (caller : Caller) (given : Results) (xid : ℕ) (books : Books) (host : List ℕ) (list : ListReply) (l : Ledger) → IsListFor caller given xid books.registry (Some list) → StandsForLedger books l
+    → list_outcome (source_in host books) list ≡ told_results caller (length l.changes) xid (result_bytes host (shown_of l) given) given
+unfolding result_bytes
+listed (Udp peer) given xid books host list l none h = absurd cc
+listed (Tcp id peer) (results.Rows listing) xid books host list l is h =
+    let rows : rest_of host books.registry list ≡ list_reply host xid (rows_in l) listing = is.rest host ∙ ap (λ (rows : List Row). list_reply host xid rows listing) h.registry.rows in
+    let stamp : list.stamp ≡ length l.changes = is.stamp ∙ h.registry.stamp in
+    rw (rows, stamp) refl
+listed (Tcp id peer) (results.Value value) xid books host list l none h = absurd cc
+listed (Tcp id peer) results.Statistics xid books host list l none h = absurd cc
+
+pub list_is_told : (caller : Caller) (given : Results) (xid : ℕ) (books : Books) (host : List ℕ) (list : ListReply) → IsListFor caller given xid books.registry (Some list)
+    → HasList caller (source_in host books) (Listed list)
+list_is_told (Udp peer) given xid books host list none = absurd cc
+list_is_told (Tcp id peer) (results.Rows listing) xid books host list is =
+    let some = some_head xid Success in
+    let whole = length-append (reply_head xid Success) (list_bytes host (rows_of books.registry) listing) in
+    record { told = is.told; some = omega (arith, some, whole, ap (λ (xs : List ℕ). length xs) (is.rest host)) }
+list_is_told (Tcp id peer) (results.Value value) xid books host list none = absurd cc
+list_is_told (Tcp id peer) results.Statistics xid books host list none = absurd cc

@@ -20,17 +20,21 @@ use Rattle.rb_core.specs.Step.Event.{Bytes, Gave}
 use Rattle.rb_core.specs.Step.Output.{Opened, Took, TookAndClosed, Done}
 use Rattle.rb_core.specs.Laws.{number_given, owed_in, IsGiven}
 use Rattle.rb_core.specs.Sessions.{Exchange, Session, at_event, piece_to, count_in, taken_by, gave_to, shown, given_by, nothing_passed, passed, passed_by, told_by, with_told, with_last_told, replies_to, marked_reply, IsFinal, is_answered, AwaitsLast, AreAnswered, IsFront}
-use Rattle.rb_core.proofs.Cuts.{IsFeeding, find-changed, find-holds, number-is, reading-feeds}
+use Rattle.rb_core.proofs.Cuts.{IsFeeding, find-changed, find-holds, number-is, reading-feeds, fed-no-list}
 use Rattle.rb_core.proofs.Closings.{final-call}
 use Rattle.rb_core.proofs.Entering.{is_forwarded}
 use Rattle.rb_core.proofs.Entries.{Await, IsWaiting, entry-waits, fed-awaits, giving-awaits}
-use Rattle.rb_core.proofs.Happenings.{Happening, happening, said_in, TellsTo, tells, end-passes-none}
-use Rattle.rb_core.proofs.Happenings.Happening.{Stays, Opens, Reads, Ends, Gives, Closes, Tells, TimesOut}
+use Rattle.rb_core.proofs.Happenings.{Happening, happening, said_in, crowd_at, TellsTo, tells, end-passes-none}
+use Rattle.rb_core.proofs.Happenings.Happening.{Stays, Evicts, Opens, Reads, Ends, Gives, Closes, Tells, TimesOut}
 use Rattle.rb_core.specs.Deadlines.{lost as timed_out}
 use Rattle.rb_core.proofs.Live.{without, changed-other, closed-other, find-after, closed-gone, lost-gone, timed-out-gone, number-below, answering-feeds, giving-feeds}
 use Rattle.rb_core.proofs.Numbers.{GivesNext, happening-next}
 use Rattle.rb_core.proofs.Passing.{none-taken, none-passed, goes-on, ends, call_of, one-more-reply, first-alone, records-on, records-end}
-use Rattle.rb_core.proofs.Reached.{SoundIn, IsSoundPhase, found-sound, happening-sound, giving-keeps, settled-keeps}
+use Rattle.rb_core.proofs.Reached.{AreSound, SoundIn, IsSoundPhase, found-sound, happening-sound, giving-keeps, settled-keeps, evicted-keeps, mapped}
+use Rattle.rb_rpc.specs.declared.peer.Caller.TheVariants.{Tcp, Udp}
+use Rattle.rb_rpc.specs.Records.{data_of}
+use Rattle.rb_core.specs.Evictions.{evicted, evicting}
+use Rattle.rb_core.proofs.Crowds.{stays_dead, plain_lives, still_is}
 use Rattle.rb_core.proofs.WholeReplies.{behind, front-of, one-given}
 
 -- ---- what holds of what passed
@@ -109,13 +113,13 @@ reading-fits clock all c t is given answered = record { unfinished = is; rest = 
 settled-fits : (clock : ℕ) (said : Outcome) (c : Connection) (t : Session) → t.unfinished ≡ [] → t.given ++ marked_reply said ≡ replies_to t.calls → AreAnswered (is_forwarded said) t.calls → Fits (settled clock said c).phase t
 unfolding settled owed
 settled-fits clock NoCall c t is rest answered = record { unfinished = is; rest = rest; answered = answered }
-settled-fits clock (Reply reply) c t is rest answered = record { unfinished = is; rest = rest; answered = answered }
+settled-fits clock (Reply reply began) c t is rest answered = record { unfinished = is; rest = rest; answered = answered }
 settled-fits clock Forwarded c t is rest answered = record { unfinished = is; rest = rest; answered = answered }
 settled-fits clock Silent c t is rest answered = record { unfinished = is; rest = rest; answered = answered }
 
 more-answered : (said : Outcome) (calls : List Exchange) (call : Exchange) → is_no_call said ≡ false → call.said ≡ said → All is_answered calls → AreAnswered (is_forwarded said) (calls ++ call ∷ [])
 more-answered NoCall calls call plain says answered = absurd cc
-more-answered (Reply reply) calls call plain says answered =
+more-answered (Reply reply began) calls call plain says answered =
     All-append is_answered calls (call ∷ []) answered (All-cons is_answered call [] (subst (λ (o : Outcome). IsFinal o) (sym says) tt) (All-nil is_answered))
 more-answered Silent calls call plain says answered =
     All-append is_answered calls (call ∷ []) answered (All-cons is_answered call [] (subst (λ (o : Outcome). IsFinal o) (sym says) tt) (All-nil is_answered))
@@ -210,6 +214,39 @@ without-fits id k all t fits = by_number (eqb k id) refl
         let none : find (is_live id) (without k all) ≡ None = ap (λ (j : ℕ). find (is_live id) (without j all)) (eqb-true k id e) ∙ closed-gone id all in
         absurd (not-none c (sym is ∙ none))
 
+-- where numbers rise, a live connection that is left was live before
+found_above : (id least next : ℕ) (all : List Connection) (d : Connection) → AreSound least next all → find (is_live id) all ≡ Some d → least ≤ d.number
+found_above id least next [] d a is = absurd cc
+found_above id least next (x ∷ all) d a is = by_live (is_live id x) refl (found_above id (x.number + 1) next all d a.2)
+  where
+    by_live : (b : Bool) → is_live id x ≡ b → (find (is_live id) all ≡ Some d → x.number + 1 ≤ d.number) → least ≤ d.number
+    by_live true e later =
+        let one : Some x ≡ Some d = rw e at is in
+        let same : x ≡ d = cc in
+        let number : x.number ≡ d.number = ap (λ (y : Connection). y.number) same in
+        omega (arith, a.0, number)
+    by_live false e later = let low : x.number + 1 ≤ d.number = later (rw e at is) in omega (arith, a.0, low)
+
+left_before : (id : ℕ) (changes : List ℕ) (least next : ℕ) (all : List Connection) (d : Connection) → AreSound least next all → find (is_live id) (map (evicted changes) all) ≡ Some d → find (is_live id) all ≡ Some d
+left_before id changes least next [] d a is = is
+left_before id changes least next (x ∷ all) d a is = by_live (is_live id x) refl (left_before id changes (x.number + 1) next all d a.2)
+  where
+    by_live : (b : Bool) → is_live id x ≡ b → (find (is_live id) (map (evicted changes) all) ≡ Some d → find (is_live id) all ≡ Some d) → find (is_live id) (x ∷ all) ≡ Some d
+    by_live false e later = rw e (later (rw (stays_dead id changes x e) at is))
+    by_live true e later = by_new (is_live id (evicted changes x)) refl
+      where
+        by_new : (b : Bool) → is_live id (evicted changes x) ≡ b → find (is_live id) (x ∷ all) ≡ Some d
+        by_new true n = rw e (ap (λ (y : Connection). Some y) (sym (still_is id changes x n)) ∙ (rw n at is))
+        by_new false n =
+            let rest : find (is_live id) (map (evicted changes) all) ≡ Some d = rw n at is in
+            let low : x.number + 1 ≤ d.number = found_above id (x.number + 1) next (map (evicted changes) all) d (mapped (evicted changes) (evicted-keeps changes) (x.number + 1) next all a.2) rest in
+            let mine : x.number ≡ id = number-is id x e in
+            let yours : d.number ≡ id = number-is id d (find-holds (is_live id) (map (evicted changes) all) d rest) in
+            absurd (omega (arith, low, mine, yours))
+
+evicted-fits : (id : ℕ) (changes : List ℕ) (next : ℕ) (all : List Connection) (t : Session) → AreSound 0 next all → FitsIn id all t → FitsIn id (map (evicted changes) all) t
+evicted-fits id changes next all t sound fits = λ d is. fits d (left_before id changes 0 next all d sound is)
+
 -- ---- one event
 
 module _ (id : ℕ) (s : State) (t : Session) (h : Holds id s.connections t) where
@@ -243,6 +280,13 @@ module _ (id : ℕ) (s : State) (t : Session) (h : Holds id s.connections t) whe
   changed-by : (k : ℕ) (f : Connection → Connection) (now : Connections) → ((d : Connection) → (f d).number ≡ d.number) → eqb k id ≡ false → now ≡ changed_at k f s.connections → FitsIn id now.all t
   changed-by k f now keeps e same =
       subst (λ (x : Connections). FitsIn id x.all t) (sym same) (fits-same id s.connections.all (change_first (is_live k) f s.connections.all) t (changed-other id k f keeps e s.connections.all) h.live)
+
+  -- the same once some became Lost for room
+  evicted-by : (changes : List ℕ) (k : ℕ) (f : Connection → Connection) (now : Connections) → ((d : Connection) → (f d).number ≡ d.number) → eqb k id ≡ false → now ≡ changed_at k f (evicting changes s.connections) → FitsIn id now.all t
+  evicted-by changes k f now keeps e same =
+      let all : List Connection = map (evicted changes) s.connections.all in
+      subst (λ (x : Connections). FitsIn id x.all t) (sym same)
+      (fits-same id all (change_first (is_live k) f all) t (changed-other id k f keeps e all) (evicted-fits id changes s.connections.next s.connections.all t h.sound h.live))
 
   -- the live connection of the number
   module _ (c : Connection) (there : live_connection id s.connections.all ≡ Some c) where
@@ -286,20 +330,20 @@ module _ (id : ℕ) (s : State) (t : Session) (h : Holds id s.connections t) whe
 
     -- the connections after a call
     answered-fits : (clock : ℕ) (said : Outcome) (new : Session) (call : Exchange) → call.said ≡ said → new.unfinished ≡ [] → new.given ≡ replies_to t.calls → new.calls ≡ t.calls ++ call ∷ [] → All is_answered t.calls
-        → FitsIn id (change_first (is_live id) (settled clock said) s.connections.all) new
-    answered-fits clock said new call says left given calls answered = by_call (is_no_call said) refl
+        → (all : List Connection) → AreSound 0 s.connections.next all → find (is_live id) all ≡ Some c → FitsIn id (change_first (is_live id) (settled clock said) all) new
+    answered-fits clock said new call says left given calls answered all sound here = by_call (is_no_call said) refl
       where
         lost : (o : Outcome) → is_no_call o ≡ true → o ≡ NoCall
         lost NoCall e = refl
-        lost (Reply reply) e = absurd cc
+        lost (Reply reply began) e = absurd cc
         lost Forwarded e = absurd cc
         lost Silent e = absurd cc
 
-        by_call : (b : Bool) → is_no_call said ≡ b → FitsIn id (change_first (is_live id) (settled clock said) s.connections.all) new
+        by_call : (b : Bool) → is_no_call said ≡ b → FitsIn id (change_first (is_live id) (settled clock said) all) new
         by_call true e = λ d is.
-            absurd (not-none d (sym is ∙ ap (λ (o : Outcome). find (is_live id) (change_first (is_live id) (settled clock o) s.connections.all)) (lost said e) ∙ lost-gone id clock 0 s.connections.next s.connections.all h.sound))
+            absurd (not-none d (sym is ∙ ap (λ (o : Outcome). find (is_live id) (change_first (is_live id) (settled clock o) all)) (lost said e) ∙ lost-gone id clock 0 s.connections.next all sound))
         by_call false e =
-            changed-fits id (settled clock said) s.connections.all c new (answering-feeds id clock said e) found
+            changed-fits id (settled clock said) all c new (answering-feeds id clock said e) here
             (settled-fits clock said c new left
             (ap (λ (xs : List ℕ). xs ++ marked_reply said) given
             ∙ ap (λ (o : Outcome). replies_to t.calls ++ marked_reply o) (sym says)
@@ -313,9 +357,9 @@ module _ (id : ℕ) (s : State) (t : Session) (h : Holds id s.connections t) whe
         ap (λ (xs : List ℕ). xs ++ take (n - length fed) piece) (unfinished-here fed feeds) ∙ up-to fed piece n (omega (arith, longer))
 
     -- a record ends
-    record-ends : (at : ℕ) (piece fed : List ℕ) (n : ℕ) (now : Connections) → Goes now → fed_in c.phase ≡ Some fed → first_record (fed ++ piece) ≡ Some n
-        → now ≡ changed_at id (settled (max s.clock at) (said_in s at id c (take n (fed ++ piece)))) s.connections → Holds id now (passed (at_moment at s) id (take (n - length fed) piece) [] t)
-    record-ends at piece fed n now goes feeds some same =
+    record-ends : (changes : List ℕ) (at : ℕ) (piece fed : List ℕ) (n : ℕ) (now : Connections) → Goes now → fed_in c.phase ≡ Some fed → first_record (fed ++ piece) ≡ Some n
+        → now ≡ changed_at id (settled (max s.clock at) (said_in s at id c (take n (fed ++ piece)))) (evicting changes s.connections) → Holds id now (passed (at_moment at s) id (take (n - length fed) piece) [] t)
+    record-ends changes at piece fed n now goes feeds some same =
         let more : List ℕ = take (n - length fed) piece in
         let whole : t.unfinished ++ more ≡ take n (fed ++ piece) = ends-whole piece fed n feeds some in
         let given : t.given ≡ replies_to t.calls = all-given c.phase fed t feeds fits-live in
@@ -332,7 +376,9 @@ module _ (id : ℕ) (s : State) (t : Session) (h : Holds id s.connections t) whe
               (records-end t.taken more t.unfinished (contents t.calls) n h.records here short are);
           front = record { rest = marked_reply call.said; whole = ap (λ (xs : List ℕ). xs ++ marked_reply call.said) given ∙ sym (one-more-reply t.calls call) };
           new = λ le. absurd (omega (arith, le, under, goes.later));
-          live = subst (λ (x : Connections). FitsIn id x.all new) (sym same) (answered-fits (max s.clock at) (said_in s at id c (take n (fed ++ piece))) new call says refl given refl (all-answered c.phase fed t feeds fits-live));
+          live = subst (λ (x : Connections). FitsIn id x.all new) (sym same) (answered-fits (max s.clock at) (said_in s at id c (take n (fed ++ piece))) new call says refl given refl (all-answered c.phase fed t feeds fits-live)
+              (map (evicted changes) s.connections.all) (mapped (evicted changes) (evicted-keeps changes) 0 s.connections.next s.connections.all h.sound)
+              (plain_lives id changes s.connections.all c found (fed-no-list c.phase fed feeds)));
         })
 
     -- bytes are given
@@ -395,27 +441,27 @@ module _ (id : ℕ) (s : State) (t : Session) (h : Holds id s.connections t) whe
   plain-told : (event : Event) (x : Taken) → given_by s id event (show_taken x) ≡ []
   plain-told event x = elim (x.closed) as (λ b. given_by s id event (cond b (TookAndClosed x.count) (Took x.count)) ≡ []) [ true ↦ refl | false ↦ refl ]
 
-  ends-at : (at k : ℕ) (piece : List ℕ) (c : Connection) (fed : List ℕ) (n : ℕ) (now : Connections) → Goes now → live_connection k s.connections.all ≡ Some c → fed_in c.phase ≡ Some fed → first_record (fed ++ piece) ≡ Some n
-      → now ≡ changed_at k (settled (max s.clock at) (said_in s at k c (take n (fed ++ piece)))) s.connections → (b : Bool) → eqb k id ≡ b → Holds id now (with_event (Bytes at k piece) (told at k c piece fed n))
+  ends-at : (changes : List ℕ) (at k : ℕ) (piece : List ℕ) (c : Connection) (fed : List ℕ) (n : ℕ) (now : Connections) → Goes now → live_connection k s.connections.all ≡ Some c → fed_in c.phase ≡ Some fed → first_record (fed ++ piece) ≡ Some n
+      → now ≡ changed_at k (settled (max s.clock at) (said_in s at k c (take n (fed ++ piece)))) (evicting changes s.connections) → (b : Bool) → eqb k id ≡ b → Holds id now (with_event (Bytes at k piece) (told at k c piece fed n))
   unfolding settled
-  ends-at at k piece c fed n now goes there feeds some same false e =
+  ends-at changes at k piece c fed n now goes there feeds some same false e =
       quiet (Bytes at k piece) (told at k c piece fed n) now goes (no-piece (Bytes at k piece) (told at k c piece fed n) (ap (λ (b : Bool). cond b piece []) e))
       (plain-told (Bytes at k piece) (ended at k c piece fed n))
-      (changed-by k (settled (max s.clock at) (said_in s at k c (take n (fed ++ piece)))) now (λ x. refl) e same)
-  ends-at at k piece c fed n now goes there feeds some same true e = here (eqb-true k id e)
+      (evicted-by changes k (settled (max s.clock at) (said_in s at k c (take n (fed ++ piece)))) now (λ x. refl) e same)
+  ends-at changes at k piece c fed n now goes there feeds some same true e = here (eqb-true k id e)
     where
       here : k ≡ id → Holds id now (with_event (Bytes at k piece) (told at k c piece fed n))
       here number =
           let there_is : live_connection id s.connections.all ≡ Some c = ap (λ (j : ℕ). live_connection j s.connections.all) (sym number) ∙ there in
-          let same_is : now ≡ changed_at id (settled (max s.clock at) (said_in s at id c (take n (fed ++ piece)))) s.connections =
-          same ∙ ap (λ (j : ℕ). changed_at j (settled (max s.clock at) (said_in s at j c (take n (fed ++ piece)))) s.connections) number in
+          let same_is : now ≡ changed_at id (settled (max s.clock at) (said_in s at id c (take n (fed ++ piece)))) (evicting changes s.connections) =
+          same ∙ ap (λ (j : ℕ). changed_at j (settled (max s.clock at) (said_in s at j c (take n (fed ++ piece)))) (evicting changes s.connections)) number in
           let part : taken_by id (Bytes at id piece) (told at id c piece fed n) ≡ take (n - length fed) piece = taken-is c there_is at piece (told at id c piece fed n) (n - length fed) (count-shown (ended at id c piece fed n)) in
           let none : given_by s id (Bytes at id piece) (told at id c piece fed n) ≡ [] = plain-told (Bytes at id piece) (ended at id c piece fed n) in
           let pass : with_event (Bytes at id piece) (told at id c piece fed n) ≡ passed (at_moment at s) id (take (n - length fed) piece) [] t =
           ap (λ (xs : List ℕ). passed (at_moment at s) id xs (given_by s id (Bytes at id piece) (told at id c piece fed n)) t) part
           ∙ ap (λ (xs : List ℕ). passed (at_moment at s) id (take (n - length fed) piece) xs t) none in
           subst (λ (j : ℕ). Holds id now (with_event (Bytes at j piece) (told at j c piece fed n))) (sym number)
-          (subst (λ (y : Session). Holds id now y) (sym pass) (record-ends c there_is at piece fed n now goes feeds some same_is))
+          (subst (λ (y : Session). Holds id now y) (sym pass) (record-ends c there_is changes at piece fed n now goes feeds some same_is))
 
   gives-at : (at k n : ℕ) (c : Connection) (now : Connections) → Goes now → live_connection k s.connections.all ≡ Some c → n ≤ length (pending_in c.phase)
       → now ≡ changed_at k (λ x. (giving (max s.clock at) n x).1) s.connections → (b : Bool) → eqb k id ≡ b → Holds id now (with_event (Gave at k n) Done)
@@ -436,6 +482,9 @@ module _ (id : ℕ) (s : State) (t : Session) (h : Holds id s.connections t) whe
   by_case event output now goes (Stays q same) none =
       quiet event output now goes (ap (λ (n : ℕ). take n (piece_to id event)) q.no_count) (q.none_given id)
       (subst (λ (x : Connections). FitsIn id x.all t) (sym same) h.live)
+  by_case event output now goes (Evicts at peer content is q same) none =
+      quiet event output now goes (ap (λ (n : ℕ). take n (piece_to id event)) q.no_count) (q.none_given id)
+      (subst (λ (x : Connections). FitsIn id x.all t) (sym same) (evicted-fits id (crowd_at s at (Udp peer) content) s.connections.next s.connections.all t h.sound h.live))
   by_case event output now goes (Opens at peer is out same) none =
       subst (λ (o : Output). Holds id now (with_event event o)) (sym out)
       (quiet event (Opened s.connections.next) now goes refl refl (subst (λ (x : Connections). FitsIn id x.all t) (sym same) (opened-fits id s.connections (record { number = s.connections.next; peer = peer; phase = Idle; mark = max s.clock at }) t h refl refl)))
@@ -444,7 +493,7 @@ module _ (id : ℕ) (s : State) (t : Session) (h : Holds id s.connections t) whe
       (reads-at at k piece c fed now goes there feeds unended same (eqb k id) refl))
   by_case event output now goes (Ends at k piece c fed n is there feeds some out same) none =
       subst (λ (ev : Event). Holds id now (with_event ev output)) (sym is) (subst (λ (o : Output). Holds id now (with_event (Bytes at k piece) o)) (sym out)
-      (ends-at at k piece c fed n now goes there feeds some same (eqb k id) refl))
+      (ends-at (crowd_at s at (Tcp k c.peer) (data_of (take n (fed ++ piece)))) at k piece c fed n now goes there feeds some same (eqb k id) refl))
   by_case event output now goes (Gives at k n c is there few out same) none =
       subst (λ (ev : Event). Holds id now (with_event ev output)) (sym is) (subst (λ (o : Output). Holds id now (with_event (Gave at k n) o)) (sym out)
       (gives-at at k n c now goes there few same (eqb k id) refl))

@@ -24,6 +24,7 @@ use Rattle.rb_core.specs.declared.slot.Wanted.TheVariants as wanted
 use Rattle.rb_core.specs.State.{Phase, Connection, Connections, greatest_number}
 use Rattle.rb_core.specs.State.Phase.{Idle, Reading, Owing, Awaiting, Lost}
 use Rattle.rb_core.specs.Connections.{change_first, changed_at, is_lost, is_live, live_connection, on_live, has_number, number_for, opening_of, is_there, without_number, closing_of}
+use Rattle.rb_core.specs.Streams.{Source}
 use Rattle.rb_core.specs.Slots.{Acts, Shows, StandsForConnection, StandsForPhase, StandsForConnections, Table, is_lost_stage, is_wanted_slot, is_wanted, wanted_slot, IsFound, is_numbered, AreNumbered, IsTable, HasBuffers, arguments_heard, arguments_on, charge, IsWithin}
 use Rattle.rb_core.specs.declared.slot.Stage.{Stage}
 use Rattle.rb_core.specs.declared.slot.Stage.TheVariants as stages
@@ -122,52 +123,58 @@ module _ {A B : Type 0} (R : A → B → Type 0) where
 
 -- ---- slots and connections
 
-lost_as_stage : (stage : Stage) (buffer window : Kept) (phase : Phase) → StandsForPhase stage buffer window phase → is_lost_stage stage ≡ is_lost phase
-lost_as_stage stages.Idle buffer window Idle h = refl
-lost_as_stage stages.Idle buffer window (Reading fed) h = absurd h
-lost_as_stage stages.Idle buffer window (Owing o) h = absurd h
-lost_as_stage stages.Idle buffer window Awaiting h = absurd h
-lost_as_stage stages.Idle buffer window Lost h = absurd h
-lost_as_stage (stages.Reading marks) buffer window Idle h = absurd h
-lost_as_stage (stages.Reading marks) buffer window (Reading fed) h = refl
-lost_as_stage (stages.Reading marks) buffer window (Owing o) h = absurd h
-lost_as_stage (stages.Reading marks) buffer window Awaiting h = absurd h
-lost_as_stage (stages.Reading marks) buffer window Lost h = absurd h
-lost_as_stage (stages.Owing given) buffer window Idle h = absurd h
-lost_as_stage (stages.Owing given) buffer window (Reading fed) h = absurd h
-lost_as_stage (stages.Owing given) buffer window (Owing o) h = refl
-lost_as_stage (stages.Owing given) buffer window Awaiting h = absurd h
-lost_as_stage (stages.Owing given) buffer window Lost h = absurd h
-lost_as_stage stages.Awaiting buffer window Idle h = absurd h
-lost_as_stage stages.Awaiting buffer window (Reading fed) h = absurd h
-lost_as_stage stages.Awaiting buffer window (Owing o) h = absurd h
-lost_as_stage stages.Awaiting buffer window Awaiting h = refl
-lost_as_stage stages.Awaiting buffer window Lost h = absurd h
-lost_as_stage stages.Lost buffer window Idle h = absurd h
-lost_as_stage stages.Lost buffer window (Reading fed) h = absurd h
-lost_as_stage stages.Lost buffer window (Owing o) h = absurd h
-lost_as_stage stages.Lost buffer window Awaiting h = absurd h
-lost_as_stage stages.Lost buffer window Lost h = refl
+lost_as_stage : (source : Source) (stage : Stage) (buffer window : Kept) (phase : Phase) → StandsForPhase source stage buffer window phase → is_lost_stage stage ≡ is_lost phase
+lost_as_stage source stages.Idle buffer window Idle h = refl
+lost_as_stage source stages.Idle buffer window (Reading fed) h = absurd h
+lost_as_stage source stages.Idle buffer window (Owing o) h = absurd h
+lost_as_stage source stages.Idle buffer window Awaiting h = absurd h
+lost_as_stage source stages.Idle buffer window Lost h = absurd h
+lost_as_stage source (stages.Reading marks) buffer window Idle h = absurd h
+lost_as_stage source (stages.Reading marks) buffer window (Reading fed) h = refl
+lost_as_stage source (stages.Reading marks) buffer window (Owing o) h = absurd h
+lost_as_stage source (stages.Reading marks) buffer window Awaiting h = absurd h
+lost_as_stage source (stages.Reading marks) buffer window Lost h = absurd h
+lost_as_stage source (stages.Owing given) buffer window Idle h = absurd h
+lost_as_stage source (stages.Owing given) buffer window (Reading fed) h = absurd h
+lost_as_stage source (stages.Owing given) buffer window (Owing o) h = refl
+lost_as_stage source (stages.Owing given) buffer window Awaiting h = absurd h
+lost_as_stage source (stages.Owing given) buffer window Lost h = absurd h
+lost_as_stage source (stages.Streaming stream) buffer window Idle h = absurd h
+lost_as_stage source (stages.Streaming stream) buffer window (Reading fed) h = absurd h
+lost_as_stage source (stages.Streaming stream) buffer window (Owing o) h = refl
+lost_as_stage source (stages.Streaming stream) buffer window Awaiting h = absurd h
+lost_as_stage source (stages.Streaming stream) buffer window Lost h = absurd h
+lost_as_stage source stages.Awaiting buffer window Idle h = absurd h
+lost_as_stage source stages.Awaiting buffer window (Reading fed) h = absurd h
+lost_as_stage source stages.Awaiting buffer window (Owing o) h = absurd h
+lost_as_stage source stages.Awaiting buffer window Awaiting h = refl
+lost_as_stage source stages.Awaiting buffer window Lost h = absurd h
+lost_as_stage source stages.Lost buffer window Idle h = absurd h
+lost_as_stage source stages.Lost buffer window (Reading fed) h = absurd h
+lost_as_stage source stages.Lost buffer window (Owing o) h = absurd h
+lost_as_stage source stages.Lost buffer window Awaiting h = absurd h
+lost_as_stage source stages.Lost buffer window Lost h = refl
 
-pub wanted_alike : (sought : Wanted) (slot : Slot) (c : Connection) → StandsForConnection slot c → is_wanted_slot sought slot ≡ is_wanted sought c
+pub wanted_alike : (source : Source) (sought : Wanted) (slot : Slot) (c : Connection) → StandsForConnection source slot c → is_wanted_slot sought slot ≡ is_wanted sought c
 unfolding is_wanted_slot is_wanted is_live
-wanted_alike (wanted.Live id) slot c h = rw (h.number, lost_as_stage slot.stage slot.buffer slot.window c.phase h.phase) refl
-wanted_alike (wanted.Numbered id) slot c h = rw h.number refl
-wanted_alike wanted.AnyLost slot c h = lost_as_stage slot.stage slot.buffer slot.window c.phase h.phase
-wanted_alike (wanted.Due clock) slot c h = due_alike clock slot c h
+wanted_alike source (wanted.Live id) slot c h = rw (h.number, lost_as_stage source slot.stage slot.buffer slot.window c.phase h.phase) refl
+wanted_alike source (wanted.Numbered id) slot c h = rw h.number refl
+wanted_alike source wanted.AnyLost slot c h = lost_as_stage source slot.stage slot.buffer slot.window c.phase h.phase
+wanted_alike source (wanted.Due clock) slot c h = due_alike source clock slot c h
 
-module _ (sought : Wanted) (entries : List (ℕ × Slot)) (all : List Connection) where
-  pub found_slot : (k : ℕ) (slot : Slot) → HasDistinctKeys entries → AllZip StandsForConnection (values_of entries) all
-      → option_map (λ e. e.0) (wanted_slot sought entries) ≡ Some k → value_at entries k ≡ Some slot → IsFound sought all slot
+module _ (source : Source) (sought : Wanted) (entries : List (ℕ × Slot)) (all : List Connection) where
+  pub found_slot : (k : ℕ) (slot : Slot) → HasDistinctKeys entries → AllZip (StandsForConnection source) (values_of entries) all
+      → option_map (λ e. e.0) (wanted_slot sought entries) ≡ Some k → value_at entries k ≡ Some slot → IsFound source sought all slot
   unfolding wanted_slot
   found_slot k slot d z h v =
-      let l = locate StandsForConnection (is_wanted_slot sought) (is_wanted sought) (wanted_alike sought) entries all k slot d z h v in
+      let l = locate (StandsForConnection source) (is_wanted_slot sought) (is_wanted sought) (wanted_alike source sought) entries all k slot d z h v in
       record { connection = l.value; found = l.found; stands = l.related }
 
-  pub no_slot : AllZip StandsForConnection (values_of entries) all → option_map (λ e. e.0) (wanted_slot sought entries) ≡ None → find (is_wanted sought) all ≡ None
+  pub no_slot : AllZip (StandsForConnection source) (values_of entries) all → option_map (λ e. e.0) (wanted_slot sought entries) ≡ None → find (is_wanted sought) all ≡ None
   unfolding wanted_slot
-  no_slot z h = not_located StandsForConnection (is_wanted_slot sought) (is_wanted sought) (wanted_alike sought) entries all z h
+  no_slot z h = not_located (StandsForConnection source) (is_wanted_slot sought) (is_wanted sought) (wanted_alike source sought) entries all z h
 
+module _ (sought : Wanted) (entries : List (ℕ × Slot)) (all : List Connection) where
   pub slot_is_there : (k : ℕ) → option_map (λ e. e.0) (wanted_slot sought entries) ≡ Some k → value_at entries k ≡ None → ⊥
   unfolding wanted_slot
   slot_is_there k h n = has_key (is_wanted_slot sought) entries k h n
@@ -220,68 +227,68 @@ numbered-with given (e ∷ es) k old new h same n = by_cases (eqb e.0 k) refl (n
         rw t (n.0, any-with e.1.number es k old new rest same ∙ n.1, further rest same n.2)
 
 -- the live connection of a number, and its slot
-pub record IsLiveSlot (id : ℕ) (entries : List (ℕ × Slot)) (all : List Connection) (k : ℕ) (slot : Slot) : Type 0 where
+pub record IsLiveSlot (source : Source) (id : ℕ) (entries : List (ℕ × Slot)) (all : List Connection) (k : ℕ) (slot : Slot) : Type 0 where
   pub connection : Connection
   pub there : live_connection id all ≡ Some connection
-  pub stands : StandsForConnection slot connection
-  pub changed : (new : Slot) (change : Connection → Connection) → StandsForConnection new (change connection) → AllZip StandsForConnection (values_of (with_value entries k new)) (change_first (is_live id) change all)
+  pub stands : StandsForConnection source slot connection
+  pub changed : (new : Slot) (change : Connection → Connection) → StandsForConnection source new (change connection) → AllZip (StandsForConnection source) (values_of (with_value entries k new)) (change_first (is_live id) change all)
 
-module _ (id : ℕ) (entries : List (ℕ × Slot)) (all : List Connection) where
-  pub live_slot : (k : ℕ) (slot : Slot) → HasDistinctKeys entries → AllZip StandsForConnection (values_of entries) all
-      → option_map (λ e. e.0) (wanted_slot (wanted.Live id) entries) ≡ Some k → value_at entries k ≡ Some slot → IsLiveSlot id entries all k slot
+module _ (source : Source) (id : ℕ) (entries : List (ℕ × Slot)) (all : List Connection) where
+  pub live_slot : (k : ℕ) (slot : Slot) → HasDistinctKeys entries → AllZip (StandsForConnection source) (values_of entries) all
+      → option_map (λ e. e.0) (wanted_slot (wanted.Live id) entries) ≡ Some k → value_at entries k ≡ Some slot → IsLiveSlot source id entries all k slot
   unfolding wanted_slot is_wanted live_connection
   live_slot k slot d z h v =
-      let l = locate StandsForConnection (is_wanted_slot (wanted.Live id)) (is_wanted (wanted.Live id)) (wanted_alike (wanted.Live id)) entries all k slot d z h v in
+      let l = locate (StandsForConnection source) (is_wanted_slot (wanted.Live id)) (is_wanted (wanted.Live id)) (wanted_alike source (wanted.Live id)) entries all k slot d z h v in
       record { connection = l.value; there = l.found; stands = l.related; changed = l.changed }
 
-  pub not_live : AllZip StandsForConnection (values_of entries) all → option_map (λ e. e.0) (wanted_slot (wanted.Live id) entries) ≡ None → live_connection id all ≡ None
+  pub not_live : AllZip (StandsForConnection source) (values_of entries) all → option_map (λ e. e.0) (wanted_slot (wanted.Live id) entries) ≡ None → live_connection id all ≡ None
   unfolding is_wanted live_connection
-  not_live z h = no_slot (wanted.Live id) entries all z h
+  not_live z h = no_slot source (wanted.Live id) entries all z h
 
 -- the same of a table by its other name
-pub acts_from : {A : Type 0} (act : Connections → A × Connections) (view now new : Table) (x : A) → view ≡ now
-    → Acts StandsForConnections act view new x → Acts StandsForConnections act now new x
-acts_from act view now new x is acts = subst (λ (t : Table). Acts StandsForConnections act t new x) is acts
+pub acts_from : {A : Type 0} (source : Source) (act : Connections → A × Connections) (view now new : Table) (x : A) → view ≡ now
+    → Acts (StandsForConnections source) act view new x → Acts (StandsForConnections source) act now new x
+acts_from source act view now new x is acts = subst (λ (t : Table). Acts (StandsForConnections source) act t new x) is acts
 
 -- An act on the slot of the live connection is that on the connection.
-module _ {A : Type 0} (id : ℕ) (act : Connection → A × Connection) (table : Table) where
+module _ {A : Type 0} (source : Source) (id : ℕ) (act : Connection → A × Connection) (table : Table) where
   pub live_acts : (k : ℕ) (slot new : Slot) (x : A) → HasDistinctKeys table.slots
       → option_map (λ e. e.0) (wanted_slot (wanted.Live id) table.slots) ≡ Some k → value_at table.slots k ≡ Some slot
-      → Acts StandsForConnection act slot new x → Acts StandsForConnections (on_live id act) table (record table { slots = with_value table.slots k new }) (Ok x)
+      → Acts (StandsForConnection source) act slot new x → Acts (StandsForConnections source) (on_live id act) table (record table { slots = with_value table.slots k new }) (Ok x)
   live_acts k slot new x d h v acts = record {
     gives = λ c z.
-        let l = live_slot id table.slots c.all k slot d z.all h v in
+        let l = live_slot source id table.slots c.all k slot d z.all h v in
         rw l.there (ap Ok (acts.gives l.connection l.stands));
     stands = λ c z.
-        let l = live_slot id table.slots c.all k slot d z.all h v in
+        let l = live_slot source id table.slots c.all k slot d z.all h v in
         rw l.there (record { all = l.changed new (λ y. (act y).1) (acts.stands l.connection l.stands); next = z.next });
   }
 
-  pub gone_acts : option_map (λ e. e.0) (wanted_slot (wanted.Live id) table.slots) ≡ None → Acts StandsForConnections (on_live id act) table table (Err Gone)
+  pub gone_acts : option_map (λ e. e.0) (wanted_slot (wanted.Live id) table.slots) ≡ None → Acts (StandsForConnections source) (on_live id act) table table (Err Gone)
   gone_acts h = record {
-    gives = λ c z. rw (not_live id table.slots c.all z.all h) refl;
-    stands = λ c z. rw (not_live id table.slots c.all z.all h) z;
+    gives = λ c z. rw (not_live source id table.slots c.all z.all h) refl;
+    stands = λ c z. rw (not_live source id table.slots c.all z.all h) z;
   }
 
 -- What is held of arguments after a piece is what the live connection took.
-module _ (id : ℕ) (before piece : List ℕ) (table : Table) where
+module _ (source : Source) (id : ℕ) (before piece : List ℕ) (table : Table) where
   pub live_arguments : (k : ℕ) (slot : Slot) (after : List ℕ) → HasDistinctKeys table.slots
       → option_map (λ e. e.0) (wanted_slot (wanted.Live id) table.slots) ≡ Some k → value_at table.slots k ≡ Some slot
-      → Shows StandsForConnection (arguments_heard before piece) slot after → Shows StandsForConnections (arguments_on id before piece) table after
+      → Shows (StandsForConnection source) (arguments_heard before piece) slot after → Shows (StandsForConnections source) (arguments_on id before piece) table after
   live_arguments k slot after d h v shows c z =
-      let l = live_slot id table.slots c.all k slot d z.all h v in
+      let l = live_slot source id table.slots c.all k slot d z.all h v in
       rw l.there (shows l.connection l.stands)
 
-  pub gone_arguments : option_map (λ e. e.0) (wanted_slot (wanted.Live id) table.slots) ≡ None → Shows StandsForConnections (arguments_on id before piece) table before
-  gone_arguments h c z = rw (not_live id table.slots c.all z.all h) refl
+  pub gone_arguments : option_map (λ e. e.0) (wanted_slot (wanted.Live id) table.slots) ≡ None → Shows (StandsForConnections source) (arguments_on id before piece) table before
+  gone_arguments h c z = rw (not_live source id table.slots c.all z.all h) refl
 
-module _ (id : ℕ) (change : Connection → Connection) (table : Table) where
+module _ (source : Source) (id : ℕ) (change : Connection → Connection) (table : Table) where
   pub live_changed : (k : ℕ) (slot new : Slot) → HasDistinctKeys table.slots
       → option_map (λ e. e.0) (wanted_slot (wanted.Live id) table.slots) ≡ Some k → value_at table.slots k ≡ Some slot
-      → ((c : Connection) → StandsForConnection slot c → StandsForConnection new (change c))
-      → (c : Connections) → StandsForConnections table c → StandsForConnections (record table { slots = with_value table.slots k new }) (changed_at id change c)
+      → ((c : Connection) → StandsForConnection source slot c → StandsForConnection source new (change c))
+      → (c : Connections) → StandsForConnections source table c → StandsForConnections source (record table { slots = with_value table.slots k new }) (changed_at id change c)
   live_changed k slot new d h v stands c z =
-      let l = live_slot id table.slots c.all k slot d z.all h v in
+      let l = live_slot source id table.slots c.all k slot d z.all h v in
       record { all = l.changed new change (stands l.connection l.stands); next = z.next }
 
   none_changes : (all : List Connection) → live_connection id all ≡ None → change_first (is_live id) change all ≡ all
@@ -294,8 +301,8 @@ module _ (id : ℕ) (change : Connection → Connection) (table : Table) where
       by_cases false t further = rw t (ap (λ (cs : List Connection). c ∷ cs) (further (rw t at h)))
 
   pub gone_stays : option_map (λ e. e.0) (wanted_slot (wanted.Live id) table.slots) ≡ None
-      → (c : Connections) → StandsForConnections table c → StandsForConnections table (changed_at id change c)
-  gone_stays h c z = rw (none_changes c.all (not_live id table.slots c.all z.all h)) z
+      → (c : Connections) → StandsForConnections source table c → StandsForConnections source table (changed_at id change c)
+  gone_stays h c z = rw (none_changes c.all (not_live source id table.slots c.all z.all h)) z
 
 -- ---- a slot more
 
@@ -344,26 +351,26 @@ module _ {X : Type 0} (test : X → Bool) where
       by_cases true t further = let clash : true ≡ false = rw t at h in absurd cc
       by_cases false t further = rw t (ap (λ (ys : List X). x ∷ ys) (further (rw t at h)))
 
-pub any_alike : (id : ℕ) (slots : List Slot) (all : List Connection) → AllZip StandsForConnection slots all → list_any (is_numbered id) slots ≡ list_any (has_number id) all
-any_alike id [] [] z = refl
-any_alike id [] (c ∷ all) z = absurd z
-any_alike id (s ∷ slots) [] z = absurd z
-any_alike id (s ∷ slots) (c ∷ all) z = rw (z.0.number, any_alike id slots all z.1) refl
+pub any_alike : (source : Source) (id : ℕ) (slots : List Slot) (all : List Connection) → AllZip (StandsForConnection source) slots all → list_any (is_numbered id) slots ≡ list_any (has_number id) all
+any_alike source id [] [] z = refl
+any_alike source id [] (c ∷ all) z = absurd z
+any_alike source id (s ∷ slots) [] z = absurd z
+any_alike source id (s ∷ slots) (c ∷ all) z = rw (z.0.number, any_alike source id slots all z.1) refl
 
-removed : (id given : ℕ) (es : List (ℕ × Slot)) (all : List Connection) (k : ℕ) (slot : Slot) → HasDistinctKeys es → AreNumbered given (values_of es) → AllZip StandsForConnection (values_of es) all
-    → key_of (is_numbered id) es ≡ Some k → AllZip StandsForConnection (values_of (without es k)) (filter (λ (c : Connection). not (has_number id c)) all)
-removed id given [] all k slot d n z h = absurd (none_some k h)
-removed id given (e ∷ es) [] k slot d n z h = absurd z
-removed id given (e ∷ es) (c ∷ all) k slot d n z h = by_cases (eqb e.1.number id) refl (removed id given es all k slot d.1 n.2 z.1)
+removed : (source : Source) (id given : ℕ) (es : List (ℕ × Slot)) (all : List Connection) (k : ℕ) (slot : Slot) → HasDistinctKeys es → AreNumbered given (values_of es) → AllZip (StandsForConnection source) (values_of es) all
+    → key_of (is_numbered id) es ≡ Some k → AllZip (StandsForConnection source) (values_of (without es k)) (filter (λ (c : Connection). not (has_number id c)) all)
+removed source id given [] all k slot d n z h = absurd (none_some k h)
+removed source id given (e ∷ es) [] k slot d n z h = absurd z
+removed source id given (e ∷ es) (c ∷ all) k slot d n z h = by_cases (eqb e.1.number id) refl (removed source id given es all k slot d.1 n.2 z.1)
   where
-    by_cases : (t : Bool) → eqb e.1.number id ≡ t → (key_of (is_numbered id) es ≡ Some k → AllZip StandsForConnection (values_of (without es k)) (filter (λ (c : Connection). not (has_number id c)) all))
-        → AllZip StandsForConnection (values_of (without (e ∷ es) k)) (filter (λ (c : Connection). not (has_number id c)) (c ∷ all))
+    by_cases : (t : Bool) → eqb e.1.number id ≡ t → (key_of (is_numbered id) es ≡ Some k → AllZip (StandsForConnection source) (values_of (without es k)) (filter (λ (c : Connection). not (has_number id c)) all))
+        → AllZip (StandsForConnection source) (values_of (without (e ∷ es) k)) (filter (λ (c : Connection). not (has_number id c)) (c ∷ all))
     by_cases true t further =
         let here : e.0 ≡ k = some_is e.0 k (rw t at h) in
         let test : eqb e.0 k ≡ true = eq-eqb e.0 k here in
         let number : e.1.number ≡ id = eqb-true e.1.number id t in
         let other : eqb c.number id ≡ true = rw (← z.0.number) t in
-        let alone : list_any (has_number id) all ≡ false = sym (any_alike id (values_of es) all z.1) ∙ (rw number at n.1) in
+        let alone : list_any (has_number id) all ≡ false = sym (any_alike source id (values_of es) all z.1) ∙ (rw number at n.1) in
         rw (test, other, all_kept (has_number id) all alone) z.1
     by_cases false t further =
         let in_rest : key_of (is_numbered id) es ≡ Some k = rw t at h in
@@ -371,32 +378,32 @@ removed id given (e ∷ es) (c ∷ all) k slot d n z h = by_cases (eqb e.1.numbe
         by_key (eqb e.0 k) refl in_rest other
       where
         by_key : (b : Bool) → eqb e.0 k ≡ b → key_of (is_numbered id) es ≡ Some k → eqb c.number id ≡ false
-            → AllZip StandsForConnection (values_of (without (e ∷ es) k)) (filter (λ (c : Connection). not (has_number id c)) (c ∷ all))
+            → AllZip (StandsForConnection source) (values_of (without (e ∷ es) k)) (filter (λ (c : Connection). not (has_number id c)) (c ∷ all))
         by_key true y in_rest other =
             let key : e.0 ≡ k = eqb-true e.0 k y in
             absurd (has_key (is_numbered id) es k in_rest (rw key at d.0))
         by_key false y in_rest other = rw (y, other) (z.0, further in_rest)
 
-module _ (id : ℕ) (table : Table) where
-  pub none_closed : option_map (λ e. e.0) (wanted_slot (wanted.Numbered id) table.slots) ≡ None → Acts StandsForConnections (closing_of id) table table (Err Gone)
+module _ (source : Source) (id : ℕ) (table : Table) where
+  pub none_closed : option_map (λ e. e.0) (wanted_slot (wanted.Numbered id) table.slots) ≡ None → Acts (StandsForConnections source) (closing_of id) table table (Err Gone)
   unfolding closing_of is_there is_wanted
   none_closed h = record {
-    gives = λ c z. rw (none_any (has_number id) c.all (no_slot (wanted.Numbered id) table.slots c.all z.all h)) refl;
-    stands = λ c z. rw (none_any (has_number id) c.all (no_slot (wanted.Numbered id) table.slots c.all z.all h)) z;
+    gives = λ c z. rw (none_any (has_number id) c.all (no_slot source (wanted.Numbered id) table.slots c.all z.all h)) refl;
+    stands = λ c z. rw (none_any (has_number id) c.all (no_slot source (wanted.Numbered id) table.slots c.all z.all h)) z;
   }
 
   pub one_closed : (k : ℕ) (slot : Slot) → HasDistinctKeys table.slots → AreNumbered table.given (values_of table.slots)
       → option_map (λ e. e.0) (wanted_slot (wanted.Numbered id) table.slots) ≡ Some k → value_at table.slots k ≡ Some slot
-      → Acts StandsForConnections (closing_of id) table (record table { slots = without table.slots k }) (Ok tt)
+      → Acts (StandsForConnections source) (closing_of id) table (record table { slots = without table.slots k }) (Ok tt)
   unfolding closing_of is_there is_wanted wanted_slot is_wanted_slot without_number
   one_closed k slot d n h v = record {
     gives = λ c z. rw (there c z) refl;
-    stands = λ c z. rw (there c z) (record { all = removed id table.given table.slots c.all k slot d n z.all h; next = z.next });
+    stands = λ c z. rw (there c z) (record { all = removed source id table.given table.slots c.all k slot d n z.all h; next = z.next });
   }
     where
-      there : (c : Connections) → StandsForConnections table c → list_any (has_number id) c.all ≡ true
+      there : (c : Connections) → StandsForConnections source table c → list_any (has_number id) c.all ≡ true
       there c z =
-          let f = found_slot (wanted.Numbered id) table.slots c.all k slot d z.all h v in
+          let f = found_slot source (wanted.Numbered id) table.slots c.all k slot d z.all h v in
           some_any (has_number id) c.all f.connection f.found
 
 -- ---- a new connection
@@ -417,50 +424,50 @@ no_data = refl
 pub reads_nothing : (reader : Reader) (kept : Kept) → StandsForFed reader.marks [] → StandsForCall reader.head [] → kept.bytes ≡ [] → kept.cap ≡ buffer_size → IsReading reader kept []
 reads_nothing reader kept m h e c = record { marks_are = m; data_is = record { head_is = rw no_data h; kept_is = e ∙ sym nothing_kept; cap = c } }
 
-pub as_many : (es : List (ℕ × Slot)) (all : List Connection) → AllZip StandsForConnection (values_of es) all → length all ≡ length es
-as_many es all z = sym (same_length_of StandsForConnection (values_of es) all z) ∙ length-values_of es
+pub as_many : (source : Source) (es : List (ℕ × Slot)) (all : List Connection) → AllZip (StandsForConnection source) (values_of es) all → length all ≡ length es
+as_many source es all z = sym (same_length_of (StandsForConnection source) (values_of es) all z) ∙ length-values_of es
 
-module _ (conns : ℕ) (peer : Peer) (clock : ℕ) (table : Table) where
-  pub full_acts : conns ≤ length table.slots → Acts StandsForConnections (opening_of conns peer clock) table table (Err Full)
+module _ (source : Source) (conns : ℕ) (peer : Peer) (clock : ℕ) (table : Table) where
+  pub full_acts : conns ≤ length table.slots → Acts (StandsForConnections source) (opening_of conns peer clock) table table (Err Full)
   unfolding opening_of number_for
   full_acts full = record {
     gives = λ c z. rw (no_room c z) refl;
     stands = λ c z. rw (no_room c z) z;
   }
     where
-      no_room : (c : Connections) → StandsForConnections table c → nat_lt (length c.all) conns ≡ false
-      no_room c z = let many = as_many table.slots c.all z.all in grind (arith, nat_tests)
+      no_room : (c : Connections) → StandsForConnections source table c → nat_lt (length c.all) conns ≡ false
+      no_room c z = let many = as_many source table.slots c.all z.all in grind (arith, nat_tests)
 
-  pub spent_acts : length table.slots < conns → table.given ≡ greatest_number → Acts StandsForConnections (opening_of conns peer clock) table table (Err Spent)
+  pub spent_acts : length table.slots < conns → table.given ≡ greatest_number → Acts (StandsForConnections source) (opening_of conns peer clock) table table (Err Spent)
   unfolding opening_of number_for
   spent_acts room spent = record {
     gives = λ c z. rw (has_room c z, no_number c z) refl;
     stands = λ c z. rw (has_room c z, no_number c z) z;
   }
     where
-      has_room : (c : Connections) → StandsForConnections table c → nat_lt (length c.all) conns ≡ true
-      has_room c z = let many = as_many table.slots c.all z.all in grind (arith, nat_tests)
+      has_room : (c : Connections) → StandsForConnections source table c → nat_lt (length c.all) conns ≡ true
+      has_room c z = let many = as_many source table.slots c.all z.all in grind (arith, nat_tests)
 
-      no_number : (c : Connections) → StandsForConnections table c → nat_lt greatest_number c.next ≡ true
+      no_number : (c : Connections) → StandsForConnections source table c → nat_lt greatest_number c.next ≡ true
       no_number c z = let next = z.next in grind (arith, nat_tests)
 
   pub opened_acts : (slot : Slot) (new : Table) → length table.slots < conns → table.given < greatest_number
       → values_of new.slots ≡ values_of table.slots ++ slot ∷ [] → new.given ≡ table.given + 1
-      → StandsForConnection slot (record { number = table.given + 1; peer = peer; phase = Idle; mark = clock })
-      → Acts StandsForConnections (opening_of conns peer clock) table new (Ok (table.given + 1))
+      → StandsForConnection source slot (record { number = table.given + 1; peer = peer; phase = Idle; mark = clock })
+      → Acts (StandsForConnections source) (opening_of conns peer clock) table new (Ok (table.given + 1))
   unfolding opening_of number_for
   opened_acts slot new room left more given stands = record {
     gives = λ c z. rw (has_room c z, has_number_left c z) (ap Ok (sym z.next));
     stands = λ c z. rw (has_room c z, has_number_left c z) (record {
-      all = rw more (one_more_each StandsForConnection (values_of table.slots) c.all slot _ z.all (rw z.next stands));
+      all = rw more (one_more_each (StandsForConnection source) (values_of table.slots) c.all slot _ z.all (rw z.next stands));
       next = rw (given, z.next) refl;
     });
   }
     where
-      has_room : (c : Connections) → StandsForConnections table c → nat_lt (length c.all) conns ≡ true
-      has_room c z = let many = as_many table.slots c.all z.all in grind (arith, nat_tests)
+      has_room : (c : Connections) → StandsForConnections source table c → nat_lt (length c.all) conns ≡ true
+      has_room c z = let many = as_many source table.slots c.all z.all in grind (arith, nat_tests)
 
-      has_number_left : (c : Connections) → StandsForConnections table c → nat_lt greatest_number c.next ≡ false
+      has_number_left : (c : Connections) → StandsForConnections source table c → nat_lt greatest_number c.next ≡ false
       has_number_left c z = let next = z.next in le-ltb greatest_number c.next (omega (arith, next, left))
 
 -- ---- the table with a slot changed

@@ -1,21 +1,22 @@
 -- What calls pay, added up.
-use Rattle.std.proofs.Common.{◌≡◌, ◌≤◌, ℕ, ◌+◌, Bool, List, length, Option, Some, None, Result, Ok, Err, refl, sym, ap, subst, ◌∙◌, arith}
+use Rattle.std.proofs.Common.{◌≡◌, ◌≤◌, ℕ, ◌+◌, ◌*◌, Bool, List, length, Option, Some, None, Result, Ok, Err, refl, sym, ap, subst, ◌∙◌, arith}
 use Rattle.rb_xdr.specs.Meter.{Meter, PaysAtMost}
 use Rattle.rb_core.specs.declared.slot.Heard.{Heard}
-use Rattle.rb_registry.specs.Registry.{rows_of, slots_of, dead_count}
+use Rattle.rb_registry.specs.Registry.{slots_of}
 use Rattle.rb_core.specs.declared.types.CoreFault.{CoreFault}
-use Rattle.rb_core.specs.State.{State, Connection, at_moment}
+use Rattle.rb_core.specs.State.{State, Setting, Connection, at_moment}
 use Rattle.rb_core.specs.Connections.{Taking, taking, live_connection}
 use Rattle.rb_core.specs.Connections.Taking.{TakesNone, GoesOn, Ends}
 use Rattle.rb_core.specs.Step.{Taken, answering, with_count, when_taken, bytes, bytes_to}
 use Rattle.rb_core.specs.Slots.{Acts}
-use Rattle.rb_core.specs.StandsFor.{Held, StandsFor, IsCheapIfQuiet}
-use Rattle.rb_core.specs.Costs.{find_cost, heard_cost, exchange_cost, read_cost, serve_cost, settle_cost, answer_cost, connection_count, row_count, NoRecordEnds, take_cost, recount_cost, taking_cost, count_taken, piece_cost, record_cost}
+use Rattle.rb_core.specs.StandsFor.{Held, StandsFor, source_of, datagram_cost, gave_cost, IsCheapIfQuiet}
+use Rattle.rb_core.specs.Costs.{find_cost, heard_cost, exchange_cost, read_cost, make_room_cost, serve_cost, begin_list_cost, given_cost, answer_cost, connection_count, row_limit, NoRecordEnds, take_cost, recount_cost, taking_cost, count_taken, piece_cost, record_cost}
 use Rattle.rb_core.proofs.Slots.{as_many}
 
 -- a record ended, and it was answered
 pub answered_cost : (m0 m1 m2 : Meter) (n other rows left count : ℕ) (h : Option Heard) (x : Heard) → h ≡ Some x → other ≡ n
-    → PaysAtMost m0 m1 (find_cost n + (take_cost count + heard_cost h + recount_cost)) → PaysAtMost m1 m2 (read_cost + serve_cost rows left + settle_cost other)
+    → PaysAtMost m0 m1 (find_cost n + (take_cost count + heard_cost h + recount_cost))
+    → PaysAtMost m1 m2 (read_cost + (make_room_cost other rows + serve_cost rows left) + begin_list_cost other left)
     → PaysAtMost m0 m2 (find_cost n + (take_cost count + recount_cost) + answer_cost n rows left)
 answered_cost m0 m1 m2 n other rows left count h x is same first second =
     let taken : PaysAtMost m0 m1 (find_cost n + (take_cost count + exchange_cost + recount_cost)) = rw is at first in
@@ -29,13 +30,10 @@ answered_cost m0 m1 m2 n other rows left count h x is same first second =
 
 module _ (held : Held) (s : State) (h : StandsFor held s) where
   pub connections_held : length held.connections.slots ≡ connection_count s
-  connections_held = sym (as_many held.connections.slots s.connections.all h.connections.all)
+  connections_held = sym (as_many (source_of held) held.connections.slots s.connections.all h.connections.all)
 
-  pub rows_held : length (slots_of held.books.registry) ≡ row_count s
-  rows_held =
-      let live : length (rows_of held.books.registry) ≡ row_count s = ap length h.ledger.registry.rows in
-      let none : dead_count held.books.registry ≡ 0 = ap (λ (ns : List ℕ). length ns) h.ledger.none_kept in
-      omega (arith, live, none, h.ledger.registry.counted)
+  pub rows_held : length (slots_of held.books.registry) ≤ row_limit s
+  rows_held = omega (arith, h.ledger.registry.within, h.limit)
 
 -- a bound by what is held is one by what is plain
 pub by_count : (f : ℕ → ℕ) (held : Held) (s : State) (a b : Meter) → StandsFor held s → PaysAtMost a b (f (length held.connections.slots)) → PaysAtMost a b (f (connection_count s))
@@ -46,20 +44,24 @@ pub by_both : (f : ℕ → ℕ → ℕ) (held : Held) (s : State) (a b : Meter) 
 by_both f held s a b h pays =
     subst (λ n. PaysAtMost a b (f (connection_count s) n)) h.forwards (subst (λ n. PaysAtMost a b (f n held.books.forwards.cap)) (connections_held held s h) pays)
 
-pub by_rows : (f : ℕ → ℕ → ℕ) (old new : Held) (s t : State) (a b : Meter) → StandsFor old s → StandsFor new t
-    → PaysAtMost a b (f (length (slots_of old.books.registry)) (length (slots_of new.books.registry))) → PaysAtMost a b (f (row_count s) (row_count t))
-by_rows f old new s t a b h k pays =
-    subst (λ n. PaysAtMost a b (f n (row_count t))) (rows_held old s h) (subst (λ n. PaysAtMost a b (f (length (slots_of old.books.registry)) n)) (rows_held new t k) pays)
-
-pub by_all : (f : ℕ → ℕ → ℕ → ℕ) (old new : Held) (s t : State) (a b : Meter) → StandsFor old s → StandsFor new t
-    → PaysAtMost a b (f (length old.connections.slots) (length (slots_of old.books.registry)) (length (slots_of new.books.registry))) → PaysAtMost a b (f (connection_count s) (row_count s) (row_count t))
-by_all f old new s t a b h k pays =
-    subst (λ n. PaysAtMost a b (f n (row_count s) (row_count t))) (connections_held old s h)
-    (by_rows (f (length old.connections.slots)) old new s t a b h k pays)
-
 -- so many steps more are allowed
 pub at_most : (a b : Meter) (less more : ℕ) → less ≤ more → PaysAtMost a b less → PaysAtMost a b more
 at_most a b less more le pays = record { steps = omega (arith, pays.steps, le); rises = pays.rises; tie = pays.tie }
+
+-- a datagram, and the bytes of the reply to it
+pub datagram_paid : (old new : Held) (s t : State) (a b : Meter) (more : ℕ) → StandsFor old s → StandsFor new t → t.setting ≡ s.setting → more ≤ 9001
+    → PaysAtMost a b (datagram_cost old new + more) → PaysAtMost a b (make_room_cost (connection_count s) (row_limit s) + serve_cost (row_limit s) (row_limit s) + 9003)
+datagram_paid old new s t a b more h k same few pays =
+    let rows = rows_held old s h in
+    let left = rows_held new t k in
+    let limit : row_limit t ≡ row_limit s = ap (λ (x : Setting). x.limits.rows) same in
+    at_most a b (datagram_cost old new + more) _ (omega (arith, rows, left, limit, few, connections_held old s h)) pays
+
+-- bytes that are given, after the look at how many are pending
+pub gave_paid : (old : Held) (s : State) (a b : Meter) → StandsFor old s → PaysAtMost a b (find_cost (length old.connections.slots) + 1 + gave_cost old) → PaysAtMost a b (2 * find_cost (connection_count s) + 1 + given_cost (row_limit s) + recount_cost)
+gave_paid old s a b h pays =
+    let rows = rows_held old s h in
+    at_most a b (find_cost (length old.connections.slots) + 1 + gave_cost old) _ (omega (arith, rows, connections_held old s h)) pays
 
 -- ---- a piece of bytes
 
@@ -76,7 +78,7 @@ module _ (old new : Held) (s : State) (h : StandsFor old s) (a b : Meter) (now i
     (acts : Acts StandsFor (λ t. bytes t now id piece) old new result)
     (cheap : IsCheapIfQuiet old id piece result a b) where
   abbrev IsPaid : Option Connection → Type 0
-  IsPaid m = PaysAtMost a b (find_cost (connection_count s) + piece_cost s (bytes s now id piece).1 piece m)
+  IsPaid m = PaysAtMost a b (find_cost (connection_count s) + piece_cost s piece m)
 
   cheaply : (m : ℕ) → taking_cost result ≤ m → NoRecordEnds s id piece → PaysAtMost a b (find_cost (connection_count s) + m)
   cheaply m few none = at_most a b (find_cost (connection_count s) + taking_cost result) (find_cost (connection_count s) + m) (omega (arith, few)) (by_count (λ n. find_cost n + taking_cost result) old s a b h (cheap s h none))
@@ -99,20 +101,26 @@ module _ (old new : Held) (s : State) (h : StandsFor old s) (a b : Meter) (now i
   same_taken : (x y : Taken) → taken_ok x ≡ taken_ok y → x.count ≡ y.count
   same_taken x y e = cc
 
-  pub taken_cost_of : (taken : Taken) → result ≡ Ok taken
+  pub taken_cost_of : (taken : Taken) → result ≡ Ok taken → (bytes s now id piece).1.setting ≡ s.setting
       → PaysAtMost a b (find_cost (length old.connections.slots) + (take_cost taken.count + recount_cost) + answer_cost (length old.connections.slots) (length (slots_of old.books.registry)) (length (slots_of new.books.registry)))
       → IsPaid (live_connection id s.connections.all)
   unfolding bytes
-  taken_cost_of taken is cost = by_there (live_connection id s.connections.all) refl
+  taken_cost_of taken is same cost = by_there (live_connection id s.connections.all) refl
     where
-      all_cost : PaysAtMost a b (find_cost (connection_count s) + (take_cost taken.count + recount_cost) + answer_cost (connection_count s) (row_count s) (row_count (bytes s now id piece).1))
-      all_cost = by_all (λ n r l. find_cost n + (take_cost taken.count + recount_cost) + answer_cost n r l) old new s (bytes s now id piece).1 a b h (acts.stands s h) cost
+      all_cost : PaysAtMost a b (find_cost (connection_count s) + (take_cost taken.count + recount_cost) + answer_cost (connection_count s) (row_limit s) (row_limit s))
+      all_cost =
+          let rows = rows_held old s h in
+          let left = rows_held new (bytes s now id piece).1 (acts.stands s h) in
+          let limit : row_limit (bytes s now id piece).1 ≡ row_limit s = ap (λ (x : Setting). x.limits.rows) same in
+          at_most a b (find_cost (length old.connections.slots) + (take_cost taken.count + recount_cost) + answer_cost (length old.connections.slots) (length (slots_of old.books.registry)) (length (slots_of new.books.registry))) _
+          (omega (arith, rows, left, limit, connections_held old s h)) cost
 
       by_taking : (c : Connection) (t : Taking) → live_connection id s.connections.all ≡ Some c → taking c.phase piece ≡ t → taken.count ≡ count_taken piece t
-          → PaysAtMost a b (find_cost (connection_count s) + (take_cost (count_taken piece t) + recount_cost + record_cost s (bytes s now id piece).1 t))
+          → PaysAtMost a b (find_cost (connection_count s) + (take_cost (count_taken piece t) + recount_cost + record_cost s t))
       by_taking c TakesNone e t k = cheaply (take_cost 0 + recount_cost + 0) (rw is (omega (arith, k))) (rw e (rw t refl))
       by_taking c (GoesOn fed) e t k = cheaply (take_cost (length piece) + recount_cost + 0) (rw is (omega (arith, k))) (rw e (rw t refl))
-      by_taking c (Ends n content) e t k = at_most a b (find_cost (connection_count s) + (take_cost taken.count + recount_cost) + answer_cost (connection_count s) (row_count s) (row_count (bytes s now id piece).1)) _ (omega (arith, k)) all_cost
+      by_taking c (Ends n content) e t k =
+          at_most a b (find_cost (connection_count s) + (take_cost taken.count + recount_cost) + answer_cost (connection_count s) (row_limit s) (row_limit s)) _ (omega (arith, k)) all_cost
 
       by_there : (m : Option Connection) → live_connection id s.connections.all ≡ m → IsPaid m
       by_there None e = absurd (no_one (live_connection id s.connections.all) e taken (sym is ∙ acts.gives s h))

@@ -10,10 +10,10 @@ use Rattle.rb_core.specs.Step.{Event, Output, Taken, when_taken, bytes_to, bytes
 use Rattle.rb_core.specs.Step.Event.{Open, Bytes, Pending, Gave, Closed, NextLost, Datagram, Unsent, Sent, Forward, Expire}
 use Rattle.rb_core.specs.Run.{after}
 use Rattle.rb_core.specs.Sessions.{count_in}
-use Rattle.rb_core.specs.Costs.{connection_count, row_count, count_taken, piece_cost, record_cost, find_cost, event_cost, run_cost}
+use Rattle.rb_core.specs.Costs.{connection_count, count_taken, piece_cost, record_cost, find_cost, event_cost, run_cost}
 use Rattle.rb_core.specs.Laws.{IsReached}
 use Rattle.rb_core.specs.StepLaws.{steps_bound, bound_at, run_bound, StepsAreBounded, RunsAreBounded}
-use Rattle.rb_core.proofs.Ledgers.{step-setting, ledgers_are_well_kept}
+use Rattle.rb_core.proofs.Ledgers.{step-setting}
 use Rattle.rb_core.proofs.Room.{reached-room}
 use Rattle.rb_core.proofs.RunLaws.{after-append}
 use Rattle.rb_xdr.specs.Meter.{Meter, PaysAtMost}
@@ -34,15 +34,6 @@ module _ (s : State) (reached : IsReached s) (good : are_good s.setting.limits �
   conns_few : connection_count s ≤ s.setting.limits.conns
   conns_few = reached-room s reached
 
-  rows_few : row_count s ≤ s.setting.limits.rows
-  rows_few = (ledgers_are_well_kept s reached).fit good
-
-  left_few : (event : Event) → row_count (step s event).1 ≤ s.setting.limits.rows
-  left_few event =
-      let same = step-setting s event in
-      let fit = (ledgers_are_well_kept (step s event).1 (reached-step s reached event)).fit (rw same good) in
-      rw same at fit
-
   -- ---- a piece of bytes
 
   module _ (now id : ℕ) (piece : List ℕ) where
@@ -50,16 +41,16 @@ module _ (s : State) (reached : IsReached s) (good : are_good s.setting.limits �
     shows t = elim t.closed as (λ b. count_in (cond b (Output.TookAndClosed t.count) (Output.Took t.count)) ≡ t.count) [ true ↦ refl | false ↦ refl ]
 
     piece_within : (m : Option Connection) → live_connection id s.connections.all ≡ m
-        → find_cost (connection_count s) + piece_cost s (step s (Bytes now id piece)).1 piece m ≤ steps_bound s.setting.limits (count_in (output_or show_taken (bytes_to s now id piece m)).0) 0
+        → find_cost (connection_count s) + piece_cost s piece m ≤ steps_bound s.setting.limits (count_in (output_or show_taken (bytes_to s now id piece m)).0) 0
     unfolding longest_reply longest_arguments buffer_size longest_args
     piece_within None e = omega (arith, conns_few)
     piece_within (Some c) e = by_taking (taking c.phase piece) (shows (when_taken (at_moment now s) id piece c (taking c.phase piece)).0 ∙ taken-counts (at_moment now s) id piece c (taking c.phase piece))
       where
         by_taking : (t : Taking) → count_in (show_taken (when_taken (at_moment now s) id piece c t).0) ≡ count_taken piece t
-            → find_cost (connection_count s) + (count_taken piece t + 1 + 4 + record_cost s (step s (Bytes now id piece)).1 t) ≤ steps_bound s.setting.limits (count_in (show_taken (when_taken (at_moment now s) id piece c t).0)) 0
+            → find_cost (connection_count s) + (count_taken piece t + 1 + 4 + record_cost s t) ≤ steps_bound s.setting.limits (count_in (show_taken (when_taken (at_moment now s) id piece c t).0)) 0
         by_taking TakesNone k = omega (arith, conns_few, k)
         by_taking (GoesOn fed) k = omega (arith, conns_few, k)
-        by_taking (Ends n content) k = omega (arith, conns_few, rows_few, left_few (Bytes now id piece), k)
+        by_taking (Ends n content) k = omega (arith, conns_few, k)
 
   -- ---- every event
 
@@ -71,7 +62,7 @@ module _ (s : State) (reached : IsReached s) (good : are_good s.setting.limits �
   event_within (Gave now id n) = omega (arith, conns_few)
   event_within (Closed id) = omega (arith, conns_few)
   event_within NextLost = omega (arith, conns_few)
-  event_within (Datagram now peer content) = omega (arith, rows_few, left_few (Datagram now peer content))
+  event_within (Datagram now peer content) = omega (arith, conns_few)
   event_within Unsent = omega arith
   event_within (Sent number) = omega arith
   event_within (Forward now from message) = omega (arith, conns_few)

@@ -1,5 +1,5 @@
 -- A core that stands for a state before a call stands for the state after it.
-use Rattle.std.proofs.Common.{◌≡◌, ◌≤◌, ℕ, Bool, true, false, cond, List, [], ◌∷◌, Option, Some, None, Result, Ok, Err, length, eqb, refl, sym, ap, subst, ◌∙◌, max, arith}
+use Rattle.std.proofs.Common.{◌≡◌, ◌≤◌, ℕ, Bool, true, false, cond, List, [], ◌∷◌, map, Option, Some, None, Result, Ok, Err, length, eqb, refl, sym, ap, subst, ◌∙◌, max, arith}
 use Rattle.std.specs.Prelude.{find, not, IfSome}
 use Rattle.std.specs.Option.{option_map_or}
 use Rattle.std.proofs.lemmas.Bool.{and_parts}
@@ -22,14 +22,19 @@ use Rattle.rb_core.specs.declared.types.CoreFault.TheVariants.{Gone}
 use Rattle.rb_rpc.specs.Verdict.{verdict}
 use Rattle.rb_core.specs.Calls.{Outcome, outcome, message_with, message_of, is_no_call, reply_in, longest_reply}
 use Rattle.rb_core.specs.Reading.{kept_of}
-use Rattle.rb_core.specs.State.{State, Connection, Connections, at_moment}
-use Rattle.rb_core.specs.State.Phase.{Idle}
+use Rattle.rb_core.specs.State.{State, Phase, Connection, Connections, at_moment}
+use Rattle.rb_core.specs.State.Phase.{Idle, Reading, Owing, Awaiting, Lost}
 use Rattle.rb_core.specs.Connections.{Taking, taking, reading, settled, is_lost, is_live, live_connection, change_first, changed_at, on_live, opening_of, closing_of, giving}
 use Rattle.rb_core.specs.Connections.Taking.{TakesNone, GoesOn, Ends}
 use Rattle.rb_core.specs.Slots.{Acts, Shows, Table, StandsForConnections, StaysTable, received, fed_with, feeding, arguments_after, arguments_heard, arguments_on}
 use Rattle.rb_core.specs.Step.{context_in, with_ledger, with_reply, settled_in, serve_message, serve, answering, when_taken, bytes_to, bytes, datagram, gave, open_connection, close_connection, moved, dropped_with, unsent_call, sent_call}
 use Rattle.rb_core.specs.Costs.{NoRecordEnds, has_ended}
-use Rattle.rb_core.specs.StandsFor.{Held, StandsFor, answering_heard}
+use Rattle.rb_core.specs.StandsFor.{Held, StandsFor, source_of, context_of, answering_heard}
+use Rattle.rb_core.specs.Streams.{Source}
+use Rattle.rb_core.specs.Rooms.{MakesRoom, source_in}
+use Rattle.rb_core.specs.Evictions.{began_in, crowding, evicted, evicting, with_room}
+use Rattle.rb_registry.specs.Registry.{Registry}
+use Rattle.rb_core.proofs.Crowds.{begins_changed, evicted_changed, crowding_alike}
 use Rattle.rb_core.specs.declared.types.Told.{Told}
 use Rattle.rb_core.specs.declared.types.Told.TheVariants.{TcpReady}
 use Rattle.rb_core.specs.declared.types.Expired.TheVariants.{Nothing}
@@ -37,17 +42,21 @@ use Rattle.rb_core.specs.declared.types.Expired.TheVariants as Expires
 use Rattle.rb_core.specs.Ending.{told_at, told_over_udp, tell, tell_end, at_fresh_moment, expired_as}
 use Rattle.rb_core.proofs.MessageFronts.{kept_says}
 
+-- the same of a registry by its other name
+pub same_source : (host : List ℕ) (old new : Registry) (table : Table) (c : Connections) → new ≡ old → StandsForConnections (record { host = host; registry = old }) table c → StandsForConnections (record { host = host; registry = new }) table c
+same_source host old new table c same z = subst (λ (r : Registry). StandsForConnections (record { host = host; registry = r }) table c) (sym same) z
+
 -- ---- the table alone
 
 module _ (old : Held) (s : State) (h : StandsFor old s) where
   -- with another clock and table
-  pub with_table : (now clock : ℕ) (table : Table) (connections : Connections) → clock ≡ max old.clock now → StaysTable old.connections table → StandsForConnections table connections
+  pub with_table : (now clock : ℕ) (table : Table) (connections : Connections) → clock ≡ max old.clock now → StaysTable old.connections table → StandsForConnections (source_of old) table connections
       → StandsFor (record old { clock = clock; connections = table }) (record (at_moment now s) { connections = connections })
   with_table now clock table connections is stays stands = record {
     setting = h.setting;
     clock = is ∙ ap (λ (n : ℕ). max n now) h.clock;
     conns = stays.conns ∙ h.conns;
-    within = stays.within;
+    within = stays.within h.within;
     connections = stands;
     limit = h.limit;
     forwards = h.forwards;
@@ -61,7 +70,7 @@ module _ (old : Held) (s : State) (h : StandsFor old s) where
 -- A call on the connections that moves the clock: done, or refused.
 module _ {A : Type 0} (old : Held) (now clock : ℕ) (act : State → Connections → Result A CoreFault × Connections) (table : Table) where
   pub moved_acts : (x : A) → clock ≡ max old.clock now → StaysTable old.connections table
-      → ((s : State) → StandsFor old s → Acts StandsForConnections (act s) old.connections table (Ok x))
+      → ((s : State) → StandsFor old s → Acts (StandsForConnections (source_of old)) (act s) old.connections table (Ok x))
       → Acts StandsFor (λ s. moved now s (act s s.connections)) old (record old { clock = clock; connections = table }) (Ok x)
   moved_acts x is stays acts = record {
     gives = λ s h. by_result s h (act s s.connections) ((acts s h).gives s.connections h.connections);
@@ -72,12 +81,12 @@ module _ {A : Type 0} (old : Held) (now clock : ℕ) (act : State → Connection
       by_result s h (Ok y, c) e = e
       by_result s h (Err f, c) e = absurd cc
 
-      by_state : (s : State) → StandsFor old s → (r : Result A CoreFault × Connections) → Ok x ≡ r.0 → StandsForConnections table r.1
+      by_state : (s : State) → StandsFor old s → (r : Result A CoreFault × Connections) → Ok x ≡ r.0 → StandsForConnections (source_of old) table r.1
           → StandsFor (record old { clock = clock; connections = table }) (moved now s r).1
       by_state s h (Ok y, c) e z = with_table old s h now clock table c is stays z
       by_state s h (Err f, c) e z = absurd cc
 
-  pub refused_acts : (f : CoreFault) → ((s : State) → StandsFor old s → Acts StandsForConnections (act s) old.connections table (Err f))
+  pub refused_acts : (f : CoreFault) → ((s : State) → StandsFor old s → Acts (StandsForConnections (source_of old)) (act s) old.connections table (Err f))
       → Acts StandsFor (λ s. moved now s (act s s.connections)) old old (Err f)
   refused_acts f acts = record {
     gives = λ s h. by_result s (act s s.connections) ((acts s h).gives s.connections h.connections);
@@ -97,39 +106,39 @@ pub acts_from : {A : Type 0} (act : State → A × State) (view now new : Held) 
 acts_from act view now new x is acts = subst (λ (held : Held). Acts StandsFor act held new x) is acts
 
 module _ (old : Held) (now clock : ℕ) (is : clock ≡ max old.clock now) (table : Table) where
-  open_at : (peer : Peer) (r : Result ℕ CoreFault) → Acts StandsForConnections (opening_of old.connections.conns peer clock) old.connections table r
-      → (s : State) → StandsFor old s → Acts StandsForConnections (opening_of s.setting.limits.conns peer (max s.clock now)) old.connections table r
+  open_at : (peer : Peer) (r : Result ℕ CoreFault) → Acts (StandsForConnections (source_of old)) (opening_of old.connections.conns peer clock) old.connections table r
+      → (s : State) → StandsFor old s → Acts (StandsForConnections (source_of old)) (opening_of s.setting.limits.conns peer (max s.clock now)) old.connections table r
   open_at peer r acts s h = rw (← h.conns, ← h.clock, ← is) acts
 
-  give_at : (id n : ℕ) (r : Result (Unit {0}) CoreFault) → Acts StandsForConnections (on_live id (giving clock n)) old.connections table r
-      → (s : State) → StandsFor old s → Acts StandsForConnections (on_live id (giving (max s.clock now) n)) old.connections table r
+  give_at : (id n : ℕ) (r : Result (Unit {0}) CoreFault) → Acts (StandsForConnections (source_of old)) (on_live id (giving clock n)) old.connections table r
+      → (s : State) → StandsFor old s → Acts (StandsForConnections (source_of old)) (on_live id (giving (max s.clock now) n)) old.connections table r
   give_at id n r acts s h = rw (← h.clock, ← is) acts
 
-  pub open_done : (peer : Peer) (x : ℕ) → StaysTable old.connections table → Acts StandsForConnections (opening_of old.connections.conns peer clock) old.connections table (Ok x)
+  pub open_done : (peer : Peer) (x : ℕ) → StaysTable old.connections table → Acts (StandsForConnections (source_of old)) (opening_of old.connections.conns peer clock) old.connections table (Ok x)
       → Acts StandsFor (λ s. open_connection s now peer) old (record old { clock = clock; connections = table }) (Ok x)
   unfolding open_connection
   open_done peer x stays acts = moved_acts old now clock (λ s. opening_of s.setting.limits.conns peer (max s.clock now)) table x is stays (open_at peer (Ok x) acts)
 
-  pub open_refused : (peer : Peer) (f : CoreFault) → Acts StandsForConnections (opening_of old.connections.conns peer clock) old.connections table (Err f)
+  pub open_refused : (peer : Peer) (f : CoreFault) → Acts (StandsForConnections (source_of old)) (opening_of old.connections.conns peer clock) old.connections table (Err f)
       → Acts StandsFor (λ s. open_connection s now peer) old old (Err f)
   unfolding open_connection
   open_refused peer f acts = refused_acts old now clock (λ s. opening_of s.setting.limits.conns peer (max s.clock now)) table f (open_at peer (Err f) acts)
 
-  pub gave_done : (id n : ℕ) (u : Unit {0}) → StaysTable old.connections table → Acts StandsForConnections (on_live id (giving clock n)) old.connections table (Ok u)
+  pub gave_done : (id n : ℕ) (u : Unit {0}) → StaysTable old.connections table → Acts (StandsForConnections (source_of old)) (on_live id (giving clock n)) old.connections table (Ok u)
       → Acts StandsFor (λ s. gave s now id n) old (record old { clock = clock; connections = table }) (Ok u)
   unfolding gave
   gave_done id n u stays acts = moved_acts old now clock (λ s. on_live id (giving (max s.clock now) n)) table u is stays (give_at id n (Ok u) acts)
 
-  pub gave_refused : (id n : ℕ) (f : CoreFault) → Acts StandsForConnections (on_live id (giving clock n)) old.connections table (Err f)
+  pub gave_refused : (id n : ℕ) (f : CoreFault) → Acts (StandsForConnections (source_of old)) (on_live id (giving clock n)) old.connections table (Err f)
       → Acts StandsFor (λ s. gave s now id n) old old (Err f)
   unfolding gave
   gave_refused id n f acts = refused_acts old now clock (λ s. on_live id (giving (max s.clock now) n)) table f (give_at id n (Err f) acts)
 
-pub closed_acts : (old : Held) (id : ℕ) (table : Table) (books : Books) (u : Unit {0}) → StaysTable old.connections table → SameFrame old.books books
-    → Acts StandsForConnections (closing_of id) old.connections table (Ok u) → Becomes (λ l. (caller_dropped id l).1) old.books books
+pub closed_acts : (old : Held) (id : ℕ) (table : Table) (books : Books) (u : Unit {0}) → books.registry ≡ old.books.registry → StaysTable old.connections table → SameFrame old.books books
+    → Acts (StandsForConnections (source_of old)) (closing_of id) old.connections table (Ok u) → Becomes (λ l. (caller_dropped id l).1) old.books books
     → Acts StandsFor (λ s. close_connection s id) old (record old { connections = table; books = books }) (Ok u)
 unfolding close_connection
-closed_acts old id table books u stays frame acts dropped = record {
+closed_acts old id table books u same stays frame acts dropped = record {
   gives = λ s h. by_result s (closing_of id s.connections) (acts.gives s.connections h.connections);
   stands = λ s h. by_state s h (closing_of id s.connections) (acts.gives s.connections h.connections) (acts.stands s.connections h.connections);
 }
@@ -138,15 +147,15 @@ closed_acts old id table books u stays frame acts dropped = record {
     by_result s (Ok v, c) e = e
     by_result s (Err f, c) e = absurd cc
 
-    by_state : (s : State) → StandsFor old s → (r : Result (Unit {0}) CoreFault × Connections) → Ok u ≡ r.0 → StandsForConnections table r.1
+    by_state : (s : State) → StandsFor old s → (r : Result (Unit {0}) CoreFault × Connections) → Ok u ≡ r.0 → StandsForConnections (source_of old) table r.1
         → StandsFor (record old { connections = table; books = books }) (dropped_with s id r).1
     by_state s h (Err f, c) e z = absurd cc
     by_state s h (Ok v, c) e z = record {
       setting = h.setting;
       clock = h.clock;
       conns = stays.conns ∙ h.conns;
-      within = stays.within;
-      connections = z;
+      within = stays.within h.within;
+      connections = same_source old.setting.listener.host old.books.registry books.registry table c same z;
       limit = frame.limit ∙ h.limit;
       forwards = frame.cap ∙ h.forwards;
       first_xid = frame.first_xid ∙ h.first_xid;
@@ -156,7 +165,7 @@ closed_acts old id table books u stays frame acts dropped = record {
       arguments = h.arguments;
     }
 
-pub closed_refused : (old : Held) (id : ℕ) (table : Table) (f : CoreFault) → Acts StandsForConnections (closing_of id) old.connections table (Err f)
+pub closed_refused : (old : Held) (id : ℕ) (table : Table) (f : CoreFault) → Acts (StandsForConnections (source_of old)) (closing_of id) old.connections table (Err f)
     → Acts StandsFor (λ s. close_connection s id) old old (Err f)
 unfolding close_connection
 closed_refused old id table f acts = record {
@@ -174,42 +183,57 @@ closed_refused old id table f acts = record {
 
 -- ---- a message
 
--- What serving a message did, where it came from this caller.
-pub record Served (old : Held) (caller : Caller) (message : Message) (arguments : List ℕ) (books : Books) (given : Outcome) : Type 0 where
-  pub context : Context
-  pub is : context ≡ record { listener = old.setting.listener; limit = old.setting.limits.rows; forwards = old.setting.limits.forwards; clock = old.clock; caller = caller }
-  pub acts : ActsAs (outcome context message arguments) old.books books given
+-- What serving a message did where a call sees this: room was made, and these connections are left.
+pub record Served (context : Context) (old : Held) (message : Message) (arguments : List ℕ) (table : Table) (books : Books) (given : Outcome) : Type 0 where
+  pub mid : Books
+  pub makes : MakesRoom context message old.connections old.books table mid
+  pub acts : ActsAs (outcome context message arguments) mid books given
+  pub goes_on : (c : Connections) → StandsForConnections (source_in context.listener.host mid) table c → StandsForConnections (source_in context.listener.host books) table c
   pub frame : SameFrame old.books books
+  pub stays : StaysTable old.connections table
 
-module _ (old : Held) (caller : Caller) (message : Message) (arguments : List ℕ) (books : Books) (given : Outcome) (served : Served old caller message arguments books given) (s : State) (h : StandsFor old s) where
-  same_context : served.context ≡ context_in s caller
-  same_context = served.is ∙ (rw (h.setting, h.clock) refl)
+-- what is in the way of the row that it adds
+abbrev pub crowd_in : State → Caller → Message → List ℕ
+crowd_in s caller message = crowding (context_in s caller) message s.connections.all s.ledger
+
+module _ (old : Held) (caller : Caller) (message : Message) (arguments : List ℕ) (table : Table) (books : Books) (given : Outcome) (served : Served (context_of old caller) old message arguments table books given) (s : State) (h : StandsFor old s) where
+  same_context : context_of old caller ≡ context_in s caller
+  same_context = rw (h.setting, h.clock) refl
+
+  made : StandsForConnections (source_in old.setting.listener.host served.mid) table (evicting (crowding (context_of old caller) message s.connections.all s.ledger) s.connections) × StandsForLedger served.mid s.ledger
+  made = served.makes s.connections s.ledger h.connections h.ledger
 
   pub serve_gives : given ≡ (outcome (context_in s caller) message arguments s.ledger).0
-  serve_gives = subst (λ (x : Context). given ≡ (outcome x message arguments s.ledger).0) same_context (served.acts.gives s.ledger h.ledger)
+  serve_gives = subst (λ (x : Context). given ≡ (outcome x message arguments s.ledger).0) same_context (served.acts.gives s.ledger made.1)
 
   pub serve_stands : StandsForLedger books (outcome (context_in s caller) message arguments s.ledger).1
-  serve_stands = subst (λ (x : Context). StandsForLedger books (outcome x message arguments s.ledger).1) same_context (served.acts.stands s.ledger h.ledger)
+  serve_stands = subst (λ (x : Context). StandsForLedger books (outcome x message arguments s.ledger).1) same_context (served.acts.stands s.ledger made.1)
+
+  pub serve_connections : StandsForConnections (source_in old.setting.listener.host books) table (evicting (crowd_in s caller message) s.connections)
+  serve_connections =
+      subst (λ (x : Context). StandsForConnections (source_in old.setting.listener.host books) table (evicting (crowding x message s.connections.all s.ledger) s.connections)) same_context (served.goes_on _ made.0)
 
 -- the connection on which it came goes on
-pub answer_acts : (old : Held) (id : ℕ) (peer : Peer) (message : Message) (arguments : List ℕ) (books : Books) (given : Outcome) (table : Table)
-    → Served old (Tcp id peer) message arguments books given → StaysTable old.connections table
-    → ((c : Connections) → StandsForConnections old.connections c → StandsForConnections table (changed_at id (settled old.clock given) c))
+pub answer_acts : (old : Held) (id : ℕ) (peer : Peer) (message : Message) (arguments : List ℕ) (roomy : Table) (books : Books) (given : Outcome) (table : Table)
+    → Served (context_of old (Tcp id peer)) old message arguments roomy books given → StaysTable roomy table
+    → ((c : Connections) → StandsForConnections (source_in old.setting.listener.host books) roomy c → StandsForConnections (source_in old.setting.listener.host books) table (changed_at id (settled old.clock given) c))
     → Acts StandsFor (λ s. settled_in id (serve_message s (Tcp id peer) message arguments)) old (record old { connections = table; books = books }) (is_no_call given)
-answer_acts old id peer message arguments books given table served stays settles = record {
-  gives = λ s h. ap is_no_call (serve_gives old (Tcp id peer) message arguments books given served s h);
+answer_acts old id peer message arguments roomy books given table served stays settles = record {
+  gives = λ s h. ap is_no_call (serve_gives old (Tcp id peer) message arguments roomy books given served s h);
   stands = λ s h. record {
     setting = h.setting;
     clock = h.clock;
-    conns = stays.conns ∙ h.conns;
-    within = stays.within;
+    conns = stays.conns ∙ served.stays.conns ∙ h.conns;
+    within = stays.within (served.stays.within h.within);
     connections =
-        subst (λ (o : Outcome). StandsForConnections table (changed_at id (settled s.clock o) s.connections)) (serve_gives old (Tcp id peer) message arguments books given served s h)
-        (subst (λ (n : ℕ). StandsForConnections table (changed_at id (settled n given) s.connections)) h.clock (settles s.connections h.connections));
+        let left : Connections = evicting (crowd_in s (Tcp id peer) message) s.connections in
+        subst (λ (o : Outcome). StandsForConnections (source_in old.setting.listener.host books) table (changed_at id (settled s.clock o) left)) (serve_gives old (Tcp id peer) message arguments roomy books given served s h)
+        (subst (λ (n : ℕ). StandsForConnections (source_in old.setting.listener.host books) table (changed_at id (settled n given) left)) h.clock
+        (settles left (serve_connections old (Tcp id peer) message arguments roomy books given served s h)));
     limit = served.frame.limit ∙ h.limit;
     forwards = served.frame.cap ∙ h.forwards;
     first_xid = served.frame.first_xid ∙ h.first_xid;
-    ledger = serve_stands old (Tcp id peer) message arguments books given served s h;
+    ledger = serve_stands old (Tcp id peer) message arguments roomy books given served s h;
     reply = h.reply;
     short = h.short;
     arguments = h.arguments;
@@ -217,7 +241,7 @@ answer_acts old id peer message arguments books given table served stays settles
 }
 
 -- a datagram is answered
-module _ (old : Held) (now clock : ℕ) (peer : Peer) (content : List ℕ) (books : Books) (reply : List ℕ) (tie : ℕ) (is : clock ≡ max old.clock now) (few : length reply ≤ longest_reply) where
+module _ (old : Held) (now clock : ℕ) (peer : Peer) (content : List ℕ) (table : Table) (books : Books) (reply : List ℕ) (tie : ℕ) (is : clock ≡ max old.clock now) (few : length reply ≤ longest_reply) where
   moment : (s : State) → StandsFor old s → StandsFor (record old { clock = clock }) (at_moment now s)
   moment s h = record {
     setting = h.setting;
@@ -234,19 +258,26 @@ module _ (old : Held) (now clock : ℕ) (peer : Peer) (content : List ℕ) (book
     arguments = h.arguments;
   }
 
+  abbrev new_held : Held
+  new_held = record old { clock = clock; connections = table; books = books; reply = reply; tie = tie }
+
+  abbrev roomy : State → State
+  roomy s = with_room (context_in (at_moment now s) (Udp peer)) (message_of content) (at_moment now s)
+
   abbrev answered : State → Outcome × Ledger
   answered s = outcome (context_in (at_moment now s) (Udp peer)) (message_of content) (arguments_of content) s.ledger
 
-  told_state : (given : Outcome) → SameFrame old.books books → reply ≡ reply_in given → (s : State) → StandsFor old s → (o : Outcome × Ledger) → given ≡ o.0 → StandsForLedger books o.1
-      → (given ≡ (with_reply (with_ledger (at_moment now s) o)).0) × StandsFor (record old { clock = clock; books = books; reply = reply; tie = tie }) (with_reply (with_ledger (at_moment now s) o)).1
-  told_state given frame holds s h (told, l) e z = (
+  told_state : (given : Outcome) → SameFrame old.books books → StaysTable old.connections table → reply ≡ reply_in given → (s : State) → StandsFor old s
+      → StandsForConnections (source_in old.setting.listener.host books) table (roomy s).connections → (o : Outcome × Ledger) → given ≡ o.0 → StandsForLedger books o.1
+      → (given ≡ (with_reply (with_ledger (roomy s) o)).0) × StandsFor new_held (with_reply (with_ledger (roomy s) o)).1
+  told_state given frame stays holds s h left (told, l) e z = (
     e,
     record {
       setting = h.setting;
       clock = is ∙ ap (λ (n : ℕ). max n now) h.clock;
-      conns = h.conns;
-      within = h.within;
-      connections = h.connections;
+      conns = stays.conns ∙ h.conns;
+      within = stays.within h.within;
+      connections = left;
       limit = frame.limit ∙ h.limit;
       forwards = frame.cap ∙ h.forwards;
       first_xid = frame.first_xid ∙ h.first_xid;
@@ -257,14 +288,19 @@ module _ (old : Held) (now clock : ℕ) (peer : Peer) (content : List ℕ) (book
     },
   )
 
-  pub datagram_acts : (given : Outcome) → Served (record old { clock = clock }) (Udp peer) (message_of content) (arguments_of content) books given → reply ≡ reply_in given
-      → Acts StandsFor (λ s. datagram s now peer content) old (record old { clock = clock; books = books; reply = reply; tie = tie }) given
+  pub datagram_acts : (given : Outcome) → Served (context_of (record old { clock = clock }) (Udp peer)) (record old { clock = clock }) (message_of content) (arguments_of content) table books given → reply ≡ reply_in given
+      → Acts StandsFor (λ s. datagram s now peer content) old new_held given
   unfolding datagram serve
   datagram_acts given served holds = record { gives = λ s h. (goes s h).0; stands = λ s h. (goes s h).1 }
     where
-      goes : (s : State) → StandsFor old s → (given ≡ (with_reply (with_ledger (at_moment now s) (answered s))).0) × StandsFor (record old { clock = clock; books = books; reply = reply; tie = tie }) (with_reply (with_ledger (at_moment now s) (answered s))).1
-      goes s h = told_state given served.frame holds s h (answered s) (serve_gives (record old { clock = clock }) (Udp peer) (message_of content) (arguments_of content) books given served (at_moment now s) (moment s h))
-          (serve_stands (record old { clock = clock }) (Udp peer) (message_of content) (arguments_of content) books given served (at_moment now s) (moment s h))
+      goes : (s : State) → StandsFor old s → (given ≡ (with_reply (with_ledger (roomy s) (answered s))).0) × StandsFor new_held (with_reply (with_ledger (roomy s) (answered s))).1
+      goes s h =
+          let before : Held = record old { clock = clock } in
+          told_state given served.frame served.stays holds s h
+          (serve_connections before (Udp peer) (message_of content) (arguments_of content) table books given served (at_moment now s) (moment s h))
+          (answered s)
+          (serve_gives before (Udp peer) (message_of content) (arguments_of content) table books given served (at_moment now s) (moment s h))
+          (serve_stands before (Udp peer) (message_of content) (arguments_of content) table books given served (at_moment now s) (moment s h))
 
 -- ---- a piece of bytes
 
@@ -308,43 +344,71 @@ idle_is_live : (clock id : ℕ) (c : Connection) → is_live id c ≡ true → i
 unfolding is_live
 idle_is_live clock id c h = let p = and_parts (eqb c.number id) (not (is_lost c.phase)) h in rw p.0 refl
 
-settled_twice : (clock id now : ℕ) (given : Outcome) (all : List Connection)
-    → change_first (is_live id) (settled now given) (change_first (is_live id) (idle clock) all) ≡ change_first (is_live id) (settled now given) all
+settled_over : (now : ℕ) (given : Outcome) (clock : ℕ) (c : Connection) → settled now given (idle clock c) ≡ settled now given c
 unfolding settled
-settled_twice clock id now given all = change_twice (is_live id) (idle clock) (settled now given) all (idle_is_live clock id)
+settled_over now given clock c = refl
 
--- A message is answered alike where the connection was Idle meanwhile.
-answering_alike : (clock id : ℕ) (peer : Peer) (message : Message) (arguments : List ℕ) (s : State)
-    → settled_in id (serve_message (record s { connections = changed_at id (idle clock) s.connections }) (Tcp id peer) message arguments) ≡ settled_in id (serve_message s (Tcp id peer) message arguments)
-answering_alike clock id peer message arguments s = by_outcome (outcome (context_in s (Tcp id peer)) message arguments s.ledger)
+found_passes : (test : Connection → Bool) (all : List Connection) (c : Connection) → find test all ≡ Some c → test c ≡ true
+found_passes test [] c e = absurd cc
+found_passes test (x ∷ all) c e = by_test (test x) refl (found_passes test all c)
   where
-    by_outcome : (o : Outcome × Ledger) → settled_in id (with_ledger (record s { connections = changed_at id (idle clock) s.connections }) o) ≡ settled_in id (with_ledger s o)
-    by_outcome o = ap (λ (xs : List Connection). (is_no_call o.0, record s { ledger = o.1; connections = record s.connections { all = xs } })) (twice o.0)
-      where
-        twice : (given : Outcome) → change_first (is_live id) (settled s.clock given) (change_first (is_live id) (idle clock) s.connections.all) ≡ change_first (is_live id) (settled s.clock given) s.connections.all
-        twice given = settled_twice clock id s.clock given s.connections.all
+    by_test : (b : Bool) → test x ≡ b → (find test all ≡ Some c → test c ≡ true) → test c ≡ true
+    by_test true t further = let same : Some x ≡ Some c = rw t at e in let is : x ≡ c = cc in sym (ap test is) ∙ t
+    by_test false t further = further (rw t at e)
+
+-- A message is answered alike where the connection, which has no list, was Idle meanwhile.
+answering_alike : (clock id : ℕ) (peer : Peer) (message : Message) (arguments : List ℕ) (s : State) (c : Connection) → live_connection id s.connections.all ≡ Some c → began_in c.phase ≡ None
+    → settled_in id (serve_message (record s { connections = changed_at id (idle clock) s.connections }) (Tcp id peer) message arguments) ≡ settled_in id (serve_message s (Tcp id peer) message arguments)
+unfolding live_connection
+answering_alike clock id peer message arguments s c there none = by_outcome (outcome (context_in s (Tcp id peer)) message arguments s.ledger)
+  where
+    live : is_live id (idle clock c) ≡ true
+    live = idle_is_live clock id c (found_passes (is_live id) s.connections.all c there)
+
+    same_crowd : crowding (context_in s (Tcp id peer)) message (change_first (is_live id) (idle clock) s.connections.all) s.ledger ≡ crowding (context_in s (Tcp id peer)) message s.connections.all s.ledger
+    same_crowd = crowding_alike (context_in s (Tcp id peer)) message _ _ s.ledger (begins_changed id (idle clock) s.connections.all c there none refl)
+
+    twice : (given : Outcome) (changes other : List ℕ) → other ≡ changes → change_first (is_live id) (settled s.clock given) (map (evicted other) (change_first (is_live id) (idle clock) s.connections.all))
+        ≡ change_first (is_live id) (settled s.clock given) (map (evicted changes) s.connections.all)
+    twice given changes other same =
+        ap (λ (ns : List ℕ). change_first (is_live id) (settled s.clock given) (map (evicted ns) (change_first (is_live id) (idle clock) s.connections.all))) same
+        ∙ evicted_changed id (idle clock) (settled s.clock given) changes s.connections.all c there none refl live (settled_over s.clock given clock c)
+
+    by_outcome : (o : Outcome × Ledger)
+        → settled_in id (with_ledger (with_room (context_in s (Tcp id peer)) message (record s { connections = changed_at id (idle clock) s.connections })) o)
+        ≡ settled_in id (with_ledger (with_room (context_in s (Tcp id peer)) message s) o)
+    by_outcome o = ap (λ (xs : List Connection). (is_no_call o.0, record s { ledger = o.1; connections = record s.connections { all = xs } })) (twice o.0 _ _ same_crowd)
 
 -- So is a record, by its verdict and what is kept of its arguments.
-heard_alike : (clock id : ℕ) (heard : Heard) (arguments content : List ℕ) (s : State) → heard.verdict ≡ verdict content → arguments ≡ kept_of content
+heard_alike : (clock id : ℕ) (heard : Heard) (arguments content : List ℕ) (s : State) (c : Connection) → live_connection id s.connections.all ≡ Some c → began_in c.phase ≡ None → heard.verdict ≡ verdict content → arguments ≡ kept_of content
     → answering_heard id heard arguments (record s { connections = changed_at id (idle clock) s.connections }) ≡ answering s id heard.peer content
 unfolding answering serve
-heard_alike clock id heard arguments content s says kept =
+heard_alike clock id heard arguments content s c there none says kept =
     let caller : Caller = Tcp id heard.peer in
-    answering_alike clock id heard.peer (message_with heard.verdict arguments) arguments s
+    answering_alike clock id heard.peer (message_with heard.verdict arguments) arguments s c there none
     ∙ ap (λ (v : Verdict). settled_in id (serve_message s caller (message_with v arguments) arguments)) says
     ∙ ap (λ (xs : List ℕ). settled_in id (serve_message s caller (message_with (verdict content) xs) xs)) kept
     ∙ ap (λ (m : Message). settled_in id (serve_message s caller m (kept_of content))) (kept_says content).says
-    ∙ ap (λ (o : Outcome × Ledger). settled_in id (with_ledger s o)) ((kept_says content).answered (context_in s caller) s.ledger)
+    ∙ ap (λ (o : Outcome × Ledger). settled_in id (with_ledger (with_room (context_in s caller) (message_of content) s) o)) ((kept_says content).answered (context_in s caller) s.ledger)
+
+-- a connection that takes bytes has no list
+pub takes_no_list : (phase : Phase) (piece : List ℕ) (n : ℕ) (content : List ℕ) → taking phase piece ≡ Ends n content → began_in phase ≡ None
+unfolding taking
+takes_no_list Idle piece n content e = refl
+takes_no_list (Reading fed) piece n content e = refl
+takes_no_list (Owing o) piece n content e = absurd cc
+takes_no_list Awaiting piece n content e = refl
+takes_no_list Lost piece n content e = refl
 
 -- the live connection that took a piece, and what came of it
 pub record Fed (old : Held) (clock id : ℕ) (piece : List ℕ) (table : Table) (got : Received) (s : State) : Type 0 where
   pub connection : Connection
   pub there : live_connection id s.connections.all ≡ Some connection
   pub gives : got ≡ received piece connection (taking connection.phase piece)
-  pub stands : StandsForConnections table (changed_at id (λ x. fed_with clock x (taking x.phase piece)) s.connections)
+  pub stands : StandsForConnections (source_of old) table (changed_at id (λ x. fed_with clock x (taking x.phase piece)) s.connections)
 
 module _ (old : Held) (now clock id : ℕ) (piece : List ℕ) (is : clock ≡ max old.clock now) (table : Table) (stays : StaysTable old.connections table)
-    (arguments : List ℕ) (holds : Shows StandsForConnections (arguments_on id old.arguments piece) old.connections arguments) where
+    (arguments : List ℕ) (holds : Shows (StandsForConnections (source_of old)) (arguments_on id old.arguments piece) old.connections arguments) where
   abbrev ok : Received → Result Received CoreFault
   ok got = Ok got
 
@@ -360,12 +424,12 @@ module _ (old : Held) (now clock id : ℕ) (piece : List ℕ) (is : clock ≡ ma
   nobody : (x : Heard) → Some x ≡ None → ⊥
   nobody x h = absurd cc
 
-  fed_by : (got : Received) → Acts StandsForConnections (on_live id (feeding clock piece)) old.connections table (Ok got) → (s : State) → StandsFor old s → Fed old clock id piece table got s
+  fed_by : (got : Received) → Acts (StandsForConnections (source_of old)) (on_live id (feeding clock piece)) old.connections table (Ok got) → (s : State) → StandsFor old s → Fed old clock id piece table got s
   unfolding feeding
   fed_by got acts s h = by_there (live_connection id s.connections.all) refl (acts.gives s.connections h.connections) (acts.stands s.connections h.connections)
     where
       by_there : (m : Option Connection) → live_connection id s.connections.all ≡ m
-          → Ok got ≡ (on_live id (feeding clock piece) s.connections).0 → StandsForConnections table (on_live id (feeding clock piece) s.connections).1 → Fed old clock id piece table got s
+          → Ok got ≡ (on_live id (feeding clock piece) s.connections).0 → StandsForConnections (source_of old) table (on_live id (feeding clock piece) s.connections).1 → Fed old clock id piece table got s
       by_there None e g z = let clash = rw e at g in absurd cc
       by_there (Some c) e g z = record { connection = c; there = e; gives = ok_is got (received piece c (taking c.phase piece)) (rw e at g); stands = rw e at z }
 
@@ -390,13 +454,13 @@ module _ (old : Held) (now clock id : ℕ) (piece : List ℕ) (is : clock ≡ ma
   abbrev held_with : List ℕ → Held
   held_with kept = record old { clock = clock; connections = table; arguments = kept }
 
-  table_with : (s : State) → StandsFor old s → (kept : List ℕ) → kept ≡ [] → (connections : Connections) → StandsForConnections table connections
+  table_with : (s : State) → StandsFor old s → (kept : List ℕ) → kept ≡ [] → (connections : Connections) → StandsForConnections (source_of old) table connections
       → StandsFor (held_with kept) (record (at_moment now s) { connections = connections })
   table_with s h kept none connections z = record {
     setting = h.setting;
     clock = is ∙ ap (λ (n : ℕ). max n now) h.clock;
     conns = stays.conns ∙ h.conns;
-    within = stays.within;
+    within = stays.within h.within;
     connections = z;
     limit = h.limit;
     forwards = h.forwards;
@@ -412,7 +476,7 @@ module _ (old : Held) (now clock id : ℕ) (piece : List ℕ) (is : clock ≡ ma
     pub gives : Ok (record { count = count; closed = false }) ≡ (bytes s now id piece).0
     pub stands : StandsFor (held_with arguments) (bytes s now id piece).1
 
-  pub quiet_acts : (count : ℕ) → Acts StandsForConnections (on_live id (feeding clock piece)) old.connections table (Ok (quiet count))
+  pub quiet_acts : (count : ℕ) → Acts (StandsForConnections (source_of old)) (on_live id (feeding clock piece)) old.connections table (Ok (quiet count))
       → Acts StandsFor (λ s. bytes s now id piece) old (held_with arguments) (Ok (record { count = count; closed = false }))
   quiet_acts count acts = record { gives = λ s h. (goes s h).gives; stands = λ s h. (goes s h).stands }
     where
@@ -422,13 +486,13 @@ module _ (old : Held) (now clock id : ℕ) (piece : List ℕ) (is : clock ≡ ma
           let n : count ≡ 0 = ap (λ (r : Received). r.count) gives in
           let none : arguments ≡ [] = held_after s f.connection TakesNone h f.there t ∙ h.arguments in
           let same = fed_to s f.connection TakesNone (λ x. x) f.there t refl ∙ ap (λ (xs : List Connection). record s.connections { all = xs }) (change_nothing (is_live id) s.connections.all) in
-          record { gives = rw (bytes_by s f.connection TakesNone f.there t) (rw n refl); stands = rw (bytes_by s f.connection TakesNone f.there t) (table_with s h arguments none s.connections (subst (StandsForConnections table) same f.stands)) }
+          record { gives = rw (bytes_by s f.connection TakesNone f.there t) (rw n refl); stands = rw (bytes_by s f.connection TakesNone f.there t) (table_with s h arguments none s.connections (subst (StandsForConnections (source_of old) table) same f.stands)) }
       by_taking s h f (GoesOn fed) t =
           let gives : quiet count ≡ quiet (length piece) = rw t at f.gives in
           let n : count ≡ length piece = ap (λ (r : Received). r.count) gives in
           let none : arguments ≡ [] = held_after s f.connection (GoesOn fed) h f.there t ∙ h.arguments in
           let same = fed_to s f.connection (GoesOn fed) (reading (max s.clock now) fed) f.there t (ap (λ (k : ℕ). reading k fed f.connection) (is ∙ ap (λ (k : ℕ). max k now) h.clock)) in
-          record { gives = rw (bytes_by s f.connection (GoesOn fed) f.there t) (rw n refl); stands = rw (bytes_by s f.connection (GoesOn fed) f.there t) (table_with s h arguments none (changed_at id (reading (max s.clock now) fed) s.connections) (subst (StandsForConnections table) same f.stands)) }
+          record { gives = rw (bytes_by s f.connection (GoesOn fed) f.there t) (rw n refl); stands = rw (bytes_by s f.connection (GoesOn fed) f.there t) (table_with s h arguments none (changed_at id (reading (max s.clock now) fed) s.connections) (subst (StandsForConnections (source_of old) table) same f.stands)) }
       by_taking s h f (Ends n content) t =
           let gives : quiet count ≡ heard n (record { peer = f.connection.peer; verdict = verdict content }) = rw t at f.gives in
           absurd (nobody (record { peer = f.connection.peer; verdict = verdict content }) (sym (ap (λ (r : Received). r.heard) gives)))
@@ -437,7 +501,7 @@ module _ (old : Held) (now clock id : ℕ) (piece : List ℕ) (is : clock ≡ ma
       goes s h = let f = fed_by (quiet count) acts s h in by_taking s h f (taking f.connection.phase piece) refl
 
   -- what is given where one ended, and what it said is answered
-  pub heard_acts : (count : ℕ) (said : Heard) (new : Held) (closed : Bool) → Acts StandsForConnections (on_live id (feeding clock piece)) old.connections table (Ok (heard count said))
+  pub heard_acts : (count : ℕ) (said : Heard) (new : Held) (closed : Bool) → Acts (StandsForConnections (source_of old)) (on_live id (feeding clock piece)) old.connections table (Ok (heard count said))
       → Acts StandsFor (answering_heard id said arguments) (held_with []) new closed
       → Acts StandsFor (λ s. bytes s now id piece) old new (Ok (record { count = count; closed = closed }))
   heard_acts count said new closed acts answers = record { gives = λ s h. (goes s h).0; stands = λ s h. (goes s h).1 }
@@ -451,8 +515,8 @@ module _ (old : Held) (now clock id : ℕ) (piece : List ℕ) (is : clock ≡ ma
           let k : count ≡ n = ap (λ (r : Received). r.count) gives in
           let who : said ≡ record { peer = f.connection.peer; verdict = verdict content } = some_is {X = Heard} (λ x. true) _ _ (ap (λ (r : Received). r.heard) gives) in
           let same = fed_to s f.connection (Ends n content) (idle clock) f.there t refl in
-          let z = table_with s h [] refl (changed_at id (idle clock) s.connections) (subst (StandsForConnections table) same f.stands) in
-          let alike = heard_alike clock id said arguments content (at_moment now s) (ap (λ (x : Heard). x.verdict) who) (held_after s f.connection (Ends n content) h f.there t) in
+          let z = table_with s h [] refl (changed_at id (idle clock) s.connections) (subst (StandsForConnections (source_of old) table) same f.stands) in
+          let alike = heard_alike clock id said arguments content (at_moment now s) f.connection f.there (takes_no_list f.connection.phase piece n content t) (ap (λ (x : Heard). x.verdict) who) (held_after s f.connection (Ends n content) h f.there t) in
           let one : closed ≡ (answering (at_moment now s) id said.peer content).0 = answers.gives _ z ∙ ap (λ r. r.0) alike in
           let two : StandsFor new (answering (at_moment now s) id said.peer content).1 = subst (λ (r : Bool × State). StandsFor new r.1) alike (answers.stands _ z) in
           let from = ap (λ (x : Heard). x.peer) who in
@@ -471,7 +535,7 @@ abbrev ok_received : Received → Result Received CoreFault
 ok_received got = Ok got
 
 -- a connection that is not there takes nothing
-pub bytes_refused : (old : Held) (now clock id : ℕ) (piece : List ℕ) (table : Table) (f : CoreFault) → Acts StandsForConnections (on_live id (feeding clock piece)) old.connections table (Err f)
+pub bytes_refused : (old : Held) (now clock id : ℕ) (piece : List ℕ) (table : Table) (f : CoreFault) → Acts (StandsForConnections (source_of old)) (on_live id (feeding clock piece)) old.connections table (Err f)
     → Acts StandsFor (λ s. bytes s now id piece) old old (Err f)
 unfolding bytes
 bytes_refused old now clock id piece table f acts = record {
@@ -488,12 +552,12 @@ bytes_refused old now clock id piece table f acts = record {
     by_state s h (Some c) e g = let clash = rw e at g in absurd cc
 
 -- the same by what was heard
-pub with_heard : (id clock : ℕ) (piece : List ℕ) (old table : Table) (got : Received) (said : Option Heard) → got.heard ≡ said
-    → Acts StandsForConnections (on_live id (feeding clock piece)) old table (Ok got) → Acts StandsForConnections (on_live id (feeding clock piece)) old table (Ok (record { count = got.count; heard = said }))
-with_heard id clock piece old table got said is acts = subst (λ (m : Option Heard). Acts StandsForConnections (on_live id (feeding clock piece)) old table (Ok (record { count = got.count; heard = m }))) is acts
+pub with_heard : (source : Source) (id clock : ℕ) (piece : List ℕ) (old table : Table) (got : Received) (said : Option Heard) → got.heard ≡ said
+    → Acts (StandsForConnections source) (on_live id (feeding clock piece)) old table (Ok got) → Acts (StandsForConnections source) (on_live id (feeding clock piece)) old table (Ok (record { count = got.count; heard = said }))
+with_heard source id clock piece old table got said is acts = subst (λ (m : Option Heard). Acts (StandsForConnections source) (on_live id (feeding clock piece)) old table (Ok (record { count = got.count; heard = m }))) is acts
 
 -- No piece that ends no record says anything.
-pub nothing_heard : (clock id count : ℕ) (piece : List ℕ) (said : Heard) (old : Held) (table : Table) → Acts StandsForConnections (on_live id (feeding clock piece)) old.connections table (Ok (record { count = count; heard = Some said }))
+pub nothing_heard : (clock id count : ℕ) (piece : List ℕ) (said : Heard) (old : Held) (table : Table) → Acts (StandsForConnections (source_of old)) (on_live id (feeding clock piece)) old.connections table (Ok (record { count = count; heard = Some said }))
     → (s : State) → StandsFor old s → NoRecordEnds s id piece → ⊥
 unfolding feeding
 nothing_heard clock id count piece said old table acts s h none = by_there (live_connection id s.connections.all) refl (acts.gives s.connections h.connections) none
@@ -524,17 +588,17 @@ unfolding unsent_call
 unsent_shown held given shows s h = shows s.ledger h.ledger ∙ ap (λ (n : ℕ). unsent n s.ledger.forwards) h.first_xid
 
 module _ (old : Held) (number : ℕ) (books : Books) where
-  pub sent_acts : (u : Unit {0}) → SameFrame old.books books → ((l : Ledger) → StandsForLedger old.books l → can_be_sent number l.forwards ≡ true) → Becomes (call_sent number) old.books books
+  pub sent_acts : (u : Unit {0}) → books.registry ≡ old.books.registry → SameFrame old.books books → ((l : Ledger) → StandsForLedger old.books l → can_be_sent number l.forwards ≡ true) → Becomes (call_sent number) old.books books
       → Acts StandsFor (λ s. sent_call s number) old (record old { books = books }) (Ok u)
   unfolding sent_call
-  sent_acts u frame can becomes = record {
+  sent_acts u same frame can becomes = record {
     gives = λ s h. rw (can s.ledger h.ledger) refl;
     stands = λ s h. rw (can s.ledger h.ledger) (record {
       setting = h.setting;
       clock = h.clock;
       conns = h.conns;
       within = h.within;
-      connections = h.connections;
+      connections = same_source old.setting.listener.host old.books.registry books.registry old.connections s.connections same h.connections;
       limit = frame.limit ∙ h.limit;
       forwards = frame.cap ∙ h.forwards;
       first_xid = frame.first_xid ∙ h.first_xid;
@@ -554,7 +618,7 @@ module _ (old : Held) (number : ℕ) (books : Books) where
 
 -- the caller is told
 pub tcp_told : (old : Held) (id : ℕ) (peer : Peer) (said : Outcome) (table : Table) → StaysTable old.connections table
-    → ((c : Connections) → StandsForConnections old.connections c → StandsForConnections table (changed_at id (settled old.clock said) c))
+    → ((c : Connections) → StandsForConnections (source_of old) old.connections c → StandsForConnections (source_of old) table (changed_at id (settled old.clock said) c))
     → Acts StandsFor (tell (Tcp id peer) said) old (record old { connections = table }) (TcpReady id)
 tcp_told old id peer said table stays settles = record {
   gives = λ s h. refl;
@@ -562,8 +626,8 @@ tcp_told old id peer said table stays settles = record {
     setting = h.setting;
     clock = h.clock;
     conns = stays.conns ∙ h.conns;
-    within = stays.within;
-    connections = subst (λ (n : ℕ). StandsForConnections table (changed_at id (settled n said) s.connections)) h.clock (settles s.connections h.connections);
+    within = stays.within h.within;
+    connections = subst (λ (n : ℕ). StandsForConnections (source_of old) table (changed_at id (settled n said) s.connections)) h.clock (settles s.connections h.connections);
     limit = h.limit;
     forwards = h.forwards;
     first_xid = h.first_xid;
@@ -596,7 +660,7 @@ udp_told old peer said reply tie told few holds is = record {
 
 -- an entry ends, or none does
 module _ (old : Held) (now clock : ℕ) (is : clock ≡ max old.clock now) (message : List ℕ) (books : Books) (tie : ℕ) (act : Ledger → Option Ended × Ledger) (plain : State → Ledger → Option Ended × Ledger)
-    (alike : (s : State) → StandsFor old s → act ≡ plain s) (frame : SameFrame old.books books) where
+    (alike : (s : State) → StandsFor old s → act ≡ plain s) (same : books.registry ≡ old.books.registry) (frame : SameFrame old.books books) where
   abbrev pub ended_held : Held
   ended_held = record old { clock = clock; books = books; reply = []; tie = tie }
 
@@ -609,7 +673,7 @@ module _ (old : Held) (now clock : ℕ) (is : clock ≡ max old.clock now) (mess
     clock = is ∙ ap (λ (n : ℕ). max n now) h.clock;
     conns = h.conns;
     within = h.within;
-    connections = h.connections;
+    connections = same_source old.setting.listener.host old.books.registry books.registry old.connections s.connections same h.connections;
     limit = frame.limit ∙ h.limit;
     forwards = frame.cap ∙ h.forwards;
     first_xid = frame.first_xid ∙ h.first_xid;
@@ -643,11 +707,11 @@ module _ (old : Held) (now clock : ℕ) (is : clock ≡ max old.clock now) (mess
           → (Some told ≡ (tell_end message (at_fresh_moment now s) r).0) × StandsFor new (tell_end message (at_fresh_moment now s) r).1
       by_end s h (None, l) e z = absurd cc
       by_end s h (Some other, l) e z =
-          let same : ended ≡ other = cc in
+          let is_one : ended ≡ other = cc in
           let t : State = record (at_fresh_moment now s) { ledger = l } in
           let k = left s h l z in (
-            ap Some (tells.gives t k ∙ ap (λ (x : Ended). (tell x.forward.caller (told_at message x) t).0) same),
-            subst (λ (x : Ended). StandsFor new (tell x.forward.caller (told_at message x) t).1) same (tells.stands t k),
+            ap Some (tells.gives t k ∙ ap (λ (x : Ended). (tell x.forward.caller (told_at message x) t).0) is_one),
+            subst (λ (x : Ended). StandsFor new (tell x.forward.caller (told_at message x) t).1) is_one (tells.stands t k),
           )
 
       goes : (s : State) → StandsFor old s → (Some told ≡ (ends s).0) × StandsFor new (ends s).1

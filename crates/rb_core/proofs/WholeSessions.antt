@@ -21,7 +21,7 @@ use Rattle.rb_core.proofs.Cuts.{find-holds}
 use Rattle.rb_core.proofs.Entries.{Await, step-awaits, opening-awaits}
 use Rattle.rb_core.proofs.Happenings.{Arriving, arriving, Happening, happening, said_in}
 use Rattle.rb_core.proofs.Happenings.Arriving.{NotThere, NotTaken, ReadOn, Ended}
-use Rattle.rb_core.proofs.Happenings.Happening.{Stays, Opens, Reads, Ends, Gives, Closes, Tells, TimesOut}
+use Rattle.rb_core.proofs.Happenings.Happening.{Stays, Evicts, Opens, Reads, Ends, Gives, Closes, Tells, TimesOut}
 use Rattle.rb_core.proofs.Passing.{no-record, first-alone}
 use Rattle.rb_core.proofs.Reached.{IsSoundPhase}
 use Rattle.rb_core.proofs.Sessions.{contents, Holds, all-given, all-answered, count-shown, fits-live, sound-live, ends-whole, taken-is, step-holds}
@@ -66,6 +66,7 @@ module _ (id : ℕ) (s : State) (t : Session) (h : Holds id s.connections t) whe
 
   turn : (event : Event) (output : Output) (now : Connections) → Happening s event output now → taken_by id event output ≢ [] → AllGiven t
   turn event output now (Stays q same) some = absurd (some (ap (λ (n : ℕ). take n (piece_to id event)) q.no_count))
+  turn event output now (Evicts at peer content is q same) some = absurd (some (ap (λ (n : ℕ). take n (piece_to id event)) q.no_count))
   turn event output now (Opens at peer is out same) some = none-by event output (ap (piece_to id) is) some
   turn event output now (Reads at k piece c fed is there feeds none out same) some =
       fed-given at k piece c fed output there feeds (subst (λ (ev : Event). taken_by id ev output ≢ []) is some) (eqb k id) refl

@@ -12,13 +12,14 @@ use Rattle.rb_core.specs.declared.slot.Received.{Received}
 use Rattle.rb_core.specs.declared.types.CoreFault.{CoreFault}
 use Rattle.rb_core.specs.declared.types.Outcome.{Outcome}
 use Rattle.rb_core.specs.declared.types.Outcome.TheVariants as outcomes
-use Rattle.rb_core.specs.Slots.{Table, is_lost_stage}
+use Rattle.rb_core.specs.Slots.{Table, is_idle_stage}
 
 abbrev pub is_awaiting_stage : Stage → Bool
 is_awaiting_stage stages.Awaiting = true
 is_awaiting_stage stages.Idle = false
 is_awaiting_stage (stages.Reading reader) = false
 is_awaiting_stage (stages.Owing given) = false
+is_awaiting_stage (stages.Streaming stream) = false
 is_awaiting_stage stages.Lost = false
 
 -- it has this number and awaits no forwarded call
@@ -29,12 +30,12 @@ is_free_slot id slot = slot.number == id && not (is_awaiting_stage slot.stage)
 unfoldable pub is_free : ℕ → Table → Bool
 is_free id table = nat_lt table.given id || list_any (is_free_slot id) (values_of table.slots)
 
--- it is open and not Lost
-abbrev pub is_live_slot : ℕ → Slot → Bool
-is_live_slot id slot = slot.number == id && not (is_lost_stage slot.stage)
+-- it is open and Idle
+abbrev pub is_idle_slot : ℕ → Slot → Bool
+is_idle_slot id slot = slot.number == id && is_idle_stage slot.stage
 
-unfoldable pub has_live : ℕ → Table → Bool
-has_live id table = list_any (is_live_slot id) (values_of table.slots)
+unfoldable pub has_idle : ℕ → Table → Bool
+has_idle id table = list_any (is_idle_slot id) (values_of table.slots)
 
 -- No connection is free for which a call is forwarded.
 abbrev pub AreAwaited : Entries → Table → Type 0
@@ -48,15 +49,19 @@ NoneIsFreed old new = (id : ℕ) → is_free id old ≡ false → is_free id new
 abbrev pub OnlyIsFreed : ℕ → Table → Table → Type 0
 OnlyIsFreed number old new = (id : ℕ) → (id == number) ≡ false → is_free id old ≡ false → is_free id new ≡ false
 
--- A record ended on it: it awaited no forwarded call, and is not Lost.
+-- Where a call is forwarded for the connection of this number, which was Idle, it awaits that.
+abbrev pub AwaitsIfForwarded : Outcome → ℕ → Table → Table → Type 0
+AwaitsIfForwarded given id old new = given ≡ outcomes.Forwarded → has_idle id old ≡ true → is_free id new ≡ false
+
+-- A record ended on it: it awaited no forwarded call, and is Idle.
 pub record HearsSlot (old new : Slot) : Type 0 where
   pub awaited_none : is_awaiting_stage old.stage ≡ false
-  pub not_lost : is_lost_stage new.stage ≡ false
+  pub is_idle : is_idle_stage new.stage ≡ true
 
--- A record ended on a connection that was free, and is live.
+-- A record ended on a connection that was free, and is Idle.
 pub record HeardFrom (id : ℕ) (old new : Table) : Type 0 where
   pub was_free : is_free id old ≡ true
-  pub is_live : has_live id new ≡ true
+  pub is_idle : has_idle id new ≡ true
 
 abbrev pub HearsFree : ℕ → Table → Table → Result Received CoreFault → Type 0
 HearsFree id old new result = IfOk result (λ got. IfSome got.heard (λ heard. HeardFrom id old new))

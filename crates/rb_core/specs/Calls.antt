@@ -1,5 +1,5 @@
 -- What a message says, by the order of refusals, and what it is answered with (RFC 5531 sections 8 and 9).
-use Rattle.std.specs.Prelude.{ℕ, ◌==◌, nat_lt, not, ◌||◌, Bool, true, false, if◌then◌else◌, List, [], ◌++◌, length, Result, Ok, Err}
+use Rattle.std.specs.Prelude.{ℕ, ◌==◌, nat_lt, not, ◌||◌, Bool, true, false, if◌then◌else◌, List, [], ◌++◌, length, Option, Some, None, Result, Ok, Err}
 use Rattle.rb_rpc.specs.declared.call.CallHead.{CallHead}
 use Rattle.rb_rpc.specs.declared.call.Verdict.{Verdict}
 use Rattle.rb_rpc.specs.declared.call.Verdict.TheVariants as verdicts
@@ -7,6 +7,8 @@ use Rattle.rb_rpc.specs.Verdict.{verdict}
 use Rattle.rb_rpc.specs.declared.reply.ReplyStatus.{ReplyStatus}
 use Rattle.rb_rpc.specs.declared.reply.ReplyStatus.TheVariants as replies
 use Rattle.rb_rpc.specs.Replies.{reply_head}
+use Rattle.rb_rpc.specs.declared.peer.Caller.{Caller}
+use Rattle.rb_rpc.specs.declared.peer.Caller.TheVariants.{Tcp, Udp}
 use Rattle.rb_feed.specs.Feeds.{arguments_of}
 use Rattle.rb_registry.specs.Rows.{rpcb_prog}
 use Rattle.rb_proto.specs.declared.request.ArgumentFault.{ArgumentFault}
@@ -17,6 +19,7 @@ use Rattle.rb_proto.specs.Arguments.{read_request}
 use Rattle.rb_proto.specs.Ledger.{Ledger, called}
 use Rattle.rb_proto.specs.declared.answers.Answer.{Answer}
 use Rattle.rb_proto.specs.declared.answers.Results.{Results}
+use Rattle.rb_proto.specs.declared.answers.Results.TheVariants as results
 use Rattle.rb_proto.specs.declared.answers.Answer.TheVariants as answers
 use Rattle.rb_proto.specs.Answers.{answer}
 use Rattle.rb_proto.specs.Results.{result_bytes, shown_of}
@@ -59,27 +62,28 @@ message_of bytes = message_with (verdict bytes) (arguments_of bytes)
 
 -- ---- what it is answered with
 
--- what is no call has no reply, and a call has one, or is forwarded, or stays without one
+-- What is no call has no reply, and a call has one, or is forwarded, or stays without one. A reply that is a streamed list
+-- has the number of changes after which it began.
 pub data Outcome : Type 0 where
   NoCall : Outcome
-  Reply : List ℕ → Outcome
+  Reply : List ℕ → Option ℕ → Outcome
   Forwarded : Outcome
   Silent : Outcome
 
 abbrev pub is_no_call : Outcome → Bool
 is_no_call NoCall = true
-is_no_call (Reply bytes) = false
+is_no_call (Reply bytes began) = false
 is_no_call Forwarded = false
 is_no_call Silent = false
 
 -- no bytes where there is no reply
 abbrev pub reply_in : Outcome → List ℕ
 reply_in NoCall = []
-reply_in (Reply bytes) = bytes
+reply_in (Reply bytes began) = bytes
 reply_in Forwarded = []
 reply_in Silent = []
 
--- the greatest length of a reply (streamed lists will pass it on TCP)
+-- the greatest length of a reply, but for a list that is streamed
 unfoldable pub longest_reply : ℕ
 longest_reply = 9000
 
@@ -91,24 +95,33 @@ fitting xid reply = if nat_lt longest_reply (length reply) then reply_head xid r
 abbrev pub success : ℕ → List ℕ → List ℕ
 success xid results = fitting xid (reply_head xid replies.Success ++ results)
 
--- what an answer comes to, where these are the bytes of results
-abbrev pub told_as : ℕ → (Results → List ℕ) → Answer → Outcome
-told_as xid bytes_of (answers.Results results) = Reply (success xid (bytes_of results))
-told_as xid bytes_of (answers.Refused status) = Reply (reply_head xid status)
-told_as xid bytes_of answers.Forwarded = Forwarded
-told_as xid bytes_of answers.Silent = Silent
+-- Results of these bytes, after so many changes: a list of rows is streamed on a connection, of any length.
+abbrev pub told_results : Caller → ℕ → ℕ → List ℕ → Results → Outcome
+told_results (Tcp id peer) count xid bytes (results.Rows list) = Reply (reply_head xid replies.Success ++ bytes) (Some count)
+told_results (Udp peer) count xid bytes (results.Rows list) = Reply (success xid bytes) None
+told_results caller count xid bytes (results.Value value) = Reply (success xid bytes) None
+told_results caller count xid bytes results.Statistics = Reply (success xid bytes) None
+
+-- what an answer to a caller comes to after so many changes, where these are the bytes of results
+abbrev pub told_as : Caller → ℕ → ℕ → (Results → List ℕ) → Answer → Outcome
+told_as caller count xid bytes_of (answers.Results results) = told_results caller count xid (bytes_of results) results
+told_as caller count xid bytes_of (answers.Refused status) = Reply (reply_head xid status) None
+told_as caller count xid bytes_of answers.Forwarded = Forwarded
+told_as caller count xid bytes_of answers.Silent = Silent
 
 -- the outcome with an answer, where this is remembered after it
 abbrev pub reply_with : Context → ℕ → Answer × Ledger → Outcome × Ledger
-reply_with context xid (given, ledger) =
-    (told_as xid (result_bytes context.listener.host (shown_of ledger)) given, ledger)
+reply_with context xid (given, ledger) = (
+  told_as context.caller (length ledger.changes) xid (result_bytes context.listener.host (shown_of ledger)) given,
+  ledger,
+)
 
 -- What a message is answered with where a call sees this, and the ledger after it; these are the bytes behind its head. A
 -- call of a procedure that is served is noted before it is answered, and one that is refused before that is not.
 unfoldable pub outcome : Context → Message → List ℕ → Ledger → Outcome × Ledger
 outcome context says.NoCall arguments ledger = (NoCall, ledger)
-outcome context (says.Refused head) arguments ledger = (Reply (reply_head head.xid head.status), ledger)
+outcome context (says.Refused head) arguments ledger = (Reply (reply_head head.xid head.status) None, ledger)
 outcome context (says.Garbage head) arguments ledger =
-    (Reply (reply_head head.xid replies.GarbageArgs), called head ledger)
+    (Reply (reply_head head.xid replies.GarbageArgs) None, called head ledger)
 outcome context (says.Asked call) arguments ledger =
     reply_with context call.head.xid (answer context call arguments (called call.head ledger))

@@ -1,13 +1,17 @@
 -- When a connection becomes Lost, and when it is gone.
-use Rattle.std.specs.Prelude.{◌≡◌, ◌⊎◌, ◌↔◌, ◌≤◌, ℕ, true, false, List, ◌++◌, take, All, Some}
+use Rattle.std.specs.Prelude.{◌≡◌, ◌⊎◌, ◌↔◌, ◌≤◌, ◌<◌, ◌+◌, ℕ, true, false, List, ◌++◌, length, take, All, Some}
+use Rattle.rb_rpc.specs.declared.peer.Caller.{Caller}
+use Rattle.rb_rpc.specs.declared.peer.Caller.TheVariants.{Tcp, Udp}
 use Rattle.rb_rpc.specs.Records.{first_record, data_of}
+use Rattle.rb_proto.specs.Ledger.{rows_in}
 use Rattle.rb_core.specs.declared.message.Message.TheVariants as says
 use Rattle.rb_core.specs.Calls.{message_of}
-use Rattle.rb_core.specs.State.{State, Connection}
+use Rattle.rb_core.specs.State.{State, Connection, at_moment}
 use Rattle.rb_core.specs.Connections.{is_there, fed_in}
 use Rattle.rb_core.specs.Deadlines.{is_due}
-use Rattle.rb_core.specs.Step.{Event, step}
-use Rattle.rb_core.specs.Step.Event.{Bytes, Closed, Expire}
+use Rattle.rb_core.specs.Evictions.{began_in, kept_removals, asks_room}
+use Rattle.rb_core.specs.Step.{Event, context_in, step}
+use Rattle.rb_core.specs.Step.Event.{Bytes, Closed, Datagram, Expire}
 use Rattle.rb_core.specs.Laws.{IsReached, IsLive, IsLost}
 use Rattle.rb_core.specs.DeadlineLaws.{clock_at, NoEntryIsDue}
 
@@ -30,10 +34,40 @@ pub record EndsAtDeadline (s : State) (id : ℕ) (c : Connection) (event : Event
   pub entries : NoEntryIsDue now s
   pub least : All (λ (d : Connection). is_due (clock_at now s) d ≡ true → id ≤ d.number) s.connections.all
 
--- A live connection becomes Lost exactly by the end of a record that is no call or at its deadline, and is gone exactly
--- by its close.
+-- the data of a record that ends in a piece for a live connection
+pub record EndsRecord (s : State) (id : ℕ) (piece : List ℕ) (caller : Caller) (content : List ℕ) : Type 0 where
+  pub connection : Connection
+  pub live : IsLive s id connection
+  pub fed : List ℕ
+  pub takes : fed_in connection.phase ≡ Some fed
+  pub n : ℕ
+  pub ends : first_record (fed ++ piece) ≡ Some n
+  pub caller_is : caller ≡ Tcp id connection.peer
+  pub content_is : content ≡ data_of (take n (fed ++ piece))
+
+-- the event brings this data of a datagram, or of a record, from this caller, at this moment
+abbrev pub Brings : State → Event → ℕ → Caller → List ℕ → Type 0
+Brings s (Datagram at peer bytes) now caller content = (now ≡ at) × (caller ≡ Udp peer) × (content ≡ bytes)
+Brings s (Bytes at id piece) now caller content = (now ≡ at) × EndsRecord s id piece caller content
+Brings s other now caller content = ⊥
+
+-- The event brings a SET that is accepted, the live and the kept rows reach the limit, and the connection is given a list
+-- that began before each change that removed a kept row.
+pub record EndsForRoom (s : State) (c : Connection) (event : Event) : Type 0 where
+  pub now : ℕ
+  pub caller : Caller
+  pub content : List ℕ
+  pub brings : Brings s event now caller content
+  pub asks : asks_room (context_in (at_moment now s) caller) (message_of content) s.ledger ≡ true
+  pub full : s.setting.limits.rows ≤ length (rows_in s.ledger) + length (kept_removals s.connections.all s.ledger)
+  pub began : ℕ
+  pub lists : began_in c.phase ≡ Some began
+  pub before : All (λ change. began < change) (kept_removals s.connections.all s.ledger)
+
+-- A live connection becomes Lost exactly by the end of a record that is no call, at its deadline, or for the room of a row,
+-- and is gone exactly by its close.
 pub record ClosesExactly (s : State) (event : Event) (id : ℕ) (c : Connection) : Type 0 where
-  pub lost : IsLost (step s event).1 id ↔ (EndsNoCall id c event ⊎ EndsAtDeadline s id c event)
+  pub lost : IsLost (step s event).1 id ↔ (EndsNoCall id c event ⊎ EndsAtDeadline s id c event ⊎ EndsForRoom s c event)
   pub gone : (is_there id (step s event).1.connections ≡ false) ↔ (event ≡ Closed id)
 
 abbrev pub ConnectionsCloseExactly : Type 0

@@ -60,7 +60,7 @@ reading clock fed c = record c { phase = Reading fed; mark = mark_when_fed clock
 
 abbrev pub phase_after : Outcome → Phase
 phase_after NoCall = Lost
-phase_after (Reply bytes) = Owing (owed_of bytes 0)
+phase_after (Reply bytes began) = Owing (owed_of bytes began 0)
 phase_after Forwarded = Awaiting
 phase_after Silent = Idle
 

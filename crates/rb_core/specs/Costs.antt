@@ -1,8 +1,8 @@
 -- What calls cost at most, in counted steps.
 use Rattle.std.specs.Prelude.{◌≡◌, ℕ, ◌+◌, ◌*◌, Bool, true, false, IfSome, List, [], ◌∷◌, length, Option, Some, None, Result, Ok, Err}
-use Rattle.rb_registry.specs.Registry.{slots_of}
+use Rattle.rb_registry.specs.Registry.{Registry, slots_of}
+use Rattle.rb_proto.specs.ListReplies.{part_room}
 use Rattle.rb_proto.specs.declared.books.Books.{Books}
-use Rattle.rb_proto.specs.Ledger.{rows_in}
 use Rattle.rb_proto.specs.Puts.{note_cost, forward_cost, statistics_cost}
 use Rattle.rb_forward.specs.Costs.{end_cost, sent_cost, unsent_cost}
 use Rattle.rb_forward.specs.Table.{longest_call}
@@ -40,19 +40,29 @@ advance_cost = 2056
 abbrev pub pending_cost : ℕ
 pending_cost = 1029
 
+-- the same of a fragment of a list, which is made from so many rows and emptied from where it was made
+abbrev pub listed_cost : ℕ → ℕ
+listed_cost rows = 3 * rows + part_room + 6 + show_cost
+
+abbrev pub show_list_cost : Registry → ℕ
+show_list_cost registry = listed_cost (length (slots_of registry))
+
 -- what it costs to look at what a connection counts as, before a change and after it
 abbrev pub recount_cost : ℕ
 recount_cost = 4
 
 -- what it costs to count bytes as given: the look at how many are pending, the next fragment, or both buffers emptied
-abbrev pub give_cost : ℕ
-give_cost = 3 + advance_cost
+abbrev pub given_cost : ℕ → ℕ
+given_cost rows = 3 + listed_cost rows
+
+abbrev pub give_cost : Registry → ℕ
+give_cost registry = given_cost (length (slots_of registry))
 
 -- the same of a connection among others
-abbrev pub giving_cost : ℕ
-giving_cost = give_cost + recount_cost
+abbrev pub giving_cost : Registry → ℕ
+giving_cost registry = give_cost registry + recount_cost
 
--- what it costs to look a connection up among so many, and its slot
+-- what it costs to look a connection up, at the hint and among so many, and its slot
 abbrev pub find_cost : ℕ → ℕ
 find_cost connections = 2 * connections + 3
 
@@ -98,9 +108,29 @@ NoRecordEnds s id piece = IfSome (live_connection id s.connections.all) (λ c. h
 abbrev pub settle_cost : ℕ → ℕ
 settle_cost connections = find_cost connections + show_cost + 1 + recount_cost
 
+-- what it costs to begin a list on it, of so many rows
+abbrev pub begin_list_cost : ℕ → ℕ → ℕ
+begin_list_cost connections rows = find_cost connections + listed_cost rows + 1 + recount_cost
+
+abbrev pub list_cost : ℕ → Registry → ℕ
+list_cost connections registry = begin_list_cost connections (length (slots_of registry))
+
+-- what it costs to look for the oldest of the lists that are given on so many connections
+abbrev pub oldest_cost : ℕ → ℕ
+oldest_cost connections = 2 * connections + 1
+
+-- what it costs to close those of them that are in the way of a row
+abbrev pub evict_cost : ℕ → ℕ
+evict_cost connections = 3 * connections + 1
+
+-- what it costs to look whether a row wants room among so many, and to make it
+abbrev pub make_room_cost : ℕ → ℕ → ℕ
+make_room_cost connections rows = 14 * rows + 2 * oldest_cost connections + evict_cost connections + 11
+
 -- what it costs to answer the record that ended, among so many connections and rows
 abbrev pub answer_cost : ℕ → ℕ → ℕ → ℕ
-answer_cost connections rows left = exchange_cost + read_cost + serve_cost rows left + settle_cost connections
+answer_cost connections rows left =
+    exchange_cost + read_cost + make_room_cost connections rows + serve_cost rows left + begin_list_cost connections left
 
 -- what it costs to end one of so many entries, and to note its outcome
 abbrev pub entry_cost : ℕ → ℕ
@@ -139,23 +169,26 @@ slot_count table = length table.slots
 abbrev pub look_cost : Table → ℕ
 look_cost table = find_cost (slot_count table)
 
+abbrev pub room_cost_of : Table → Books → ℕ
+room_cost_of table books = make_room_cost (slot_count table) (kept_count books)
+
 -- how many forwarded calls there may be
 abbrev pub forwards_cap : Books → ℕ
 forwards_cap books = books.forwards.cap
 
 -- ---- events
 
--- how many rows are live, and how many connections are there, Lost ones too
-abbrev pub row_count : State → ℕ
-row_count s = length (rows_in s.ledger)
+-- how many rows there may be, live or removed, and how many connections are there, Lost ones too
+abbrev pub row_limit : State → ℕ
+row_limit s = s.setting.limits.rows
 
 abbrev pub connection_count : State → ℕ
 connection_count s = length s.connections.all
 
-abbrev pub record_cost : State → State → Taking → ℕ
-record_cost s after TakesNone = 0
-record_cost s after (GoesOn fed) = 0
-record_cost s after (Ends n content) = answer_cost (connection_count s) (row_count s) (row_count after)
+abbrev pub record_cost : State → Taking → ℕ
+record_cost s TakesNone = 0
+record_cost s (GoesOn fed) = 0
+record_cost s (Ends n content) = answer_cost (connection_count s) (row_limit s) (row_limit s)
 
 -- how many bytes of the piece are taken
 abbrev pub count_taken : List ℕ → Taking → ℕ
@@ -164,28 +197,26 @@ count_taken piece (GoesOn fed) = length piece
 count_taken piece (Ends n content) = n
 
 -- by how many bytes are taken, and whether a record ended
-abbrev pub piece_cost : State → State → List ℕ → Option Connection → ℕ
-piece_cost s after piece None = 0
-piece_cost s after piece (Some c) =
-    take_cost (count_taken piece (taking c.phase piece)) + recount_cost + record_cost s after (taking c.phase piece)
+abbrev pub piece_cost : State → List ℕ → Option Connection → ℕ
+piece_cost s piece None = 0
+piece_cost s piece (Some c) =
+    take_cost (count_taken piece (taking c.phase piece)) + recount_cost + record_cost s (taking c.phase piece)
 
--- what an event costs from a state, where it leaves this one
-abbrev pub cost_between : State → State → Event → ℕ
-cost_between s after (Open now peer) = 4
-cost_between s after (Bytes now id piece) =
-    find_cost (connection_count s) + piece_cost s after piece (live_connection id s.connections.all)
-cost_between s after (Pending id) = find_cost (connection_count s) + pending_cost
-cost_between s after (Gave now id n) = 2 * find_cost (connection_count s) + 1 + giving_cost
-cost_between s after (Closed id) = find_cost (connection_count s) + 5 + entry_cost s.setting.limits.forwards
-cost_between s after NextLost = find_cost (connection_count s)
-cost_between s after (Datagram now peer content) = serve_cost (row_count s) (row_count after) + 9003
-cost_between s after Unsent = unsent_cost s.setting.limits.forwards longest_call
-cost_between s after (Sent number) = sent_cost s.setting.limits.forwards
-cost_between s after (Forward now from message) = ended_cost s.setting.limits.forwards (connection_count s) + 9001
-cost_between s after (Expire now) = ended_cost s.setting.limits.forwards (connection_count s) + 9001
-
+-- what an event costs from a state
 abbrev pub event_cost : State → Event → ℕ
-event_cost s event = cost_between s (step s event).1 event
+event_cost s (Open now peer) = 4
+event_cost s (Bytes now id piece) =
+    find_cost (connection_count s) + piece_cost s piece (live_connection id s.connections.all)
+event_cost s (Pending id) = find_cost (connection_count s) + pending_cost
+event_cost s (Gave now id n) = 2 * find_cost (connection_count s) + 1 + given_cost (row_limit s) + recount_cost
+event_cost s (Closed id) = find_cost (connection_count s) + 5 + entry_cost s.setting.limits.forwards
+event_cost s NextLost = find_cost (connection_count s)
+event_cost s (Datagram now peer content) =
+    make_room_cost (connection_count s) (row_limit s) + serve_cost (row_limit s) (row_limit s) + 9003
+event_cost s Unsent = unsent_cost s.setting.limits.forwards longest_call
+event_cost s (Sent number) = sent_cost s.setting.limits.forwards
+event_cost s (Forward now from message) = ended_cost s.setting.limits.forwards (connection_count s) + 9001
+event_cost s (Expire now) = ended_cost s.setting.limits.forwards (connection_count s) + 9001
 
 -- the sum of what each event costs from the state that it meets
 abbrev pub run_cost : State → List Event → ℕ

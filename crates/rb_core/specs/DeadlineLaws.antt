@@ -22,18 +22,18 @@ use Rattle.rb_core.specs.Laws.{IsReached, IsLeast}
 abbrev pub clock_at : ℕ → State → ℕ
 clock_at now s = max s.clock now
 
--- the entry's deadline has come
-abbrev pub EntryIsDue : ℕ → State → Entry → Type 0
-EntryIsDue now s e = e.deadline ≤ clock_at now s
+-- the entry's deadline has come at this moment
+abbrev pub EntryIsDue : ℕ → Entry → Type 0
+EntryIsDue clock e = e.deadline ≤ clock
 
 abbrev pub NoEntryIsDue : ℕ → State → Type 0
-NoEntryIsDue now s = NoneIs (EntryIsDue now s) s.ledger.forwards.all
+NoEntryIsDue now s = NoneIs (EntryIsDue (clock_at now s)) s.ledger.forwards.all
 
 -- The due entry of least number has ended, the others stay, and its caller is told that it failed.
 pub record EntryEnded (now : ℕ) (s : State) (told : Told) (left : State) : Type 0 where
   pub entry : Entry
-  pub ends : IsFirst (EntryIsDue now s) s.ledger.forwards.all entry left.ledger.forwards.all
-  pub least : All (λ (e : Entry). EntryIsDue now s e → entry.number ≤ e.number) s.ledger.forwards.all
+  pub ends : IsFirst (EntryIsDue (clock_at now s)) s.ledger.forwards.all entry left.ledger.forwards.all
+  pub least : All (λ (e : Entry). EntryIsDue (clock_at now s) e → entry.number ≤ e.number) s.ledger.forwards.all
   pub tells : told ≡ (tell entry.forward.caller (told_failed entry.forward SystemErr) s).0
 
 -- No entry is due, and the due connection of least number is Lost. Nothing else has changed but the clock and the last reply.

@@ -68,7 +68,8 @@ expiring clock c = (first_due clock c, with_lost (first_due clock c) c)
 abbrev pub phase_like : Stage → Phase
 phase_like stages.Idle = Idle
 phase_like (stages.Reading reader) = Reading []
-phase_like (stages.Owing given) = Owing (record { marked = []; given = given })
+phase_like (stages.Owing given) = Owing (record { marked = []; given = given; began = None })
+phase_like (stages.Streaming stream) = Owing (record { marked = []; given = 0; began = None })
 phase_like stages.Awaiting = Awaiting
 phase_like stages.Lost = Lost
 

@@ -29,7 +29,7 @@ pub use Rattle.rb_core.specs.declared.types.Expired.{Expired}
 
 -- a refusal is a reply without results, and what is silent has none
 abbrev pub refused_by : ℕ → Answer → Outcome
-refused_by xid (answers.Refused status) = Reply (reply_head xid status)
+refused_by xid (answers.Refused status) = Reply (reply_head xid status) None
 refused_by xid (answers.Results results) = Silent
 refused_by xid answers.Forwarded = Silent
 refused_by xid answers.Silent = Silent
@@ -40,7 +40,7 @@ told_failed forward status = refused_by forward.xid (refusal forward.kind status
 
 -- what the caller of a call is told that ended so, by this datagram of its target: the results are its last bytes
 abbrev pub told_of : Forward → List ℕ → target.Outcome → Outcome
-told_of forward message (Passed place) = Reply (success forward.xid (forwarded_bytes forward (drop place message)))
+told_of forward message (Passed place) = Reply (success forward.xid (forwarded_bytes forward (drop place message))) None
 told_of forward message (Refused status) = told_failed forward status
 told_of forward message Failed = told_failed forward replies.SystemErr
 told_of forward message Dropped = Silent
@@ -49,7 +49,7 @@ abbrev pub told_at : List ℕ → entry.Ended → Outcome
 told_at message ended = told_of ended.forward message ended.outcome
 
 abbrev pub told_over_udp : Peer → Outcome → Told
-told_over_udp peer (Reply reply) = Datagram peer
+told_over_udp peer (Reply reply began) = Datagram peer
 told_over_udp peer NoCall = told.Silent
 told_over_udp peer Forwarded = told.Silent
 told_over_udp peer Silent = told.Silent

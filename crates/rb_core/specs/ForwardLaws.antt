@@ -1,5 +1,5 @@
 -- Laws of forwarded calls (RFC 1833 sections 2.2.1 and 3.2).
-use Rattle.std.specs.Prelude.{◌≡◌, ℕ, ◌+◌, ◌≤◌, ◌==◌, nat_le, nat_lt, max, Bool, ◌&&◌, if◌then◌else◌, List, [], ◌∷◌, ◌++◌, map, filter, Option, Some, None}
+use Rattle.std.specs.Prelude.{◌≡◌, ℕ, ◌+◌, ◌==◌, nat_le, nat_lt, max, Bool, ◌&&◌, if◌then◌else◌, List, [], ◌∷◌, ◌++◌, map, filter, Option, Some, None}
 use Rattle.std.specs.List.{count_by}
 use Rattle.rb_rpc.specs.declared.peer.Peer.{Peer}
 use Rattle.rb_rpc.specs.declared.peer.Caller.{Caller}
@@ -21,6 +21,7 @@ use Rattle.rb_core.specs.Ending.{told_at, told_over_udp, at_fresh_moment, forwar
 use Rattle.rb_core.specs.Step.{Event, step}
 use Rattle.rb_core.specs.Run.{after}
 use Rattle.rb_core.specs.Laws.{IsReached}
+use Rattle.rb_core.specs.DeadlineLaws.{clock_at, EntryIsDue}
 
 -- ---- connections that wait
 
@@ -72,19 +73,15 @@ RepliesEndTheirOwn =
     (s : State) (now : ℕ) (from : Peer) (message : List ℕ)
     → EndsByReply s now from message (forward_reply s now from message).0 (forward_reply s now from message).1
 
--- the deadline has come at this moment
-abbrev pub HasComeFor : ℕ → Entry → Type 0
-HasComeFor clock e = e.deadline ≤ clock
-
 abbrev pub said_at_deadline : Entry → Outcome
 said_at_deadline e = told_at [] (ended_by Failed e)
 
 abbrev pub EndsByDeadline : State → ℕ → Expired → State → Type 0
-EndsByDeadline s now Nothing after = EndsNone (HasComeFor (max s.clock now)) s now after
+EndsByDeadline s now Nothing after = EndsNone (EntryIsDue (clock_at now s)) s now after
 EndsByDeadline s now (Ended told) after =
-    EndsFirst (HasComeFor (max s.clock now)) said_at_deadline s (max s.clock now) told after
+    EndsFirst (EntryIsDue (clock_at now s)) said_at_deadline s (max s.clock now) told after
 EndsByDeadline s now (ConnectionClosed id) after =
-    NoneIs (HasComeFor (max s.clock now)) s.ledger.forwards.all × (after.ledger ≡ s.ledger)
+    NoneIs (EntryIsDue (clock_at now s)) s.ledger.forwards.all × (after.ledger ≡ s.ledger)
 
 -- The first entry whose deadline has come ends, if there is one. Where there is none, no entry changes.
 abbrev pub DeadlinesEndOne : Type 0

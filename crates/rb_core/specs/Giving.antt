@@ -1,5 +1,5 @@
 -- Replies that are given piece by piece (RFC 5531 section 11).
-use Rattle.std.specs.Prelude.{◌≡◌, ◌<◌, ℕ, ◌+◌, ◌*◌, ◌/◌, List, length, take, drop}
+use Rattle.std.specs.Prelude.{◌≡◌, ◌<◌, ℕ, ◌+◌, ◌*◌, ◌/◌, List, length, take, drop, Option}
 use Rattle.rb_xdr.specs.Kept.{Kept}
 use Rattle.rb_rpc.specs.Records.{marked}
 use Rattle.rb_core.specs.State.{Owed}
@@ -21,8 +21,8 @@ unfoldable pub window : Owed → List ℕ
 window o = take longest_fragment (drop (longest_fragment * (o.given / longest_fragment)) o.marked)
 
 -- a reply of which so many marked bytes were given
-abbrev pub owed_of : List ℕ → ℕ → Owed
-owed_of reply given = record { marked = marked reply; given = given }
+abbrev pub owed_of : List ℕ → Option ℕ → ℕ → Owed
+owed_of reply began given = record { marked = marked reply; given = given; began = began }
 
 -- A reply, the fragment of it that is shown, and how many of its marked bytes were given, stand for what is owed.
 pub record IsGiving (reply : List ℕ) (shown : Kept) (given : ℕ) (o : Owed) : Type 0 where

@@ -20,7 +20,7 @@ use Rattle.rb_core.specs.StepLaws.{steps_bound, bytes_in, bytes_out}
 -- what the sender of a datagram gets
 abbrev pub shown_as : Outcome → Output
 shown_as NoCall = outputs.Silent
-shown_as (Reply reply) = outputs.Replied reply
+shown_as (Reply reply began) = outputs.Replied reply
 shown_as Forwarded = outputs.Forwarded
 shown_as Silent = outputs.Silent
 

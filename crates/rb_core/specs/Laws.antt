@@ -171,7 +171,7 @@ said_to a record_bytes =
 -- Its whole reply, marked, is owed from this moment on; or it is forwarded, and awaited; or it stays without a reply, and
 -- the connection is Idle; or it is no call, and no connection of the number is live.
 abbrev pub IsSettled : Arrival → Outcome → Type 0
-IsSettled a (Reply reply) = IsNow a (Owing (owed_of reply 0)) (clock_of a)
+IsSettled a (Reply reply began) = IsNow a (Owing (owed_of reply began 0)) (clock_of a)
 IsSettled a Forwarded = IsNow a Awaiting (clock_of a)
 IsSettled a Silent = IsNow a Idle (clock_of a)
 IsSettled a NoCall = live_connection a.id (state_after a).connections.all ≡ None

@@ -2,16 +2,21 @@ pub mod State
 pub mod Calls
 pub mod Giving
 pub mod Windows
+pub mod Streams
 pub mod Connections
 pub mod Deadlines
+pub mod Evictions
 pub mod Ending
 pub mod Step
 pub mod Run
 pub mod Reading
 pub mod Slots
 pub mod Awaits
+pub mod Listings
+pub mod Rooms
 pub mod StandsFor
 pub mod HeldBytes
+pub mod Serving
 pub mod Costs
 pub mod Grammar
 pub mod Laws
@@ -19,6 +24,7 @@ pub mod Sessions
 pub mod DeadlineLaws
 pub mod HeldLaws
 pub mod StepLaws
+pub mod EventSteps
 pub mod Headline
 pub mod Closings
 pub mod ForwardLaws
@@ -27,3 +33,4 @@ pub mod WorkedConnections
 pub mod WorkedForwards
 pub mod WorkedDeadlines
 pub mod WorkedHeld
+pub mod WorkedLists

@@ -144,7 +144,7 @@ session s id events = session_from s id nothing_passed events
 -- ---- the law
 
 abbrev pub marked_reply : Outcome → List ℕ
-marked_reply (Reply reply) = marked reply
+marked_reply (Reply reply began) = marked reply
 marked_reply NoCall = []
 marked_reply Forwarded = []
 marked_reply Silent = []
@@ -159,7 +159,7 @@ contents_of calls = map (λ call. call.content) calls
 
 -- nothing more will be said: it has a reply, or is silent
 abbrev pub IsFinal : Outcome → Type 0
-IsFinal (Reply reply) = ⊤
+IsFinal (Reply reply began) = ⊤
 IsFinal Silent = ⊤
 IsFinal NoCall = ⊥
 IsFinal Forwarded = ⊥

@@ -17,10 +17,11 @@ use Rattle.rb_core.specs.declared.types.CoreFault.{CoreFault}
 use Rattle.rb_rpc.specs.Verdict.{verdict}
 use Rattle.rb_core.specs.State.{Phase, Connection, Connections}
 use Rattle.rb_core.specs.State.Phase.{Idle, Reading, Owing, Awaiting, Lost}
-use Rattle.rb_core.specs.Connections.{Taking, taking, mark_when_fed, reading, is_lost, is_live, live_connection, has_number}
+use Rattle.rb_core.specs.Connections.{Taking, taking, mark_when_fed, reading, giving, on_live, is_lost, is_live, live_connection, has_number}
 use Rattle.rb_core.specs.Connections.Taking.{TakesNone, GoesOn, Ends}
 use Rattle.rb_core.specs.Deadlines.{is_due, is_due_slot}
 use Rattle.rb_core.specs.Giving.{longest_fragment, IsGiving}
+use Rattle.rb_core.specs.Streams.{Source, IsStreaming}
 use Rattle.rb_core.specs.Reading.{Reader, buffer_size, kept_of, IsReading}
 
 -- An act on what something stands for, which gives a result: from whatever the old one stood for, this result came,
@@ -40,20 +41,47 @@ Lends {Held} {Plain} StandsFor show held result =
 
 -- ---- one slot
 
--- The stage and the buffers hold what there is to know of the phase.
-abbrev pub StandsForPhase : Stage → Kept → Kept → Phase → Type 0
-StandsForPhase stages.Idle buffer window Idle = (buffer.bytes ≡ []) × (window.bytes ≡ [])
-StandsForPhase (stages.Reading reader) buffer window (Reading fed) = IsReading reader buffer fed × (window.bytes ≡ [])
-StandsForPhase (stages.Owing given) buffer window (Owing o) = IsGiving buffer.bytes window given o
-StandsForPhase stages.Awaiting buffer window Awaiting = (buffer.bytes ≡ []) × (window.bytes ≡ [])
-StandsForPhase stages.Lost buffer window Lost = ⊤
-StandsForPhase stage buffer window phase = ⊥
+-- The stage and the buffers hold what there is to know of the phase, but for the rest of a list, which is made from its source.
+abbrev pub StandsForPhase : Source → Stage → Kept → Kept → Phase → Type 0
+StandsForPhase source stages.Idle buffer window Idle = (buffer.bytes ≡ []) × (window.bytes ≡ [])
+StandsForPhase source (stages.Reading reader) buffer window (Reading fed) = IsReading reader buffer fed × (window.bytes ≡ [])
+StandsForPhase source (stages.Owing given) buffer window (Owing o) = IsGiving buffer.bytes window given o × (o.began ≡ None)
+StandsForPhase source (stages.Streaming stream) buffer window (Owing o) = IsStreaming source stream window o
+StandsForPhase source stages.Awaiting buffer window Awaiting = (buffer.bytes ≡ []) × (window.bytes ≡ [])
+StandsForPhase source stages.Lost buffer window Lost = ⊤
+StandsForPhase source stage buffer window phase = ⊥
 
-pub record StandsForConnection (slot : Slot) (c : Connection) : Type 0 where
+pub record StandsForConnection (source : Source) (slot : Slot) (c : Connection) : Type 0 where
   pub number : slot.number ≡ c.number
   pub peer : slot.peer ≡ c.peer
   pub mark : slot.mark ≡ c.mark
-  pub phase : StandsForPhase slot.stage slot.buffer slot.window c.phase
+  pub phase : StandsForPhase source slot.stage slot.buffer slot.window c.phase
+
+-- an act on the connection that a slot stands for, whatever lists are made from
+abbrev pub SlotActs : {Result : Type 0} → (Connection → Result × Connection) → Slot → Slot → Result → Type 0
+SlotActs act old new result = (source : Source) → Acts (StandsForConnection source) act old new result
+
+-- From whatever connection the old slot stood for, the new one stands for what it becomes.
+abbrev pub SlotBecomesFrom : Source → (Connection → Connection) → Slot → Slot → Type 0
+SlotBecomesFrom source change old new =
+    (c : Connection) → StandsForConnection source old c → StandsForConnection source new (change c)
+
+-- the same whatever lists are made from
+abbrev pub SlotBecomes : (Connection → Connection) → Slot → Slot → Type 0
+SlotBecomes change old new = (source : Source) → SlotBecomesFrom source change old new
+
+-- n bytes that are pending are given on the connection that a slot stands for, or as many as there are
+abbrev pub SlotGives : Source → ℕ → ℕ → Slot → Slot → Type 0
+SlotGives source clock n old new = Acts (StandsForConnection source) (giving clock n) old new tt
+
+-- with its buffers emptied
+abbrev pub emptied_slot : Slot → Slot
+emptied_slot slot =
+    record slot { buffer = record slot.buffer { bytes = [] }; window = record slot.window { bytes = [] } }
+
+-- what a slot shows, whatever lists are made from
+abbrev pub SlotShows : {Result : Type 0} → (Connection → Result) → Slot → Result → Type 0
+SlotShows show slot result = (source : Source) → Shows (StandsForConnection source) show slot result
 
 -- The slot is about to be fed a piece behind these bytes of a record.
 pub record IsBeforePiece (slot : Slot) (reader : Reader) (clock : ℕ) (c : Connection) (fed : List ℕ) : Type 0 where
@@ -89,6 +117,10 @@ feeding clock piece c = (received piece c (taking c.phase piece), fed_with clock
 abbrev pub arguments_heard : List ℕ → List ℕ → Connection → List ℕ
 arguments_heard before piece c = arguments_after before (taking c.phase piece)
 
+-- so in the buffer that it hands in
+abbrev pub SlotHears : List ℕ → Slot → Kept → Kept → Type 0
+SlotHears piece slot before after = SlotShows (arguments_heard before.bytes piece) slot after.bytes
+
 -- ---- the table
 
 -- the slots of connections with their keys, in order of opening, how many numbers were given, how many connections
@@ -99,21 +131,43 @@ pub record Table : Type 0 where
   pub conns : ℕ
   pub tie : ℕ
 
-pub record StandsForConnections (table : Table) (connections : Connections) : Type 0 where
-  pub all : AllZip StandsForConnection (values_of table.slots) connections.all
+pub record StandsForConnections (source : Source) (table : Table) (connections : Connections) : Type 0 where
+  pub all : AllZip (StandsForConnection source) (values_of table.slots) connections.all
   pub next : connections.next ≡ table.given + 1
 
--- an act on the connections
+-- an act on the connections, whatever lists are made from
 abbrev pub TableActs : {Result : Type 0} → (Connections → Result × Connections) → Table → Table → Result → Type 0
-TableActs act old new result = Acts StandsForConnections act old new result
+TableActs act old new result = (source : Source) → Acts (StandsForConnections source) act old new result
+
+-- what a table shows of them, whatever lists are made from
+abbrev pub TableShows : {Result : Type 0} → (Connections → Result) → Table → Result → Type 0
+TableShows show table result = (source : Source) → Shows (StandsForConnections source) show table result
+
+-- the bytes that a table lends of them, or refuses, whatever lists are made from
+abbrev pub TableLends : (Connections → Result (List ℕ) CoreFault) → Table → Result (Bor (List ℕ)) CoreFault → Type 0
+TableLends show table result = (source : Source) → Lends (StandsForConnections source) show table result
 
 -- From whatever connections the old table stood for, the new one stands for what they become.
+abbrev pub BecomesFrom : Source → (Connections → Connections) → Table → Table → Type 0
+BecomesFrom source change old new =
+    (c : Connections) → StandsForConnections source old c → StandsForConnections source new (change c)
+
+-- the same whatever lists are made from
 abbrev pub TableBecomes : (Connections → Connections) → Table → Table → Type 0
-TableBecomes change old new = (c : Connections) → StandsForConnections old c → StandsForConnections new (change c)
+TableBecomes change old new = (source : Source) → BecomesFrom source change old new
 
 -- the arguments that the core has once a piece for the connection of a number was taken
 abbrev pub arguments_on : ℕ → List ℕ → List ℕ → Connections → List ℕ
 arguments_on id before piece connections = option_map_or (arguments_heard before piece) (live_connection id connections.all) before
+
+-- so in the buffer that it hands in
+abbrev pub TableHears : ℕ → List ℕ → Table → Kept → Kept → Type 0
+TableHears id piece table before after = TableShows (arguments_on id before.bytes piece) table after.bytes
+
+-- n bytes that are pending are given on the live connection of the number, or as many as there are
+abbrev pub TableGives : Source → ℕ → ℕ → ℕ → Table → Table → Result (Unit {0}) CoreFault → Type 0
+TableGives source id clock n old new result =
+    Acts (StandsForConnections source) (on_live id (giving clock n)) old new result
 
 -- of at most so many connections, counted by this meter
 abbrev pub empty_table : ℕ → ℕ → Table
@@ -126,7 +180,16 @@ is_lost_stage stages.Lost = true
 is_lost_stage stages.Idle = false
 is_lost_stage (stages.Reading reader) = false
 is_lost_stage (stages.Owing given) = false
+is_lost_stage (stages.Streaming stream) = false
 is_lost_stage stages.Awaiting = false
+
+abbrev pub is_idle_stage : Stage → Bool
+is_idle_stage stages.Idle = true
+is_idle_stage stages.Lost = false
+is_idle_stage (stages.Reading reader) = false
+is_idle_stage (stages.Owing given) = false
+is_idle_stage (stages.Streaming stream) = false
+is_idle_stage stages.Awaiting = false
 
 unfoldable pub is_wanted_slot : Wanted → Slot → Bool
 is_wanted_slot (wanted.Live id) slot = slot.number == id && not (is_lost_stage slot.stage)
@@ -140,20 +203,28 @@ is_wanted (wanted.Numbered id) c = has_number id c
 is_wanted wanted.AnyLost c = is_lost c.phase
 is_wanted (wanted.Due clock) c = is_due clock c
 
+-- it is wanted by its number, which no other connection has
+abbrev pub is_by_number : Wanted → Bool
+is_by_number (wanted.Live id) = true
+is_by_number (wanted.Numbered id) = true
+is_by_number wanted.AnyLost = false
+is_by_number (wanted.Due clock) = false
+
 -- the key and the slot of the first connection that is wanted
 unfoldable pub wanted_slot : Wanted → List (ℕ × Slot) → Option (ℕ × Slot)
 wanted_slot sought slots = find (λ (e : ℕ × Slot). is_wanted_slot sought e.1) slots
 
 -- the first connection that is wanted, and its slot
-pub record IsFound (sought : Wanted) (all : List Connection) (slot : Slot) : Type 0 where
+pub record IsFound (source : Source) (sought : Wanted) (all : List Connection) (slot : Slot) : Type 0 where
   pub connection : Connection
   pub found : find (is_wanted sought) all ≡ Some connection
-  pub stands : StandsForConnection slot connection
+  pub stands : StandsForConnection source slot connection
 
 -- The first connection that is wanted was found, or there is none.
 abbrev pub Finds : Wanted → Table → Option (Bor Slot) → Type 0
 Finds sought table result =
-    (c : Connections) → StandsForConnections table c → MatchOption result (find (is_wanted sought) c.all ≡ None) (λ slot. IsFound sought c.all slot.now)
+    (source : Source) (c : Connections) → StandsForConnections source table c
+    → MatchOption result (find (is_wanted sought) c.all ≡ None) (λ slot. IsFound source sought c.all slot.now)
 
 -- ---- what is held
 
@@ -184,6 +255,11 @@ abbrev pub AreNumbered : ℕ → List Slot → Type 0
 AreNumbered given [] = ⊤
 AreNumbered given (slot ∷ rest) = (slot.number ≤ given) × (list_any (is_numbered slot.number) rest ≡ false) × AreNumbered given rest
 
+-- no two slots have one number
+abbrev pub HasDistinctNumbers : List Slot → Type 0
+HasDistinctNumbers [] = ⊤
+HasDistinctNumbers (slot ∷ rest) = (list_any (is_numbered slot.number) rest ≡ false) × HasDistinctNumbers rest
+
 -- the buffers of a connection, made with this meter
 pub record AreBuffers (tie : ℕ) (buffer window : Kept) : Type 0 where
   pub buffer_tie : buffer.tie ≡ tie
@@ -210,11 +286,12 @@ pub record StaysSlot (tie : ℕ) (old new : Slot) : Type 0 where
   pub number : new.number ≡ old.number
   pub buffers : HasBuffers tie new
 
--- as many connections as before may be there, counted by the same meter, and none holds more than its buffers have room for
+-- as many connections as before may be there, counted by the same meter, and none comes to hold more than its buffers have
+-- room for
 pub record StaysTable (old new : Table) : Type 0 where
   pub conns : new.conns ≡ old.conns
   pub tie : new.tie ≡ old.tie
-  pub within : AreWithin new.slots
+  pub within : AreWithin old.slots → AreWithin new.slots
 
 -- What is true of all that is kept of connections: each connection that is not open has its buffers spare, and the number of
 -- bytes that are held is counted.

@@ -1,5 +1,5 @@
 -- What a core holds, and the states that it stands for.
-use Rattle.std.specs.Prelude.{◌≡◌, ◌≤◌, ℕ, ◌+◌, List, [], ◌++◌, length, map, Bool, Result, IfOk, option_map}
+use Rattle.std.specs.Prelude.{◌≡◌, ◌≤◌, ℕ, ◌+◌, List, [], ◌++◌, length, map, Bool, None, Result, IfOk, option_map}
 use Rattle.rb_xdr.specs.Kept.{Kept}
 use Rattle.rb_xdr.specs.Meter.{Meter, PaysAtMost}
 use Rattle.rb_core.specs.declared.run.Event as event
@@ -21,15 +21,17 @@ use Rattle.rb_xdr.specs.declared.memory.NoMemory.{NoMemory}
 use Rattle.rb_core.specs.Calls.{Outcome, Outcome as said, message_with, longest_reply}
 use Rattle.rb_core.specs.Slots.{Table, StandsForConnections, IsDraft, Acts, AreWithin}
 use Rattle.rb_core.specs.Awaits.{AreAwaited}
+use Rattle.rb_core.specs.Streams.{Source}
+use Rattle.rb_core.specs.Listings.{AreTold}
 use Rattle.rb_core.specs.declared.run.UnsentCall.{UnsentCall}
 use Rattle.rb_forward.specs.Forwards.{Unsent as UnsentPlain}
 use Rattle.rb_core.specs.Step.{Taken, settled_in, serve_message, Event, Output, step}
 use Rattle.rb_core.specs.Step.Event.{Open, Bytes, Pending, Gave, Closed, NextLost, Datagram, Unsent, Sent, Forward, Expire}
 use Rattle.rb_core.specs.Step.Output.{Opened, Refused, TooMuch, Took, TookAndClosed, IsPending, Done, LostIs, Replied, Forwarded, Silent, UnsentIs, Ignored, Nothing, ConnectionClosed, Ready, RepliedTo}
 use Rattle.rb_core.specs.Run.{run, after}
-use Rattle.rb_core.specs.Costs.{event_cost, run_cost, NoRecordEnds, kept_count, slot_count, look_cost, forwards_cap, entry_cost, ended_cost, serving_cost, read_cost, settle_cost, taking_cost, answer_cost}
+use Rattle.rb_core.specs.Costs.{event_cost, run_cost, NoRecordEnds, kept_count, slot_count, look_cost, forwards_cap, entry_cost, ended_cost, serve_cost, read_cost, room_cost_of, list_cost, giving_cost, taking_cost, answer_cost}
 
--- `tie` is the number of the meter that counts the calls
+-- `begun` is what the meter showed as the last event began, and `tie` the number of the meter that counts the calls
 pub record Held : Type 0 where
   pub setting : Setting
   pub clock : ℕ
@@ -37,15 +39,20 @@ pub record Held : Type 0 where
   pub books : Books
   pub reply : List ℕ
   pub arguments : List ℕ
+  pub begun : ℕ
   pub tie : ℕ
 
--- Neither the changes nor the history of calls is held. Between two events no arguments are, and no more bytes of a
--- connection and of the reply than there is room for.
+-- what lists are made from
+abbrev pub source_of : Held → Source
+source_of held = record { host = held.setting.listener.host; registry = held.books.registry }
+
+-- Neither the changes nor the history of calls is held, nor a list as a whole. Between two events no arguments are, and no
+-- more bytes of a connection and of the reply than there is room for. No state knows when the last event began.
 pub record StandsFor (held : Held) (s : State) : Type 0 where
   pub setting : held.setting ≡ s.setting
   pub clock : held.clock ≡ s.clock
   pub conns : held.connections.conns ≡ s.setting.limits.conns
-  pub connections : StandsForConnections held.connections s.connections
+  pub connections : StandsForConnections (source_of held) held.connections s.connections
   pub within : AreWithin held.connections.slots
   pub limit : held.books.registry.limit ≡ s.setting.limits.rows
   pub ledger : StandsForLedger held.books s.ledger
@@ -55,8 +62,8 @@ pub record StandsFor (held : Held) (s : State) : Type 0 where
   pub short : length held.reply ≤ longest_reply
   pub arguments : held.arguments ≡ []
 
--- What is true of all that a core holds: it has one meter, its draft is empty between two events, each connection for
--- which a call is forwarded awaits it, and the reply has so many bytes.
+-- What is true of all that a core holds: it has one meter, its draft is empty between two events, each connection for which
+-- a call is forwarded awaits it, the registry can tell the lists that are given, and the reply has so many bytes.
 pub record IsCore (setting : Setting) (connections : Table) (books : Books) (reply draft arguments : Kept) (reply_len : ℕ) : Type 0 where
   pub conns : connections.conns ≡ setting.limits.conns
   pub few_conns : setting.limits.conns ≤ 256
@@ -68,6 +75,7 @@ pub record IsCore (setting : Setting) (connections : Table) (books : Books) (rep
   pub few : setting.limits.forwards ≤ 64
   pub first_xid : books.forwards.first_xid ≡ setting.first_xid
   pub awaited : AreAwaited books.forwards connections
+  pub told : AreTold (record { host = setting.listener.host; registry = books.registry }) connections
   pub tied : AreTied reply.tie books
   pub connections_tie : connections.tie ≡ reply.tie
   pub reply_cap : reply.cap ≡ longest_reply
@@ -78,7 +86,7 @@ pub record IsCore (setting : Setting) (connections : Table) (books : Books) (rep
 -- what the code says of a message, with the reply that it wrote
 abbrev pub outcome_with : outcome.Outcome → List ℕ → Outcome
 outcome_with outcomes.NoCall reply = said.NoCall
-outcome_with outcomes.Reply reply = said.Reply reply
+outcome_with outcomes.Reply reply = said.Reply reply None
 outcome_with outcomes.Forwarded reply = said.Forwarded
 outcome_with outcomes.Silent reply = said.Silent
 
@@ -115,9 +123,25 @@ ActsWithReply act old new given = Acts StandsFor act old new (outcome_with given
 
 -- ---- what calls cost
 
+-- to make room for a row
+abbrev pub room_cost : Held → ℕ
+room_cost held = room_cost_of held.connections held.books
+
+-- to serve a message, once there is room for the row that it adds
+abbrev pub roomy_cost : Held → Held → ℕ
+roomy_cost old new = room_cost old + serve_cost (kept_count old.books) (kept_count new.books)
+
 -- to answer what a record said
 abbrev pub answering_cost : Held → Held → ℕ
-answering_cost old new = read_cost + serving_cost old.books new.books + settle_cost (slot_count old.connections)
+answering_cost old new = read_cost + roomy_cost old new + list_cost (slot_count old.connections) new.books.registry
+
+-- to answer a datagram
+abbrev pub datagram_cost : Held → Held → ℕ
+datagram_cost old new = 2 + roomy_cost old new
+
+-- to count bytes as given
+abbrev pub gave_cost : Held → ℕ
+gave_cost held = look_cost held.connections + giving_cost held.books.registry
 
 -- to take bytes where no record ends
 abbrev pub quiet_cost : Held → Result Taken CoreFault → ℕ
@@ -126,7 +150,8 @@ quiet_cost held result = look_cost held.connections + taking_cost result
 -- to take bytes, and to answer the record that ends with them
 abbrev pub bytes_cost : Held → Held → Result Taken CoreFault → ℕ
 bytes_cost old new result =
-    quiet_cost old result + answer_cost (slot_count old.connections) (kept_count old.books) (kept_count new.books)
+    quiet_cost old result
+    + answer_cost (slot_count old.connections) (kept_count old.books) (kept_count new.books)
 
 -- to close a connection, and to end the call that was forwarded for it
 abbrev pub closing_cost : Held → ℕ

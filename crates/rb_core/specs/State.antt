@@ -1,5 +1,5 @@
 -- What the daemon knows between two events, as plain data.
-use Rattle.std.specs.Prelude.{ℕ, ◌-◌, ◌^◌, nat_le, max, Bool, ◌&&◌, List, []}
+use Rattle.std.specs.Prelude.{ℕ, ◌-◌, ◌^◌, nat_le, max, Bool, ◌&&◌, List, [], Option}
 use Rattle.rb_rpc.specs.declared.peer.Peer.{Peer}
 use Rattle.rb_proto.specs.declared.listener.Listener.{Listener}
 use Rattle.rb_proto.specs.Callers.{own_rows}
@@ -14,10 +14,12 @@ pub record Setting : Type 0 where
 
 -- ---- connections
 
--- a reply that is being given: its marked bytes, and how many of them were given
+-- A reply that is being given: its marked bytes, how many of them were given, and where it is a list that is streamed, the
+-- number of changes after which it began.
 pub record Owed : Type 0 where
   pub marked : List ℕ
   pub given : ℕ
+  pub began : Option ℕ
 
 -- what a connection is about: `Reading` has the bytes that were fed since the last record's end, and while it is
 -- `Awaiting` its call is forwarded

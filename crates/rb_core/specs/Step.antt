@@ -13,6 +13,7 @@ use Rattle.rb_core.specs.declared.types.CoreFault.{CoreFault}
 use Rattle.rb_core.specs.declared.types.CoreFault.TheVariants.{NoMemory, BadLimits, Full, Spent, Gone}
 use Rattle.rb_core.specs.State.{State, Connection, Connections, at_moment}
 use Rattle.rb_core.specs.Calls.{Outcome, Outcome as outcomes, message_of, outcome, is_no_call, reply_in}
+use Rattle.rb_core.specs.Evictions.{with_room}
 use Rattle.rb_core.specs.Connections.{Taking, taking, reading, settled, giving, pending_in, live_connection, on_live, opening_of, closing_of, first_lost}
 use Rattle.rb_core.specs.Connections.Taking.{TakesNone, GoesOn, Ends}
 use Rattle.rb_core.specs.declared.types.Told.TheVariants.{TcpReady}
@@ -38,9 +39,10 @@ context_in s caller = record {
 abbrev pub with_ledger : State → Outcome × Ledger → Outcome × State
 with_ledger s (given, ledger) = (given, record s { ledger = ledger })
 
--- a message from a caller is answered, behind whose head are these bytes
+-- a message from a caller is answered, behind whose head are these bytes, once there is room for what it adds
 abbrev pub serve_message : State → Caller → Message → List ℕ → Outcome × State
-serve_message s caller message arguments = with_ledger s (outcome (context_in s caller) message arguments s.ledger)
+serve_message s caller message arguments =
+    with_ledger (with_room (context_in s caller) message s) (outcome (context_in s caller) message arguments s.ledger)
 
 -- so is what the data of a record, or a datagram, says
 unfoldable pub serve : State → Caller → List ℕ → Outcome × State
@@ -195,7 +197,7 @@ show_done u = Done
 -- where there is a reply, the event is the datagram and the look at the reply after it
 abbrev pub show_outcome : Outcome × State → Output × State
 show_outcome (outcomes.NoCall, s) = (Silent, s)
-show_outcome (outcomes.Reply reply, s) = (Replied reply, s)
+show_outcome (outcomes.Reply reply began, s) = (Replied reply, s)
 show_outcome (outcomes.Forwarded, s) = (Forwarded, s)
 show_outcome (outcomes.Silent, s) = (Silent, s)
 

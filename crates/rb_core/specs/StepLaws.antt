@@ -1,9 +1,11 @@
 -- Laws of counted steps: no event takes more than a bound that the limits and its own bytes give.
-use Rattle.std.specs.Prelude.{◌≡◌, ◌≤◌, ℕ, ◌+◌, ◌*◌, true, List, [], ◌∷◌, length, Some}
+use Rattle.std.specs.Prelude.{◌≡◌, ◌≤◌, ℕ, ◌+◌, ◌*◌, true, List, [], ◌∷◌, length, Some, Result, Ok, Err}
+use Rattle.std.specs.Borrow.{Bor}
 use Rattle.rb_stats.specs.Stats.{most_keys}
+use Rattle.rb_core.specs.declared.types.CoreFault.{CoreFault}
 use Rattle.rb_core.specs.declared.types.Limits.{Limits}
 use Rattle.rb_core.specs.State.{State, are_good}
-use Rattle.rb_core.specs.Step.{Event, Output, step}
+use Rattle.rb_core.specs.Step.{Event, Output, Taken, step}
 use Rattle.rb_core.specs.Step.Event.{Gave, Datagram, Forward}
 use Rattle.rb_core.specs.Step.Output.{IsPending, Done, Replied, UnsentIs, RepliedTo}
 use Rattle.rb_core.specs.Sessions.{count_in}
@@ -61,3 +63,26 @@ RunsAreBounded =
 abbrev pub PaysWithinBound : Held → List Event → Meter → Meter → Type 0
 PaysWithinBound core events before now =
     (s : State) → StandsFor core s → IsReached s → are_good s.setting.limits ≡ true → PaysAtMost before now (run_bound s events)
+
+-- ---- one call
+
+-- the bytes that a call takes, by its result: what is refused takes none
+abbrev pub taken_by : Result Taken CoreFault → ℕ
+taken_by (Ok taken) = taken.count
+taken_by (Err fault) = 0
+
+-- the bytes that it lends
+abbrev pub lent_by : Result (Bor (List ℕ)) CoreFault → ℕ
+lent_by (Ok bytes) = length bytes.now
+lent_by (Err fault) = 0
+
+-- so many bytes that it tells as given
+abbrev pub given_by : Result (Unit {0}) CoreFault → ℕ → ℕ
+given_by (Ok u) n = n
+given_by (Err fault) n = 0
+
+-- A call that takes so many bytes, and lends or tells as given so many, pays no more than the bound, whatever state that a
+-- run reaches the core stood for.
+pub record StaysWithinSteps (core : Held) (taken given : ℕ) (before now : Meter) : Type 0 where
+  pub within : (s : State) → StandsFor core s → IsReached s
+      → PaysAtMost before now (steps_bound core.setting.limits taken given)

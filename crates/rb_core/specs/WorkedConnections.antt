@@ -84,7 +84,7 @@ OneRecordAtATime =
 
 -- what passed on the connection then
 abbrev pub null_called : ℕ → Exchange
-null_called xid = record { content = null_call xid; said = Reply (accepted xid []) }
+null_called xid = record { content = null_call xid; said = Reply (accepted xid []) None }
 
 abbrev pub OneRecordAtATimePasses : Type 0
 OneRecordAtATimePasses =

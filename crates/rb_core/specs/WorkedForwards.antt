@@ -155,7 +155,7 @@ ForwardOnTcpIsWhole =
       taken = in_one (indirect 15 200001);
       given = [];
       unfinished = [];
-      calls = record { content = indirect 15 200001; said = said.Reply passed } ∷ [];
+      calls = record { content = indirect 15 200001; said = said.Reply passed None } ∷ [];
     }
 
 -- A later connection never gets the reply to a call of a closed one.

@@ -4,12 +4,16 @@ ghost use Rattle.std.specs.Option.{option_map};
 ghost use Rattle.std.specs.Map.{values_of};
 ghost use Rattle.rb_xdr.specs.Meter.{Pays, PaysAtMost};
 ghost use Rattle.rb_xdr.specs.Pool.{HasDistinctKeys};
-ghost use Rattle.rb_core.specs.Slots.{wanted_slot, AreBuffers, AreSpare, HasBuffers, charge, most_charge, IsWithin};
+ghost use Rattle.rb_core.specs.Slots.{wanted_slot, AreBuffers, AreSpare, HasBuffers, HasDistinctNumbers, charge, most_charge, IsWithin};
+ghost use Rattle.rb_core.specs.Listings.{earlier, began_early, with_evicted, stamps_in, IsOldest};
+ghost use Rattle.rb_core.specs.Costs.{oldest_cost, evict_cost};
 
 use crate::reading::LONGEST_ARGUMENTS;
-use crate::serve::LONGEST_REPLY;
+use crate::serve::{LONGEST_REPLY, Served};
 use crate::slot::{Buffers, CHARGE, Received, Slot, Stage, Wanted};
 use crate::types::{CoreFault, Outcome};
+use rb_proto::ListReply;
+use rb_registry::Registry;
 use rb_rpc::Peer;
 use rb_xdr::{Kept, Meter, NoMemory, Pool};
 use std::alloc::Global;
@@ -33,6 +37,24 @@ pub struct Connections {
     given: u64,
     conns: usize,
     held: u64,
+    /// The key under which a connection was opened or found last, where the next look begins.
+    last: usize,
+}
+
+/// A core keeps its bytes in pools and buffers alone. A further field would not compile here: it
+/// belongs in the table of charges of docs/RULES.md first.
+fn layout(connections: &Connections) {
+    let Connections {
+        slots,
+        spare,
+        given,
+        conns,
+        held,
+        last,
+    } = connections;
+    let _: &Pool<Slot> = slots;
+    let _: &Pool<Buffers> = spare;
+    let _: (u64, usize, u64, usize) = (*given, *conns, *held, *last);
 }
 
 impl Model for Connections {
@@ -89,8 +111,8 @@ fn put_buffers(spare: &mut Pool<Buffers>, mut buffers: Buffers, meter: &mut Mete
     };
 }
 
-/// Adds a slot behind the others.
-fn put_slot(slots: &mut Pool<Slot>, slot: Slot, meter: &mut Meter)
+/// Adds a slot behind the others, and gives its key.
+fn put_slot(slots: &mut Pool<Slot>, slot: Slot, meter: &mut Meter) -> usize
     requires tie { meter.old.tie ≡ slots.old.tie }
     requires room { length slots.old.entries < slots.old.cap }
     requires distinct { HasDistinctKeys slots.old.entries }
@@ -101,9 +123,65 @@ fn put_slot(slots: &mut Pool<Slot>, slot: Slot, meter: &mut Meter)
     ensures tie { slots.new.tie ≡ slots.old.tie }
     ensures cost { PaysAtMost meter.old meter.new 1 }
 {
-    let Ok(_) = slots.insert(slot, meter) else {
+    let Ok(key) = slots.insert(slot, meter) else {
         unreachable!()
     };
+    key
+}
+
+/// The lesser of two numbers, as far as they are there.
+fn earlier(a: Option<u64>, b: Option<u64>) -> Option<u64>
+    ensures { result ≡ earlier a b }
+{
+    match (a, b) {
+        (Some(a), Some(b)) => Some(a.min(b)),
+        (Some(a), None) => Some(a),
+        (None, b) => b,
+    }
+}
+
+/// The least number of changes after which a list began that is being given.
+fn oldest_in(slots: &Pool<Slot>, meter: &mut Meter) -> Option<u64>
+    requires tie { meter.old.tie ≡ slots.now.tie }
+    ensures oldest { IsOldest (stamps_in slots.now.entries) result }
+    ensures cost { PaysAtMost meter.old meter.new (oldest_cost (length slots.now.entries)) }
+{
+    let mut oldest = None;
+    let mut place = None;
+    'slots: while let Some((key, slot)) = slots.entry_after(place, meter) {
+        oldest = earlier(oldest, slot.began());
+        place = Some(key);
+    }
+    oldest
+}
+
+/// Whether a list that began after so many changes did so before a change.
+fn is_early(began: Option<u64>, earliest: u64) -> bool
+    ensures { result ≡ began_early earliest began }
+{
+    match began {
+        Some(stamp) => stamp < earliest,
+        None => false,
+    }
+}
+
+/// Each slot becomes Lost whose list began before a change.
+fn evict_slots(slots: &mut Pool<Slot>, earliest: u64, meter: &mut Meter)
+    requires tie { meter.old.tie ≡ slots.old.tie }
+    requires distinct { HasDistinctKeys slots.old.entries }
+    ensures evicted { slots.new ≡ with_evicted earliest slots.old }
+    ensures cost { PaysAtMost meter.old meter.new (evict_cost (length slots.old.entries)) }
+{
+    let mut place = None;
+    'slots: while let Some((key, slot)) = slots.entry_after(place, meter) {
+        if is_early(slot.began(), earliest) {
+            let Some(reader) = slots.get_mut(key, meter) else {
+                unreachable!()
+            };
+            reader.stage = Stage::Lost;
+        }
+        place = Some(key);
+    }
 }
 
 /// As many buffers as there may be connections.
@@ -126,14 +204,18 @@ fn make_spare(alloc: Global, conns: usize, meter: &mut Meter) -> Result<Pool<Buf
     Ok(spare)
 }
 
-/// The key of the first slot that is wanted.
+/// The key of the first slot that is wanted. One that is wanted by its number is looked for under the hint first.
 #[tactic(auto, unfolding(crate::specs::Slots::wanted_slot))]
-fn wanted_key(slots: &Pool<Slot>, wanted: Wanted, meter: &mut Meter) -> Option<usize>
+fn wanted_key(slots: &Pool<Slot>, hint: usize, wanted: Wanted, meter: &mut Meter) -> Option<usize>
     requires tie { meter.old.tie ≡ slots.now.tie }
+    requires numbers { HasDistinctNumbers (values_of slots.now.entries) }
     ensures key { result ≡ option_map (λ e. e.0) (wanted_slot wanted slots.now.entries) }
     ensures cost { PaysAtMost meter.old meter.new (2 * length slots.now.entries + 2) }
 {
-    slots.find_key(|slot| slot.is_wanted(wanted), meter)
+    match slots.get(hint, meter) {
+        Some(slot) if wanted.is_by_number() && slot.is_wanted(wanted) => Some(hint),
+        _ => slots.find_key(|slot| slot.is_wanted(wanted), meter),
+    }
 }
 
 /// How many bytes are held of all connections, of which this one counted as so many before.
@@ -150,15 +232,18 @@ fn recounted(held: u64, before: u64, slot: &Slot, meter: &mut Meter) -> u64
 }
 
 impl Connections {
-    ghost use Rattle.std.specs.Prelude.{◌≡◌, ◌≤◌, ◌<◌, ◌+◌, ◌*◌, [], true, false, length, OnErr, IfOk, IfSome};
-    ghost use Rattle.rb_core.specs.Connections.{on_live, giving, opening_of, closing_of, first_lost};
+    ghost use Rattle.std.specs.Prelude.{◌≡◌, ◌≤◌, ◌<◌, ◌+◌, ◌*◌, [], true, false, ℕ, length, Some, OnErr, IfOk, IfSome, All};
+    ghost use Rattle.rb_core.specs.Connections.{on_live, opening_of, closing_of, first_lost};
+    ghost use Rattle.rb_core.specs.Streams.{source_for, IsToldBy};
+    ghost use Rattle.rb_core.specs.Serving.{BeginsList, ServesOn, is_closed_by, kind_in, IsWritten, IsToldIn};
+    ghost use Rattle.rb_core.specs.Listings.{AreTold, KeepsTold, EvictsBefore, stamps_of, IsOldest};
     ghost use Rattle.rb_core.specs.Deadlines.{expiring};
     ghost use Rattle.rb_core.specs.StandsFor.{given_in, settling};
     ghost use Rattle.rb_core.specs.Step.{pending_at, pending_count};
     ghost use Rattle.rb_core.specs.Giving.{longest_fragment};
-    ghost use Rattle.rb_core.specs.Costs.{slot_count, look_cost, taken_cost, settle_cost, giving_cost, pending_cost};
-    ghost use Rattle.rb_core.specs.Awaits.{is_free, has_live, NoneIsFreed, OnlyIsFreed, HearsFree};
-    ghost use Rattle.rb_core.specs.Slots.{Shows, Lends, Finds, TableActs, TableBecomes, StandsForConnections, StaysTable, IsDraft, empty_table, feeding, arguments_on, HasBuffers, held_in, most_charge};
+    ghost use Rattle.rb_core.specs.Costs.{slot_count, look_cost, taken_cost, settle_cost, list_cost, giving_cost, pending_cost, oldest_cost, evict_cost};
+    ghost use Rattle.rb_core.specs.Awaits.{has_idle, AwaitsIfForwarded, NoneIsFreed, OnlyIsFreed, HearsFree};
+    ghost use Rattle.rb_core.specs.Slots.{Finds, TableActs, TableBecomes, TableGives, TableHears, TableLends, TableShows, StaysTable, IsDraft, empty_table, feeding, HasBuffers, held_in, most_charge};
     ghost use Rattle.std.specs.Map.{values_of};
 
     /// No connections yet, of at most so many. All of their memory is taken.
@@ -174,6 +259,7 @@ impl Connections {
             given: 0,
             conns,
             held: 0,
+            last: 0,
         })
     }
 
@@ -182,6 +268,7 @@ impl Connections {
     pub fn open(&mut self, clock: u64, peer: Peer, meter: &mut Meter) -> Result<u64, CoreFault>
         requires { meter.old.tie ≡ self.old.tie }
         ensures acts { TableActs (opening_of self.old.conns peer clock) self.old self.new result }
+        ensures told { KeepsTold self.old self.new }
         ensures free { NoneIsFreed self.old self.new }
         ensures refused { OnErr result (self.new ≡ self.old) }
         ensures stays { StaysTable self.old self.new }
@@ -204,7 +291,7 @@ impl Connections {
             buffer,
             window,
         };
-        put_slot(&mut self.slots, slot, meter);
+        self.last = put_slot(&mut self.slots, slot, meter);
         Ok(self.given)
     }
 
@@ -212,12 +299,13 @@ impl Connections {
     pub fn close(&mut self, id: u64, meter: &mut Meter) -> Result<(), CoreFault>
         requires { meter.old.tie ≡ self.old.tie }
         ensures acts { TableActs (closing_of id) self.old self.new result }
+        ensures told { KeepsTold self.old self.new }
         ensures free { NoneIsFreed self.old self.new }
         ensures refused { OnErr result (self.new ≡ self.old) }
         ensures stays { StaysTable self.old self.new }
         ensures cost { PaysAtMost meter.old meter.new (look_cost self.old + 5) }
     {
-        let Some(key) = wanted_key(&self.slots, Wanted::Numbered(id), meter) else {
+        let Some(key) = wanted_key(&self.slots, self.last, Wanted::Numbered(id), meter) else {
             return Err(CoreFault::Gone);
         };
         let Some(slot) = self.slots.remove(key, meter) else {
@@ -242,8 +330,8 @@ impl Connections {
         requires tie { meter.old.tie ≡ self.old.tie }
         requires arguments { IsDraft meter.old.tie arguments.old }
         ensures acts { TableActs (on_live id (feeding clock piece.now)) self.old self.new result }
-        ensures arguments { Shows StandsForConnections
-            (arguments_on id arguments.old.bytes piece.now) self.old arguments.new.bytes }
+        ensures arguments { TableHears id piece.now self.old arguments.old arguments.new }
+        ensures told { KeepsTold self.old self.new }
         ensures free { NoneIsFreed self.old self.new }
         ensures hears { HearsFree id self.old self.new result }
         ensures within { IfOk result (λ got. got.count ≤ length piece.now) }
@@ -254,9 +342,10 @@ impl Connections {
         ensures as_many { length self.new.slots ≡ length self.old.slots }
         ensures cost { PaysAtMost meter.old meter.new (look_cost self.old + taken_cost result) }
     {
-        let Some(key) = wanted_key(&self.slots, Wanted::Live(id), meter) else {
+        let Some(key) = wanted_key(&self.slots, self.last, Wanted::Live(id), meter) else {
             return Err(CoreFault::Gone);
         };
+        self.last = key;
         let Some(slot) = self.slots.get_mut(key, meter) else {
             unreachable!()
         };
@@ -281,17 +370,18 @@ impl Connections {
         requires some { outcome ≡ Outcome.Reply → 0 < length reply.old.bytes }
         ensures stands { TableBecomes (settling id clock (given_in outcome reply.old)) self.old self.new }
         ensures others { OnlyIsFreed id self.old self.new }
-        ensures awaits { outcome ≡ Outcome.Forwarded → has_live id self.old ≡ true
-            → is_free id self.new ≡ false }
+        ensures awaits { AwaitsIfForwarded outcome id self.old self.new }
+        ensures told { KeepsTold self.old self.new }
         ensures stays { StaysTable self.old self.new }
         ensures draft { IsDraft meter.old.tie reply.new }
         ensures empty { reply.new.bytes ≡ [] }
         ensures cost { PaysAtMost meter.old meter.new (settle_cost (slot_count self.old)) }
     {
-        let Some(key) = wanted_key(&self.slots, Wanted::Live(id), meter) else {
+        let Some(key) = wanted_key(&self.slots, self.last, Wanted::Live(id), meter) else {
             reply.clear(meter);
             return;
         };
+        self.last = key;
         let Some(slot) = self.slots.get_mut(key, meter) else {
             unreachable!()
         };
@@ -300,43 +390,163 @@ impl Connections {
         self.held = recounted(self.held, before, slot, meter);
     }
 
+    /// The live connection of the number goes on as its record is answered by a list: it owes that, and its first fragment
+    /// is made in a buffer that is empty before and after.
+    pub fn list(
+        &mut self,
+        id: u64,
+        list: ListReply,
+        clock: u64,
+        host: [u8; 4],
+        registry: &Registry,
+        scratch: &mut Kept,
+        meter: &mut Meter,
+    )
+        requires registry { meter.old.tie ≡ registry.now.tie }
+        requires tie { meter.old.tie ≡ self.old.tie }
+        requires scratch { IsDraft meter.old.tie scratch.old }
+        requires empty { scratch.old.bytes ≡ [] }
+        requires list { IsToldBy (source_for host registry.now) list }
+        requires told { AreTold (source_for host registry.now) self.old }
+        ensures stands { BeginsList (source_for host registry.now) id clock list self.old self.new }
+        ensures told { AreTold (source_for host registry.now) self.new }
+        ensures others { OnlyIsFreed id self.old self.new }
+        ensures stays { StaysTable self.old self.new }
+        ensures draft { IsDraft meter.old.tie scratch.new }
+        ensures empty { scratch.new.bytes ≡ [] }
+        ensures cost { PaysAtMost meter.old meter.new
+            (list_cost (slot_count self.old) registry.now) }
+    {
+        let Some(key) = wanted_key(&self.slots, self.last, Wanted::Live(id), meter) else {
+            return;
+        };
+        self.last = key;
+        let Some(slot) = self.slots.get_mut(key, meter) else {
+            unreachable!()
+        };
+        let before = slot.charge(meter);
+        slot.list(list, clock, host, registry, scratch, meter);
+        self.held = recounted(self.held, before, slot, meter);
+    }
+
+    /// The live connection of the number goes on with what its record is answered with, where a reply is written in this
+    /// buffer, which is empty after it. It says whether the connection is Lost now.
+    pub fn go_on(
+        &mut self,
+        id: u64,
+        served: Served,
+        clock: u64,
+        host: [u8; 4],
+        registry: &Registry,
+        draft: &mut Kept,
+        meter: &mut Meter,
+    ) -> bool
+        requires registry { meter.old.tie ≡ registry.now.tie }
+        requires tie { meter.old.tie ≡ self.old.tie }
+        requires draft { IsDraft meter.old.tie draft.old }
+        requires written { IsWritten served draft.old.bytes }
+        requires list { IsToldIn (source_for host registry.now) served }
+        requires told { AreTold (source_for host registry.now) self.old }
+        ensures stands { ServesOn
+            (source_for host registry.now) id clock served draft.old self.old self.new }
+        ensures closed { result
+            ≡ is_closed_by (source_for host registry.now) served draft.old.bytes }
+        ensures told { AreTold (source_for host registry.now) self.new }
+        ensures others { OnlyIsFreed id self.old self.new }
+        ensures awaits { AwaitsIfForwarded (kind_in served) id self.old self.new }
+        ensures stays { StaysTable self.old self.new }
+        ensures draft { IsDraft meter.old.tie draft.new }
+        ensures empty { draft.new.bytes ≡ [] }
+        ensures cost { PaysAtMost meter.old meter.new
+            (list_cost (slot_count self.old) registry.now) }
+    {
+        match served {
+            Served::Told(outcome) => {
+                self.settle(id, outcome, draft, clock, meter);
+                outcome.is_no_call()
+            }
+            Served::Listed(list) => {
+                self.list(id, list, clock, host, registry, draft, meter);
+                false
+            }
+        }
+    }
+
     /// Counts n of the pending bytes of the live connection of the number as given, or as many as there are: `Gone`
-    /// where there is none.
+    /// where there is none. The next fragment of a list is made in a buffer that is empty before and after.
     pub fn give(
         &mut self,
         id: u64,
         n: usize,
         clock: u64,
+        host: [u8; 4],
+        registry: &Registry,
+        scratch: &mut Kept,
         meter: &mut Meter,
     ) -> Result<(), CoreFault>
-        requires { meter.old.tie ≡ self.old.tie }
-        ensures acts { TableActs (on_live id (giving clock n)) self.old self.new result }
+        requires registry { meter.old.tie ≡ registry.now.tie }
+        requires tie { meter.old.tie ≡ self.old.tie }
+        requires scratch { IsDraft meter.old.tie scratch.old }
+        requires empty { scratch.old.bytes ≡ [] }
+        requires told { AreTold (source_for host registry.now) self.old }
+        ensures acts { TableGives
+            (source_for host registry.now) id clock n self.old self.new result }
+        ensures told { AreTold (source_for host registry.now) self.new }
         ensures free { NoneIsFreed self.old self.new }
         ensures refused { OnErr result (self.new ≡ self.old) }
         ensures stays { StaysTable self.old self.new }
-        ensures cost { PaysAtMost meter.old meter.new (look_cost self.old + giving_cost) }
+        ensures draft { IsDraft meter.old.tie scratch.new }
+        ensures empty { scratch.new.bytes ≡ [] }
+        ensures cost { PaysAtMost meter.old meter.new
+            (look_cost self.old + giving_cost registry.now) }
     {
-        let Some(key) = wanted_key(&self.slots, Wanted::Live(id), meter) else {
+        let Some(key) = wanted_key(&self.slots, self.last, Wanted::Live(id), meter) else {
             return Err(CoreFault::Gone);
         };
+        self.last = key;
         let Some(slot) = self.slots.get_mut(key, meter) else {
             unreachable!()
         };
         let before = slot.charge(meter);
-        slot.give(n, clock, meter);
+        slot.give(n, clock, host, registry, scratch, meter);
         self.held = recounted(self.held, before, slot, meter);
         Ok(())
+    }
+
+    /// The least number of changes after which a list began that is being given.
+    pub fn oldest(&self, meter: &mut Meter) -> Option<u64>
+        requires { meter.old.tie ≡ self.now.tie }
+        ensures oldest { IsOldest (stamps_of self.now) result }
+        ensures cost { PaysAtMost meter.old meter.new (oldest_cost (slot_count self.now)) }
+    {
+        oldest_in(&self.slots, meter)
+    }
+
+    /// Each connection becomes Lost whose list began before a change.
+    pub fn evict(&mut self, earliest: u64, meter: &mut Meter)
+        requires { meter.old.tie ≡ self.old.tie }
+        ensures evicts { EvictsBefore earliest self.old self.new }
+        ensures told { KeepsTold self.old self.new }
+        ensures later { All (λ stamp. earliest ≤ stamp) (stamps_of self.new) }
+        ensures idle { (id : ℕ) → has_idle id self.old ≡ true → has_idle id self.new ≡ true }
+        ensures free { NoneIsFreed self.old self.new }
+        ensures stays { StaysTable self.old self.new }
+        ensures as_many { length self.new.slots ≡ length self.old.slots }
+        ensures cost { PaysAtMost meter.old meter.new (evict_cost (slot_count self.old)) }
+    {
+        evict_slots(&mut self.slots, earliest, meter);
     }
 
     /// The connection of least number whose deadline has come becomes Lost.
     pub fn expire(&mut self, clock: u64, meter: &mut Meter) -> Option<u64>
         requires { meter.old.tie ≡ self.old.tie }
         ensures acts { TableActs (expiring clock) self.old self.new result }
+        ensures told { KeepsTold self.old self.new }
         ensures free { NoneIsFreed self.old self.new }
         ensures stays { StaysTable self.old self.new }
         ensures cost { PaysAtMost meter.old meter.new (look_cost self.old) }
     {
-        let Some(key) = wanted_key(&self.slots, Wanted::Due(clock), meter) else {
+        let Some(key) = wanted_key(&self.slots, self.last, Wanted::Due(clock), meter) else {
             return None;
         };
         let Some(slot) = self.slots.get_mut(key, meter) else {
@@ -361,7 +571,7 @@ impl Connections {
         ensures buffers { IfSome result (λ slot. HasBuffers self.now.tie slot.now) }
         ensures cost { PaysAtMost meter.old meter.new (look_cost self.now) }
     {
-        let Some(key) = wanted_key(&self.slots, wanted, meter) else {
+        let Some(key) = wanted_key(&self.slots, self.last, wanted, meter) else {
             return None;
         };
         match self.slots.get(key, meter) {
@@ -373,7 +583,7 @@ impl Connections {
     /// How many bytes are pending on the live connection of the number: `Gone` where there is none.
     pub fn pending_len(&self, id: u64, meter: &mut Meter) -> Result<usize, CoreFault>
         requires { meter.old.tie ≡ self.now.tie }
-        ensures len { Shows StandsForConnections (λ c. pending_count (pending_at id c)) self.now result }
+        ensures len { TableShows (λ c. pending_count (pending_at id c)) self.now result }
         ensures cost { PaysAtMost meter.old meter.new (look_cost self.now + 1) }
     {
         let Some(slot) = self.first(Wanted::Live(id), meter) else {
@@ -386,7 +596,7 @@ impl Connections {
     /// none: `Gone` where there is no such connection.
     pub fn pending(&self, id: u64, meter: &mut Meter) -> Result<&[u8], CoreFault>
         requires { meter.old.tie ≡ self.now.tie }
-        ensures lent { Lends StandsForConnections (pending_at id) self.now result }
+        ensures lent { TableLends (pending_at id) self.now result }
         ensures few { IfOk result (λ bytes. length bytes.now ≤ longest_fragment) }
         ensures cost { PaysAtMost meter.old meter.new (look_cost self.now + pending_cost) }
     {
@@ -399,7 +609,7 @@ impl Connections {
     /// The least number of those that are Lost.
     pub fn next_lost(&self, meter: &mut Meter) -> Option<u64>
         requires { meter.old.tie ≡ self.now.tie }
-        ensures lost { Shows StandsForConnections first_lost self.now result }
+        ensures lost { TableShows first_lost self.now result }
         ensures cost { PaysAtMost meter.old meter.new (look_cost self.now) }
     {
         match self.first(Wanted::AnyLost, meter) {

@@ -5,7 +5,8 @@ ghost use Rattle.rb_core.specs.HeldBytes.{bytes_bound};
 
 use crate::connections::{BUFFER_SIZE, Connections, LONGEST_FRAGMENT};
 use crate::message::{arguments_behind, message_with};
-use crate::serve::{LONGEST_REPLY, put_end, serve};
+use crate::rooms::make_room;
+use crate::serve::{LONGEST_REPLY, Served, put_end, serve};
 use crate::slot::{Heard, Received};
 use crate::types::{CoreFault, Expired, Limits, Outcome, Taken, Told};
 use rb_forward::{Ended, FwdId, Unsent};
@@ -28,7 +29,6 @@ const LONGEST_FORWARD: u64 = 8_840;
 const MOST_KEYS: u64 = 192;
 
 /// The daemon's logic. All of its memory is reserved by `new`.
-#[derive(Drop)]
 pub struct Core {
     limits: Limits,
     listener: Listener,
@@ -43,6 +43,33 @@ pub struct Core {
     draft: Kept,
     /// The arguments of a record that ended, empty between two events: the connection gives its own buffer for it.
     arguments: Kept,
+    /// What the meter showed as the last event began.
+    begun: u128,
+}
+
+/// A core keeps its bytes in pools and buffers alone. A further field would not compile here: it
+/// belongs in the table of charges of docs/RULES.md first.
+fn layout(core: &Core) {
+    let Core {
+        limits,
+        listener,
+        first_xid,
+        clock,
+        connections,
+        books,
+        reply,
+        reply_len,
+        draft,
+        arguments,
+        begun,
+    } = core;
+    let _: (Limits, Listener) = (*limits, *listener);
+    let _: (u32, u64, u64, u128) = (*first_xid, *clock, *reply_len, *begun);
+    let _: &Connections = connections;
+    let _: &Books = books;
+    let _: &Kept = reply;
+    let _: &Kept = draft;
+    let _: &Kept = arguments;
 }
 
 impl Model for Core {
@@ -57,11 +84,36 @@ impl Model for Core {
       books = c.books;
       reply = c.reply.bytes;
       arguments = c.arguments.bytes;
+      begun = c.begun;
       tie = c.reply.tie;
     } };
 
     ghost invariant = { λ c. IsCore (record { limits = c.limits; listener = c.listener; first_xid = c.first_xid })
         c.connections c.books c.reply c.draft c.arguments c.reply_len };
+}
+
+// Written out: whoever lets a core go, as each `?` behind one does, calls this once, and does not free it part by part.
+impl Drop for Core {
+    fn drop(self) {
+        let Core {
+            limits: _,
+            listener: _,
+            first_xid: _,
+            clock: _,
+            connections,
+            books,
+            reply,
+            reply_len: _,
+            draft,
+            arguments,
+            begun: _,
+        } = self;
+        drop(connections);
+        drop(books);
+        drop(reply);
+        drop(draft);
+        drop(arguments);
+    }
 }
 
 /// How many bytes a core of these limits may hold: of each connection, beside its fixed part, a whole call and a whole
@@ -95,6 +147,7 @@ fn are_good(limits: &Limits) -> bool
 
 impl Core {
     ghost use Rattle.std.specs.Prelude.{◌≡◌, ◌+◌, ◌*◌, ◌≤◌, ◌↔◌, [], true, false, length, IsTrue, IfOk, IfErr, IfSome, IsErrOf, OnErr, not};
+    ghost use Rattle.std.specs.Borrow.{sem};
     ghost use Rattle.rb_xdr.specs.Meter.{Pays, PaysAtMost};
     ghost use Rattle.rb_core.specs.State.{are_good, opening};
     ghost use Rattle.rb_core.specs.Calls.{longest_reply};
@@ -104,12 +157,14 @@ impl Core {
     ghost use Rattle.rb_forward.specs.Table.{slots_of, seen, count_lent, longest_call, is_waiting, IsNew};
     ghost use Rattle.rb_core.specs.Step.{datagram, open_connection, bytes, pending, pending_count, gave, close_connection, next_lost, unsent_call, sent_call};
     ghost use Rattle.rb_core.specs.Ending.{told_at, tell, forward_reply, expire_connection, expire};
-    ghost use Rattle.rb_core.specs.Awaits.{has_live};
+    ghost use Rattle.rb_core.specs.Awaits.{has_idle};
     ghost use Rattle.rb_core.specs.HeldBytes.{held, bytes_bound};
     ghost use Rattle.rb_core.specs.HeldLaws.{NeverPasses};
+    ghost use Rattle.rb_core.specs.EventSteps.{shown, OnlyBegins, BeginsAt, LendsFrom, TellsSteps};
+    ghost use Rattle.rb_core.specs.StepLaws.{taken_by, lent_by, given_by, StaysWithinSteps};
     ghost use Rattle.rb_core.specs.Slots.{Acts, Shows, Lends};
-    ghost use Rattle.rb_core.specs.StandsFor.{StandsFor, ActsWithReply, answering_heard, without_arguments, context_of, answering_cost, bytes_cost, closing_cost, ending_cost, IsCheapIfQuiet};
-    ghost use Rattle.rb_core.specs.Costs.{look_cost, slot_count, serving_cost, tell_cost, pending_cost, giving_cost};
+    ghost use Rattle.rb_core.specs.StandsFor.{StandsFor, ActsWithReply, answering_heard, without_arguments, context_of, answering_cost, datagram_cost, bytes_cost, gave_cost, closing_cost, ending_cost, IsCheapIfQuiet};
+    ghost use Rattle.rb_core.specs.Costs.{look_cost, slot_count, tell_cost, pending_cost};
 
     /// A core with the daemon's own rows alone, at the moment `now` (milliseconds since the start of 1970).
     /// `first_xid` is the number of the first call that it forwards. `BadLimits` where a limit is out of its
@@ -126,6 +181,7 @@ impl Core {
         ensures made { IfOk result
             (λ core. StandsFor core (opening limits listener first_xid now)) }
         ensures tie { IfOk result (λ core. core.tie ≡ meter.old.tie) }
+        ensures begun { IfOk result (λ core. core.begun ≡ shown meter.new) }
         ensures bad { IsErrOf result CoreFault.BadLimits ↔ IsTrue (not (are_good limits)) }
         ensures memory { IfErr result
             (λ fault. IsTrue (are_good limits) → fault ≡ CoreFault.NoMemory) }
@@ -161,6 +217,7 @@ impl Core {
             reply_len: 0,
             draft,
             arguments,
+            begun: meter.count(),
         })
     }
 
@@ -184,50 +241,70 @@ impl Core {
         requires { meter.old.tie ≡ self.old.tie }
         ensures acts { ActsWithReply (λ s. datagram s now peer content.now) self.old self.new result }
         ensures tie { self.new.tie ≡ self.old.tie }
+        ensures begun { self.new.begun ≡ shown meter.old }
         ensures held { NeverPasses self.new }
         ensures short { length self.new.reply ≤ longest_reply }
-        ensures cost { PaysAtMost meter.old meter.new (2 + serving_cost self.old.books self.new.books) }
+        ensures cost { PaysAtMost meter.old meter.new (datagram_cost self.old self.new) }
+        ensures bound { StaysWithinSteps self.old (length content.now) 0 meter.old meter.new }
     {
+        self.begun = meter.count();
         self.clock = self.clock.max(now);
         let context = self.context(Caller::Udp(peer));
         self.reply.clear(meter);
         let verdict = read_call(content);
         let arguments = arguments_behind(verdict, content);
-        let outcome = serve(
+        let message = message_with(verdict, arguments);
+        make_room(
+            &mut self.connections,
             &mut self.books,
             &context,
-            message_with(verdict, arguments),
+            &message,
+            meter,
+        );
+        let served = serve(
+            &mut self.books,
+            &context,
+            message,
             arguments,
             &mut self.reply,
             meter,
         );
         self.reply_len = self.reply.len(meter) as u64;
-        outcome
+        match served {
+            Served::Told(outcome) => outcome,
+            Served::Listed(_) => unreachable!(),
+        }
     }
 
     /// The reply that the last `datagram`, `forward_reply` or `expire` gave over UDP: no bytes where there is none.
-    pub fn udp_reply(&self, meter: &mut Meter) -> &[u8]
-        requires { meter.old.tie ≡ self.now.tie }
-        ensures held { result.now ≡ self.now.reply }
-        ensures reply { Shows StandsFor (λ s. s.reply) self.now result.now }
-        ensures cost { Pays meter.old meter.new (1 + length self.now.reply) }
+    pub fn udp_reply(&mut self, meter: &mut Meter) -> &[u8]
+        requires { meter.old.tie ≡ self.old.tie }
+        ensures* begun { sem 𝓛 (LendsFrom self.entry meter.old) }
+        ensures held { result.now ≡ self.old.reply }
+        ensures reply { Shows StandsFor (λ s. s.reply) self.old result.now }
+        ensures cost { Pays meter.old meter.new (1 + length self.old.reply) }
+        ensures bound { StaysWithinSteps self.old 0 (length result.now) meter.old meter.new }
     {
+        self.begun = meter.count();
         let len = self.reply.len(meter);
         self.reply.lend(0..len, meter)
     }
 
     /// Opens a connection, and gives its number, from 1 upwards. `Full` where there are as many connections as there
     /// may be, lost ones among them, else `Spent` where no number is left.
-    #[tactic(auto, using(crate::proofs::Bounds::never_passes))]
+    #[tactic(auto, using(crate::proofs::Bounds::never_passes, crate::proofs::CallBounds::open_within))]
     pub fn open(&mut self, now: u64, peer: Peer, meter: &mut Meter) -> Result<u64, CoreFault>
         requires { meter.old.tie ≡ self.old.tie }
         ensures acts { Acts StandsFor (λ s. open_connection s now peer)
             self.old self.new result }
-        ensures refused { OnErr result (self.new ≡ self.old) }
+        ensures refused { OnErr result (OnlyBegins self.old self.new) }
         ensures tie { self.new.tie ≡ self.old.tie }
+        ensures begun { self.new.begun ≡ shown meter.old }
         ensures held { NeverPasses self.new }
         ensures cost { PaysAtMost meter.old meter.new 4 }
+        ensures bound { StaysWithinSteps self.old 0 0 meter.old meter.new }
     {
+        self.begun = meter.count();
         let clock = self.clock.max(now);
         let number = self.connections.open(clock, peer, meter)?;
         self.clock = clock;
@@ -247,12 +324,15 @@ impl Core {
         requires { meter.old.tie ≡ self.old.tie }
         ensures acts { Acts StandsFor (λ s. bytes s now id piece.now) self.old self.new result }
         ensures within { IfOk result (λ taken. taken.count ≤ length piece.now) }
-        ensures refused { OnErr result (self.new ≡ self.old) }
+        ensures refused { OnErr result (OnlyBegins self.old self.new) }
         ensures tie { self.new.tie ≡ self.old.tie }
+        ensures begun { self.new.begun ≡ shown meter.old }
         ensures held { NeverPasses self.new }
         ensures cost { PaysAtMost meter.old meter.new (bytes_cost self.old self.new result) }
+        ensures bound { StaysWithinSteps self.old (taken_by result) 0 meter.old meter.new }
         ensures cheap { IsCheapIfQuiet self.old id piece.now result meter.old meter.new }
     {
+        self.begun = meter.count();
         let clock = self.clock.max(now);
         let Received { count, heard } = self
             .connections
@@ -273,18 +353,26 @@ impl Core {
     #[tactic(auto, unfolding(crate::specs::Calls::longest_reply, crate::specs::Reading::longest_arguments, crate::specs::Reading::buffer_size))]
     fn answer(&mut self, id: u64, heard: Heard, meter: &mut Meter) -> bool
         requires tie { meter.old.tie ≡ self.old.tie }
-        requires live { has_live id self.old.connections ≡ true }
+        requires idle { has_idle id self.old.connections ≡ true }
         requires caller { is_waiting id (slots_of self.old.books.forwards) ≡ false }
         ensures acts { Acts StandsFor (answering_heard id heard self.old.arguments)
             (without_arguments self.old) self.new result }
         ensures tie { self.new.tie ≡ self.old.tie }
+        ensures begun { self.new.begun ≡ self.old.begun }
         ensures cost { PaysAtMost meter.old meter.new (answering_cost self.old self.new) }
     {
         let context = self.context(Caller::Tcp(id, heard.peer));
         let len = self.arguments.len(meter);
         let arguments = self.arguments.lend(0..len, meter);
         let message = message_with(heard.verdict, arguments);
-        let outcome = serve(
+        make_room(
+            &mut self.connections,
+            &mut self.books,
+            &context,
+            &message,
+            meter,
+        );
+        let served = serve(
             &mut self.books,
             &context,
             message,
@@ -293,9 +381,11 @@ impl Core {
             meter,
         );
         self.arguments.clear(meter);
+        let host = self.listener.host;
+        let registry = &self.books.registry;
+        let draft = &mut self.draft;
         self.connections
-            .settle(id, outcome, &mut self.draft, self.clock, meter);
-        outcome.is_no_call()
+            .go_on(id, served, self.clock, host, registry, draft, meter)
     }
 
     /// How many bytes are pending on a connection. `Gone` where there is no such connection, or it is Lost.
@@ -309,80 +399,109 @@ impl Core {
 
     /// The rest of the current fragment of the reply that a connection owes, empty where it owes none. `Gone` where
     /// there is no such connection, or it is Lost.
-    pub fn pending(&self, id: u64, meter: &mut Meter) -> Result<&[u8], CoreFault>
-        requires { meter.old.tie ≡ self.now.tie }
-        ensures lent { Lends StandsFor (λ s. pending s id) self.now result }
+    #[tactic(auto, using(crate::proofs::CallBounds::pending_within))]
+    pub fn pending(&mut self, id: u64, meter: &mut Meter) -> Result<&[u8], CoreFault>
+        requires { meter.old.tie ≡ self.old.tie }
+        ensures* begun { sem 𝓛 (LendsFrom self.entry meter.old) }
+        ensures lent { Lends StandsFor (λ s. pending s id) self.old result }
         ensures few { IfOk result (λ bytes. length bytes.now ≤ longest_fragment) }
-        ensures cost { PaysAtMost meter.old meter.new (look_cost self.now.connections + pending_cost) }
+        ensures cost { PaysAtMost meter.old meter.new (look_cost self.old.connections + pending_cost) }
+        ensures bound { StaysWithinSteps self.old 0 (lent_by result) meter.old meter.new }
     {
+        self.begun = meter.count();
         self.connections.pending(id, meter)
     }
 
     /// n of the pending bytes of a connection were given, or as many as are pending. `Gone` where there is no such
     /// connection, or it is Lost.
-    #[tactic(auto, using(crate::proofs::Bounds::never_passes))]
+    #[tactic(auto, using(crate::proofs::Bounds::never_passes, crate::proofs::CallBounds::gave_within))]
     pub fn gave(&mut self, now: u64, id: u64, n: usize, meter: &mut Meter) -> Result<(), CoreFault>
         requires { meter.old.tie ≡ self.old.tie }
         ensures acts { Acts StandsFor (λ s. gave s now id n) self.old self.new result }
-        ensures refused { OnErr result (self.new ≡ self.old) }
+        ensures refused { OnErr result (OnlyBegins self.old self.new) }
         ensures tie { self.new.tie ≡ self.old.tie }
+        ensures begun { self.new.begun ≡ shown meter.old }
         ensures held { NeverPasses self.new }
-        ensures cost { PaysAtMost meter.old meter.new (look_cost self.old.connections + giving_cost) }
+        ensures cost { PaysAtMost meter.old meter.new (gave_cost self.old) }
+        ensures bound { StaysWithinSteps self.old 0 (given_by result n) meter.old meter.new }
     {
+        self.begun = meter.count();
         let clock = self.clock.max(now);
-        self.connections.give(id, n, clock, meter)?;
+        self.connections.give(
+            id,
+            n,
+            clock,
+            self.listener.host,
+            &self.books.registry,
+            &mut self.draft,
+            meter,
+        )?;
         self.clock = clock;
         Ok(())
     }
 
     /// A connection was closed: it is there no longer, live or Lost, and its forwarded call is dropped. `Gone` where there
     /// is none of that number.
-    #[tactic(auto, using(crate::proofs::Bounds::never_passes))]
+    #[tactic(auto, using(crate::proofs::Bounds::never_passes, crate::proofs::CallBounds::closed_within))]
     pub fn closed(&mut self, id: u64, meter: &mut Meter) -> Result<(), CoreFault>
         requires { meter.old.tie ≡ self.old.tie }
         ensures acts { Acts StandsFor (λ s. close_connection s id) self.old self.new result }
-        ensures refused { OnErr result (self.new ≡ self.old) }
+        ensures refused { OnErr result (OnlyBegins self.old self.new) }
         ensures tie { self.new.tie ≡ self.old.tie }
+        ensures begun { self.new.begun ≡ shown meter.old }
         ensures held { NeverPasses self.new }
         ensures cost { PaysAtMost meter.old meter.new (closing_cost self.old) }
+        ensures bound { StaysWithinSteps self.old 0 0 meter.old meter.new }
     {
+        self.begun = meter.count();
         self.connections.close(id, meter)?;
         self.books.drop_caller(id, meter);
         Ok(())
     }
 
     /// The least number of the connections that are Lost. They are to be closed.
-    pub fn next_lost(&self, meter: &mut Meter) -> Option<u64>
-        requires { meter.old.tie ≡ self.now.tie }
-        ensures lost { Shows StandsFor next_lost self.now result }
-        ensures cost { PaysAtMost meter.old meter.new (look_cost self.now.connections) }
+    #[tactic(auto, using(crate::proofs::CallBounds::look_within))]
+    pub fn next_lost(&mut self, meter: &mut Meter) -> Option<u64>
+        requires { meter.old.tie ≡ self.old.tie }
+        ensures begun { BeginsAt meter.old self.old self.new }
+        ensures lost { Shows StandsFor next_lost self.old result }
+        ensures cost { PaysAtMost meter.old meter.new (look_cost self.old.connections) }
+        ensures bound { StaysWithinSteps self.old 0 0 meter.old meter.new }
     {
+        self.begun = meter.count();
         self.connections.next_lost(meter)
     }
 
     /// The forwarded call that is to be sent next: the unsent one of least number, whether or not its deadline has come. It
     /// has at most 8,840 bytes.
-    pub fn unsent(&self, meter: &mut Meter) -> Option<Unsent<'_>>
-        requires { meter.old.tie ≡ self.now.tie }
-        ensures unsent { Shows StandsFor unsent_call self.now (seen result) }
+    #[tactic(auto, using(crate::proofs::CallBounds::unsent_within))]
+    pub fn unsent(&mut self, meter: &mut Meter) -> Option<Unsent<'_>>
+        requires { meter.old.tie ≡ self.old.tie }
+        ensures* begun { sem 𝓛 (LendsFrom self.entry meter.old) }
+        ensures unsent { Shows StandsFor unsent_call self.old (seen result) }
         ensures few { IfSome result (λ lent. length lent.call.now ≤ longest_call) }
         ensures cost { PaysAtMost meter.old meter.new
-            (unsent_cost self.now.books.forwards.cap (count_lent result)) }
+            (unsent_cost self.old.books.forwards.cap (count_lent result)) }
+        ensures bound { StaysWithinSteps self.old 0 (count_lent result) meter.old meter.new }
     {
+        self.begun = meter.count();
         self.books.unsent(meter)
     }
 
     /// The forwarded call of this number was sent: from now on a reply to it counts. `Gone` where there is no such call, or
     /// it was sent before.
-    #[tactic(auto, using(crate::proofs::Bounds::never_passes))]
+    #[tactic(auto, using(crate::proofs::Bounds::never_passes, crate::proofs::CallBounds::sent_within))]
     pub fn sent(&mut self, id: FwdId, meter: &mut Meter) -> Result<(), CoreFault>
         requires { meter.old.tie ≡ self.old.tie }
         ensures acts { Acts StandsFor (λ s. sent_call s id.number) self.old self.new result }
-        ensures refused { OnErr result (self.new ≡ self.old) }
+        ensures refused { OnErr result (OnlyBegins self.old self.new) }
         ensures tie { self.new.tie ≡ self.old.tie }
+        ensures begun { self.new.begun ≡ shown meter.old }
         ensures held { NeverPasses self.new }
         ensures cost { PaysAtMost meter.old meter.new (sent_cost self.old.books.forwards.cap) }
+        ensures bound { StaysWithinSteps self.old 0 0 meter.old meter.new }
     {
+        self.begun = meter.count();
         let Ok(()) = self.books.sent(id, meter) else {
             return Err(CoreFault::Gone);
         };
@@ -392,7 +511,7 @@ impl Core {
     /// Takes a datagram that came in where forwarded calls are sent from: the host and port that it came from, and its
     /// bytes. Where it is the reply to a forwarded call whose deadline is later than `now`, that call has ended, and its
     /// caller is told so. `None` where it is no such reply: it is ignored.
-    #[tactic(auto, using(crate::proofs::Bounds::never_passes))]
+    #[tactic(auto, using(crate::proofs::Bounds::never_passes, crate::proofs::CallBounds::ending_within))]
     pub fn forward_reply(
         &mut self,
         now: u64,
@@ -403,10 +522,13 @@ impl Core {
         requires { meter.old.tie ≡ self.old.tie }
         ensures acts { Acts StandsFor (λ s. forward_reply s now from bytes.now) self.old self.new result }
         ensures tie { self.new.tie ≡ self.old.tie }
+        ensures begun { self.new.begun ≡ shown meter.old }
         ensures held { NeverPasses self.new }
         ensures short { length self.new.reply ≤ longest_reply }
         ensures cost { PaysAtMost meter.old meter.new (ending_cost self.old) }
+        ensures bound { StaysWithinSteps self.old (length bytes.now) 0 meter.old meter.new }
     {
+        self.begun = meter.count();
         self.clock = self.clock.max(now);
         self.reply.clear(meter);
         self.reply_len = 0;
@@ -418,15 +540,18 @@ impl Core {
 
     /// Does one thing that is due at this moment: the forwarded call of least number whose deadline has come ends; where
     /// there is none, the connection of least number whose deadline has come is Lost. `Nothing` where nothing is due.
-    #[tactic(auto, using(crate::proofs::Bounds::never_passes))]
+    #[tactic(auto, using(crate::proofs::Bounds::never_passes, crate::proofs::CallBounds::ending_within))]
     pub fn expire(&mut self, now: u64, meter: &mut Meter) -> Expired
         requires { meter.old.tie ≡ self.old.tie }
         ensures acts { Acts StandsFor (λ s. expire s now) self.old self.new result }
         ensures tie { self.new.tie ≡ self.old.tie }
+        ensures begun { self.new.begun ≡ shown meter.old }
         ensures held { NeverPasses self.new }
         ensures short { length self.new.reply ≤ longest_reply }
         ensures cost { PaysAtMost meter.old meter.new (ending_cost self.old) }
+        ensures bound { StaysWithinSteps self.old 0 0 meter.old meter.new }
     {
+        self.begun = meter.count();
         self.clock = self.clock.max(now);
         self.reply.clear(meter);
         self.reply_len = 0;
@@ -441,6 +566,7 @@ impl Core {
         requires { meter.old.tie ≡ self.old.tie }
         ensures acts { Acts StandsFor expire_connection self.old self.new result }
         ensures tie { self.new.tie ≡ self.old.tie }
+        ensures begun { self.new.begun ≡ self.old.begun }
         ensures reply { self.new.reply ≡ self.old.reply }
         ensures cost { PaysAtMost meter.old meter.new (look_cost self.old.connections) }
     {
@@ -463,6 +589,15 @@ impl Core {
             + self.reply_len
     }
 
+    /// How many steps the last event took, a refused one too, while the count of the meter is below 2^128 - 1. An event is
+    /// a call with `&mut self`; what the meter was paid since it counts as its own.
+    pub fn steps(&self, meter: &Meter) -> u128
+        requires { meter.now.tie ≡ self.now.tie }
+        ensures { TellsSteps self.now meter.now result }
+    {
+        meter.count().saturating_sub(self.begun)
+    }
+
     /// What `held` never passes.
     pub fn bytes_bound(&self) -> u64
         ensures { result ≡ bytes_bound self.now.setting.limits }
@@ -480,6 +615,7 @@ impl Core {
         ensures acts { Acts StandsFor (tell ended.now.forward.caller (told_at message.now ended.now))
             self.old self.new result }
         ensures tie { self.new.tie ≡ self.old.tie }
+        ensures begun { self.new.begun ≡ self.old.begun }
         ensures short { length self.new.reply ≤ longest_reply }
         ensures cost { PaysAtMost meter.old meter.new (tell_cost (slot_count self.old.connections)) }
     {

@@ -1,14 +1,20 @@
 //! A reply that is given fragment by fragment (RFC 5531 section 11).
 //!
 //! The whole reply stays unmarked in one buffer. A window shows its current fragment, marked, and
-//! a number tells how many of all its marked bytes were given.
-ghost use Rattle.std.specs.Prelude.{◌≡◌, ◌-◌, ◌%◌, ◌<◌, ◌≤◌, ◌^◌, length};
+//! a number tells how many of all its marked bytes were given. A list is held nowhere as a whole: the window shows a
+//! fragment of it, and the next one is made from the registry once that was given.
+ghost use Rattle.std.specs.Prelude.{◌≡◌, ◌-◌, ◌%◌, ◌<◌, ◌≤◌, ◌^◌, [], None, length, take, drop, nat_le};
 ghost use Rattle.rb_xdr.specs.Meter.{Pays, PaysAtMost};
 ghost use Rattle.rb_xdr.specs.Puts.{Appends, HasRoom};
 ghost use Rattle.rb_core.specs.Giving.{longest_fragment, IsGiving, owed_of};
 ghost use Rattle.rb_core.specs.Windows.{showing, OfPending, CountsOn, ShowsOn};
-ghost use Rattle.rb_core.specs.Costs.{show_cost, pending_cost, advance_cost};
+ghost use Rattle.rb_rpc.specs.Records.{marked};
+ghost use Rattle.rb_proto.specs.ListReplies.{longest_part, rest_of, IsBehindPart, IsTold};
+ghost use Rattle.rb_core.specs.Slots.{IsDraft};
+ghost use Rattle.rb_core.specs.Costs.{show_cost, pending_cost, advance_cost, show_list_cost};
 
+use rb_proto::ListReply;
+use rb_registry::Registry;
 use rb_rpc::fragment_header;
 use rb_xdr::{Kept, Meter};
 
@@ -17,6 +23,28 @@ const DATA: usize = 1024;
 
 /// The bytes of such a fragment with its header.
 const MARKED: usize = 1028;
+
+/// A list that is given.
+#[derive(Clone, Copy, Debug, PartialEq, Eq)]
+pub struct Stream {
+    /// What is behind the fragment that is shown.
+    pub behind: ListReply,
+    /// How many bytes of the fragment were given.
+    pub place: usize,
+    /// Whether it is the last one.
+    pub last: bool,
+}
+
+/// A core keeps its bytes in pools and buffers alone. A further field would not compile here: it
+/// belongs in the table of charges of docs/RULES.md first.
+fn layout(stream: &Stream) {
+    let Stream {
+        behind,
+        place,
+        last,
+    } = *stream;
+    let _: (ListReply, usize, bool) = (behind, place, last);
+}
 
 /// Appends bytes where there is room for them.
 fn put(window: &mut Kept, bytes: &[u8], meter: &mut Meter)
@@ -53,7 +81,7 @@ pub fn begin(reply: &Kept, window: &mut Kept, meter: &mut Meter)
     requires window_tie { meter.old.tie ≡ window.old.tie }
     requires some { 0 < length reply.now.bytes }
     requires cap { window.old.cap ≡ longest_fragment }
-    ensures giving { IsGiving reply.now.bytes window.new 0 (owed_of reply.now.bytes 0) }
+    ensures giving { IsGiving reply.now.bytes window.new 0 (owed_of reply.now.bytes None 0) }
     ensures cap { window.new.cap ≡ window.old.cap }
     ensures tie { window.new.tie ≡ window.old.tie }
     ensures cost { PaysAtMost meter.old meter.new show_cost }
@@ -78,6 +106,7 @@ pub fn pending<'a>(window: &'a Kept, given: usize, meter: &mut Meter) -> &'a [u8
     requires tie { meter.old.tie ≡ window.now.tie }
     requires cap { window.now.cap ≡ longest_fragment }
     ensures pending { OfPending window.now given (λ bytes. result.now ≡ bytes) }
+    ensures left { result.now ≡ drop (given % longest_fragment) window.now.bytes }
     ensures few { length result.now ≤ longest_fragment }
     ensures cost { PaysAtMost meter.old meter.new pending_cost }
 {
@@ -119,4 +148,50 @@ pub fn advance(
     }
     show(reply, start, window, meter);
     Some(count)
+}
+
+/// Shows the next fragment of a list, made in a buffer that is empty before and after. It says what is behind it.
+#[tactic(auto, unfolding(crate::specs::Giving::longest_fragment, crate::specs::Reading::longest_arguments, crate::specs::Reading::buffer_size, crate::specs::Calls::longest_reply))]
+pub fn show_list(
+    list: ListReply,
+    registry: &Registry,
+    host: [u8; 4],
+    window: &mut Kept,
+    scratch: &mut Kept,
+    meter: &mut Meter,
+) -> Stream
+    requires registry { meter.old.tie ≡ registry.now.tie }
+    requires window_tie { meter.old.tie ≡ window.old.tie }
+    requires scratch { IsDraft meter.old.tie scratch.old }
+    requires cap { window.old.cap ≡ longest_fragment }
+    requires told { IsTold registry.now list }
+    requires some { 0 < length (rest_of host registry.now list) }
+    ensures shown { window.new.bytes
+        ≡ take longest_fragment (marked (rest_of host registry.now list)) }
+    ensures rest { IsBehindPart host registry.now list result.behind }
+    ensures last { result.last ≡ nat_le (length (rest_of host registry.now list)) longest_part }
+    ensures place { result.place ≡ 0 }
+    ensures told { IsTold registry.now result.behind }
+    ensures stamp { result.behind.stamp ≡ list.stamp }
+    ensures cap { window.new.cap ≡ window.old.cap }
+    ensures tie { window.new.tie ≡ window.old.tie }
+    ensures draft { IsDraft meter.old.tie scratch.new }
+    ensures empty { scratch.new.bytes ≡ [] }
+    ensures cost { PaysAtMost meter.old meter.new (show_list_cost registry.now) }
+{
+    let mut behind = list;
+    let part = behind.next_part(registry, host, scratch, meter);
+    window.clear(meter);
+    put(
+        window,
+        &fragment_header(part.end - part.start, part.last),
+        meter,
+    );
+    put(window, scratch.lend(part.start..part.end, meter), meter);
+    scratch.clear(meter);
+    Stream {
+        behind,
+        place: 0,
+        last: part.last,
+    }
 }

@@ -10,7 +10,8 @@ ghost use Rattle.rb_core.specs.HeldLaws.{HeldBytesAreBounded};
 ghost use Rattle.rb_core.specs.StepLaws.{StepsAreBounded, RunsAreBounded};
 ghost use Rattle.rb_core.specs.WorkedConnections.{NoCallCloses, OtherRpcVersionOnTcp, CrumbsInOnePiece, CrumbsInSingleBytes, CrumbsInSevens, BytesBehindArguments, OneRecordAtATime, OneRecordAtATimePasses, NoCallPasses, GivenInParts, TooMuchIsRefused, GoodLimits, NumbersDoNotRecur};
 ghost use Rattle.rb_core.specs.WorkedForwards.{ForwardWithoutRow, RefusedCallsAreCounted, ForwardUntilDeadline, IndirectPasses, CallitPasses, TargetRefuses, DeniedIsSystemErr, CallitIsSilent, GreatestResults, NoPlace, GreatestArguments, SilentOnTcp, ForwardPassesOnTcp, ForwardOnTcpIsWhole, ClosedCallerIsDropped, EachEndsInTurn};
-ghost use Rattle.rb_core.specs.WorkedHeld.{BytesBounds, FreshCoreHolds};
+ghost use Rattle.rb_core.specs.WorkedHeld.{BytesBounds, FreshCoreHolds, StepsBounds};
+ghost use Rattle.rb_core.specs.WorkedLists.{DumpSurvivesUnsetAndEvicts, OldReadersAreEvicted, FullTableRefuses, RowsThatCameAndWentAreKept, ListInTwoFragments, ListAsOfItsCall};
 ghost use Rattle.rb_core.specs.WorkedDeadlines.{IdleEnds, ReadingEnds, TwoEnd, OwingEnds, GivenBytesMoveTheMark, IdleAfterTheReply, DueAtOnceAtTheGreatestMoment, ForwardedCallsComeFirst};
 ghost use Rattle.rb_core.specs.Worked.{NullIsAnswered, SetThenAskThenSetAgain, GreatestVersionElse, OwnRowsAreAsked, LimitIsReached, LocalCallersSet, NothingIsSilent, NullBySys, OtherRpcVersion, TooShort, GreatestCredential, OverlongCredential, SysBodyCutShort, OverlongVerifier, BadResidue, GoodResidue, GssBeforeProgram, OtherVersion, UnknownProcedure, GarbageArguments, OtherProgram, NullOfThree, NullOfFour, GetstatFirstCall, GetstatOfRefusals};
 
@@ -141,8 +142,9 @@ pub fn owed_replies_stay()
     ensures { OwedRepliesStay }
 {}
 
-/// In each state that a run reaches, a live connection becomes Lost exactly by the end of a record that is no call or at
-/// its deadline, when no forwarded call is due and no connection of lesser number is; and it is gone exactly by its close.
+/// In each state that a run reaches, a live connection becomes Lost exactly by the end of a record that is no call; or at
+/// its deadline, when no forwarded call is due and no connection of lesser number is; or where a SET wants room, by the list
+/// that is given on it. It is gone exactly by its close.
 pub fn connections_close_exactly()
     ensures { ConnectionsCloseExactly }
 {}
@@ -172,6 +174,16 @@ pub fn entries_end_once()
 /// version and netid, and at good limits at most `limits.rows` rows are live.
 pub fn ledgers_are_well_kept()
     ensures { LedgersAreWellKept }
+{}
+
+/// The definitions give what the worked examples of lists that are streamed say.
+pub fn worked_lists()
+    ensures dump_survives_unset_and_evicts { DumpSurvivesUnsetAndEvicts }
+    ensures old_readers { OldReadersAreEvicted }
+    ensures full_table { FullTableRefuses }
+    ensures came_and_went { RowsThatCameAndWentAreKept }
+    ensures two_fragments { ListInTwoFragments }
+    ensures as_of_its_call { ListAsOfItsCall }
 {}
 
 /// The definitions give what the worked examples of deadlines say.
@@ -204,10 +216,11 @@ pub fn held_bytes_are_bounded()
     ensures { HeldBytesAreBounded }
 {}
 
-/// The definitions give what the worked examples of held bytes say.
+/// The definitions give what the worked examples of held bytes and of the bound of steps say.
 pub fn worked_held()
     ensures bytes_bounds { BytesBounds }
     ensures fresh_core { FreshCoreHolds }
+    ensures steps_bounds { StepsBounds }
 {}
 
 /// In each state that a run reaches at good limits, an event costs at most 8 steps for each byte that it takes, lends or tells

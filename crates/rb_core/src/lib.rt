@@ -8,6 +8,7 @@ mod giving;
 mod laws;
 mod message;
 mod reading;
+mod rooms;
 mod run;
 mod serve;
 mod slot;
@@ -21,6 +22,7 @@ pub use laws::{
     numbers_never_recur, owed_replies_stay, refused_events_change_nothing, replies_are_given_whole,
     runs_append, runs_are_served_within_bounds, sessions_are_whole, steps_are_bounded,
     worked_connections, worked_deadlines, worked_examples, worked_forwards, worked_held,
+    worked_lists,
 };
 pub use message::{Message, read_message};
 pub use rb_forward::{FwdId, Unsent};

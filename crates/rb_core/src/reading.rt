@@ -23,6 +23,13 @@ pub struct Reader {
     head: CallFeed,
 }
 
+/// A core keeps its bytes in pools and buffers alone. A further field would not compile here: it
+/// belongs in the table of charges of docs/RULES.md first.
+fn layout(reader: &Reader) {
+    let Reader { marks, head } = *reader;
+    let _: (Marks, CallFeed) = (marks, head);
+}
+
 /// A call whose data is being taken.
 #[derive(Clone, Copy)]
 struct Intake {

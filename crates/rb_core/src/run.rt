@@ -7,6 +7,7 @@ ghost use Rattle.rb_core.specs.Step.Event.{Open, Bytes, Pending, Gave, Closed, N
 ghost use Rattle.rb_core.specs.StandsFor.{StandsFor, event_of, output_of, events_of, outputs_of, HasHappened, MayHappen, Happened, PaysForRun};
 ghost use Rattle.rb_core.specs.HeldLaws.{StaysWithinBound};
 ghost use Rattle.rb_core.specs.StepLaws.{PaysWithinBound};
+ghost use Rattle.rb_core.specs.EventSteps.{OnlyBegins};
 ghost use Rattle.rb_xdr.specs.Meter.{PaysAtMost};
 ghost use Rattle.rb_core.specs.Slots.{Shows};
 ghost use Rattle.rb_core.specs.Costs.{look_cost};
@@ -130,11 +131,12 @@ fn show_taken(taken: Taken) -> Output
     }
 }
 
-/// Looks at what is pending. Nothing changes.
+/// Looks at what is pending.
 #[tactic(auto, unfolding(crate::specs::Step::step, crate::specs::Giving::longest_fragment))]
-fn pending(alloc: Global, core: &Core, id: u64, meter: &mut Meter) -> Result<Output, NoMemory>
-    requires { meter.old.tie ≡ core.now.tie }
-    ensures ok { MayHappen (Pending id) core.now core.now meter.old meter.new result }
+fn pending(alloc: Global, core: &mut Core, id: u64, meter: &mut Meter) -> Result<Output, NoMemory>
+    requires { meter.old.tie ≡ core.old.tie }
+    ensures ok { MayHappen (Pending id) core.old core.new meter.old meter.new result }
+    ensures err { OnErr result (core.new ≡ core.old) }
     ensures free { OnErr result (meter.new ≡ meter.old) }
 {
     let Ok(mut copy) = Vec::with_capacity(alloc, LONGEST_FRAGMENT) else {
@@ -186,9 +188,9 @@ fn closed(core: &mut Core, id: u64, meter: &mut Meter) -> Output
 }
 
 #[tactic(auto, unfolding(crate::specs::Step::step))]
-fn next_lost(core: &Core, meter: &mut Meter) -> Output
-    requires { meter.old.tie ≡ core.now.tie }
-    ensures { HasHappened NextLost core.now core.now meter.old meter.new result }
+fn next_lost(core: &mut Core, meter: &mut Meter) -> Output
+    requires { meter.old.tie ≡ core.old.tie }
+    ensures { HasHappened NextLost core.old core.new meter.old meter.new result }
 {
     Output::Lost(core.next_lost(meter))
 }
@@ -221,11 +223,12 @@ fn datagram(
     }
 }
 
-/// Looks for the forwarded call that is to be sent. Nothing changes.
+/// Looks for the forwarded call that is to be sent.
 #[tactic(auto, unfolding(crate::specs::Step::step, rb_forward::specs::Table::longest_arguments))]
-fn unsent(alloc: Global, core: &Core, meter: &mut Meter) -> Result<Output, NoMemory>
-    requires { meter.old.tie ≡ core.now.tie }
-    ensures ok { MayHappen Unsent core.now core.now meter.old meter.new result }
+fn unsent(alloc: Global, core: &mut Core, meter: &mut Meter) -> Result<Output, NoMemory>
+    requires { meter.old.tie ≡ core.old.tie }
+    ensures ok { MayHappen Unsent core.old core.new meter.old meter.new result }
+    ensures err { OnErr result (core.new ≡ core.old) }
     ensures free { OnErr result (meter.new ≡ meter.old) }
 {
     let Ok(mut call) = Vec::with_capacity(alloc, LONGEST_CALL) else {
@@ -256,12 +259,13 @@ fn sent(core: &mut Core, number: u64, meter: &mut Meter) -> Output
 
 /// What is told of a forwarded call that ended, with the reply over UDP where there is one.
 #[tactic(auto, unfolding(crate::specs::Calls::longest_reply))]
-fn show_told(core: &Core, told: Told, mut reply: Vec<u8>, meter: &mut Meter) -> Output
-    requires tie { meter.old.tie ≡ core.now.tie }
-    requires short { length core.now.reply ≤ longest_reply }
+fn show_told(core: &mut Core, told: Told, mut reply: Vec<u8>, meter: &mut Meter) -> Output
+    requires tie { meter.old.tie ≡ core.old.tie }
+    requires short { length core.old.reply ≤ longest_reply }
     requires empty { reply.items ≡ [] }
     requires room { longest_reply ≤ vec_capacity reply }
-    ensures told { output_of result ≡ show_told core.now.reply told }
+    ensures told { output_of result ≡ show_told core.old.reply told }
+    ensures core { OnlyBegins core.old core.new }
     ensures cost { PaysAtMost meter.old meter.new 9001 }
 {
     match told {

@@ -1,31 +1,45 @@
 //! Serves a message: what it is answered with, and what is remembered of it.
-ghost use Rattle.std.specs.Prelude.{◌≡◌, ◌<◌, ◌≤◌, [], length};
+ghost use Rattle.std.specs.Prelude.{◌≡◌, ◌<◌, ◌≤◌, [], false, length};
 ghost use Rattle.rb_rpc.specs.Replies.{reply_head};
 ghost use Rattle.rb_xdr.specs.Meter.{PaysAtMost};
-ghost use Rattle.rb_proto.specs.Ledger.{ActsAs, AreTied, Ledger, SameFrame, StandsForLedger};
+ghost use Rattle.rb_registry.specs.Cursors.{GoesOn};
+ghost use Rattle.rb_proto.specs.Ledger.{AreTied, Ledger, OnlyCallerWaits, SameFrame, StandsForLedger};
 ghost use Rattle.rb_proto.specs.Results.{result_bytes, results_at, shown_in, shown_of};
 ghost use Rattle.rb_forward.specs.Forwards.{longest_results};
 ghost use Rattle.rb_forward.specs.Outcomes.{PassesWithin};
-ghost use Rattle.rb_forward.specs.Table.{slots_of, IsNew, OnlyWaitsAnew};
+ghost use Rattle.rb_forward.specs.Table.{slots_of, IsNew};
 ghost use Rattle.rb_proto.specs.Forwarding.{forwarded_bytes};
-ghost use Rattle.rb_core.specs.Calls.{outcome, told_as, reply_in, success, longest_reply};
+ghost use Rattle.rb_core.specs.Calls.{reply_in, success, longest_reply};
 ghost use Rattle.rb_core.specs.Ending.{told_failed, told_at};
 ghost use Rattle.rb_core.specs.Reading.{HasArgsIn};
 ghost use Rattle.rb_core.specs.Awaits.{kind_of, StayUnlessForwarded};
+ghost use Rattle.rb_core.specs.Rooms.{HasRoom, source_in};
 ghost use Rattle.rb_core.specs.StandsFor.{given_in};
+ghost use Rattle.rb_core.specs.Serving.{TellsAnswer, ServesMessage, kind_in, IsWritten, HasList, IsListFor};
 ghost use Rattle.rb_core.specs.Costs.{put_results_cost, put_end_cost, serving_cost};
 
 use crate::message::Message;
 use crate::types::Outcome;
 use rb_forward::{Ended, Forward, Outcome as End};
 use rb_proto::{
-    Answer, Books, Context, Listener, Results, answer, put_forwarded, put_results, refusal,
+    Answer, Books, Context, ListReply, Listener, Results, answer, put_forwarded, put_results,
+    refusal,
 };
-use rb_rpc::{ReplyHead, ReplyStatus, put_reply};
+use rb_registry::Registry;
+use rb_rpc::{Caller, ReplyHead, ReplyStatus, put_reply};
 use rb_xdr::{Kept, Meter};
 
-/// The greatest length of a reply, in bytes.
+/// The greatest length of a reply that is no streamed list, in bytes.
 pub const LONGEST_REPLY: usize = 9_000;
+
+/// What a message is answered with.
+#[derive(Clone, Copy, Debug, PartialEq, Eq)]
+pub enum Served {
+    /// A reply that is written, or none.
+    Told(Outcome),
+    /// A list that is streamed, of which nothing is written yet.
+    Listed(ListReply),
+}
 
 /// Writes the head of a reply into an empty buffer.
 #[tactic(auto, using(crate::proofs::Replies::short_head, crate::proofs::Replies::some_head), unfolding(crate::specs::Calls::longest_reply))]
@@ -99,45 +113,62 @@ fn put_reply_with(
     }
 }
 
-/// Writes an answer into an empty buffer.
+/// The list that results are, as they are given on a connection: None where they are written as a whole.
+fn list_in(results: &Results, xid: u32, caller: Caller, registry: &Registry) -> Option<ListReply>
+    ensures { IsListFor caller results.now xid registry.now result }
+{
+    match caller {
+        Caller::Udp(_) => None,
+        Caller::Tcp(_, _) => match results {
+            Results::Rows(listing) => Some(ListReply::new(xid, *listing, registry)),
+            Results::Value(_) | Results::Statistics => None,
+        },
+    }
+}
+
+/// Writes an answer into an empty buffer, unless it is a list that is streamed.
 #[tactic(auto, unfolding(crate::specs::Calls::longest_reply))]
 fn put_answer(
     answer: &Answer,
     xid: u32,
     books: &Books,
-    listener: &Listener,
+    context: &Context,
     out: &mut Kept,
     meter: &mut Meter,
-) -> Outcome
+) -> Served
     requires tied { AreTied meter.old.tie books.now }
     requires tie { meter.old.tie ≡ out.old.tie }
     requires empty { out.old.bytes ≡ [] }
     requires room { longest_reply ≤ out.old.cap }
-    ensures given { (l : Ledger) → StandsForLedger books.now l → given_in result out.new
-        ≡ told_as xid (result_bytes listener.now.host (shown_of l)) answer.now }
-    ensures kind { result ≡ kind_of answer.now }
-    ensures held { out.new.bytes ≡ reply_in (given_in result out.new) }
-    ensures some { result ≡ Outcome.Reply → 0 < length out.new.bytes }
+    ensures given { TellsAnswer books.now context.now xid answer.now result out.new.bytes }
+    ensures kind { kind_in result ≡ kind_of answer.now }
+    ensures list { HasList context.now.caller
+        (source_in context.now.listener.host books.now) result }
+    ensures written { IsWritten result out.new.bytes }
     ensures short { length out.new.bytes ≤ longest_reply }
     ensures out { (out.new.cap ≡ out.old.cap) × (out.new.tie ≡ out.old.tie) }
     ensures cost { PaysAtMost meter.old meter.new (put_results_cost books.now) }
 {
     match answer {
         Answer::Results(results) => {
-            put_reply_with(results, xid, books, listener, out, meter);
-            Outcome::Reply
+            if let Some(list) = list_in(results, xid, context.caller, &books.registry) {
+                return Served::Listed(list);
+            }
+            put_reply_with(results, xid, books, &context.listener, out, meter);
+            Served::Told(Outcome::Reply)
         }
         Answer::Refused(status) => {
             let status = *status;
             put_head(out, ReplyHead { xid, status }, meter);
-            Outcome::Reply
+            Served::Told(Outcome::Reply)
         }
-        Answer::Forwarded => Outcome::Forwarded,
-        Answer::Silent => Outcome::Silent,
+        Answer::Forwarded => Served::Told(Outcome::Forwarded),
+        Answer::Silent => Served::Told(Outcome::Silent),
     }
 }
 
-/// Serves a message, behind whose head are these bytes, and writes its reply into an empty buffer.
+/// Serves a message, behind whose head are these bytes, and writes its reply into an empty buffer, unless it is a list that
+/// is streamed.
 #[tactic(auto, unfolding(crate::specs::Calls::outcome, crate::specs::Calls::longest_reply))]
 pub fn serve(
     books: &mut Books,
@@ -146,44 +177,47 @@ pub fn serve(
     arguments: &[u8],
     out: &mut Kept,
     meter: &mut Meter,
-) -> Outcome
+) -> Served
     requires tied { AreTied meter.old.tie books.old }
     requires limit { books.old.registry.limit ≡ context.now.limit }
     requires forwards { books.old.forwards.cap ≡ context.now.forwards }
     requires caller { IsNew context.now.caller (slots_of books.old.forwards) }
     requires args { HasArgsIn message arguments.now }
+    requires row_room { HasRoom context.now message books.old }
     requires tie { meter.old.tie ≡ out.old.tie }
     requires empty { out.old.bytes ≡ [] }
     requires room { longest_reply ≤ out.old.cap }
-    ensures acts { ActsAs (outcome context.now message arguments.now)
-        books.old books.new (given_in result out.new) }
-    ensures quiet { StayUnlessForwarded result books.old.forwards books.new.forwards }
-    ensures waiting { OnlyWaitsAnew context.now.caller
-        (slots_of books.old.forwards) (slots_of books.new.forwards) }
+    ensures acts { ServesMessage
+        context.now message arguments.now books.old books.new result out.new }
+    ensures cursors { GoesOn books.old.registry books.new.registry }
+    ensures floor { books.new.registry.floor ≡ books.old.registry.floor }
+    ensures list { HasList context.now.caller
+        (source_in context.now.listener.host books.new) result }
+    ensures quiet { StayUnlessForwarded (kind_in result) books.old.forwards books.new.forwards }
+    ensures waiting { OnlyCallerWaits context.now.caller books.old books.new }
     ensures frame { SameFrame books.old books.new }
     ensures short { length out.new.bytes ≤ longest_reply }
-    ensures some { result ≡ Outcome.Reply → 0 < length out.new.bytes }
-    ensures held { out.new.bytes ≡ reply_in (given_in result out.new) }
+    ensures written { IsWritten result out.new.bytes }
     ensures out { (out.new.cap ≡ out.old.cap) × (out.new.tie ≡ out.old.tie) }
     ensures cost { PaysAtMost meter.old meter.new (serving_cost books.old books.new) }
 {
     match message {
-        Message::NoCall => Outcome::NoCall,
+        Message::NoCall => Served::Told(Outcome::NoCall),
         Message::Refused(head) => {
             put_head(out, head, meter);
-            Outcome::Reply
+            Served::Told(Outcome::Reply)
         }
         Message::Garbage(head) => {
             let (xid, status) = (head.xid, ReplyStatus::GarbageArgs);
             books.note_call(&head);
             put_head(out, ReplyHead { xid, status }, meter);
-            Outcome::Reply
+            Served::Told(Outcome::Reply)
         }
         Message::Asked(call) => {
             let xid = call.head.xid;
             books.note_call(&call.head);
             let given = answer(books, context, call, arguments, meter);
-            put_answer(&given, xid, books, &context.listener, out, meter)
+            put_answer(&given, xid, books, context, out, meter)
         }
     }
 }

@@ -3,9 +3,11 @@ ghost use Rattle.std.specs.Prelude.{◌≡◌, ◌+◌, [], Some, None};
 ghost use Rattle.rb_xdr.specs.Meter.{Pays, PaysAtMost};
 
 use crate::deadlines::time_in;
-use crate::giving::{advance, begin, pending, pending_len};
+use crate::giving::{Stream, advance, begin, pending, pending_len, show_list};
 use crate::reading::{Fed, Reader};
 use crate::types::Outcome;
+use rb_proto::ListReply;
+use rb_registry::Registry;
 use rb_rpc::{Peer, Verdict};
 use rb_xdr::{Kept, Meter};
 use std::mem;
@@ -22,6 +24,8 @@ pub enum Stage {
     Reading(Reader),
     /// A reply is being given, and so many of its marked bytes were.
     Owing(usize),
+    /// A list is being given.
+    Streaming(Stream),
     /// Its call is forwarded, and takes its reply from there.
     Awaiting,
     /// It takes and gives nothing more, and waits to be closed.
@@ -39,6 +43,18 @@ pub enum Wanted {
     AnyLost,
     /// The first whose deadline has come at this moment.
     Due(u64),
+}
+
+impl Wanted {
+    ghost use Rattle.std.specs.Prelude.{◌≡◌};
+    ghost use Rattle.rb_core.specs.Slots.{is_by_number};
+
+    /// Whether it is wanted by its number, which no other connection has.
+    pub fn is_by_number(self) -> bool
+        ensures { result ≡ is_by_number self }
+    {
+        matches!(self, Wanted::Live(_) | Wanted::Numbered(_))
+    }
 }
 
 /// The verdict on a record, and who sent it.
@@ -63,7 +79,7 @@ pub struct Slot {
     pub stage: Stage,
     /// The moment from which its deadline counts.
     pub mark: u64,
-    /// The first bytes of the arguments of the call that is read, or the whole reply.
+    /// The first bytes of the arguments of the call that is read, or the whole reply where that is no list.
     pub buffer: Kept,
     /// The marked fragment of the reply that is being given.
     pub window: Kept,
@@ -76,6 +92,37 @@ pub struct Buffers {
     pub window: Kept,
 }
 
+/// A core keeps its bytes in pools and buffers alone. A further field would not compile here: it
+/// belongs in the table of charges of docs/RULES.md first.
+fn layout(slot: &Slot, spare: &Buffers) {
+    let Slot {
+        number,
+        peer,
+        stage,
+        mark,
+        buffer,
+        window,
+    } = slot;
+    let _: (u64, Peer, u64) = (*number, *peer, *mark);
+    match *stage {
+        Stage::Idle | Stage::Awaiting | Stage::Lost => {}
+        Stage::Reading(reader) => {
+            let _: Reader = reader;
+        }
+        Stage::Owing(given) => {
+            let _: usize = given;
+        }
+        Stage::Streaming(stream) => {
+            let _: Stream = stream;
+        }
+    }
+    let _: &Kept = buffer;
+    let _: &Kept = window;
+    let Buffers { buffer, window } = spare;
+    let _: &Kept = buffer;
+    let _: &Kept = window;
+}
+
 fn nothing() -> Received
     ensures { result ≡ record { count = 0; heard = None } }
 {
@@ -86,15 +133,18 @@ fn nothing() -> Received
 }
 
 impl Slot {
-    ghost use Rattle.std.specs.Prelude.{◌≡◌, ◌≤◌, ◌<◌, ◌+◌, ℕ, List, [], true, false, length, IfSome};
+    ghost use Rattle.std.specs.Prelude.{◌≡◌, ◌≤◌, ◌<◌, ◌+◌, ℕ, List, [], true, false, length, Some, IfSome};
     ghost use Rattle.rb_core.specs.State.{Connection};
     ghost use Rattle.rb_core.specs.Connections.{taking_on, settled, giving, pending_in};
     ghost use Rattle.rb_core.specs.Deadlines.{is_due_slot};
-    ghost use Rattle.rb_core.specs.Slots.{Acts, StandsForConnection, IsBeforePiece, Shows, HasBuffers, IsDraft, StaysSlot, received, fed_with, feeding, arguments_after, arguments_heard, is_lost_stage, is_wanted_slot, charge, most_charge};
+    ghost use Rattle.rb_core.specs.Slots.{SlotActs, SlotBecomes, SlotGives, SlotHears, SlotShows, emptied_slot, StandsForConnection, IsBeforePiece, HasBuffers, IsDraft, StaysSlot, received, fed_with, feeding, arguments_after, is_lost_stage, is_idle_stage, is_wanted_slot, charge, most_charge};
+    ghost use Rattle.rb_core.specs.Listings.{slot_began, IsNoList, IsToldSlot, KeepsToldSlot};
+    ghost use Rattle.rb_core.specs.Streams.{Source, source_for, IsToldBy, GoesOnBy};
+    ghost use Rattle.rb_core.specs.Serving.{SlotBeginsList};
     ghost use Rattle.rb_core.specs.Awaits.{is_awaiting_stage, HearsSlot};
-    ghost use Rattle.rb_core.specs.StandsFor.{outcome_with};
+    ghost use Rattle.rb_core.specs.StandsFor.{given_in};
     ghost use Rattle.rb_core.specs.Giving.{longest_fragment};
-    ghost use Rattle.rb_core.specs.Costs.{received_cost, show_cost, give_cost, pending_cost};
+    ghost use Rattle.rb_core.specs.Costs.{received_cost, show_cost, give_cost, show_list_cost, pending_cost};
 
     #[tactic(auto, unfolding(crate::specs::Slots::is_wanted_slot))]
     pub fn is_wanted(&self, wanted: Wanted) -> bool
@@ -112,6 +162,18 @@ impl Slot {
         ensures { result ≡ is_lost_stage self.now.stage }
     {
         matches!(self.stage, Stage::Lost)
+    }
+
+    /// After how many changes the list began that is being given.
+    pub fn began(&self) -> Option<u64>
+        ensures { result ≡ slot_began self.now }
+    {
+        match self.stage {
+            Stage::Streaming(stream) => Some(stream.behind.stamp()),
+            Stage::Idle | Stage::Reading(_) | Stage::Owing(_) | Stage::Awaiting | Stage::Lost => {
+                None
+            }
+        }
     }
 
     /// Whether its deadline has come.
@@ -139,11 +201,12 @@ impl Slot {
         ensures received { (c : Connection) (fed : List ℕ)
             → IsBeforePiece self.old reader clock c fed
             → result ≡ received piece.now c (taking_on fed piece.now) }
-        ensures stands { (c : Connection) (fed : List ℕ)
+        ensures stands { (source : Source) (c : Connection) (fed : List ℕ)
             → IsBeforePiece self.old reader clock c fed
-            → StandsForConnection self.new (fed_with clock c (taking_on fed piece.now)) }
+            → StandsForConnection source self.new (fed_with clock c (taking_on fed piece.now)) }
         ensures stage { is_awaiting_stage self.new.stage ≡ false }
-        ensures heard { IfSome result.heard (λ heard. is_lost_stage self.new.stage ≡ false) }
+        ensures told { IsNoList self.new }
+        ensures heard { IfSome result.heard (λ heard. is_idle_stage self.new.stage ≡ true) }
         ensures arguments { (c : Connection) (fed : List ℕ)
             → IsBeforePiece self.old reader clock c fed
             → arguments.new.bytes ≡ arguments_after arguments.old.bytes (taking_on fed piece.now) }
@@ -180,10 +243,10 @@ impl Slot {
     ) -> Received
         requires buffers { HasBuffers meter.old.tie self.old }
         requires arguments { IsDraft meter.old.tie arguments.old }
-        ensures acts { Acts StandsForConnection (feeding clock piece.now) self.old self.new result }
-        ensures arguments { Shows StandsForConnection
-            (arguments_heard arguments.old.bytes piece.now) self.old arguments.new.bytes }
+        ensures acts { SlotActs (feeding clock piece.now) self.old self.new result }
+        ensures arguments { SlotHears piece.now self.old arguments.old arguments.new }
         ensures awaits { is_awaiting_stage self.new.stage ≡ is_awaiting_stage self.old.stage }
+        ensures told { KeepsToldSlot self.old self.new }
         ensures heard { IfSome result.heard (λ heard. HearsSlot self.old self.new) }
         ensures within { result.count ≤ length piece.now }
         ensures stays { StaysSlot meter.old.tie self.old self.new }
@@ -199,7 +262,7 @@ impl Slot {
                 self.feed(Reader::new(), piece, clock, arguments, meter)
             }
             Stage::Reading(reader) => self.feed(reader, piece, clock, arguments, meter),
-            Stage::Owing(_) | Stage::Awaiting | Stage::Lost => nothing(),
+            Stage::Owing(_) | Stage::Streaming(_) | Stage::Awaiting | Stage::Lost => nothing(),
         }
     }
 
@@ -209,9 +272,10 @@ impl Slot {
         requires buffers { HasBuffers meter.old.tie self.old }
         requires draft { IsDraft meter.old.tie reply.old }
         requires some { outcome ≡ Outcome.Reply → 0 < length reply.old.bytes }
-        ensures stands { (c : Connection) → StandsForConnection self.old c → StandsForConnection
-            self.new (settled clock (outcome_with outcome reply.old.bytes) c) }
+        ensures stands { SlotBecomes
+            (settled clock (given_in outcome reply.old)) self.old self.new }
         ensures awaits { outcome ≡ Outcome.Forwarded → is_awaiting_stage self.new.stage ≡ true }
+        ensures told { IsNoList self.new }
         ensures stays { StaysSlot meter.old.tie self.old self.new }
         ensures draft { IsDraft meter.old.tie reply.new }
         ensures empty { reply.new.bytes ≡ [] }
@@ -240,14 +304,41 @@ impl Slot {
         }
     }
 
+    /// Goes on as its record is answered by a list: it owes that, and its first fragment is made in a buffer that is empty
+    /// before and after.
+    pub fn list(
+        &mut self,
+        list: ListReply,
+        clock: u64,
+        host: [u8; 4],
+        registry: &Registry,
+        scratch: &mut Kept,
+        meter: &mut Meter,
+    )
+        requires registry { meter.old.tie ≡ registry.now.tie }
+        requires buffers { HasBuffers meter.old.tie self.old }
+        requires scratch { IsDraft meter.old.tie scratch.old }
+        requires list { IsToldBy (source_for host registry.now) list }
+        ensures stands { SlotBeginsList
+            (source_for host registry.now) clock list self.old self.new }
+        ensures told { IsToldSlot (source_for host registry.now) self.new }
+        ensures awaits { is_awaiting_stage self.new.stage ≡ false }
+        ensures stays { StaysSlot meter.old.tie self.old self.new }
+        ensures draft { IsDraft meter.old.tie scratch.new }
+        ensures empty { scratch.new.bytes ≡ [] }
+        ensures cost { PaysAtMost meter.old meter.new (show_list_cost registry.now + 1) }
+    {
+        self.mark = clock;
+        self.buffer.clear(meter);
+        let stream = show_list(list, registry, host, &mut self.window, scratch, meter);
+        self.stage = Stage::Streaming(stream);
+    }
+
     /// Empties its buffers, and that for a reply.
     fn empty(&mut self, reply: &mut Kept, meter: &mut Meter)
         requires buffers { HasBuffers meter.old.tie self.old }
         requires draft { IsDraft meter.old.tie reply.old }
-        ensures emptied { self.new ≡ record self.old {
-          buffer = record self.old.buffer { bytes = [] };
-          window = record self.old.window { bytes = [] };
-        } }
+        ensures emptied { self.new ≡ emptied_slot self.old }
         ensures empty { reply.new ≡ record reply.old { bytes = [] } }
         ensures cost { PaysAtMost meter.old meter.new 3 }
     {
@@ -256,15 +347,85 @@ impl Slot {
         reply.clear(meter);
     }
 
-    /// Counts n of the pending bytes as given, or as many as there are: with the last byte of its reply the
-    /// connection is Idle again.
-    pub fn give(&mut self, n: usize, clock: u64, meter: &mut Meter)
-        requires { HasBuffers meter.old.tie self.old }
-        ensures acts { Acts StandsForConnection (giving clock n) self.old self.new tt }
-        ensures awaits { is_awaiting_stage self.new.stage ≡ is_awaiting_stage self.old.stage }
+    /// Counts n of the pending bytes of a list as given, or as many as there are.
+    fn give_list(
+        &mut self,
+        stream: Stream,
+        n: usize,
+        clock: u64,
+        host: [u8; 4],
+        registry: &Registry,
+        scratch: &mut Kept,
+        meter: &mut Meter,
+    )
+        requires registry { meter.old.tie ≡ registry.now.tie }
+        requires buffers { HasBuffers meter.old.tie self.old }
+        requires scratch { IsDraft meter.old.tie scratch.old }
+        requires empty { scratch.old.bytes ≡ [] }
+        requires stage { self.old.stage ≡ Stage.Streaming stream }
+        requires told { GoesOnBy (source_for host registry.now) stream }
+        ensures acts { SlotGives (source_for host registry.now) clock n self.old self.new }
+        ensures awaits { is_awaiting_stage self.new.stage ≡ false }
+        ensures told { IsToldSlot (source_for host registry.now) self.new }
         ensures stays { StaysSlot meter.old.tie self.old self.new }
-        ensures cost { PaysAtMost meter.old meter.new give_cost }
+        ensures draft { IsDraft meter.old.tie scratch.new }
+        ensures empty { scratch.new.bytes ≡ [] }
+        ensures cost { PaysAtMost meter.old meter.new (3 + show_list_cost registry.now) }
     {
+        let shown = self.window.len(meter);
+        let more = n.min(shown.saturating_sub(stream.place));
+        if more == 0 {
+            return;
+        }
+        self.mark = clock;
+        let place = stream.place + more;
+        if place < shown {
+            self.stage = Stage::Streaming(Stream { place, ..stream });
+        } else if stream.last {
+            self.stage = Stage::Idle;
+            self.buffer.clear(meter);
+            self.window.clear(meter);
+        } else {
+            let next = show_list(
+                stream.behind,
+                registry,
+                host,
+                &mut self.window,
+                scratch,
+                meter,
+            );
+            self.stage = Stage::Streaming(next);
+        }
+    }
+
+    /// Counts n of the pending bytes as given, or as many as there are: with the last byte of its reply the
+    /// connection is Idle again. The next fragment of a list is made in a buffer that is empty before and after.
+    pub fn give(
+        &mut self,
+        n: usize,
+        clock: u64,
+        host: [u8; 4],
+        registry: &Registry,
+        scratch: &mut Kept,
+        meter: &mut Meter,
+    )
+        requires registry { meter.old.tie ≡ registry.now.tie }
+        requires buffers { HasBuffers meter.old.tie self.old }
+        requires scratch { IsDraft meter.old.tie scratch.old }
+        requires empty { scratch.old.bytes ≡ [] }
+        requires told { IsToldSlot (source_for host registry.now) self.old }
+        ensures acts { SlotGives (source_for host registry.now) clock n self.old self.new }
+        ensures awaits { is_awaiting_stage self.new.stage ≡ is_awaiting_stage self.old.stage }
+        ensures told { IsToldSlot (source_for host registry.now) self.new }
+        ensures stays { StaysSlot meter.old.tie self.old self.new }
+        ensures draft { IsDraft meter.old.tie scratch.new }
+        ensures empty { scratch.new.bytes ≡ [] }
+        ensures cost { PaysAtMost meter.old meter.new (give_cost registry.now) }
+    {
+        if let Stage::Streaming(stream) = self.stage {
+            self.give_list(stream, n, clock, host, registry, scratch, meter);
+            return;
+        }
         let Stage::Owing(given) = self.stage else {
             return;
         };
@@ -297,12 +458,12 @@ impl Slot {
     /// How many bytes are pending.
     pub fn pending_len(&self, meter: &mut Meter) -> usize
         requires { HasBuffers meter.old.tie self.now }
-        ensures len { (c : Connection) → StandsForConnection self.now c
-            → result ≡ length (pending_in c.phase) }
+        ensures len { SlotShows (λ c. length (pending_in c.phase)) self.now result }
         ensures cost { PaysAtMost meter.old meter.new 1 }
     {
         match self.stage {
             Stage::Owing(given) => pending_len(&self.window, given, meter),
+            Stage::Streaming(stream) => pending_len(&self.window, stream.place, meter),
             Stage::Idle | Stage::Reading(_) | Stage::Awaiting | Stage::Lost => 0,
         }
     }
@@ -310,13 +471,13 @@ impl Slot {
     /// The rest of the current fragment of the reply that is owed, empty where none is.
     pub fn pending(&self, meter: &mut Meter) -> &[u8]
         requires { HasBuffers meter.old.tie self.now }
-        ensures pending { (c : Connection) → StandsForConnection self.now c
-            → result.now ≡ pending_in c.phase }
+        ensures pending { SlotShows (λ c. pending_in c.phase) self.now result.now }
         ensures few { length result.now ≤ longest_fragment }
         ensures cost { PaysAtMost meter.old meter.new pending_cost }
     {
         match self.stage {
             Stage::Owing(given) => pending(&self.window, given, meter),
+            Stage::Streaming(stream) => pending(&self.window, stream.place, meter),
             Stage::Idle | Stage::Reading(_) | Stage::Awaiting | Stage::Lost => {
                 self.window.lend(0..0, meter)
             }

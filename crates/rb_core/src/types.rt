@@ -13,6 +13,17 @@ pub struct Limits {
     pub forwards: usize,
 }
 
+/// A core keeps its bytes in pools and buffers alone. A further field would not compile here: it
+/// belongs in the table of charges of docs/RULES.md first.
+fn layout(limits: &Limits) {
+    let Limits {
+        conns,
+        rows,
+        forwards,
+    } = *limits;
+    let _: [usize; 3] = [conns, rows, forwards];
+}
+
 /// What a message is answered with.
 #[derive(Clone, Copy, Debug, PartialEq, Eq)]
 pub enum Outcome {

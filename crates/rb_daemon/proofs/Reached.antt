@@ -16,10 +16,10 @@ use Rattle.rb_core.specs.Ending.{forward_reply, expire}
 use Rattle.rb_core.specs.Step.Event.{Open, Bytes, Gave, Closed, Datagram, Sent, Forward, Expire}
 use Rattle.rb_core.specs.Step.Output.{Opened, TooMuch}
 use Rattle.rb_core.specs.declared.types.Expired.TheVariants as expiries
-use Rattle.rb_core.specs.Run.{after}
 use Rattle.rb_core.specs.Laws.{IsReached}
 use Rattle.rb_core.specs.Slots.{Acts}
 use Rattle.rb_core.specs.StandsFor.{Held, StandsFor}
+use Rattle.rb_core.proofs.Begun.{began, stands_begun}
 use Rattle.rb_core.proofs.RunLaws.{after-append}
 use Rattle.rb_daemon.specs.Served.{IsServed}
 
@@ -44,7 +44,7 @@ output_state show (Err fault, s) = refl
 
 outcome_state : (r : Outcome × State) → (show_outcome r).1 ≡ r.1
 outcome_state (outcomes.NoCall, s) = refl
-outcome_state (outcomes.Reply reply, s) = refl
+outcome_state (outcomes.Reply reply began, s) = refl
 outcome_state (outcomes.Forwarded, s) = refl
 outcome_state (outcomes.Silent, s) = refl
 
@@ -100,6 +100,13 @@ pub served_on : (old new : Held) (next : State → State) → ((s : State) → S
 served_on old new next stands reached held =
     ∥∥₁_elim held squash₁ (λ h. ∣ record { state = next h.state; stands = stands h.state h.stands; reached = reached h.state h.reached } ∣₁)
 
+-- and so does one that goes on to stand for the same states, as after a look
+pub same_served : (old new : Held) → ((s : State) → StandsFor old s → StandsFor new s) → ∥ IsServed old ∥₁ → ∥ IsServed new ∥₁
+same_served old new stands = served_on old new (λ s. s) stands (λ s reached. reached)
+
+pub look_served : (old new : Held) (n : ℕ) → new ≡ began old n → ∥ IsServed old ∥₁ → ∥ IsServed new ∥₁
+look_served old new n is = same_served old new (stands_begun old new n is)
+
 pub open_served : (old new : Held) (now : ℕ) (peer : Peer) (r : Result ℕ CoreFault) → Acts StandsFor (λ s. open_connection s now peer) old new r → ∥ IsServed old ∥₁ → ∥ IsServed new ∥₁
 open_served old new now peer r acts = served_on old new (λ s. (open_connection s now peer).1) acts.stands (λ s. open_reached s now peer)
 
@@ -112,9 +119,10 @@ closed_served old new id r acts = served_on old new (λ s. (close_connection s i
 pub datagram_served : (old new : Held) (now : ℕ) (peer : Peer) (content : List ℕ) (r : Outcome) → Acts StandsFor (λ s. datagram s now peer content) old new r → ∥ IsServed old ∥₁ → ∥ IsServed new ∥₁
 datagram_served old new now peer content r acts = served_on old new (λ s. (datagram s now peer content).1) acts.stands (λ s. datagram_reached s now peer content)
 
-pub gave_served : (old new : Held) (now id n : ℕ) (owed : List ℕ) (r : Result (Unit {0}) CoreFault) → Acts StandsFor (λ s. gave s now id n) old new r → ((s : State) → StandsFor old s → pending s id ≡ Ok owed) → n ≤ length owed → ∥ IsServed old ∥₁ → ∥ IsServed new ∥₁
-gave_served old new now id n owed r acts lent le held =
-    ∥∥₁_elim held squash₁ (λ h. ∣ record { state = (gave h.state now id n).1; stands = acts.stands h.state h.stands; reached = gave_reached h.state now id n owed (lent h.state h.stands) le h.reached } ∣₁)
+-- bytes that were given after the look at what is pending
+pub gave_served : (old mid new : Held) (count now id n : ℕ) (owed : List ℕ) (r : Result (Unit {0}) CoreFault) → mid ≡ began old count → Acts StandsFor (λ s. gave s now id n) mid new r → ((s : State) → StandsFor old s → pending s id ≡ Ok owed) → n ≤ length owed → ∥ IsServed old ∥₁ → ∥ IsServed new ∥₁
+gave_served old mid new count now id n owed r is acts lent le held =
+    ∥∥₁_elim held squash₁ (λ h. ∣ record { state = (gave h.state now id n).1; stands = acts.stands h.state (stands_begun old mid count is h.state h.stands); reached = gave_reached h.state now id n owed (lent h.state h.stands) le h.reached } ∣₁)
 
 pub new_served : (core : Held) (l : Limits) (h : Listener) (xid now : ℕ) → StandsFor core (opening l h xid now) → ∥ IsServed core ∥₁
 new_served core l h xid now stands = ∣ record { state = opening l h xid now; stands = stands; reached = opening_reached l h xid now } ∣₁

@@ -15,9 +15,9 @@ use std::rt::Clock;
 use std::time::Duration;
 
 /// The most events that one wait shows. The system keeps the others for the next.
-const EVENTS: usize = 512;
+const EVENTS: usize = 64;
 
-/// A core and the sockets that it is served by. All of its memory is reserved by `new`.
+/// A core and the sockets that it is served by. All of its memory is taken by `new`.
 #[derive(Drop)]
 pub struct Daemon<'a, R: Clock> {
     clock: &'a R,

@@ -126,7 +126,7 @@ impl Engine {
 
     pub(crate) fn next_lost(&mut self) -> Option<u64>
         ensures lost { (s : State) → StandsFor self.old.core s → result ≡ next_lost s }
-        ensures core { self.new.core ≡ self.old.core }
+        ensures stays { Moves (λ s now. s) self.old self.new }
         ensures moment { self.new.moment ≡ self.old.moment }
     {
         self.core.next_lost(&mut self.meter)
@@ -150,7 +150,7 @@ impl Engine {
     /// The answer is the connection that goes on.
     fn tell(&mut self, told: Told, calls: &UdpSocket) -> Option<u64>
         ensures ready { result ≡ ready_of told }
-        ensures core { self.new.core ≡ self.old.core }
+        ensures stays { Moves (λ s now. s) self.old self.new }
         ensures moment { self.new.moment ≡ self.old.moment }
     {
         match told {

@@ -1,4 +1,4 @@
-//! An accepted connection, and what is done when it is ready.
+//! The place of an accepted connection, and what is done when it is ready.
 ghost use Rattle.std.specs.Prelude.{◌≤◌};
 
 use crate::engine::{Engine, Given};
@@ -16,11 +16,13 @@ const READ_AHEAD: usize = 1024;
 /// Each exchange with the core, but the last, takes or gives a byte at least.
 const EXCHANGES: usize = READ_AHEAD + OUTBOX;
 
+/// All of its memory is there before the first connection has it, and stays for the next.
 #[derive(Drop)]
 pub(crate) struct Link {
     /// The core's number of the connection.
     id: u64,
-    stream: TcpStream,
+    /// None where no connection has the place.
+    stream: Option<TcpStream>,
     /// The bytes of `held[start..end]` were read and not yet taken.
     held: [u8; READ_AHEAD],
     start: usize,
@@ -58,10 +60,11 @@ enum Step {
 }
 
 impl Link {
-    pub(crate) fn new(id: u64, stream: TcpStream) -> Link {
+    /// A place that no connection has.
+    pub(crate) fn new() -> Link {
         Link {
-            id,
-            stream,
+            id: 0,
+            stream: None,
             held: [0; READ_AHEAD],
             start: 0,
             end: 0,
@@ -73,8 +76,34 @@ impl Link {
         }
     }
 
-    pub(crate) fn id(&self) -> u64 {
-        self.id
+    pub(crate) fn is_free(&self) -> bool {
+        self.stream.is_none()
+    }
+
+    /// Whether the connection of the number has the place.
+    pub(crate) fn is_of(&self, id: u64) -> bool {
+        self.id == id && !self.is_free()
+    }
+
+    /// The connection gets the place.
+    pub(crate) fn open(&mut self, id: u64, stream: TcpStream) {
+        self.id = id;
+        self.stream = Some(stream);
+        self.start = 0;
+        self.end = 0;
+        self.may_owe = false;
+        self.outbox.clear();
+        self.is_dry = false;
+        self.served_in = 0;
+        self.is_waiting = false;
+    }
+
+    /// Closes the connection that has the place, and gives its number.
+    pub(crate) fn close(&mut self) -> Option<u64> {
+        let stream = self.stream.take()?;
+        drop(stream);
+        self.is_waiting = false;
+        Some(self.id)
     }
 
     pub(crate) fn is_waiting(&self) -> bool {
@@ -114,7 +143,7 @@ impl Link {
     /// it waits for something else.
     fn step(&mut self, engine: &mut Engine, may_end: bool) -> Step {
         if self.outbox.is_empty() && !self.exchange(engine) {
-            let _ = self.outbox.send(&mut self.stream);
+            let _ = self.write();
             return Step::Ends;
         }
         if !self.outbox.is_empty() {
@@ -127,13 +156,13 @@ impl Link {
     }
 
     /// Hands in what was read, record by record, and takes over the replies, until nothing more is taken and none is
-    /// pending, or the outbox is full. It says whether the connection goes on.
+    /// pending, or the outbox has no room. It says whether the connection goes on.
     fn exchange(&mut self, engine: &mut Engine) -> bool {
         for _ in 0..EXCHANGES {
             let Some(taken) = self.hand_in(engine) else {
                 return false;
             };
-            if self.outbox.is_full() {
+            if !self.outbox.has_room() {
                 return true;
             }
             match self.take_over(engine) {
@@ -163,17 +192,21 @@ impl Link {
         Some(taken.count)
     }
 
+    /// Takes over the fragment that is pending. Behind the last one of a reply the core need not be asked for another.
     fn take_over(&mut self, engine: &mut Engine) -> Given {
         if !self.may_owe {
             return Given::Nothing;
         }
         let given = engine.give(self.id, &mut self.outbox);
-        self.may_owe = given != Given::Nothing;
+        self.may_owe = given != Given::Nothing && !self.outbox.is_reply_over();
         given
     }
 
     fn write(&mut self) -> Step {
-        match self.outbox.send(&mut self.stream) {
+        let Some(stream) = &mut self.stream else {
+            return Step::Ends;
+        };
+        match self.outbox.send(stream) {
             Ok(0) => Step::Ends,
             Ok(_) => Step::GoesOn,
             Err(error) => step_after(&error),
@@ -181,9 +214,12 @@ impl Link {
     }
 
     fn read(&mut self) -> Step {
+        let Some(stream) = &mut self.stream else {
+            return Step::Ends;
+        };
         self.start = 0;
         self.end = 0;
-        match self.stream.read(&mut self.held) {
+        match stream.read(&mut self.held) {
             Ok(0) => Step::Ends,
             Ok(n) => {
                 self.end = n;

@@ -1,5 +1,5 @@
 //! The core with its sockets and connections, and what a turn does with them.
-ghost use Rattle.std.specs.Prelude.{◌≤◌, length};
+ghost use Rattle.std.specs.Prelude.{◌≡◌, ◌≤◌, length, vec_len, IfOk};
 
 use crate::engine::{Due, Engine};
 use crate::faults::{AcceptFault, DaemonFault, accept_fault};
@@ -8,7 +8,6 @@ use mio::event::Event;
 use mio::net::{TcpListener, TcpStream, UdpSocket};
 use mio::{Interest, Registry, Token};
 use rb_core::Peer;
-use slab::Slab;
 use std::alloc::{AllocError, Global};
 use std::io;
 use std::io::ErrorKind;
@@ -72,18 +71,30 @@ const NOTHING: Left = Left {
 pub(crate) struct Serving {
     engine: Engine,
     sockets: Sockets,
-    /// The connections, under the keys that their events show.
-    links: Slab<Link>,
-    /// The most connections.
-    conns: usize,
+    /// The places of connections, by the keys that their events show.
+    links: Vec<Link>,
     datagram: Vec<u8>,
-    /// The number of the turn.
+    /// The number of the turn, and its moment.
     turn: u64,
+    moment: u64,
+    /// The last moment at whose end nothing was due any more.
+    settled: Option<u64>,
     left: Left,
     /// What this turn began with, and served first.
     begun: Left,
     /// No descriptor was left for a connection that waits: each turn tries again.
     is_short: bool,
+}
+
+/// So many free places. Each is written, so that its memory is the process's from here on.
+fn free_places(alloc: Global, count: usize) -> Result<Vec<Link>, AllocError>
+    ensures { IfOk result (λ places. vec_len places ≡ count) }
+{
+    let mut places = Vec::with_capacity(alloc, count)?;
+    'places: for _i in 0..count {
+        places.push_reserved(Link::new());
+    }
+    Ok(places)
 }
 
 impl Serving {
@@ -98,10 +109,11 @@ impl Serving {
         Ok(Serving {
             engine,
             sockets,
-            links: Slab::with_capacity(alloc, conns)?,
-            conns,
+            links: free_places(alloc, conns)?,
             datagram,
             turn: 0,
+            moment: 0,
+            settled: None,
             left: NOTHING,
             begun: NOTHING,
             is_short: false,
@@ -122,6 +134,7 @@ impl Serving {
     /// A turn at this moment, in milliseconds since the start of 1970.
     pub(crate) fn begin_turn(&mut self, now: u64) {
         self.engine.set_moment(now);
+        self.moment = now;
         self.turn = self.turn.wrapping_add(1);
         self.begun = self.left;
         self.left = NOTHING;
@@ -130,7 +143,7 @@ impl Serving {
     /// Serves what the last turn cut off.
     pub(crate) fn serve_left(&mut self, registry: &Registry) -> Result<(), DaemonFault> {
         if self.begun.links {
-            for key in 0..self.conns {
+            for key in 0..self.links.len() {
                 if self.links.get(key).is_some_and(|link| link.is_waiting()) {
                     self.serve_link(key, true);
                 }
@@ -161,11 +174,15 @@ impl Serving {
         Ok(())
     }
 
-    /// What the core has to say at the end of a turn: calls to forward, deadlines, and connections to close.
+    /// What the core has to say at the end of a turn: deadlines, connections to close, and calls to forward. What begins at
+    /// a moment is due at a later one, or at once at the greatest; so turns of one moment ask for deadlines once.
     pub(crate) fn end_turn(&mut self) {
-        self.expire();
-        self.send_forwards();
+        if self.settled != Some(self.moment) || self.moment == u64::MAX {
+            self.expire();
+            self.settled = Some(self.moment);
+        }
         self.close_lost();
+        self.send_forwards();
     }
 
     fn accept_all(&mut self, registry: &Registry) -> Result<(), DaemonFault> {
@@ -188,26 +205,35 @@ impl Serving {
         Ok(())
     }
 
-    /// Opens a connection. One that the core or the table has no place for is closed at once. Each write goes out at once
-    /// (TCP_NODELAY), since a reply is written fragment by fragment, and the next may not wait for the last to be
-    /// acknowledged.
-    fn open(&mut self, registry: &Registry, mut stream: TcpStream, from: SocketAddr) {
+    /// Opens a connection. One that the core or the table has no place for is closed at once.
+    fn open(&mut self, registry: &Registry, stream: TcpStream, from: SocketAddr) {
         let Some(peer) = peer_of(from) else {
             return;
         };
         let Ok(id) = self.engine.open(peer) else {
             return;
         };
-        let token = Token(self.links.vacant_key());
-        let interests = Interest::READABLE | Interest::WRITABLE;
-        let has_room = self.links.len() < self.links.capacity();
-        let is_ready = stream.set_nodelay(true).is_ok()
-            && registry.register(&mut stream, token, interests).is_ok();
-        if has_room && is_ready {
-            self.links.insert_reserved(Link::new(id, stream));
-        } else {
+        if !self.give_place(registry, id, stream) {
             self.engine.closed(id);
         }
+    }
+
+    /// Gives a connection a place, under whose key its events are shown, and says whether it has it. Each write to it goes
+    /// out at once (TCP_NODELAY): where replies take two writes, the second may not wait until the first is acknowledged.
+    fn give_place(&mut self, registry: &Registry, id: u64, mut stream: TcpStream) -> bool {
+        let Some(key) = self.links.iter().position(|link| link.is_free()) else {
+            return false;
+        };
+        let interests = Interest::READABLE | Interest::WRITABLE;
+        let is_ready = stream.set_nodelay(true).is_ok()
+            && registry
+                .register(&mut stream, Token(key), interests)
+                .is_ok();
+        match self.links.get_mut(key) {
+            Some(link) if is_ready => link.open(id, stream),
+            Some(_) | None => return false,
+        }
+        true
     }
 
     /// Serves a connection, at most once in a turn, whose peer may have ended what it sends, or has not.
@@ -215,7 +241,7 @@ impl Serving {
         let Some(link) = self.links.get_mut(key) else {
             return;
         };
-        if link.was_served_in(self.turn) {
+        if link.is_free() || link.was_served_in(self.turn) {
             return;
         }
         match link.serve(&mut self.engine, self.turn, may_end) {
@@ -225,17 +251,18 @@ impl Serving {
         }
     }
 
+    /// Closes the connection that has a place, if one has.
     fn close(&mut self, key: usize) {
-        if let Some(link) = self.links.try_remove(key) {
-            self.engine.closed(link.id());
+        let Some(link) = self.links.get_mut(key) else {
+            return;
+        };
+        if let Some(id) = link.close() {
+            self.engine.closed(id);
         }
     }
 
     fn key_of(&self, id: u64) -> Option<usize> {
-        self.links
-            .iter()
-            .find(|(_, link)| link.id() == id)
-            .map(|(key, _)| key)
+        self.links.iter().position(|link| link.is_of(id))
     }
 
     fn answer_calls(&mut self) {
@@ -318,7 +345,7 @@ impl Serving {
 
     /// Closes the connections that the core has given up.
     fn close_lost(&mut self) {
-        for _ in 0..self.conns {
+        for _ in 0..self.links.len() {
             let Some(id) = self.engine.next_lost() else {
                 return;
             };

@@ -9,7 +9,7 @@ use std::net::{Ipv4Addr, SocketAddr, TcpStream, UdpSocket};
 const TURNS: u32 = 100;
 
 /// The most bytes that a client keeps.
-const ROOM: usize = 2048;
+const ROOM: usize = 4096;
 
 /// A connection, and what came on it.
 #[derive(Drop)]
@@ -18,7 +18,7 @@ pub(crate) struct Client {
     got: [u8; ROOM],
     len: usize,
     is_closed: bool,
-    ghost in_room: { len ≤ 2048 },
+    ghost in_room: { len ≤ 4096 },
 }
 
 impl Client {
@@ -67,6 +67,11 @@ impl Client {
     /// Whether these bytes came, and no others.
     pub(crate) fn got_just(&self, bytes: &[u8]) -> bool {
         self.len == bytes.len() && self.got.starts_with(bytes)
+    }
+
+    /// Whether the last bytes that came are these.
+    pub(crate) fn got_last(&self, bytes: &[u8]) -> bool {
+        self.got[..self.len].ends_with(bytes)
     }
 
     pub(crate) fn len(&self) -> usize {

@@ -1,7 +1,7 @@
 //! Calls over UDP.
 use crate::client::Caller;
 use crate::messages::{bytes_of, null_call, null_reply};
-use crate::turns::Host;
+use crate::turns::{Host, Stopped};
 use std::test::Fail;
 
 /// A datagram with the words of the call is answered with those of the reply.
@@ -28,7 +28,8 @@ fn is_silent_on_no_call(rt: &HostRuntime, host: &mut Host<'_>) -> Option<bool> {
 
 #[test]
 fn datagram_that_is_no_call(rt: HostRuntime) -> Result<(), Fail> {
-    let mut host = Host::new(&rt, 1).ok_or("no daemon")?;
+    let clock = Stopped::new(&rt);
+    let mut host = Host::new(&clock, 1).ok_or("no daemon")?;
     assert_eq!(rt; is_silent_on_no_call(&rt, &mut host), Some(true));
     Ok(())
 }
@@ -46,7 +47,8 @@ fn keeps_rows(rt: &HostRuntime, host: &mut Host<'_>) -> Option<bool> {
 
 #[test]
 fn datagrams_are_answered(rt: HostRuntime) -> Result<(), Fail> {
-    let mut host = Host::new(&rt, 1).ok_or("no daemon")?;
+    let clock = Stopped::new(&rt);
+    let mut host = Host::new(&clock, 1).ok_or("no daemon")?;
     assert_eq!(rt; keeps_rows(&rt, &mut host), Some(true));
     Ok(())
 }
@@ -70,7 +72,8 @@ fn answers_many(rt: &HostRuntime, host: &mut Host<'_>) -> Option<bool> {
 
 #[test]
 fn many_datagrams(rt: HostRuntime) -> Result<(), Fail> {
-    let mut host = Host::new(&rt, 1).ok_or("no daemon")?;
+    let clock = Stopped::new(&rt);
+    let mut host = Host::new(&clock, 1).ok_or("no daemon")?;
     assert_eq!(rt; answers_many(&rt, &mut host), Some(true));
     Ok(())
 }

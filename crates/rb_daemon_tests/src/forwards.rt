@@ -2,7 +2,7 @@
 use crate::client::{Caller, Client};
 use crate::datagrams::answers;
 use crate::messages::{bytes_of, null_reply};
-use crate::turns::Host;
+use crate::turns::{Host, Stopped};
 use std::test::Fail;
 
 /// Where the target of forwarded calls listens: 20,119 is 78 times 256, and 151.
@@ -12,7 +12,11 @@ const TARGET: u16 = 20_119;
 const AT_TARGET: [u32; 6] = [16, 0x3132_372e, 0x302e_302e, 0x312e_3738, 0x2e31_3531, 0];
 
 /// The program 200001 version 1 listens at the target.
-fn sets_target(rt: &HostRuntime, host: &mut Host<'_>, caller: &mut Caller) -> Option<bool> {
+pub(crate) fn sets_target(
+    rt: &HostRuntime,
+    host: &mut Host<'_>,
+    caller: &mut Caller,
+) -> Option<bool> {
     let set = [1, 0, 2, 100_000, 2, 1, 0, 0, 0, 0, 200_001, 1, 17, 20_119];
     answers(rt, host, caller, &set, &[1, 1, 0, 0, 0, 0, 1])
 }
@@ -47,7 +51,8 @@ fn passed_reply() -> [u32; 12] {
 
 #[test]
 fn indirect_is_passed_back(rt: HostRuntime) -> Result<(), Fail> {
-    let mut host = Host::new(&rt, 1).ok_or("no daemon")?;
+    let clock = Stopped::new(&rt);
+    let mut host = Host::new(&clock, 1).ok_or("no daemon")?;
     assert_eq!(rt; forwards_a_call(&rt, &mut host), Some(true));
     Ok(())
 }
@@ -96,7 +101,8 @@ const TWO_CALLS: [u32; 26] = [
 
 #[test]
 fn connection_waits_for_indirect(rt: HostRuntime) -> Result<(), Fail> {
-    let mut host = Host::new(&rt, 1).ok_or("no daemon")?;
+    let clock = Stopped::new(&rt);
+    let mut host = Host::new(&clock, 1).ok_or("no daemon")?;
     assert_eq!(rt; forwards_over_tcp(&rt, &mut host), Some(true));
     Ok(())
 }

@@ -2,7 +2,7 @@
 use crate::client::Client;
 use crate::messages::{MARK_40, bytes_of, null_record};
 use crate::records::answers_a_call;
-use crate::turns::Host;
+use crate::turns::{Host, Stopped};
 use std::alloc::Global;
 use std::test::Fail;
 
@@ -21,7 +21,8 @@ fn closes_one_too_many(rt: &HostRuntime, host: &mut Host<'_>) -> Option<bool> {
 
 #[test]
 fn one_connection_too_many(rt: HostRuntime) -> Result<(), Fail> {
-    let mut host = Host::new(&rt, 2).ok_or("no daemon")?;
+    let clock = Stopped::new(&rt);
+    let mut host = Host::new(&clock, 2).ok_or("no daemon")?;
     assert_eq!(rt; closes_one_too_many(&rt, &mut host), Some(true));
     Ok(())
 }
@@ -45,7 +46,8 @@ fn serves_after_half_a_call(rt: &HostRuntime, host: &mut Host<'_>) -> Option<boo
 
 #[test]
 fn client_leaves_in_a_call(rt: HostRuntime) -> Result<(), Fail> {
-    let mut host = Host::new(&rt, 1).ok_or("no daemon")?;
+    let clock = Stopped::new(&rt);
+    let mut host = Host::new(&clock, 1).ok_or("no daemon")?;
     assert_eq!(rt; serves_after_half_a_call(&rt, &mut host), Some(true));
     Ok(())
 }
@@ -68,7 +70,8 @@ fn serves_after_replies(rt: &HostRuntime, host: &mut Host<'_>) -> Option<bool> {
 
 #[test]
 fn client_leaves_in_a_reply(rt: HostRuntime) -> Result<(), Fail> {
-    let mut host = Host::new(&rt, 1).ok_or("no daemon")?;
+    let clock = Stopped::new(&rt);
+    let mut host = Host::new(&clock, 1).ok_or("no daemon")?;
     assert_eq!(rt; serves_after_replies(&rt, &mut host), Some(true));
     Ok(())
 }

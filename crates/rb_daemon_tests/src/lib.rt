@@ -7,9 +7,13 @@ mod client;
 #[cfg(test)]
 mod datagrams;
 #[cfg(test)]
+mod deadlines;
+#[cfg(test)]
 mod forwards;
 #[cfg(test)]
 mod leaving;
+#[cfg(test)]
+mod lists;
 #[cfg(test)]
 mod messages;
 #[cfg(test)]

@@ -1,7 +1,7 @@
 //! Calls over TCP.
 use crate::client::Client;
 use crate::messages::{null_record, null_reply_record};
-use crate::turns::Host;
+use crate::turns::{Host, Stopped};
 use std::alloc::Global;
 use std::test::Fail;
 
@@ -21,7 +21,8 @@ fn answers(client: &mut Client, host: &mut Host<'_>, bytes: &[u8], reply: &[u8])
 
 #[test]
 fn daemon_turns_serve(rt: HostRuntime) -> Result<(), Fail> {
-    let mut host = Host::new(&rt, 4).ok_or("no daemon")?;
+    let clock = Stopped::new(&rt);
+    let mut host = Host::new(&clock, 4).ok_or("no daemon")?;
     assert_eq!(rt; answers_a_call(&rt, &mut host, 7), Some(true));
     Ok(())
 }
@@ -37,7 +38,8 @@ fn answers_a_call_in_pieces(rt: &HostRuntime, host: &mut Host<'_>) -> Option<boo
 
 #[test]
 fn record_in_two_pieces(rt: HostRuntime) -> Result<(), Fail> {
-    let mut host = Host::new(&rt, 4).ok_or("no daemon")?;
+    let clock = Stopped::new(&rt);
+    let mut host = Host::new(&clock, 4).ok_or("no daemon")?;
     assert_eq!(rt; answers_a_call_in_pieces(&rt, &mut host), Some(true));
     Ok(())
 }
@@ -67,7 +69,8 @@ fn answers_forty_calls(rt: &HostRuntime, host: &mut Host<'_>) -> Option<bool> {
 
 #[test]
 fn forty_records_in_one(rt: HostRuntime) -> Result<(), Fail> {
-    let mut host = Host::new(&rt, 4).ok_or("no daemon")?;
+    let clock = Stopped::new(&rt);
+    let mut host = Host::new(&clock, 4).ok_or("no daemon")?;
     assert_eq!(rt; answers_forty_calls(&rt, &mut host), Some(true));
     Ok(())
 }
@@ -83,7 +86,8 @@ fn closes_no_call(rt: &HostRuntime, host: &mut Host<'_>) -> Option<bool> {
 
 #[test]
 fn record_that_is_no_call(rt: HostRuntime) -> Result<(), Fail> {
-    let mut host = Host::new(&rt, 1).ok_or("no daemon")?;
+    let clock = Stopped::new(&rt);
+    let mut host = Host::new(&clock, 1).ok_or("no daemon")?;
     assert_eq!(rt; closes_no_call(&rt, &mut host), Some(true));
     Ok(())
 }

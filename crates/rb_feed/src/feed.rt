@@ -14,6 +14,17 @@ pub struct CallFeed {
     stage: Stage,
 }
 
+/// A core keeps its bytes in pools and buffers alone. A further field would not compile here: it
+/// belongs in the table of charges of docs/RULES.md first.
+fn layout(feed: &CallFeed) {
+    let CallFeed {
+        seen,
+        number,
+        stage,
+    } = *feed;
+    let _: (u8, u32, Stage) = (seen, number, stage);
+}
+
 impl CallFeed {
     ghost use Rattle.std.specs.Prelude.{◌≡◌, ℕ, true, [], ◌∷◌, List, length, IsTrue};
     ghost use Rattle.rb_rpc.specs.Verdict.{verdict, EndsWithin};

@@ -4,7 +4,7 @@ ghost use Rattle.rb_xdr.specs.Xdr.{residue};
 ghost use Rattle.rb_feed.specs.declared.stage.Stage.TheVariants.{MessageType, RpcVersion, Proc};
 ghost use Rattle.rb_feed.specs.Stages.{claim_of, credential_before, credential_after, head_of, stage_behind, verifier_before, verifier_after, stage_after};
 
-use crate::sys::{SysField, ends_in_zeros};
+use crate::sys::{SysField, ends_in_zeros, part};
 use rb_rpc::{AuthStat, CallHead, Credential, Verdict};
 
 /// The words of a call that say what is called.
@@ -105,6 +105,56 @@ pub(crate) enum Stage {
     BadVerifier {
         xid: u32,
     },
+}
+
+/// A core keeps its bytes in pools and buffers alone. A further field would not compile here: it
+/// belongs in the table of charges of docs/RULES.md first.
+fn layout(stage: &Stage) {
+    match *stage {
+        Stage::Xid | Stage::NoCall => {}
+        Stage::MessageType { xid }
+        | Stage::RpcVersion { xid }
+        | Stage::Prog { xid }
+        | Stage::RpcMismatch { xid }
+        | Stage::BadCredential { xid }
+        | Stage::RejectedCredential { xid }
+        | Stage::BadVerifier { xid } => part::<u32>(xid),
+        Stage::Vers { xid, prog } => part::<(u32, u32)>((xid, prog)),
+        Stage::Proc { xid, prog, vers } => part::<(u32, u32, u32)>((xid, prog, vers)),
+        Stage::CredentialFlavor { call } => part::<CallWords>(call),
+        Stage::CredentialLength { call, flavor } => part::<(CallWords, u32)>((call, flavor)),
+        Stage::CredentialBody {
+            call,
+            flavor,
+            len,
+            left,
+            field,
+        } => part::<(CallWords, u32, u16, u16, SysField)>((call, flavor, len, left, field)),
+        Stage::VerifierFlavor { call, claim, len } | Stage::VerifierLength { call, claim, len } =>
+            part::<(CallWords, Claim, u16)>((call, claim, len)),
+        Stage::VerifierBody {
+            call,
+            claim,
+            place,
+            left,
+        } => part::<(CallWords, Claim, u32, u16)>((call, claim, place, left)),
+        Stage::Arguments { head, place } => part::<(CallHead, u32)>((head, place)),
+    }
+}
+
+/// The parts of a stage, as those of the stage itself.
+fn layout_of_words(claim: &Claim, call: &CallWords) {
+    match *claim {
+        Claim::Taken { cred } => part::<Credential>(cred),
+        Claim::Unreadable | Claim::Rejected => {}
+    }
+    let CallWords {
+        xid,
+        prog,
+        vers,
+        proc,
+    } = *call;
+    let _: [u32; 4] = [xid, prog, vers, proc];
 }
 
 const CALL: u32 = 0;

@@ -23,6 +23,22 @@ pub(crate) enum SysField {
     Unreadable,
 }
 
+/// Names the type of a part, for `layout`.
+pub(crate) fn part<T: Copy>(_part: T) {}
+
+/// A core keeps its bytes in pools and buffers alone. A further field would not compile here: it
+/// belongs in the table of charges of docs/RULES.md first.
+fn layout(field: &SysField) {
+    match *field {
+        SysField::Stamp | SysField::NameLength | SysField::Uid | SysField::Unreadable => {}
+        SysField::Name { left } => part::<u32>(left),
+        SysField::Gid { uid } | SysField::GidCount { uid } | SysField::Whole { uid } => part::<u32>(
+            uid,
+        ),
+        SysField::Gids { uid, left } => part::<(u32, u32)>((uid, left)),
+    }
+}
+
 /// The greatest machinename, in bytes.
 const MAX_MACHINE: u32 = 255;
 

@@ -26,6 +26,21 @@ pub struct Slot {
     pub call: Kept,
 }
 
+/// A core keeps its bytes in pools and buffers alone. A further field would not compile here: it
+/// belongs in the table of charges of docs/RULES.md first.
+fn layout(slot: &Slot) {
+    let Slot {
+        number,
+        forward,
+        xid,
+        deadline,
+        sent,
+        call,
+    } = slot;
+    let _: (u64, Forward, u32, u64, bool) = (*number, *forward, *xid, *deadline, *sent);
+    let _: &Kept = call;
+}
+
 /// Which entry is looked for: the first of these.
 #[derive(Clone, Copy, Debug, PartialEq, Eq)]
 pub enum Wanted {

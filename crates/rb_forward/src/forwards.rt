@@ -32,6 +32,22 @@ pub struct Forwards {
     held: u64,
 }
 
+/// A core keeps its bytes in pools and buffers alone. A further field would not compile here: it
+/// belongs in the table of charges of docs/RULES.md first.
+fn layout(forwards: &Forwards) {
+    let Forwards {
+        slots,
+        spare,
+        given,
+        first_xid,
+        cap,
+        held,
+    } = forwards;
+    let _: &Pool<Slot> = slots;
+    let _: &Pool<Kept> = spare;
+    let _: (u64, u32, u32, u64) = (*given, *first_xid, *cap, *held);
+}
+
 /// The head of the call behind so many.
 #[tactic(auto, unfolding(crate::specs::Forwards::xid_of), using(crate::proofs::Xids::xids))]
 fn head_of(first_xid: u32, given: u64, forward: &Forward) -> CallHead

@@ -31,6 +31,26 @@ pub struct Forward {
     pub proc: u32,
 }
 
+/// A core keeps its bytes in pools and buffers alone. A further field would not compile here: it
+/// belongs in the table of charges of docs/RULES.md first.
+fn layout(forward: &Forward) {
+    let Forward {
+        caller,
+        xid,
+        kind,
+        target,
+        shown,
+        prog,
+        vers,
+        proc,
+    } = *forward;
+    match kind {
+        Kind::Callit2 | Kind::Callit3 | Kind::Bcast | Kind::Indirect => {}
+    }
+    let _: (Caller, Peer, Peer) = (caller, target, shown);
+    let _: [u32; 4] = [xid, prog, vers, proc];
+}
+
 /// The number of an entry, from 1. It never recurs.
 #[derive(Clone, Copy, PartialEq, Eq, Debug)]
 pub struct FwdId {

@@ -3,7 +3,11 @@ pub mod Remotes
 pub mod Requests
 pub mod RowChanges
 pub mod Lists
+pub mod ListReplies
+pub mod Filling
+pub mod Parts
 pub mod MappingItems
+pub mod RowLengths
 pub mod Shown
 pub mod Notes
 pub mod Goings

@@ -39,7 +39,7 @@ module _ {A : Type 0} (spelling : A → List ℕ) (item : Row → A) where
   all_rows [] = refl
   all_rows (row ∷ rows) = ap (λ (xs : List ℕ). (boolean true ++ spelling (item row)) ++ xs) (all_rows rows)
 
-list-rows : (host : List ℕ) (rows : List Row) (list : Listing) → list_bytes host rows list ≡ rows_bytes host rows list
+pub list-rows : (host : List ℕ) (rows : List Row) (list : Listing) → list_bytes host rows list ≡ rows_bytes host rows list
 unfolding listed row_bytes
 list-rows host rows Mappings = ap (λ (xs : List ℕ). xs ++ boolean false) (shown_rows mapping_spelling mapping_of is_inet rows)
 list-rows host rows Rpcbs = ap (λ (xs : List ℕ). xs ++ boolean false) (all_rows rpcb_spelling rpcb_of rows)

@@ -1,32 +1,18 @@
--- Rows that are set and removed in books that keep no removed row.
-use Rattle.std.proofs.Common.{◌≡◌, ℕ, ◌+◌, Bool, true, false, not, ◌&&◌, List, [], ◌∷◌, ◌++◌, length, Option, Some, None, refl, sym, ap, ◌∙◌, subst, length-append, arith}
+-- Rows that are set and removed in books.
+use Rattle.std.proofs.Common.{◌≡◌, ℕ, ◌+◌, ◌<◌, ◌≤◌, Bool, true, false, ◌&&◌, List, [], ◌∷◌, ◌++◌, length, Some, refl, sym, ap, ◌∙◌, subst, length-append, arith}
 use Rattle.std.specs.Prelude.{nat_lt}
 use Rattle.std.specs.List.{list_any}
+use Rattle.std.proofs.lemmas.Bool.{lt-ltb, le-ltb}
 use Rattle.rb_rpc.specs.declared.call.CallHead.{CallHead}
 use Rattle.rb_registry.specs.declared.row.Row.{Row}
 use Rattle.rb_registry.specs.declared.row.Which.{Which}
 use Rattle.rb_registry.specs.Rows.{Change, has_place, removes_some, is_of_key, is_change_left}
 use Rattle.rb_registry.specs.Rows.Change.{Added}
-use Rattle.rb_registry.specs.Slots.{later_than}
-use Rattle.rb_registry.specs.Registry.{Registry, rows_of, removals_of, takes, StandsForMore, StandsForSame}
+use Rattle.rb_registry.specs.Registry.{Registry, rows_of, dead_count, takes, StandsForMore}
 use Rattle.rb_stats.specs.Statistics.Note.{WasSet, WasUnset}
 use Rattle.rb_stats.specs.Stats.{HasNoted}
 use Rattle.rb_proto.specs.Ledger.{Books, Ledger, StandsForLedger, ActsAs, rows_in, version_of}
-use Rattle.rb_proto.specs.Answers.{Context, comes_from_here, can_be_set, accepts_row, set_row, accepts_removal, removal_of, unset_rows}
-
--- a row that has its place is taken
-pub takes_what_has_place : (kept : Registry) (row : Row) → removals_of kept ≡ [] → takes kept row ≡ has_place kept.limit (rows_of kept) kept.stamp row
-unfolding has_place
-takes_what_has_place kept row none =
-    let dead : length (removals_of kept) ≡ 0 = ap (λ (ns : List ℕ). length ns) none in
-    let same : nat_lt (length (rows_of kept) + length (removals_of kept)) kept.limit ≡ nat_lt (length (rows_of kept)) kept.limit = ap (λ n. nat_lt n kept.limit) (omega (arith, dead)) in
-    rw same (twice (list_any (is_of_key row) (rows_of kept)) (nat_lt (length (rows_of kept)) kept.limit) (is_change_left kept.stamp))
-  where
-    twice : (taken room left : Bool) → ((not taken && room && left) && room) ≡ (not taken && room && left)
-    twice true room left = refl
-    twice false true true = refl
-    twice false true false = refl
-    twice false false left = refl
+use Rattle.rb_proto.specs.Answers.{Context, accepts, comes_from_here, can_be_set, accepts_row, set_row, accepts_removal, removal_of, unset_rows, HasRoomFor}
 
 one_more : (changes : List Change) (change : Change) → changes ++ change ∷ [] ≡ changes → ⊥
 one_more changes change e =
@@ -34,39 +20,70 @@ one_more changes change e =
     let same : length (changes ++ change ∷ []) ≡ length changes = ap (λ (cs : List Change). length cs) e in
     omega (arith, longer, same)
 
+-- ---- whether a row is accepted
+
+module _ (context : Context) (rows : List Row) (count : ℕ) (row : Row) (here : comes_from_here context ≡ true) (can : can_be_set row ≡ true) where
+  pub key_is_there : list_any (is_of_key row) rows ≡ true → false ≡ accepts context rows count row
+  unfolding has_place
+  key_is_there there = rw (here, can, there) refl
+
+  pub limit_is_reached : list_any (is_of_key row) rows ≡ false → context.limit ≤ length rows → false ≡ accepts context rows count row
+  unfolding has_place
+  limit_is_reached new full = rw (here, can, new, le-ltb _ _ full) refl
+
+  pub number_is_left : list_any (is_of_key row) rows ≡ false → length rows < context.limit → nat_lt count 18446744073709551615 ≡ accepts context rows count row
+  unfolding has_place is_change_left
+  number_is_left new few = rw (here, can, new, lt-ltb _ _ few) refl
+
 -- ---- SET
+
+module _ (context : Context) (row : Row) (kept : Registry) (here : comes_from_here context ≡ true) (can : can_be_set row ≡ true)
+    (limit : kept.limit ≡ context.limit) (room : HasRoomFor context (Some row) kept) where
+  abbrev has_row_place : Bool
+  has_row_place = has_place kept.limit (rows_of kept) kept.stamp row
+
+  -- a row that has its place is taken, since there is room for it
+  takes_what_has_place : takes kept row ≡ has_row_place
+  takes_what_has_place = by_place has_row_place refl
+    where
+      by_place : (b : Bool) → has_row_place ≡ b → (b && nat_lt (length (rows_of kept) + dead_count kept) kept.limit) ≡ b
+      by_place true e = lt-ltb _ _ (room (rw (here, can, ← limit) e))
+      by_place false e = refl
+
+  -- so the ledger says whether it is
+  pub takes_as_ledger : (books : Books) → books.registry ≡ kept → (l : Ledger) → StandsForLedger books l → takes kept row ≡ accepts_row context l row
+  unfolding accepts_row
+  takes_as_ledger books same l h =
+      takes_what_has_place ∙ rw (here, can, ← limit, ← h.registry.rows, ← h.registry.stamp, same) refl
 
 module _ (context : Context) (head : CallHead) (row : Row) (old new : Books)
     (here : comes_from_here context ≡ true) (can : can_be_set row ≡ true) (limit : old.registry.limit ≡ context.limit)
-    (taken : takes old.registry row ≡ true) (more : StandsForMore old.registry new.registry true (Added row))
-    (dead : removals_of new.registry ≡ removals_of old.registry) (noted : HasNoted (WasSet (version_of head.vers)) old.stats new.stats)
-    (forwards : new.forwards ≡ old.forwards) where
-  accepted : (l : Ledger) → StandsForLedger old l → accepts_row context l row ≡ true
-  unfolding accepts_row
-  accepted l h =
-      let place : has_place old.registry.limit (rows_of old.registry) old.registry.stamp row ≡ true = sym (takes_what_has_place old.registry row h.none_kept) ∙ taken in
-      let of_rows : has_place old.registry.limit (rows_in l) old.registry.stamp row ≡ true = subst (λ (rows : List Row). has_place old.registry.limit rows old.registry.stamp row ≡ true) h.registry.rows place in
-      rw (here, can, ← limit, ← h.registry.stamp) of_rows
+    (room : HasRoomFor context (Some row) old.registry) where
+  asked : (b : Bool) → takes old.registry row ≡ b → (l : Ledger) → StandsForLedger old l → accepts_row context l row ≡ b
+  asked b taken l h = sym (takes_as_ledger context row old.registry here can limit room old refl l h) ∙ taken
 
-  pub set_acts : ActsAs (set_row context head (Some row)) old new true
+  pub set_acts : (taken : takes old.registry row ≡ true) → StandsForMore old.registry new.registry true (Added row) → HasNoted (WasSet (version_of head.vers)) old.stats new.stats
+      → new.forwards ≡ old.forwards → ActsAs (set_row context head (Some row)) old new true
   unfolding set_row
-  set_acts = record {
-    gives = λ l h. sym (accepted l h);
-    stands = λ l h. rw (accepted l h) (record { registry = more l.own l.changes h.registry; none_kept = dead ∙ h.none_kept; stats = noted l.history h.stats; forwards = rw forwards h.forwards });
-    kept = λ l h e. absurd (one_more l.changes (Added row) (rw (accepted l h) at e));
+  set_acts taken more noted forwards = record {
+    gives = λ l h. sym (asked true taken l h);
+    stands = λ l h. rw (asked true taken l h) (record { registry = more l.own l.changes h.registry; stats = noted l.history h.stats; forwards = rw forwards h.forwards });
+    kept = λ l h e. absurd (one_more l.changes (Added row) (rw (asked true taken l h) at e));
   }
+
+  pub set_refused : (taken : takes old.registry row ≡ false) → new ≡ old → ActsAs (set_row context head (Some row)) old new false
+  unfolding set_row
+  set_refused taken same = rw same (record {
+    gives = λ l h. sym (asked false taken l h);
+    stands = λ l h. rw (asked false taken l h) h;
+    kept = λ l h e. refl;
+  })
 
 -- ---- UNSET
 
--- a trim of all leaves none
-none_later : (numbers : List ℕ) → later_than None numbers ≡ []
-none_later [] = refl
-none_later (number ∷ numbers) = none_later numbers
-
-module _ (context : Context) (head : CallHead) (prog vers : ℕ) (which : Which) (old new : Books) (marked : Registry)
+module _ (context : Context) (head : CallHead) (prog vers : ℕ) (which : Which) (old new : Books)
     (here : comes_from_here context ≡ true) (taken : removes_some (rows_of old.registry) old.registry.stamp (removal_of head prog vers which) ≡ true)
-    (more : StandsForMore old.registry marked true (removal_of head prog vers which)) (same : StandsForSame marked new.registry)
-    (dropped : removals_of new.registry ≡ later_than None (removals_of marked)) (noted : HasNoted (WasUnset (version_of head.vers)) old.stats new.stats)
+    (more : StandsForMore old.registry new.registry true (removal_of head prog vers which)) (noted : HasNoted (WasUnset (version_of head.vers)) old.stats new.stats)
     (forwards : new.forwards ≡ old.forwards) where
   removed : (l : Ledger) → StandsForLedger old l → accepts_removal context l (removal_of head prog vers which) ≡ true
   unfolding accepts_removal
@@ -79,8 +96,7 @@ module _ (context : Context) (head : CallHead) (prog vers : ℕ) (which : Which)
   unset_acts = record {
     gives = λ l h. sym (removed l h);
     stands = λ l h. rw (removed l h) (record {
-      registry = same l.own _ (more l.own l.changes h.registry);
-      none_kept = dropped ∙ none_later (removals_of marked);
+      registry = more l.own l.changes h.registry;
       stats = noted l.history h.stats;
       forwards = rw forwards h.forwards;
     });

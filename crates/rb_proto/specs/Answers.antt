@@ -1,5 +1,5 @@
 -- What each procedure is answered, and the ledger after it (RFC 1833 sections 2.2 and 3.2).
-use Rattle.std.specs.Prelude.{ℕ, ◌/◌, ◌-◌, ◌^◌, ◌==◌, nat_le, min, Bool, false, not, ◌&&◌, if◌then◌else◌, List, [], ◌∷◌, ◌++◌, length, Option, Some, None, option_map, is_some}
+use Rattle.std.specs.Prelude.{◌≡◌, ℕ, ◌+◌, ◌/◌, ◌-◌, ◌^◌, ◌<◌, ◌==◌, nat_le, min, Bool, true, false, not, ◌&&◌, if◌then◌else◌, List, [], ◌∷◌, ◌++◌, length, Option, Some, None, option_map, is_some}
 use Rattle.std.specs.Option.{option_map_or}
 use Rattle.rb_rpc.specs.declared.call.CallHead.{CallHead}
 use Rattle.rb_uaddr.specs.declared.address.Uaddr.TheVariants.{V4}
@@ -9,6 +9,7 @@ use Rattle.rb_registry.specs.declared.row.Owner.{Owner}
 use Rattle.rb_registry.specs.declared.row.Row.{Row}
 use Rattle.rb_registry.specs.declared.row.Which.{Which}
 use Rattle.rb_registry.specs.declared.row.Which.TheVariants.{Inet}
+use Rattle.rb_registry.specs.Registry.{Registry, rows_of, dead_count}
 use Rattle.rb_registry.specs.Rows.{Change, rpcb_prog, has_place, removes_some, find_exact, find_row}
 use Rattle.rb_registry.specs.Rows.Change.{Added, Removed}
 use Rattle.rb_stats.specs.declared.key.Target.{Target}
@@ -76,14 +77,58 @@ row_of_rpcb owner r =
 unfoldable pub can_be_set : Row → Bool
 can_be_set row = not (row.prog == rpcb_prog) && option_map_or (λ u. not (port_of u == 0)) (parse row.addr) false
 
--- a caller on this machine may set the row, and there is a place for it
+-- a caller on this machine may set the row, and there is a place for it beside these live rows, after so many changes
+abbrev pub accepts : Context → List Row → ℕ → Row → Bool
+accepts context rows count row = comes_from_here context && can_be_set row && has_place context.limit rows count row
+
 unfoldable pub accepts_row : Context → Ledger → Row → Bool
-accepts_row context l row = comes_from_here context && can_be_set row && has_place context.limit (rows_in l) (length l.changes) row
+accepts_row context l row = accepts context (rows_in l) (length l.changes) row
 
 -- A SET of the row that is asked for, if there is one: TRUE, the row added and the SET noted, else FALSE.
 unfoldable pub set_row : Context → CallHead → Option Row → Ledger → Bool × Ledger
 set_row context head None l = (false, l)
 set_row context head (Some row) l = change_if (accepts_row context l row) (Added row) (WasSet (version_of head.vers)) l
+
+-- ---- room for a row
+
+-- the row that a call of this head asks to SET, where it does
+abbrev pub row_asked : CallHead → Request → Option Row
+row_asked head (requests.Mapping mappings.Set m) = row_of_mapping (owner_of head.cred) m
+row_asked head (requests.Rpcb rpcbs.Set r) = row_of_rpcb (owner_of head.cred) r
+row_asked head _ = None
+
+unfoldable pub row_to_set : Call → Option Row
+row_to_set call = row_asked call.head call.request
+
+-- some row is asked for, and it is accepted beside these live rows, after so many changes
+abbrev pub adds : Context → List Row → ℕ → Option Row → Bool
+adds context rows count None = false
+adds context rows count (Some row) = accepts context rows count row
+
+-- the call is a SET that is accepted
+unfoldable pub adds_row : Context → Call → List Row → ℕ → Bool
+adds_row context call rows count = adds context rows count (row_to_set call)
+
+-- a SET that is accepted wants room for its row
+abbrev pub wants_room : Context → Call → Ledger → Bool
+wants_room context call l = adds_row context call (rows_in l) (length l.changes)
+
+abbrev pub wants_room_in : Context → Call → Registry → Bool
+wants_room_in context call kept = adds_row context call (rows_of kept) kept.stamp
+
+-- one row more is within the limit, beside the live rows and the dead ones
+abbrev pub HasPlaceLeft : Registry → Type 0
+HasPlaceLeft kept = length (rows_of kept) + dead_count kept < kept.limit
+
+-- where the row is accepted, there is room for it
+abbrev pub HasRoomFor : Context → Option Row → Registry → Type 0
+HasRoomFor context row kept = adds context (rows_of kept) kept.stamp row ≡ true → HasPlaceLeft kept
+
+-- where the call wants room, there is room
+abbrev pub HasRowRoom : Context → Call → Registry → Type 0
+HasRowRoom context call kept = wants_room_in context call kept ≡ true → HasPlaceLeft kept
+
+-- ---- UNSET (RPCBPROC_UNSET, PMAPPROC_UNSET)
 
 -- ---- UNSET (RPCBPROC_UNSET, PMAPPROC_UNSET)
 

@@ -21,7 +21,8 @@ use Rattle.rb_forward.specs.declared.types.Forward.{Forward}
 use Rattle.rb_forward.specs.declared.types.Outcome.{Outcome}
 use Rattle.rb_forward.specs.declared.types.Outcome.TheVariants as outcomes
 use Rattle.rb_forward.specs.declared.types.Ended.{Ended}
-use Rattle.rb_forward.specs.Forwards.{Forwards, can_start, started, reply, due, drop_caller, sent}
+use Rattle.rb_proto.specs.declared.forwarding.Asked.{Asked}
+use Rattle.rb_forward.specs.Forwards.{Unsent, Forwards, can_start, unsent, started, reply, due, drop_caller, sent}
 use Rattle.rb_forward.specs.Table.{Table}
 use Rattle.rb_proto.specs.declared.answers.Answer.{Answer}
 use Rattle.rb_proto.specs.declared.answers.Answer.TheVariants as answers
@@ -29,6 +30,7 @@ use Rattle.rb_proto.specs.declared.context.Context.{Context}
 use Rattle.rb_proto.specs.declared.remote.RemoteCall.{RemoteCall}
 use Rattle.rb_proto.specs.Callers.{netid_of}
 use Rattle.rb_proto.specs.Remote.{args_of}
+use Rattle.rb_proto.specs.declared.books.Books.{Books}
 use Rattle.rb_proto.specs.Ledger.{Ledger, rows_in, noted}
 
 -- ---- what is noted
@@ -50,6 +52,10 @@ is_indirect Indirect = true
 unfoldable pub outcome_note : Kind → Caller → ℕ → ℕ → ℕ → Bool → Note
 outcome_note kind caller prog vers proc passed =
     Forwarded (version_of_kind kind) (record { prog = prog; vers = vers; netid = netid_of caller }) proc passed (is_indirect kind)
+
+-- the same of what is asked
+abbrev pub note_asked : Asked → Bool → Note
+note_asked asked passed = outcome_note asked.kind asked.caller asked.prog asked.vers asked.proc passed
 
 -- ---- where a call is forwarded
 
@@ -143,6 +149,10 @@ fell_due clock l = noted_end (due clock l.forwards) l
 -- the connection of this number is closed, and its entry ends
 unfoldable pub caller_dropped : ℕ → Ledger → Option Ended × Ledger
 caller_dropped id l = noted_end (drop_caller id l.forwards) l
+
+-- the call that is to be sent next, where the books number the entries
+abbrev pub unsent_of : Books → Ledger → Option Unsent
+unsent_of books l = unsent books.forwards.first_xid l.forwards
 
 -- the call of the entry of this number was sent
 unfoldable pub call_sent : ℕ → Ledger → Ledger

@@ -1,16 +1,19 @@
 -- What the calls of procedures that were served left behind, and what a call on it is.
 use Rattle.std.specs.Prelude.{◌≡◌, ℕ, ◌==◌, if◌then◌else◌, List, [], ◌∷◌, ◌++◌}
+use Rattle.std.specs.List.{filter_map}
 use Rattle.rb_rpc.specs.declared.call.CallHead.{CallHead}
+use Rattle.rb_rpc.specs.declared.peer.Caller.{Caller}
 use Rattle.rb_registry.specs.declared.row.Row.{Row}
-use Rattle.rb_registry.specs.Registry.{StandsForChanges, removals_of}
+use Rattle.rb_registry.specs.Registry.{StandsForChanges}
 use Rattle.rb_registry.specs.Rows.{Change, live}
+use Rattle.rb_registry.specs.Slots.{slots_from}
 use Rattle.rb_stats.specs.declared.key.Version.{Version}
 use Rattle.rb_stats.specs.declared.key.Version.TheVariants.{Two, Three, Four}
 use Rattle.rb_stats.specs.Statistics.{Note}
 use Rattle.rb_stats.specs.Statistics.Note.{Called}
 use Rattle.rb_stats.specs.Stats.{StandsForHistory}
 use Rattle.rb_forward.specs.Forwards.{Forwards, no_forwards}
-use Rattle.rb_forward.specs.Table.{StandsForForwards}
+use Rattle.rb_forward.specs.Table.{StandsForForwards, slots_of, OnlyWaitsAnew}
 pub use Rattle.rb_proto.specs.declared.books.Books.{Books}
 
 -- the daemon's own rows, the accepted changes, the history of the calls, and the forwarded ones, in their order
@@ -28,6 +31,10 @@ fresh_ledger own = record { own = own; changes = []; history = []; forwards = no
 abbrev pub rows_in : Ledger → List Row
 rows_in l = live l.own l.changes
 
+-- the changes behind the first n that removed rows, in the order of these rows
+abbrev pub removals_after : ℕ → Ledger → List ℕ
+removals_after n l = filter_map (λ slot. slot.removed) (slots_from n l.own l.changes)
+
 -- ---- the history
 
 -- the version that counts a call (one of another number has no procedures)
@@ -44,10 +51,9 @@ called head l = noted (Called (version_of head.vers) head.proc) l
 
 -- ---- what stands for it
 
--- each of the books stands for its part, and no removed row is kept
+-- each of the books stands for its part
 pub record StandsForLedger (books : Books) (l : Ledger) : Type 0 where
   pub registry : StandsForChanges books.registry l.own l.changes
-  pub none_kept : removals_of books.registry ≡ []
   pub stats : StandsForHistory books.stats l.history
   pub forwards : StandsForForwards books.forwards l.forwards
 
@@ -61,6 +67,14 @@ pub record ActsAs {A : Type 0} (act : Ledger → A × Ledger) (old new : Books) 
   pub gives : (l : Ledger) → StandsForLedger old l → result ≡ (act l).0
   pub stands : (l : Ledger) → StandsForLedger old l → StandsForLedger new (act l).1
   pub kept : (l : Ledger) → StandsForLedger old l → (act l).1.changes ≡ l.changes → new.registry ≡ old.registry
+
+-- From each ledger that the books stand for, this is what it shows.
+abbrev pub BooksShow : {A : Type 0} → (Ledger → A) → Books → A → Type 0
+BooksShow show books result = (l : Ledger) → StandsForLedger books l → result ≡ show l
+
+-- Of all callers this one alone may have a forwarded call that it had not before.
+abbrev pub OnlyCallerWaits : Caller → Books → Books → Type 0
+OnlyCallerWaits caller old new = OnlyWaitsAnew caller (slots_of old.forwards) (slots_of new.forwards)
 
 -- the books were made with the meter of this number
 pub record AreTied (tie : ℕ) (books : Books) : Type 0 where

@@ -10,6 +10,8 @@ pub mod Forwarding
 pub mod ForwardLaws
 pub mod Answers
 pub mod Results
+pub mod ListReplies
 pub mod Puts
 pub mod Worked
 pub mod WorkedForwards
+pub mod WorkedLists

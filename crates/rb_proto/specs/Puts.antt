@@ -6,6 +6,7 @@ use Rattle.rb_stats.specs.Stats.{most_keys}
 use Rattle.rb_forward.specs.Costs.{start_cost, end_cost}
 use Rattle.rb_forward.specs.Table.{longest_arguments}
 use Rattle.rb_proto.specs.declared.books.Books.{Books}
+use Rattle.rb_proto.specs.ListReplies.{part_room}
 
 -- one step for the length, and one for each byte that was put
 abbrev pub put_cost : Kept → Kept → ℕ
@@ -27,9 +28,17 @@ note_cost = 2 * most_keys
 abbrev pub forward_cost : ℕ
 forward_cost = start_cost longest_arguments
 
--- two walks that change rows, what notes a look-up, and a new entry
+-- a walk that changes rows, what notes a look-up, and a new entry
 abbrev pub call_cost : Books → ℕ
-call_cost books = 6 * length (slots_of books.registry) + 4 + note_cost + forward_cost
+call_cost books = 3 * length (slots_of books.registry) + 4 + note_cost + forward_cost
+
+-- two walks over the rows, which count the live ones and look for one
+abbrev pub room_cost : Books → ℕ
+room_cost books = 4 * length (slots_of books.registry) + 4
+
+-- a walk over the rows, with a look at how much is written behind each, and what is written in the room of a part
+abbrev pub part_cost : Registry → ℕ
+part_cost kept = 3 * length (slots_of kept) + part_room + 6
 
 -- an entry is looked for and ends, and that is noted
 abbrev pub ending_cost : Books → ℕ

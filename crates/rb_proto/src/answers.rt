@@ -45,3 +45,14 @@ pub enum Listing {
     /// Each row of this program and version as an rpcb_entry.
     Entries(u32, u32),
 }
+
+/// A core keeps its bytes in pools and buffers alone. A further field would not compile here: it
+/// belongs in the table of charges of docs/RULES.md first.
+fn layout(list: &Listing) {
+    match *list {
+        Listing::Mappings | Listing::Rpcbs => {}
+        Listing::Entries(prog, vers) => {
+            let _: (u32, u32) = (prog, vers);
+        }
+    }
+}

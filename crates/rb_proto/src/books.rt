@@ -3,8 +3,11 @@ ghost use Rattle.std.specs.Prelude.{◌≡◌};
 ghost use Rattle.rb_proto.specs.Callers.{owner_of};
 ghost use Rattle.rb_proto.specs.Ledger.{version_of};
 
+use crate::call::Call;
+use crate::context::Context;
 use crate::forwarding::note_end;
 use crate::listener::{Listener, own_rows};
+use crate::sets::{accepts, row_to_set};
 use rb_forward::{Ended, Forwards, FwdId, Gone, Outcome, Unsent};
 use rb_registry::{Owner, Registry, RegistryFault};
 use rb_rpc::{CallHead, Credential, Peer};
@@ -19,6 +22,19 @@ pub struct Books {
     pub registry: Registry,
     pub stats: Stats,
     pub forwards: Forwards,
+}
+
+/// A core keeps its bytes in pools and buffers alone. A further field would not compile here: it
+/// belongs in the table of charges of docs/RULES.md first.
+fn layout(books: &Books) {
+    let Books {
+        registry,
+        stats,
+        forwards,
+    } = books;
+    let _: &Registry = registry;
+    let _: &Stats = stats;
+    let _: &Forwards = forwards;
 }
 
 /// The version that counts a call. One of another number than 2, 3 and 4 has no procedures.
@@ -47,13 +63,17 @@ impl Books {
     ghost use Rattle.std.specs.Prelude.{◌≡◌, ◌<◌, ◌≤◌, ◌↔◌, ◌+◌, ◌*◌, [], false, length, IfOk, IsErrOf, IfSome, IsOk, IsTrue, OnOk, OnErr};
     ghost use Rattle.rb_xdr.specs.Meter.{PaysAtMost};
     ghost use Rattle.rb_forward.specs.Costs.{sent_cost, unsent_cost};
-    ghost use Rattle.rb_forward.specs.Forwards.{unsent, can_be_sent};
+    ghost use Rattle.rb_forward.specs.Forwards.{can_be_sent};
     ghost use Rattle.rb_forward.specs.Outcomes.{PassesWithin};
     ghost use Rattle.rb_forward.specs.Table.{slots_of, seen, count_lent, longest_call, is_waiting, IsNew, NoneWaitsAnew};
-    ghost use Rattle.rb_proto.specs.Forwarding.{replied, fell_due, caller_dropped, call_sent};
-    ghost use Rattle.rb_proto.specs.Puts.{ending_cost};
+    ghost use Rattle.rb_proto.specs.Forwarding.{replied, fell_due, caller_dropped, call_sent, unsent_of};
+    ghost use Rattle.rb_proto.specs.Puts.{ending_cost, room_cost};
+    ghost use Rattle.rb_proto.specs.Answers.{wants_room, wants_room_in};
+    ghost use Rattle.rb_registry.specs.Registry.{rows_of, slots_of as row_slots, removals_of, floor_told};
+    ghost use Rattle.rb_registry.specs.Slots.{later_than};
+    ghost use Rattle.rb_registry.specs.Cursors.{GoesOn};
     ghost use Rattle.rb_proto.specs.Callers.{own_rows};
-    ghost use Rattle.rb_proto.specs.Ledger.{Ledger, StandsForLedger, ActsAs, Becomes, AreTied, SameFrame, fresh_ledger, called};
+    ghost use Rattle.rb_proto.specs.Ledger.{Ledger, StandsForLedger, BooksShow, ActsAs, Becomes, AreTied, SameFrame, fresh_ledger, called};
 
     /// Nothing was called: the listener's own rows are there, of at most `limit`. At most so many calls will be forwarded
     /// at a time, the first under this xid. BadLimits where the own rows are more, else NoMemory where an allocation is
@@ -98,11 +118,44 @@ impl Books {
         self.stats.note_call(version_of(head.vers), head.proc);
     }
 
+    /// Whether the call is a SET that is accepted: then there has to be room for its row.
+    #[tactic(auto, unfolding(crate::specs::Answers::adds_row))]
+    pub fn wants_room(&self, context: &Context, call: &Call, meter: &mut Meter) -> bool
+        requires tied { AreTied meter.old.tie self.now }
+        requires limit { self.now.registry.limit ≡ context.now.limit }
+        ensures wants { result ≡ wants_room_in context.now call.now self.now.registry }
+        ensures shows { BooksShow (wants_room context.now call.now) self.now result }
+        ensures cost { PaysAtMost meter.old meter.new (room_cost self.now) }
+    {
+        match row_to_set(call) {
+            Some(row) => accepts(&self.registry, context, &row, meter),
+            None => false,
+        }
+    }
+
+    /// Drops the removed rows that no list needs which began after so many changes or later: all where none is named.
+    pub fn trim(&mut self, oldest: Option<u64>, meter: &mut Meter)
+        requires { AreTied meter.old.tie self.old }
+        ensures stands { Becomes (λ l. l) self.old self.new }
+        ensures dropped { removals_of self.new.registry
+            ≡ later_than oldest (removals_of self.old.registry) }
+        ensures fewer { length (row_slots self.new.registry) ≤ length (row_slots self.old.registry) }
+        ensures rows { rows_of self.new.registry ≡ rows_of self.old.registry }
+        ensures stamp { self.new.registry.stamp ≡ self.old.registry.stamp }
+        ensures floor { self.new.registry.floor ≡ floor_told self.old.registry oldest }
+        ensures cursors { GoesOn self.old.registry self.new.registry }
+        ensures forwards { self.new.forwards ≡ self.old.forwards }
+        ensures frame { SameFrame self.old self.new }
+        ensures cost { PaysAtMost meter.old meter.new
+            (3 * length (row_slots self.old.registry) + 1) }
+    {
+        self.registry.trim(oldest, meter);
+    }
+
     /// The unsent forwarded call of least number, whether or not its deadline has come. It has at most 8,840 bytes.
     pub fn unsent(&self, meter: &mut Meter) -> Option<Unsent<'_>>
         requires { AreTied meter.old.tie self.now }
-        ensures unsent { (l : Ledger) → StandsForLedger self.now l
-            → seen result ≡ unsent self.now.forwards.first_xid l.forwards }
+        ensures unsent { BooksShow (unsent_of self.now) self.now (seen result) }
         ensures few { IfSome result (λ lent. length lent.call.now ≤ longest_call) }
         ensures cost { PaysAtMost meter.old meter.new
             (unsent_cost self.now.forwards.cap (count_lent result)) }

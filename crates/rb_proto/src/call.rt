@@ -1,11 +1,12 @@
 //! A call, and what it is answered (RFC 1833 sections 2.2 and 3.2).
 ghost use Rattle.std.specs.Prelude.{◌≡◌};
 ghost use Rattle.rb_xdr.specs.Meter.{PaysAtMost};
-ghost use Rattle.rb_forward.specs.Table.{slots_of, IsNew, OnlyWaitsAnew};
-ghost use Rattle.rb_proto.specs.Ledger.{ActsAs, AreTied, SameFrame};
+ghost use Rattle.rb_forward.specs.Table.{slots_of, IsNew};
+ghost use Rattle.rb_proto.specs.Ledger.{ActsAs, AreTied, OnlyCallerWaits, SameFrame};
 ghost use Rattle.rb_proto.specs.Arguments.{HasArgs};
 ghost use Rattle.rb_proto.specs.Forwarding.{StayUnlessForwarded};
-ghost use Rattle.rb_proto.specs.Answers.{answer, answer_void};
+ghost use Rattle.rb_registry.specs.Cursors.{GoesOn};
+ghost use Rattle.rb_proto.specs.Answers.{answer, answer_void, HasRowRoom};
 ghost use Rattle.rb_proto.specs.Puts.{call_cost};
 
 use crate::answers::{Answer, Listing, Results, Value};
@@ -52,7 +53,7 @@ fn told(value: Value) -> Answer
 /// which `Books::note_call` does before, and the outcome of what is forwarded, which comes later.
 ///
 /// `arguments` are the bytes that the request was read from. A caller on a connection has no other forwarded call.
-#[tactic(auto, unfolding(crate::specs::Answers::answer))]
+#[tactic(auto, using(crate::proofs::ListReplies::goes_on_same), unfolding(crate::specs::Answers::answer, crate::specs::Answers::adds_row, crate::specs::Answers::row_to_set))]
 pub fn answer(
     books: &mut Books,
     context: &Context,
@@ -65,10 +66,12 @@ pub fn answer(
     requires forwards { books.old.forwards.cap ≡ context.now.forwards }
     requires caller { IsNew context.now.caller (slots_of books.old.forwards) }
     requires args { HasArgs call.request arguments.now }
+    requires room { HasRowRoom context.now call books.old.registry }
     ensures acts { ActsAs (answer context.now call arguments.now) books.old books.new result }
     ensures quiet { StayUnlessForwarded result books.old.forwards books.new.forwards }
-    ensures waiting { OnlyWaitsAnew context.now.caller
-        (slots_of books.old.forwards) (slots_of books.new.forwards) }
+    ensures waiting { OnlyCallerWaits context.now.caller books.old books.new }
+    ensures cursors { GoesOn books.old.registry books.new.registry }
+    ensures floor { books.new.registry.floor ≡ books.old.registry.floor }
     ensures frame { SameFrame books.old books.new }
     ensures cost { PaysAtMost meter.old meter.new (call_cost books.old) }
 {
@@ -81,29 +84,26 @@ pub fn answer(
         }
         Request::Mapping(MappingProcedure::Unset, mapping) => {
             let (prog, vers) = (mapping.prog, mapping.vers);
-            let which = Some(Which::Inet);
-            let done = unset_rows(books, context, &head, prog, vers, which, meter);
+            let done = unset_rows(books, context, &head, prog, vers, Some(Which::Inet), meter);
             told(Value::Bool(done))
         }
         Request::Mapping(MappingProcedure::Getport, mapping) => {
             told(Value::Number(getport(books, &head, &mapping, meter)))
         }
         Request::Rpcb(RpcbProcedure::Set, rpcb) => {
-            let row = row_of_rpcb(owner_of(head.cred), rpcb);
+            let row = row_of_rpcb(owner_of(head.cred), &rpcb);
             told(Value::Bool(set_row(books, context, &head, row, meter)))
         }
         Request::Rpcb(RpcbProcedure::Unset, rpcb) => {
-            let (prog, vers) = (rpcb.prog, rpcb.vers);
             let which = which_of(rpcb.netid.as_slice());
-            let done = unset_rows(books, context, &head, prog, vers, which, meter);
+            let done = unset_rows(books, context, &head, rpcb.prog, rpcb.vers, which, meter);
             told(Value::Bool(done))
         }
         Request::Rpcb(RpcbProcedure::Getaddr, rpcb) => {
             told(Value::Text(getaddr(books, context, &head, &rpcb, meter)))
         }
         Request::Rpcb(RpcbProcedure::Getversaddr, rpcb) => {
-            let addr = getversaddr(books, context, &head, &rpcb, meter);
-            told(Value::Text(addr))
+            told(Value::Text(getversaddr(books, context, &head, &rpcb, meter)))
         }
         Request::Rpcb(RpcbProcedure::Getaddrlist, rpcb) => {
             Answer::Results(Results::Rows(Listing::Entries(rpcb.prog, rpcb.vers)))

@@ -3,11 +3,11 @@ ghost use Rattle.std.specs.Prelude.{◌≡◌, ◌+◌, ◌*◌, length};
 ghost use Rattle.rb_xdr.specs.Meter.{PaysAtMost};
 ghost use Rattle.rb_registry.specs.Registry.{rows_of, slots_of as row_slots};
 ghost use Rattle.rb_stats.specs.Stats.{HasNoted};
-ghost use Rattle.rb_forward.specs.Table.{slots_of, IsNew, OnlyWaitsAnew};
+ghost use Rattle.rb_forward.specs.Table.{slots_of, IsNew};
 ghost use Rattle.rb_proto.specs.Callers.{netid_of};
-ghost use Rattle.rb_proto.specs.Ledger.{ActsAs, AreTied, SameFrame};
+ghost use Rattle.rb_proto.specs.Ledger.{ActsAs, AreTied, OnlyCallerWaits, SameFrame};
 ghost use Rattle.rb_proto.specs.Remote.{HasContent};
-ghost use Rattle.rb_proto.specs.Forwarding.{version_of_kind, is_indirect, is_pass, peer_at, address_to_forward, forward_of, refusal, refuse, forward_call, StayUnlessForwarded, outcome_note, end_note};
+ghost use Rattle.rb_proto.specs.Forwarding.{version_of_kind, is_indirect, is_pass, peer_at, address_to_forward, forward_of, refusal, refuse, forward_call, StayUnlessForwarded, note_asked, end_note};
 ghost use Rattle.rb_proto.specs.Puts.{note_cost, call_cost};
 
 use crate::answers::Answer;
@@ -48,9 +48,7 @@ struct Asked {
 #[tactic(auto, unfolding(crate::specs::Forwarding::outcome_note))]
 fn note_outcome(stats: &mut Stats, asked: Asked, passed: bool, meter: &mut Meter)
     requires { meter.old.tie ≡ stats.old.tie }
-    ensures history { HasNoted
-        (outcome_note asked.kind asked.caller asked.prog asked.vers asked.proc passed)
-        stats.old stats.new }
+    ensures history { HasNoted (note_asked asked passed) stats.old stats.new }
     ensures tie { stats.new.tie ≡ stats.old.tie }
     ensures cost { PaysAtMost meter.old meter.new (note_cost + 2) }
 {
@@ -166,6 +164,7 @@ fn refuse(
     requires { AreTied meter.old.tie books.old }
     ensures acts { ActsAs (refuse context.now kind remote.now status) books.old books.new result }
     ensures told { result ≡ refusal kind status }
+    ensures registry { books.new.registry ≡ books.old.registry }
     ensures forwards { books.new.forwards ≡ books.old.forwards }
     ensures frame { SameFrame books.old books.new }
     ensures cost { PaysAtMost meter.old meter.new (note_cost + 2) }
@@ -199,8 +198,8 @@ pub(crate) fn forward_call(
     ensures acts { ActsAs (forward_call context.now xid kind remote.now arguments.now)
         books.old books.new result }
     ensures quiet { StayUnlessForwarded result books.old.forwards books.new.forwards }
-    ensures waiting { OnlyWaitsAnew context.now.caller
-        (slots_of books.old.forwards) (slots_of books.new.forwards) }
+    ensures waiting { OnlyCallerWaits context.now.caller books.old books.new }
+    ensures registry { books.new.registry ≡ books.old.registry }
     ensures frame { SameFrame books.old books.new }
     ensures cost { PaysAtMost meter.old meter.new (call_cost books.old) }
 {

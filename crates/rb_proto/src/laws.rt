@@ -1,5 +1,6 @@
 ghost use Rattle.rb_proto.specs.ForwardLaws.{ForwardsGoToRows, ForwardsAreNotedOnce};
 ghost use Rattle.rb_proto.specs.Grammar.{RequestsAreOfTheGrammar};
+ghost use Rattle.rb_proto.specs.ListReplies.{ListRepliesGoOn};
 
 /// Arguments are read exactly where the bytes begin with a spelling of them.
 pub fn requests_are_of_the_grammar()
@@ -14,4 +15,9 @@ pub fn forwards_go_to_rows()
 /// Each call that asks for another is noted once, at its outcome: where it is refused, or where its entry ends.
 pub fn forwards_are_noted_once()
     ensures { ForwardsAreNotedOnce }
+{}
+
+/// What is yet to be given of a list stays the same, whatever is called in between.
+pub fn list_replies_go_on()
+    ensures { ListRepliesGoOn }
 {}

@@ -9,6 +9,7 @@ mod entry;
 mod forwarding;
 mod items;
 mod laws;
+mod list_reply;
 mod listener;
 mod lookups;
 mod mapping;
@@ -29,7 +30,10 @@ pub use call::{Call, answer};
 pub use context::Context;
 pub use entry::Entry;
 pub use forwarding::refusal;
-pub use laws::{forwards_are_noted_once, forwards_go_to_rows, requests_are_of_the_grammar};
+pub use laws::{
+    forwards_are_noted_once, forwards_go_to_rows, list_replies_go_on, requests_are_of_the_grammar,
+};
+pub use list_reply::{ListPart, ListReply};
 pub use listener::{Listener, own_rows};
 pub use mapping::Mapping;
 pub use netbuf::Netbuf;
@@ -38,4 +42,4 @@ pub use put::{put_forwarded, put_results, put_row};
 pub use remote::RemoteCall;
 pub use request::{ArgumentFault, Request, read_args};
 pub use rpcb::Rpcb;
-pub use worked::{worked_examples, worked_forwards};
+pub use worked::{worked_examples, worked_forwards, worked_lists};

@@ -15,6 +15,13 @@ pub struct Listener {
     pub port: u16,
 }
 
+/// A core keeps its bytes in pools and buffers alone. A further field would not compile here: it
+/// belongs in the table of charges of docs/RULES.md first.
+fn layout(listener: &Listener) {
+    let Listener { host, port } = *listener;
+    let _: ([u8; 4], u16) = (host, port);
+}
+
 /// The row of the portmapper's own version on a netid.
 fn own_row(listener: &Listener, vers: u32, netid: Netid) -> Row
     ensures { result ≡ own_row listener.now vers netid }

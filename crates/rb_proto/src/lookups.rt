@@ -93,6 +93,7 @@ pub(crate) fn getport(
 ) -> u32
     requires { AreTied meter.old.tie books.old }
     ensures acts { ActsAs (getport head.now mapping.now) books.old books.new result }
+    ensures registry { books.new.registry ≡ books.old.registry }
     ensures forwards { books.new.forwards ≡ books.old.forwards }
     ensures frame { SameFrame books.old books.new }
     ensures cost { PaysAtMost meter.old meter.new (call_cost books.old) }
@@ -125,6 +126,7 @@ pub(crate) fn getaddr(
 ) -> Text<128>
     requires { AreTied meter.old.tie books.old }
     ensures acts { ActsAs (getaddr context.now head.now rpcb.now) books.old books.new result }
+    ensures registry { books.new.registry ≡ books.old.registry }
     ensures forwards { books.new.forwards ≡ books.old.forwards }
     ensures frame { SameFrame books.old books.new }
     ensures cost { PaysAtMost meter.old meter.new (call_cost books.old) }
@@ -149,6 +151,7 @@ pub(crate) fn getversaddr(
 ) -> Text<128>
     requires { AreTied meter.old.tie books.old }
     ensures acts { ActsAs (getversaddr context.now head.now rpcb.now) books.old books.new result }
+    ensures registry { books.new.registry ≡ books.old.registry }
     ensures forwards { books.new.forwards ≡ books.old.forwards }
     ensures frame { SameFrame books.old books.new }
     ensures cost { PaysAtMost meter.old meter.new (call_cost books.old) }

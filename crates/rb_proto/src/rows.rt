@@ -3,6 +3,7 @@ ghost use Rattle.std.specs.Prelude.{◌≡◌, ◌+◌, ◌*◌, length};
 ghost use Rattle.rb_xdr.specs.Meter.{PaysAtMost};
 ghost use Rattle.rb_registry.specs.Registry.{Reaches, rows_at, slots_of};
 ghost use Rattle.rb_xdr.specs.Puts.{Appends, HasRoom, Leaves};
+ghost use Rattle.rb_proto.specs.ListReplies.{IsShort, FitsIfShort};
 ghost use Rattle.rb_proto.specs.Puts.{write_cost};
 ghost use Rattle.rb_proto.specs.Results.{is_shown, row_bytes, rows_bytes};
 
@@ -40,11 +41,13 @@ pub(crate) fn room_after_row(list: Listing, row: &Row, host: [u8; 4], room: usiz
     }
 }
 
-/// Writes what a row adds to a list: TRUE and the item, or nothing where the list doesn't show the row.
+/// Writes what a row adds to a list: TRUE and the item, or nothing where the list doesn't show the row. It is short, and
+/// the buffer has room for it if it is.
 #[tactic(auto, unfolding(crate::specs::Results::row_bytes))]
 pub(crate) fn write_row(list: Listing, row: &Row, host: [u8; 4], out: &mut Kept, meter: &mut Meter)
     requires tie { meter.old.tie ≡ out.old.tie }
-    requires room { HasRoom (row_bytes host list row.now) out.old }
+    requires room { FitsIfShort (row_bytes host list row.now) out.old }
+    ensures short { IsShort (row_bytes host list row.now) }
     ensures written { Appends (row_bytes host list row.now) out.old out.new }
     ensures cost { PaysAtMost meter.old meter.new (length (row_bytes host list row.now)) }
 {
@@ -53,8 +56,16 @@ pub(crate) fn write_row(list: Listing, row: &Row, host: [u8; 4], out: &mut Kept,
     }
     match list {
         Listing::Mappings => (true, mapping_of(row)).write(out, meter),
-        Listing::Rpcbs => (true, rpcb_of(row)).write(out, meter),
-        Listing::Entries(..) => (true, entry_of(host, row)).write(out, meter),
+        Listing::Rpcbs => {
+            let rpcb = rpcb_of(row);
+            rpcb.within_limits();
+            (true, rpcb).write(out, meter);
+        }
+        Listing::Entries(..) => {
+            let entry = entry_of(host, row);
+            entry.within_limits();
+            (true, entry).write(out, meter);
+        }
     }
 }
 

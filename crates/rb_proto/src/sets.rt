@@ -1,16 +1,20 @@
 //! SET and UNSET, the procedures that change the registry (RFC 1833 sections 2.2 and 3.2).
 ghost use Rattle.std.specs.Prelude.{◌≡◌, ◌+◌, ◌*◌, length};
 ghost use Rattle.rb_xdr.specs.Meter.{PaysAtMost};
-ghost use Rattle.rb_registry.specs.Registry.{slots_of};
+ghost use Rattle.rb_registry.specs.Registry.{rows_of, slots_of};
+ghost use Rattle.rb_registry.specs.Cursors.{GoesOn};
 ghost use Rattle.rb_proto.specs.Ledger.{ActsAs, AreTied, SameFrame};
-ghost use Rattle.rb_proto.specs.Answers.{row_of_mapping, row_of_rpcb, can_be_set, set_row, unset_rows};
+ghost use Rattle.rb_proto.specs.Answers.{row_of_mapping, row_of_rpcb, can_be_set, row_to_set, accepts, set_row, unset_rows, HasRoomFor};
 
 use crate::books::{Books, owner_of, version_of};
+use crate::call::Call;
 use crate::context::Context;
 use crate::mapping::Mapping;
 use crate::netids::{netid_named, netid_of_prot};
+use crate::procedure::{MappingProcedure, RpcbProcedure};
+use crate::request::Request;
 use crate::rpcb::Rpcb;
-use rb_registry::{Owner, RPCB_PROG, Row, Which};
+use rb_registry::{Owner, RPCB_PROG, Registry, Row, Which};
 use rb_rpc::CallHead;
 use rb_uaddr::Uaddr;
 use rb_xdr::{Meter, Text};
@@ -33,17 +37,30 @@ pub(crate) fn row_of_mapping(owner: Owner, mapping: &Mapping) -> Option<Row>
 
 /// The row that a SET asks for, with the address as it was given.
 #[tactic(auto, unfolding(crate::specs::Answers::row_of_rpcb))]
-pub(crate) fn row_of_rpcb(owner: Owner, rpcb: Rpcb) -> Option<Row>
-    ensures { result ≡ row_of_rpcb owner rpcb }
+pub(crate) fn row_of_rpcb(owner: Owner, rpcb: &Rpcb) -> Option<Row>
+    ensures { result ≡ row_of_rpcb owner rpcb.now }
 {
     let netid = netid_named(rpcb.netid.as_slice())?;
     Some(Row {
         prog: rpcb.prog,
         vers: rpcb.vers,
         netid,
-        addr: rpcb.addr,
+        addr: Text::new(rpcb.addr.as_slice()),
         owner,
     })
+}
+
+/// The row that a call asks to SET, if it does.
+#[tactic(auto, unfolding(crate::specs::Answers::row_to_set))]
+pub(crate) fn row_to_set(call: &Call) -> Option<Row>
+    ensures { result ≡ row_to_set call.now }
+{
+    let owner = owner_of(call.head.cred);
+    match &call.request {
+        Request::Mapping(MappingProcedure::Set, mapping) => row_of_mapping(owner, mapping),
+        Request::Rpcb(RpcbProcedure::Set, rpcb) => row_of_rpcb(owner, rpcb),
+        _ => None,
+    }
 }
 
 /// Whether the row is of another program than the portmapper's own, at an address that has a port.
@@ -57,8 +74,29 @@ fn can_be_set(row: &Row) -> bool
     }
 }
 
+/// Whether a SET of the row is accepted.
+pub(crate) fn accepts(registry: &Registry, context: &Context, row: &Row, meter: &mut Meter) -> bool
+    requires tie { meter.old.tie ≡ registry.now.tie }
+    requires limit { registry.now.limit ≡ context.now.limit }
+    ensures value { result
+        ≡ accepts context.now (rows_of registry.now) registry.now.stamp row.now }
+    ensures cost { PaysAtMost meter.old meter.new (4 * length (slots_of registry.now) + 4) }
+{
+    if !context.comes_from_here() || !can_be_set(row) {
+        return false;
+    }
+    let found = registry.find_exact(row.prog, row.vers, row.netid, meter);
+    if found.is_some() {
+        return false;
+    }
+    if context.limit <= registry.len(meter) {
+        return false;
+    }
+    registry.stamp() < u64::MAX
+}
+
 /// Adds the row that a SET asks for, if there is one and it is accepted, and answers whether it was: then the SET is noted.
-#[tactic(auto, using(crate::proofs::RowChanges::takes_what_has_place), unfolding(crate::specs::Answers::set_row, crate::specs::Answers::accepts_row))]
+#[tactic(auto, unfolding(crate::specs::Answers::set_row, crate::specs::Answers::accepts_row))]
 pub(crate) fn set_row(
     books: &mut Books,
     context: &Context,
@@ -68,10 +106,13 @@ pub(crate) fn set_row(
 ) -> bool
     requires tied { AreTied meter.old.tie books.old }
     requires limit { books.old.registry.limit ≡ context.now.limit }
+    requires room { HasRoomFor context.now row books.old.registry }
     ensures acts { ActsAs (set_row context.now head.now row) books.old books.new result }
+    ensures cursors { GoesOn books.old.registry books.new.registry }
+    ensures floor { books.new.registry.floor ≡ books.old.registry.floor }
     ensures forwards { books.new.forwards ≡ books.old.forwards }
     ensures frame { SameFrame books.old books.new }
-    ensures cost { PaysAtMost meter.old meter.new (4 * length (slots_of books.old.registry) + 4) }
+    ensures cost { PaysAtMost meter.old meter.new (2 * length (slots_of books.old.registry) + 2) }
 {
     let Some(row) = row else {
         return false;
@@ -87,7 +128,7 @@ pub(crate) fn set_row(
 }
 
 /// Removes the rows of the program's version on these netids that the caller may remove, and answers
-/// whether there was one: then the UNSET is noted, and no removed row is kept.
+/// whether there was one: then the UNSET is noted.
 #[tactic(auto, unfolding(crate::specs::Answers::unset_rows, crate::specs::Answers::accepts_removal))]
 pub(crate) fn unset_rows(
     books: &mut Books,
@@ -101,9 +142,11 @@ pub(crate) fn unset_rows(
     requires tied { AreTied meter.old.tie books.old }
     ensures acts { ActsAs (unset_rows context.now head.now prog vers which)
         books.old books.new result }
+    ensures cursors { GoesOn books.old.registry books.new.registry }
+    ensures floor { books.new.registry.floor ≡ books.old.registry.floor }
     ensures forwards { books.new.forwards ≡ books.old.forwards }
     ensures frame { SameFrame books.old books.new }
-    ensures cost { PaysAtMost meter.old meter.new (6 * length (slots_of books.old.registry) + 2) }
+    ensures cost { PaysAtMost meter.old meter.new (3 * length (slots_of books.old.registry) + 1) }
 {
     let Some(which) = which else {
         return false;
@@ -114,7 +157,6 @@ pub(crate) fn unset_rows(
     let owner = owner_of(head.cred);
     let removed = books.registry.unset(prog, vers, which, owner, meter);
     if removed {
-        books.registry.trim(None, meter);
         books.stats.note_unset(version_of(head.vers));
     }
     removed

@@ -1,5 +1,6 @@
 ghost use Rattle.rb_proto.specs.Worked.{DumpOwnRows, SetGetportSetAgain, GetportGreatestVersion, SetAtRowLimit, VersionTwoRefuses, OwnersRemove, UnsetByOwner, OtherAddressesRefused, GetaddrByTransport, Getaddrlist, AddressTransportForm, LocalityAndGettime, RefusalsOfAcceptedCalls, GetstatFirstCall, GetstatAfterCalls, GetstatOfOtherCalls, GetstatFirstKeys, LongDump, LongPmapDump};
 ghost use Rattle.rb_proto.specs.WorkedForwards.{ProceduresAreKnown, GreatestArguments, WithoutRow, WithOtherRows, PortmapperIsNotCalled, TableIsFull, FailuresAreCounted, AnyHostIsThisMachine, OtherHostsStay, EndsAreNoted, OthersAreNotNoted, PlacesAreShown};
+ghost use Rattle.rb_proto.specs.WorkedLists.{SetsWantRoom, FullTableWantsNone, PartsCrossRows, ListsAreAsOfTheirCall};
 
 /// The definitions give what the worked examples say.
 pub fn worked_examples()
@@ -38,4 +39,12 @@ pub fn worked_forwards()
     ensures ends_are_noted { EndsAreNoted }
     ensures others_are_not_noted { OthersAreNotNoted }
     ensures places_are_shown { PlacesAreShown }
+{}
+
+/// And of SETs that want room, and of lists in parts.
+pub fn worked_lists()
+    ensures sets_want_room { SetsWantRoom }
+    ensures full_table_wants_none { FullTableWantsNone }
+    ensures parts_cross_rows { PartsCrossRows }
+    ensures lists_are_as_of_their_call { ListsAreAsOfTheirCall }
 {}

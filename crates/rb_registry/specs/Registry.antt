@@ -1,5 +1,5 @@
 -- What a contract sees of a `Registry`, and what it stands for.
-use Rattle.std.specs.Prelude.{◌≡◌, ℕ, ◌+◌, ◌≤◌, ◌==◌, nat_lt, Bool, ◌&&◌, if◌then◌else◌, List, [], ◌∷◌, ◌++◌, length, take, min, Option, unwrap_or, IsTrue}
+use Rattle.std.specs.Prelude.{◌≡◌, ℕ, ◌+◌, ◌≤◌, ◌==◌, nat_lt, Bool, ◌&&◌, if◌then◌else◌, List, [], ◌∷◌, ◌++◌, length, take, min, max, Option, unwrap_or, IsTrue}
 use Rattle.std.specs.List.{list_all}
 use Rattle.std.specs.Map.{values_of}
 use Rattle.rb_registry.specs.declared.row.Row.{Row}
@@ -49,6 +49,10 @@ takes kept row =
 -- the stamp that a trim is told, None and one to come counting as the present one
 abbrev pub stamp_told : Registry → Option ℕ → ℕ
 stamp_told kept oldest = min (unwrap_or oldest kept.stamp) kept.stamp
+
+-- the floor after it
+abbrev pub floor_told : Registry → Option ℕ → ℕ
+floor_told kept oldest = max kept.floor (stamp_told kept oldest)
 
 -- the rows after so many changes can be told
 pub record Reaches (kept : Registry) (stamp : ℕ) : Type 0 where

@@ -12,6 +12,13 @@ pub struct Cursor {
     passed: Option<usize>,
 }
 
+/// A core keeps its bytes in pools and buffers alone. A further field would not compile here: it
+/// belongs in the table of charges of docs/RULES.md first.
+fn layout(cursor: &Cursor) {
+    let Cursor { passed } = *cursor;
+    let _: Option<usize> = passed;
+}
+
 impl Model for Cursor {
     ghost use Rattle.std.specs.Prelude.{ℕ, Option};
 

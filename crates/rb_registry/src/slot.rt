@@ -12,6 +12,18 @@ pub(crate) struct Slot {
     pub(crate) removed: Option<u64>,
 }
 
+/// A core keeps its bytes in pools and buffers alone. A further field would not compile here: it
+/// belongs in the table of charges of docs/RULES.md first.
+fn layout(slot: &Slot) {
+    let Slot {
+        row,
+        added,
+        removed,
+    } = slot;
+    let _: &Row = row;
+    let _: (u64, Option<u64>) = (*added, *removed);
+}
+
 impl Slot {
     /// Whether the row was live after so many changes.
     #[tactic(auto, unfolding(crate::specs::Slots::is_live_at))]

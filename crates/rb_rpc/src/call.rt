@@ -31,6 +31,25 @@ pub struct CallHead {
     pub cred: Credential,
 }
 
+/// A core keeps its bytes in pools and buffers alone. A further field would not compile here: it
+/// belongs in the table of charges of docs/RULES.md first.
+fn layout(head: &CallHead) {
+    let CallHead {
+        xid,
+        prog,
+        vers,
+        proc,
+        cred,
+    } = *head;
+    let _: [u32; 4] = [xid, prog, vers, proc];
+    match cred {
+        Credential::None => {}
+        Credential::Sys(uid) => {
+            let _: u32 = uid;
+        }
+    }
+}
+
 /// What a message is, before its program is looked at: the data of a record, or a datagram.
 #[derive(Clone, Copy, PartialEq, Eq, Debug)]
 pub enum Verdict {

@@ -32,6 +32,19 @@ pub struct Marks {
     place: Place,
 }
 
+/// A core keeps its bytes in pools and buffers alone. A further field would not compile here: it
+/// belongs in the table of charges of docs/RULES.md first.
+fn layout(Marks { place }: &Marks) {
+    match *place {
+        Place::Header { seen, number } => {
+            let _: (u8, u32) = (seen, number);
+        }
+        Place::Data { left, last } => {
+            let _: (u32, bool) = (left, last);
+        }
+    }
+}
+
 /// Before so many more bytes of a fragment, and whether the record ended.
 #[tactic(auto, unfolding(crate::specs::Streams::behind))]
 fn behind(left: u32, last: bool) -> (Place, bool)

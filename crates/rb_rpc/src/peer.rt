@@ -31,3 +31,18 @@ pub enum Caller {
     Tcp(u64, Peer),
     Udp(Peer),
 }
+
+/// A core keeps its bytes in pools and buffers alone. A further field would not compile here: it
+/// belongs in the table of charges of docs/RULES.md first.
+fn layout(caller: &Caller, peer: &Peer) {
+    match *caller {
+        Caller::Tcp(number, peer) => {
+            let _: (u64, Peer) = (number, peer);
+        }
+        Caller::Udp(peer) => {
+            let _: Peer = peer;
+        }
+    }
+    let Peer { host, port } = *peer;
+    let _: ([u8; 4], u16) = (host, port);
+}

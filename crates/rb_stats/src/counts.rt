@@ -13,6 +13,17 @@ pub(crate) struct Counts {
     pub unsetinfo: u32,
 }
 
+/// A core keeps its bytes in pools and buffers alone. A further field would not compile here: it
+/// belongs in the table of charges of docs/RULES.md first.
+fn layout(counts: &Counts) {
+    let Counts {
+        info,
+        setinfo,
+        unsetinfo,
+    } = *counts;
+    let _: ([u32; 13], u32, u32) = (info, setinfo, unsetinfo);
+}
+
 impl Counts {
     /// Nothing was called.
     pub(crate) fn new() -> Counts

@@ -29,6 +29,19 @@ pub(crate) struct Item {
     pub indirect: u32,
 }
 
+/// A core keeps its bytes in pools and buffers alone. A further field would not compile here: it
+/// belongs in the table of charges of docs/RULES.md first.
+fn layout(item: &Item) {
+    let Item {
+        key,
+        success,
+        failure,
+        indirect,
+    } = *item;
+    let _: Key = key;
+    let _: [u32; 3] = [success, failure, indirect];
+}
+
 impl Item {
     pub(crate) fn new(key: Key) -> Item
         ensures { result ≡ new_item key }

@@ -65,6 +65,22 @@ pub(crate) struct Key {
     pub proc: Option<u32>,
 }
 
+/// A core keeps its bytes in pools and buffers alone. A further field would not compile here: it
+/// belongs in the table of charges of docs/RULES.md first.
+fn layout(key: &Key) {
+    let Key {
+        version,
+        target,
+        proc,
+    } = *key;
+    match version {
+        Version::Two | Version::Three | Version::Four => {}
+    }
+    let Target { prog, vers, netid } = target;
+    let _: (u32, u32, Netid) = (prog, vers, netid);
+    let _: Option<u32> = proc;
+}
+
 impl Key {
     #[tactic(auto, unfolding(crate::specs::Statistics::is_key))]
     pub(crate) fn is(self, other: Key) -> bool

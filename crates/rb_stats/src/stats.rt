@@ -21,6 +21,19 @@ pub struct Stats {
     items: Items,
 }
 
+/// A core keeps its bytes in pools and buffers alone. A further field would not compile here: it
+/// belongs in the table of charges of docs/RULES.md first.
+fn layout(stats: &Stats) {
+    let Stats {
+        two,
+        three,
+        four,
+        items,
+    } = stats;
+    let _: [Counts; 3] = [*two, *three, *four];
+    let _: &Items = items;
+}
+
 impl Model for Stats {
     ghost use Rattle.rb_stats.specs.declared.key.Version.TheVariants.{Two, Three, Four};
     ghost use Rattle.rb_stats.specs.Stats.{Stats as Contents};

@@ -93,6 +93,14 @@ pub(crate) struct Items {
     len: u64,
 }
 
+/// A core keeps its bytes in pools and buffers alone. A further field would not compile here: it
+/// belongs in the table of charges of docs/RULES.md first.
+fn layout(items: &Items) {
+    let Items { items, len } = items;
+    let _: &Pool<Item> = items;
+    let _: u64 = *len;
+}
+
 impl Model for Items {
     ghost use Rattle.std.specs.Prelude.{◌≡◌, length};
     ghost use Rattle.std.specs.Map.{values_of};

@@ -1,10 +1,81 @@
-use rb_core::{Core, CoreFault, Limits, Listener};
+ghost use Rattle.std.specs.Prelude.{◌≡◌, IfOk};
+
+use rb_core::{Core, CoreFault, Event, Limits, Listener, NoMemory, Outcome, Output, Peer, replay};
 use rb_xdr::Meter;
+use std::alloc::{AllocError, Global};
+use std::test::Fail;
+
+const LOOPBACK: Peer = Peer {
+    host: [127, 0, 0, 1],
+    port: 900,
+};
 
 const LISTENER: Listener = Listener {
     host: [192, 0, 2, 1],
     port: 111,
 };
+
+const LIMITS: Limits = Limits {
+    conns: 4,
+    rows: 300,
+    forwards: 4,
+};
+
+// A NULL call of version 2, of xid 1.
+const NULL: [u32; 10] = [1, 0, 2, 100_000, 2, 0, 0, 0, 0, 0];
+
+// A whole record with that call.
+const NULL_RECORD: [u32; 11] = [0x8000_0028, 1, 0, 2, 100_000, 2, 0, 0, 0, 0, 0];
+
+// The first bytes of a record with that call and 100,000 bytes behind it.
+const OVERLONG: [u32; 11] = [0x8001_86c8, 1, 0, 2, 100_000, 2, 0, 0, 0, 0, 0];
+
+fn new_core(alloc: Global, meter: &mut Meter) -> Result<Core, CoreFault>
+    ensures tie { IfOk result (λ core. core.tie ≡ meter.new.tie) }
+{
+    Core::new(alloc, LIMITS, LISTENER, 1000, 0, meter)
+}
+
+fn words(alloc: Global, numbers: &[u32]) -> Result<Vec<u8>, AllocError> {
+    let mut bytes = Vec::new(alloc);
+    for n in numbers {
+        bytes.extend_from_slice(&n.to_be_bytes())?;
+    }
+    Ok(bytes)
+}
+
+// The outputs of the events.
+fn outputs(
+    alloc: Global,
+    core: &mut Core,
+    events: &[Event],
+    meter: &mut Meter,
+) -> Result<Vec<Output>, NoMemory>
+    requires { meter.old.tie ≡ core.old.tie }
+    ensures tie { core.new.tie ≡ core.old.tie }
+    ensures same_meter { meter.new.tie ≡ meter.old.tie }
+{
+    let mut outputs = Vec::new(alloc);
+    replay(alloc, core, events, &mut outputs, meter)?;
+    Ok(outputs)
+}
+
+#[test]
+fn new_core_has_memory(rt: HostRuntime) -> Result<(), Fail> {
+    let mut meter = Meter::new();
+    let call = words(rt.alloc(), &NULL)?;
+    let reply = words(rt.alloc(), &[1, 1, 0, 0, 0, 0])?;
+    let mut core = new_core(rt.alloc(), &mut meter)?;
+    assert_eq!(rt; core.held(), 270);
+    assert_eq!(rt;
+        core.datagram(0, LOOPBACK, &call, &mut meter),
+        Outcome::Reply
+    );
+    assert_eq!(rt; core.udp_reply(&mut meter), reply.as_slice());
+    assert_eq!(rt; core.held(), 294);
+    assert!(rt; core.held() <= core.bytes_bound());
+    Ok(())
+}
 
 #[test]
 fn limits_and_numbers(rt: HostRuntime) {
@@ -17,4 +88,122 @@ fn limits_and_numbers(rt: HostRuntime) {
         let made = Core::new(rt.alloc(), limits, LISTENER, 1000, 0, &mut Meter::new());
         assert!(rt; matches!(made, Err(CoreFault::BadLimits)));
     }
+}
+
+fn set_and_nothing(alloc: Global) -> Result<Vec<Event>, AllocError> {
+    let set = [3, 0, 2, 100_000, 2, 1, 0, 0, 0, 0, 200_001, 1, 6, 2049];
+    let mut events = Vec::new(alloc);
+    events.push(Event::Datagram(0, LOOPBACK, words(alloc, &set)?))?;
+    events.push(Event::Datagram(0, LOOPBACK, Vec::new(alloc)))?;
+    Ok(events)
+}
+
+#[test]
+fn replay_has_memory(rt: HostRuntime) -> Result<(), Fail> {
+    let mut meter = Meter::new();
+    let events = set_and_nothing(rt.alloc())?;
+    let mut core = new_core(rt.alloc(), &mut meter)?;
+    let given = outputs(rt.alloc(), &mut core, &events, &mut meter)?;
+    assert!(rt; matches!(given.as_slice(), [Output::Replied(_), Output::Silent]));
+    Ok(())
+}
+
+/// A connection is opened, calls, is answered and is closed: each call of a connection once.
+fn one_connection(alloc: Global) -> Result<Vec<Event>, AllocError> {
+    let mut events = Vec::new(alloc);
+    events.push(Event::Open(0, LOOPBACK))?;
+    events.push(Event::Bytes(0, 1, words(alloc, &NULL_RECORD)?))?;
+    events.push(Event::Gave(0, 1, 3))?;
+    events.push(Event::Pending(1))?;
+    events.push(Event::NextLost)?;
+    events.push(Event::Closed(1))?;
+    Ok(events)
+}
+
+fn rest_is_pending(outputs: &[Output]) -> bool {
+    matches!(outputs.get(3), Some(Output::Pending(rest)) if rest.len() == 25)
+}
+
+#[test]
+fn connections_have_memory(rt: HostRuntime) -> Result<(), Fail> {
+    let mut meter = Meter::new();
+    let events = one_connection(rt.alloc())?;
+    let mut core = new_core(rt.alloc(), &mut meter)?;
+    let given = outputs(rt.alloc(), &mut core, &events, &mut meter)?;
+    assert!(rt; given.len() == 6 && rest_is_pending(&given));
+    assert!(rt; matches!(given.last(), Some(Output::Done)));
+    assert_eq!(rt; core.held(), 270);
+    Ok(())
+}
+
+/// A NULL call and its reply, of which 24 bytes are held.
+#[test]
+fn null_reply(rt: HostRuntime) -> Result<(), Fail> {
+    let mut meter = Meter::new();
+    let mut events = Vec::new(rt.alloc());
+    events.push(Event::Datagram(0, LOOPBACK, words(rt.alloc(), &NULL)?))?;
+    let mut core = new_core(rt.alloc(), &mut meter)?;
+    assert_eq!(rt; core.held(), 270);
+    let given = outputs(rt.alloc(), &mut core, &events, &mut meter)?;
+    assert!(rt; matches!(given.as_slice(), [Output::Replied(reply)] if reply.len() == 24));
+    assert_eq!(rt; core.held(), 294);
+    Ok(())
+}
+
+fn opening(alloc: Global) -> Result<Vec<Event>, AllocError> {
+    let mut events = Vec::new(alloc);
+    events.push(Event::Open(0, LOOPBACK))?;
+    Ok(events)
+}
+
+fn arrival(alloc: Global, piece: &[u8]) -> Result<Vec<Event>, AllocError> {
+    let mut bytes = Vec::new(alloc);
+    bytes.extend_from_slice(piece)?;
+    let mut events = Vec::new(alloc);
+    events.push(Event::Bytes(0, 1, bytes))?;
+    Ok(events)
+}
+
+fn took(outputs: &[Output], count: usize) -> bool {
+    matches!(outputs, [Output::Took(n)] if *n == count)
+}
+
+// A piece of 1,000 bytes arrives 99 times, each time whole, and never more than 9,214 bytes are held.
+fn stays_small(
+    alloc: Global,
+    core: &mut Core,
+    piece: &[Event],
+    meter: &mut Meter,
+) -> Result<bool, NoMemory>
+    requires { meter.old.tie ≡ core.old.tie }
+    ensures tie { core.new.tie ≡ core.old.tie }
+    ensures same_meter { meter.new.tie ≡ meter.old.tie }
+{
+    for _i in 0..99 {
+        let given = outputs(alloc, core, piece, meter)?;
+        if !took(&given, 1000) || core.held() > 9214 {
+            return Ok(false);
+        }
+    }
+    Ok(true)
+}
+
+/// What is held while a record of 100,044 bytes comes in, in 101 pieces.
+#[test]
+fn overlong_record_is_answered(rt: HostRuntime) -> Result<(), Fail> {
+    let mut meter = Meter::new();
+    let open = opening(rt.alloc())?;
+    let first = arrival(rt.alloc(), &words(rt.alloc(), &OVERLONG)?)?;
+    let next = arrival(rt.alloc(), &[0xff; 1000])?;
+    let mut core = new_core(rt.alloc(), &mut meter)?;
+    assert_eq!(rt; core.held(), 270);
+    let given = outputs(rt.alloc(), &mut core, &open, &mut meter)?;
+    assert!(rt; matches!(given.as_slice(), [Output::Opened(1)]) && core.held() == 398);
+    let given = outputs(rt.alloc(), &mut core, &first, &mut meter)?;
+    assert!(rt; took(&given, 44) && core.held() == 398);
+    assert!(rt; stays_small(rt.alloc(), &mut core, &next, &mut meter)?);
+    let given = outputs(rt.alloc(), &mut core, &next, &mut meter)?;
+    assert!(rt; took(&given, 1000) && core.held() == 450);
+    assert!(rt; core.held() <= core.bytes_bound());
+    Ok(())
 }

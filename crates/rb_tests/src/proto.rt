@@ -1,12 +1,14 @@
 ghost use Rattle.std.specs.Prelude.{◌≡◌, ◌≤◌};
+ghost use Rattle.rb_registry.specs.Cursors.{GoesOn};
+ghost use Rattle.rb_rpc.specs.declared.peer.Caller.TheVariants.{Udp};
 ghost use Rattle.rb_proto.specs.Ledger.{SameFrame, AreTied};
 
 use rb_forward::{Forward, FwdId, Kind};
 use rb_proto::{
-    Answer, ArgumentFault, Books, Call, Context, Entry, Listener, Listing, Mapping, Netbuf,
-    RemoteCall, Rpcb, answer, forwards_are_noted_once, forwards_go_to_rows, own_rows,
-    put_forwarded, put_results, put_row, read_args, refusal, requests_are_of_the_grammar,
-    worked_examples, worked_forwards,
+    Answer, ArgumentFault, Books, Call, Context, Entry, ListReply, Listener, Listing, Mapping,
+    Netbuf, RemoteCall, Rpcb, answer, forwards_are_noted_once, forwards_go_to_rows,
+    list_replies_go_on, own_rows, put_forwarded, put_results, put_row, read_args, refusal,
+    requests_are_of_the_grammar, worked_examples, worked_forwards, worked_lists,
 };
 use rb_registry::{Cursor, Registry};
 use rb_rpc::{CallHead, Caller, Credential, Peer, ReplyStatus};
@@ -49,11 +51,52 @@ const TARGET: Peer = Peer {
 // an accepted reply of xid 1000, without results
 const SUCCESS: &[u8] = b"\0\0\x03\xe8\0\0\0\x01\0\0\0\0\0\0\0\0\0\0\0\0\0\0\0\0";
 
+// (200001, 1) on tcp at port 2049
+const TCP_ROW: &[u8] = b"\x00\x03\x0d\x41\0\0\0\x01\0\0\0\x06\0\0\x08\x01";
+
+// the reply of xid 7 to version 2's DUMP of the own rows and that row
+const LISTED: &[u8] = b"\0\0\0\x07\0\0\0\x01\0\0\0\0\0\0\0\0\0\0\0\0\0\0\0\0\
+\0\0\0\x01\0\x01\x86\xa0\0\0\0\x04\0\0\0\x06\0\0\0\x6f\0\0\0\x01\0\x01\x86\xa0\0\0\0\x03\0\0\0\x06\0\0\0\x6f\
+\0\0\0\x01\0\x01\x86\xa0\0\0\0\x02\0\0\0\x06\0\0\0\x6f\0\0\0\x01\0\x01\x86\xa0\0\0\0\x04\0\0\0\x11\0\0\0\x6f\
+\0\0\0\x01\0\x01\x86\xa0\0\0\0\x03\0\0\0\x11\0\0\0\x6f\0\0\0\x01\0\x01\x86\xa0\0\0\0\x02\0\0\0\x11\0\0\0\x6f\
+\0\0\0\x01\x00\x03\x0d\x41\0\0\0\x01\0\0\0\x06\0\0\x08\x01\0\0\0\0";
+
+const CALLER: Peer = Peer {
+    host: [127, 0, 0, 1],
+    port: 900,
+};
+
 const LIMIT: usize = 8;
 
 const CLOCK: u64 = 1_000_000_000_500;
 
-// Puts the results of a call of uid 500 from 127.0.0.1, in a datagram, into the empty buffer, if it has any.
+// What a call from 127.0.0.1 sees that came in a datagram.
+fn context() -> Context
+    ensures limit { result.limit ≡ 8 }
+    ensures forwards { result.forwards ≡ 1 }
+    ensures caller { result.caller ≡ Udp CALLER }
+{
+    Context {
+        listener: LISTENER,
+        limit: LIMIT,
+        forwards: 1,
+        clock: CLOCK,
+        caller: Caller::Udp(CALLER),
+    }
+}
+
+// The head of a call of uid 500.
+fn head(vers: u32, proc: u32) -> CallHead {
+    CallHead {
+        xid: 1,
+        prog: 100_000,
+        vers,
+        proc,
+        cred: Credential::Sys(500),
+    }
+}
+
+// Puts the results of such a call into the empty buffer, if it has any.
 fn serve(
     books: &mut Books,
     vers: u32,
@@ -68,30 +111,20 @@ fn serve(
     requires out { meter.old.tie ≡ out.old.tie }
     requires room { 1000 ≤ out.old.cap }
     ensures books { SameFrame books.old books.new }
+    ensures cursors { GoesOn books.old.registry books.new.registry }
+    ensures floor { books.new.registry.floor ≡ books.old.registry.floor }
     ensures out { out.new.tie ≡ out.old.tie }
     ensures room { out.new.cap ≡ out.old.cap }
     ensures meter { meter.new.tie ≡ meter.old.tie }
 {
-    let peer = Peer {
-        host: [127, 0, 0, 1],
-        port: 900,
-    };
-    let head = CallHead {
-        xid: 1,
-        prog: 100_000,
-        vers,
-        proc,
-        cred: Credential::Sys(500),
-    };
-    let context = Context {
-        listener: LISTENER,
-        limit: LIMIT,
-        forwards: 1,
-        clock: CLOCK,
-        caller: Caller::Udp(peer),
-    };
+    let head = head(vers, proc);
+    let context = context();
     books.note_call(&head);
     let request = read_args(vers, proc, args)?;
+    let (dead, _) = books.registry.kept(meter);
+    if LIMIT - books.registry.len(meter) <= dead {
+        return Err("no room".into());
+    }
     let given = answer(books, &context, Call { head, request }, args, meter);
     out.clear(meter);
     if let Answer::Results(results) = given {
@@ -108,6 +141,40 @@ fn calls_are_read_answered_and_put(rt: HostRuntime) -> Result<(), Fail> {
     serve(&mut books, 2, 4, b"", &mut out, &mut meter)?;
     let len = out.len(&mut meter);
     assert_eq!(rt; out.lend(0..len, &mut meter), OWN_ROWS);
+    Ok(())
+}
+
+#[test]
+fn lists_are_as_of_their_call(rt: HostRuntime) -> Result<(), Fail> {
+    worked_lists();
+    list_replies_go_on();
+    let mut meter = Meter::new();
+    let mut out = Kept::new(rt.alloc(), 2000, &mut meter)?;
+    let mut books = Books::new(rt.alloc(), LIMIT, 1, 1000, &LISTENER, &mut meter)?;
+    serve(&mut books, 2, 1, TCP_ROW, &mut out, &mut meter)?;
+    let mut list = ListReply::new(7, Listing::Mappings, &books.registry);
+    serve(&mut books, 2, 2, TCP_ROW, &mut out, &mut meter)?;
+    let part = list.next_part(&books.registry, LISTENER.host, &mut out, &mut meter);
+    assert!(rt; part.last);
+    assert_eq!(rt; out.lend(part.start..part.end, &mut meter), LISTED);
+    books.trim(Some(list.stamp()), &mut meter);
+    assert_eq!(rt; books.registry.kept(&mut meter), (1, 2));
+    Ok(())
+}
+
+#[test]
+fn sets_want_room(rt: HostRuntime) -> Result<(), Fail> {
+    let mut meter = Meter::new();
+    let mut out = Kept::new(rt.alloc(), 1000, &mut meter)?;
+    let mut books = Books::new(rt.alloc(), LIMIT, 1, 1000, &LISTENER, &mut meter)?;
+    let request = read_args(2, 1, TCP_ROW)?;
+    let call = Call {
+        head: head(2, 1),
+        request,
+    };
+    assert!(rt; books.wants_room(&context(), &call, &mut meter));
+    serve(&mut books, 2, 1, TCP_ROW, &mut out, &mut meter)?;
+    assert!(rt; !books.wants_room(&context(), &call, &mut meter));
     Ok(())
 }
 

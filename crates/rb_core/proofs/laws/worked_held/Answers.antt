@@ -13,12 +13,14 @@ use Rattle.rb_core.specs.declared.slot.Slot.{Slot}
 use Rattle.rb_core.specs.Calls.{longest_reply}
 use Rattle.rb_core.specs.Giving.{longest_fragment}
 use Rattle.rb_core.specs.Slots.{StandsForConnection, held_in}
+use Rattle.rb_core.specs.StandsFor.{source_of}
+use Rattle.rb_core.specs.Streams.{Source}
 use Rattle.std.specs.Fmt.{digits}
 use Rattle.rb_core.proofs.laws.worked_held.Goals as goal
 
-no_slots : (slots : List Slot) → AllZip StandsForConnection slots [] → held_in slots ≡ 0
-no_slots [] z = refl
-no_slots (slot ∷ slots) z = absurd z
+no_slots : (source : Source) (slots : List Slot) → AllZip (StandsForConnection source) slots [] → held_in slots ≡ 0
+no_slots source [] z = refl
+no_slots source (slot ∷ slots) z = absurd z
 
 pub returns-clause-bytes_bounds : goal.returns-clause-bytes_bounds
 unfolding longest_reply longest_fragment longest_arguments
@@ -27,7 +29,7 @@ returns-clause-bytes_bounds c = refl
 pub returns-clause-fresh_core : goal.returns-clause-fresh_core
 unfolding own_rows text_of port_bytes is_dropped stat items_of keys_of digits
 returns-clause-fresh_core c core h =
-    let connections = no_slots (values_of core.connections.slots) h.connections.all in
+    let connections = no_slots (source_of core) (values_of core.connections.slots) h.connections.all in
     let rows : held_of_rows (rows_of core.books.registry) ≡ 270 = ap held_of_rows h.ledger.registry.slots in
     let two : length core.books.stats.two.addrinfo + length core.books.stats.two.rmtinfo ≡ 0 = rw h.ledger.stats.two refl in
     let three : length core.books.stats.three.addrinfo + length core.books.stats.three.rmtinfo ≡ 0 = rw h.ledger.stats.three refl in

@@ -4,14 +4,15 @@ use Rattle.rb_core.specs.Step.{step}
 use Rattle.rb_core.specs.Ending.{expire}
 use Rattle.rb_core.proofs.RunSteps.{expired_shown, nothing_shown, closed_shown, one_then_other}
 use Rattle.rb_core.proofs.Spending.{by_both, at_most}
+use Rattle.rb_core.proofs.Begun.{stands_begun, same_tie}
 use Rattle.rb_core.proofs.run.expire.Goals as goal
 
 pub returns-in-Ended-clause-ok : goal.returns-in-Ended-clause-ok
 unfolding step
 returns-in-Ended-clause-ok c = record {
-  step = λ s h. expired_shown (λ t. expire t c.args.now) c.args.core.now c.expire.new.self c.in-Ended.told _ c.in-Ended.ensures.acts c.show_told.ensures.told s h;
+  step = λ s h. let d = expired_shown (λ t. expire t c.args.now) c.args.core.now c.expire.new.self c.in-Ended.told _ c.in-Ended.ensures.acts c.show_told.ensures.told s h in (d.0, stands_begun c.expire.new.self _ _ c.show_told.ensures.core _ d.1);
   cost = λ s h. by_both (λ n m. ended_cost m n + 9001) c.args.core.now s _ _ h (one_then_other _ _ _ _ _ c.in-Ended.ensures.cost c.show_told.ensures.cost);
-  tie = c.in-Ended.ensures.tie;
+  tie = same_tie c.expire.new.self _ _ c.show_told.ensures.core ∙ c.in-Ended.ensures.tie;
   meter = c.show_told.ensures.cost.tie ∙ c.in-Ended.ensures.cost.tie;
 }
 

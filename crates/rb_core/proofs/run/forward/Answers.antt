@@ -4,14 +4,15 @@ use Rattle.rb_core.specs.Step.{step}
 use Rattle.rb_core.specs.Ending.{forward_reply}
 use Rattle.rb_core.proofs.RunSteps.{end_shown, none_shown, one_then_other}
 use Rattle.rb_core.proofs.Spending.{by_both, at_most}
+use Rattle.rb_core.proofs.Begun.{stands_begun, same_tie}
 use Rattle.rb_core.proofs.run.forward.Goals as goal
 
 pub returns-in-Some-clause-ok : goal.returns-in-Some-clause-ok
 unfolding step
 returns-in-Some-clause-ok c = record {
-  step = λ s h. end_shown (λ t. forward_reply t c.args.now c.args.from c.args.message.now) c.args.core.now c.forward_reply.new.self c.in-Some.told _ c.in-Some.ensures.acts c.show_told.ensures.told s h;
+  step = λ s h. let d = end_shown (λ t. forward_reply t c.args.now c.args.from c.args.message.now) c.args.core.now c.forward_reply.new.self c.in-Some.told _ c.in-Some.ensures.acts c.show_told.ensures.told s h in (d.0, stands_begun c.forward_reply.new.self _ _ c.show_told.ensures.core _ d.1);
   cost = λ s h. by_both (λ n m. ended_cost m n + 9001) c.args.core.now s _ _ h (one_then_other _ _ _ _ _ c.in-Some.ensures.cost c.show_told.ensures.cost);
-  tie = c.in-Some.ensures.tie;
+  tie = same_tie c.forward_reply.new.self _ _ c.show_told.ensures.core ∙ c.in-Some.ensures.tie;
   meter = c.show_told.ensures.cost.tie ∙ c.in-Some.ensures.cost.tie;
 }
 

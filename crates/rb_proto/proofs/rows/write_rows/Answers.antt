@@ -9,7 +9,7 @@ rows-init c =
     (c.start-cursor.ensures.passed c.args.registry.now c.args.stamp) (c.start-cursor.ensures.slots c.args.registry.now)
 
 pub write_row-requires-clause-room : goal.write_row-requires-clause-room
-write_row-requires-clause-room c =
+write_row-requires-clause-room c short =
     row_fits _ _ _ _ _ _ _ _ c.rows.invariant c.in-Some.found.1.now c.in-Some.found.0
     (record { here = c.in-Some.ensures.row; place = c.in-Some.ensures.place; passed = c.in-Some.ensures.passed }) (boolean false) c.requires.room
 

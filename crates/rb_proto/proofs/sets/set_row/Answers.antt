@@ -1,5 +1,6 @@
-use Rattle.std.proofs.Common.{sym, ◌∙◌, refl}
-use Rattle.rb_proto.proofs.RowChanges.{set_acts}
+use Rattle.std.proofs.Common.{sym, ◌∙◌, refl, ap}
+use Rattle.rb_registry.specs.Registry.{Registry}
+use Rattle.rb_proto.proofs.RowChanges.{set_acts, set_refused}
 use Rattle.rb_proto.proofs.sets.set_row.Goals as goal
 
 pub returns-then-added-clause-acts : goal.returns-then-added-clause-acts
@@ -9,8 +10,19 @@ returns-then-added-clause-acts c =
     (sym c.comes_from_here.ensures ∙ c.if-not-comes_from_here.false)
     (sym c.can_be_set.ensures ∙ c.if-not-can_be_set.false)
     c.requires.limit
+    (rw c.in-Some.is at c.requires.room)
     (sym c.if-added.ensures.taken)
     c.if-added.ensures.changes
-    c.if-added.ensures.dead
     (rw (← c.version_of.ensures) c.note_set.ensures.history)
     refl)
+
+pub returns-else-added-clause-acts : goal.returns-else-added-clause-acts
+returns-else-added-clause-acts c =
+    rw (c.if-added.false, c.in-Some.is)
+    (set_refused c.args.context.now c.args.head.now c.in-Some.row c.args.books.now _
+    (sym c.comes_from_here.ensures ∙ c.if-not-comes_from_here.false)
+    (sym c.can_be_set.ensures ∙ c.if-not-can_be_set.false)
+    c.requires.limit
+    (rw c.in-Some.is at c.requires.room)
+    (sym c.if-added.ensures.taken)
+    (ap (λ (kept : Registry). record c.args.books.now { registry = kept }) c.if-added.ensures.rejected))

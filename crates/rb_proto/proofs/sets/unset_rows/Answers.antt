@@ -5,11 +5,9 @@ use Rattle.rb_proto.proofs.sets.unset_rows.Goals as goal
 pub returns-then-removed-clause-acts : goal.returns-then-removed-clause-acts
 returns-then-removed-clause-acts c =
     rw (c.if-removed.true, c.in-Some.is)
-    (unset_acts c.args.context.now c.args.head.now c.args.prog c.args.vers c.in-Some.which _ _ c.unset-removed.new.self
+    (unset_acts c.args.context.now c.args.head.now c.args.prog c.args.vers c.in-Some.which _ _
     (sym c.comes_from_here.ensures ∙ c.if-not-comes_from_here.false)
     (rw (← c.owner_of-owner.ensures) (sym c.if-removed.ensures.taken))
     (rw (← c.owner_of-owner.ensures) c.if-removed.ensures.changes)
-    c.trim.ensures.changes
-    c.trim.ensures.dropped
     (rw (← c.version_of.ensures) c.note_unset.ensures.history)
     refl)

@@ -11,12 +11,17 @@ use Rattle.rb_core.proofs.Holding.{its_buffers, charge_fits, held_without}
 use Rattle.rb_core.proofs.Slots.{acts_from, none_closed, one_closed, slot_is_there, numbered-without}
 use Rattle.rb_xdr.proofs.PoolLemmas.{distinct-without, length-without}
 use Rattle.rb_core.proofs.Freed.{none_freed_by_close, freed_from}
+use Rattle.rb_core.proofs.Telling.{keeps_less}
+use Rattle.rb_core.proofs.Hints.{distinct_numbers}
 use Rattle.rb_core.proofs.connections.Connections.close.Goals as goal
+
+pub wanted_key-requires-clause-numbers : goal.wanted_key-requires-clause-numbers
+wanted_key-requires-clause-numbers c = distinct_numbers c.self.inside.given (values_of c.self.inside.slots.entries) c.self.invariant.numbers
 
 pub returns-in_default-clause-acts : goal.returns-in_default-clause-acts
 returns-in_default-clause-acts c =
-    subst (λ t. Acts StandsForConnections (closing_of c.args.id) t t (Err Gone)) c.self.view_is
-    (none_closed c.args.id (the_view c.self.inside) (sym c.in_default.ensures.key))
+    λ source. subst (λ t. Acts (StandsForConnections source) (closing_of c.args.id) t t (Err Gone)) c.self.view_is
+    (none_closed source c.args.id (the_view c.self.inside) (sym c.in_default.ensures.key))
 
 pub unreachable-requires : goal.unreachable-requires
 unreachable-requires c = slot_is_there _ c.self.inside.slots.entries [] c.in-Some.key (sym c.in-Some.ensures.key) (sym c.in_default-remove.ensures.value)
@@ -58,13 +63,13 @@ invariant_of-self c =
 pub returns-clause-stays : goal.returns-clause-stays
 returns-clause-stays c =
     rw (c.remove.ensures.entries, ← c.self.view_is)
-    (record { conns = refl; tie = refl; within = All-without IsWithin c.self.inside.slots.entries c.in-Some.key c.self.invariant.within })
+    (record { conns = refl; tie = refl; within = λ within. All-without IsWithin c.self.inside.slots.entries c.in-Some.key within })
 
 pub returns-clause-acts : goal.returns-clause-acts
 returns-clause-acts c =
-    rw c.remove.ensures.entries (
-    acts_from (closing_of c.args.id) (the_view c.self.inside) c.args.self.now _ _ c.self.view_is
-    (one_closed c.args.id (the_view c.self.inside) c.in-Some.key c.in-Some-remove.slot c.self.invariant.distinct c.self.invariant.numbers (sym c.in-Some.ensures.key) (sym c.in-Some-remove.ensures.value)))
+    λ source. rw c.remove.ensures.entries (
+    acts_from source (closing_of c.args.id) (the_view c.self.inside) c.args.self.now _ _ c.self.view_is
+    (one_closed source c.args.id (the_view c.self.inside) c.in-Some.key c.in-Some-remove.slot c.self.invariant.distinct c.self.invariant.numbers (sym c.in-Some.ensures.key) (sym c.in-Some-remove.ensures.value)))
 
 pub returns-in_default-clause-free : goal.returns-in_default-clause-free
 returns-in_default-clause-free c = λ id none. none
@@ -72,3 +77,10 @@ returns-in_default-clause-free c = λ id none. none
 pub returns-clause-free : goal.returns-clause-free
 returns-clause-free c =
     rw c.remove.ensures.entries (freed_from (the_view c.self.inside) c.args.self.now _ c.self.view_is (none_freed_by_close (the_view c.self.inside) c.in-Some.key))
+
+pub returns-in_default-clause-told : goal.returns-in_default-clause-told
+returns-in_default-clause-told c = λ source told. told
+
+pub returns-clause-told : goal.returns-clause-told
+returns-clause-told c =
+    rw c.remove.ensures.entries (keeps_less (the_view c.self.inside) c.args.self.now c.self.view_is c.in-Some.key)

@@ -5,15 +5,25 @@ use Rattle.rb_core.specs.contracts.connections.Connections.{the_view}
 use Rattle.rb_core.specs.declared.types.CoreFault.TheVariants.{Gone}
 use Rattle.rb_core.specs.Connections.{on_live, giving}
 use Rattle.rb_core.specs.Slots.{Acts, StandsForConnections, HasBuffers}
+use Rattle.rb_xdr.proofs.PoolLemmas.{All-value_at}
 use Rattle.rb_core.proofs.Holding.{its_buffers, charge_fits, held_few, stays_changed, recounted_cost}
 use Rattle.rb_core.proofs.Slots.{acts_from, gone_acts, live_acts, slot_is_there, table_changed}
 use Rattle.rb_core.proofs.Freed.{none_freed, freed_from}
+use Rattle.rb_core.specs.Streams.{Source}
+use Rattle.rb_core.specs.Listings.{IsToldSlot, AreTold}
+use Rattle.rb_core.proofs.Telling.{told_changed}
+use Rattle.std.specs.Map.{values_of}
+use Rattle.rb_core.proofs.Hints.{distinct_numbers}
 use Rattle.rb_core.proofs.connections.Connections.give.Goals as goal
+
+pub wanted_key-requires-clause-numbers : goal.wanted_key-requires-clause-numbers
+wanted_key-requires-clause-numbers c = distinct_numbers c.self.inside.given (values_of c.self.inside.slots.entries) c.self.invariant.numbers
 
 pub returns-in_default-clause-acts : goal.returns-in_default-clause-acts
 returns-in_default-clause-acts c =
-    subst (λ t. Acts StandsForConnections (on_live c.args.id (giving c.args.clock c.args.n)) t t (Err Gone)) c.self.view_is
-    (gone_acts c.args.id (giving c.args.clock c.args.n) (the_view c.self.inside) (sym c.in_default.ensures.key))
+    let source : Source = record { host = c.args.host; registry = c.args.registry.now } in
+    subst (λ t. Acts (StandsForConnections source) (on_live c.args.id (giving c.args.clock c.args.n)) t t (Err Gone)) c.self.view_is
+    (gone_acts source c.args.id (giving c.args.clock c.args.n) (the_view c.self.inside) (sym c.in_default.ensures.key))
 
 pub unreachable-requires : goal.unreachable-requires
 unreachable-requires c = slot_is_there _ c.self.inside.slots.entries [] c.in-Some.key (sym c.in-Some.ensures.key) (sym c.in_default-get_mut.ensures.value)
@@ -21,12 +31,12 @@ unreachable-requires c = slot_is_there _ c.self.inside.slots.entries [] c.in-Som
 pub charge-before-requires : goal.charge-before-requires
 charge-before-requires c =
     its_buffers c.self.inside.slots c.self.inside.spare c.self.inside.given c.self.inside.conns c.self.inside.held c.self.invariant c.in-Some.key c.in-Some-get_mut.slot.now (sym c.in-Some-get_mut.ensures.value) c.get_mut.new.meter
-    (ap (λ (m : Meter). m.tie) c.get_mut.ensures.cost ∙ c.wanted_key.ensures.cost.tie ∙ c.requires ∙ sym (ap (λ t. t.tie) c.self.view_is))
+    (ap (λ (m : Meter). m.tie) c.get_mut.ensures.cost ∙ c.wanted_key.ensures.cost.tie ∙ c.requires.tie ∙ sym (ap (λ t. t.tie) c.self.view_is))
 
-pub give-requires : goal.give-requires
-give-requires c =
+pub give-requires-clause-buffers : goal.give-requires-clause-buffers
+give-requires-clause-buffers c =
     its_buffers c.self.inside.slots c.self.inside.spare c.self.inside.given c.self.inside.conns c.self.inside.held c.self.invariant c.in-Some.key c.in-Some-get_mut.slot.now (sym c.in-Some-get_mut.ensures.value) c.charge-before.new.meter
-    (ap (λ (m : Meter). m.tie) c.charge-before.ensures.cost ∙ ap (λ (m : Meter). m.tie) c.get_mut.ensures.cost ∙ c.wanted_key.ensures.cost.tie ∙ c.requires ∙ sym (ap (λ t. t.tie) c.self.view_is))
+    (ap (λ (m : Meter). m.tie) c.charge-before.ensures.cost ∙ ap (λ (m : Meter). m.tie) c.get_mut.ensures.cost ∙ c.wanted_key.ensures.cost.tie ∙ c.requires.tie ∙ sym (ap (λ t. t.tie) c.self.view_is))
 
 pub recounted-self-inside-requires-clause-before : goal.recounted-self-inside-requires-clause-before
 recounted-self-inside-requires-clause-before c =
@@ -37,23 +47,24 @@ recounted-self-inside-requires-clause-few c = held_few c.self.inside.slots c.sel
 
 pub invariant_of-self : goal.invariant_of-self
 invariant_of-self c =
-    let tie = ap (λ (m : Meter). m.tie) c.charge-before.ensures.cost ∙ ap (λ (m : Meter). m.tie) c.get_mut.ensures.cost ∙ c.wanted_key.ensures.cost.tie ∙ c.requires ∙ sym (ap (λ t. t.tie) c.self.view_is) in
+    let tie = ap (λ (m : Meter). m.tie) c.charge-before.ensures.cost ∙ ap (λ (m : Meter). m.tie) c.get_mut.ensures.cost ∙ c.wanted_key.ensures.cost.tie ∙ c.requires.tie ∙ sym (ap (λ t. t.tie) c.self.view_is) in
     table_changed c.self.inside.slots c.self.inside.spare c.self.inside.given c.self.inside.conns c.self.inside.held c.in-Some.key c.in-Some-get_mut.slot.now c.give.new.self c.self.invariant (sym c.in-Some-get_mut.ensures.value)
     c.give.ensures.stays.number (subst (λ t. HasBuffers t c.give.new.self) tie c.give.ensures.stays.buffers)
     c.recounted-self-inside.result (rw (← c.charge-before.ensures.charge) c.recounted-self-inside.ensures.held) c.recounted-self-inside.ensures.within
 
 pub returns-clause-stays : goal.returns-clause-stays
-returns-clause-stays c = stays_changed (the_view c.self.inside) c.args.self.now c.in-Some.key c.give.new.self c.self.view_is c.self.invariant.within c.recounted-self-inside.ensures.within
+returns-clause-stays c = stays_changed (the_view c.self.inside) c.args.self.now c.in-Some.key c.give.new.self c.self.view_is c.recounted-self-inside.ensures.within
 
 pub returns-clause-cost : goal.returns-clause-cost
 returns-clause-cost c =
     rw (← c.self.view_is)
-    (recounted_cost _ _ _ _ _ _ (2 * length c.self.inside.slots.entries + 2) (give_cost) c.wanted_key.ensures.cost c.get_mut.ensures.cost c.charge-before.ensures.cost c.give.ensures.cost c.recounted-self-inside.ensures.cost _ (omega arith))
+    (recounted_cost _ _ _ _ _ _ (2 * length c.self.inside.slots.entries + 2) (give_cost c.args.registry.now) c.wanted_key.ensures.cost c.get_mut.ensures.cost c.charge-before.ensures.cost c.give.ensures.cost c.recounted-self-inside.ensures.cost _ (omega arith))
 
 pub returns-clause-acts : goal.returns-clause-acts
 returns-clause-acts c =
-    acts_from (on_live c.args.id (giving c.args.clock c.args.n)) (the_view c.self.inside) c.args.self.now _ _ c.self.view_is
-    (live_acts c.args.id (giving c.args.clock c.args.n) (the_view c.self.inside) c.in-Some.key c.in-Some-get_mut.slot.now c.give.new.self _ c.self.invariant.distinct (sym c.in-Some.ensures.key) (sym c.in-Some-get_mut.ensures.value) c.give.ensures.acts)
+    let source : Source = record { host = c.args.host; registry = c.args.registry.now } in
+    acts_from source (on_live c.args.id (giving c.args.clock c.args.n)) (the_view c.self.inside) c.args.self.now _ _ c.self.view_is
+    (live_acts source c.args.id (giving c.args.clock c.args.n) (the_view c.self.inside) c.in-Some.key c.in-Some-get_mut.slot.now c.give.new.self _ c.self.invariant.distinct (sym c.in-Some.ensures.key) (sym c.in-Some-get_mut.ensures.value) c.give.ensures.acts)
 
 pub returns-in_default-clause-free : goal.returns-in_default-clause-free
 returns-in_default-clause-free c = λ id none. none
@@ -61,3 +72,14 @@ returns-in_default-clause-free c = λ id none. none
 pub returns-clause-free : goal.returns-clause-free
 returns-clause-free c = freed_from (the_view c.self.inside) c.args.self.now _ c.self.view_is
     (none_freed (the_view c.self.inside) c.in-Some.key c.in-Some-get_mut.slot.now c.give.new.self (sym c.in-Some-get_mut.ensures.value) c.give.ensures.stays.number c.give.ensures.awaits)
+
+pub give-requires-clause-told : goal.give-requires-clause-told
+give-requires-clause-told c =
+    let source : Source = record { host = c.args.host; registry = c.args.registry.now } in
+    All-value_at (IsToldSlot source) c.self.inside.slots.entries c.in-Some.key c.in-Some-get_mut.slot.now
+    (subst (λ t. AreTold source t) (sym c.self.view_is) c.requires.told) (sym c.in-Some-get_mut.ensures.value)
+
+pub returns-clause-told : goal.returns-clause-told
+returns-clause-told c =
+    let source : Source = record { host = c.args.host; registry = c.args.registry.now } in
+    told_changed (the_view c.self.inside) c.args.self.now c.self.view_is source c.in-Some.key c.give.new.self c.requires.told c.give.ensures.told

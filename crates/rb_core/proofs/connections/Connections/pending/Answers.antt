@@ -6,10 +6,10 @@ use Rattle.rb_core.proofs.connections.Connections.pending.Goals as goal
 
 pub returns-in_default-clause-lent : goal.returns-in_default-clause-lent
 unfolding is_wanted live_connection
-returns-in_default-clause-lent c = λ o h. ap pending_on (c.in_default.ensures.found o h)
+returns-in_default-clause-lent c = λ source o h. ap pending_on (c.in_default.ensures.found source o h)
 
 pub returns-clause-lent : goal.returns-clause-lent
 unfolding is_wanted live_connection
-returns-clause-lent c = λ o h.
-    let f = c.in-Some.ensures.found o h in
-    ap pending_on f.found ∙ ap Ok (sym (c.pending.ensures.pending f.connection f.stands))
+returns-clause-lent c = λ source o h.
+    let f = c.in-Some.ensures.found source o h in
+    ap pending_on f.found ∙ ap Ok (sym (c.pending.ensures.pending source f.connection f.stands))

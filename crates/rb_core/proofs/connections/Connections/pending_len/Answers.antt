@@ -6,10 +6,10 @@ use Rattle.rb_core.proofs.connections.Connections.pending_len.Goals as goal
 
 pub returns-in_default-clause-len : goal.returns-in_default-clause-len
 unfolding is_wanted live_connection
-returns-in_default-clause-len c = λ o h. sym (ap (λ x. pending_count (pending_on x)) (c.in_default.ensures.found o h))
+returns-in_default-clause-len c = λ source o h. sym (ap (λ x. pending_count (pending_on x)) (c.in_default.ensures.found source o h))
 
 pub returns-clause-len : goal.returns-clause-len
 unfolding is_wanted live_connection
-returns-clause-len c = λ o h.
-    let f = c.in-Some.ensures.found o h in
-    ap Ok (c.pending_len.ensures.len f.connection f.stands) ∙ sym (ap (λ x. pending_count (pending_on x)) f.found)
+returns-clause-len c = λ source o h.
+    let f = c.in-Some.ensures.found source o h in
+    ap Ok (c.pending_len.ensures.len source f.connection f.stands) ∙ sym (ap (λ x. pending_count (pending_on x)) f.found)

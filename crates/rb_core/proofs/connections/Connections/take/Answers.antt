@@ -9,12 +9,18 @@ use Rattle.rb_core.proofs.Holding.{its_buffers, charge_fits, held_few, stays_cha
 use Rattle.rb_core.proofs.Slots.{acts_from, gone_acts, live_acts, gone_arguments, live_arguments, slot_is_there, table_changed}
 use Rattle.rb_xdr.proofs.PoolLemmas.{length-with}
 use Rattle.rb_core.proofs.Freed.{none_freed, found_live, freed_from, hears_from, heard_from}
+use Rattle.rb_core.proofs.Telling.{keeps_changed}
+use Rattle.std.specs.Map.{values_of}
+use Rattle.rb_core.proofs.Hints.{distinct_numbers}
 use Rattle.rb_core.proofs.connections.Connections.take.Goals as goal
+
+pub wanted_key-requires-clause-numbers : goal.wanted_key-requires-clause-numbers
+wanted_key-requires-clause-numbers c = distinct_numbers c.self.inside.given (values_of c.self.inside.slots.entries) c.self.invariant.numbers
 
 pub returns-in_default-clause-acts : goal.returns-in_default-clause-acts
 returns-in_default-clause-acts c =
-    subst (λ t. Acts StandsForConnections (on_live c.args.id (feeding c.args.clock c.args.piece.now)) t t (Err Gone)) c.self.view_is
-    (gone_acts c.args.id (feeding c.args.clock c.args.piece.now) (the_view c.self.inside) (sym c.in_default.ensures.key))
+    λ source. subst (λ t. Acts (StandsForConnections source) (on_live c.args.id (feeding c.args.clock c.args.piece.now)) t t (Err Gone)) c.self.view_is
+    (gone_acts source c.args.id (feeding c.args.clock c.args.piece.now) (the_view c.self.inside) (sym c.in_default.ensures.key))
 
 pub unreachable-requires : goal.unreachable-requires
 unreachable-requires c = slot_is_there _ c.self.inside.slots.entries [] c.in-Some.key (sym c.in-Some.ensures.key) (sym c.in_default-get_mut.ensures.value)
@@ -44,7 +50,7 @@ invariant_of-self c =
     c.recounted-self-inside.result (rw (← c.charge-before.ensures.charge) c.recounted-self-inside.ensures.held) c.recounted-self-inside.ensures.within
 
 pub returns-clause-stays : goal.returns-clause-stays
-returns-clause-stays c = stays_changed (the_view c.self.inside) c.args.self.now c.in-Some.key c.take-received.new.self c.self.view_is c.self.invariant.within c.recounted-self-inside.ensures.within
+returns-clause-stays c = stays_changed (the_view c.self.inside) c.args.self.now c.in-Some.key c.take-received.new.self c.self.view_is c.recounted-self-inside.ensures.within
 
 pub returns-clause-cost : goal.returns-clause-cost
 returns-clause-cost c =
@@ -53,21 +59,21 @@ returns-clause-cost c =
 
 pub returns-clause-acts : goal.returns-clause-acts
 returns-clause-acts c =
-    acts_from (on_live c.args.id (feeding c.args.clock c.args.piece.now)) (the_view c.self.inside) c.args.self.now _ _ c.self.view_is
-    (live_acts c.args.id (feeding c.args.clock c.args.piece.now) (the_view c.self.inside) c.in-Some.key c.in-Some-get_mut.slot.now c.take-received.new.self _ c.self.invariant.distinct (sym c.in-Some.ensures.key) (sym c.in-Some-get_mut.ensures.value) c.take-received.ensures.acts)
+    λ source. acts_from source (on_live c.args.id (feeding c.args.clock c.args.piece.now)) (the_view c.self.inside) c.args.self.now _ _ c.self.view_is
+    (live_acts source c.args.id (feeding c.args.clock c.args.piece.now) (the_view c.self.inside) c.in-Some.key c.in-Some-get_mut.slot.now c.take-received.new.self _ c.self.invariant.distinct (sym c.in-Some.ensures.key) (sym c.in-Some-get_mut.ensures.value) (c.take-received.ensures.acts source))
 
 pub returns-clause-as_many : goal.returns-clause-as_many
 returns-clause-as_many c = length-with c.self.inside.slots.entries c.in-Some.key c.take-received.new.self ∙ ap (λ t. length t.slots) c.self.view_is
 
 pub returns-in_default-clause-arguments : goal.returns-in_default-clause-arguments
 returns-in_default-clause-arguments c =
-    subst (λ t. Shows StandsForConnections (arguments_on c.args.id c.args.arguments.now.bytes c.args.piece.now) t c.args.arguments.now.bytes) c.self.view_is
-    (gone_arguments c.args.id c.args.arguments.now.bytes c.args.piece.now (the_view c.self.inside) (sym c.in_default.ensures.key))
+    λ source. subst (λ t. Shows (StandsForConnections source) (arguments_on c.args.id c.args.arguments.now.bytes c.args.piece.now) t c.args.arguments.now.bytes) c.self.view_is
+    (gone_arguments source c.args.id c.args.arguments.now.bytes c.args.piece.now (the_view c.self.inside) (sym c.in_default.ensures.key))
 
 pub returns-clause-arguments : goal.returns-clause-arguments
 returns-clause-arguments c =
-    subst (λ t. Shows StandsForConnections (arguments_on c.args.id c.args.arguments.now.bytes c.args.piece.now) t c.take-received.new.arguments.bytes) c.self.view_is
-    (live_arguments c.args.id c.args.arguments.now.bytes c.args.piece.now (the_view c.self.inside) c.in-Some.key c.in-Some-get_mut.slot.now c.take-received.new.arguments.bytes c.self.invariant.distinct (sym c.in-Some.ensures.key) (sym c.in-Some-get_mut.ensures.value) c.take-received.ensures.arguments)
+    λ source. subst (λ t. Shows (StandsForConnections source) (arguments_on c.args.id c.args.arguments.now.bytes c.args.piece.now) t c.take-received.new.arguments.bytes) c.self.view_is
+    (live_arguments source c.args.id c.args.arguments.now.bytes c.args.piece.now (the_view c.self.inside) c.in-Some.key c.in-Some-get_mut.slot.now c.take-received.new.arguments.bytes c.self.invariant.distinct (sym c.in-Some.ensures.key) (sym c.in-Some-get_mut.ensures.value) (c.take-received.ensures.arguments source))
 
 pub returns-in_default-clause-free : goal.returns-in_default-clause-free
 returns-in_default-clause-free c = λ id none. none
@@ -82,3 +88,10 @@ returns-clause-hears c =
     let l = found_live c.args.id c.in-Some.key c.self.inside.slots.entries c.in-Some-get_mut.slot.now c.self.invariant.distinct (sym c.in-Some.ensures.key) (sym c.in-Some-get_mut.ensures.value) in
     hears_from c.args.id (the_view c.self.inside) c.args.self.now _ (Ok c.take-received.result) c.self.view_is
     (heard_from (the_view c.self.inside) c.args.id c.in-Some.key c.in-Some-get_mut.slot.now c.take-received.new.self c.take-received.result (sym c.in-Some-get_mut.ensures.value) l.0 c.take-received.ensures.stays.number c.take-received.ensures.heard)
+
+pub returns-in_default-clause-told : goal.returns-in_default-clause-told
+returns-in_default-clause-told c = λ source told. told
+
+pub returns-clause-told : goal.returns-clause-told
+returns-clause-told c =
+    keeps_changed (the_view c.self.inside) c.args.self.now c.self.view_is c.in-Some.key c.in-Some-get_mut.slot.now c.take-received.new.self (sym c.in-Some-get_mut.ensures.value) c.take-received.ensures.told

@@ -10,11 +10,15 @@ use Rattle.rb_core.specs.contracts.engine.Core.{the_view}
 use Rattle.rb_core.specs.declared.message.Message.{Message}
 use Rattle.rb_core.specs.declared.slot.Heard.{Heard}
 use Rattle.rb_core.specs.Calls.{Outcome, message_with, outcome, is_no_call}
-use Rattle.rb_core.specs.StandsFor.{Held, StandsFor, outcome_with, answering_heard, without_arguments}
+use Rattle.rb_core.specs.StandsFor.{Held, StandsFor, context_of, answering_heard, without_arguments}
 use Rattle.rb_core.specs.State.{State}
 use Rattle.rb_core.specs.Slots.{Acts}
 use Rattle.rb_forward.specs.Table.{slots_of, is_waiting, OnlyWaitsAnew}
-use Rattle.rb_core.specs.Awaits.{has_live}
+use Rattle.rb_core.specs.Awaits.{has_idle, AreAwaited}
+use Rattle.rb_core.specs.Rooms.{MakesRoom, source_in}
+use Rattle.rb_core.specs.Serving.{served_in, kind_in}
+use Rattle.rb_core.specs.Slots.{Table}
+use Rattle.rb_core.proofs.Answering.{told_for_room, told_after, served_by, list_after}
 use Rattle.rb_core.proofs.Awaited.{awaited_when_answered}
 use Rattle.rb_core.proofs.Steps.{answer_acts}
 use Rattle.rb_core.proofs.engine.Core.answer.Goals as goal
@@ -32,40 +36,67 @@ all_lent lent held n is all = is ∙ ap (λ (k : ℕ). take k held) (omega (arit
 by_lent : (said : Message) (verdict : Verdict) (lent held : List ℕ) → said ≡ message_with verdict lent → lent ≡ held → said ≡ message_with verdict held
 by_lent said verdict lent held says all = says ∙ ap (message_with verdict) all
 
+-- at the message of what is held
 of_message : (context : Context) (said message : Message) (lent held : List ℕ) (old new : Books) (given : Outcome) → said ≡ message → lent ≡ held → ActsAs (outcome context said lent) old new given → ActsAs (outcome context message held) old new given
 of_message context said message lent held old new given is all acts = subst (λ (xs : List ℕ). ActsAs (outcome context message xs) old new given) all (subst (λ (m : Message). ActsAs (outcome context m lent) old new given) is acts)
+
+makes_for : (context : Context) (said message : Message) (before after : Table) (old mid : Books) → said ≡ message → MakesRoom context said before old after mid → MakesRoom context message before old after mid
+makes_for context said message before after old mid is makes = subst (λ (m : Message). MakesRoom context m before old after mid) is makes
+
+-- what a call sees, of what is held by its other name
+sees : (view now : Held) (context : Context) (id : ℕ) (heard : Heard) → view ≡ now → context ≡ context_of now (Tcp id heard.peer) → context ≡ context_of view (Tcp id heard.peer)
+sees view now context id heard same is = is ∙ ap (λ (h : Held). context_of h (Tcp id heard.peer)) (sym same)
+
+pub make_room-requires-clause-told : goal.make_room-requires-clause-told
+make_room-requires-clause-told c =
+    told_for_room (the_view c.self.inside) (Tcp c.args.id c.args.heard.peer) c.context-context.result (sees _ _ _ c.args.id c.args.heard c.self.view_is c.context-context.ensures) c.self.invariant.told
+
+pub go_on-requires-clause-told : goal.go_on-requires-clause-told
+go_on-requires-clause-told c =
+    told_after (the_view c.self.inside) (Tcp c.args.id c.args.heard.peer) c.context-context.result (sees _ _ _ c.args.id c.args.heard c.self.view_is c.context-context.ensures)
+    c.make_room.new.connections c.make_room.new.books c.serve-served.new.books c.serve-served.ensures.cursors c.serve-served.ensures.floor c.make_room.ensures.told
+
+pub go_on-requires-clause-list : goal.go_on-requires-clause-list
+go_on-requires-clause-list c =
+    list_after (the_view c.self.inside) (Tcp c.args.id c.args.heard.peer) c.context-context.result (sees _ _ _ c.args.id c.args.heard c.self.view_is c.context-context.ensures)
+    c.serve-served.new.books c.serve-served.result c.serve-served.ensures.list
 
 pub returns-clause-acts : goal.returns-clause-acts
 returns-clause-acts c =
     let held = c.self.inside.arguments.bytes in
     let all = all_lent c.lend-arguments.result.now held c.len-len.result c.lend-arguments.ensures.bytes c.len-len.ensures.len in
     let says = by_lent c.message_with-message.result c.args.heard.verdict c.lend-arguments.result.now held c.message_with-message.ensures.message all in
-    let given = outcome_with c.serve-outcome.result c.serve-outcome.new.out.bytes in
     let view = without_arguments (the_view c.self.inside) in
+    let books = c.serve-served.new.books in
+    let host = c.self.inside.listener.host in
+    let is = sees (the_view c.self.inside) _ c.context-context.result c.args.id c.args.heard c.self.view_is c.context-context.ensures in
+    let given : Outcome = served_in (source_in host books) c.serve-served.result c.serve-served.new.out.bytes in
+    let message : Message = message_with c.args.heard.verdict held in
+    let acts = of_message c.context-context.result c.message_with-message.result message c.lend-arguments.result.now held _ _ given says all
+    (subst (λ (x : Context). ActsAs (outcome c.context-context.result c.message_with-message.result c.lend-arguments.result.now) c.make_room.new.books books (served_in (source_in x.listener.host books) c.serve-served.result c.serve-served.new.out.bytes)) is c.serve-served.ensures.acts) in
     rw c.clear.ensures.empty (
-    heard_from c.args.id c.args.heard (the_view c.self.inside) c.args.self.now _ c.is_no_call.result c.self.view_is (
-    told given c.is_no_call.result (c.is_no_call.ensures c.serve-outcome.new.out.bytes) (answering_heard c.args.id c.args.heard held) _ _
-    (answer_acts view c.args.id c.args.heard.peer (message_with c.args.heard.verdict held) held c.serve-outcome.new.books given c.settle.new.self
-    (record {
-      context = c.context-context.result;
-      is = subst (λ (h : Held). c.context-context.result ≡ record { listener = h.setting.listener; limit = h.setting.limits.rows; forwards = h.setting.limits.forwards; clock = h.clock; caller = Tcp c.args.id c.args.heard.peer }) (sym c.self.view_is) c.context-context.ensures;
-      acts = of_message c.context-context.result c.message_with-message.result (message_with c.args.heard.verdict held) c.lend-arguments.result.now held _ _ given says all c.serve-outcome.ensures.acts;
-      frame = c.serve-outcome.ensures.frame;
-    })
-    c.settle.ensures.stays c.settle.ensures.stands)))
+    heard_from c.args.id c.args.heard (the_view c.self.inside) c.args.self.now _ c.go_on.result c.self.view_is (
+    told given c.go_on.result c.go_on.ensures.closed (answering_heard c.args.id c.args.heard held) _ _
+    (answer_acts view c.args.id c.args.heard.peer message held c.make_room.new.connections books given c.go_on.new.self
+    (served_by view (Tcp c.args.id c.args.heard.peer) c.context-context.result is c.make_room.new.connections c.make_room.new.books books c.serve-served.ensures.cursors c.serve-served.ensures.floor c.make_room.ensures.told
+    message held given (makes_for c.context-context.result c.message_with-message.result message _ _ _ _ says c.make_room.ensures.makes) acts c.make_room.ensures.frame c.serve-served.ensures.frame c.make_room.ensures.stays)
+    c.go_on.ensures.stays c.go_on.ensures.stands)))
 
-waiting_in : (c : goal.After-is_no_call) → is_waiting c.args.id (slots_of c.self.inside.books.forwards) ≡ false
+waiting_in : (c : goal.After-go_on) → is_waiting c.args.id (slots_of c.self.inside.books.forwards) ≡ false
 waiting_in c = subst (λ (h : Held). is_waiting c.args.id (slots_of h.books.forwards) ≡ false) (sym c.self.view_is) c.requires.caller
 
-live_in : (c : goal.After-is_no_call) → has_live c.args.id c.self.inside.connections ≡ true
-live_in c = subst (λ (h : Held). has_live c.args.id h.connections ≡ true) (sym c.self.view_is) c.requires.live
+idle_in : (c : goal.After-go_on) → has_idle c.args.id c.self.inside.connections ≡ true
+idle_in c = subst (λ (h : Held). has_idle c.args.id h.connections ≡ true) (sym c.self.view_is) c.requires.idle
 
-anew_in : (c : goal.After-is_no_call) → OnlyWaitsAnew (Tcp c.args.id c.args.heard.peer) (slots_of c.self.inside.books.forwards) (slots_of c.serve-outcome.new.books.forwards)
-anew_in c = subst (λ (x : Context). OnlyWaitsAnew x.caller (slots_of c.self.inside.books.forwards) (slots_of c.serve-outcome.new.books.forwards)) c.context-context.ensures c.serve-outcome.ensures.waiting
+anew_in : (c : goal.After-go_on) → OnlyWaitsAnew (Tcp c.args.id c.args.heard.peer) (slots_of c.make_room.new.books.forwards) (slots_of c.serve-served.new.books.forwards)
+anew_in c = subst (λ (x : Context). OnlyWaitsAnew x.caller (slots_of c.make_room.new.books.forwards) (slots_of c.serve-served.new.books.forwards)) c.context-context.ensures c.serve-served.ensures.waiting
+
+awaited_in : (c : goal.After-go_on) → AreAwaited c.make_room.new.books.forwards c.make_room.new.connections
+awaited_in c = rw c.make_room.ensures.forwards (λ number waits. c.make_room.ensures.free number (c.self.invariant.awaited number waits))
 
 pub invariant_of-self : goal.invariant_of-self
 invariant_of-self c = record {
-  conns = c.settle.ensures.stays.conns ∙ c.self.invariant.conns;
+  conns = c.go_on.ensures.stays.conns ∙ c.make_room.ensures.stays.conns ∙ c.self.invariant.conns;
   few_conns = c.self.invariant.few_conns;
   few_rows = c.self.invariant.few_rows;
   len = c.self.invariant.len;
@@ -75,8 +106,9 @@ invariant_of-self c = record {
   few = search rules;
   first_xid = search rules;
   awaited =
-      awaited_when_answered c.self.inside.books.forwards c.serve-outcome.new.books.forwards c.args.id c.args.heard.peer c.self.inside.connections c.settle.new.self c.serve-outcome.result
-      c.self.invariant.awaited (waiting_in c) (anew_in c) c.serve-outcome.ensures.quiet c.settle.ensures.others (λ is. c.settle.ensures.awaits is (live_in c));
+      awaited_when_answered c.make_room.new.books.forwards c.serve-served.new.books.forwards c.args.id c.args.heard.peer c.make_room.new.connections c.go_on.new.self (kind_in c.serve-served.result)
+      (awaited_in c) (rw c.make_room.ensures.forwards (waiting_in c)) (anew_in c) c.serve-served.ensures.quiet c.go_on.ensures.others (λ is. c.go_on.ensures.awaits is (c.make_room.ensures.idle c.args.id (idle_in c)));
+  told = c.go_on.ensures.told;
   tied = search rules;
   connections_tie = search rules;
   reply_cap = search rules;

@@ -1,16 +1,17 @@
 use Rattle.std.proofs.lemmas.Result.{err_from_is_err_and}
 use Rattle.rb_core.specs.contracts.engine.Core.{the_view}
-use Rattle.rb_core.proofs.Steps.{acts_from, gave_done, gave_refused}
+use Rattle.rb_core.proofs.Steps.{gave_done, gave_refused}
+use Rattle.rb_core.proofs.Begun.{began, acts_begun}
 use Rattle.rb_core.proofs.engine.Core.gave.Goals as goal
 
 pub returns-in_err-give-clause-acts : goal.returns-in_err-give-clause-acts
 returns-in_err-give-clause-acts c =
     let p = err_from_is_err_and c.from_residual.result c.from_residual.ensures.1 in
     rw (p.1, p.2, c.in_err-give.ensures.refused) (
-    acts_from _ (the_view c.self.inside) c.args.self.now _ _ c.self.view_is
-    (gave_refused (the_view c.self.inside) c.args.now c.max-clock.result c.max-clock.ensures c.give.new.self c.args.id c.args.n _ c.in_err-give.ensures.acts))
+    acts_begun _ (the_view c.self.inside) c.args.self.now _ c.count-self-inside.result _ c.self.view_is
+    (gave_refused (began (the_view c.self.inside) c.count-self-inside.result) c.args.now c.max-clock.result c.max-clock.ensures c.give.new.self c.args.id c.args.n _ c.in_err-give.ensures.acts))
 
 pub returns-clause-acts : goal.returns-clause-acts
 returns-clause-acts c =
-    acts_from _ (the_view c.self.inside) c.args.self.now _ _ c.self.view_is
-    (gave_done (the_view c.self.inside) c.args.now c.max-clock.result c.max-clock.ensures c.give.new.self c.args.id c.args.n _ c.in_ok-give.ensures.stays c.in_ok-give.ensures.acts)
+    acts_begun _ (the_view c.self.inside) c.args.self.now _ c.count-self-inside.result _ c.self.view_is
+    (gave_done (began (the_view c.self.inside) c.count-self-inside.result) c.args.now c.max-clock.result c.max-clock.ensures c.give.new.self c.args.id c.args.n _ c.in_ok-give.ensures.stays c.in_ok-give.ensures.acts)

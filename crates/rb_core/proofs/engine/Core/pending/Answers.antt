@@ -1,10 +1,28 @@
-use Rattle.std.proofs.Common.{sym, subst}
+use Rattle.std.proofs.Common.{◌+◌, refl, sym, subst}
+use Rattle.rb_xdr.specs.Meter.{PaysAtMost}
+use Rattle.rb_core.specs.Costs.{look_cost, pending_cost}
 use Rattle.rb_core.specs.Step.{pending}
-use Rattle.rb_core.specs.StandsFor.{StandsFor}
+use Rattle.rb_core.specs.StandsFor.{Held, StandsFor, source_of}
+use Rattle.rb_core.specs.StepLaws.{lent_by}
+use Rattle.rb_core.specs.contracts.engine.Core.{the_view}
+use Rattle.rb_core.proofs.Begun.{begins_at}
+use Rattle.rb_core.proofs.CallBounds.{pending_within}
 use Rattle.rb_core.proofs.engine.Core.pending.Goals as goal
 
-pub returns-clause-lent : goal.returns-clause-lent
+paid : (c : goal.After-pending) → PaysAtMost c.args.meter.now c.pending.new.meter (look_cost c.args.self.now.connections + pending_cost)
+paid c = subst (λ (held : Held). PaysAtMost c.args.meter.now c.pending.new.meter (look_cost held.connections + pending_cost)) c.self.view_is c.pending.ensures.cost
+
+pub returns : goal.returns
 unfolding pending
-returns-clause-lent c = λ s h.
-    let z = subst (λ held. StandsFor held s) (sym c.self.view_is) h in
-    c.pending.ensures.lent s.connections z.connections
+returns c = (
+  (refl, λ core. tt, begins_at _ _ _ c.args.meter.now c.self.view_is c.count-self-inside.ensures),
+  record {
+    begun = tt;
+    lent = λ s h.
+        let z = subst (λ held. StandsFor held s) (sym c.self.view_is) h in
+        c.pending.ensures.lent (source_of (the_view c.self.inside)) s.connections z.connections;
+    few = c.pending.ensures.few;
+    cost = paid c;
+    bound = pending_within c.args.self.now _ _ (lent_by c.pending.result) (paid c);
+  },
+)

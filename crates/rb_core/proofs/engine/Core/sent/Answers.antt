@@ -2,7 +2,8 @@ use Rattle.std.proofs.Common.{◌≡◌, Bool, true, false, Result, Ok, Err, ref
 use Rattle.std.specs.Prelude.{IsOk}
 use Rattle.rb_forward.specs.declared.types.Gone.{Gone}
 use Rattle.rb_core.specs.contracts.engine.Core.{the_view}
-use Rattle.rb_core.proofs.Steps.{acts_from, sent_acts, sent_refused}
+use Rattle.rb_core.proofs.Steps.{sent_acts, sent_refused}
+use Rattle.rb_core.proofs.Begun.{began, acts_begun}
 use Rattle.rb_core.proofs.engine.Core.sent.Goals as goal
 
 is_not : (b : Bool) → (b ≡ true → ⊥) → b ≡ false
@@ -20,12 +21,12 @@ is_ok (Err f) x is = absurd cc
 pub returns-in_default-clause-acts : goal.returns-in_default-clause-acts
 returns-in_default-clause-acts c =
     rw c.in_default.ensures.err (
-    acts_from _ (the_view c.self.inside) c.args.self.now _ _ c.self.view_is
-    (sent_refused (the_view c.self.inside) c.args.id.number c.self.inside.books
+    acts_begun _ (the_view c.self.inside) c.args.self.now _ c.count-self-inside.result _ c.self.view_is
+    (sent_refused (began (the_view c.self.inside) c.count-self-inside.result) c.args.id.number c.self.inside.books
     (λ l h. is_not _ (λ e. not_ok c.sent.result c.in_default.field-0 c.in_default.is ((c.sent.ensures.there l h).1 e)))))
 
 pub returns-clause-acts : goal.returns-clause-acts
 returns-clause-acts c =
-    acts_from _ (the_view c.self.inside) c.args.self.now _ _ c.self.view_is
-    (sent_acts (the_view c.self.inside) c.args.id.number c.sent.new.self tt c.in-Ok.ensures.frame
+    acts_begun _ (the_view c.self.inside) c.args.self.now _ c.count-self-inside.result _ c.self.view_is
+    (sent_acts (began (the_view c.self.inside) c.count-self-inside.result) c.args.id.number c.sent.new.self tt c.in-Ok.ensures.registry c.in-Ok.ensures.frame
     (λ l h. (c.sent.ensures.there l h).0 (is_ok c.sent.result tt c.in-Ok.is)) c.in-Ok.ensures.sent)

@@ -9,31 +9,31 @@ use Rattle.rb_core.proofs.slot.Slot.give.Goals as goal
 least : (n : ℕ) → min n 0 ≡ 0
 least n = omega arith
 
-pub returns-in_default-clause-acts : goal.returns-in_default-clause-acts
-returns-in_default-clause-acts c =
-    none_given c.args.self.now c.args.clock c.args.n
-    (λ x h. rw (nothing_pending _ _ _ x.phase c.in_default.not-Owing h.phase) (least c.args.n))
+pub returns-in_default-stage-clause-acts : goal.returns-in_default-stage-clause-acts
+returns-in_default-stage-clause-acts c =
+    none_given _ c.args.self.now c.args.clock c.args.n
+    (λ x h. rw (nothing_pending _ _ _ _ x.phase c.in_default-stage.not-Owing c.in_default.not-Streaming h.phase) (least c.args.n))
 
 pub returns-then-more-eq0-clause-acts : goal.returns-then-more-eq0-clause-acts
 returns-then-more-eq0-clause-acts c =
-    none_given c.args.self.now c.args.clock c.args.n
+    none_given _ c.args.self.now c.args.clock c.args.n
     (λ x h.
-    let w = owing_phase c.in-Owing.given _ _ _ x.phase c.in-Owing.is h.phase in
+    let w = owing_phase _ c.in-Owing.given _ _ _ x.phase c.in-Owing.is h.phase in
     let many = c.pending_len.ensures.pending _ w.0 w.2 in
     rw w.1 (rw (← many) (sym c.min-more.ensures ∙ c.if-more-eq0.true)))
 
 pub advance-requires-clause-reply_cap : goal.advance-requires-clause-reply_cap
 unfolding buffer_size longest_arguments longest_reply
-advance-requires-clause-reply_cap c = omega (arith, c.requires.buffer_cap)
+advance-requires-clause-reply_cap c = omega (arith, c.requires.buffers.buffer_cap)
 
 pub returns-in-Some-clause-acts : goal.returns-in-Some-clause-acts
 returns-in-Some-clause-acts c =
-    some_given c.args.self.now _ c.args.clock c.args.n c.min-more.result c.in-Owing.given (Some c.in-Some.given) c.in-Owing.is
+    some_given _ c.args.self.now _ c.args.clock c.args.n c.min-more.result c.in-Owing.given (Some c.in-Some.given) c.in-Owing.is
     c.in-Some.ensures.count (λ o g. rw (← c.pending_len.ensures.pending _ o g) c.min-more.ensures) (omega (arith, c.if-more-eq0.false)) refl refl refl
-    (λ o k g e. c.in-Some.ensures.giving o g) (λ e. absurd cc)
+    (λ o k g none e. (c.in-Some.ensures.giving o g, none)) (λ e. absurd cc)
 
 pub returns-in-None-clause-acts : goal.returns-in-None-clause-acts
 returns-in-None-clause-acts c =
-    some_given c.args.self.now _ c.args.clock c.args.n c.min-more.result c.in-Owing.given None c.in-Owing.is
+    some_given _ c.args.self.now _ c.args.clock c.args.n c.min-more.result c.in-Owing.given None c.in-Owing.is
     c.in-None.ensures.count (λ o g. rw (← c.pending_len.ensures.pending _ o g) c.min-more.ensures) (omega (arith, c.if-more-eq0.false)) refl refl refl
-    (λ o k g e. absurd cc) (λ e. (ap (λ (kept : Kept). kept.bytes) c.clear.ensures.empty, ap (λ (kept : Kept). kept.bytes) c.clear-in-None.ensures.empty))
+    (λ o k g none e. absurd cc) (λ e. (ap (λ (kept : Kept). kept.bytes) c.clear.ensures.empty, ap (λ (kept : Kept). kept.bytes) c.clear-in-None.ensures.empty))

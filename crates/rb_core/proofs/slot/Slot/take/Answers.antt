@@ -6,9 +6,11 @@ use Rattle.rb_core.specs.declared.slot.Stage.TheVariants as stages
 use Rattle.rb_core.specs.State.{Phase}
 use Rattle.rb_core.specs.Connections.{taking, taking_on, fed_in}
 use Rattle.rb_core.specs.Connections.Taking.{TakesNone}
+use Rattle.rb_core.specs.declared.giving.Stream.{Stream}
+use Rattle.rb_core.specs.Streams.{Source}
 use Rattle.rb_core.specs.Slots.{StandsForPhase, IsBeforePiece}
 use Rattle.rb_core.proofs.Slots.{reads_nothing}
-use Rattle.rb_core.proofs.OneSlot.{idle_phase, reading_phase, owing_phase, awaiting_phase, lost_phase, feeding_acts, taken_arguments, nothing_of_nothing, nothing_where_owing, nothing_where_awaiting, nothing_where_lost, some_where_fed, mark_of_idle, mark_of_reading}
+use Rattle.rb_core.proofs.OneSlot.{idle_phase, reading_phase, owing_phase, streaming_phase, awaiting_phase, lost_phase, feeding_acts, taken_arguments, nothing_of_nothing, nothing_where_owing, nothing_where_awaiting, nothing_where_lost, some_where_fed, mark_of_idle, mark_of_reading}
 use Rattle.rb_core.proofs.slot.Slot.take.Goals as goal
 
 no_bytes : (piece : List ℕ) → eqb (length piece) 0 ≡ true → piece ≡ []
@@ -22,7 +24,7 @@ pub returns-then-is_empty-clause-acts : goal.returns-then-is_empty-clause-acts
 returns-then-is_empty-clause-acts c =
     let piece = c.args.piece.now in
     let nothing = no_bytes piece (sym c.is_empty.ensures ∙ c.if-is_empty.true) in
-    feeding_acts c.args.self.now _ c.args.clock piece _ (λ x h. record {
+    λ source. feeding_acts source c.args.self.now _ c.args.clock piece _ (λ x h. record {
       taken = TakesNone;
       is = rw nothing (nothing_of_nothing x.phase);
       gives = c.nothing.ensures;
@@ -33,8 +35,8 @@ pub returns-in-Idle-clause-acts : goal.returns-in-Idle-clause-acts
 returns-in-Idle-clause-acts c =
     let piece = c.args.piece.now in
     let some = some_bytes piece (sym c.is_empty.ensures ∙ c.if-is_empty.false) in
-    feeding_acts c.args.self.now _ c.args.clock piece _ (λ x h.
-    let p = idle_phase _ _ _ x.phase c.in-Idle.is h.phase in
+    λ source. feeding_acts source c.args.self.now _ c.args.clock piece _ (λ x h.
+    let p = idle_phase source _ _ _ x.phase c.in-Idle.is h.phase in
     let before : IsBeforePiece _ c.new.result c.args.clock x [] = record {
       number = h.number;
       peer = h.peer;
@@ -46,48 +48,49 @@ returns-in-Idle-clause-acts c =
       taken = taking_on [] piece;
       is = some_where_fed x.phase [] piece (ap fed_in p.0) some;
       gives = c.feed.ensures.received x [] before;
-      stands = c.feed.ensures.stands x [] before;
+      stands = c.feed.ensures.stands source x [] before;
     })
 
 pub returns-in-Reading-clause-acts : goal.returns-in-Reading-clause-acts
 returns-in-Reading-clause-acts c =
     let piece = c.args.piece.now in
     let some = some_bytes piece (sym c.is_empty.ensures ∙ c.if-is_empty.false) in
-    feeding_acts c.args.self.now _ c.args.clock piece _ (λ x h.
-    let p = reading_phase c.in-Reading.reader _ _ _ x.phase c.in-Reading.is h.phase in
+    λ source. feeding_acts source c.args.self.now _ c.args.clock piece _ (λ x h.
+    let p = reading_phase source c.in-Reading.reader _ _ _ x.phase c.in-Reading.is h.phase in
     let before : IsBeforePiece _ c.in-Reading.reader c.args.clock x p.0 = record { number = h.number; peer = h.peer; mark = h.mark ∙ sym (mark_of_reading c.args.clock x.mark x.phase p.0 p.1); reads = p.2; window = p.3 } in
     record {
       taken = taking_on p.0 piece;
       is = some_where_fed x.phase p.0 piece (ap fed_in p.1) some;
       gives = c.feed-in-Reading.ensures.received x p.0 before;
-      stands = c.feed-in-Reading.ensures.stands x p.0 before;
+      stands = c.feed-in-Reading.ensures.stands source x p.0 before;
     })
 
-nothing_where : (stage : Stage) (buffer window : Kept) (phase : Phase) (piece : List ℕ) → ((given : ℕ) × (stage ≡ stages.Owing given)) ⊎ ((stage ≡ stages.Awaiting) ⊎ (stage ≡ stages.Lost)) → StandsForPhase stage buffer window phase → taking phase piece ≡ TakesNone
-nothing_where stage buffer window phase piece (inl o) h = let p = owing_phase o.0 stage buffer window phase o.1 h in nothing_where_owing phase p.0 piece p.1
-nothing_where stage buffer window phase piece (inr (inl a)) h = nothing_where_awaiting phase piece (awaiting_phase stage buffer window phase a h)
-nothing_where stage buffer window phase piece (inr (inr l)) h = nothing_where_lost phase piece (lost_phase stage buffer window phase l h)
+nothing_where : (source : Source) (stage : Stage) (buffer window : Kept) (phase : Phase) (piece : List ℕ) → ((given : ℕ) × (stage ≡ stages.Owing given)) ⊎ (((stream : Stream) × (stage ≡ stages.Streaming stream)) ⊎ ((stage ≡ stages.Awaiting) ⊎ (stage ≡ stages.Lost))) → StandsForPhase source stage buffer window phase → taking phase piece ≡ TakesNone
+nothing_where source stage buffer window phase piece (inl o) h = let p = owing_phase source o.0 stage buffer window phase o.1 h in nothing_where_owing phase p.0 piece p.1
+nothing_where source stage buffer window phase piece (inr (inl o)) h = let p = streaming_phase source o.0 stage buffer window phase o.1 h in nothing_where_owing phase p.0 piece p.1
+nothing_where source stage buffer window phase piece (inr (inr (inl a))) h = nothing_where_awaiting phase piece (awaiting_phase source stage buffer window phase a h)
+nothing_where source stage buffer window phase piece (inr (inr (inr l))) h = nothing_where_lost phase piece (lost_phase source stage buffer window phase l h)
 
 pub returns-in-Owing-clause-acts : goal.returns-in-Owing-clause-acts
 returns-in-Owing-clause-acts c =
-    feeding_acts c.args.self.now _ c.args.clock c.args.piece.now _ (λ x h. record {
+    λ source. feeding_acts source c.args.self.now _ c.args.clock c.args.piece.now _ (λ x h. record {
       taken = TakesNone;
-      is = nothing_where c.args.self.now.stage _ _ x.phase c.args.piece.now c.in-Owing.is h.phase;
+      is = nothing_where source c.args.self.now.stage _ _ x.phase c.args.piece.now c.in-Owing.is h.phase;
       gives = c.nothing-in-Owing.ensures;
       stands = h;
     })
 
 pub returns-then-is_empty-clause-arguments : goal.returns-then-is_empty-clause-arguments
-returns-then-is_empty-clause-arguments c = λ x h.
+returns-then-is_empty-clause-arguments c = λ source x h.
     let piece = c.args.piece.now in
     let nothing = no_bytes piece (sym c.is_empty.ensures ∙ c.if-is_empty.true) in
     taken_arguments _ _ piece x TakesNone (rw nothing (nothing_of_nothing x.phase)) refl
 
 pub returns-in-Idle-clause-arguments : goal.returns-in-Idle-clause-arguments
-returns-in-Idle-clause-arguments c = λ x h.
+returns-in-Idle-clause-arguments c = λ source x h.
     let piece = c.args.piece.now in
     let some = some_bytes piece (sym c.is_empty.ensures ∙ c.if-is_empty.false) in
-    let p = idle_phase _ _ _ x.phase c.in-Idle.is h.phase in
+    let p = idle_phase source _ _ _ x.phase c.in-Idle.is h.phase in
     let before : IsBeforePiece _ c.new.result c.args.clock x [] = record {
       number = h.number;
       peer = h.peer;
@@ -98,13 +101,13 @@ returns-in-Idle-clause-arguments c = λ x h.
     taken_arguments _ _ piece x (taking_on [] piece) (some_where_fed x.phase [] piece (ap fed_in p.0) some) (c.feed.ensures.arguments x [] before)
 
 pub returns-in-Reading-clause-arguments : goal.returns-in-Reading-clause-arguments
-returns-in-Reading-clause-arguments c = λ x h.
+returns-in-Reading-clause-arguments c = λ source x h.
     let piece = c.args.piece.now in
     let some = some_bytes piece (sym c.is_empty.ensures ∙ c.if-is_empty.false) in
-    let p = reading_phase c.in-Reading.reader _ _ _ x.phase c.in-Reading.is h.phase in
+    let p = reading_phase source c.in-Reading.reader _ _ _ x.phase c.in-Reading.is h.phase in
     let before : IsBeforePiece _ c.in-Reading.reader c.args.clock x p.0 = record { number = h.number; peer = h.peer; mark = h.mark ∙ sym (mark_of_reading c.args.clock x.mark x.phase p.0 p.1); reads = p.2; window = p.3 } in
     taken_arguments _ _ piece x (taking_on p.0 piece) (some_where_fed x.phase p.0 piece (ap fed_in p.1) some) (c.feed-in-Reading.ensures.arguments x p.0 before)
 
 pub returns-in-Owing-clause-arguments : goal.returns-in-Owing-clause-arguments
-returns-in-Owing-clause-arguments c = λ x h.
-    taken_arguments _ _ c.args.piece.now x TakesNone (nothing_where c.args.self.now.stage _ _ x.phase c.args.piece.now c.in-Owing.is h.phase) refl
+returns-in-Owing-clause-arguments c = λ source x h.
+    taken_arguments _ _ c.args.piece.now x TakesNone (nothing_where source c.args.self.now.stage _ _ x.phase c.args.piece.now c.in-Owing.is h.phase) refl

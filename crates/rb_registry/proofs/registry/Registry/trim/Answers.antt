@@ -1,4 +1,6 @@
 use Rattle.std.proofs.Common.{sym, subst, arith}
+use Rattle.std.proofs.lemmas.Map.Entries.{length-values_of}
+use Rattle.rb_registry.specs.Table.{undropped}
 use Rattle.rb_registry.specs.Registry.{Registry, StandsForChanges}
 use Rattle.rb_registry.specs.contracts.registry.Registry.{the_view}
 use Rattle.rb_registry.proofs.Registries.{goes_on-trim, trimmed_now}
@@ -34,3 +36,8 @@ returns-clause-rows c = rw (← c.self.view_is, c.drop_dead.ensures.left) (trimm
 pub returns-clause-cursors : goal.returns-clause-cursors
 returns-clause-cursors c =
     rw (← c.self.view_is, c.drop_dead.ensures.left, c.max-self-inside.ensures, c.min-told.ensures, c.unwrap_or.ensures) (goes_on-trim (the_view c.self.inside) c.args.oldest c.self.invariant.stamped)
+
+pub returns-clause-fewer : goal.returns-clause-fewer
+returns-clause-fewer c =
+    let fewer = fewer_left c.args.oldest c.self.inside.slots.entries in
+    rw (← c.self.view_is, c.drop_dead.ensures.left) (omega (arith, fewer, length-values_of c.self.inside.slots.entries, length-values_of (undropped c.args.oldest c.self.inside.slots.entries)))

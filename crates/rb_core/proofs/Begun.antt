@@ -1,0 +1,43 @@
+-- A state does not know when the last event of a core began.
+use Rattle.std.proofs.Common.{◌≡◌, ℕ, sym, ap, subst, ◌∙◌}
+use Rattle.rb_xdr.specs.Meter.{Meter}
+use Rattle.rb_core.specs.State.{State}
+use Rattle.rb_core.specs.Slots.{Acts}
+use Rattle.rb_core.specs.StandsFor.{Held, StandsFor}
+use Rattle.rb_core.specs.EventSteps.{shown, BeginsAt}
+
+-- what is held once an event began as the meter showed this
+abbrev pub began : Held → ℕ → Held
+began held n = record held { begun = n }
+
+pub still_stands : (held : Held) (n : ℕ) (s : State) → StandsFor held s → StandsFor (began held n) s
+still_stands held n s h = record {
+  setting = h.setting;
+  clock = h.clock;
+  conns = h.conns;
+  connections = h.connections;
+  within = h.within;
+  limit = h.limit;
+  ledger = h.ledger;
+  forwards = h.forwards;
+  first_xid = h.first_xid;
+  reply = h.reply;
+  short = h.short;
+  arguments = h.arguments;
+}
+
+-- the event that began so, of a core by its other name
+pub acts_begun : {A : Type 0} (act : State → A × State) (view now new : Held) (n : ℕ) (x : A) → view ≡ now → Acts StandsFor act (began view n) new x → Acts StandsFor act now new x
+acts_begun act view now new n x is acts =
+    subst (λ (held : Held). Acts StandsFor act held new x) is (record { gives = λ s h. acts.gives s (still_stands view n s h); stands = λ s h. acts.stands s (still_stands view n s h) })
+
+-- that event alone, of a core by its other name
+pub begins_at : (view now : Held) (n : ℕ) (before : Meter) → view ≡ now → n ≡ shown before → BeginsAt before now (began view n)
+begins_at view now n before is count = ap (λ (held : Held). began held n) is ∙ ap (began now) count
+
+-- what is held after it stands for the same states
+pub stands_begun : (old new : Held) (n : ℕ) → new ≡ began old n → (s : State) → StandsFor old s → StandsFor new s
+stands_begun old new n is s h = subst (λ (held : Held). StandsFor held s) (sym is) (still_stands old n s h)
+
+pub same_tie : (old new : Held) (n : ℕ) → new ≡ began old n → new.tie ≡ old.tie
+same_tie old new n is = ap (λ (held : Held). held.tie) is

@@ -1,0 +1,97 @@
+-- What a call pays is within the bound on its steps.
+use Rattle.std.proofs.Common.{◌≡◌, ◌≤◌, ℕ, ◌+◌, List, length, Ok, sym, ap, ◌∙◌, arith}
+use Rattle.rb_xdr.specs.Meter.{Meter, PaysAtMost}
+use Rattle.rb_rpc.specs.declared.peer.Peer.{Peer}
+use Rattle.rb_forward.specs.Costs.{sent_cost, unsent_cost}
+use Rattle.rb_forward.specs.Table.{longest_arguments as longest_args}
+use Rattle.rb_core.specs.Calls.{Outcome, longest_reply}
+use Rattle.rb_core.specs.Reading.{longest_arguments, buffer_size}
+use Rattle.rb_core.specs.State.{State, Setting}
+use Rattle.rb_core.specs.Step.{Taken, datagram, bytes, show_taken, step}
+use Rattle.rb_core.specs.Step.Event.{Bytes, Datagram}
+use Rattle.rb_core.specs.Slots.{Acts}
+use Rattle.rb_core.specs.Costs.{look_cost, slot_count, kept_count, pending_cost, take_cost, recount_cost, answer_cost}
+use Rattle.rb_core.specs.StandsFor.{Held, StandsFor, gave_cost, closing_cost, ending_cost, datagram_cost}
+use Rattle.rb_core.specs.Laws.{IsReached}
+use Rattle.rb_core.specs.StepLaws.{StaysWithinSteps}
+use Rattle.rb_core.proofs.EntriesKept.{step-follows}
+use Rattle.rb_core.proofs.Room.{reached-room}
+use Rattle.rb_core.proofs.RunSteps.{datagram_shown, same_state}
+use Rattle.rb_core.proofs.Spending.{at_most, connections_held, rows_held}
+
+module _ (core : Held) (a b : Meter) where
+  module _ (s : State) (h : StandsFor core s) where
+    few_connections : IsReached s → slot_count core.connections ≤ core.setting.limits.conns
+    few_connections reached =
+        let room = reached-room s reached in
+        let same : core.setting.limits.conns ≡ s.setting.limits.conns = ap (λ (x : Setting). x.limits.conns) h.setting in
+        omega (arith, room, same, connections_held core s h)
+
+    few_rows : kept_count core.books ≤ core.setting.limits.rows
+    few_rows =
+        let same : core.setting.limits.rows ≡ s.setting.limits.rows = ap (λ (x : Setting). x.limits.rows) h.setting in
+        omega (arith, same, rows_held core s h)
+
+    entries : core.books.forwards.cap ≡ core.setting.limits.forwards
+    entries = h.forwards ∙ sym (ap (λ (x : Setting). x.limits.forwards) h.setting)
+
+  pub open_within : PaysAtMost a b 4 → StaysWithinSteps core 0 0 a b
+  open_within pays = record { within = λ s h reached. at_most a b 4 _ (omega arith) pays }
+
+  pub look_within : PaysAtMost a b (look_cost core.connections) → StaysWithinSteps core 0 0 a b
+  look_within pays = record { within = λ s h reached. at_most a b (look_cost core.connections) _ (omega (arith, few_connections s h reached)) pays }
+
+  pub pending_within : (given : ℕ) → PaysAtMost a b (look_cost core.connections + pending_cost) → StaysWithinSteps core 0 given a b
+  pending_within given pays = record { within = λ s h reached. at_most a b (look_cost core.connections + pending_cost) _ (omega (arith, few_connections s h reached)) pays }
+
+  pub gave_within : (given : ℕ) → PaysAtMost a b (gave_cost core) → StaysWithinSteps core 0 given a b
+  gave_within given pays = record { within = λ s h reached. at_most a b (gave_cost core) _ (omega (arith, few_connections s h reached, few_rows s h)) pays }
+
+  pub closed_within : PaysAtMost a b (closing_cost core) → StaysWithinSteps core 0 0 a b
+  closed_within pays = record { within = λ s h reached. at_most a b (closing_cost core) _ (omega (arith, few_connections s h reached, entries s h)) pays }
+
+  pub sent_within : PaysAtMost a b (sent_cost core.books.forwards.cap) → StaysWithinSteps core 0 0 a b
+  sent_within pays = record { within = λ s h reached. at_most a b (sent_cost core.books.forwards.cap) _ (omega (arith, entries s h)) pays }
+
+  pub unsent_within : (given : ℕ) → PaysAtMost a b (unsent_cost core.books.forwards.cap given) → StaysWithinSteps core 0 given a b
+  unsent_within given pays = record { within = λ s h reached. at_most a b (unsent_cost core.books.forwards.cap given) _ (omega (arith, entries s h)) pays }
+
+  pub reply_within : (given : ℕ) → PaysAtMost a b (1 + given) → StaysWithinSteps core 0 given a b
+  reply_within given pays = record { within = λ s h reached. at_most a b (1 + given) _ (omega arith) pays }
+
+  pub ending_within : (taken : ℕ) → PaysAtMost a b (ending_cost core) → StaysWithinSteps core taken 0 a b
+  unfolding longest_reply longest_arguments buffer_size longest_args
+  ending_within taken pays = record { within = λ s h reached. at_most a b (ending_cost core) _ (omega (arith, few_connections s h reached, entries s h)) pays }
+
+  -- ---- calls that serve a message
+
+  -- the rows that are left where what is held stands for a state of the same limits
+  rows_left : (new : Held) (s t : State) → StandsFor core s → StandsFor new t → t.setting ≡ s.setting → kept_count new.books ≤ core.setting.limits.rows
+  rows_left new s t h k same =
+      let limit : t.setting.limits.rows ≡ core.setting.limits.rows = ap (λ (x : Setting). x.limits.rows) (same ∙ sym h.setting) in
+      omega (arith, limit, rows_held new t k)
+
+  pub datagram_within : (new : Held) (now : ℕ) (peer : Peer) (content : List ℕ) (given : Outcome) → Acts StandsFor (λ s. datagram s now peer content) core new given
+      → PaysAtMost a b (datagram_cost core new) → StaysWithinSteps core (length content) 0 a b
+  unfolding step longest_reply longest_arguments buffer_size longest_args
+  datagram_within new now peer content given acts pays = record {
+    within = λ s h reached.
+        let shows = datagram_shown core new (λ t. datagram t now peer content) given acts s h in
+        let left = rows_left new s _ h shows.1 (step-follows s (Datagram now peer content)).setting in
+        at_most a b (datagram_cost core new) _ (omega (arith, few_connections s h reached, few_rows s h, left)) pays;
+  }
+
+  pub quiet_within : (taken : ℕ) → PaysAtMost a b (look_cost core.connections + (take_cost taken + recount_cost)) → StaysWithinSteps core taken 0 a b
+  quiet_within taken pays = record { within = λ s h reached. at_most a b (look_cost core.connections + (take_cost taken + recount_cost)) _ (omega (arith, few_connections s h reached)) pays }
+
+  pub bytes_within : (new : Held) (now id : ℕ) (piece : List ℕ) (taken : Taken) → Acts StandsFor (λ s. bytes s now id piece) core new (Ok taken)
+      → PaysAtMost a b (look_cost core.connections + (take_cost taken.count + recount_cost) + answer_cost (slot_count core.connections) (kept_count core.books) (kept_count new.books))
+      → StaysWithinSteps core taken.count 0 a b
+  unfolding step longest_reply longest_arguments buffer_size longest_args
+  bytes_within new now id piece taken acts pays = record {
+    within = λ s h reached.
+        let same = ap (λ (t : State). t.setting) (sym (same_state show_taken (λ t. bytes t now id piece) core new (bytes s now id piece))) ∙ (step-follows s (Bytes now id piece)).setting in
+        let left = rows_left new s _ h (acts.stands s h) same in
+        at_most a b (look_cost core.connections + (take_cost taken.count + recount_cost) + answer_cost (slot_count core.connections) (kept_count core.books) (kept_count new.books)) _
+        (omega (arith, few_connections s h reached, few_rows s h, left)) pays;
+  }

@@ -1,0 +1,330 @@
+-- Room for a row: the rows that are kept for lists, by what is held, and how lists go on while rows come and go.
+use Rattle.std.proofs.Common.{◌≡◌, ◌≤◌, ◌<◌, ℕ, ◌+◌, zero, suc, Bool, true, false, cond, nat_lt, nat_le, not, ◌&&◌, ◌||◌, List, [], ◌∷◌, length, map, filter, max, slice_index_or, Option, Some, None, refl, sym, ap, subst, ◌∙◌, arith}
+use Rattle.std.specs.Prelude.{All, filter_map}
+use Rattle.std.specs.List.{AllZip, list_any}
+use Rattle.std.specs.Map.{values_of}
+use Rattle.std.proofs.lemmas.Bool.{lt-ltb, le-ltb, ltb-true, ltb-false, and_parts}
+use Rattle.std.proofs.lemmas.Bool.Decides.{nat_tests}
+use Rattle.std.proofs.lemmas.List.Elements.{All-head, All-tail, All-cons, All-nil, All-contains}
+use Rattle.rb_xdr.specs.Kept.{Kept}
+use Rattle.rb_registry.specs.declared.row.Row.{Row}
+use Rattle.rb_registry.specs.declared.slot.Slot.{Slot as RowSlot}
+use Rattle.rb_registry.specs.Registry.{Registry, removals_of, stamp_told}
+use Rattle.rb_registry.specs.Slots.{is_dropped, later_than, removed_by, all_slots}
+use Rattle.rb_registry.specs.Table.{IsLeast}
+use Rattle.rb_registry.specs.Rows.{has_place, is_change_left}
+use Rattle.rb_registry.specs.Cursors.{GoesOn}
+use Rattle.rb_proto.specs.declared.context.Context.{Context}
+use Rattle.rb_proto.specs.declared.call.Call.{Call}
+use Rattle.rb_proto.specs.declared.books.Books.{Books}
+use Rattle.rb_proto.specs.Answers.{adds, adds_row, row_to_set}
+use Rattle.rb_proto.specs.Ledger.{Ledger, StandsForLedger, rows_in, removals_after}
+use Rattle.rb_proto.proofs.ListReplies.{list_reply_goes_on, removals_kept}
+use Rattle.rb_core.specs.declared.slot.Slot.{Slot}
+use Rattle.rb_core.specs.declared.slot.Stage.{Stage}
+use Rattle.rb_core.specs.declared.slot.Stage.TheVariants as stages
+use Rattle.rb_core.specs.declared.message.Message.{Message}
+use Rattle.rb_core.specs.declared.message.Message.TheVariants as says
+use Rattle.rb_core.specs.State.{Phase, Connection, Connections}
+use Rattle.rb_core.specs.State.Phase.{Idle, Reading, Owing, Awaiting, Lost}
+use Rattle.rb_core.specs.Evictions.{began_in, begins, is_kept_for, removals_by, kept_removals, asks_room, crowding, evicted, evicting}
+use Rattle.rb_core.specs.Streams.{Source}
+use Rattle.rb_core.specs.Rooms.{HasRoom}
+use Rattle.rb_core.specs.Slots.{Table, StandsForPhase, StandsForConnection, StandsForConnections}
+use Rattle.rb_core.specs.Listings.{began_stage, slot_began, IsToldStage, IsToldSlot, AreTold, stamps_of, IsOldest, IsEarliest}
+use Rattle.rb_core.proofs.Evicting.{began_alike}
+
+-- ---- lists go on
+
+module _ (host : List ℕ) (old new : Registry) (goes : GoesOn old new) where
+  abbrev before : Source
+  before = record { host = host; registry = old }
+
+  abbrev after : Source
+  after = record { host = host; registry = new }
+
+  -- the floor isn't above what the list of a stage began after
+  abbrev IsLow : Stage → Type 0
+  IsLow stage = (n : ℕ) → began_stage stage ≡ Some n → new.floor ≤ n
+
+  stage_told : (stage : Stage) → IsLow stage → IsToldStage before stage → IsToldStage after stage
+  stage_told stages.Idle low t = tt
+  stage_told (stages.Reading reader) low t = tt
+  stage_told (stages.Owing given) low t = tt
+  stage_told (stages.Streaming stream) low t =
+      let s = list_reply_goes_on old new stream.behind goes (low stream.behind.stamp refl) t.told in
+      record { told = s.told; some = λ more. rw (s.rest host) (t.some more) }
+  stage_told stages.Awaiting low t = tt
+  stage_told stages.Lost low t = tt
+
+  phase_stands : (stage : Stage) (buffer window : Kept) (phase : Phase) → IsLow stage → IsToldStage before stage → StandsForPhase before stage buffer window phase → StandsForPhase after stage buffer window phase
+  phase_stands stages.Idle buffer window Idle low t h = h
+  phase_stands stages.Idle buffer window (Reading fed) low t h = absurd h
+  phase_stands stages.Idle buffer window (Owing o) low t h = absurd h
+  phase_stands stages.Idle buffer window Awaiting low t h = absurd h
+  phase_stands stages.Idle buffer window Lost low t h = absurd h
+  phase_stands (stages.Reading reader) buffer window Idle low t h = absurd h
+  phase_stands (stages.Reading reader) buffer window (Reading fed) low t h = h
+  phase_stands (stages.Reading reader) buffer window (Owing o) low t h = absurd h
+  phase_stands (stages.Reading reader) buffer window Awaiting low t h = absurd h
+  phase_stands (stages.Reading reader) buffer window Lost low t h = absurd h
+  phase_stands (stages.Owing given) buffer window Idle low t h = absurd h
+  phase_stands (stages.Owing given) buffer window (Reading fed) low t h = absurd h
+  phase_stands (stages.Owing given) buffer window (Owing o) low t h = h
+  phase_stands (stages.Owing given) buffer window Awaiting low t h = absurd h
+  phase_stands (stages.Owing given) buffer window Lost low t h = absurd h
+  phase_stands (stages.Streaming stream) buffer window Idle low t h = absurd h
+  phase_stands (stages.Streaming stream) buffer window (Reading fed) low t h = absurd h
+  phase_stands (stages.Streaming stream) buffer window (Owing o) low t h =
+      let s = list_reply_goes_on old new stream.behind goes (low stream.behind.stamp refl) t.told in
+      record { reply = h.reply; gives = h.gives; began = h.began; place = h.place; rest = s.rest host ∙ h.rest; last = h.last }
+  phase_stands (stages.Streaming stream) buffer window Awaiting low t h = absurd h
+  phase_stands (stages.Streaming stream) buffer window Lost low t h = absurd h
+  phase_stands stages.Awaiting buffer window Idle low t h = absurd h
+  phase_stands stages.Awaiting buffer window (Reading fed) low t h = absurd h
+  phase_stands stages.Awaiting buffer window (Owing o) low t h = absurd h
+  phase_stands stages.Awaiting buffer window Awaiting low t h = h
+  phase_stands stages.Awaiting buffer window Lost low t h = absurd h
+  phase_stands stages.Lost buffer window Idle low t h = absurd h
+  phase_stands stages.Lost buffer window (Reading fed) low t h = absurd h
+  phase_stands stages.Lost buffer window (Owing o) low t h = absurd h
+  phase_stands stages.Lost buffer window Awaiting low t h = absurd h
+  phase_stands stages.Lost buffer window Lost low t h = h
+
+  abbrev AreLow : List Slot → Type 0
+  AreLow slots = All (λ n. new.floor ≤ n) (filter_map slot_began slots)
+
+  first_low : (slot : Slot) (slots : List Slot) → AreLow (slot ∷ slots) → IsLow slot.stage × AreLow slots
+  first_low slot slots low = by_began (slot_began slot) refl
+    where
+      by_began : (began : Option ℕ) → slot_began slot ≡ began → IsLow slot.stage × AreLow slots
+      by_began None b = ((λ n e. let clash : None ≡ Some n = sym b ∙ e in absurd cc), rw b at low)
+      by_began (Some m) b =
+          let here : All (λ n. new.floor ≤ n) (m ∷ filter_map slot_began slots) = rw b at low in (
+            (λ n e. let same : Some m ≡ Some n = sym b ∙ e in let is : m ≡ n = cc in let floor : new.floor ≤ m = All-head (λ k. new.floor ≤ k) m (filter_map slot_began slots) here in omega (arith, is, floor)),
+            All-tail (λ k. new.floor ≤ k) m (filter_map slot_began slots) here,
+          )
+
+  all_told : (slots : List Slot) → AreLow slots → All (IsToldSlot before) slots → All (IsToldSlot after) slots
+  all_told [] low t = All-nil (IsToldSlot after)
+  all_told (slot ∷ slots) low t =
+      let l = first_low slot slots low in
+      All-cons (IsToldSlot after) slot slots (stage_told slot.stage l.0 (All-head (IsToldSlot before) slot slots t)) (all_told slots l.1 (All-tail (IsToldSlot before) slot slots t))
+
+  all_stand : (slots : List Slot) (all : List Connection) → AreLow slots → All (IsToldSlot before) slots → AllZip (StandsForConnection before) slots all → AllZip (StandsForConnection after) slots all
+  all_stand [] [] low t z = tt
+  all_stand [] (c ∷ all) low t z = absurd z
+  all_stand (slot ∷ slots) [] low t z = absurd z
+  all_stand (slot ∷ slots) (c ∷ all) low t z =
+      let l = first_low slot slots low in
+      let told : IsToldStage before slot.stage = All-head (IsToldSlot before) slot slots t in (
+        record { number = z.0.number; peer = z.0.peer; mark = z.0.mark; phase = phase_stands slot.stage slot.buffer slot.window c.phase l.0 told z.0.phase },
+        all_stand slots all l.1 (All-tail (IsToldSlot before) slot slots t) z.1,
+      )
+
+  pub told_on : (table : Table) → All (λ n. new.floor ≤ n) (stamps_of table) → AreTold before table → AreTold after table
+  told_on table low t = all_told (values_of table.slots) low t
+
+  pub stands_on : (table : Table) (c : Connections) → All (λ n. new.floor ≤ n) (stamps_of table) → AreTold before table → StandsForConnections before table c → StandsForConnections after table c
+  stands_on table c low t z = record { all = all_stand (values_of table.slots) c.all low t z.all; next = z.next }
+
+abbrev Reach : Source → List Slot → Type 0
+Reach source slots = All (λ n. (source.registry.floor ≤ n) × (n ≤ source.registry.stamp)) (filter_map slot_began slots)
+
+-- the stamps of lists that can be told are from the floor to the present
+stamps_reach : (source : Source) (slots : List Slot) → All (IsToldSlot source) slots → All (λ n. (source.registry.floor ≤ n) × (n ≤ source.registry.stamp)) (filter_map slot_began slots)
+stamps_reach source [] t = All-nil (λ n. (source.registry.floor ≤ n) × (n ≤ source.registry.stamp))
+stamps_reach source (slot ∷ slots) t = by_stage slot.stage refl (All-head (IsToldSlot source) slot slots t) (stamps_reach source slots (All-tail (IsToldSlot source) slot slots t))
+  where
+    by_stage : (stage : Stage) → slot.stage ≡ stage → IsToldStage source slot.stage → Reach source slots → Reach source (slot ∷ slots)
+    by_stage stages.Idle is t further = rw is further
+    by_stage (stages.Reading reader) is t further = rw is further
+    by_stage (stages.Owing given) is t further = rw is further
+    by_stage (stages.Streaming stream) is t further =
+        let told = subst (IsToldStage source) is t in
+        rw is (All-cons (λ n. (source.registry.floor ≤ n) × (n ≤ source.registry.stamp)) stream.behind.stamp (filter_map slot_began slots) (told.told.place.reached.from_floor, told.told.place.reached.made) further)
+    by_stage stages.Awaiting is t further = rw is further
+    by_stage stages.Lost is t further = rw is further
+
+pub stamps_low : (source : Source) (table : Table) → AreTold source table → All (λ n. source.registry.floor ≤ n) (stamps_of table)
+stamps_low source table t = λ k d within. (stamps_reach source (values_of table.slots) t k d within).0
+
+-- so they are from the floor on once it rose to the least of them
+pub trimmed_low : (source : Source) (table : Table) (oldest : Option ℕ) (floor : ℕ) → AreTold source table → IsOldest (stamps_of table) oldest
+    → floor ≡ max source.registry.floor (stamp_told source.registry oldest) → All (λ n. floor ≤ n) (stamps_of table)
+trimmed_low source table None floor t none is = subst (All (λ n. floor ≤ n)) (sym none) (All-nil (λ n. floor ≤ n))
+trimmed_low source table (Some k) floor t least is = λ i d within.
+    let low = (stamps_reach source (values_of table.slots) t i d within).0 in
+    let above = least.1 i d within in
+    omega (arith, is, low, above)
+
+-- ---- the rows that are kept
+
+begins_alike : (source : Source) (slots : List Slot) (all : List Connection) → AllZip (StandsForConnection source) slots all → begins all ≡ filter_map slot_began slots
+unfolding begins
+begins_alike source [] [] z = refl
+begins_alike source [] (c ∷ all) z = absurd z
+begins_alike source (slot ∷ slots) [] z = absurd z
+begins_alike source (slot ∷ slots) (c ∷ all) z =
+    let same : slot_began slot ≡ began_in c.phase = began_alike source slot.stage slot.buffer slot.window c.phase z.0.phase in
+    rw (same, begins_alike source slots all z.1) refl
+
+abbrev Same : ℕ → List RowSlot → Type 0
+Same k slots = filter_map (λ (slot : RowSlot). slot.removed) (filter (λ slot. not (is_dropped (Some k) slot)) slots)
+    ≡ filter (λ change. nat_lt k change) (filter_map (λ (slot : RowSlot). slot.removed) slots)
+
+not_dropped : (k : ℕ) (slots : List RowSlot) → Same k slots
+unfolding is_dropped
+not_dropped k [] = refl
+not_dropped k (slot ∷ slots) = by_removed slot.removed refl (not_dropped k slots)
+  where
+    by_removed : (removed : Option ℕ) → slot.removed ≡ removed → Same k slots → Same k (slot ∷ slots)
+    by_removed None is further = rw is further
+    by_removed (Some r) is further = by_test (nat_lt k r) refl
+      where
+        by_test : (b : Bool) → nat_lt k r ≡ b → Same k (slot ∷ slots)
+        by_test true t = let low : nat_le r k ≡ false = grind (arith, nat_tests) in rw (is, low, t) (ap (λ (xs : List ℕ). r ∷ xs) further)
+        by_test false t = let low : nat_le r k ≡ true = grind (arith, nat_tests) in rw (is, low, t) further
+
+kept_by_oldest : (stamps : List ℕ) (k change : ℕ) → IsOldest stamps (Some k) → is_kept_for stamps change ≡ nat_lt k change
+kept_by_oldest stamps k change least = by_test (nat_lt k change) refl
+  where
+    some_below : (ns : List ℕ) (i : ℕ) → i < length ns → slice_index_or ns i k ≡ k → k < change → list_any (λ n. nat_lt n change) ns ≡ true
+    some_below [] i within is early = absurd (omega (arith, within))
+    some_below (n ∷ ns) zero within is early = let here : nat_lt n change ≡ true = lt-ltb n change (omega (arith, is, early)) in rw here refl
+    some_below (n ∷ ns) (suc i) within is early =
+        let later = some_below ns i (omega (arith, within)) is early in
+        elim (nat_lt n change) as (λ b. (b || list_any (λ m. nat_lt m change) ns) ≡ true) [ true ↦ refl | false ↦ later ]
+
+    none_below : (ns : List ℕ) → All (λ n. k ≤ n) ns → change ≤ k → list_any (λ n. nat_lt n change) ns ≡ false
+    none_below [] low late = refl
+    none_below (n ∷ ns) low late =
+        let first : k ≤ n = All-head (λ m. k ≤ m) n ns low in
+        let here : nat_lt n change ≡ false = le-ltb n change (omega (arith, first, late)) in
+        rw here (none_below ns (All-tail (λ m. k ≤ m) n ns low) late)
+
+    by_test : (b : Bool) → nat_lt k change ≡ b → is_kept_for stamps change ≡ b
+    by_test true t = some_below stamps least.0.0 least.0.1 least.0.2 (ltb-true k change t)
+    by_test false t = none_below stamps least.1 (ltb-false k change t)
+
+filter_alike : (p q : ℕ → Bool) (xs : List ℕ) → ((x : ℕ) → p x ≡ q x) → filter p xs ≡ filter q xs
+filter_alike p q [] same = refl
+filter_alike p q (x ∷ xs) same = rw (same x, filter_alike p q xs same) refl
+
+none_pass : (xs : List ℕ) → filter (is_kept_for []) xs ≡ []
+none_pass [] = refl
+none_pass (x ∷ xs) = none_pass xs
+
+none_later : (xs : List ℕ) → later_than None xs ≡ []
+none_later [] = refl
+none_later (x ∷ xs) = none_later xs
+
+-- after a trim to the oldest list, the dead rows are those that are kept
+pub kept_are : (source : Source) (table : Table) (c : Connections) (books : Books) (l : Ledger) (oldest : Option ℕ) (before : List ℕ)
+    → AreTold source table → StandsForConnections source table c → IsOldest (stamps_of table) oldest → StandsForLedger books l
+    → books.registry.floor ≡ max source.registry.floor (stamp_told source.registry oldest) → removals_of books.registry ≡ later_than oldest before
+    → removals_of books.registry ≡ kept_removals c.all l
+unfolding kept_removals
+kept_are source table c books l None before t z none h floor dropped =
+    dropped ∙ none_later before ∙ sym (ap (λ (ns : List ℕ). filter (is_kept_for ns) (removals_by l)) (begins_alike source (values_of table.slots) c.all z.all ∙ none) ∙ none_pass (removals_by l))
+kept_are source table c books l (Some k) before t z least h floor dropped =
+    let reach : (source.registry.floor ≤ k) × (k ≤ source.registry.stamp) =
+    All-contains (λ n. (source.registry.floor ≤ n) × (n ≤ source.registry.stamp)) (stamps_of table) k (stamps_reach source (values_of table.slots) t) least.0 in
+    let floor_is : books.registry.floor ≡ k = omega (arith, floor, reach.0, reach.1) in
+    removals_kept books l h
+    ∙ ap (λ (n : ℕ). removals_after n l) floor_is
+    ∙ not_dropped k (all_slots l.own l.changes)
+    ∙ sym (ap (λ (ns : List ℕ). filter (is_kept_for ns) (removals_by l)) (begins_alike source (values_of table.slots) c.all z.all)
+    ∙ filter_alike (is_kept_for (stamps_of table)) (λ change. nat_lt k change) (removals_by l) (λ change. kept_by_oldest (stamps_of table) k change least))
+
+-- ---- who is in the way
+
+none_goes : (x : Connection) → evicted [] x ≡ x
+unfolding evicted
+none_goes x = refl
+
+pub none_evicted : (c : Connections) → evicting [] c ≡ c
+none_evicted c = ap (λ (all : List Connection). record c { all = all }) (same c.all)
+  where
+    same : (all : List Connection) → map (evicted []) all ≡ all
+    same [] = refl
+    same (x ∷ all) = rw (none_goes x, same all) refl
+
+pub not_asked : (context : Context) (message : Message) (all : List Connection) (l : Ledger) → asks_room context message l ≡ false → crowding context message all l ≡ []
+unfolding crowding
+not_asked context message all l none = rw none refl
+
+pub not_crowded : (context : Context) (message : Message) (all : List Connection) (l : Ledger) → length (rows_in l) + length (kept_removals all l) < context.limit → crowding context message all l ≡ []
+unfolding crowding
+not_crowded context message all l room =
+    let fits : nat_lt (length (rows_in l) + length (kept_removals all l)) context.limit ≡ true = lt-ltb _ _ room in
+    rw fits (elim (asks_room context message l) as (λ b. cond (b && false) (kept_removals all l) [] ≡ []) [ true ↦ refl | false ↦ refl ])
+
+pub crowded : (context : Context) (message : Message) (all : List Connection) (l : Ledger) → asks_room context message l ≡ true → context.limit ≤ length (rows_in l) + length (kept_removals all l)
+    → crowding context message all l ≡ kept_removals all l
+unfolding crowding
+crowded context message all l asks full =
+    let fits : nat_lt (length (rows_in l) + length (kept_removals all l)) context.limit ≡ false = le-ltb _ _ full in
+    rw (asks, fits) refl
+
+pub no_call_asks : (context : Context) (message : Message) (l : Ledger) → ((call : Call) → message ≡ says.Asked call → ⊥) → asks_room context message l ≡ false
+no_call_asks context says.NoCall l other = refl
+no_call_asks context (says.Refused head) l other = refl
+no_call_asks context (says.Garbage head) l other = refl
+no_call_asks context (says.Asked call) l other = absurd (other call refl)
+
+pub no_call_has_room : (context : Context) (message : Message) (books : Books) → ((call : Call) → message ≡ says.Asked call → ⊥) → HasRoom context message books
+no_call_has_room context says.NoCall books other = tt
+no_call_has_room context (says.Refused head) books other = tt
+no_call_has_room context (says.Garbage head) books other = tt
+no_call_has_room context (says.Asked call) books other = absurd (other call refl)
+
+place_within : (limit : ℕ) (rows : List Row) (count : ℕ) (row : Row) → has_place limit rows count row ≡ true → length rows < limit
+unfolding has_place
+place_within limit rows count row is =
+    let parts = and_parts _ (is_change_left count) is in
+    let room = and_parts _ (nat_lt (length rows) limit) parts.0 in
+    ltb-true (length rows) limit room.1
+
+accepted_within : (context : Context) (rows : List Row) (count : ℕ) (row : Option Row) → adds context rows count row ≡ true → length rows < context.limit
+accepted_within context rows count None e = absurd cc
+accepted_within context rows count (Some row) e = place_within context.limit rows count row (and_parts _ (has_place context.limit rows count row) e).1
+
+-- a row that is accepted has room among the live ones
+pub row_within : (context : Context) (call : Call) (rows : List Row) (count : ℕ) → adds_row context call rows count ≡ true → length rows < context.limit
+unfolding adds_row
+row_within context call rows count is = accepted_within context rows count (row_to_set call) is
+
+-- ---- one row fewer
+
+no_more : (p : ℕ → Bool) (xs : List ℕ) → length (filter p xs) ≤ length xs
+no_more p [] = omega arith
+no_more p (x ∷ xs) = let further = no_more p xs in elim (p x) as (λ b. length (cond b (x ∷ filter p xs) (filter p xs)) ≤ suc (length xs)) [ true ↦ omega (arith, further) | false ↦ omega (arith, further) ]
+
+one_fewer : (p : ℕ → Bool) (xs : List ℕ) (x i : ℕ) → i < length xs → slice_index_or xs i x ≡ x → p x ≡ false → length (filter p xs) < length xs
+one_fewer p [] x i within is out = absurd (omega (arith, within))
+one_fewer p (y ∷ ys) x zero within is out =
+    let here : p y ≡ false = ap p is ∙ out in
+    let rest = no_more p ys in
+    rw here (omega (arith, rest))
+one_fewer p (y ∷ ys) x (suc i) within is out =
+    let rest = one_fewer p ys x i (omega (arith, within)) is out in
+    elim (p y) as (λ b. length (cond b (y ∷ filter p ys) (filter p ys)) < suc (length ys)) [ true ↦ omega (arith, rest) | false ↦ omega (arith, rest) ]
+
+-- where each list that is left began at the earliest removal or behind it, a trim drops the row that was removed by it
+pub room_is_made : (removals after stamps : List ℕ) (earliest : ℕ) (oldest : Option ℕ) → IsEarliest removals earliest → All (λ stamp. earliest ≤ stamp) stamps → IsOldest stamps oldest
+    → after ≡ later_than oldest removals → length after < length removals
+room_is_made removals after stamps earliest None first low none is =
+    let some = first.one.1 in
+    omega (arith, some, ap (λ (xs : List ℕ). length xs) (is ∙ none_later removals))
+room_is_made removals after stamps earliest (Some k) first low least is =
+    let late : earliest ≤ k = All-contains (λ n. earliest ≤ n) stamps k low least.0 in
+    let gone : not (nat_le earliest k) ≡ false = grind (arith, nat_tests) in
+    let fewer = one_fewer (λ number. not (removed_by (Some number) (Some k))) removals earliest first.one.0 first.one.1 first.one.2 gone in
+    omega (arith, fewer, ap (λ (xs : List ℕ). length xs) is)
+
+pub earliest_of : (removals : List ℕ) (earliest : ℕ) → IsLeast removals earliest → 0 < length removals → IsEarliest removals earliest
+earliest_of removals earliest least some = record {
+  one = least.one (λ none. omega (arith, some, ap (λ (xs : List ℕ). length xs) none));
+  all = least.all;
+}

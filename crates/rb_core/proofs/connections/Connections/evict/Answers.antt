@@ -1,0 +1,44 @@
+use Rattle.std.proofs.Common.{◌≡◌, ◌∙◌, length, true, ap, sym, subst}
+use Rattle.rb_xdr.specs.Pool.{Pool}
+use Rattle.rb_core.specs.contracts.connections.Connections.{the_view}
+use Rattle.rb_core.specs.declared.slot.Slot.{Slot}
+use Rattle.rb_core.specs.Awaits.{has_idle}
+use Rattle.rb_core.specs.Slots.{IsTable, StandsForConnections}
+use Rattle.rb_core.specs.Listings.{IsToldSlot, AreTold}
+use Rattle.rb_core.proofs.Freed.{freed_from}
+use Rattle.rb_core.proofs.Evicting.{table_evicts, table_evicted, told_evicted, all_keep, later_evicted, length_evicted, idle_evicted, none_freed_by_eviction, stays_evicted}
+use Rattle.rb_core.proofs.connections.Connections.evict.Goals as goal
+
+pub invariant_of-self : goal.invariant_of-self
+invariant_of-self c =
+    subst (λ (slots : Pool Slot). IsTable slots c.self.inside.spare c.self.inside.given c.self.inside.conns c.self.inside.held) (sym c.evict_slots.ensures.evicted)
+    (table_evicted c.self.inside.slots c.self.inside.spare c.self.inside.given c.self.inside.conns c.self.inside.held c.args.earliest c.self.invariant)
+
+pub returns-clause-stays : goal.returns-clause-stays
+returns-clause-stays c = rw c.evict_slots.ensures.evicted (stays_evicted c.args.earliest (the_view c.self.inside) c.args.self.now c.self.view_is)
+
+pub returns-clause-evicts : goal.returns-clause-evicts
+returns-clause-evicts c = λ changes e source x z.
+    rw c.evict_slots.ensures.evicted
+    (table_evicts source changes c.args.earliest (the_view c.self.inside) x e (subst (λ t. StandsForConnections source t x) (sym c.self.view_is) z))
+
+pub returns-clause-told : goal.returns-clause-told
+returns-clause-told c = λ source told.
+    rw c.evict_slots.ensures.evicted
+    (all_keep (IsToldSlot source) c.args.earliest (told_evicted source c.args.earliest) c.self.inside.slots.entries (subst (λ t. AreTold source t) (sym c.self.view_is) told))
+
+pub returns-clause-later : goal.returns-clause-later
+returns-clause-later c = rw c.evict_slots.ensures.evicted (later_evicted c.args.earliest c.self.inside.slots.entries)
+
+pub returns-clause-idle : goal.returns-clause-idle
+returns-clause-idle c = λ id idle.
+    rw c.evict_slots.ensures.evicted (idle_evicted c.args.earliest id (the_view c.self.inside) (subst (λ t. has_idle id t ≡ true) (sym c.self.view_is) idle))
+
+pub returns-clause-free : goal.returns-clause-free
+returns-clause-free c =
+    rw c.evict_slots.ensures.evicted
+    (freed_from (the_view c.self.inside) c.args.self.now _ c.self.view_is (none_freed_by_eviction c.args.earliest (the_view c.self.inside)))
+
+pub returns-clause-as_many : goal.returns-clause-as_many
+returns-clause-as_many c =
+    rw c.evict_slots.ensures.evicted (length_evicted c.args.earliest c.self.inside.slots.entries ∙ ap (λ t. length t.slots) c.self.view_is)

@@ -1,0 +1,83 @@
+use Rattle.std.proofs.Common.{◌+◌, ◌*◌, [], length, Some, ap, sym, subst, ◌∙◌, arith}
+use Rattle.rb_xdr.specs.Meter.{Meter}
+use Rattle.rb_proto.specs.ListReplies.{rest_of}
+use Rattle.rb_core.specs.contracts.connections.Connections.{the_view}
+use Rattle.rb_core.specs.Calls.{Outcome, Outcome as said}
+use Rattle.rb_core.specs.Connections.{changed_at, settled}
+use Rattle.rb_core.specs.Streams.{Source}
+use Rattle.rb_core.specs.Slots.{StandsForConnections, HasBuffers}
+use Rattle.rb_core.specs.Costs.{show_list_cost}
+use Rattle.rb_core.proofs.Holding.{its_buffers, charge_fits, held_few, stays_changed, recounted_cost}
+use Rattle.rb_core.proofs.Slots.{gone_stays, live_changed, slot_is_there, table_changed}
+use Rattle.rb_core.proofs.Freed.{found_live, one_freed, only_from}
+use Rattle.rb_core.proofs.Telling.{told_changed}
+use Rattle.std.specs.Map.{values_of}
+use Rattle.rb_core.proofs.Hints.{distinct_numbers}
+use Rattle.rb_core.proofs.connections.Connections.list.Goals as goal
+
+pub wanted_key-requires-clause-numbers : goal.wanted_key-requires-clause-numbers
+wanted_key-requires-clause-numbers c = distinct_numbers c.self.inside.given (values_of c.self.inside.slots.entries) c.self.invariant.numbers
+
+pub returns-in_default-clause-stands : goal.returns-in_default-clause-stands
+returns-in_default-clause-stands c = λ o h.
+    let source : Source = record { host = c.args.host; registry = c.args.registry.now } in
+    let reply : Outcome = said.Reply (rest_of c.args.host c.args.registry.now c.args.list) (Some c.args.list.stamp) in
+    let z = subst (λ t. StandsForConnections source t o) (sym c.self.view_is) h in
+    subst (λ t. StandsForConnections source t (changed_at c.args.id (settled c.args.clock reply) o)) c.self.view_is
+    (gone_stays source c.args.id (settled c.args.clock reply) (the_view c.self.inside) (sym c.in_default.ensures.key) o z)
+
+pub unreachable-requires : goal.unreachable-requires
+unreachable-requires c = slot_is_there _ c.self.inside.slots.entries [] c.in-Some.key (sym c.in-Some.ensures.key) (sym c.in_default-get_mut.ensures.value)
+
+pub charge-before-requires : goal.charge-before-requires
+charge-before-requires c =
+    its_buffers c.self.inside.slots c.self.inside.spare c.self.inside.given c.self.inside.conns c.self.inside.held c.self.invariant c.in-Some.key c.in-Some-get_mut.slot.now (sym c.in-Some-get_mut.ensures.value) c.get_mut.new.meter
+    (ap (λ (m : Meter). m.tie) c.get_mut.ensures.cost ∙ c.wanted_key.ensures.cost.tie ∙ c.requires.tie ∙ sym (ap (λ t. t.tie) c.self.view_is))
+
+pub list-requires-clause-buffers : goal.list-requires-clause-buffers
+list-requires-clause-buffers c =
+    its_buffers c.self.inside.slots c.self.inside.spare c.self.inside.given c.self.inside.conns c.self.inside.held c.self.invariant c.in-Some.key c.in-Some-get_mut.slot.now (sym c.in-Some-get_mut.ensures.value) c.charge-before.new.meter
+    (ap (λ (m : Meter). m.tie) c.charge-before.ensures.cost ∙ ap (λ (m : Meter). m.tie) c.get_mut.ensures.cost ∙ c.wanted_key.ensures.cost.tie ∙ c.requires.tie ∙ sym (ap (λ t. t.tie) c.self.view_is))
+
+pub recounted-self-inside-requires-clause-before : goal.recounted-self-inside-requires-clause-before
+recounted-self-inside-requires-clause-before c =
+    rw c.charge-before.ensures.charge (charge_fits c.self.inside.slots c.self.inside.spare c.self.inside.given c.self.inside.conns c.self.inside.held c.self.invariant c.in-Some.key c.in-Some-get_mut.slot.now (sym c.in-Some-get_mut.ensures.value))
+
+pub recounted-self-inside-requires-clause-few : goal.recounted-self-inside-requires-clause-few
+recounted-self-inside-requires-clause-few c = held_few c.self.inside.slots c.self.inside.spare c.self.inside.given c.self.inside.conns c.self.inside.held c.self.invariant
+
+pub invariant_of-self : goal.invariant_of-self
+invariant_of-self c =
+    let tie = ap (λ (m : Meter). m.tie) c.charge-before.ensures.cost ∙ ap (λ (m : Meter). m.tie) c.get_mut.ensures.cost ∙ c.wanted_key.ensures.cost.tie ∙ c.requires.tie ∙ sym (ap (λ t. t.tie) c.self.view_is) in
+    table_changed c.self.inside.slots c.self.inside.spare c.self.inside.given c.self.inside.conns c.self.inside.held c.in-Some.key c.in-Some-get_mut.slot.now c.list.new.self c.self.invariant (sym c.in-Some-get_mut.ensures.value)
+    c.list.ensures.stays.number (subst (λ t. HasBuffers t c.list.new.self) tie c.list.ensures.stays.buffers)
+    c.recounted-self-inside.result (rw (← c.charge-before.ensures.charge) c.recounted-self-inside.ensures.held) c.recounted-self-inside.ensures.within
+
+pub returns-clause-stays : goal.returns-clause-stays
+returns-clause-stays c = stays_changed (the_view c.self.inside) c.args.self.now c.in-Some.key c.list.new.self c.self.view_is c.recounted-self-inside.ensures.within
+
+pub returns-clause-cost : goal.returns-clause-cost
+returns-clause-cost c =
+    rw (← c.self.view_is)
+    (recounted_cost _ _ _ _ _ _ (2 * length c.self.inside.slots.entries + 2) (show_list_cost c.args.registry.now + 1) c.wanted_key.ensures.cost c.get_mut.ensures.cost c.charge-before.ensures.cost c.list.ensures.cost c.recounted-self-inside.ensures.cost _ (omega arith))
+
+pub returns-clause-stands : goal.returns-clause-stands
+returns-clause-stands c = λ o h.
+    let source : Source = record { host = c.args.host; registry = c.args.registry.now } in
+    let reply : Outcome = said.Reply (rest_of c.args.host c.args.registry.now c.args.list) (Some c.args.list.stamp) in
+    let z = subst (λ t. StandsForConnections source t o) (sym c.self.view_is) h in
+    live_changed source c.args.id (settled c.args.clock reply) (the_view c.self.inside) c.in-Some.key c.in-Some-get_mut.slot.now c.list.new.self c.self.invariant.distinct (sym c.in-Some.ensures.key) (sym c.in-Some-get_mut.ensures.value) c.list.ensures.stands o z
+
+pub returns-clause-told : goal.returns-clause-told
+returns-clause-told c =
+    let source : Source = record { host = c.args.host; registry = c.args.registry.now } in
+    told_changed (the_view c.self.inside) c.args.self.now c.self.view_is source c.in-Some.key c.list.new.self c.requires.told c.list.ensures.told
+
+pub returns-in_default-clause-others : goal.returns-in_default-clause-others
+returns-in_default-clause-others c = λ id apart none. none
+
+pub returns-clause-others : goal.returns-clause-others
+returns-clause-others c =
+    let l = found_live c.args.id c.in-Some.key c.self.inside.slots.entries c.in-Some-get_mut.slot.now c.self.invariant.distinct (sym c.in-Some.ensures.key) (sym c.in-Some-get_mut.ensures.value) in
+    only_from c.args.id (the_view c.self.inside) c.args.self.now _ c.self.view_is
+    (one_freed (the_view c.self.inside) c.args.id c.in-Some.key c.in-Some-get_mut.slot.now c.list.new.self (sym c.in-Some-get_mut.ensures.value) l.0 c.list.ensures.stays.number)

@@ -1,0 +1,74 @@
+-- Rows that are kept for lists that are streamed, and the connections that are closed for room.
+use Rattle.std.specs.Prelude.{ℕ, ◌+◌, nat_lt, not, Bool, false, ◌&&◌, if◌then◌else◌, List, [], ◌∷◌, length, map, filter, filter_map, Option, Some, None}
+use Rattle.std.specs.List.{list_any, list_all}
+use Rattle.rb_registry.specs.declared.slot.Slot.{Slot}
+use Rattle.rb_registry.specs.Slots.{all_slots}
+use Rattle.rb_proto.specs.declared.context.Context.{Context}
+use Rattle.rb_proto.specs.Ledger.{Ledger, rows_in}
+use Rattle.rb_proto.specs.Answers.{wants_room}
+use Rattle.rb_core.specs.declared.message.Message.{Message}
+use Rattle.rb_core.specs.declared.message.Message.TheVariants as says
+use Rattle.rb_core.specs.State.{State, Phase, Connection, Connections}
+use Rattle.rb_core.specs.State.Phase.{Idle, Reading, Owing, Awaiting, Lost}
+use Rattle.rb_core.specs.Deadlines.{lost}
+
+-- ---- rows that are kept
+
+-- the number of changes after which a streamed list began that is unfinished
+abbrev pub began_in : Phase → Option ℕ
+began_in (Owing o) = o.began
+began_in Idle = None
+began_in (Reading fed) = None
+began_in Awaiting = None
+began_in Lost = None
+
+unfoldable pub begins : List Connection → List ℕ
+begins all = filter_map (λ (c : Connection). began_in c.phase) all
+
+-- some of these lists began before the change
+abbrev pub is_kept_for : List ℕ → ℕ → Bool
+is_kept_for begins change = list_any (λ n. nat_lt n change) begins
+
+-- the changes that removed rows, one for each row that was removed
+abbrev pub removals_by : Ledger → List ℕ
+removals_by l = filter_map (λ (slot : Slot). slot.removed) (all_slots l.own l.changes)
+
+-- A removed row is kept where some unfinished list began before the change that removed it.
+unfoldable pub kept_removals : List Connection → Ledger → List ℕ
+kept_removals all l = filter (is_kept_for (begins all)) (removals_by l)
+
+-- ---- room for a row
+
+-- the message is a SET that is accepted
+abbrev pub asks_room : Context → Message → Ledger → Bool
+asks_room context (says.Asked call) l = wants_room context call l
+asks_room context says.NoCall l = false
+asks_room context (says.Refused head) l = false
+asks_room context (says.Garbage head) l = false
+
+-- the live and the kept rows reach the limit
+abbrev pub is_crowded : ℕ → List Connection → Ledger → Bool
+is_crowded limit all l = not (nat_lt (length (rows_in l) + length (kept_removals all l)) limit)
+
+-- the changes that removed the rows of which one has to go, where a message wants room and there is none
+unfoldable pub crowding : Context → Message → List Connection → Ledger → List ℕ
+crowding context message all l =
+    if asks_room context message l && is_crowded context.limit all l then kept_removals all l else []
+
+-- a list that began before the earliest of these changes, if there is one
+abbrev pub began_before : List ℕ → Option ℕ → Bool
+began_before [] began = false
+began_before (change ∷ changes) None = false
+began_before (change ∷ changes) (Some n) = list_all (λ later. nat_lt n later) (change ∷ changes)
+
+unfoldable pub evicted : List ℕ → Connection → Connection
+evicted changes c = if began_before changes (began_in c.phase) then lost c else c
+
+abbrev pub evicting : List ℕ → Connections → Connections
+evicting changes c = record c { all = map (evicted changes) c.all }
+
+-- Before a message is answered that wants room, the connections become Lost whose lists began before the earliest change
+-- that removed a kept row, where the live and the kept rows reach the limit.
+abbrev pub with_room : Context → Message → State → State
+with_room context message s =
+    record s { connections = evicting (crowding context message s.connections.all s.ledger) s.connections }

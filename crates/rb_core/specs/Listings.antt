@@ -1,0 +1,93 @@
+-- The lists that are given on the connections of a table, and the rows that they need.
+use Rattle.std.specs.Prelude.{◌≡◌, ◌≤◌, ⊤, ℕ, nat_lt, min, Bool, false, if◌then◌else◌, List, [], map, filter_map, All, Contains, Option, Some, None}
+use Rattle.std.specs.Map.{values_of}
+use Rattle.rb_xdr.specs.Pool.{Pool}
+use Rattle.rb_core.specs.declared.slot.Slot.{Slot}
+use Rattle.rb_core.specs.declared.slot.Stage.{Stage}
+use Rattle.rb_core.specs.declared.slot.Stage.TheVariants as stages
+use Rattle.rb_core.specs.Streams.{Source, GoesOnBy}
+use Rattle.rb_core.specs.Evictions.{evicting}
+use Rattle.rb_core.specs.Slots.{Table, TableBecomes}
+
+-- ---- one slot
+
+-- after how many changes the list began that is given on it
+abbrev pub began_stage : Stage → Option ℕ
+began_stage (stages.Streaming stream) = Some stream.behind.stamp
+began_stage stages.Idle = None
+began_stage (stages.Reading reader) = None
+began_stage (stages.Owing given) = None
+began_stage stages.Awaiting = None
+began_stage stages.Lost = None
+
+abbrev pub slot_began : Slot → Option ℕ
+slot_began slot = began_stage slot.stage
+
+abbrev pub IsNoList : Slot → Type 0
+IsNoList slot = slot_began slot ≡ None
+
+-- the source can tell the rest of the list that is given in this stage
+abbrev pub IsToldStage : Source → Stage → Type 0
+IsToldStage source (stages.Streaming stream) = GoesOnBy source stream
+IsToldStage source stages.Idle = ⊤
+IsToldStage source (stages.Reading reader) = ⊤
+IsToldStage source (stages.Owing given) = ⊤
+IsToldStage source stages.Awaiting = ⊤
+IsToldStage source stages.Lost = ⊤
+
+abbrev pub IsToldSlot : Source → Slot → Type 0
+IsToldSlot source slot = IsToldStage source slot.stage
+
+-- where a source could tell the rest of the old list, it can tell that of the new one
+abbrev pub KeepsToldSlot : Slot → Slot → Type 0
+KeepsToldSlot old new = (source : Source) → IsToldSlot source old → IsToldSlot source new
+
+-- ---- all of them
+
+abbrev pub AreTold : Source → Table → Type 0
+AreTold source table = All (IsToldSlot source) (values_of table.slots)
+
+abbrev pub KeepsTold : Table → Table → Type 0
+KeepsTold old new = (source : Source) → AreTold source old → AreTold source new
+
+-- after how many changes the lists began that are given
+abbrev pub stamps_in : List (ℕ × Slot) → List ℕ
+stamps_in slots = filter_map slot_began (values_of slots)
+
+abbrev pub stamps_of : Table → List ℕ
+stamps_of table = stamps_in table.slots
+
+-- It is the least of these numbers, None where there is none.
+abbrev pub IsOldest : List ℕ → Option ℕ → Type 0
+IsOldest numbers None = numbers ≡ []
+IsOldest numbers (Some oldest) = Contains numbers oldest × All (λ n. oldest ≤ n) numbers
+
+-- the lesser of two numbers, as far as they are there
+abbrev pub earlier : Option ℕ → Option ℕ → Option ℕ
+earlier None b = b
+earlier (Some a) None = Some a
+earlier (Some a) (Some b) = Some (min a b)
+
+-- ---- eviction
+
+-- it is the earliest of these changes
+pub record IsEarliest (changes : List ℕ) (earliest : ℕ) : Type 0 where
+  pub one : Contains changes earliest
+  pub all : All (λ change. earliest ≤ change) changes
+
+-- a list that began before this change
+abbrev pub began_early : ℕ → Option ℕ → Bool
+began_early earliest None = false
+began_early earliest (Some n) = nat_lt n earliest
+
+-- The connections become Lost whose lists began before these changes, of which the earliest is this one.
+abbrev pub EvictsBefore : ℕ → Table → Table → Type 0
+EvictsBefore earliest old new =
+    (changes : List ℕ) → IsEarliest changes earliest → TableBecomes (evicting changes) old new
+
+-- a slot after it, Lost where its list began before the change
+abbrev pub evicted_slot : ℕ → Slot → Slot
+evicted_slot earliest slot = if began_early earliest (slot_began slot) then record slot { stage = stages.Lost } else slot
+
+abbrev pub with_evicted : ℕ → Pool Slot → Pool Slot
+with_evicted earliest slots = record slots { entries = map (λ e. (e.0, evicted_slot earliest e.1)) slots.entries }

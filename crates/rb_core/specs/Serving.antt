@@ -1,0 +1,105 @@
+-- What the code answers a message with: a reply that is written, or a list that is streamed.
+use Rattle.std.specs.Prelude.{◌≡◌, ◌<◌, ⊤, ℕ, Bool, List, [], length, Option, Some, None}
+use Rattle.rb_rpc.specs.declared.peer.Caller.{Caller}
+use Rattle.rb_rpc.specs.declared.peer.Caller.TheVariants.{Tcp, Udp}
+use Rattle.rb_registry.specs.Registry.{Registry}
+use Rattle.rb_proto.specs.declared.answers.Listing.{Listing}
+use Rattle.rb_proto.specs.declared.answers.Results.{Results}
+use Rattle.rb_proto.specs.declared.answers.Results.TheVariants as results
+use Rattle.rb_proto.specs.declared.list_reply.ListReply.{ListReply}
+use Rattle.rb_proto.specs.ListReplies.{rest_of, ListsRows, IsTold}
+use Rattle.rb_proto.specs.declared.answers.Answer.{Answer}
+use Rattle.rb_proto.specs.declared.books.Books.{Books}
+use Rattle.rb_proto.specs.declared.context.Context.{Context}
+use Rattle.rb_proto.specs.Ledger.{Ledger, StandsForLedger, ActsAs}
+use Rattle.rb_proto.specs.Results.{result_bytes, shown_of}
+use Rattle.rb_xdr.specs.Kept.{Kept}
+use Rattle.rb_core.specs.declared.serve.Served.{Served}
+use Rattle.rb_core.specs.declared.serve.Served.TheVariants.{Told, Listed}
+use Rattle.rb_core.specs.declared.types.Outcome.{Outcome as Written}
+use Rattle.rb_core.specs.declared.types.Outcome.TheVariants as outcomes
+use Rattle.rb_core.specs.Streams.{Source, IsToldBy}
+use Rattle.rb_core.specs.Calls.{Outcome, Outcome as said, is_no_call, outcome, told_as}
+use Rattle.rb_core.specs.StandsFor.{outcome_with, settling}
+use Rattle.rb_core.specs.declared.message.Message.{Message}
+use Rattle.rb_core.specs.declared.slot.Slot.{Slot}
+use Rattle.rb_core.specs.Connections.{settled}
+use Rattle.rb_core.specs.Rooms.{source_in}
+use Rattle.rb_core.specs.Slots.{Table, SlotBecomesFrom, BecomesFrom}
+
+-- a list of which nothing was given yet
+abbrev pub list_outcome : Source → ListReply → Outcome
+list_outcome source list = said.Reply (rest_of source.host source.registry list) (Some list.stamp)
+
+-- The connection that a slot stands for owes a list.
+abbrev pub SlotBeginsList : Source → ℕ → ListReply → Slot → Slot → Type 0
+SlotBeginsList source clock list old new = SlotBecomesFrom source (settled clock (list_outcome source list)) old new
+
+-- what the code answers a message with, where this is written
+abbrev pub served_in : Source → Served → List ℕ → Outcome
+served_in source (Told given) reply = outcome_with given reply
+served_in source (Listed list) reply = list_outcome source list
+
+-- From each ledger that the books stand for, an answer is told so.
+abbrev pub TellsAnswer : Books → Context → ℕ → Answer → Served → List ℕ → Type 0
+TellsAnswer books context xid given served reply =
+    (l : Ledger) → StandsForLedger books l
+    → served_in (source_in context.listener.host books) served reply
+    ≡ told_as context.caller (length l.changes) xid (result_bytes context.listener.host (shown_of l)) given
+
+-- A message is served as the outcome says, with what is written in this buffer.
+abbrev pub ServesMessage : Context → Message → List ℕ → Books → Books → Served → Kept → Type 0
+ServesMessage context message arguments old new served out =
+    ActsAs (outcome context message arguments) old new (served_in (source_in context.listener.host new) served out.bytes)
+
+-- The live connection of the number owes a list.
+abbrev pub BeginsList : Source → ℕ → ℕ → ListReply → Table → Table → Type 0
+BeginsList source id clock list old new = BecomesFrom source (settling id clock (list_outcome source list)) old new
+
+-- It goes on with what its record is answered with, where this is written.
+abbrev pub ServesOn : Source → ℕ → ℕ → Served → Kept → Table → Table → Type 0
+ServesOn source id clock served written old new =
+    BecomesFrom source (settling id clock (served_in source served written.bytes)) old new
+
+abbrev pub is_closed_by : Source → Served → List ℕ → Bool
+is_closed_by source served reply = is_no_call (served_in source served reply)
+
+abbrev pub kind_in : Served → Written
+kind_in (Told given) = given
+kind_in (Listed list) = outcomes.Reply
+
+-- a reply is written where it is to be, and else nothing
+abbrev pub IsWritten : Served → List ℕ → Type 0
+IsWritten (Told outcomes.Reply) reply = 0 < length reply
+IsWritten (Told outcomes.NoCall) reply = reply ≡ []
+IsWritten (Told outcomes.Forwarded) reply = reply ≡ []
+IsWritten (Told outcomes.Silent) reply = reply ≡ []
+IsWritten (Listed list) reply = reply ≡ []
+
+-- the source can tell a list that is streamed
+abbrev pub IsToldIn : Source → Served → Type 0
+IsToldIn source (Told given) = ⊤
+IsToldIn source (Listed list) = IsToldBy source list
+
+abbrev pub IsNoListIn : Served → Type 0
+IsNoListIn (Told given) = ⊤
+IsNoListIn (Listed list) = ⊥
+
+-- a list is streamed on a connection alone, and the source can tell it
+abbrev pub HasList : Caller → Source → Served → Type 0
+HasList (Tcp id peer) source served = IsToldIn source served
+HasList (Udp peer) source served = IsNoListIn served
+
+-- the reply under this xid that lists the live rows
+pub record IsList (xid : ℕ) (listing : Listing) (registry : Registry) (list : ListReply) : Type 0 where
+  pub told : IsTold registry list
+  pub rest : ListsRows xid listing registry list
+  pub stamp : list.stamp ≡ registry.stamp
+
+-- the list that is streamed to a caller, where results are one
+abbrev pub IsListFor : Caller → Results → ℕ → Registry → Option ListReply → Type 0
+IsListFor (Udp peer) given xid registry list = list ≡ None
+IsListFor (Tcp id peer) (results.Rows listing) xid registry (Some list) = IsList xid listing registry list
+IsListFor (Tcp id peer) (results.Rows listing) xid registry None = ⊥
+IsListFor (Tcp id peer) (results.Value value) xid registry list = list ≡ None
+IsListFor (Tcp id peer) results.Statistics xid registry list = list ≡ None

@@ -1,0 +1,85 @@
+//! Clients that do nothing for too long.
+use crate::client::{Caller, Client};
+use crate::forwards::sets_target;
+use crate::messages::{bytes_of, null_record};
+use crate::records::answers_a_call;
+use crate::turns::{Host, Stopped};
+use std::test::Fail;
+
+/// From an opening to the next record, in milliseconds.
+const IDLE: u64 = 300_000;
+
+/// From the first byte of a record to its end, in milliseconds.
+const READING: u64 = 30_000;
+
+/// Until the reply to a forwarded call, in milliseconds.
+const FORWARDED: u64 = 5_000;
+
+/// The daemon closes the connection when so much time is over, and not a millisecond before.
+fn is_closed_after(client: &mut Client, host: &mut Host<'_>, clock: &Stopped, millis: u64) -> bool {
+    clock.advance(millis.saturating_sub(1));
+    let stays = client.receive_nothing(host);
+    clock.advance(1);
+    client.receive(host, 1);
+    stays && client.is_closed() && client.len() == 0 && host.is_well()
+}
+
+/// Where no other connection may be open, the next one is served.
+fn closes_idle(rt: &HostRuntime, host: &mut Host<'_>, clock: &Stopped) -> Option<bool> {
+    let mut client = Client::new(rt)?;
+    let is_open = client.receive_nothing(host);
+    let is_closed = is_closed_after(&mut client, host, clock, IDLE);
+    Some(is_open && is_closed && answers_a_call(rt, host, 21)?)
+}
+
+#[test]
+fn idle_connection_is_closed(rt: HostRuntime) -> Result<(), Fail> {
+    let clock = Stopped::new(&rt);
+    let mut host = Host::new(&clock, 1).ok_or("no daemon")?;
+    assert_eq!(rt; closes_idle(&rt, &mut host, &clock), Some(true));
+    Ok(())
+}
+
+/// The time counts from the first byte of the record, whatever else comes of it.
+fn closes_half_sent(rt: &HostRuntime, host: &mut Host<'_>, clock: &Stopped) -> Option<bool> {
+    let call = null_record(rt.alloc(), 22).ok()?;
+    let (first, rest) = call.split_at_checked(20)?;
+    let (second, _) = rest.split_at_checked(20)?;
+    let mut client = Client::new(rt)?;
+    let is_open = client.receive_nothing(host);
+    let is_begun = client.send(first) && client.receive_nothing(host);
+    clock.advance(READING / 2);
+    let goes_on = client.send(second) && client.receive_nothing(host);
+    let is_closed = is_closed_after(&mut client, host, clock, READING / 2);
+    let is_over = is_open && is_begun && goes_on && is_closed;
+    Some(is_over && answers_a_call(rt, host, 23)?)
+}
+
+#[test]
+fn half_sent_record_is_closed(rt: HostRuntime) -> Result<(), Fail> {
+    let clock = Stopped::new(&rt);
+    let mut host = Host::new(&clock, 1).ok_or("no daemon")?;
+    assert_eq!(rt; closes_half_sent(&rt, &mut host, &clock), Some(true));
+    Ok(())
+}
+
+/// An INDIRECT that its target does not answer is answered with SYSTEM_ERR.
+fn ends_without_target(rt: &HostRuntime, host: &mut Host<'_>, clock: &Stopped) -> Option<bool> {
+    let mut caller = Caller::new(rt, 0)?;
+    let indirect = [24, 0, 2, 100_000, 4, 10, 0, 0, 0, 0, 200_001, 1, 0, 0];
+    let is_set = sets_target(rt, host, &mut caller)?;
+    let is_sent = caller.send(&bytes_of(rt.alloc(), &indirect).ok()?);
+    host.turn();
+    clock.advance(FORWARDED);
+    caller.receive(host);
+    let reply = bytes_of(rt.alloc(), &[24, 1, 0, 0, 0, 5]).ok()?;
+    Some(is_set && is_sent && caller.got_just(&reply) && host.is_well())
+}
+
+#[test]
+fn indirect_ends_at_its_deadline(rt: HostRuntime) -> Result<(), Fail> {
+    let clock = Stopped::new(&rt);
+    let mut host = Host::new(&clock, 1).ok_or("no daemon")?;
+    assert_eq!(rt; ends_without_target(&rt, &mut host, &clock), Some(true));
+    Ok(())
+}

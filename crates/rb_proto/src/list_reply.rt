@@ -1,0 +1,176 @@
+//! Replies that list rows and are given in parts: a list of any length is shown as it was at its call.
+ghost use Rattle.std.specs.Prelude.{◌≡◌, ◌+◌, ◌*◌, ◌≤◌, [], length, nat_le};
+ghost use Rattle.rb_xdr.specs.Meter.{PaysAtMost};
+ghost use Rattle.rb_xdr.specs.Puts.{Appends};
+ghost use Rattle.rb_registry.specs.Registry.{slots_of};
+ghost use Rattle.rb_registry.specs.Cursors.{StandsIn};
+ghost use Rattle.rb_proto.specs.ListReplies.{longest_part, longest_row, part_room, head_unless, rest_of, ListsRows, IsNextPart, IsBehindPart, IsTold, Fills};
+ghost use Rattle.rb_proto.specs.Puts.{part_cost};
+
+use crate::answers::Listing;
+use crate::rows::write_row;
+use rb_registry::{Cursor, Registry};
+use rb_rpc::{ReplyHead, ReplyStatus, put_reply};
+use rb_xdr::{Kept, Meter, Xdr};
+
+/// A part has as many bytes, but the last one, which may have fewer.
+const LONGEST_PART: usize = 1_024;
+
+/// A reply that lists the rows as they were at its call, and how far it was given: up to a cursor, and so many bytes of
+/// what stands there, the head before the first row included.
+#[derive(Clone, Copy, PartialEq, Eq, Debug)]
+pub struct ListReply {
+    xid: u32,
+    list: Listing,
+    stamp: u64,
+    cursor: Cursor,
+    given: usize,
+    begun: bool,
+}
+
+/// A core keeps its bytes in pools and buffers alone. A further field would not compile here: it
+/// belongs in the table of charges of docs/RULES.md first.
+fn layout(reply: &ListReply) {
+    let ListReply {
+        xid,
+        list,
+        stamp,
+        cursor,
+        given,
+        begun,
+    } = *reply;
+    let _: (u32, u64, usize, bool) = (xid, stamp, given, begun);
+    let _: (Listing, Cursor) = (list, cursor);
+}
+
+/// Where a part stands in the buffer that it was made in, and whether the reply ends with it.
+#[derive(Clone, Copy, PartialEq, Eq, Debug)]
+pub struct ListPart {
+    pub start: usize,
+    pub end: usize,
+    pub last: bool,
+}
+
+impl ListReply {
+    /// A reply under this xid, of which nothing was given, with the rows that are live now.
+    pub fn new(xid: u32, list: Listing, registry: &Registry) -> ListReply
+        ensures rest { ListsRows xid list registry.now result }
+        ensures told { IsTold registry.now result }
+        ensures stamp { result.stamp ≡ registry.now.stamp }
+    {
+        ListReply {
+            xid,
+            list,
+            stamp: registry.stamp(),
+            cursor: Cursor::start(),
+            given: 0,
+            begun: false,
+        }
+    }
+
+    /// How many changes were accepted before it.
+    pub fn stamp(&self) -> u64
+        ensures { result ≡ self.now.stamp }
+    {
+        self.stamp
+    }
+
+    /// Makes the next part in a buffer, whose bytes are cleared before, and says where it stands there.
+    pub fn next_part(
+        &mut self,
+        registry: &Registry,
+        host: [u8; 4],
+        out: &mut Kept,
+        meter: &mut Meter,
+    ) -> ListPart
+        requires registry { meter.old.tie ≡ registry.now.tie }
+        requires tie { meter.old.tie ≡ out.old.tie }
+        requires room { part_room ≤ out.old.cap }
+        requires told { IsTold registry.now self.old }
+        ensures part { IsNextPart host registry.now self.old out.new.bytes result }
+        ensures rest { IsBehindPart host registry.now self.old self.new }
+        ensures last { result.last
+            ≡ nat_le (length (rest_of host registry.now self.old)) longest_part }
+        ensures range { result.start ≤ result.end }
+        ensures few { result.end ≤ result.start + longest_part }
+        ensures within { result.end ≤ length out.new.bytes }
+        ensures told { IsTold registry.now self.new }
+        ensures stamp { self.new.stamp ≡ self.old.stamp }
+        ensures cap { out.new.cap ≡ out.old.cap }
+        ensures tie { out.new.tie ≡ out.old.tie }
+        ensures cost { PaysAtMost meter.old meter.new (part_cost registry.now) }
+    {
+        let target = self.given + LONGEST_PART;
+        let base = self.fill(registry, host, target, out, meter);
+        let len = out.len(meter);
+        let end = len.min(target);
+        // what stands at the cursor is never less than was given of it
+        let start = self.given.min(end);
+        self.begun = true;
+        self.given = end - base;
+        ListPart {
+            start,
+            end,
+            last: len <= target,
+        }
+    }
+
+    /// Writes the head of the reply, unless it was given.
+    #[tactic(auto, using(crate::proofs::ListReplies::success_head))]
+    fn put_head(&self, out: &mut Kept, meter: &mut Meter)
+        requires tie { meter.old.tie ≡ out.old.tie }
+        requires empty { out.old.bytes ≡ [] }
+        requires room { longest_part ≤ out.old.cap }
+        ensures written { Appends (head_unless self.now.begun self.now.xid) out.old out.new }
+        ensures short { length out.new.bytes ≤ 24 }
+        ensures cost { PaysAtMost meter.old meter.new (1 + length out.new.bytes) }
+    {
+        if self.begun {
+            return;
+        }
+        let (xid, status) = (self.xid, ReplyStatus::Success);
+        let Ok(()) = put_reply(&ReplyHead { xid, status }, out, meter) else {
+            unreachable!()
+        };
+    }
+
+    /// Writes what stands at the cursor and behind it into the buffer, whose bytes are cleared before: as far as the first
+    /// row that goes past so many bytes, or to the end. The cursor moves on to that row, or behind all.
+    ///
+    /// It says how many bytes stand before the new cursor.
+    fn fill(
+        &mut self,
+        registry: &Registry,
+        host: [u8; 4],
+        most: usize,
+        out: &mut Kept,
+        meter: &mut Meter,
+    ) -> usize
+        requires registry { meter.old.tie ≡ registry.now.tie }
+        requires tie { meter.old.tie ≡ out.old.tie }
+        requires most { longest_part ≤ most }
+        requires room { most + longest_row ≤ out.old.cap }
+        requires place { StandsIn registry.now self.old.stamp self.old.cursor }
+        ensures fills { Fills host registry.now self.old self.new most out.new.bytes result }
+        ensures cap { out.new.cap ≡ out.old.cap }
+        ensures tie { out.new.tie ≡ out.old.tie }
+        ensures cost { PaysAtMost meter.old meter.new
+            (3 * length (slots_of registry.now) + length out.new.bytes + 5) }
+    {
+        out.clear(meter);
+        self.put_head(out, meter);
+        let mut base = out.len(meter);
+        'rows: while let Some(found) = registry.next_row(self.stamp, self.cursor, meter) {
+            let (next, row) = found;
+            write_row(self.list, row, host, out, meter);
+            let len = out.len(meter);
+            if most < len {
+                return base;
+            }
+            base = len;
+            self.cursor = next;
+        }
+        false.write(out, meter);
+        base
+    }
+}

@@ -1,0 +1,111 @@
+#!/usr/bin/env bash
+# Shows what of the built daemon is resident, at the default limits: after its start, after a load (a million calls over
+# all 64 connections, and calls over UDP that fill its rows, ask for them and list them), and after the same load again,
+# which takes not a page more. What the first load adds are pages of the program that are run for the first time, and
+# tables of the core that are only reserved until then. The word, if there is one, is the path of another built program.
+# The last line is 'N passed, N failed'; the status is 1 where one failed.
+set -u
+cd "$(dirname "$0")/.." || exit 1
+
+program=${1:-$PWD/crates/rpcbind/out/rpcbind}
+port=20114
+work=$(mktemp -d) || exit 1
+passed=0
+failed=0
+daemon=
+
+finish() {
+    [ -z "$daemon" ] || kill "$daemon" 2> /dev/null
+    rm -rf "$work"
+}
+trap finish EXIT
+
+# Counts a check by the status given, and says what was checked.
+judge() {
+    if [ "$1" -eq 0 ]; then
+        passed=$((passed + 1))
+        echo "passed: $2"
+    else
+        failed=$((failed + 1))
+        echo "failed: $2"
+    fi
+}
+
+start() {
+    [ -x "$program" ] || { echo "no program $program: run 'make' first"; exit 1; }
+    "$program" serve --port $port > "$work/daemon" &
+    daemon=$!
+    for _ in $(seq 50); do
+        grep -q listening "$work/daemon" && return
+        sleep 0.1
+    done
+    echo "the daemon does not listen"
+    exit 1
+}
+
+# So many kilobytes are resident, counted page by page.
+resident() {
+    awk '/^Rss:/ { print $2 }' "/proc/$daemon/smaps_rollup"
+}
+
+# Writes numbers as words of four bytes.
+words() {
+    printf "$(printf '%08x' "$@" | sed 's/../\\x&/g')"
+}
+
+# Opens all connections, and has each answer 1,000 NULL calls at a time, as records of 40 bytes.
+call_over_tcp() {
+    local sockets=() socket xid round
+    for xid in $(seq 1000); do
+        words $((0x80000028)) "$xid" 0 2 100000 2 0 0 0 0 0
+    done > "$work/calls"
+    for _ in $(seq 64); do
+        exec {socket}<> /dev/tcp/127.0.0.1/$port
+        sockets+=("$socket")
+    done
+    for round in $(seq 16); do
+        for socket in "${sockets[@]}"; do
+            cat "$work/calls" >&"$socket"
+            [ "$(timeout 20 head -c 28000 <&"$socket" | wc -c)" -eq 28000 ] || return 1
+        done
+    done
+    for socket in "${sockets[@]}"; do exec {socket}>&-; done
+}
+
+# Sends the longest datagram there can be, which is no call; sets rows until none has room, asks for each, and lists them.
+call_over_udp() {
+    local socket i
+    exec {socket}<> /dev/udp/127.0.0.1/$port
+    dd if=/dev/zero bs=65507 count=1 >&"$socket" 2> /dev/null || return 1
+    for i in $(seq 1100); do words "$i" 0 2 100000 2 1 0 0 0 0 $((200000 + i)) 1 6 2049 >&"$socket"; done
+    for i in $(seq 1100); do words "$i" 0 2 100000 2 3 0 0 0 0 $((200000 + i)) 1 6 0 >&"$socket"; done
+    for i in 2 3 4; do words "$i" 0 2 100000 "$i" 4 0 0 0 0 >&"$socket"; done
+    timeout 5 head -c 28 <&"$socket" > /dev/null
+    local status=$?
+    exec {socket}>&-
+    return $status
+}
+
+# One load, and what is resident after it.
+load() {
+    call_over_tcp
+    judge $? "1,024,000 calls over 64 connections are answered"
+    call_over_udp
+    judge $? "calls over UDP are answered"
+    echo "resident after it: $(resident) kB"
+}
+
+start
+echo "resident after the start: $(resident) kB"
+load
+first=$(resident)
+load
+second=$(resident)
+[ "$first" -le 4096 ]
+judge $? "at most 4,096 kB"
+[ "$second" -eq "$first" ]
+judge $? "the second load takes not a page more"
+kill -0 "$daemon" 2> /dev/null
+judge $? "the daemon serves on"
+echo "$passed passed, $failed failed"
+[ "$failed" -eq 0 ]
