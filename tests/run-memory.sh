@@ -7,6 +7,8 @@
 set -u
 cd "$(dirname "$0")/.." || exit 1
 
+. tests/daemon.sh
+
 program=${1:-$PWD/crates/rpcbind/out/rpcbind}
 port=20114
 work=$(mktemp -d) || exit 1
@@ -29,18 +31,6 @@ judge() {
         failed=$((failed + 1))
         echo "failed: $2"
     fi
-}
-
-start() {
-    [ -x "$program" ] || { echo "no program $program: run 'make' first"; exit 1; }
-    "$program" serve --port $port > "$work/daemon" &
-    daemon=$!
-    for _ in $(seq 50); do
-        grep -q listening "$work/daemon" && return
-        sleep 0.1
-    done
-    echo "the daemon does not listen"
-    exit 1
 }
 
 # So many kilobytes are resident, counted page by page.
@@ -95,7 +85,8 @@ load() {
     echo "resident after it: $(resident) kB"
 }
 
-start
+[ -x "$program" ] || { echo "no program $program: run 'make' first"; exit 1; }
+start_daemon "$work/daemon" --port $port || exit 1
 echo "resident after the start: $(resident) kB"
 load
 first=$(resident)

@@ -7,6 +7,8 @@
 set -u
 cd "$(dirname "$0")/.." || exit 1
 
+. tests/daemon.sh
+
 program=$PWD/crates/rpcbind/out/rpcbind
 
 if [ "${1:-}" != --inside ]; then
@@ -58,12 +60,7 @@ start() {
     # A libtirpc client tries tcp6 and udp6 first where /etc/netconfig has them.
     printf '%s\n' 'udp tpi_clts v inet udp - -' 'tcp tpi_cots_ord v inet tcp - -' > "$work/netconfig"
     [ ! -e /etc/netconfig ] || mount --bind "$work/netconfig" /etc/netconfig
-    "$program" serve > "$work/daemon" 2>&1 &
-    daemon=$!
-    for _ in $(seq 50); do
-        grep -q listening "$work/daemon" && break
-        sleep 0.1
-    done
+    start_daemon "$work/daemon" || exit 1
     cat "$work/daemon"
 }
 

@@ -1,0 +1,15 @@
+# Sourced by the scripts that run the built daemon: `program` is its path, and `daemon` its number once it was started.
+
+# Starts it with these words behind `serve`; what it writes goes to the file. The status is 1 where it doesn't listen.
+start_daemon() {
+    local written=$1
+    shift
+    "$program" serve "$@" > "$written" 2>&1 &
+    daemon=$!
+    for _ in $(seq 50); do
+        grep -q listening "$written" && return
+        sleep 0.1
+    done
+    echo "the daemon does not listen"
+    return 1
+}
