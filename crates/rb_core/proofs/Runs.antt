@@ -1,7 +1,7 @@
 -- Runs go on by one event.
 use Rattle.std.proofs.Common.{◌≡◌, ◌<◌, ◌≤◌, ◌+◌, ℕ, zero, suc, List, [], ◌∷◌, ◌++◌, length, get_or, take, sym, ap, ◌∙◌, append_assoc, arith}
 use Rattle.std.proofs.lemmas.List.{take-map, map_more}
-use Rattle.rb_core.specs.declared.run.Event as event
+use Rattle.rb_core.specs.declared.events.Event as event
 use Rattle.rb_xdr.specs.Meter.{Meter, PaysAtMost}
 use Rattle.rb_core.specs.Costs.{event_cost, run_cost}
 use Rattle.rb_core.specs.State.{State}

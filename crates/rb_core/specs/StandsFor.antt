@@ -2,10 +2,10 @@
 use Rattle.std.specs.Prelude.{◌≡◌, ◌≤◌, ℕ, ◌+◌, List, [], ◌++◌, length, map, Bool, None, Result, IfOk, option_map}
 use Rattle.rb_xdr.specs.Kept.{Kept}
 use Rattle.rb_xdr.specs.Meter.{Meter, PaysAtMost}
-use Rattle.rb_core.specs.declared.run.Event as event
-use Rattle.rb_core.specs.declared.run.Event.TheVariants as events
-use Rattle.rb_core.specs.declared.run.Output as output
-use Rattle.rb_core.specs.declared.run.Output.TheVariants as outputs
+use Rattle.rb_core.specs.declared.events.Event as event
+use Rattle.rb_core.specs.declared.events.Event.TheVariants as events
+use Rattle.rb_core.specs.declared.events.Output as output
+use Rattle.rb_core.specs.declared.events.Output.TheVariants as outputs
 use Rattle.rb_core.specs.declared.types.Outcome as outcome
 use Rattle.rb_core.specs.declared.types.Outcome.TheVariants as outcomes
 use Rattle.rb_proto.specs.declared.books.Books.{Books}
@@ -23,7 +23,7 @@ use Rattle.rb_core.specs.Slots.{Table, StandsForConnections, IsDraft, Acts, AreW
 use Rattle.rb_core.specs.Awaits.{AreAwaited}
 use Rattle.rb_core.specs.Streams.{Source}
 use Rattle.rb_core.specs.Listings.{AreTold}
-use Rattle.rb_core.specs.declared.run.UnsentCall.{UnsentCall}
+use Rattle.rb_core.specs.declared.events.UnsentCall.{UnsentCall}
 use Rattle.rb_forward.specs.Forwards.{Unsent as UnsentPlain}
 use Rattle.rb_core.specs.Step.{Taken, settled_in, serve_message, Event, Output, step}
 use Rattle.rb_core.specs.Step.Event.{Open, Bytes, Pending, Gave, Closed, NextLost, Datagram, Unsent, Sent, Forward, Expire}

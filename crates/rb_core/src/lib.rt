@@ -4,6 +4,7 @@
 mod connections;
 mod deadlines;
 mod engine;
+mod events;
 mod giving;
 mod laws;
 mod message;
@@ -15,6 +16,7 @@ mod slot;
 mod types;
 
 pub use engine::Core;
+pub use events::{Event, Output, UnsentCall};
 pub use laws::{
     bytes_are_taken_exactly, calls_end_by_their_own, connections_await, connections_close_exactly,
     cuts_do_not_matter, entries_end_once, expire_does_one_thing, held_bytes_are_bounded,
@@ -30,5 +32,5 @@ pub use rb_proto::Listener;
 pub use rb_rpc::{Caller, Peer};
 pub use rb_xdr::NoMemory;
 pub use reading::kept_bytes_say_the_record;
-pub use run::{Event, Output, UnsentCall, replay};
+pub use run::replay;
 pub use types::{CoreFault, Expired, Limits, Outcome, Taken, Told};

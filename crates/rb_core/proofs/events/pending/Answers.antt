@@ -4,7 +4,7 @@ use Rattle.rb_core.specs.Costs.{find_cost, pending_cost}
 use Rattle.rb_core.specs.Step.{step}
 use Rattle.rb_core.proofs.Spending.{by_count}
 use Rattle.rb_core.proofs.Begun.{stands_begun, same_tie}
-use Rattle.rb_core.proofs.run.pending.Goals as goal
+use Rattle.rb_core.proofs.events.pending.Goals as goal
 
 pub returns-in-Ok-pending-clause-ok : goal.returns-in-Ok-pending-clause-ok
 unfolding step

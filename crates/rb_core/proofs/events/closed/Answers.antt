@@ -3,7 +3,7 @@ use Rattle.rb_core.specs.Costs.{find_cost, entry_cost}
 use Rattle.rb_core.specs.Step.{step, show_done, close_connection}
 use Rattle.rb_core.proofs.RunSteps.{done, refused}
 use Rattle.rb_core.proofs.Spending.{by_both}
-use Rattle.rb_core.proofs.run.closed.Goals as goal
+use Rattle.rb_core.proofs.events.closed.Goals as goal
 
 pub returns-in-Ok : goal.returns-in-Ok
 unfolding step

@@ -5,7 +5,7 @@ use Rattle.rb_core.specs.Ending.{expire}
 use Rattle.rb_core.proofs.RunSteps.{expired_shown, nothing_shown, closed_shown, one_then_other}
 use Rattle.rb_core.proofs.Spending.{by_both, at_most}
 use Rattle.rb_core.proofs.Begun.{stands_begun, same_tie}
-use Rattle.rb_core.proofs.run.expire.Goals as goal
+use Rattle.rb_core.proofs.events.expire.Goals as goal
 
 pub returns-in-Ended-clause-ok : goal.returns-in-Ended-clause-ok
 unfolding step

@@ -1,7 +1,7 @@
 use Rattle.rb_core.specs.Step.{step, open_connection}
 use Rattle.rb_core.specs.Step.Output.{Opened}
 use Rattle.rb_core.proofs.RunSteps.{refused}
-use Rattle.rb_core.proofs.run.open.Goals as goal
+use Rattle.rb_core.proofs.events.open.Goals as goal
 
 pub returns-in-Err : goal.returns-in-Err
 unfolding step

@@ -11,7 +11,7 @@ use Rattle.rb_core.proofs.EntriesKept.{step-follows}
 use Rattle.rb_core.proofs.RunSteps.{datagram_shown, shown_of, one_then_other}
 use Rattle.rb_core.proofs.Spending.{datagram_paid, at_most}
 use Rattle.rb_core.proofs.Begun.{stands_begun, same_tie}
-use Rattle.rb_core.proofs.run.datagram.Goals as goal
+use Rattle.rb_core.proofs.events.datagram.Goals as goal
 
 is_silent : (given : Written) (reply : List ℕ) → (given ≡ outcomes.NoCall) ⊎ (given ≡ outcomes.Silent) → Silent ≡ shown_of (outcome_with given reply)
 is_silent given reply (inl e) = rw e refl

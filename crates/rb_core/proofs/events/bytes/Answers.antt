@@ -5,7 +5,7 @@ use Rattle.rb_core.proofs.EntriesKept.{step-follows}
 use Rattle.rb_core.specs.Step.{step, show_taken, bytes}
 use Rattle.rb_core.proofs.RunSteps.{done, refused, same_state}
 use Rattle.rb_core.proofs.Spending.{gone_cost, taken_cost_of}
-use Rattle.rb_core.proofs.run.bytes.Goals as goal
+use Rattle.rb_core.proofs.events.bytes.Goals as goal
 
 pub returns-in-Ok : goal.returns-in-Ok
 unfolding step

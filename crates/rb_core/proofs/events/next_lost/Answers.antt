@@ -4,7 +4,7 @@ use Rattle.rb_core.specs.Step.{step}
 use Rattle.rb_core.specs.Step.Output.{LostIs}
 use Rattle.rb_core.proofs.Spending.{by_count}
 use Rattle.rb_core.proofs.Begun.{stands_begun, same_tie}
-use Rattle.rb_core.proofs.run.next_lost.Goals as goal
+use Rattle.rb_core.proofs.events.next_lost.Goals as goal
 
 pub returns : goal.returns
 unfolding step

@@ -5,7 +5,7 @@ use Rattle.rb_core.specs.Ending.{forward_reply}
 use Rattle.rb_core.proofs.RunSteps.{end_shown, none_shown, one_then_other}
 use Rattle.rb_core.proofs.Spending.{by_both, at_most}
 use Rattle.rb_core.proofs.Begun.{stands_begun, same_tie}
-use Rattle.rb_core.proofs.run.forward.Goals as goal
+use Rattle.rb_core.proofs.events.forward.Goals as goal
 
 pub returns-in-Some-clause-ok : goal.returns-in-Some-clause-ok
 unfolding step

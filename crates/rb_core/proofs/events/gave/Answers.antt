@@ -3,7 +3,7 @@ use Rattle.rb_core.specs.Costs.{find_cost, connection_count}
 use Rattle.rb_core.specs.Step.{step, show_done, gave}
 use Rattle.rb_core.proofs.RunSteps.{done, refused, one_then_other}
 use Rattle.rb_core.proofs.Spending.{by_count, at_most, gave_paid}
-use Rattle.rb_core.proofs.run.gave.Goals as goal
+use Rattle.rb_core.proofs.events.gave.Goals as goal
 
 pub returns-then-is_too_much : goal.returns-then-is_too_much
 unfolding step
