@@ -9,11 +9,11 @@ use Rattle.rb_proto.specs.Ledger.{ActsAs, SameFrame}
 use Rattle.rb_core.specs.declared.message.Message.{Message}
 use Rattle.rb_core.specs.declared.serve.Served.{Served as CodeServed}
 use Rattle.rb_core.specs.Calls.{Outcome, outcome}
-use Rattle.rb_core.specs.StandsFor.{Held, source_of, context_of}
-use Rattle.rb_core.specs.Slots.{Table, StaysTable}
-use Rattle.rb_core.specs.Rooms.{MakesRoom, source_in}
+use Rattle.rb_core.specs.StandsFor.{Held, source_of, Table}
+use Rattle.rb_core.specs.Core.{context_of}
+use Rattle.rb_core.specs.Slots.{StaysTable}
+use Rattle.rb_core.specs.Listings.{MakesRoom, source_in, AreTold, stamps_of}
 use Rattle.rb_core.specs.Serving.{HasList}
-use Rattle.rb_core.specs.Listings.{AreTold, stamps_of}
 use Rattle.rb_core.proofs.Crowding.{told_on, stands_on, stamps_low}
 use Rattle.rb_core.proofs.Steps.{Served}
 

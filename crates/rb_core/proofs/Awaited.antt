@@ -3,10 +3,11 @@ use Rattle.std.proofs.Common.{◌≡◌, ℕ, Bool, true, false, eqb, refl, sym,
 use Rattle.std.proofs.lemmas.Bool.{eqb-true, ne_eqb, eq-eqb}
 use Rattle.rb_rpc.specs.declared.peer.Peer.{Peer}
 use Rattle.rb_rpc.specs.declared.peer.Caller.TheVariants.{Tcp, Udp}
-use Rattle.rb_forward.specs.Table.{Table as Entries, slots_of, is_waiting, NoneWaitsAnew, OnlyWaitsAnew}
+use Rattle.rb_forward.specs.StandsFor.{Table as Entries, slots_of}
+use Rattle.rb_forward.specs.Table.{is_waiting, NoneWaitsAnew, OnlyWaitsAnew}
 use Rattle.rb_core.specs.declared.types.Outcome.{Outcome}
 use Rattle.rb_core.specs.declared.types.Outcome.TheVariants as outcomes
-use Rattle.rb_core.specs.Slots.{Table}
+use Rattle.rb_core.specs.StandsFor.{Table}
 use Rattle.rb_core.specs.Awaits.{is_free, AreAwaited, NoneIsFreed, OnlyIsFreed, StayUnlessForwarded}
 
 -- what waits now waited before

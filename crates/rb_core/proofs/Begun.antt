@@ -4,7 +4,7 @@ use Rattle.rb_xdr.specs.Meter.{Meter}
 use Rattle.rb_core.specs.State.{State}
 use Rattle.rb_core.specs.Slots.{Acts}
 use Rattle.rb_core.specs.StandsFor.{Held, StandsFor}
-use Rattle.rb_core.specs.EventSteps.{shown, BeginsAt}
+use Rattle.rb_core.specs.Events.{shown, BeginsAt}
 
 -- what is held once an event began as the meter showed this
 abbrev pub began : Held → ℕ → Held

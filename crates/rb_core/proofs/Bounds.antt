@@ -19,7 +19,7 @@ use Rattle.rb_registry.specs.Registry.{Registry, StandsForChanges, slots_of as r
 use Rattle.rb_registry.specs.Slots.{slot_of, is_dropped, slots_by, all_slots, slots_from, held_in as held_of_rows}
 use Rattle.rb_stats.proofs.Sizes.{few_keys}
 use Rattle.rb_forward.specs.Forwards.{Entry, Forwards, held_call, question, head_of}
-use Rattle.rb_forward.specs.Table.{Table as Entries, StandsForForwards, slots_of as calls_of, held_in as held_of_calls, longest_call}
+use Rattle.rb_forward.specs.StandsFor.{Table as Entries, StandsForForwards, slots_of as calls_of, held_in as held_of_calls, longest_call}
 use Rattle.rb_forward.proofs.Heads.{length-head}
 use Rattle.rb_forward.proofs.Stands.{held_alike}
 use Rattle.rb_proto.specs.declared.listener.Listener.{Listener}
@@ -28,15 +28,12 @@ use Rattle.rb_core.specs.declared.slot.Slot.{Slot}
 use Rattle.rb_core.specs.declared.slot.Stage.{Stage}
 use Rattle.rb_core.specs.declared.slot.Stage.TheVariants as stages
 use Rattle.rb_core.specs.Calls.{longest_reply}
-use Rattle.rb_core.specs.Giving.{longest_fragment}
-use Rattle.rb_core.specs.Reading.{longest_arguments, buffer_size, kept_of}
+use Rattle.rb_core.specs.Connections.{longest_fragment}
+use Rattle.rb_core.specs.StandsFor.{longest_arguments, buffer_size, kept_of, StandsForPhase, StandsForConnection, charge, held_in, IsWithin, Held, source_of, Source}
 use Rattle.rb_core.specs.State.{Phase, Connection}
 use Rattle.rb_core.specs.State.Phase.{Idle, Reading, Owing, Awaiting, Lost}
-use Rattle.rb_core.specs.Slots.{StandsForPhase, StandsForConnection, charge, held_in, IsWithin}
-use Rattle.rb_core.specs.StandsFor.{Held, source_of}
-use Rattle.rb_core.specs.Streams.{Source}
-use Rattle.rb_core.specs.HeldBytes.{greatest_call}
-use Rattle.rb_core.specs.HeldLaws.{takes_bytes, HoldsArguments, unheld_share, HeldBytesAreBounded, NeverPasses}
+use Rattle.rb_core.specs.Bounds.{greatest_call}
+use Rattle.rb_core.specs.BoundLaws.{takes_bytes, HoldsArguments, unheld_share, HeldBytesAreBounded, NeverPasses}
 use Rattle.rb_core.proofs.EntriesKept.{HasShortArgs, reached-kept}
 use Rattle.rb_core.proofs.Ledgers.{IsShortChange, reached-short}
 use Rattle.rb_core.proofs.Room.{reached-room}

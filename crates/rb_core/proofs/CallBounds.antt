@@ -3,17 +3,16 @@ use Rattle.std.proofs.Common.{◌≡◌, ◌≤◌, ℕ, ◌+◌, List, length, 
 use Rattle.rb_xdr.specs.Meter.{Meter, PaysAtMost}
 use Rattle.rb_rpc.specs.declared.peer.Peer.{Peer}
 use Rattle.rb_forward.specs.Costs.{sent_cost, unsent_cost}
-use Rattle.rb_forward.specs.Table.{longest_arguments as longest_args}
+use Rattle.rb_forward.specs.StandsFor.{longest_arguments as longest_args}
 use Rattle.rb_core.specs.Calls.{Outcome, longest_reply}
-use Rattle.rb_core.specs.Reading.{longest_arguments, buffer_size}
+use Rattle.rb_core.specs.StandsFor.{longest_arguments, buffer_size, Held, StandsFor}
 use Rattle.rb_core.specs.State.{State, Setting}
-use Rattle.rb_core.specs.Step.{Taken, datagram, bytes, show_taken, step}
+use Rattle.rb_core.specs.Step.{Taken, datagram, bytes, show_taken, step, IsReached}
 use Rattle.rb_core.specs.Step.Event.{Bytes, Datagram}
 use Rattle.rb_core.specs.Slots.{Acts}
-use Rattle.rb_core.specs.Costs.{look_cost, slot_count, kept_count, pending_cost, take_cost, recount_cost, answer_cost}
-use Rattle.rb_core.specs.StandsFor.{Held, StandsFor, gave_cost, closing_cost, ending_cost, datagram_cost}
-use Rattle.rb_core.specs.Laws.{IsReached}
-use Rattle.rb_core.specs.StepLaws.{StaysWithinSteps}
+use Rattle.rb_core.specs.CallCosts.{look_cost, slot_count, kept_count, gave_cost, closing_cost, ending_cost, datagram_cost}
+use Rattle.rb_core.specs.Costs.{pending_cost, take_cost, recount_cost, answer_cost}
+use Rattle.rb_core.specs.Events.{StaysWithinSteps}
 use Rattle.rb_core.proofs.EntriesKept.{step-follows}
 use Rattle.rb_core.proofs.Room.{reached-room}
 use Rattle.rb_core.proofs.RunSteps.{datagram_shown, same_state}

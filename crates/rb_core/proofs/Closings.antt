@@ -25,12 +25,12 @@ use Rattle.rb_core.specs.Sessions.{IsFinal}
 use Rattle.rb_core.specs.State.{State, Connection, Connections, at_moment}
 use Rattle.rb_core.specs.State.Phase.{Idle}
 use Rattle.rb_core.specs.Connections.{is_lost, has_number, is_live, live_connection, is_there, fed_in, change_first, changed_at, reading, settled, giving, without_number, closing_of}
-use Rattle.rb_core.specs.Step.{Event, Output, Taken, context_in, with_reply, datagram, show_outcome, serve_message, serve, dropped_with, bytes, close_connection, output_or, show_taken, show_done, show_expired, step}
+use Rattle.rb_core.specs.Step.{Event, Output, Taken, context_in, with_reply, datagram, show_outcome, serve_message, serve, dropped_with, bytes, close_connection, output_or, show_taken, show_done, show_expired, step, IsReached}
 use Rattle.rb_core.specs.Step.Event.{Open, Bytes, Pending, Gave, Closed, NextLost, Datagram, Unsent, Sent, Forward, Expire}
-use Rattle.rb_core.specs.Laws.{IsReached, IsLive, IsLeast}
+use Rattle.rb_core.specs.Laws.{IsLive, IsLeast}
 use Rattle.rb_core.specs.DeadlineLaws.{NoEntryIsDue}
 use Rattle.rb_core.specs.declared.types.Expired.{Expired}
-use Rattle.rb_core.specs.Deadlines.{is_due, lost}
+use Rattle.rb_core.specs.Losses.{is_due, lost, began_in, kept_removals, asks_room, is_crowded, crowding, began_before, evicted, evicting}
 use Rattle.rb_core.specs.Ending.{at_fresh_moment, expire}
 use Rattle.rb_forward.specs.declared.types.Outcome.TheVariants.{Failed}
 use Rattle.rb_forward.specs.Forwards.{Entry, Forwards, is_due as entry_is_due, ended_by, without_first}
@@ -47,7 +47,6 @@ use Rattle.rb_core.specs.Closings.{EndsNoCall, EndsAtDeadline, EndsRecord, Bring
 use Rattle.rb_core.proofs.Cuts.{IsFeeding, find-changed, find-holds, number-is, reading-feeds, fed-no-list}
 use Rattle.rb_core.proofs.Crowding.{crowded, row_within}
 use Rattle.rb_core.proofs.Crowds.{is_lost_one, live_or_lost, lost_stays, plain_lives}
-use Rattle.rb_core.specs.Evictions.{began_in, kept_removals, asks_room, is_crowded, crowding, began_before, evicted, evicting}
 use Rattle.rb_core.proofs.ExactTaking.{fed-none}
 use Rattle.rb_core.proofs.Happenings.{Arriving, arriving, Happening, happening, said_in, crowd_at, find-any}
 use Rattle.rb_core.proofs.Happenings.Arriving.{NotThere, NotTaken, ReadOn, Ended}

@@ -27,11 +27,9 @@ use Rattle.rb_core.specs.declared.message.Message.{Message}
 use Rattle.rb_core.specs.declared.message.Message.TheVariants as says
 use Rattle.rb_core.specs.State.{Phase, Connection, Connections}
 use Rattle.rb_core.specs.State.Phase.{Idle, Reading, Owing, Awaiting, Lost}
-use Rattle.rb_core.specs.Evictions.{began_in, begins, is_kept_for, removals_by, kept_removals, asks_room, crowding, evicted, evicting}
-use Rattle.rb_core.specs.Streams.{Source}
-use Rattle.rb_core.specs.Rooms.{HasRoom}
-use Rattle.rb_core.specs.Slots.{Table, StandsForPhase, StandsForConnection, StandsForConnections}
-use Rattle.rb_core.specs.Listings.{began_stage, slot_began, IsToldStage, IsToldSlot, AreTold, stamps_of, IsOldest, IsEarliest}
+use Rattle.rb_core.specs.Losses.{began_in, begins, is_kept_for, removals_by, kept_removals, asks_room, crowding, evicted, evicting}
+use Rattle.rb_core.specs.StandsFor.{Source, Table, StandsForPhase, StandsForConnection, StandsForConnections}
+use Rattle.rb_core.specs.Listings.{HasRoom, began_stage, slot_began, IsToldStage, IsToldSlot, AreTold, stamps_of, IsOldest, IsEarliest}
 use Rattle.rb_core.proofs.Evicting.{began_alike}
 
 -- ---- lists go on

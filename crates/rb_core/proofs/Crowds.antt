@@ -8,7 +8,7 @@ use Rattle.rb_proto.specs.Ledger.{Ledger}
 use Rattle.rb_core.specs.declared.message.Message.{Message}
 use Rattle.rb_core.specs.State.{Connection}
 use Rattle.rb_core.specs.Connections.{is_lost, is_live, change_first}
-use Rattle.rb_core.specs.Evictions.{began_in, began_before, begins, kept_removals, crowding, evicted}
+use Rattle.rb_core.specs.Losses.{began_in, began_before, begins, kept_removals, crowding, evicted}
 
 -- a connection without a list stays
 pub no_list_stays : (changes : List ℕ) (c : Connection) → began_in c.phase ≡ None → evicted changes c ≡ c

@@ -9,14 +9,12 @@ use Rattle.rb_rpc.specs.Records.{first_record, data_of}
 use Rattle.rb_rpc.proofs.RecordCuts.{ends_later}
 use Rattle.rb_core.specs.declared.types.CoreFault.{CoreFault}
 use Rattle.rb_core.specs.declared.types.CoreFault.TheVariants.{Gone}
-use Rattle.rb_core.specs.Calls.{Outcome, is_no_call}
+use Rattle.rb_core.specs.Calls.{Outcome, is_no_call, message_of}
 use Rattle.rb_core.specs.State.{State, Connection, Phase, at_moment}
 use Rattle.rb_core.specs.State.Phase.{Idle, Reading, Owing, Awaiting, Lost}
 use Rattle.rb_core.specs.Connections.{is_live, is_lost, live_connection, change_first, reading, settled, fed_in, taking, taking_up_to, taking_behind}
-use Rattle.rb_core.specs.Step.{Taken, serve, on_connection, answering, when_taken, bytes_to, bytes}
-use Rattle.rb_core.specs.Evictions.{began_in, crowding, evicted}
-use Rattle.rb_core.specs.Calls.{message_of}
-use Rattle.rb_core.specs.Step.{context_in}
+use Rattle.rb_core.specs.Step.{Taken, serve, on_connection, answering, when_taken, bytes_to, bytes, context_in}
+use Rattle.rb_core.specs.Losses.{began_in, crowding, evicted}
 use Rattle.rb_core.proofs.Crowds.{begins_changed, evicted_changed, crowding_alike}
 use Rattle.rb_core.specs.Laws.{SameInOnePiece, CutsDoNotMatter, one_after_another}
 

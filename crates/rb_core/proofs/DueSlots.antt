@@ -6,9 +6,9 @@ use Rattle.rb_core.specs.declared.slot.Stage.{Stage}
 use Rattle.rb_core.specs.declared.slot.Stage.TheVariants as stages
 use Rattle.rb_core.specs.State.{Phase, Connection}
 use Rattle.rb_core.specs.State.Phase.{Idle, Reading, Owing, Awaiting, Lost}
-use Rattle.rb_core.specs.Deadlines.{time_in, is_due, is_due_slot, phase_like}
-use Rattle.rb_core.specs.Streams.{Source}
-use Rattle.rb_core.specs.Slots.{StandsForConnection, StandsForPhase}
+use Rattle.rb_core.specs.Losses.{time_in, is_due}
+use Rattle.rb_core.specs.Slots.{is_due_slot, phase_like}
+use Rattle.rb_core.specs.StandsFor.{Source, StandsForConnection, StandsForPhase}
 
 pub time_as_stage : (source : Source) (stage : Stage) (buffer window : Kept) (phase : Phase) → StandsForPhase source stage buffer window phase
     → time_in (phase_like stage) ≡ time_in phase

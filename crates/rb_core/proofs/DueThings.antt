@@ -12,7 +12,7 @@ use Rattle.rb_core.specs.declared.types.Expired.{Expired}
 use Rattle.rb_core.specs.declared.types.Expired.TheVariants.{Nothing, ConnectionClosed}
 use Rattle.rb_core.specs.State.{State, Connection}
 use Rattle.rb_core.specs.Connections.{changed_at}
-use Rattle.rb_core.specs.Deadlines.{is_due, first_due, lost, expiring}
+use Rattle.rb_core.specs.Losses.{is_due, first_due, lost, expiring}
 use Rattle.rb_core.specs.Ending.{told_at, tell, tell_end, at_fresh_moment, expire_connection, expired_as, expire}
 
 -- the end of this entry at its deadline

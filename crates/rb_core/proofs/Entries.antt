@@ -25,24 +25,22 @@ use Rattle.rb_core.specs.Calls.{Outcome, is_no_call}
 use Rattle.rb_core.specs.Calls.Outcome.{NoCall, Reply, Forwarded, Silent}
 use Rattle.rb_core.specs.State.{State, Phase, Connection, Connections, at_moment, opening}
 use Rattle.rb_core.specs.State.Phase.{Idle, Reading, Owing, Awaiting, Lost}
-use Rattle.rb_core.specs.Connections.{is_awaiting, is_live, live_connection, fed_in, pending_in, phase_when_given, when_given, giving, reading, settled, change_first, changed_at, on_found, is_there, without_number, closing_of, opening_as, opening_of, number_for, on_connection}
+use Rattle.rb_core.specs.Laws.{is_awaiting}
+use Rattle.rb_core.specs.Connections.{is_live, live_connection, fed_in, pending_in, phase_when_given, when_given, giving, reading, settled, change_first, changed_at, on_found, is_there, without_number, closing_of, opening_as, opening_of, number_for, on_connection}
 use Rattle.rb_core.specs.Ending.{told_at, tell, tell_end, at_fresh_moment, forward_reply, expire}
-use Rattle.rb_core.specs.Step.{Event, Output, Taken, context_in, serve, bytes, moved, gave, is_too_much, pending, pending_on, open_connection, dropped_with, close_connection, sent_call, with_reply, datagram, output_or, show_taken, show_done, show_outcome, show_end, show_expired, step}
+use Rattle.rb_core.specs.Step.{Event, Output, Taken, context_in, serve, bytes, moved, gave, is_too_much, pending, pending_on, open_connection, dropped_with, close_connection, sent_call, with_reply, datagram, output_or, show_taken, show_done, show_outcome, show_end, show_expired, step, after, IsReached}
 use Rattle.rb_core.specs.Step.Event.{Open, Bytes, Pending, Gave, Closed, NextLost, Datagram, Unsent, Sent, Forward, Expire}
 use Rattle.rb_core.specs.Step.Output.{Opened, TooMuch, IsPending}
-use Rattle.rb_core.specs.Run.{after}
 use Rattle.rb_rpc.specs.Records.{data_of}
-use Rattle.rb_core.specs.Laws.{IsReached}
 use Rattle.rb_core.specs.Sessions.{IsFinal}
 use Rattle.rb_core.specs.ForwardLaws.{count_awaiting, ConnectionsAwait}
 use Rattle.rb_core.specs.declared.types.Expired.{Expired}
-use Rattle.rb_core.specs.Deadlines.{is_due as due_connection, lost}
+use Rattle.rb_core.specs.Losses.{is_due as due_connection, lost, began_in, began_before, evicted, evicting}
 use Rattle.rb_core.proofs.Expiring.{due-one, due-awaits-none}
 use Rattle.rb_core.proofs.FewDue.{live-found}
 use Rattle.rb_core.proofs.DueThings.{end_of, Expiry, expiry}
 use Rattle.rb_core.proofs.DueThings.Expiry.{EntryEnds, ConnectionEnds, NothingDue}
 use Rattle.rb_core.proofs.Closings.{sound-apart}
-use Rattle.rb_core.specs.Evictions.{began_in, began_before, evicted, evicting}
 use Rattle.rb_core.proofs.Crowds.{none_before, plain_lives, stays_dead}
 use Rattle.rb_core.proofs.Cuts.{IsFeeding, number-is, find-changed, find-holds, reading-feeds}
 use Rattle.rb_core.proofs.Entering.{is_forwarded, Entering, serve-enters}

@@ -7,8 +7,7 @@ use Rattle.std.proofs.lemmas.List.Sums.{sum_by-cons, sum_by-append, sum_by_push}
 use Rattle.rb_forward.specs.Forwards.{Entry, Forwards, started, next_entry, sent, without_first, change_first, as_sent, is_unsent}
 use Rattle.rb_forward.specs.Laws.{number_of, times}
 use Rattle.rb_core.specs.State.{State, opening}
-use Rattle.rb_core.specs.Step.{Event, step}
-use Rattle.rb_core.specs.Run.{after}
+use Rattle.rb_core.specs.Step.{Event, step, after}
 use Rattle.rb_core.specs.ForwardLaws.{numbers_in, next_in, OneIsGone, ChangesAtMostOne, EventsChangeAtMostOne, gone_with, ended_in, EntriesEndOnce}
 use Rattle.rb_core.specs.ForwardLaws.ChangesAtMostOne.{Same, OneEnds, OneBegins}
 use Rattle.rb_core.proofs.EntriesKept.{Goes, Goes as goes, step-follows}

@@ -26,7 +26,7 @@ use Rattle.rb_proto.specs.Ledger.{Ledger, rows_in, called}
 use Rattle.rb_proto.specs.Netids.{netid_of_prot}
 use Rattle.rb_proto.specs.Remote.{args_of, HasContent}
 use Rattle.rb_proto.specs.Arguments.{HasArgs}
-use Rattle.rb_forward.specs.Table.{longest_arguments}
+use Rattle.rb_forward.specs.StandsFor.{longest_arguments}
 use Rattle.rb_rpc.specs.Verdict.{verdict}
 use Rattle.rb_feed.specs.Feeds.{arguments_of}
 use Rattle.rb_core.specs.Reading.{HasArgsIn}
@@ -45,9 +45,7 @@ use Rattle.rb_core.specs.State.{Setting, State, Connection, Connections, at_mome
 use Rattle.rb_core.specs.Connections.{Taking, taking, live_connection, closing_of}
 use Rattle.rb_core.specs.Connections.Taking.{TakesNone, GoesOn, Ends}
 use Rattle.rb_core.specs.Ending.{told_at, tell, tell_end, at_fresh_moment, forward_reply, expire_connection, expired_as, expire}
-use Rattle.rb_core.specs.Step.{Event, Output, context_in, serve, answering, moved, when_taken, bytes_to, bytes, pending, gave, is_too_much, open_connection, dropped_with, close_connection, with_reply, datagram, sent_call, output_or, show_taken, show_done, show_outcome, show_end, show_expired, step}
-use Rattle.rb_core.specs.Run.{after}
-use Rattle.rb_core.specs.Laws.{IsReached}
+use Rattle.rb_core.specs.Step.{Event, Output, context_in, serve, answering, moved, when_taken, bytes_to, bytes, pending, gave, is_too_much, open_connection, dropped_with, close_connection, with_reply, datagram, sent_call, output_or, show_taken, show_done, show_outcome, show_end, show_expired, step, after, IsReached}
 use Rattle.rb_core.specs.Step.Event.{Open, Bytes, Pending, Gave, Closed, NextLost, Datagram, Unsent, Sent, Forward as ForwardCame, Expire}
 use Rattle.rb_core.specs.Step.Output.{Opened, TooMuch, IsPending}
 

@@ -14,9 +14,9 @@ use Rattle.rb_core.specs.declared.slot.Stage.{Stage}
 use Rattle.rb_core.specs.declared.slot.Stage.TheVariants as stages
 use Rattle.rb_core.specs.State.{Phase, Connection, Connections}
 use Rattle.rb_core.specs.State.Phase.{Idle, Reading, Owing, Awaiting, Lost}
-use Rattle.rb_core.specs.Evictions.{began_in, began_before, evicted, evicting}
-use Rattle.rb_core.specs.Streams.{Source}
-use Rattle.rb_core.specs.Slots.{Table, IsTable, StaysTable, HasBuffers, AreNumbered, is_numbered, is_idle_stage, StandsForPhase, StandsForConnection, StandsForConnections, charge, held_in, IsWithin}
+use Rattle.rb_core.specs.Losses.{began_in, began_before, evicted, evicting}
+use Rattle.rb_core.specs.StandsFor.{Source, Table, StandsForPhase, StandsForConnection, StandsForConnections, charge, held_in, IsWithin}
+use Rattle.rb_core.specs.Slots.{IsTable, StaysTable, HasBuffers, AreNumbered, is_numbered, is_idle_stage}
 use Rattle.rb_core.specs.Awaits.{is_free_slot, is_free, is_idle_slot, has_idle, NoneIsFreed}
 use Rattle.rb_core.specs.Listings.{began_stage, slot_began, IsToldSlot, IsOldest, earlier, IsEarliest, began_early, evicted_slot, with_evicted}
 

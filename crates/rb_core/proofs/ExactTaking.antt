@@ -10,14 +10,14 @@ use Rattle.rb_core.specs.Calls.Outcome.{NoCall, Reply, Forwarded, Silent}
 use Rattle.rb_core.specs.State.{State, Phase, Connection, Connections, at_moment}
 use Rattle.rb_core.specs.State.Phase.{Idle, Reading, Owing, Awaiting, Lost}
 use Rattle.rb_core.specs.Connections.{live_connection, changed_at, reading, settled, fed_in}
-use Rattle.rb_core.specs.Step.{Taken, serve, answering, on_connection, bytes}
-use Rattle.rb_core.specs.Laws.{IsReached, IsLive, Arrival, IsSettled, TakesNothing, ReadsOn, IsAnswered, EndsRecord, TakesExactly, BytesAreTakenExactly}
+use Rattle.rb_core.specs.Step.{Taken, serve, answering, on_connection, bytes, IsReached}
+use Rattle.rb_core.specs.Laws.{IsLive, Arrival, IsSettled, TakesNothing, ReadsOn, IsAnswered, EndsRecord, TakesExactly, BytesAreTakenExactly}
 use Rattle.rb_core.proofs.Cuts.{find-changed, reading-feeds, fed-at, fed-no-list}
 use Rattle.rb_core.proofs.Happenings.{said_in, answered_in, crowd_at}
 use Rattle.rb_core.proofs.Live.{answering-feeds, replying-feeds, lost-gone}
 use Rattle.rb_core.proofs.Reached.{IsSoundPhase, live-sound, reached-sound, mapped, evicted-keeps}
 use Rattle.rb_core.proofs.Crowds.{plain_lives}
-use Rattle.rb_core.specs.Evictions.{began_in, evicted, evicting}
+use Rattle.rb_core.specs.Losses.{began_in, evicted, evicting}
 use Rattle.rb_rpc.specs.Records.{data_of, first_record}
 use Rattle.rb_rpc.specs.declared.peer.Caller.TheVariants.{Tcp}
 

@@ -3,10 +3,10 @@ use Rattle.std.proofs.Common.{◌≡◌, ℕ, Option, Some, None, refl, ap, ◌�
 use Rattle.rb_core.specs.declared.types.Expired.{Expired}
 use Rattle.rb_core.specs.declared.types.Told.{Told}
 use Rattle.rb_core.specs.State.{State}
-use Rattle.rb_core.specs.Deadlines.{expiring}
+use Rattle.rb_core.specs.Losses.{expiring}
 use Rattle.rb_core.specs.Ending.{closed_as, expire_connection, expired_as}
-use Rattle.rb_core.specs.Slots.{Acts, Table, StandsForConnections, StaysTable}
-use Rattle.rb_core.specs.StandsFor.{Held, StandsFor, source_of}
+use Rattle.rb_core.specs.Slots.{Acts, StaysTable}
+use Rattle.rb_core.specs.StandsFor.{Table, StandsForConnections, Held, StandsFor, source_of}
 
 pub due_closed : (old : Held) (table : Table) (found : Option ℕ) (result : Expired) → result ≡ closed_as found → StaysTable old.connections table
     → Acts (StandsForConnections (source_of old)) (expiring old.clock) old.connections table found → Acts StandsFor expire_connection old (record old { connections = table }) result

@@ -11,10 +11,11 @@ use Rattle.rb_core.specs.declared.slot.Stage.TheVariants as stages
 use Rattle.rb_core.specs.declared.slot.Wanted.TheVariants as wanted
 use Rattle.rb_core.specs.State.{Phase, Connection}
 use Rattle.rb_core.specs.State.Phase.{Idle, Reading, Owing, Awaiting, Lost}
-use Rattle.rb_core.specs.Connections.{change_first, has_number, is_lost, is_live, is_awaiting}
-use Rattle.rb_core.specs.Deadlines.{is_due, has_come, deadline, first_due, lost, expiring, phase_like, is_due_slot}
-use Rattle.rb_core.specs.Streams.{Source}
-use Rattle.rb_core.specs.Slots.{Acts, StandsForConnection, StandsForConnections, Table, AreNumbered, is_wanted_slot, is_wanted, wanted_slot}
+use Rattle.rb_core.specs.Connections.{change_first, has_number, is_lost, is_live}
+use Rattle.rb_core.specs.Laws.{is_awaiting}
+use Rattle.rb_core.specs.Losses.{is_due, has_come, deadline, first_due, lost, expiring}
+use Rattle.rb_core.specs.Slots.{phase_like, is_due_slot, Acts, AreNumbered, is_wanted_slot, is_wanted, wanted_slot}
+use Rattle.rb_core.specs.StandsFor.{Source, StandsForConnection, StandsForConnections, Table}
 use Rattle.rb_core.specs.Awaits.{is_awaiting_stage}
 use Rattle.rb_forward.proofs.Tables.{some_is, is_first}
 use Rattle.rb_core.proofs.Slots.{locate, no_slot, wanted_alike, any_alike}

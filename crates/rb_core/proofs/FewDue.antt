@@ -10,12 +10,11 @@ use Rattle.rb_core.specs.declared.types.Expired.TheVariants as expiries
 use Rattle.rb_core.specs.Calls.{Outcome}
 use Rattle.rb_core.specs.State.{State, Connection}
 use Rattle.rb_core.specs.Connections.{change_first, is_lost, is_live, settled}
-use Rattle.rb_core.specs.Deadlines.{is_due, lost}
+use Rattle.rb_core.specs.Losses.{is_due, lost}
 use Rattle.rb_core.specs.Ending.{told_at, tell, at_fresh_moment, expire}
-use Rattle.rb_core.specs.Step.{show_expired, step}
+use Rattle.rb_core.specs.Step.{show_expired, step, after}
 use Rattle.rb_core.specs.Step.Event.{Expire}
 use Rattle.rb_core.specs.Step.Output.{Nothing}
-use Rattle.rb_core.specs.Run.{after}
 use Rattle.rb_core.proofs.Expiring.{due-live}
 use Rattle.rb_core.proofs.DueThings.{end_of, Expiry, expiry}
 use Rattle.rb_core.proofs.DueThings.Expiry.{EntryEnds, ConnectionEnds, NothingDue}

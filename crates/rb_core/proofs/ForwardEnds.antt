@@ -15,7 +15,7 @@ use Rattle.rb_proto.specs.Forwarding.{noted_end, replied, fell_due}
 use Rattle.rb_core.specs.declared.types.Told.{Told}
 use Rattle.rb_core.specs.Calls.{Outcome}
 use Rattle.rb_core.specs.State.{State}
-use Rattle.rb_core.specs.Deadlines.{first_due, with_lost, expiring}
+use Rattle.rb_core.specs.Losses.{first_due, with_lost, expiring}
 use Rattle.rb_core.specs.Ending.{told_at, tell, tell_end, at_fresh_moment, forward_reply, closed_as, expire_connection, expired_as, expire}
 use Rattle.rb_core.specs.DeadlineLaws.{EntryIsDue}
 use Rattle.rb_core.specs.ForwardLaws.{IsTold, EndsFirst, EndsNone, EndsByReply, RepliesEndTheirOwn, EndsByDeadline, DeadlinesEndOne}

@@ -7,7 +7,8 @@ use Rattle.rb_xdr.specs.Kept.{Kept}
 use Rattle.rb_rpc.specs.Records.{Fragment, fragment_header, markings, fragment_size, cut_up, reply_fragments, marked}
 use Rattle.rb_rpc.proofs.Markings.{length-header}
 use Rattle.rb_core.specs.State.{Owed}
-use Rattle.rb_core.specs.Giving.{longest_fragment, pending_of, window, owed_of, IsGiving}
+use Rattle.rb_core.specs.Connections.{longest_fragment, pending_of, owed_of}
+use Rattle.rb_core.specs.StandsFor.{window, IsGiving}
 
 longest_is : longest_fragment ≡ 1028
 unfolding longest_fragment

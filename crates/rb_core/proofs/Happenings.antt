@@ -24,19 +24,18 @@ use Rattle.rb_core.specs.declared.types.CoreFault.TheVariants.{Full, Spent, Gone
 use Rattle.rb_core.specs.declared.types.Told.{Told}
 use Rattle.rb_core.specs.declared.types.Told.TheVariants.{TcpReady}
 use Rattle.rb_core.specs.declared.types.Told.TheVariants as tolds
-use Rattle.rb_core.specs.Calls.{Outcome, Outcome as outcomes, is_no_call}
+use Rattle.rb_core.specs.Calls.{Outcome, Outcome as outcomes, is_no_call, message_of}
 use Rattle.rb_core.specs.State.{State, Connection, Connections, at_moment, greatest_number}
 use Rattle.rb_core.specs.Connections.{fed_in, taking, taking_up_to, reading, settled, giving, pending_in, live_connection, changed_at, on_found, number_for, with_new, opening_as, opening_of, is_there, without_number, closing_of}
 use Rattle.rb_core.specs.Ending.{refused_by, told_failed, told_of, told_at, tell, tell_end, at_fresh_moment, forward_reply, expired_as, expire}
-use Rattle.rb_core.specs.Evictions.{crowding, evicting}
-use Rattle.rb_core.specs.Calls.{message_of}
+use Rattle.rb_core.specs.Losses.{crowding, evicting, is_due as connection_is_due, lost}
 use Rattle.rb_core.specs.Step.{Event, Output, Taken, context_in, serve, answering, moved, when_taken, bytes_to, bytes, pending, pending_on, gave, is_too_much, open_connection, dropped_with, close_connection, next_lost, with_reply, datagram, unsent_call, sent_call, output_or, show_taken, show_done, show_outcome, show_told, show_end, show_expired, on_connection, step}
 use Rattle.rb_core.specs.Step.Event.{Open, Bytes, Pending, Gave, Closed, NextLost, Datagram, Unsent, Sent, Forward, Expire}
 use Rattle.rb_core.specs.Step.Output.{Opened, Refused, TooMuch, Took, IsPending, Done, LostIs, Replied, Forwarded, Silent, UnsentIs, Ignored, Nothing, ConnectionClosed, Ready, RepliedTo}
 use Rattle.rb_core.specs.declared.types.Expired.{Expired}
-use Rattle.rb_core.specs.Deadlines.{is_due as connection_is_due, lost}
 use Rattle.rb_core.specs.Laws.{number_given}
-use Rattle.rb_core.specs.Sessions.{piece_to, gave_to, count_in, given_by, IsFinal, told_ended, told_by}
+use Rattle.rb_core.specs.Sessions.{piece_to, gave_to, given_by, IsFinal, told_ended, told_by}
+use Rattle.rb_core.specs.Bounds.{count_in}
 use Rattle.rb_core.proofs.DueThings.{end_of, Expiry, expiry}
 use Rattle.rb_core.proofs.DueThings.Expiry.{EntryEnds, ConnectionEnds, NothingDue}
 

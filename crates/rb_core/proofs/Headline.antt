@@ -6,12 +6,10 @@ use Rattle.rb_proto.specs.Ledger.{Ledger}
 use Rattle.rb_core.specs.Calls.{Outcome, message_of, outcome}
 use Rattle.rb_core.specs.Calls.Outcome.{NoCall, Reply, Forwarded, Silent}
 use Rattle.rb_core.specs.State.{Setting, State, at_moment, opening}
-use Rattle.rb_core.specs.Step.{context_in, with_ledger, with_reply, serve, datagram, show_outcome, step}
-use Rattle.rb_core.specs.Evictions.{with_room}
-use Rattle.rb_core.specs.Run.{after}
-use Rattle.rb_core.specs.Laws.{IsReached}
+use Rattle.rb_core.specs.Step.{context_in, with_ledger, with_reply, serve, datagram, show_outcome, step, after, IsReached}
+use Rattle.rb_core.specs.Losses.{with_room}
 use Rattle.rb_core.specs.Costs.{event_cost}
-use Rattle.rb_core.specs.StepLaws.{steps_bound, bytes_in, bytes_out}
+use Rattle.rb_core.specs.Bounds.{steps_bound, bytes_in, bytes_out}
 use Rattle.rb_core.specs.Headline.{shown_as, AnswersDatagrams, RunsAreServedWithinBounds}
 use Rattle.rb_core.proofs.EntriesKept.{after-setting}
 use Rattle.rb_core.proofs.WholeSessions.{sessions_are_whole}

@@ -10,8 +10,10 @@ use Rattle.rb_rpc.specs.declared.call.Verdict.{Verdict}
 use Rattle.rb_rpc.specs.declared.call.Verdict.TheVariants.{NoCall, RpcMismatch, AuthError, Call}
 use Rattle.rb_feed.specs.Stages.{is_call}
 use Rattle.rb_feed.specs.declared.feed.CallFeed.{CallFeed}
-use Rattle.rb_feed.specs.Feeds.{StandsForCall, StandsForMore, AreCall, AreArguments, behind_head, arguments_of}
-use Rattle.rb_core.specs.Reading.{longest_arguments, buffer_size, AreKept, AreArgumentsIn}
+use Rattle.rb_feed.specs.Feeds.{StandsForCall, behind_head, arguments_of}
+use Rattle.rb_feed.specs.Laws.{StandsForMore, AreCall, AreArguments}
+use Rattle.rb_core.specs.StandsFor.{longest_arguments, buffer_size}
+use Rattle.rb_core.specs.Reading.{AreKept, AreArgumentsIn}
 
 -- ---- what comes before the arguments
 

@@ -16,7 +16,7 @@ use Rattle.rb_proto.specs.Remote.{args_of}
 use Rattle.rb_proto.specs.Forwarding.{address_to_forward, forward_of, refuse, forward_to, forward_call, replied, fell_due, caller_dropped, call_sent}
 use Rattle.rb_core.specs.declared.types.Told.{Told}
 use Rattle.rb_core.specs.declared.types.CoreFault.TheVariants.{Gone}
-use Rattle.rb_core.specs.Deadlines.{first_due, with_lost, expiring}
+use Rattle.rb_core.specs.Losses.{first_due, with_lost, expiring}
 use Rattle.rb_core.specs.Ending.{told_at, tell, tell_end, at_fresh_moment, forward_reply, closed_as, expire_connection, expired_as, expire}
 use Rattle.rb_registry.specs.declared.row.Row.{Row}
 use Rattle.rb_registry.specs.declared.row.Which.{Which}
@@ -47,11 +47,10 @@ use Rattle.rb_core.specs.declared.types.Limits.{Limits}
 use Rattle.rb_core.specs.Calls.{Outcome, Outcome as outcomes, message_of, outcome}
 use Rattle.rb_core.specs.State.{State, Connections, at_moment, opening, are_good}
 use Rattle.rb_core.specs.Connections.{closing_of}
-use Rattle.rb_core.specs.Step.{Event, Output, Taken, context_in, serve, dropped_with, sent_call, show_end, show_expired, moved, bytes, pending, gave, is_too_much, open_connection, close_connection, with_reply, datagram, output_or, show_taken, show_done, show_outcome, step}
+use Rattle.rb_core.specs.Step.{Event, Output, Taken, context_in, serve, dropped_with, sent_call, show_end, show_expired, moved, bytes, pending, gave, is_too_much, open_connection, close_connection, with_reply, datagram, output_or, show_taken, show_done, show_outcome, step, after, IsReached}
 use Rattle.rb_core.specs.Step.Event.{Open, Bytes, Pending, Gave, Closed, NextLost, Datagram, Unsent, Sent, Forward, Expire}
 use Rattle.rb_core.specs.Step.Output.{Opened, TooMuch, IsPending}
-use Rattle.rb_core.specs.Run.{after}
-use Rattle.rb_core.specs.Laws.{IsReached, LedgersAreWellKept}
+use Rattle.rb_core.specs.Laws.{LedgersAreWellKept}
 use Rattle.rb_core.proofs.ShortTexts.{read_short}
 use Rattle.rb_uaddr.specs.Uaddr.{parse, port_of}
 use Rattle.std.proofs.lemmas.List.Elements.{All-nil, All-push}

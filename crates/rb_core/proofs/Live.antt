@@ -7,7 +7,7 @@ use Rattle.rb_core.specs.Calls.Outcome.{NoCall, Reply, Forwarded, Silent}
 use Rattle.rb_core.specs.State.{Phase, Connection}
 use Rattle.rb_core.specs.State.Phase.{Idle, Reading, Owing, Awaiting, Lost}
 use Rattle.rb_core.specs.Connections.{is_lost, is_live, change_first, settled, phase_when_given, when_given, giving, pending_in}
-use Rattle.rb_core.specs.Deadlines.{lost}
+use Rattle.rb_core.specs.Losses.{lost}
 use Rattle.rb_core.proofs.Cuts.{IsFeeding, number-is}
 use Rattle.rb_core.proofs.Reached.{AreSound}
 

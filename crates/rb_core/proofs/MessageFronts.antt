@@ -13,7 +13,7 @@ use Rattle.rb_proto.specs.declared.request.ArgumentFault.TheVariants.{ProcUnavai
 use Rattle.rb_proto.specs.declared.request.Request.{Request}
 use Rattle.rb_proto.specs.declared.request.Request.TheVariants.{Mapping, Rpcb, Uaddr2taddr, Taddr2uaddr, Forward}
 use Rattle.rb_proto.specs.Remote.{read_remote}
-use Rattle.rb_forward.specs.Table.{longest_arguments as longest_args}
+use Rattle.rb_forward.specs.StandsFor.{longest_arguments as longest_args}
 use Rattle.rb_proto.specs.Types.{read_mapping, read_rpcb, read_netbuf}
 use Rattle.rb_proto.specs.Arguments.{procedure_at, is_known, value_of, front, arguments, request, or_garbage, read_request, HasArgs}
 use Rattle.rb_proto.specs.declared.answers.Answer.{Answer}
@@ -24,7 +24,8 @@ use Rattle.rb_proto.specs.Ledger.{Ledger, called}
 use Rattle.rb_core.specs.declared.message.Message.{Message}
 use Rattle.rb_core.specs.declared.message.Message.TheVariants as says
 use Rattle.rb_core.specs.Calls.{call_of, message_with, message_of, reply_with, outcome}
-use Rattle.rb_core.specs.Reading.{longest_arguments, kept_of, HasArgsIn, KeptSaysTheRecord}
+use Rattle.rb_core.specs.StandsFor.{longest_arguments, kept_of}
+use Rattle.rb_core.specs.Reading.{HasArgsIn, KeptSaysTheRecord}
 use Rattle.rb_core.proofs.ReaderFronts.{LooksAt, give_looks, bind_looks, number_looks, opaque_looks}
 
 -- ---- the types of arguments

@@ -4,9 +4,8 @@ use Rattle.std.specs.Prelude.{filter_map}
 use Rattle.std.specs.List.{cons_option}
 use Rattle.rb_core.specs.State.{State, Connections}
 use Rattle.rb_core.specs.Connections.{without_number}
-use Rattle.rb_core.specs.Step.{Event, Output, Taken, show_taken, step}
+use Rattle.rb_core.specs.Step.{Event, Output, Taken, show_taken, step, run}
 use Rattle.rb_core.specs.Step.Output.{Took, TookAndClosed}
-use Rattle.rb_core.specs.Run.{run}
 use Rattle.rb_core.specs.Laws.{number_given, AreRisingFrom}
 use Rattle.rb_core.proofs.Happenings.{Happening, happening}
 use Rattle.rb_core.proofs.Happenings.Happening.{Stays, Evicts, Opens, Reads, Ends, Gives, Closes, Tells, TimesOut}

@@ -14,13 +14,12 @@ use Rattle.rb_core.specs.declared.slot.Stage.TheVariants as stages
 use Rattle.rb_core.specs.declared.slot.Received.{Received}
 use Rattle.rb_core.specs.State.{Owed, Phase, Connection}
 use Rattle.rb_core.specs.State.Phase.{Idle, Reading, Owing, Awaiting, Lost}
-use Rattle.rb_core.specs.Connections.{Taking, taking, taking_on, mark_when_fed, fed_in, pending_in, phase_when_given, when_given, giving}
+use Rattle.rb_core.specs.Connections.{Taking, taking, taking_on, mark_when_fed, fed_in, pending_in, phase_when_given, when_given, giving, pending_of}
 use Rattle.rb_core.specs.Connections.Taking.{TakesNone}
-use Rattle.rb_core.specs.Giving.{IsGiving, pending_of}
-use Rattle.rb_core.specs.Reading.{Fed, Reader, fed_until, IsReading}
+use Rattle.rb_core.specs.StandsFor.{IsGiving, IsReading, Source, IsStreaming, StandsForPhase, StandsForConnection}
+use Rattle.rb_core.specs.Reading.{Fed, Reader, fed_until}
 use Rattle.rb_core.specs.declared.giving.Stream.{Stream}
-use Rattle.rb_core.specs.Streams.{Source, IsStreaming}
-use Rattle.rb_core.specs.Slots.{Acts, StandsForPhase, StandsForConnection, received, fed_with, feeding, arguments_after, arguments_heard}
+use Rattle.rb_core.specs.Slots.{Acts, received, fed_with, feeding, arguments_after, arguments_heard}
 
 -- ---- the phase by the stage
 

@@ -14,9 +14,10 @@ use Rattle.rb_forward.proofs.Ends.{ends_first, due_means, due_tested}
 use Rattle.rb_core.specs.declared.types.Expired.{Expired}
 use Rattle.rb_core.specs.Calls.{Outcome}
 use Rattle.rb_core.specs.State.{State, Connection}
-use Rattle.rb_core.specs.Deadlines.{is_due}
+use Rattle.rb_core.specs.Losses.{is_due}
 use Rattle.rb_core.specs.Ending.{told_failed, told_at, tell, at_fresh_moment, expire}
-use Rattle.rb_core.specs.Laws.{IsReached, IsLeast}
+use Rattle.rb_core.specs.Step.{IsReached}
+use Rattle.rb_core.specs.Laws.{IsLeast}
 use Rattle.rb_core.specs.DeadlineLaws.{clock_at, EntryIsDue, DoesOneThing, ExpireDoesOneThing}
 use Rattle.rb_core.proofs.Reached.{reached-sound}
 use Rattle.rb_core.proofs.LeastLost.{first-least}

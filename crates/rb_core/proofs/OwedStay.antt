@@ -8,11 +8,10 @@ use Rattle.rb_core.specs.Step.{Event, Output, step}
 use Rattle.rb_core.specs.Laws.{IsLive, is_owing, gives_or_closes, OwedRepliesStay}
 use Rattle.rb_rpc.specs.declared.peer.Caller.TheVariants.{Tcp, Udp}
 use Rattle.rb_rpc.specs.Records.{data_of}
-use Rattle.rb_core.specs.Evictions.{evicted, evicting}
+use Rattle.rb_core.specs.Losses.{evicted, evicting, lost}
 use Rattle.rb_core.proofs.Crowds.{live_or_lost, lost_stays}
 use Rattle.rb_core.proofs.Happenings.{Happening, happening, said_in, crowd_at}
 use Rattle.rb_core.proofs.Happenings.Happening.{Stays, Evicts, Opens, Reads, Ends, Gives, Closes, Tells, TimesOut}
-use Rattle.rb_core.specs.Deadlines.{lost}
 use Rattle.rb_core.proofs.Closings.{lost_in, now-lost, timing-out}
 use Rattle.rb_core.proofs.Live.{changed-other, closed-other, find-before}
 use Rattle.rb_core.proofs.Entries.{Await, IsWaiting, entry-waits, reached-awaits}

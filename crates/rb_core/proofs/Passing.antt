@@ -6,8 +6,8 @@ use Rattle.std.proofs.lemmas.Grind.{flat_map-append}
 use Rattle.rb_xdr.specs.Xdr.{AreBytes}
 use Rattle.rb_xdr.proofs.Words.{AreBytes-drop, AreBytes-take}
 use Rattle.rb_rpc.specs.declared.peer.Caller.TheVariants.{Tcp}
-use Rattle.rb_rpc.specs.Records.{IsMarked, first_record, data_of}
-use Rattle.rb_rpc.specs.RecordLaws.{AreMarked, HasNoRecord, Records}
+use Rattle.rb_rpc.specs.RecordLaws.{IsMarked, AreMarked, HasNoRecord, Records}
+use Rattle.rb_rpc.specs.Records.{first_record, data_of}
 use Rattle.rb_rpc.proofs.Markings.{first_is_least, none_where_no_front, data_is_joined}
 use Rattle.rb_rpc.proofs.RecordCuts.{ends_later, stays}
 use Rattle.rb_core.specs.State.{State, Connection}

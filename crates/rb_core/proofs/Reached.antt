@@ -2,20 +2,17 @@
 use Rattle.std.proofs.Common.{◌≡◌, ◌<◌, ◌≤◌, ℕ, ◌+◌, max, Bool, true, false, cond, not, eqb, nat_lt, min, Some, None, List, [], ◌∷◌, ◌++◌, length, map, take, refl, sym, subst, arith}
 use Rattle.std.specs.Prelude.{find, filter}
 use Rattle.std.proofs.lemmas.Bool.{ltb-true}
-use Rattle.rb_rpc.specs.Records.{first_record}
+use Rattle.rb_rpc.specs.Records.{first_record, data_of}
 use Rattle.rb_core.specs.Calls.{Outcome}
 use Rattle.rb_core.specs.Calls.Outcome.{NoCall, Reply, Forwarded, Silent}
 use Rattle.rb_core.specs.State.{State, Phase, Connection, Connections, opening}
 use Rattle.rb_core.specs.State.Phase.{Idle, Reading, Owing, Awaiting, Lost}
 use Rattle.rb_core.specs.Connections.{is_live, live_connection, change_first, without_number, reading, settled, phase_after, phase_when_given, when_given, giving, pending_in}
-use Rattle.rb_core.specs.Deadlines.{lost}
-use Rattle.rb_core.specs.Step.{Event, Output, step}
-use Rattle.rb_core.specs.Run.{after}
-use Rattle.rb_core.specs.Laws.{IsReached, IsLive}
+use Rattle.rb_core.specs.Losses.{lost, began_in, began_before, evicted}
+use Rattle.rb_core.specs.Step.{Event, Output, step, after, IsReached}
+use Rattle.rb_core.specs.Laws.{IsLive}
 use Rattle.rb_core.proofs.Fragments.{some-marked}
 use Rattle.rb_rpc.specs.declared.peer.Caller.TheVariants.{Tcp, Udp}
-use Rattle.rb_rpc.specs.Records.{data_of}
-use Rattle.rb_core.specs.Evictions.{began_in, began_before, evicted}
 use Rattle.rb_core.proofs.Happenings.{Happening, happening, crowd_at}
 use Rattle.rb_core.proofs.Happenings.Happening.{Stays, Evicts, Opens, Reads, Ends, Gives, Closes, Tells, TimesOut}
 

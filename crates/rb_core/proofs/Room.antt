@@ -2,7 +2,7 @@
 use Rattle.std.proofs.Common.{◌≡◌, ℕ, suc, ◌+◌, ◌≤◌, max, Bool, true, false, cond, not, nat_lt, eqb, Option, Some, None, Result, Ok, Err, List, [], ◌∷◌, ◌++◌, length, refl, sym, ap, subst, arith}
 use Rattle.std.specs.Prelude.{filter}
 use Rattle.std.proofs.lemmas.List.{length-map}
-use Rattle.rb_core.specs.Evictions.{crowding, evicted}
+use Rattle.rb_core.specs.Losses.{crowding, evicted, lost}
 use Rattle.std.proofs.lemmas.Bool.{ltb-true}
 use Rattle.rb_rpc.specs.declared.peer.Peer.{Peer}
 use Rattle.rb_rpc.specs.declared.peer.Caller.{Caller}
@@ -20,14 +20,11 @@ use Rattle.rb_core.specs.Calls.{Outcome, Outcome as outcomes, message_of}
 use Rattle.rb_core.specs.State.{State, Connection, at_moment, greatest_number, opening}
 use Rattle.rb_core.specs.Connections.{Taking, taking, reading, settled, change_first, is_live, live_connection, giving, on_found, number_for, opening_as, opening_of, is_there, without_number, closing_of}
 use Rattle.rb_core.specs.State.Phase.{Idle}
-use Rattle.rb_core.specs.Deadlines.{lost}
 use Rattle.rb_core.specs.Connections.Taking.{TakesNone, GoesOn, Ends}
 use Rattle.rb_core.specs.Ending.{told_at, tell, tell_end, at_fresh_moment, forward_reply, expire}
-use Rattle.rb_core.specs.Step.{Event, Output, context_in, serve, answering, moved, when_taken, bytes_to, bytes, pending, gave, is_too_much, open_connection, dropped_with, close_connection, with_reply, datagram, sent_call, output_or, show_taken, show_done, show_outcome, show_end, show_expired, step}
+use Rattle.rb_core.specs.Step.{Event, Output, context_in, serve, answering, moved, when_taken, bytes_to, bytes, pending, gave, is_too_much, open_connection, dropped_with, close_connection, with_reply, datagram, sent_call, output_or, show_taken, show_done, show_outcome, show_end, show_expired, step, after, IsReached}
 use Rattle.rb_core.specs.Step.Event.{Open, Bytes, Pending, Gave, Closed, NextLost, Datagram, Unsent, Sent, Forward as ForwardCame, Expire}
 use Rattle.rb_core.specs.Step.Output.{Opened, TooMuch, IsPending}
-use Rattle.rb_core.specs.Run.{after}
-use Rattle.rb_core.specs.Laws.{IsReached}
 use Rattle.rb_core.proofs.EntriesKept.{step-follows}
 use Rattle.rb_core.proofs.DueThings.{end_of, Expiry, expiry}
 use Rattle.rb_core.proofs.DueThings.Expiry.{EntryEnds, ConnectionEnds, NothingDue}

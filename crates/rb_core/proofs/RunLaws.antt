@@ -1,8 +1,7 @@
 -- A run goes on from the state after the events before.
 use Rattle.std.proofs.Common.{◌≡◌, List, [], ◌∷◌, ◌++◌, refl, ap}
 use Rattle.rb_core.specs.State.{State}
-use Rattle.rb_core.specs.Step.{Event, Output, step}
-use Rattle.rb_core.specs.Run.{run, after}
+use Rattle.rb_core.specs.Step.{Event, Output, step, run, after}
 
 pub run-append : (s : State) (xs ys : List Event) → run s (xs ++ ys) ≡ run s xs ++ run (after s xs) ys
 run-append s [] ys = refl

@@ -5,10 +5,10 @@ use Rattle.rb_core.specs.declared.events.Event as event
 use Rattle.rb_xdr.specs.Meter.{Meter, PaysAtMost}
 use Rattle.rb_core.specs.Costs.{event_cost, run_cost}
 use Rattle.rb_core.specs.State.{State}
-use Rattle.rb_core.specs.Step.{Event, Output, step}
-use Rattle.rb_core.specs.Run.{run, after}
+use Rattle.rb_core.specs.Step.{Event, Output, step, run, after}
 use Rattle.rb_core.proofs.RunLaws.{run-append, after-append}
-use Rattle.rb_core.specs.StandsFor.{Held, StandsFor, event_of, events_of, Happened}
+use Rattle.rb_core.specs.StandsFor.{Held, StandsFor}
+use Rattle.rb_core.specs.Runs.{event_of, events_of, Happened}
 
 one_further : (events : List event.Event) (i : ℕ) (next : event.Event) → i < length events → next ≡ get_or events i next → take (i + 1) (events_of events) ≡ take i (events_of events) ++ event_of next ∷ []
 one_further events i next lt is =

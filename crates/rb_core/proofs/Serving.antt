@@ -1,7 +1,7 @@
 -- What a call leaves behind, from what its parts do to the books.
 use Rattle.std.proofs.Common.{◌≡◌, List, ℕ, length, Some, refl, sym, ap, ◌∙◌, arith, length-append}
 use Rattle.rb_rpc.specs.declared.call.CallHead.{CallHead}
-use Rattle.rb_forward.specs.Table.{Table}
+use Rattle.rb_forward.specs.StandsFor.{Table}
 use Rattle.rb_proto.specs.declared.answers.Answer.{Answer}
 use Rattle.rb_proto.specs.declared.answers.Answer.TheVariants as answers
 use Rattle.rb_proto.specs.Forwarding.{StayUnlessForwarded}
@@ -22,7 +22,7 @@ use Rattle.rb_proto.specs.declared.answers.Results.TheVariants as results
 use Rattle.rb_proto.specs.declared.list_reply.ListReply.{ListReply}
 use Rattle.rb_proto.specs.ListReplies.{rest_of, list_reply}
 use Rattle.rb_core.specs.declared.serve.Served.TheVariants.{Listed}
-use Rattle.rb_core.specs.Rooms.{source_in}
+use Rattle.rb_core.specs.Listings.{source_in}
 use Rattle.rb_core.specs.Serving.{list_outcome, HasList, IsListFor}
 use Rattle.rb_core.proofs.Replies.{some_head}
 use Rattle.rb_core.specs.declared.message.Message.TheVariants as says

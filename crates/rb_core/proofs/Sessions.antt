@@ -6,34 +6,32 @@ use Rattle.std.proofs.lemmas.List.{take_all, take-append-drop, drop-append-le, l
 use Rattle.std.proofs.lemmas.List.Elements.{All-nil, All-append, All-cons}
 use Rattle.std.proofs.lemmas.Bool.{eqb-true, eq-eqb}
 use Rattle.rb_xdr.specs.Xdr.{AreBytes}
-use Rattle.rb_rpc.specs.Records.{first_record}
+use Rattle.rb_rpc.specs.Records.{first_record, data_of}
 use Rattle.rb_rpc.specs.RecordLaws.{Records}
 use Rattle.rb_rpc.proofs.RecordCuts.{ends_later}
 use Rattle.rb_core.specs.Calls.{Outcome, is_no_call}
 use Rattle.rb_core.specs.Calls.Outcome.{NoCall, Reply, Forwarded, Silent}
 use Rattle.rb_core.specs.State.{State, Phase, Connection, Connections, at_moment}
 use Rattle.rb_core.specs.State.Phase.{Idle, Reading, Owing, Awaiting, Lost}
-use Rattle.rb_core.specs.Connections.{is_live, live_connection, is_awaiting, fed_in, change_first, changed_at, reading, settled, giving, when_given, phase_when_given, pending_in, without_number}
-use Rattle.rb_core.specs.Giving.{owed}
+use Rattle.rb_core.specs.Connections.{is_live, live_connection, fed_in, change_first, changed_at, reading, settled, giving, when_given, phase_when_given, pending_in, without_number}
+use Rattle.rb_core.specs.Laws.{is_awaiting, owed, number_given, owed_in, IsGiven}
 use Rattle.rb_core.specs.Step.{Event, Output, Taken, pending, pending_on, show_taken, step}
 use Rattle.rb_core.specs.Step.Event.{Bytes, Gave}
 use Rattle.rb_core.specs.Step.Output.{Opened, Took, TookAndClosed, Done}
-use Rattle.rb_core.specs.Laws.{number_given, owed_in, IsGiven}
-use Rattle.rb_core.specs.Sessions.{Exchange, Session, at_event, piece_to, count_in, taken_by, gave_to, shown, given_by, nothing_passed, passed, passed_by, told_by, with_told, with_last_told, replies_to, marked_reply, IsFinal, is_answered, AwaitsLast, AreAnswered, IsFront}
+use Rattle.rb_core.specs.Sessions.{Exchange, Session, at_event, piece_to, taken_by, gave_to, shown, given_by, nothing_passed, passed, passed_by, told_by, with_told, with_last_told, replies_to, marked_reply, IsFinal, is_answered, AwaitsLast, AreAnswered, IsFront}
+use Rattle.rb_core.specs.Bounds.{count_in}
 use Rattle.rb_core.proofs.Cuts.{IsFeeding, find-changed, find-holds, number-is, reading-feeds, fed-no-list}
 use Rattle.rb_core.proofs.Closings.{final-call}
 use Rattle.rb_core.proofs.Entering.{is_forwarded}
 use Rattle.rb_core.proofs.Entries.{Await, IsWaiting, entry-waits, fed-awaits, giving-awaits}
 use Rattle.rb_core.proofs.Happenings.{Happening, happening, said_in, crowd_at, TellsTo, tells, end-passes-none}
 use Rattle.rb_core.proofs.Happenings.Happening.{Stays, Evicts, Opens, Reads, Ends, Gives, Closes, Tells, TimesOut}
-use Rattle.rb_core.specs.Deadlines.{lost as timed_out}
+use Rattle.rb_core.specs.Losses.{lost as timed_out, evicted, evicting}
 use Rattle.rb_core.proofs.Live.{without, changed-other, closed-other, find-after, closed-gone, lost-gone, timed-out-gone, number-below, answering-feeds, giving-feeds}
 use Rattle.rb_core.proofs.Numbers.{GivesNext, happening-next}
 use Rattle.rb_core.proofs.Passing.{none-taken, none-passed, goes-on, ends, call_of, one-more-reply, first-alone, records-on, records-end}
 use Rattle.rb_core.proofs.Reached.{AreSound, SoundIn, IsSoundPhase, found-sound, happening-sound, giving-keeps, settled-keeps, evicted-keeps, mapped}
 use Rattle.rb_rpc.specs.declared.peer.Caller.TheVariants.{Tcp, Udp}
-use Rattle.rb_rpc.specs.Records.{data_of}
-use Rattle.rb_core.specs.Evictions.{evicted, evicting}
 use Rattle.rb_core.proofs.Crowds.{stays_dead, plain_lives, still_is}
 use Rattle.rb_core.proofs.WholeReplies.{behind, front-of, one-given}
 

@@ -12,7 +12,8 @@ use Rattle.rb_rpc.specs.Records.{data_of}
 use Rattle.rb_rpc.specs.Verdict.{verdict}
 use Rattle.rb_feed.specs.Feeds.{StandsForCall, arguments_of}
 use Rattle.rb_core.specs.declared.types.CoreFault.TheVariants.{Full, Spent, Gone}
-use Rattle.rb_core.specs.Reading.{Reader, longest_arguments, buffer_size, kept_of, IsReading}
+use Rattle.rb_core.specs.Reading.{Reader}
+use Rattle.rb_core.specs.StandsFor.{longest_arguments, buffer_size, kept_of, IsReading, Source, StandsForConnection, StandsForPhase, StandsForConnections, Table, charge, IsWithin}
 use Rattle.std.proofs.lemmas.Map.Entries.{length-values_of, sum_by-set_value}
 use Rattle.rb_xdr.specs.Search.{key_of}
 use Rattle.rb_xdr.proofs.PoolLemmas.{All-with_value, distinct-with, length-with}
@@ -24,8 +25,7 @@ use Rattle.rb_core.specs.declared.slot.Wanted.TheVariants as wanted
 use Rattle.rb_core.specs.State.{Phase, Connection, Connections, greatest_number}
 use Rattle.rb_core.specs.State.Phase.{Idle, Reading, Owing, Awaiting, Lost}
 use Rattle.rb_core.specs.Connections.{change_first, changed_at, is_lost, is_live, live_connection, on_live, has_number, number_for, opening_of, is_there, without_number, closing_of}
-use Rattle.rb_core.specs.Streams.{Source}
-use Rattle.rb_core.specs.Slots.{Acts, Shows, StandsForConnection, StandsForPhase, StandsForConnections, Table, is_lost_stage, is_wanted_slot, is_wanted, wanted_slot, IsFound, is_numbered, AreNumbered, IsTable, HasBuffers, arguments_heard, arguments_on, charge, IsWithin}
+use Rattle.rb_core.specs.Slots.{Acts, Shows, is_lost_stage, is_wanted_slot, is_wanted, wanted_slot, IsFound, is_numbered, AreNumbered, IsTable, HasBuffers, arguments_heard, arguments_on}
 use Rattle.rb_core.specs.declared.slot.Stage.{Stage}
 use Rattle.rb_core.specs.declared.slot.Stage.TheVariants as stages
 use Rattle.rb_core.proofs.DueSlots.{due_alike}

@@ -9,8 +9,9 @@ use Rattle.rb_core.specs.Connections.{Taking, taking, live_connection}
 use Rattle.rb_core.specs.Connections.Taking.{TakesNone, GoesOn, Ends}
 use Rattle.rb_core.specs.Step.{Taken, answering, with_count, when_taken, bytes, bytes_to}
 use Rattle.rb_core.specs.Slots.{Acts}
-use Rattle.rb_core.specs.StandsFor.{Held, StandsFor, source_of, datagram_cost, gave_cost, IsCheapIfQuiet}
-use Rattle.rb_core.specs.Costs.{find_cost, heard_cost, exchange_cost, read_cost, make_room_cost, serve_cost, begin_list_cost, given_cost, answer_cost, connection_count, row_limit, NoRecordEnds, take_cost, recount_cost, taking_cost, count_taken, piece_cost, record_cost}
+use Rattle.rb_core.specs.StandsFor.{Held, StandsFor, source_of}
+use Rattle.rb_core.specs.CallCosts.{datagram_cost, gave_cost, IsCheapIfQuiet, heard_cost, NoRecordEnds, taking_cost}
+use Rattle.rb_core.specs.Costs.{find_cost, exchange_cost, read_cost, make_room_cost, serve_cost, begin_list_cost, given_cost, answer_cost, connection_count, row_limit, take_cost, recount_cost, count_taken, piece_cost, record_cost}
 use Rattle.rb_core.proofs.Slots.{as_many}
 
 -- a record ended, and it was answered

@@ -1,24 +1,20 @@
 -- What an event costs is within the bound on its steps.
 use Rattle.std.proofs.Common.{◌≡◌, ◌≤◌, ◌<◌, ℕ, ◌+◌, ◌^◌, true, false, cond, Option, Some, None, List, [], ◌∷◌, ◌++◌, refl, sym, ap, ◌∙◌, arith}
-use Rattle.rb_forward.specs.Table.{longest_arguments as longest_args}
+use Rattle.rb_forward.specs.StandsFor.{longest_arguments as longest_args}
 use Rattle.rb_core.specs.Calls.{longest_reply}
-use Rattle.rb_core.specs.Reading.{longest_arguments, buffer_size}
+use Rattle.rb_core.specs.StandsFor.{longest_arguments, buffer_size, Held, StandsFor}
 use Rattle.rb_core.specs.State.{Setting, State, Connection, at_moment, opening, are_good}
 use Rattle.rb_core.specs.Connections.{Taking, taking, live_connection}
 use Rattle.rb_core.specs.Connections.Taking.{TakesNone, GoesOn, Ends}
-use Rattle.rb_core.specs.Step.{Event, Output, Taken, when_taken, bytes_to, bytes, output_or, show_taken, step}
+use Rattle.rb_core.specs.Step.{Event, Output, Taken, when_taken, bytes_to, bytes, output_or, show_taken, step, after, IsReached}
 use Rattle.rb_core.specs.Step.Event.{Open, Bytes, Pending, Gave, Closed, NextLost, Datagram, Unsent, Sent, Forward, Expire}
-use Rattle.rb_core.specs.Run.{after}
-use Rattle.rb_core.specs.Sessions.{count_in}
+use Rattle.rb_core.specs.Bounds.{count_in, steps_bound, bound_at, run_bound, held, bytes_bound}
 use Rattle.rb_core.specs.Costs.{connection_count, count_taken, piece_cost, record_cost, find_cost, event_cost, run_cost}
-use Rattle.rb_core.specs.Laws.{IsReached}
-use Rattle.rb_core.specs.StepLaws.{steps_bound, bound_at, run_bound, StepsAreBounded, RunsAreBounded}
+use Rattle.rb_core.specs.BoundLaws.{StepsAreBounded, RunsAreBounded}
 use Rattle.rb_core.proofs.Ledgers.{step-setting}
 use Rattle.rb_core.proofs.Room.{reached-room}
 use Rattle.rb_core.proofs.RunLaws.{after-append}
 use Rattle.rb_xdr.specs.Meter.{Meter, PaysAtMost}
-use Rattle.rb_core.specs.StandsFor.{Held, StandsFor}
-use Rattle.rb_core.specs.HeldBytes.{held, bytes_bound}
 use Rattle.rb_core.proofs.EntriesKept.{after-setting}
 use Rattle.rb_core.proofs.Bounds.{held_bytes_are_bounded}
 use Rattle.rb_core.proofs.Spending.{at_most, taken-counts}

@@ -21,18 +21,17 @@ use Rattle.rb_core.specs.declared.types.CoreFault.{CoreFault}
 use Rattle.rb_core.specs.declared.types.CoreFault.TheVariants.{Gone}
 use Rattle.rb_rpc.specs.Verdict.{verdict}
 use Rattle.rb_core.specs.Calls.{Outcome, outcome, message_with, message_of, is_no_call, reply_in, longest_reply}
-use Rattle.rb_core.specs.Reading.{kept_of}
+use Rattle.rb_core.specs.StandsFor.{kept_of, Table, StandsForConnections, Held, StandsFor, source_of, Source}
 use Rattle.rb_core.specs.State.{State, Phase, Connection, Connections, at_moment}
 use Rattle.rb_core.specs.State.Phase.{Idle, Reading, Owing, Awaiting, Lost}
 use Rattle.rb_core.specs.Connections.{Taking, taking, reading, settled, is_lost, is_live, live_connection, change_first, changed_at, on_live, opening_of, closing_of, giving}
 use Rattle.rb_core.specs.Connections.Taking.{TakesNone, GoesOn, Ends}
-use Rattle.rb_core.specs.Slots.{Acts, Shows, Table, StandsForConnections, StaysTable, received, fed_with, feeding, arguments_after, arguments_heard, arguments_on}
+use Rattle.rb_core.specs.Slots.{Acts, Shows, StaysTable, received, fed_with, feeding, arguments_after, arguments_heard, arguments_on}
 use Rattle.rb_core.specs.Step.{context_in, with_ledger, with_reply, settled_in, serve_message, serve, answering, when_taken, bytes_to, bytes, datagram, gave, open_connection, close_connection, moved, dropped_with, unsent_call, sent_call}
-use Rattle.rb_core.specs.Costs.{NoRecordEnds, has_ended}
-use Rattle.rb_core.specs.StandsFor.{Held, StandsFor, source_of, context_of, answering_heard}
-use Rattle.rb_core.specs.Streams.{Source}
-use Rattle.rb_core.specs.Rooms.{MakesRoom, source_in}
-use Rattle.rb_core.specs.Evictions.{began_in, crowding, evicted, evicting, with_room}
+use Rattle.rb_core.specs.CallCosts.{NoRecordEnds, has_ended}
+use Rattle.rb_core.specs.Core.{context_of, answering_heard}
+use Rattle.rb_core.specs.Listings.{MakesRoom, source_in}
+use Rattle.rb_core.specs.Losses.{began_in, crowding, evicted, evicting, with_room}
 use Rattle.rb_registry.specs.Registry.{Registry}
 use Rattle.rb_core.proofs.Crowds.{begins_changed, evicted_changed, crowding_alike}
 use Rattle.rb_core.specs.declared.types.Told.{Told}

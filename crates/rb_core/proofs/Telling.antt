@@ -8,8 +8,7 @@ use Rattle.rb_xdr.proofs.PoolLemmas.{All-value_at, All-with_value, All-without}
 use Rattle.rb_core.specs.declared.slot.Slot.{Slot}
 use Rattle.rb_core.specs.declared.slot.Stage.{Stage}
 use Rattle.rb_core.specs.declared.slot.Stage.TheVariants as stages
-use Rattle.rb_core.specs.Streams.{Source}
-use Rattle.rb_core.specs.Slots.{Table}
+use Rattle.rb_core.specs.StandsFor.{Source, Table}
 use Rattle.rb_core.specs.Listings.{began_stage, IsNoList, IsToldStage, IsToldSlot, KeepsToldSlot, AreTold, KeepsTold}
 
 pub no_list_told : (source : Source) (slot : Slot) → IsNoList slot → IsToldSlot source slot

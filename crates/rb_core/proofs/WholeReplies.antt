@@ -4,10 +4,9 @@ use Rattle.std.proofs.lemmas.List.{take-append-drop, drop-append-le, drop-drop, 
 use Rattle.std.proofs.lemmas.Bool.{ltb-true, ltb-false, eqb-true}
 use Rattle.rb_core.specs.State.{State, Phase, Connection, Owed}
 use Rattle.rb_core.specs.State.Phase.{Idle, Reading, Owing, Awaiting, Lost}
-use Rattle.rb_core.specs.Connections.{live_connection, on_found, giving, pending_in, phase_when_given, when_given}
-use Rattle.rb_core.specs.Giving.{longest_fragment, owed, pending_of}
+use Rattle.rb_core.specs.Connections.{live_connection, on_found, giving, pending_in, phase_when_given, when_given, longest_fragment, pending_of}
+use Rattle.rb_core.specs.Laws.{owed, IsLive, owed_in, is_owing, IsGiven, RepliesAreGivenWhole}
 use Rattle.rb_core.specs.Step.{moved, pending, pending_on, gave}
-use Rattle.rb_core.specs.Laws.{IsLive, owed_in, is_owing, IsGiven, RepliesAreGivenWhole}
 use Rattle.rb_core.proofs.Cuts.{find-changed}
 use Rattle.rb_core.proofs.Live.{giving-feeds}
 use Rattle.rb_core.proofs.Reached.{IsSoundPhase, live-sound}

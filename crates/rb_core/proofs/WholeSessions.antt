@@ -11,12 +11,12 @@ use Rattle.rb_core.specs.declared.types.Limits.{Limits}
 use Rattle.rb_core.specs.Calls.{is_no_call}
 use Rattle.rb_core.specs.State.{State, Phase, Connection, Connections, opening}
 use Rattle.rb_core.specs.State.Phase.{Idle, Reading, Owing, Awaiting, Lost}
-use Rattle.rb_core.specs.Connections.{is_live, is_lost, is_awaiting, live_connection, fed_in}
-use Rattle.rb_core.specs.Step.{Event, Output, Taken, bytes, output_or, show_taken, step}
+use Rattle.rb_core.specs.Connections.{is_live, is_lost, live_connection, fed_in}
+use Rattle.rb_core.specs.Laws.{is_awaiting, IsLive, owed_in}
+use Rattle.rb_core.specs.Step.{Event, Output, Taken, bytes, output_or, show_taken, step, after}
 use Rattle.rb_core.specs.Step.Event.{Bytes}
-use Rattle.rb_core.specs.Run.{after}
-use Rattle.rb_core.specs.Laws.{IsLive, owed_in}
-use Rattle.rb_core.specs.Sessions.{Session, piece_to, count_in, taken_by, nothing_passed, passed_by, session_from, AllGiven, IsWholeOrEnds, SessionsAreWhole}
+use Rattle.rb_core.specs.Sessions.{Session, piece_to, taken_by, nothing_passed, passed_by, session_from, AllGiven, IsWholeOrEnds, SessionsAreWhole}
+use Rattle.rb_core.specs.Bounds.{count_in}
 use Rattle.rb_core.proofs.Cuts.{find-holds}
 use Rattle.rb_core.proofs.Entries.{Await, step-awaits, opening-awaits}
 use Rattle.rb_core.proofs.Happenings.{Arriving, arriving, Happening, happening, said_in}

@@ -2,7 +2,8 @@
 use Rattle.std.specs.Prelude.{◌≡◌, ⊤, ℕ, ◌==◌, nat_lt, not, Bool, true, false, ◌&&◌, ◌||◌, IfSome, Result, IfOk}
 use Rattle.std.specs.List.{list_any}
 use Rattle.std.specs.Map.{values_of}
-use Rattle.rb_forward.specs.Table.{Table as Entries, slots_of, is_waiting}
+use Rattle.rb_forward.specs.StandsFor.{Table as Entries, slots_of}
+use Rattle.rb_forward.specs.Table.{is_waiting}
 use Rattle.rb_proto.specs.declared.answers.Answer.{Answer}
 use Rattle.rb_proto.specs.declared.answers.Answer.TheVariants as answers
 use Rattle.rb_core.specs.declared.slot.Slot.{Slot}
@@ -12,7 +13,8 @@ use Rattle.rb_core.specs.declared.slot.Received.{Received}
 use Rattle.rb_core.specs.declared.types.CoreFault.{CoreFault}
 use Rattle.rb_core.specs.declared.types.Outcome.{Outcome}
 use Rattle.rb_core.specs.declared.types.Outcome.TheVariants as outcomes
-use Rattle.rb_core.specs.Slots.{Table, is_idle_stage}
+use Rattle.rb_core.specs.StandsFor.{Table}
+use Rattle.rb_core.specs.Slots.{is_idle_stage}
 
 abbrev pub is_awaiting_stage : Stage → Bool
 is_awaiting_stage stages.Awaiting = true

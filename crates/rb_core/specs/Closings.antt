@@ -8,11 +8,10 @@ use Rattle.rb_core.specs.declared.message.Message.TheVariants as says
 use Rattle.rb_core.specs.Calls.{message_of}
 use Rattle.rb_core.specs.State.{State, Connection, at_moment}
 use Rattle.rb_core.specs.Connections.{is_there, fed_in}
-use Rattle.rb_core.specs.Deadlines.{is_due}
-use Rattle.rb_core.specs.Evictions.{began_in, kept_removals, asks_room}
-use Rattle.rb_core.specs.Step.{Event, context_in, step}
+use Rattle.rb_core.specs.Losses.{is_due, began_in, kept_removals, asks_room}
+use Rattle.rb_core.specs.Step.{Event, context_in, step, IsReached}
 use Rattle.rb_core.specs.Step.Event.{Bytes, Closed, Datagram, Expire}
-use Rattle.rb_core.specs.Laws.{IsReached, IsLive, IsLost}
+use Rattle.rb_core.specs.Laws.{IsLive, IsLost}
 use Rattle.rb_core.specs.DeadlineLaws.{clock_at, NoEntryIsDue}
 
 -- the event brings the end of a record that is no call

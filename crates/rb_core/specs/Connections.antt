@@ -1,16 +1,29 @@
 -- Connections: what bytes that arrive and bytes that are given do to one, and how they come and go.
-use Rattle.std.specs.Prelude.{ℕ, ◌+◌, ◌-◌, ◌==◌, nat_lt, min, not, Bool, true, false, ◌&&◌, if◌then◌else◌, List, [], ◌∷◌, ◌++◌, length, take, find, filter, Option, Some, None, Result, Ok, Err}
-use Rattle.std.specs.List.{list_any}
+use Rattle.std.specs.Prelude.{ℕ, ◌+◌, ◌==◌, ◌-◌, nat_lt, not, ◌*◌, Bool, min, ◌/◌, false, true, List, ◌&&◌, [], if◌then◌else◌, ◌∷◌, ◌++◌, find, length, take, drop, filter, Option, Some, Result, None, Ok, Err}
 use Rattle.std.specs.Option.{option_map}
+use Rattle.std.specs.List.{list_any}
 use Rattle.rb_rpc.specs.declared.peer.Peer.{Peer}
-use Rattle.rb_rpc.specs.Records.{first_record, data_of}
+use Rattle.rb_rpc.specs.Records.{first_record, data_of, marked}
 use Rattle.rb_core.specs.declared.types.CoreFault.{CoreFault}
-use Rattle.rb_core.specs.declared.types.CoreFault.TheVariants.{Full, Spent, Gone}
+use Rattle.rb_core.specs.declared.types.CoreFault.TheVariants.{Full, Gone, Spent}
+use Rattle.rb_core.specs.State.{Owed, State, Phase, Connection, greatest_number, Connections}
+use Rattle.rb_core.specs.State.Phase.{Idle, Reading, Owing, Awaiting, Lost}
 use Rattle.rb_core.specs.Calls.{Outcome}
 use Rattle.rb_core.specs.Calls.Outcome.{NoCall, Reply, Forwarded, Silent}
-use Rattle.rb_core.specs.State.{State, Phase, Connection, Connections, greatest_number}
-use Rattle.rb_core.specs.State.Phase.{Idle, Reading, Owing, Awaiting, Lost}
-use Rattle.rb_core.specs.Giving.{pending_of, owed_of}
+
+-- ---- a reply that is given piece by piece (RFC 5531 section 11)
+
+-- a whole marked fragment of a reply: four bytes of header and 1,024 of data
+unfoldable pub longest_fragment : ℕ
+longest_fragment = 1028
+
+-- of that, what is left of the fragment in which the giving stands
+unfoldable pub pending_of : Owed → List ℕ
+pending_of o = drop o.given (take (longest_fragment * (o.given / longest_fragment + 1)) o.marked)
+
+-- a reply of which so many marked bytes were given
+abbrev pub owed_of : List ℕ → Option ℕ → ℕ → Owed
+owed_of reply began given = record { marked = marked reply; given = given; began = began }
 
 -- ---- bytes that arrive on one (RFC 5531 section 11)
 
@@ -102,14 +115,6 @@ is_lost Idle = false
 is_lost (Reading fed) = false
 is_lost (Owing owed) = false
 is_lost Awaiting = false
-
--- it waits for the end of a call that was forwarded for it
-abbrev pub is_awaiting : Phase → Bool
-is_awaiting Awaiting = true
-is_awaiting Idle = false
-is_awaiting (Reading fed) = false
-is_awaiting (Owing owed) = false
-is_awaiting Lost = false
 
 abbrev pub has_number : ℕ → Connection → Bool
 has_number id c = c.number == id

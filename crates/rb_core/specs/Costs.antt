@@ -1,21 +1,15 @@
--- What calls cost at most, in counted steps.
-use Rattle.std.specs.Prelude.{◌≡◌, ℕ, ◌+◌, ◌*◌, Bool, true, false, IfSome, List, [], ◌∷◌, length, Option, Some, None, Result, Ok, Err}
-use Rattle.rb_registry.specs.Registry.{Registry, slots_of}
-use Rattle.rb_proto.specs.ListReplies.{part_room}
-use Rattle.rb_proto.specs.declared.books.Books.{Books}
-use Rattle.rb_proto.specs.Puts.{note_cost, forward_cost, statistics_cost}
+-- What events cost at most, in counted steps.
+use Rattle.std.specs.Prelude.{ℕ, ◌+◌, ◌*◌, List, [], ◌∷◌, length, Option, Some, None}
 use Rattle.rb_forward.specs.Costs.{end_cost, sent_cost, unsent_cost}
-use Rattle.rb_forward.specs.Table.{longest_call}
-use Rattle.rb_core.specs.declared.slot.Received.{Received}
-use Rattle.rb_core.specs.declared.slot.Heard.{Heard}
-use Rattle.rb_core.specs.declared.types.CoreFault.{CoreFault}
+use Rattle.rb_forward.specs.StandsFor.{longest_call}
+use Rattle.rb_proto.specs.Puts.{note_cost, forward_cost, statistics_cost}
+use Rattle.rb_proto.specs.ListReplies.{part_room}
+use Rattle.rb_core.specs.StandsFor.{buffer_size}
 use Rattle.rb_core.specs.State.{State, Connection}
 use Rattle.rb_core.specs.Connections.{Taking, taking, live_connection}
 use Rattle.rb_core.specs.Connections.Taking.{TakesNone, GoesOn, Ends}
-use Rattle.rb_core.specs.Reading.{buffer_size}
-use Rattle.rb_core.specs.Slots.{Table}
-use Rattle.rb_core.specs.Step.{Taken, Event, step}
-use Rattle.rb_core.specs.Step.Event.{Open, Bytes, Pending, Gave, Closed, NextLost, Datagram, Unsent, Sent, Forward, Expire}
+use Rattle.rb_core.specs.Step.{Event, step}
+use Rattle.rb_core.specs.Step.Event.{Open, Bytes, Pending, Gave, Forward, Closed, Datagram, Unsent, NextLost, Sent, Expire}
 
 -- ---- parts of calls
 
@@ -32,20 +26,13 @@ serve_cost rows left = 6 * rows + 4 * left + 9043 + counting_cost + forward_cost
 abbrev pub show_cost : ℕ
 show_cost = 2054
 
--- the same with the looks at how long the reply and the fragment before it are
-abbrev pub advance_cost : ℕ
-advance_cost = 2056
+-- the same of a list, whose fragment is made from so many rows and emptied from where it was made
+abbrev pub listed_cost : ℕ → ℕ
+listed_cost rows = 3 * rows + part_room + 6 + show_cost
 
 -- what it costs to look at what is pending: at its length, and at its bytes
 abbrev pub pending_cost : ℕ
 pending_cost = 1029
-
--- the same of a fragment of a list, which is made from so many rows and emptied from where it was made
-abbrev pub listed_cost : ℕ → ℕ
-listed_cost rows = 3 * rows + part_room + 6 + show_cost
-
-abbrev pub show_list_cost : Registry → ℕ
-show_list_cost registry = listed_cost (length (slots_of registry))
 
 -- what it costs to look at what a connection counts as, before a change and after it
 abbrev pub recount_cost : ℕ
@@ -54,13 +41,6 @@ recount_cost = 4
 -- what it costs to count bytes as given: the look at how many are pending, the next fragment, or both buffers emptied
 abbrev pub given_cost : ℕ → ℕ
 given_cost rows = 3 + listed_cost rows
-
-abbrev pub give_cost : Registry → ℕ
-give_cost registry = given_cost (length (slots_of registry))
-
--- the same of a connection among others
-abbrev pub giving_cost : Registry → ℕ
-giving_cost registry = give_cost registry + recount_cost
 
 -- what it costs to look a connection up, at the hint and among so many, and its slot
 abbrev pub find_cost : ℕ → ℕ
@@ -78,32 +58,6 @@ exchange_cost = 1
 abbrev pub read_cost : ℕ
 read_cost = buffer_size + 2
 
-abbrev pub heard_cost : Option Heard → ℕ
-heard_cost None = 0
-heard_cost (Some heard) = exchange_cost
-
--- what it costs to take so many bytes of a piece, and to exchange the buffer of the record that ended with them
-abbrev pub received_cost : Received → ℕ
-received_cost got = take_cost got.count + heard_cost got.heard
-
-abbrev pub taken_cost : Result Received CoreFault → ℕ
-taken_cost (Ok got) = received_cost got + recount_cost
-taken_cost (Err fault) = 0
-
--- what it costs to take bytes, nothing where the call was refused
-abbrev pub taking_cost : Result Taken CoreFault → ℕ
-taking_cost (Ok taken) = take_cost taken.count + recount_cost
-taking_cost (Err fault) = 0
-
-abbrev pub has_ended : Taking → Bool
-has_ended TakesNone = false
-has_ended (GoesOn fed) = false
-has_ended (Ends n content) = true
-
--- No record ends in the piece on the connection of the number.
-abbrev pub NoRecordEnds : State → ℕ → List ℕ → Type 0
-NoRecordEnds s id piece = IfSome (live_connection id s.connections.all) (λ c. has_ended (taking c.phase piece) ≡ false)
-
 -- what it costs to begin a reply on a connection that is found among so many
 abbrev pub settle_cost : ℕ → ℕ
 settle_cost connections = find_cost connections + show_cost + 1 + recount_cost
@@ -111,9 +65,6 @@ settle_cost connections = find_cost connections + show_cost + 1 + recount_cost
 -- what it costs to begin a list on it, of so many rows
 abbrev pub begin_list_cost : ℕ → ℕ → ℕ
 begin_list_cost connections rows = find_cost connections + listed_cost rows + 1 + recount_cost
-
-abbrev pub list_cost : ℕ → Registry → ℕ
-list_cost connections registry = begin_list_cost connections (length (slots_of registry))
 
 -- what it costs to look for the oldest of the lists that are given on so many connections
 abbrev pub oldest_cost : ℕ → ℕ
@@ -147,34 +98,6 @@ tell_cost connections = put_end_cost + settle_cost connections
 -- what it costs to end one of so many entries and to tell its caller, with the last reply emptied before
 abbrev pub ended_cost : ℕ → ℕ → ℕ
 ended_cost forwards connections = 1 + entry_cost forwards + tell_cost connections
-
--- ---- calls, by what is held
-
--- how many rows the books keep
-abbrev pub kept_count : Books → ℕ
-kept_count books = length (slots_of books.registry)
-
--- what it costs to put results: the rows are walked twice, and the reply is written
-abbrev pub put_results_cost : Books → ℕ
-put_results_cost books = 4 * kept_count books + 9038 + statistics_cost
-
--- what it costs to serve a message on the old books, which become the new ones
-abbrev pub serving_cost : Books → Books → ℕ
-serving_cost old new = serve_cost (kept_count old) (kept_count new)
-
--- how many connections are there, and what it costs to look one of them up
-abbrev pub slot_count : Table → ℕ
-slot_count table = length table.slots
-
-abbrev pub look_cost : Table → ℕ
-look_cost table = find_cost (slot_count table)
-
-abbrev pub room_cost_of : Table → Books → ℕ
-room_cost_of table books = make_room_cost (slot_count table) (kept_count books)
-
--- how many forwarded calls there may be
-abbrev pub forwards_cap : Books → ℕ
-forwards_cap books = books.forwards.cap
 
 -- ---- events
 

@@ -8,13 +8,12 @@ use Rattle.rb_core.specs.declared.types.Expired.{Expired}
 use Rattle.rb_core.specs.declared.types.Expired.TheVariants as expiries
 use Rattle.rb_core.specs.State.{State}
 use Rattle.rb_core.specs.Connections.{changed_at}
-use Rattle.rb_core.specs.Deadlines.{is_due, lost}
+use Rattle.rb_core.specs.Losses.{is_due, lost}
 use Rattle.rb_core.specs.Ending.{told_failed, tell, at_fresh_moment, expire}
-use Rattle.rb_core.specs.Step.{step}
+use Rattle.rb_core.specs.Step.{step, after, IsReached}
 use Rattle.rb_core.specs.Step.Event.{Expire}
 use Rattle.rb_core.specs.Step.Output.{Nothing}
-use Rattle.rb_core.specs.Run.{after}
-use Rattle.rb_core.specs.Laws.{IsReached, IsLeast}
+use Rattle.rb_core.specs.Laws.{IsLeast}
 
 -- ---- one thing
 

@@ -21,7 +21,7 @@ use Rattle.rb_core.specs.State.{State, Connections, at_moment}
 use Rattle.rb_core.specs.Calls.{Outcome, reply_in, success}
 use Rattle.rb_core.specs.Calls.Outcome.{NoCall, Reply, Forwarded, Silent}
 use Rattle.rb_core.specs.Connections.{settled, on_connection}
-use Rattle.rb_core.specs.Deadlines.{expiring}
+use Rattle.rb_core.specs.Losses.{expiring}
 pub use Rattle.rb_core.specs.declared.types.Told.{Told}
 pub use Rattle.rb_core.specs.declared.types.Expired.{Expired}
 

@@ -16,11 +16,10 @@ use Rattle.rb_core.specs.declared.types.Expired.{Expired}
 use Rattle.rb_core.specs.declared.types.Expired.TheVariants.{Nothing, Ended, ConnectionClosed}
 use Rattle.rb_core.specs.Calls.{Outcome, reply_in}
 use Rattle.rb_core.specs.State.{State, Connection, opening}
-use Rattle.rb_core.specs.Connections.{is_awaiting, live_connection, settled, changed_at}
+use Rattle.rb_core.specs.Laws.{is_awaiting}
+use Rattle.rb_core.specs.Connections.{live_connection, settled, changed_at}
 use Rattle.rb_core.specs.Ending.{told_at, told_over_udp, at_fresh_moment, forward_reply, expire}
-use Rattle.rb_core.specs.Step.{Event, step}
-use Rattle.rb_core.specs.Run.{after}
-use Rattle.rb_core.specs.Laws.{IsReached}
+use Rattle.rb_core.specs.Step.{Event, step, after, IsReached}
 use Rattle.rb_core.specs.DeadlineLaws.{clock_at, EntryIsDue}
 
 -- ---- connections that wait

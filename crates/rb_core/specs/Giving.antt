@@ -1,33 +1,55 @@
--- Replies that are given piece by piece (RFC 5531 section 11).
-use Rattle.std.specs.Prelude.{◌≡◌, ◌<◌, ℕ, ◌+◌, ◌*◌, ◌/◌, List, length, take, drop, Option}
+-- What is said of a window on a reply, and of a list that is streamed.
+use Rattle.std.specs.Prelude.{◌≡◌, ℕ, ◌<◌, ◌+◌, nat_lt, false, List, if◌then◌else◌, IfSome, length, take, drop, Option, Some, Result, None, Ok, Err}
 use Rattle.rb_xdr.specs.Kept.{Kept}
 use Rattle.rb_rpc.specs.Records.{marked}
+use Rattle.rb_registry.specs.Registry.{Registry}
+use Rattle.rb_proto.specs.declared.list_reply.ListReply.{ListReply}
+use Rattle.rb_proto.specs.ListReplies.{rest_of, IsTold}
+use Rattle.rb_core.specs.declared.types.CoreFault.{CoreFault}
+use Rattle.rb_core.specs.declared.giving.Stream.{Stream}
+use Rattle.rb_core.specs.Connections.{longest_fragment, pending_of}
 use Rattle.rb_core.specs.State.{Owed}
+use Rattle.rb_core.specs.StandsFor.{Source, IsGiving, rest_behind}
 
--- a whole marked fragment of a reply: four bytes of header and 1,024 of data
-unfoldable pub longest_fragment : ℕ
-longest_fragment = 1028
+-- ---- a window
 
--- what is still to be given
-unfoldable pub owed : Owed → List ℕ
-owed o = drop o.given o.marked
+-- the window shows the fragment that begins at a place of the reply
+abbrev pub showing : Kept → List ℕ → ℕ → Kept
+showing window reply start = record window { bytes = take longest_fragment (marked (drop start reply)) }
 
--- of that, what is left of the fragment in which the giving stands
-unfoldable pub pending_of : Owed → List ℕ
-pending_of o = drop o.given (take (longest_fragment * (o.given / longest_fragment + 1)) o.marked)
+-- this holds of what is pending, whatever the reply and what is owed of it
+abbrev pub OfPending : Kept → ℕ → (List ℕ → Type 0) → Type 0
+OfPending window given holds = (reply : List ℕ) (o : Owed) → IsGiving reply window given o → holds (pending_of o)
 
--- the whole fragment in which the giving stands
-unfoldable pub window : Owed → List ℕ
-window o = take longest_fragment (drop (longest_fragment * (o.given / longest_fragment)) o.marked)
+-- how many are given in all behind so many more, None where that is the reply's end
+abbrev pub count_after : ℕ → Owed → Option ℕ
+count_after more o = if nat_lt (o.given + more) (length o.marked) then Some (o.given + more) else None
 
--- a reply of which so many marked bytes were given
-abbrev pub owed_of : List ℕ → Option ℕ → ℕ → Owed
-owed_of reply began given = record { marked = marked reply; given = given; began = began }
+abbrev pub CountsOn : List ℕ → Kept → ℕ → ℕ → Option ℕ → Type 0
+CountsOn reply window given more result = (o : Owed) → IsGiving reply window given o → result ≡ count_after more o
 
--- A reply, the fragment of it that is shown, and how many of its marked bytes were given, stand for what is owed.
-pub record IsGiving (reply : List ℕ) (shown : Kept) (given : ℕ) (o : Owed) : Type 0 where
-  pub marked : o.marked ≡ marked reply
-  pub given_is : given ≡ o.given
-  pub owes : o.given < length o.marked
-  pub shown_is : shown.bytes ≡ window o
-  pub cap : shown.cap ≡ longest_fragment
+-- unless that is the end, the new window shows the fragment in which the giving stands then
+abbrev pub ShowsOn : List ℕ → Kept → Kept → ℕ → ℕ → Option ℕ → Type 0
+ShowsOn reply old new given more result =
+    (o : Owed) → IsGiving reply old given o
+    → IfSome result (λ count. IsGiving reply new count (record o { given = o.given + more }))
+
+-- how many bytes that is
+abbrev pub pending_count : Result (List ℕ) CoreFault → Result ℕ CoreFault
+pending_count (Ok bytes) = Ok (length bytes)
+pending_count (Err fault) = Err fault
+
+-- ---- a list
+
+abbrev pub source_for : List ℕ → Registry → Source
+source_for host registry = record { host = host; registry = registry }
+
+-- The source can tell a list, of which some bytes are yet to be given.
+pub record IsToldBy (source : Source) (list : ListReply) : Type 0 where
+  pub told : IsTold source.registry list
+  pub some : 0 < length (rest_of source.host source.registry list)
+
+-- The source can tell what is behind the fragment that is shown, which is something unless that is the last one.
+pub record GoesOnBy (source : Source) (stream : Stream) : Type 0 where
+  pub told : IsTold source.registry stream.behind
+  pub some : stream.last ≡ false → 0 < length (rest_behind source stream)

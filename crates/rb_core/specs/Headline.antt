@@ -8,14 +8,12 @@ use Rattle.rb_core.specs.declared.types.Limits.{Limits}
 use Rattle.rb_core.specs.Calls.{Outcome, message_of, outcome}
 use Rattle.rb_core.specs.Calls.Outcome.{NoCall, Reply, Forwarded, Silent}
 use Rattle.rb_core.specs.State.{State, are_good, at_moment, opening}
-use Rattle.rb_core.specs.Step.{Event, Output, Output as outputs, context_in, step}
+use Rattle.rb_core.specs.Step.{Event, Output, Output as outputs, context_in, step, after}
 use Rattle.rb_core.specs.Step.Event.{Datagram}
-use Rattle.rb_core.specs.Run.{after}
 use Rattle.rb_core.specs.Sessions.{session, IsWholeSession}
 use Rattle.rb_core.specs.Costs.{event_cost}
 use Rattle.rb_core.specs.StandsFor.{Held, StandsFor}
-use Rattle.rb_core.specs.HeldBytes.{held, bytes_bound}
-use Rattle.rb_core.specs.StepLaws.{steps_bound, bytes_in, bytes_out}
+use Rattle.rb_core.specs.Bounds.{held, bytes_bound, steps_bound, bytes_in, bytes_out}
 
 -- what the sender of a datagram gets
 abbrev pub shown_as : Outcome → Output

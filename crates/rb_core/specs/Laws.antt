@@ -1,27 +1,24 @@
 -- Laws of steps and of runs.
-use Rattle.std.specs.Prelude.{◌≡◌, ◌⊎◌, ◌↔◌, ◌<◌, ◌≤◌, ⊤, ℕ, ◌+◌, ◌==◌, max, Bool, true, false, ◌&&◌, IfSome, List, [], ◌∷◌, ◌++◌, length, take, drop, filter_map, All, Any, Option, Some, None, Result, Ok, Err}
+use Rattle.std.specs.Prelude.{◌≡◌, ℕ, ◌⊎◌, ◌≤◌, ◌<◌, ◌+◌, ◌↔◌, ◌==◌, max, Bool, false, true, List, ⊤, ◌&&◌, [], ◌∷◌, ◌++◌, IfSome, length, take, filter_map, drop, Option, Any, All, Some, Result, None, Ok, Err}
 use Rattle.std.specs.List.{list_any}
 use Rattle.rb_xdr.specs.Xdr.{AreBytes}
 use Rattle.rb_rpc.specs.declared.peer.Caller.TheVariants.{Tcp}
-use Rattle.rb_rpc.specs.Records.{first_record, data_of}
+use Rattle.rb_rpc.specs.Records.{first_record, data_of, marked}
 use Rattle.rb_rpc.specs.RecordLaws.{IsFirstRecord, HasNoRecord}
 use Rattle.rb_registry.specs.Rows.{are_distinct}
 use Rattle.rb_registry.specs.Laws.{are_accepted}
 use Rattle.rb_proto.specs.Callers.{own_rows}
 use Rattle.rb_proto.specs.Ledger.{rows_in}
-use Rattle.rb_proto.specs.declared.listener.Listener.{Listener}
-use Rattle.rb_core.specs.declared.types.Limits.{Limits}
 use Rattle.rb_core.specs.declared.types.CoreFault.{CoreFault}
+use Rattle.rb_core.specs.declared.types.Taken.{Taken}
+use Rattle.rb_core.specs.State.{Owed, State, Phase, Connection, are_good, at_moment}
+use Rattle.rb_core.specs.Step.{run, IsReached, Event, after, Output, serve, bytes, pending, step, gave, next_lost}
+use Rattle.rb_core.specs.Step.Output.{Opened, Refused, TooMuch}
+use Rattle.rb_core.specs.Connections.{is_lost, fed_in, live_connection, mark_when_fed, owed_of}
+use Rattle.rb_core.specs.State.Phase.{Idle, Reading, Owing, Awaiting, Lost}
 use Rattle.rb_core.specs.Calls.{Outcome, is_no_call}
 use Rattle.rb_core.specs.Calls.Outcome.{NoCall, Reply, Forwarded, Silent}
-use Rattle.rb_core.specs.State.{State, Phase, Connection, at_moment, opening, are_good}
-use Rattle.rb_core.specs.State.Phase.{Idle, Reading, Owing, Awaiting, Lost}
-use Rattle.rb_core.specs.Connections.{is_lost, live_connection, fed_in, mark_when_fed}
-use Rattle.rb_core.specs.Giving.{owed, owed_of}
-use Rattle.rb_core.specs.Step.{Event, Output, Taken, serve, bytes, pending, gave, next_lost, step}
 use Rattle.rb_core.specs.Step.Event.{Gave, Closed}
-use Rattle.rb_core.specs.Step.Output.{Opened, Refused, TooMuch}
-use Rattle.rb_core.specs.Run.{run, after}
 
 -- ---- runs
 
@@ -95,16 +92,7 @@ CutsDoNotMatter =
     (s : State) (now id : ℕ) (first second : List ℕ)
     → NoRecordEnds s id first → SameInOnePiece s now id first second
 
--- ---- states that a run reaches
-
--- the state after some events, from an opening
-pub record IsReached (s : State) : Type 0 where
-  pub limits : Limits
-  pub listener : Listener
-  pub first_xid : ℕ
-  pub now : ℕ
-  pub events : List Event
-  pub is : s ≡ after (opening limits listener first_xid now) events
+-- ---- live connections
 
 -- the connection of the number is live
 abbrev pub IsLive : State → ℕ → Connection → Type 0
@@ -201,6 +189,10 @@ BytesAreTakenExactly =
 -- ---- replies are given whole
 
 -- what is still to be given
+unfoldable pub owed : Owed → List ℕ
+owed o = drop o.given o.marked
+
+-- what is still to be given
 abbrev pub owed_in : Phase → List ℕ
 owed_in (Owing o) = owed o
 owed_in Idle = []
@@ -214,6 +206,14 @@ is_owing Idle = false
 is_owing (Reading fed) = false
 is_owing Awaiting = false
 is_owing Lost = false
+
+-- it waits for the end of a call that was forwarded for it
+abbrev pub is_awaiting : Phase → Bool
+is_awaiting Awaiting = true
+is_awaiting Idle = false
+is_awaiting (Reading fed) = false
+is_awaiting (Owing owed) = false
+is_awaiting Lost = false
 
 -- The first n bytes of what was still to be given were given: the rest is still to be given.
 -- The connection is Idle where that is none, and one that owed nothing is as it was.

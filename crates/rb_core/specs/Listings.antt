@@ -1,13 +1,21 @@
--- The lists that are given on the connections of a table, and the rows that they need.
-use Rattle.std.specs.Prelude.{◌≡◌, ◌≤◌, ⊤, ℕ, nat_lt, min, Bool, false, if◌then◌else◌, List, [], map, filter_map, All, Contains, Option, Some, None}
+-- The lists that are given on the connections of a table, the rows that they need, and room for a row.
+use Rattle.std.specs.Prelude.{◌≡◌, ℕ, ◌≤◌, nat_lt, Bool, min, false, List, ⊤, [], if◌then◌else◌, map, filter_map, Option, Contains, All, Some, None}
 use Rattle.std.specs.Map.{values_of}
 use Rattle.rb_xdr.specs.Pool.{Pool}
-use Rattle.rb_core.specs.declared.slot.Slot.{Slot}
+use Rattle.rb_proto.specs.declared.books.Books.{Books}
+use Rattle.rb_proto.specs.declared.context.Context.{Context}
+use Rattle.rb_proto.specs.Answers.{HasRowRoom}
+use Rattle.rb_proto.specs.Ledger.{Ledger, StandsForLedger}
 use Rattle.rb_core.specs.declared.slot.Stage.{Stage}
 use Rattle.rb_core.specs.declared.slot.Stage.TheVariants as stages
-use Rattle.rb_core.specs.Streams.{Source, GoesOnBy}
-use Rattle.rb_core.specs.Evictions.{evicting}
-use Rattle.rb_core.specs.Slots.{Table, TableBecomes}
+use Rattle.rb_core.specs.declared.slot.Slot.{Slot}
+use Rattle.rb_core.specs.declared.message.Message.{Message}
+use Rattle.rb_core.specs.declared.message.Message.TheVariants as says
+use Rattle.rb_core.specs.StandsFor.{Source, Table, StandsForConnections}
+use Rattle.rb_core.specs.Giving.{GoesOnBy}
+use Rattle.rb_core.specs.Losses.{crowding, evicting}
+use Rattle.rb_core.specs.Slots.{TableBecomes}
+use Rattle.rb_core.specs.State.{Connections}
 
 -- ---- one slot
 
@@ -91,3 +99,25 @@ evicted_slot earliest slot = if began_early earliest (slot_began slot) then reco
 
 abbrev pub with_evicted : ℕ → Pool Slot → Pool Slot
 with_evicted earliest slots = record slots { entries = map (λ e. (e.0, evicted_slot earliest e.1)) slots.entries }
+
+-- ---- room for a row
+
+-- where the message is a SET that is accepted, its row has a place beside the live and the dead rows
+abbrev pub HasRoom : Context → Message → Books → Type 0
+HasRoom context (says.Asked call) books = HasRowRoom context call books.registry
+HasRoom context says.NoCall books = ⊤
+HasRoom context (says.Refused head) books = ⊤
+HasRoom context (says.Garbage head) books = ⊤
+
+-- what lists are made from that show a host
+abbrev pub source_in : List ℕ → Books → Source
+source_in host books = record { host = host; registry = books.registry }
+
+-- The connections that are in the way of the message's row become Lost, and the ledger stays.
+abbrev pub MakesRoom : Context → Message → Table → Books → Table → Books → Type 0
+MakesRoom context message connections books new_connections new_books =
+    (c : Connections) (l : Ledger)
+    → StandsForConnections (source_in context.listener.host books) connections c → StandsForLedger books l
+    → StandsForConnections (source_in context.listener.host new_books) new_connections
+    (evicting (crowding context message c.all l) c)
+    × StandsForLedger new_books l

@@ -1,46 +1,24 @@
--- A record that is read, and the bytes of it that are kept meanwhile (RFC 5531 section 11).
-use Rattle.std.specs.Prelude.{◌≡◌, ⊤, ℕ, ◌+◌, ◌-◌, max, List, ◌++◌, length, take, Option, Some, None}
+-- How a record is read piece by piece, and that what is kept of it says enough (RFC 5531 section 11).
+use Rattle.std.specs.Prelude.{◌≡◌, ℕ, ◌+◌, ◌-◌, List, ⊤, ◌++◌, length, take, Option, Some, None}
 use Rattle.rb_xdr.specs.Kept.{Kept}
 use Rattle.rb_rpc.specs.declared.marks.Marks.{Marks}
-use Rattle.rb_rpc.specs.Marks.{StandsForFed}
 use Rattle.rb_rpc.specs.Records.{data_of}
 use Rattle.rb_rpc.specs.Verdict.{verdict}
+use Rattle.rb_rpc.specs.Marks.{StandsForFed}
 use Rattle.rb_feed.specs.declared.feed.CallFeed.{CallFeed}
 use Rattle.rb_feed.specs.Feeds.{StandsForCall, arguments_of}
 use Rattle.rb_proto.specs.declared.context.Context.{Context}
-use Rattle.rb_proto.specs.Ledger.{Ledger}
 use Rattle.rb_proto.specs.Arguments.{HasArgs}
+use Rattle.rb_proto.specs.Ledger.{Ledger}
 use Rattle.rb_core.specs.declared.message.Message.{Message}
 use Rattle.rb_core.specs.declared.message.Message.TheVariants as says
-use Rattle.rb_core.specs.Calls.{message_with, message_of, outcome, longest_reply}
+use Rattle.rb_core.specs.StandsFor.{longest_arguments, buffer_size, kept_of, IsReading}
+use Rattle.rb_core.specs.Calls.{message_of, message_with, outcome}
 pub use Rattle.rb_core.specs.declared.reading.Fed.{Fed}
 pub use Rattle.rb_core.specs.declared.reading.Intake.{Intake}
 pub use Rattle.rb_core.specs.declared.reading.Reader.{Reader}
 
--- the greatest length of arguments that are served
-unfoldable pub longest_arguments : ℕ
-longest_arguments = 8816
-
--- a connection's buffer has the arguments of the call that is read, and later the reply to it
-unfoldable pub buffer_size : ℕ
-buffer_size = max longest_arguments longest_reply
-
--- What is kept of a record with this data: the first bytes behind the head of its call, and of no call nothing.
-abbrev pub kept_of : List ℕ → List ℕ
-kept_of content = take longest_arguments (arguments_of content)
-
 -- ---- a record that is read
-
--- The head and the buffer stand for this data of a record.
-pub record IsHeld (head : CallFeed) (kept : Kept) (content : List ℕ) : Type 0 where
-  pub head_is : StandsForCall head content
-  pub kept_is : kept.bytes ≡ kept_of content
-  pub cap : kept.cap ≡ buffer_size
-
--- The marking state besides stands for the bytes fed since the last record's end.
-pub record IsReading (reader : Reader) (kept : Kept) (fed : List ℕ) : Type 0 where
-  pub marks_are : StandsForFed reader.marks fed
-  pub data_is : IsHeld reader.head kept (data_of fed)
 
 -- behind these bytes, a piece is taken up to the end of the first record, whose verdict is told, or whole
 abbrev pub fed_until : List ℕ → List ℕ → Option ℕ → Fed

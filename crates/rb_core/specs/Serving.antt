@@ -18,14 +18,15 @@ use Rattle.rb_core.specs.declared.serve.Served.{Served}
 use Rattle.rb_core.specs.declared.serve.Served.TheVariants.{Told, Listed}
 use Rattle.rb_core.specs.declared.types.Outcome.{Outcome as Written}
 use Rattle.rb_core.specs.declared.types.Outcome.TheVariants as outcomes
-use Rattle.rb_core.specs.Streams.{Source, IsToldBy}
+use Rattle.rb_core.specs.StandsFor.{Source, Table}
+use Rattle.rb_core.specs.Giving.{IsToldBy}
 use Rattle.rb_core.specs.Calls.{Outcome, Outcome as said, is_no_call, outcome, told_as}
-use Rattle.rb_core.specs.StandsFor.{outcome_with, settling}
+use Rattle.rb_core.specs.Core.{outcome_with}
+use Rattle.rb_core.specs.Slots.{settling, SlotBecomesFrom, BecomesFrom}
 use Rattle.rb_core.specs.declared.message.Message.{Message}
 use Rattle.rb_core.specs.declared.slot.Slot.{Slot}
 use Rattle.rb_core.specs.Connections.{settled}
-use Rattle.rb_core.specs.Rooms.{source_in}
-use Rattle.rb_core.specs.Slots.{Table, SlotBecomesFrom, BecomesFrom}
+use Rattle.rb_core.specs.Listings.{source_in}
 
 -- a list of which nothing was given yet
 abbrev pub list_outcome : Source → ListReply → Outcome

@@ -1,27 +1,27 @@
 -- What passes on one connection in a whole run (RFC 5531 section 11).
-use Rattle.std.specs.Prelude.{◌≡◌, ◌≢◌, ◌⊎◌, ⊤, ℕ, ◌==◌, max, Bool, true, false, if◌then◌else◌, List, [], ◌∷◌, ◌++◌, take, map, All, Option, Some, None, Result, Ok, Err}
+use Rattle.std.specs.Prelude.{◌≡◌, ◌≢◌, ℕ, ◌⊎◌, ◌==◌, max, Bool, false, true, List, ⊤, [], if◌then◌else◌, ◌∷◌, ◌++◌, take, map, Option, All, Some, Result, None, Ok, Err}
 use Rattle.std.specs.List.{flat_map}
 use Rattle.rb_xdr.specs.Xdr.{AreBytes}
 use Rattle.rb_rpc.specs.declared.peer.Caller.{Caller}
 use Rattle.rb_rpc.specs.declared.peer.Caller.TheVariants.{Tcp}
 use Rattle.rb_rpc.specs.Records.{first_record, data_of, marked}
 use Rattle.rb_rpc.specs.RecordLaws.{Records}
-use Rattle.rb_proto.specs.declared.listener.Listener.{Listener}
-use Rattle.rb_core.specs.declared.types.Limits.{Limits}
-use Rattle.rb_core.specs.declared.types.CoreFault.{CoreFault}
-use Rattle.rb_core.specs.State.{State, Connection, at_moment, opening}
-use Rattle.rb_core.specs.Calls.{Outcome}
-use Rattle.rb_core.specs.Calls.Outcome.{NoCall, Reply, Forwarded, Silent}
 use Rattle.rb_forward.specs.declared.types.Ended.{Ended}
 use Rattle.rb_forward.specs.Forwards.{is_connection}
+use Rattle.rb_proto.specs.declared.listener.Listener.{Listener}
 use Rattle.rb_proto.specs.Forwarding.{replied, fell_due}
-use Rattle.rb_core.specs.Connections.{live_connection, is_awaiting}
-use Rattle.rb_core.specs.Ending.{told_at}
-use Rattle.rb_core.specs.Step.{Event, Output, serve, pending, step}
+use Rattle.rb_core.specs.declared.types.CoreFault.{CoreFault}
+use Rattle.rb_core.specs.declared.types.Limits.{Limits}
+use Rattle.rb_core.specs.Calls.{Outcome}
+use Rattle.rb_core.specs.Step.{Event, after, Output, serve, pending, step}
 use Rattle.rb_core.specs.Step.Event.{Bytes, Gave, Forward, Expire}
-use Rattle.rb_core.specs.Step.Output.{Took, TookAndClosed, Done}
-use Rattle.rb_core.specs.Run.{after}
-use Rattle.rb_core.specs.Laws.{owed_in, IsLive}
+use Rattle.rb_core.specs.Bounds.{count_in}
+use Rattle.rb_core.specs.State.{State, Connection, at_moment, opening}
+use Rattle.rb_core.specs.Step.Output.{Done}
+use Rattle.rb_core.specs.Connections.{live_connection}
+use Rattle.rb_core.specs.Ending.{told_at}
+use Rattle.rb_core.specs.Calls.Outcome.{NoCall, Reply, Forwarded, Silent}
+use Rattle.rb_core.specs.Laws.{owed_in, is_awaiting, IsLive}
 
 -- the data of a record, and what was said to it: at the moment that the record ended, or at the end of the call that was
 -- forwarded for it
@@ -42,11 +42,6 @@ pub record Session : Type 0 where
 abbrev pub piece_to : ℕ → Event → List ℕ
 piece_to id (Bytes now other piece) = if other == id then piece else []
 piece_to id other = []
-
-abbrev pub count_in : Output → ℕ
-count_in (Took n) = n
-count_in (TookAndClosed n) = n
-count_in other = 0
 
 -- of the piece that an event brings to a connection, as many bytes as its output says
 abbrev pub taken_by : ℕ → Event → Output → List ℕ

@@ -1,28 +1,28 @@
--- What the slots of connections hold, and the connections that they stand for.
-use Rattle.std.specs.Prelude.{◌≡◌, ℕ, ◌+◌, ◌≤◌, ◌==◌, not, Bool, true, false, ◌&&◌, List, [], ◌∷◌, Option, Some, None, find, length, All, ⊤, Result, Ok, Err, MatchOption, MatchResult}
+-- What calls do with the slots of connections, and what is true of them.
+use Rattle.std.specs.Prelude.{◌≡◌, ℕ, ◌≤◌, ◌+◌, ◌==◌, not, Bool, false, true, List, ⊤, ◌&&◌, [], ◌∷◌, find, length, Option, All, Some, Result, None, Ok, MatchOption, Err, MatchResult}
 use Rattle.std.specs.Borrow.{Bor}
-use Rattle.std.specs.List.{AllZip, list_any, sum_by}
-use Rattle.std.specs.Map.{values_of}
 use Rattle.std.specs.Option.{option_map_or}
+use Rattle.std.specs.List.{list_any}
+use Rattle.std.specs.Map.{values_of}
 use Rattle.rb_xdr.specs.Kept.{Kept}
 use Rattle.rb_xdr.specs.Pool.{Pool, HasDistinctKeys}
+use Rattle.rb_rpc.specs.Verdict.{verdict}
+use Rattle.rb_core.specs.declared.types.CoreFault.{CoreFault}
 use Rattle.rb_core.specs.declared.slot.Slot.{Slot}
-use Rattle.rb_core.specs.declared.slot.Buffers.{Buffers}
+use Rattle.rb_core.specs.declared.reading.Reader.{Reader}
+use Rattle.rb_core.specs.declared.slot.Received.{Received}
 use Rattle.rb_core.specs.declared.slot.Stage.{Stage}
 use Rattle.rb_core.specs.declared.slot.Stage.TheVariants as stages
-use Rattle.rb_core.specs.declared.slot.Received.{Received}
 use Rattle.rb_core.specs.declared.slot.Wanted.{Wanted}
 use Rattle.rb_core.specs.declared.slot.Wanted.TheVariants as wanted
-use Rattle.rb_core.specs.declared.types.CoreFault.{CoreFault}
-use Rattle.rb_rpc.specs.Verdict.{verdict}
+use Rattle.rb_core.specs.declared.slot.Buffers.{Buffers}
 use Rattle.rb_core.specs.State.{Phase, Connection, Connections}
-use Rattle.rb_core.specs.State.Phase.{Idle, Reading, Owing, Awaiting, Lost}
-use Rattle.rb_core.specs.Connections.{Taking, taking, mark_when_fed, reading, giving, on_live, is_lost, is_live, live_connection, has_number}
+use Rattle.rb_core.specs.StandsFor.{Source, Table, buffer_size, StandsForConnections, kept_of, IsReading, AreWithin, StandsForConnection, held_in}
+use Rattle.rb_core.specs.Connections.{Taking, longest_fragment, taking, changed_at, reading, settled, is_lost, giving, live_connection, mark_when_fed, on_live, is_live, has_number}
 use Rattle.rb_core.specs.Connections.Taking.{TakesNone, GoesOn, Ends}
-use Rattle.rb_core.specs.Deadlines.{is_due, is_due_slot}
-use Rattle.rb_core.specs.Giving.{longest_fragment, IsGiving}
-use Rattle.rb_core.specs.Streams.{Source, IsStreaming}
-use Rattle.rb_core.specs.Reading.{Reader, buffer_size, kept_of, IsReading}
+use Rattle.rb_core.specs.State.Phase.{Idle, Reading, Owing, Awaiting, Lost}
+use Rattle.rb_core.specs.Losses.{is_due, deadline, has_come}
+use Rattle.rb_core.specs.Calls.{Outcome}
 
 -- An act on what something stands for, which gives a result: from whatever the old one stood for, this result came,
 -- and the new one stands for what is there after the act.
@@ -40,22 +40,6 @@ Lends {Held} {Plain} StandsFor show held result =
     (x : Plain) → StandsFor held x → MatchResult result (λ bytes. show x ≡ Ok bytes.now) (λ fault. show x ≡ Err fault)
 
 -- ---- one slot
-
--- The stage and the buffers hold what there is to know of the phase, but for the rest of a list, which is made from its source.
-abbrev pub StandsForPhase : Source → Stage → Kept → Kept → Phase → Type 0
-StandsForPhase source stages.Idle buffer window Idle = (buffer.bytes ≡ []) × (window.bytes ≡ [])
-StandsForPhase source (stages.Reading reader) buffer window (Reading fed) = IsReading reader buffer fed × (window.bytes ≡ [])
-StandsForPhase source (stages.Owing given) buffer window (Owing o) = IsGiving buffer.bytes window given o × (o.began ≡ None)
-StandsForPhase source (stages.Streaming stream) buffer window (Owing o) = IsStreaming source stream window o
-StandsForPhase source stages.Awaiting buffer window Awaiting = (buffer.bytes ≡ []) × (window.bytes ≡ [])
-StandsForPhase source stages.Lost buffer window Lost = ⊤
-StandsForPhase source stage buffer window phase = ⊥
-
-pub record StandsForConnection (source : Source) (slot : Slot) (c : Connection) : Type 0 where
-  pub number : slot.number ≡ c.number
-  pub peer : slot.peer ≡ c.peer
-  pub mark : slot.mark ≡ c.mark
-  pub phase : StandsForPhase source slot.stage slot.buffer slot.window c.phase
 
 -- an act on the connection that a slot stands for, whatever lists are made from
 abbrev pub SlotActs : {Result : Type 0} → (Connection → Result × Connection) → Slot → Slot → Result → Type 0
@@ -123,18 +107,6 @@ SlotHears piece slot before after = SlotShows (arguments_heard before.bytes piec
 
 -- ---- the table
 
--- the slots of connections with their keys, in order of opening, how many numbers were given, how many connections
--- there may be, and the number of the meter that counts the calls
-pub record Table : Type 0 where
-  pub slots : List (ℕ × Slot)
-  pub given : ℕ
-  pub conns : ℕ
-  pub tie : ℕ
-
-pub record StandsForConnections (source : Source) (table : Table) (connections : Connections) : Type 0 where
-  pub all : AllZip (StandsForConnection source) (values_of table.slots) connections.all
-  pub next : connections.next ≡ table.given + 1
-
 -- an act on the connections, whatever lists are made from
 abbrev pub TableActs : {Result : Type 0} → (Connections → Result × Connections) → Table → Table → Result → Type 0
 TableActs act old new result = (source : Source) → Acts (StandsForConnections source) act old new result
@@ -173,7 +145,19 @@ TableGives source id clock n old new result =
 abbrev pub empty_table : ℕ → ℕ → Table
 empty_table conns tie = record { slots = []; given = 0; conns = conns; tie = tie }
 
--- ---- looking for a slot
+-- ---- what is looked for
+
+-- a phase of this stage, whatever else there is to know of it
+abbrev pub phase_like : Stage → Phase
+phase_like stages.Idle = Idle
+phase_like (stages.Reading reader) = Reading []
+phase_like (stages.Owing given) = Owing (record { marked = []; given = given; began = None })
+phase_like (stages.Streaming stream) = Owing (record { marked = []; given = 0; began = None })
+phase_like stages.Awaiting = Awaiting
+phase_like stages.Lost = Lost
+
+unfoldable pub is_due_slot : ℕ → Slot → Bool
+is_due_slot clock slot = has_come clock (deadline slot.mark (phase_like slot.stage))
 
 abbrev pub is_lost_stage : Stage → Bool
 is_lost_stage stages.Lost = true
@@ -225,25 +209,6 @@ abbrev pub Finds : Wanted → Table → Option (Bor Slot) → Type 0
 Finds sought table result =
     (source : Source) (c : Connections) → StandsForConnections source table c
     → MatchOption result (find (is_wanted sought) c.all ≡ None) (λ slot. IsFound source sought c.all slot.now)
-
--- ---- what is held
-
--- the bytes of its buffer and its window count, and 128 for its fixed part
-abbrev pub charge : Slot → ℕ
-charge slot = 128 + length slot.buffer.bytes + length slot.window.bytes
-
-abbrev pub held_in : List Slot → ℕ
-held_in slots = sum_by charge slots
-
--- with a full buffer and a full window
-abbrev pub most_charge : ℕ
-most_charge = 128 + buffer_size + longest_fragment
-
-abbrev pub IsWithin : Slot → Type 0
-IsWithin slot = charge slot ≤ most_charge
-
-abbrev pub AreWithin : List (ℕ × Slot) → Type 0
-AreWithin slots = All IsWithin (values_of slots)
 
 -- ---- what is true of all slots and buffers
 
@@ -308,3 +273,7 @@ pub record IsTable (slots : Pool Slot) (spare : Pool Buffers) (given conns held 
   pub few : conns ≤ 256
   pub within : AreWithin slots.entries
   pub is_held : held ≡ held_in (values_of slots.entries)
+
+-- the connections, with the record of the live one of the number answered so
+abbrev pub settling : ℕ → ℕ → Outcome → Connections → Connections
+settling id clock given c = changed_at id (settled clock given) c

@@ -1,25 +1,27 @@
--- The step of each event: what it gives, and the state after it.
-use Rattle.std.specs.Prelude.{ℕ, max, nat_lt, Bool, false, if◌then◌else◌, List, length, Option, Some, None, Result, Ok, Err}
-use Rattle.rb_rpc.specs.declared.peer.Peer.{Peer}
+-- The step of each event, and runs of events.
+use Rattle.std.specs.Prelude.{◌≡◌, ℕ, nat_lt, max, Bool, false, List, [], if◌then◌else◌, ◌∷◌, length, Option, Some, Result, None, Ok, Err}
 use Rattle.rb_rpc.specs.declared.peer.Caller.{Caller}
+use Rattle.rb_rpc.specs.declared.peer.Peer.{Peer}
 use Rattle.rb_rpc.specs.declared.peer.Caller.TheVariants.{Tcp, Udp}
 use Rattle.rb_feed.specs.Feeds.{arguments_of}
-use Rattle.rb_proto.specs.declared.context.Context.{Context}
 use Rattle.rb_forward.specs.Forwards.{Unsent as UnsentCall, unsent, can_be_sent}
+use Rattle.rb_proto.specs.declared.context.Context.{Context}
+use Rattle.rb_proto.specs.declared.listener.Listener.{Listener}
 use Rattle.rb_proto.specs.Ledger.{Ledger}
 use Rattle.rb_proto.specs.Forwarding.{caller_dropped, call_sent}
 use Rattle.rb_core.specs.declared.message.Message.{Message}
 use Rattle.rb_core.specs.declared.types.CoreFault.{CoreFault}
-use Rattle.rb_core.specs.declared.types.CoreFault.TheVariants.{NoMemory, BadLimits, Full, Spent, Gone}
-use Rattle.rb_core.specs.State.{State, Connection, Connections, at_moment}
-use Rattle.rb_core.specs.Calls.{Outcome, Outcome as outcomes, message_of, outcome, is_no_call, reply_in}
-use Rattle.rb_core.specs.Evictions.{with_room}
-use Rattle.rb_core.specs.Connections.{Taking, taking, reading, settled, giving, pending_in, live_connection, on_live, opening_of, closing_of, first_lost}
-use Rattle.rb_core.specs.Connections.Taking.{TakesNone, GoesOn, Ends}
+use Rattle.rb_core.specs.declared.types.CoreFault.TheVariants.{Gone}
 use Rattle.rb_core.specs.declared.types.Told.TheVariants.{TcpReady}
 use Rattle.rb_core.specs.declared.types.Told.TheVariants as ends
 use Rattle.rb_core.specs.declared.types.Expired.TheVariants.{Ended}
 use Rattle.rb_core.specs.declared.types.Expired.TheVariants as expiries
+use Rattle.rb_core.specs.declared.types.Limits.{Limits}
+use Rattle.rb_core.specs.State.{State, Connection, Connections, at_moment, opening}
+use Rattle.rb_core.specs.Calls.{Outcome, Outcome as outcomes, message_of, is_no_call, reply_in, outcome}
+use Rattle.rb_core.specs.Losses.{with_room}
+use Rattle.rb_core.specs.Connections.{Taking, taking, reading, settled, giving, live_connection, pending_in, on_live, opening_of, closing_of, first_lost}
+use Rattle.rb_core.specs.Connections.Taking.{TakesNone, GoesOn, Ends}
 pub use Rattle.rb_core.specs.declared.types.Taken.{Taken}
 pub use Rattle.rb_core.specs.Connections.{on_connection}
 pub use Rattle.rb_core.specs.Ending.{Told, Expired, forward_reply, expire}
@@ -99,11 +101,6 @@ pending s id = pending_at id s.connections
 -- n bytes of it were given, or as many as there are
 unfoldable pub gave : State → ℕ → ℕ → ℕ → Result (Unit {0}) CoreFault × State
 gave s now id n = moved now s (on_live id (giving (max s.clock now) n) s.connections)
-
--- how many bytes that is
-abbrev pub pending_count : Result (List ℕ) CoreFault → Result ℕ CoreFault
-pending_count (Ok bytes) = Ok (length bytes)
-pending_count (Err fault) = Err fault
 
 -- more than is pending
 abbrev pub is_too_much : ℕ → Result (List ℕ) CoreFault → Bool
@@ -229,10 +226,22 @@ step s (Sent number) = output_or show_done (sent_call s number)
 step s (Forward now from message) = show_end (forward_reply s now from message)
 step s (Expire now) = show_expired (expire s now)
 
--- the number of a refusal
-abbrev pub fault_number : CoreFault → ℕ
-fault_number NoMemory = 1
-fault_number BadLimits = 2
-fault_number Full = 3
-fault_number Spent = 4
-fault_number Gone = 5
+-- ---- runs
+
+abbrev pub run : State → List Event → List Output
+run s [] = []
+run s (event ∷ events) = (step s event).0 ∷ run (step s event).1 events
+
+-- the state after the events
+abbrev pub after : State → List Event → State
+after s [] = s
+after s (event ∷ events) = after (step s event).1 events
+
+-- the state after some events, from an opening
+pub record IsReached (s : State) : Type 0 where
+  pub limits : Limits
+  pub listener : Listener
+  pub first_xid : ℕ
+  pub now : ℕ
+  pub events : List Event
+  pub is : s ≡ after (opening limits listener first_xid now) events

@@ -2,10 +2,9 @@
 use Rattle.std.specs.Prelude.{◌≡◌, ℕ, List, [], ◌∷◌, ◌++◌, replicate}
 use Rattle.rb_rpc.specs.declared.peer.Peer.{Peer}
 use Rattle.rb_core.specs.State.{State, opening}
-use Rattle.rb_core.specs.Step.{Output}
+use Rattle.rb_core.specs.Step.{Output, run}
 use Rattle.rb_core.specs.Step.Event.{Datagram}
 use Rattle.rb_core.specs.Step.Output.{Replied, Silent}
-use Rattle.rb_core.specs.Run.{run}
 use Rattle.rb_xdr.specs.Xdr.{words}
 
 abbrev pub loopback : Peer

@@ -4,10 +4,9 @@ use Rattle.rb_xdr.specs.Xdr.{words}
 use Rattle.rb_core.specs.declared.types.CoreFault.TheVariants.{Full, Gone}
 use Rattle.rb_core.specs.declared.types.Limits.{Limits}
 use Rattle.rb_core.specs.State.{State, are_good, opening}
-use Rattle.rb_core.specs.Step.{Event}
+use Rattle.rb_core.specs.Step.{Event, run}
 use Rattle.rb_core.specs.Step.Event.{Open, Bytes, Pending, Gave, Closed, NextLost}
 use Rattle.rb_core.specs.Step.Output.{Opened, Refused, TooMuch, Took, TookAndClosed, IsPending, Done, LostIs}
-use Rattle.rb_core.specs.Run.{run}
 use Rattle.rb_core.specs.Calls.Outcome.{NoCall, Reply}
 use Rattle.rb_core.specs.Sessions.{Exchange, session}
 use Rattle.rb_core.specs.Worked.{fresh, loopback, call_by_none, accepted}

@@ -3,10 +3,9 @@ use Rattle.std.specs.Prelude.{◌≡◌, List, [], ◌∷◌, ◌++◌, Some, No
 use Rattle.rb_xdr.specs.Xdr.{words}
 use Rattle.rb_core.specs.declared.types.CoreFault.TheVariants.{Gone}
 use Rattle.rb_core.specs.State.{greatest_number}
-use Rattle.rb_core.specs.Step.{Event, Output}
+use Rattle.rb_core.specs.Step.{Event, Output, run}
 use Rattle.rb_core.specs.Step.Event.{Open, Bytes, Pending, Gave, Closed, NextLost, Datagram, Expire}
 use Rattle.rb_core.specs.Step.Output.{Opened, Refused, Took, Done, LostIs, Replied, Forwarded, Nothing, ConnectionClosed, RepliedTo}
-use Rattle.rb_core.specs.Run.{run}
 use Rattle.rb_core.specs.Worked.{fresh, loopback, call2, call_by_none, accepted}
 use Rattle.rb_core.specs.WorkedConnections.{opens, null_call, in_one}
 

@@ -4,12 +4,11 @@ use Rattle.rb_xdr.specs.Xdr.{words}
 use Rattle.rb_rpc.specs.declared.peer.Peer.{Peer}
 use Rattle.rb_forward.specs.Forwards.{Unsent as UnsentCall}
 use Rattle.rb_core.specs.State.{State, opening}
-use Rattle.rb_core.specs.Step.{Event, Output}
+use Rattle.rb_core.specs.Step.{Event, Output, run}
 use Rattle.rb_core.specs.Step.Event.{Bytes, Pending, Closed, Datagram, Unsent, Sent, Forward, Expire}
 use Rattle.rb_core.specs.Step.Output.{Opened, Took, IsPending, Done, Replied, Forwarded, Silent, UnsentIs, Ignored, Nothing, Ready, RepliedTo}
 use Rattle.rb_core.specs.Calls.{Outcome as said}
 use Rattle.rb_core.specs.Sessions.{session}
-use Rattle.rb_core.specs.Run.{run}
 use Rattle.rb_core.specs.ForwardLaws.{ended_in}
 use Rattle.rb_core.specs.Worked.{fresh, loopback, call2, call_by_none, accepted}
 use Rattle.rb_core.specs.WorkedConnections.{opens, in_one, null_call}

@@ -1,8 +1,7 @@
 -- Worked examples: held bytes and their bound, and the bound of steps.
 use Rattle.std.specs.Prelude.{◌≡◌, [], ◌∷◌, map}
 use Rattle.rb_core.specs.StandsFor.{Held, StandsFor}
-use Rattle.rb_core.specs.HeldBytes.{held, bytes_bound}
-use Rattle.rb_core.specs.StepLaws.{steps_bound}
+use Rattle.rb_core.specs.Bounds.{held, bytes_bound, steps_bound}
 use Rattle.rb_core.specs.Worked.{fresh}
 use Rattle.rb_core.specs.WorkedConnections.{limits}
 

@@ -3,10 +3,9 @@ use Rattle.std.specs.Prelude.{◌≡◌, ℕ, ◌+◌, List, [], ◌∷◌, ◌+
 use Rattle.std.specs.List.{flat_map, range_with_len}
 use Rattle.rb_xdr.specs.Xdr.{words}
 use Rattle.rb_core.specs.declared.types.CoreFault.TheVariants.{Gone}
-use Rattle.rb_core.specs.Step.{Event, Output}
+use Rattle.rb_core.specs.Step.{Event, Output, run, after}
 use Rattle.rb_core.specs.Step.Event.{Bytes, Pending, Gave, Closed, NextLost, Datagram}
 use Rattle.rb_core.specs.Step.Output.{Opened, Refused, Took, IsPending, Done, LostIs, Replied}
-use Rattle.rb_core.specs.Run.{run, after}
 use Rattle.rb_core.specs.Worked.{fresh, fresh_with, loopback, call2, accepted}
 use Rattle.rb_core.specs.WorkedConnections.{opens, in_one}
 

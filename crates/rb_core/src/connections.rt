@@ -4,7 +4,8 @@ ghost use Rattle.std.specs.Option.{option_map};
 ghost use Rattle.std.specs.Map.{values_of};
 ghost use Rattle.rb_xdr.specs.Meter.{Pays, PaysAtMost};
 ghost use Rattle.rb_xdr.specs.Pool.{HasDistinctKeys};
-ghost use Rattle.rb_core.specs.Slots.{wanted_slot, AreBuffers, AreSpare, HasBuffers, HasDistinctNumbers, charge, most_charge, IsWithin};
+ghost use Rattle.rb_core.specs.Slots.{wanted_slot, AreBuffers, AreSpare, HasBuffers, HasDistinctNumbers};
+ghost use Rattle.rb_core.specs.StandsFor.{charge, most_charge, IsWithin};
 ghost use Rattle.rb_core.specs.Listings.{earlier, began_early, with_evicted, stamps_in, IsOldest};
 ghost use Rattle.rb_core.specs.Costs.{oldest_cost, evict_cost};
 
@@ -58,7 +59,8 @@ fn layout(connections: &Connections) {
 }
 
 impl Model for Connections {
-    ghost use Rattle.rb_core.specs.Slots.{Table, IsTable};
+    ghost use Rattle.rb_core.specs.StandsFor.{Table};
+    ghost use Rattle.rb_core.specs.Slots.{IsTable};
 
     ghost Value = { Table };
 
@@ -185,7 +187,7 @@ fn evict_slots(slots: &mut Pool<Slot>, earliest: u64, meter: &mut Meter)
 }
 
 /// As many buffers as there may be connections.
-#[tactic(auto, unfolding(crate::specs::Reading::longest_arguments, crate::specs::Reading::buffer_size, crate::specs::Calls::longest_reply, crate::specs::Giving::longest_fragment))]
+#[tactic(auto, unfolding(crate::specs::StandsFor::longest_arguments, crate::specs::StandsFor::buffer_size, crate::specs::Calls::longest_reply, crate::specs::Connections::longest_fragment))]
 fn make_spare(alloc: Global, conns: usize, meter: &mut Meter) -> Result<Pool<Buffers>, NoMemory>
     ensures distinct { IfOk result (λ spare. HasDistinctKeys spare.entries) }
     ensures all { IfOk result (λ spare. length spare.entries ≡ conns) }
@@ -219,7 +221,7 @@ fn wanted_key(slots: &Pool<Slot>, hint: usize, wanted: Wanted, meter: &mut Meter
 }
 
 /// How many bytes are held of all connections, of which this one counted as so many before.
-#[tactic(auto, unfolding(crate::specs::Calls::longest_reply, crate::specs::Reading::longest_arguments, crate::specs::Reading::buffer_size, crate::specs::Giving::longest_fragment))]
+#[tactic(auto, unfolding(crate::specs::Calls::longest_reply, crate::specs::StandsFor::longest_arguments, crate::specs::StandsFor::buffer_size, crate::specs::Connections::longest_fragment))]
 fn recounted(held: u64, before: u64, slot: &Slot, meter: &mut Meter) -> u64
     requires buffers { HasBuffers meter.old.tie slot.now }
     requires before { before ≤ held }
@@ -233,17 +235,18 @@ fn recounted(held: u64, before: u64, slot: &Slot, meter: &mut Meter) -> u64
 
 impl Connections {
     ghost use Rattle.std.specs.Prelude.{◌≡◌, ◌≤◌, ◌<◌, ◌+◌, ◌*◌, [], true, false, ℕ, length, Some, OnErr, IfOk, IfSome, All};
-    ghost use Rattle.rb_core.specs.Connections.{on_live, opening_of, closing_of, first_lost};
-    ghost use Rattle.rb_core.specs.Streams.{source_for, IsToldBy};
+    ghost use Rattle.rb_core.specs.Connections.{on_live, opening_of, closing_of, first_lost, longest_fragment};
+    ghost use Rattle.rb_core.specs.Giving.{source_for, IsToldBy, pending_count};
     ghost use Rattle.rb_core.specs.Serving.{BeginsList, ServesOn, is_closed_by, kind_in, IsWritten, IsToldIn};
     ghost use Rattle.rb_core.specs.Listings.{AreTold, KeepsTold, EvictsBefore, stamps_of, IsOldest};
-    ghost use Rattle.rb_core.specs.Deadlines.{expiring};
-    ghost use Rattle.rb_core.specs.StandsFor.{given_in, settling};
-    ghost use Rattle.rb_core.specs.Step.{pending_at, pending_count};
-    ghost use Rattle.rb_core.specs.Giving.{longest_fragment};
-    ghost use Rattle.rb_core.specs.Costs.{slot_count, look_cost, taken_cost, settle_cost, list_cost, giving_cost, pending_cost, oldest_cost, evict_cost};
+    ghost use Rattle.rb_core.specs.Losses.{expiring};
+    ghost use Rattle.rb_core.specs.Core.{given_in};
+    ghost use Rattle.rb_core.specs.Slots.{settling, Finds, TableActs, TableBecomes, TableGives, TableHears, TableLends, TableShows, StaysTable, IsDraft, empty_table, feeding, HasBuffers};
+    ghost use Rattle.rb_core.specs.Step.{pending_at};
+    ghost use Rattle.rb_core.specs.CallCosts.{slot_count, look_cost, taken_cost, list_cost, giving_cost};
+    ghost use Rattle.rb_core.specs.Costs.{settle_cost, pending_cost, oldest_cost, evict_cost};
     ghost use Rattle.rb_core.specs.Awaits.{has_idle, AwaitsIfForwarded, NoneIsFreed, OnlyIsFreed, HearsFree};
-    ghost use Rattle.rb_core.specs.Slots.{Finds, TableActs, TableBecomes, TableGives, TableHears, TableLends, TableShows, StaysTable, IsDraft, empty_table, feeding, HasBuffers, held_in, most_charge};
+    ghost use Rattle.rb_core.specs.StandsFor.{held_in, most_charge};
     ghost use Rattle.std.specs.Map.{values_of};
 
     /// No connections yet, of at most so many. All of their memory is taken.

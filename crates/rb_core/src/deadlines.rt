@@ -1,6 +1,7 @@
 //! How long a connection may stay in a phase.
 ghost use Rattle.std.specs.Prelude.{◌≡◌};
-ghost use Rattle.rb_core.specs.Deadlines.{time_in, phase_like};
+ghost use Rattle.rb_core.specs.Losses.{time_in};
+ghost use Rattle.rb_core.specs.Slots.{phase_like};
 
 use crate::slot::Stage;
 

@@ -1,7 +1,7 @@
 //! The core: what it holds, and its calls.
 ghost use Rattle.std.specs.Prelude.{◌≡◌, ◌≤◌, IsTrue};
 ghost use Rattle.rb_core.specs.State.{are_good};
-ghost use Rattle.rb_core.specs.HeldBytes.{bytes_bound};
+ghost use Rattle.rb_core.specs.Bounds.{bytes_bound};
 
 use crate::connections::{BUFFER_SIZE, Connections, LONGEST_FRAGMENT};
 use crate::message::{arguments_behind, message_with};
@@ -73,7 +73,8 @@ fn layout(core: &Core) {
 }
 
 impl Model for Core {
-    ghost use Rattle.rb_core.specs.StandsFor.{Held, IsCore};
+    ghost use Rattle.rb_core.specs.StandsFor.{Held};
+    ghost use Rattle.rb_core.specs.Core.{IsCore};
 
     ghost Value = { Held };
 
@@ -118,7 +119,7 @@ impl Drop for Core {
 
 /// How many bytes a core of these limits may hold: of each connection, beside its fixed part, a whole call and a whole
 /// fragment; of each row an address text of 24 bytes; of each forwarded call itself; the keys of the statistics; and a reply.
-#[tactic(auto, unfolding(crate::specs::Calls::longest_reply, crate::specs::Giving::longest_fragment, rb_forward::specs::Table::longest_arguments))]
+#[tactic(auto, unfolding(crate::specs::Calls::longest_reply, crate::specs::Connections::longest_fragment, rb_forward::specs::StandsFor::longest_arguments))]
 fn bytes_bound(limits: &Limits) -> u64
     requires conns { limits.now.conns ≤ 256 }
     requires rows { limits.now.rows ≤ 4096 }
@@ -151,25 +152,28 @@ impl Core {
     ghost use Rattle.rb_xdr.specs.Meter.{Pays, PaysAtMost};
     ghost use Rattle.rb_core.specs.State.{are_good, opening};
     ghost use Rattle.rb_core.specs.Calls.{longest_reply};
-    ghost use Rattle.rb_core.specs.Giving.{longest_fragment};
+    ghost use Rattle.rb_core.specs.Connections.{longest_fragment};
     ghost use Rattle.rb_forward.specs.Costs.{sent_cost, unsent_cost};
     ghost use Rattle.rb_forward.specs.Outcomes.{PassesWithin};
-    ghost use Rattle.rb_forward.specs.Table.{slots_of, seen, count_lent, longest_call, is_waiting, IsNew};
-    ghost use Rattle.rb_core.specs.Step.{datagram, open_connection, bytes, pending, pending_count, gave, close_connection, next_lost, unsent_call, sent_call};
+    ghost use Rattle.rb_forward.specs.StandsFor.{slots_of, longest_call};
+    ghost use Rattle.rb_forward.specs.Table.{seen, count_lent, is_waiting, IsNew};
+    ghost use Rattle.rb_core.specs.Step.{datagram, open_connection, bytes, pending, gave, close_connection, next_lost, unsent_call, sent_call};
+    ghost use Rattle.rb_core.specs.Giving.{pending_count};
     ghost use Rattle.rb_core.specs.Ending.{told_at, tell, forward_reply, expire_connection, expire};
     ghost use Rattle.rb_core.specs.Awaits.{has_idle};
-    ghost use Rattle.rb_core.specs.HeldBytes.{held, bytes_bound};
-    ghost use Rattle.rb_core.specs.HeldLaws.{NeverPasses};
-    ghost use Rattle.rb_core.specs.EventSteps.{shown, OnlyBegins, BeginsAt, LendsFrom, TellsSteps};
-    ghost use Rattle.rb_core.specs.StepLaws.{taken_by, lent_by, given_by, StaysWithinSteps};
+    ghost use Rattle.rb_core.specs.Bounds.{held, bytes_bound};
+    ghost use Rattle.rb_core.specs.BoundLaws.{NeverPasses};
+    ghost use Rattle.rb_core.specs.Events.{shown, OnlyBegins, BeginsAt, LendsFrom, TellsSteps, taken_by, lent_by, given_by, StaysWithinSteps};
     ghost use Rattle.rb_core.specs.Slots.{Acts, Shows, Lends};
-    ghost use Rattle.rb_core.specs.StandsFor.{StandsFor, ActsWithReply, answering_heard, without_arguments, context_of, answering_cost, datagram_cost, bytes_cost, gave_cost, closing_cost, ending_cost, IsCheapIfQuiet};
-    ghost use Rattle.rb_core.specs.Costs.{look_cost, slot_count, tell_cost, pending_cost};
+    ghost use Rattle.rb_core.specs.StandsFor.{StandsFor};
+    ghost use Rattle.rb_core.specs.Core.{ActsWithReply, answering_heard, without_arguments, context_of};
+    ghost use Rattle.rb_core.specs.CallCosts.{answering_cost, datagram_cost, bytes_cost, gave_cost, closing_cost, ending_cost, IsCheapIfQuiet, look_cost, slot_count};
+    ghost use Rattle.rb_core.specs.Costs.{tell_cost, pending_cost};
 
     /// A core with the daemon's own rows alone, at the moment `now` (milliseconds since the start of 1970).
     /// `first_xid` is the number of the first call that it forwards. `BadLimits` where a limit is out of its
     /// range, else `NoMemory` where an allocation is refused.
-    #[tactic(auto, unfolding(crate::specs::Calls::longest_reply, crate::specs::Reading::longest_arguments, crate::specs::Reading::buffer_size))]
+    #[tactic(auto, unfolding(crate::specs::Calls::longest_reply, crate::specs::StandsFor::longest_arguments, crate::specs::StandsFor::buffer_size))]
     pub fn new(
         alloc: Global,
         limits: Limits,
@@ -350,7 +354,7 @@ impl Core {
 
     /// Answers what a record on a connection says, whose arguments are held, and lets the connection go on. It says whether
     /// it is Lost now.
-    #[tactic(auto, unfolding(crate::specs::Calls::longest_reply, crate::specs::Reading::longest_arguments, crate::specs::Reading::buffer_size))]
+    #[tactic(auto, unfolding(crate::specs::Calls::longest_reply, crate::specs::StandsFor::longest_arguments, crate::specs::StandsFor::buffer_size))]
     fn answer(&mut self, id: u64, heard: Heard, meter: &mut Meter) -> bool
         requires tie { meter.old.tie ≡ self.old.tie }
         requires idle { has_idle id self.old.connections ≡ true }
@@ -606,7 +610,7 @@ impl Core {
     }
 
     /// Tells the caller of a forwarded call how it ended, where it ended by this datagram.
-    #[tactic(auto, unfolding(crate::specs::Calls::longest_reply, crate::specs::Reading::longest_arguments, crate::specs::Reading::buffer_size))]
+    #[tactic(auto, unfolding(crate::specs::Calls::longest_reply, crate::specs::StandsFor::longest_arguments, crate::specs::StandsFor::buffer_size))]
     fn tell(&mut self, ended: &Ended, message: &[u8], meter: &mut Meter) -> Told
         requires tie { meter.old.tie ≡ self.old.tie }
         requires empty { self.old.reply ≡ [] }

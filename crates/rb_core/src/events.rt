@@ -3,11 +3,12 @@ ghost use Rattle.std.specs.Prelude.{◌≡◌, ◌≤◌, ◌+◌, [], length, v
 ghost use Rattle.rb_core.specs.Calls.{longest_reply};
 ghost use Rattle.rb_core.specs.Step.{show_taken, show_told, pending, is_too_much};
 ghost use Rattle.rb_core.specs.Step.Event.{Open, Bytes, Pending, Gave, Closed, NextLost, Datagram, Unsent, Sent, Forward, Expire};
-ghost use Rattle.rb_core.specs.StandsFor.{StandsFor, event_of, output_of, HasHappened, MayHappen};
-ghost use Rattle.rb_core.specs.EventSteps.{OnlyBegins};
+ghost use Rattle.rb_core.specs.StandsFor.{StandsFor};
+ghost use Rattle.rb_core.specs.Runs.{event_of, output_of};
+ghost use Rattle.rb_core.specs.Events.{HasHappened, MayHappen, OnlyBegins};
 ghost use Rattle.rb_xdr.specs.Meter.{PaysAtMost};
 ghost use Rattle.rb_core.specs.Slots.{Shows};
-ghost use Rattle.rb_core.specs.Costs.{look_cost};
+ghost use Rattle.rb_core.specs.CallCosts.{look_cost};
 
 use crate::connections::LONGEST_FRAGMENT;
 use crate::engine::Core;
@@ -129,7 +130,7 @@ fn show_taken(taken: Taken) -> Output
 }
 
 /// Looks at what is pending.
-#[tactic(auto, unfolding(crate::specs::Step::step, crate::specs::Giving::longest_fragment))]
+#[tactic(auto, unfolding(crate::specs::Step::step, crate::specs::Connections::longest_fragment))]
 fn pending(alloc: Global, core: &mut Core, id: u64, meter: &mut Meter) -> Result<Output, NoMemory>
     requires { meter.old.tie ≡ core.old.tie }
     ensures ok { MayHappen (Pending id) core.old core.new meter.old meter.new result }
@@ -221,7 +222,7 @@ fn datagram(
 }
 
 /// Looks for the forwarded call that is to be sent.
-#[tactic(auto, unfolding(crate::specs::Step::step, rb_forward::specs::Table::longest_arguments))]
+#[tactic(auto, unfolding(crate::specs::Step::step, rb_forward::specs::StandsFor::longest_arguments))]
 fn unsent(alloc: Global, core: &mut Core, meter: &mut Meter) -> Result<Output, NoMemory>
     requires { meter.old.tie ≡ core.old.tie }
     ensures ok { MayHappen Unsent core.old core.new meter.old meter.new result }

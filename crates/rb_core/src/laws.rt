@@ -6,8 +6,7 @@ ghost use Rattle.rb_core.specs.ForwardLaws.{ConnectionsAwait, RepliesEndTheirOwn
 ghost use Rattle.rb_core.specs.Sessions.{SessionsAreWhole};
 ghost use Rattle.rb_core.specs.DeadlineLaws.{ExpireDoesOneThing, NothingIsDueSoon};
 ghost use Rattle.rb_core.specs.Headline.{RunsAreServedWithinBounds};
-ghost use Rattle.rb_core.specs.HeldLaws.{HeldBytesAreBounded};
-ghost use Rattle.rb_core.specs.StepLaws.{StepsAreBounded, RunsAreBounded};
+ghost use Rattle.rb_core.specs.BoundLaws.{HeldBytesAreBounded, StepsAreBounded, RunsAreBounded};
 ghost use Rattle.rb_core.specs.WorkedConnections.{NoCallCloses, OtherRpcVersionOnTcp, CrumbsInOnePiece, CrumbsInSingleBytes, CrumbsInSevens, BytesBehindArguments, OneRecordAtATime, OneRecordAtATimePasses, NoCallPasses, GivenInParts, TooMuchIsRefused, GoodLimits, NumbersDoNotRecur};
 ghost use Rattle.rb_core.specs.WorkedForwards.{ForwardWithoutRow, RefusedCallsAreCounted, ForwardUntilDeadline, IndirectPasses, CallitPasses, TargetRefuses, DeniedIsSystemErr, CallitIsSilent, GreatestResults, NoPlace, GreatestArguments, SilentOnTcp, ForwardPassesOnTcp, ForwardOnTcpIsWhole, ClosedCallerIsDropped, EachEndsInTurn};
 ghost use Rattle.rb_core.specs.WorkedHeld.{BytesBounds, FreshCoreHolds, StepsBounds};

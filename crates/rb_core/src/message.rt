@@ -1,9 +1,8 @@
 //! What the data of a record, or a datagram, says: the order of refusals.
 ghost use Rattle.std.specs.Prelude.{◌≡◌, length};
-ghost use Rattle.rb_rpc.specs.Verdict.{verdict as verdict_of};
+ghost use Rattle.rb_rpc.specs.Verdict.{verdict as verdict_of, EndsWithin};
 ghost use Rattle.rb_feed.specs.Feeds.{arguments_of};
 ghost use Rattle.rb_core.specs.Reading.{HasArgsIn};
-ghost use Rattle.rb_rpc.specs.Verdict.{EndsWithin};
 ghost use Rattle.rb_core.specs.Calls.{is_served, request_of, call_of, message_with, message_of};
 
 use rb_proto::{ArgumentFault, Call, Request, read_args};

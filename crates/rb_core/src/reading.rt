@@ -4,8 +4,10 @@ ghost use Rattle.rb_xdr.specs.Meter.{Pays, PaysAtMost};
 ghost use Rattle.rb_rpc.specs.Marks.{StandsForFed};
 ghost use Rattle.rb_rpc.specs.Streams.{RecordEnds, ArePart, StandsForMore};
 ghost use Rattle.rb_rpc.specs.Records.{first_record};
-ghost use Rattle.rb_feed.specs.Feeds.{StandsForCall, StandsForMore as StandsForMoreOfCall};
-ghost use Rattle.rb_core.specs.Reading.{IsHeld, IsReading, AreKept, HasData, HasMoreData, AreArgumentsIn, fed_until, StandsBehind, KeptSaysTheRecord};
+ghost use Rattle.rb_feed.specs.Feeds.{StandsForCall};
+ghost use Rattle.rb_feed.specs.Laws.{StandsForMore as StandsForMoreOfCall};
+ghost use Rattle.rb_core.specs.StandsFor.{IsHeld, IsReading};
+ghost use Rattle.rb_core.specs.Reading.{AreKept, HasData, HasMoreData, AreArgumentsIn, fed_until, StandsBehind, KeptSaysTheRecord};
 
 use rb_feed::CallFeed;
 use rb_rpc::{Marks, Part, Verdict};

@@ -4,9 +4,8 @@ ghost use Rattle.rb_xdr.specs.Meter.{PaysAtMost};
 ghost use Rattle.rb_proto.specs.Ledger.{AreTied, SameFrame};
 ghost use Rattle.rb_core.specs.Awaits.{has_idle, NoneIsFreed};
 ghost use Rattle.rb_core.specs.Slots.{StaysTable};
-ghost use Rattle.rb_core.specs.Listings.{AreTold};
-ghost use Rattle.rb_core.specs.Rooms.{HasRoom, MakesRoom, source_in};
-ghost use Rattle.rb_core.specs.Costs.{kept_count, room_cost_of};
+ghost use Rattle.rb_core.specs.Listings.{AreTold, HasRoom, MakesRoom, source_in};
+ghost use Rattle.rb_core.specs.CallCosts.{kept_count, room_cost_of};
 
 use crate::connections::Connections;
 use crate::message::Message;

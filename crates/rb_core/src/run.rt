@@ -1,9 +1,8 @@
 //! Runs: lists of events.
 ghost use Rattle.std.specs.Prelude.{◌≡◌, ◌<◌, ℕ, length, take, OnOk, OnErr};
 ghost use Rattle.rb_core.specs.State.{State};
-ghost use Rattle.rb_core.specs.StandsFor.{StandsFor, events_of, outputs_of, Happened, PaysForRun};
-ghost use Rattle.rb_core.specs.HeldLaws.{StaysWithinBound};
-ghost use Rattle.rb_core.specs.StepLaws.{PaysWithinBound};
+ghost use Rattle.rb_core.specs.StandsFor.{StandsFor};
+ghost use Rattle.rb_core.specs.Runs.{events_of, outputs_of, Happened, PaysForRun, StaysWithinBound, PaysWithinBound};
 
 use crate::engine::Core;
 use crate::events::{Event, Output, happen};

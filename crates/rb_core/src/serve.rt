@@ -7,16 +7,18 @@ ghost use Rattle.rb_proto.specs.Ledger.{AreTied, Ledger, OnlyCallerWaits, SameFr
 ghost use Rattle.rb_proto.specs.Results.{result_bytes, results_at, shown_in, shown_of};
 ghost use Rattle.rb_forward.specs.Forwards.{longest_results};
 ghost use Rattle.rb_forward.specs.Outcomes.{PassesWithin};
-ghost use Rattle.rb_forward.specs.Table.{slots_of, IsNew};
+ghost use Rattle.rb_forward.specs.StandsFor.{slots_of};
+ghost use Rattle.rb_forward.specs.Table.{IsNew};
 ghost use Rattle.rb_proto.specs.Forwarding.{forwarded_bytes};
 ghost use Rattle.rb_core.specs.Calls.{reply_in, success, longest_reply};
 ghost use Rattle.rb_core.specs.Ending.{told_failed, told_at};
 ghost use Rattle.rb_core.specs.Reading.{HasArgsIn};
 ghost use Rattle.rb_core.specs.Awaits.{kind_of, StayUnlessForwarded};
-ghost use Rattle.rb_core.specs.Rooms.{HasRoom, source_in};
-ghost use Rattle.rb_core.specs.StandsFor.{given_in};
+ghost use Rattle.rb_core.specs.Listings.{HasRoom, source_in};
+ghost use Rattle.rb_core.specs.Core.{given_in};
 ghost use Rattle.rb_core.specs.Serving.{TellsAnswer, ServesMessage, kind_in, IsWritten, HasList, IsListFor};
-ghost use Rattle.rb_core.specs.Costs.{put_results_cost, put_end_cost, serving_cost};
+ghost use Rattle.rb_core.specs.CallCosts.{put_results_cost, serving_cost};
+ghost use Rattle.rb_core.specs.Costs.{put_end_cost};
 
 use crate::message::Message;
 use crate::types::Outcome;
@@ -223,7 +225,7 @@ pub fn serve(
 }
 
 /// Writes the results that a target gave into an empty buffer, or SYSTEM_ERR where they do not fit.
-#[tactic(auto, using(crate::proofs::Replies::some_fitting), unfolding(crate::specs::Calls::fitting, crate::specs::Calls::longest_reply, rb_forward::specs::Table::longest_arguments, rb_forward::specs::Forwards::longest_results))]
+#[tactic(auto, using(crate::proofs::Replies::some_fitting), unfolding(crate::specs::Calls::fitting, crate::specs::Calls::longest_reply, rb_forward::specs::StandsFor::longest_arguments, rb_forward::specs::Forwards::longest_results))]
 fn put_passed(forward: &Forward, results: &[u8], out: &mut Kept, meter: &mut Meter)
     requires results { length results.now ≤ longest_results }
     requires tie { meter.old.tie ≡ out.old.tie }

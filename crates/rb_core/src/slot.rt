@@ -135,16 +135,16 @@ fn nothing() -> Received
 impl Slot {
     ghost use Rattle.std.specs.Prelude.{◌≡◌, ◌≤◌, ◌<◌, ◌+◌, ℕ, List, [], true, false, length, Some, IfSome};
     ghost use Rattle.rb_core.specs.State.{Connection};
-    ghost use Rattle.rb_core.specs.Connections.{taking_on, settled, giving, pending_in};
-    ghost use Rattle.rb_core.specs.Deadlines.{is_due_slot};
-    ghost use Rattle.rb_core.specs.Slots.{SlotActs, SlotBecomes, SlotGives, SlotHears, SlotShows, emptied_slot, StandsForConnection, IsBeforePiece, HasBuffers, IsDraft, StaysSlot, received, fed_with, feeding, arguments_after, is_lost_stage, is_idle_stage, is_wanted_slot, charge, most_charge};
+    ghost use Rattle.rb_core.specs.Connections.{taking_on, settled, giving, pending_in, longest_fragment};
+    ghost use Rattle.rb_core.specs.Slots.{is_due_slot, SlotActs, SlotBecomes, SlotGives, SlotHears, SlotShows, emptied_slot, IsBeforePiece, HasBuffers, IsDraft, StaysSlot, received, fed_with, feeding, arguments_after, is_lost_stage, is_idle_stage, is_wanted_slot};
+    ghost use Rattle.rb_core.specs.StandsFor.{StandsForConnection, charge, most_charge, Source};
     ghost use Rattle.rb_core.specs.Listings.{slot_began, IsNoList, IsToldSlot, KeepsToldSlot};
-    ghost use Rattle.rb_core.specs.Streams.{Source, source_for, IsToldBy, GoesOnBy};
+    ghost use Rattle.rb_core.specs.Giving.{source_for, IsToldBy, GoesOnBy};
     ghost use Rattle.rb_core.specs.Serving.{SlotBeginsList};
     ghost use Rattle.rb_core.specs.Awaits.{is_awaiting_stage, HearsSlot};
-    ghost use Rattle.rb_core.specs.StandsFor.{given_in};
-    ghost use Rattle.rb_core.specs.Giving.{longest_fragment};
-    ghost use Rattle.rb_core.specs.Costs.{received_cost, show_cost, give_cost, show_list_cost, pending_cost};
+    ghost use Rattle.rb_core.specs.Core.{given_in};
+    ghost use Rattle.rb_core.specs.CallCosts.{received_cost, give_cost, show_list_cost};
+    ghost use Rattle.rb_core.specs.Costs.{show_cost, pending_cost};
 
     #[tactic(auto, unfolding(crate::specs::Slots::is_wanted_slot))]
     pub fn is_wanted(&self, wanted: Wanted) -> bool
@@ -177,7 +177,7 @@ impl Slot {
     }
 
     /// Whether its deadline has come.
-    #[tactic(auto, unfolding(crate::specs::Deadlines::is_due_slot, rb_forward::specs::Forwards::later))]
+    #[tactic(auto, unfolding(crate::specs::Slots::is_due_slot, rb_forward::specs::Forwards::later))]
     fn is_due(&self, clock: u64) -> bool
         ensures { result ≡ is_due_slot clock self.now }
     {
@@ -445,7 +445,7 @@ impl Slot {
     }
 
     /// How many bytes are held of it: those of its buffer and its window, and 128 for the rest.
-    #[tactic(auto, unfolding(crate::specs::Calls::longest_reply, crate::specs::Reading::longest_arguments, crate::specs::Reading::buffer_size, crate::specs::Giving::longest_fragment))]
+    #[tactic(auto, unfolding(crate::specs::Calls::longest_reply, crate::specs::StandsFor::longest_arguments, crate::specs::StandsFor::buffer_size, crate::specs::Connections::longest_fragment))]
     pub fn charge(&self, meter: &mut Meter) -> u64
         requires { HasBuffers meter.old.tie self.now }
         ensures charge { result ≡ charge self.now }

@@ -1,6 +1,6 @@
 //! What calls on a core are given, and what they answer.
 ghost use Rattle.std.specs.Prelude.{◌≡◌};
-ghost use Rattle.rb_core.specs.Step.{fault_number};
+ghost use Rattle.rb_core.specs.Core.{fault_number};
 
 use rb_rpc::Peer;
 use thiserror::Error;
@@ -40,7 +40,7 @@ pub enum Outcome {
 impl Outcome {
     ghost use Rattle.std.specs.Prelude.{◌≡◌, ℕ, List};
     ghost use Rattle.rb_core.specs.Calls.{is_no_call};
-    ghost use Rattle.rb_core.specs.StandsFor.{outcome_with};
+    ghost use Rattle.rb_core.specs.Core.{outcome_with};
 
     pub(crate) fn is_no_call(self) -> bool
         ensures { (reply : List ℕ) → result ≡ is_no_call (outcome_with self reply) }

@@ -9,14 +9,13 @@ use Rattle.rb_core.specs.declared.types.Limits.{Limits}
 use Rattle.rb_core.specs.declared.types.Taken.{Taken}
 use Rattle.rb_core.specs.State.{State, opening}
 use Rattle.rb_core.specs.Calls.{Outcome, Outcome as outcomes}
-use Rattle.rb_core.specs.Step.{Event, Output, step, open_connection, bytes, pending, gave, close_connection, datagram, sent_call, output_or, show_taken, show_done, show_outcome, show_end, show_expired, is_too_much}
+use Rattle.rb_core.specs.Step.{Event, Output, step, open_connection, bytes, pending, gave, close_connection, datagram, sent_call, output_or, show_taken, show_done, show_outcome, show_end, show_expired, is_too_much, IsReached}
 use Rattle.rb_core.specs.declared.types.Told.{Told}
 use Rattle.rb_core.specs.declared.types.Expired.{Expired}
 use Rattle.rb_core.specs.Ending.{forward_reply, expire}
 use Rattle.rb_core.specs.Step.Event.{Open, Bytes, Gave, Closed, Datagram, Sent, Forward, Expire}
 use Rattle.rb_core.specs.Step.Output.{Opened, TooMuch}
 use Rattle.rb_core.specs.declared.types.Expired.TheVariants as expiries
-use Rattle.rb_core.specs.Laws.{IsReached}
 use Rattle.rb_core.specs.Slots.{Acts}
 use Rattle.rb_core.specs.StandsFor.{Held, StandsFor}
 use Rattle.rb_core.proofs.Begun.{began, stands_begun}

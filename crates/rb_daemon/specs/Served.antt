@@ -10,9 +10,8 @@ use Rattle.rb_core.specs.declared.types.Expired.TheVariants.{Nothing as NothingD
 use Rattle.rb_core.specs.declared.types.Told.{Told}
 use Rattle.rb_core.specs.declared.types.Expired.{Expired}
 use Rattle.rb_core.specs.Ending.{forward_reply, expire}
-use Rattle.rb_core.specs.Step.{gave, unsent_call, sent_call}
+use Rattle.rb_core.specs.Step.{gave, unsent_call, sent_call, IsReached}
 use Rattle.rb_core.specs.StandsFor.{Held, StandsFor}
-use Rattle.rb_core.specs.Laws.{IsReached}
 use Rattle.rb_daemon.specs.declared.engine.Given.{Given}
 use Rattle.rb_daemon.specs.declared.engine.Given.TheVariants.{Nothing, Bytes, Failed, Over}
 use Rattle.rb_daemon.specs.declared.engine.Due.{Due}

@@ -13,7 +13,8 @@ use Rattle.rb_rpc.proofs.Calls.{AreBytes-append, AreBytes-number}
 use Rattle.rb_rpc.proofs.Feeding.{AreBytes-more, so_far_more, four_are}
 use Rattle.rb_feed.specs.declared.stage.Stage.TheVariants as stages
 use Rattle.rb_feed.specs.Stages.{Stage, stage_after, verdict_at, is_call}
-use Rattle.rb_feed.specs.Feeds.{CallFeed, HasPart, StandsForCall, arguments_of, max_head}
+use Rattle.rb_feed.specs.Feeds.{CallFeed, HasPart, StandsForCall, arguments_of}
+use Rattle.rb_feed.specs.Laws.{max_head}
 use Rattle.rb_feed.proofs.CallsStay.{calls_stay, end_at_the_place, arguments_grow, none_yet}
 use Rattle.rb_feed.proofs.WordVerdicts.{whole}
 

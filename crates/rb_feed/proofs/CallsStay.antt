@@ -15,7 +15,8 @@ use Rattle.rb_rpc.specs.Grammar.{BeginsWithCall}
 use Rattle.rb_rpc.proofs.Auths.{length-auth}
 use Rattle.rb_rpc.proofs.Calls.{verdict_agrees, again, length-call_words, AreBytes-append}
 use Rattle.rb_feed.specs.Stages.{is_call}
-use Rattle.rb_feed.specs.Feeds.{behind_head, arguments_of, max_head, CallsStay, HeadsEndAtThePlace}
+use Rattle.rb_feed.specs.Feeds.{behind_head, arguments_of}
+use Rattle.rb_feed.specs.Laws.{max_head, CallsStay, HeadsEndAtThePlace}
 
 -- what follows the head may change
 followed : (head : CallHead) (place : ℕ) (bytes other rest : List ℕ) (b : BeginsWithCall head place bytes) → other ≡ (call_words head ++ auth b.flavor b.body ++ auth b.verifier_flavor b.verifier_body) ++ rest → BeginsWithCall head place other

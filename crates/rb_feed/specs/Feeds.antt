@@ -1,11 +1,10 @@
 -- The bytes that a reader of calls was fed, and what they are as a call (RFC 5531 section 9).
-use Rattle.std.specs.Prelude.{◌≡◌, ℕ, ◌<◌, ◌≤◌, Bool, false, not, nat_lt, if◌then◌else◌, List, [], ◌++◌, length, take, drop, fold}
-use Rattle.rb_xdr.specs.Xdr.{AreBytes, AreNumbers, words}
-use Rattle.rb_rpc.specs.declared.call.CallHead.{CallHead}
+use Rattle.std.specs.Prelude.{◌≡◌, ℕ, ◌<◌, false, List, [], ◌++◌, length, drop, fold}
+use Rattle.rb_xdr.specs.Xdr.{AreBytes, words, AreNumbers}
 use Rattle.rb_rpc.specs.declared.call.Verdict.{Verdict}
+use Rattle.rb_rpc.specs.declared.call.Verdict.TheVariants as verdicts
 use Rattle.rb_rpc.specs.Marks.{number_so_far}
 use Rattle.rb_rpc.specs.Verdict.{verdict}
-use Rattle.rb_rpc.specs.declared.call.Verdict.TheVariants as verdicts
 use Rattle.rb_feed.specs.declared.stage.Stage.TheVariants as stages
 use Rattle.rb_feed.specs.Stages.{stage_after, verdict_at, is_call}
 pub use Rattle.rb_feed.specs.declared.feed.CallFeed.{CallFeed}
@@ -40,41 +39,3 @@ behind_head (verdicts.AuthError xid stat) bytes = []
 -- the arguments of a call as far as they have come; nothing where the bytes are no call yet, or none that is taken
 unfoldable pub arguments_of : List ℕ → List ℕ
 arguments_of bytes = behind_head (verdict bytes) bytes
-
--- ---- what is said of the bytes that a feed was fed, and of more
-
--- whether they are a call
-abbrev pub AreCall : CallFeed → Bool → Type 0
-AreCall feed answer = (fed : List ℕ) → StandsForCall feed fed → answer ≡ is_call (verdict fed)
-
--- Behind more bytes this feed stands for all of them.
-abbrev pub StandsForMore : CallFeed → List ℕ → CallFeed → Type 0
-StandsForMore feed more behind = (fed : List ℕ) → StandsForCall feed fed → StandsForCall behind (fed ++ more)
-
--- whether more bytes are arguments; where they are not, no arguments have come with them either
-abbrev pub AreArguments : CallFeed → List ℕ → Bool → Type 0
-AreArguments feed more answer =
-    (fed : List ℕ) → StandsForCall feed fed → arguments_of (fed ++ more) ≡ (if answer then arguments_of fed ++ more else [])
-
--- ---- laws of calls
-
--- the greatest head: six words, and a credential and a verifier of a flavor, a length word and 400 bytes (section 8.2)
-abbrev pub max_head : ℕ
-max_head = 840
-
--- a call is the same call whatever follows it
-abbrev pub CallsStay : Type 0
-CallsStay =
-    (bytes more : List ℕ) → AreBytes bytes → (head : CallHead) (place : ℕ)
-    → verdict bytes ≡ verdicts.Call head place → verdict (bytes ++ more) ≡ verdicts.Call head place
-
--- The head of a call ends at the place: with fewer bytes it is no call yet.
-pub record EndsAtThePlace (bytes : List ℕ) (place : ℕ) : Type 0 where
-  pub within : place ≤ length bytes
-  pub short : place ≤ max_head
-  pub from_there : (n : ℕ) → n ≤ length bytes → is_call (verdict (take n bytes)) ≡ not (nat_lt n place)
-
-abbrev pub HeadsEndAtThePlace : Type 0
-HeadsEndAtThePlace =
-    (bytes : List ℕ) → AreBytes bytes → (head : CallHead) (place : ℕ)
-    → verdict bytes ≡ verdicts.Call head place → EndsAtThePlace bytes place

@@ -2,3 +2,4 @@ pub mod SysFields
 pub mod Stages
 pub mod Saved
 pub mod Feeds
+pub mod Laws

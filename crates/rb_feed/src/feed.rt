@@ -28,7 +28,8 @@ fn layout(feed: &CallFeed) {
 impl CallFeed {
     ghost use Rattle.std.specs.Prelude.{◌≡◌, ℕ, true, [], ◌∷◌, List, length, IsTrue};
     ghost use Rattle.rb_rpc.specs.Verdict.{verdict, EndsWithin};
-    ghost use Rattle.rb_feed.specs.Feeds.{StandsForCall, AreCall, StandsForMore, AreArguments, max_head};
+    ghost use Rattle.rb_feed.specs.Feeds.{StandsForCall};
+    ghost use Rattle.rb_feed.specs.Laws.{AreCall, StandsForMore, AreArguments, max_head};
     ghost use Rattle.rb_feed.specs.Saved.{loaded};
 
     /// Before the first byte.

@@ -1,4 +1,4 @@
-ghost use Rattle.rb_feed.specs.Feeds.{CallsStay, HeadsEndAtThePlace};
+ghost use Rattle.rb_feed.specs.Laws.{CallsStay, HeadsEndAtThePlace};
 
 /// A call stays the same call whatever follows it. Its head has at most 840 bytes, and with fewer
 /// bytes than its head it is no call yet.

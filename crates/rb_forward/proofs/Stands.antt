@@ -17,7 +17,8 @@ use Rattle.rb_forward.specs.declared.entries.Slot.{Slot}
 use Rattle.rb_forward.specs.declared.entries.Wanted.{Wanted}
 use Rattle.rb_forward.specs.declared.entries.Wanted.TheVariants as wanted
 use Rattle.rb_forward.specs.Forwards.{Entry, Forwards, is_answered, is_unsent, as_sent, without_first, ended_by, with_end, reply, counts_for, outcome_of, xid_of, head_of, question, held_call, held, unsent, unsent_call, can_be_sent, sent, can_start, started, next_entry, later, patience, greatest_number}
-use Rattle.rb_forward.specs.Table.{emptied, StandsForEntry, is_wanted_slot, is_wanted, wanted_slot, held_in}
+use Rattle.rb_forward.specs.Table.{emptied, is_wanted_slot, is_wanted, wanted_slot}
+use Rattle.rb_forward.specs.StandsFor.{StandsForEntry, held_in}
 use Rattle.rb_forward.proofs.Tables.{none_some, IsFirst, is_first, nothing_found, found_any, found_none, all_stay, Beside, found_beside, none_beside, without_beside, changed_beside, one_more_each, same_length, same_sum}
 use Rattle.std.proofs.lemmas.Map.Entries.{length-values_of}
 

@@ -8,18 +8,17 @@ use Rattle.std.proofs.lemmas.List.Elements.{All-push}
 use Rattle.rb_forward.specs.declared.entries.Slot.{Slot}
 use Rattle.rb_xdr.specs.Pool.{Pool}
 use Rattle.rb_xdr.specs.Kept.{Kept}
-use Rattle.rb_forward.specs.Table.{IsTable, IsBuffer, HasBuffer, longest_arguments, longest_call}
+use Rattle.rb_forward.specs.Table.{IsTable, IsBuffer, HasBuffer, IsSpare, wanted_slot, is_wanted_slot, IsNew, emptied}
+use Rattle.rb_forward.specs.StandsFor.{longest_arguments, longest_call}
 use Rattle.std.specs.Prelude.{option_map, find}
 use Rattle.rb_xdr.specs.Pool.{HasDistinctKeys, value_at, without, with_value}
 use Rattle.rb_xdr.proofs.PoolLemmas.{All-value_at, All-with_value, All-without}
 use Rattle.rb_forward.specs.declared.entries.Wanted.{Wanted}
-use Rattle.rb_forward.specs.Table.{IsSpare, wanted_slot, is_wanted_slot, IsNew}
 use Rattle.std.proofs.lemmas.Map.Entries.{length-values_of}
 use Rattle.rb_xdr.proofs.PoolLemmas.{distinct-without, length-without, distinct-with, length-with}
 use Rattle.rb_forward.proofs.Tables.{some_is, sum-without, sum-changed}
 use Rattle.rb_forward.proofs.Callers.{callers-without, callers-changed, callers-more}
 use Rattle.rb_forward.proofs.Stands.{first_wanted, found_first}
-use Rattle.rb_forward.specs.Table.{emptied}
 
 all_within : (meter : ℕ) (slots : List Slot) → All (HasBuffer meter) slots → All (λ (s : Slot). 128 + length s.call.bytes ≤ 128 + longest_call) slots
 all_within meter slots h = λ k slot lt. let here = (h k slot lt).within in omega (arith, here)

@@ -1,51 +1,21 @@
--- What the slots of entries hold, and the entries that they stand for.
-use Rattle.std.specs.Prelude.{◌≡◌, ℕ, ◌+◌, ◌^◌, ◌≤◌, ◌<◌, ◌==◌, nat_le, nat_lt, not, Bool, true, false, ◌&&◌, List, [], ◌∷◌, Option, Some, None, find, length, All, ⊤}
-use Rattle.std.specs.List.{AllZip, list_any, sum_by}
+-- What is done with the slots of entries, and what is true of them.
+use Rattle.std.specs.Prelude.{◌≡◌, ℕ, ◌≤◌, ◌<◌, ◌+◌, ◌==◌, nat_lt, nat_le, ◌^◌, not, Bool, false, true, List, ⊤, ◌&&◌, [], ◌∷◌, find, length, Option, All, Some, None}
+use Rattle.std.specs.List.{list_any}
 use Rattle.std.specs.Map.{values_of}
 use Rattle.rb_xdr.specs.Kept.{Kept}
 use Rattle.rb_xdr.specs.Pool.{Pool, HasDistinctKeys}
 use Rattle.rb_rpc.specs.declared.peer.Caller.{Caller}
 use Rattle.rb_rpc.specs.declared.peer.Caller.TheVariants.{Tcp, Udp}
-use Rattle.rb_forward.specs.declared.types.Unsent.{Unsent as Lent}
-use Rattle.rb_forward.specs.declared.types.Outcome.{Outcome}
-use Rattle.rb_forward.specs.declared.types.Ended.{Ended}
 use Rattle.rb_forward.specs.declared.entries.Slot.{Slot}
 use Rattle.rb_forward.specs.declared.entries.Wanted.{Wanted}
 use Rattle.rb_forward.specs.declared.entries.Wanted.TheVariants as wanted
-use Rattle.rb_forward.specs.Forwards.{Entry, Forwards, Unsent, with_end, xid_of, held_call, is_same_peer, is_answered, is_due, is_connection, is_of_connection, is_unsent}
-
-unfoldable pub longest_arguments : ℕ
-longest_arguments = 8800
-
--- the longest unsent call: a head of 40 bytes and the arguments
-abbrev pub longest_call : ℕ
-longest_call = 40 + longest_arguments
-
-pub record StandsForEntry (first_xid : ℕ) (slot : Slot) (e : Entry) : Type 0 where
-  pub number : slot.number ≡ e.number
-  pub forward : slot.forward ≡ e.forward
-  pub xid : slot.xid ≡ xid_of first_xid e.number
-  pub deadline : slot.deadline ≡ e.deadline
-  pub sent : slot.sent ≡ e.sent
-  pub call : slot.call.bytes ≡ held_call first_xid e
+use Rattle.rb_forward.specs.declared.types.Outcome.{Outcome}
+use Rattle.rb_forward.specs.declared.types.Ended.{Ended}
+use Rattle.rb_forward.specs.declared.types.Unsent.{Unsent as Lent}
+use Rattle.rb_forward.specs.Forwards.{Entry, Forwards, is_due, with_end, is_connection, Unsent, is_same_peer, is_of_connection, is_answered, is_unsent}
+use Rattle.rb_forward.specs.StandsFor.{Table, longest_call, StandsForForwards, held_in}
 
 -- ---- the table
-
--- the slots of entries with their keys, in the order of their calls, how many numbers were given, the xid of the first
--- entry, how many entries there may be, and the number of the meter that counts the calls
-pub record Table : Type 0 where
-  pub slots : List (ℕ × Slot)
-  pub given : ℕ
-  pub first_xid : ℕ
-  pub cap : ℕ
-  pub tie : ℕ
-
-pub record StandsForForwards (table : Table) (f : Forwards) : Type 0 where
-  pub all : AllZip (StandsForEntry table.first_xid) (values_of table.slots) f.all
-  pub next : f.next ≡ table.given + 1
-
-abbrev pub slots_of : Table → List Slot
-slots_of table = values_of table.slots
 
 -- this holds of whatever the table stands for
 abbrev pub Whatever : Table → (Forwards → Type 0) → Type 0
@@ -144,10 +114,6 @@ pub record IsSpare (meter : ℕ) (buffer : Kept) : Type 0 where
 
 abbrev pub HasBuffer : ℕ → Slot → Type 0
 HasBuffer meter slot = IsBuffer meter slot.call
-
--- the bytes of a slot count, and 128 for its fixed part
-abbrev pub held_in : List Slot → ℕ
-held_in slots = sum_by (λ (slot : Slot). 128 + length slot.call.bytes) slots
 
 -- What is true of all that is kept of entries: there are as many buffers as there may be entries, and each that no entry has
 -- is spare.

@@ -5,7 +5,8 @@ ghost use Rattle.rb_xdr.specs.Meter.{PaysAtMost};
 ghost use Rattle.rb_xdr.specs.Pool.{HasDistinctKeys};
 ghost use Rattle.rb_rpc.specs.CallBytes.{call_bytes};
 ghost use Rattle.rb_rpc.specs.declared.call.Credential.TheVariants as credentials;
-ghost use Rattle.rb_forward.specs.Table.{IsBuffer, IsSpare, longest_arguments, longest_call};
+ghost use Rattle.rb_forward.specs.Table.{IsBuffer, IsSpare};
+ghost use Rattle.rb_forward.specs.StandsFor.{longest_arguments, longest_call};
 
 use rb_rpc::{CallHead, put_call};
 use rb_xdr::{Kept, Meter, NoMemory, Pool};
@@ -58,7 +59,7 @@ pub(crate) fn put_buffer(spare: &mut Pool<Kept>, mut buffer: Kept, meter: &mut M
 }
 
 /// As many buffers as there may be entries.
-#[tactic(auto, unfolding(crate::specs::Table::longest_arguments))]
+#[tactic(auto, unfolding(crate::specs::StandsFor::longest_arguments))]
 pub(crate) fn make_spare(
     alloc: Global,
     cap: usize,

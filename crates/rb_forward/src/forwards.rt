@@ -63,7 +63,8 @@ fn head_of(first_xid: u32, given: u64, forward: &Forward) -> CallHead
 }
 
 impl Model for Forwards {
-    ghost use Rattle.rb_forward.specs.Table.{Table, IsTable};
+    ghost use Rattle.rb_forward.specs.StandsFor.{Table};
+    ghost use Rattle.rb_forward.specs.Table.{IsTable};
 
     ghost Value = { Table };
 
@@ -85,7 +86,8 @@ impl Forwards {
     ghost use Rattle.rb_forward.specs.Costs.{start_cost, end_cost, sent_cost, unsent_cost};
     ghost use Rattle.rb_forward.specs.Forwards.{no_forwards, reply, due, drop_caller, can_start, started, can_be_sent, sent, unsent, held, without_first};
     ghost use Rattle.rb_forward.specs.Outcomes.{PassesWithin};
-    ghost use Rattle.rb_forward.specs.Table.{StandsForForwards, Whatever, Becomes, GivenBy, LeftBy, slots_of, end_of, longest_arguments, longest_call, held_in, IsNew, NoneWaitsAnew, OnlyWaitsAnew, is_waiting, AreOfDistinctCallers, is_wanted_slot, seen, count_lent};
+    ghost use Rattle.rb_forward.specs.StandsFor.{StandsForForwards, slots_of, longest_arguments, longest_call, held_in};
+    ghost use Rattle.rb_forward.specs.Table.{Whatever, Becomes, GivenBy, LeftBy, end_of, IsNew, NoneWaitsAnew, OnlyWaitsAnew, is_waiting, AreOfDistinctCallers, is_wanted_slot, seen, count_lent};
 
     /// No entries yet, of at most `cap`, the first of which will have this xid. All of their memory is taken.
     pub fn new(

@@ -23,7 +23,7 @@ use Rattle.rb_forward.specs.declared.types.Outcome.TheVariants as outcomes
 use Rattle.rb_forward.specs.declared.types.Ended.{Ended}
 use Rattle.rb_proto.specs.declared.forwarding.Asked.{Asked}
 use Rattle.rb_forward.specs.Forwards.{Unsent, Forwards, can_start, unsent, started, reply, due, drop_caller, sent}
-use Rattle.rb_forward.specs.Table.{Table}
+use Rattle.rb_forward.specs.StandsFor.{Table}
 use Rattle.rb_proto.specs.declared.answers.Answer.{Answer}
 use Rattle.rb_proto.specs.declared.answers.Answer.TheVariants as answers
 use Rattle.rb_proto.specs.declared.context.Context.{Context}

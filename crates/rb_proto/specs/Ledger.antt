@@ -13,7 +13,8 @@ use Rattle.rb_stats.specs.Statistics.{Note}
 use Rattle.rb_stats.specs.Statistics.Note.{Called}
 use Rattle.rb_stats.specs.Stats.{StandsForHistory}
 use Rattle.rb_forward.specs.Forwards.{Forwards, no_forwards}
-use Rattle.rb_forward.specs.Table.{StandsForForwards, slots_of, OnlyWaitsAnew}
+use Rattle.rb_forward.specs.StandsFor.{StandsForForwards, slots_of}
+use Rattle.rb_forward.specs.Table.{OnlyWaitsAnew}
 pub use Rattle.rb_proto.specs.declared.books.Books.{Books}
 
 -- the daemon's own rows, the accepted changes, the history of the calls, and the forwarded ones, in their order

@@ -4,7 +4,7 @@ use Rattle.rb_xdr.specs.Kept.{Kept}
 use Rattle.rb_registry.specs.Registry.{Registry, slots_of}
 use Rattle.rb_stats.specs.Stats.{most_keys}
 use Rattle.rb_forward.specs.Costs.{start_cost, end_cost}
-use Rattle.rb_forward.specs.Table.{longest_arguments}
+use Rattle.rb_forward.specs.StandsFor.{longest_arguments}
 use Rattle.rb_proto.specs.declared.books.Books.{Books}
 use Rattle.rb_proto.specs.ListReplies.{part_room}
 

@@ -65,7 +65,8 @@ impl Books {
     ghost use Rattle.rb_forward.specs.Costs.{sent_cost, unsent_cost};
     ghost use Rattle.rb_forward.specs.Forwards.{can_be_sent};
     ghost use Rattle.rb_forward.specs.Outcomes.{PassesWithin};
-    ghost use Rattle.rb_forward.specs.Table.{slots_of, seen, count_lent, longest_call, is_waiting, IsNew, NoneWaitsAnew};
+    ghost use Rattle.rb_forward.specs.StandsFor.{slots_of, longest_call};
+    ghost use Rattle.rb_forward.specs.Table.{seen, count_lent, is_waiting, IsNew, NoneWaitsAnew};
     ghost use Rattle.rb_proto.specs.Forwarding.{replied, fell_due, caller_dropped, call_sent, unsent_of};
     ghost use Rattle.rb_proto.specs.Puts.{ending_cost, room_cost};
     ghost use Rattle.rb_proto.specs.Answers.{wants_room, wants_room_in};

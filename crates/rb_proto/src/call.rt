@@ -1,7 +1,8 @@
 //! A call, and what it is answered (RFC 1833 sections 2.2 and 3.2).
 ghost use Rattle.std.specs.Prelude.{◌≡◌};
 ghost use Rattle.rb_xdr.specs.Meter.{PaysAtMost};
-ghost use Rattle.rb_forward.specs.Table.{slots_of, IsNew};
+ghost use Rattle.rb_forward.specs.StandsFor.{slots_of};
+ghost use Rattle.rb_forward.specs.Table.{IsNew};
 ghost use Rattle.rb_proto.specs.Ledger.{ActsAs, AreTied, OnlyCallerWaits, SameFrame};
 ghost use Rattle.rb_proto.specs.Arguments.{HasArgs};
 ghost use Rattle.rb_proto.specs.Forwarding.{StayUnlessForwarded};

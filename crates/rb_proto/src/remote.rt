@@ -35,7 +35,7 @@ impl RemoteCall {
     }
 
     /// The same with where it ends, or the first fault.
-    #[tactic(auto, unfolding(crate::specs::Remote::read_remote, rb_forward::specs::Table::longest_arguments))]
+    #[tactic(auto, unfolding(crate::specs::Remote::read_remote, rb_forward::specs::StandsFor::longest_arguments))]
     fn read_front(bytes: &[u8]) -> Result<(RemoteCall, usize), XdrFault>
         ensures { result ≡ read_remote bytes.now }
     {

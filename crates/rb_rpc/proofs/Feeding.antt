@@ -7,8 +7,8 @@ use Rattle.std.proofs.lemmas.List.Sums.{fold-append}
 use Rattle.std.proofs.lemmas.Bool.{eqb-true, ltb-false, ltb-true, lt-ltb, cond-true, cond-false}
 use Rattle.rb_xdr.specs.Xdr.{AreBytes, number, number_at}
 use Rattle.rb_xdr.proofs.Words.{number-number_at, number_at_small}
-use Rattle.rb_rpc.specs.Records.{Fragment, fragment_header, marking, markings, joined, is_empty, AreFragments, IsMarked, IsMarkedAs, is_last, fragment_end, is_cut, record_of, first_record, data_in, data_of}
-use Rattle.rb_rpc.specs.RecordLaws.{Records}
+use Rattle.rb_rpc.specs.Records.{Fragment, fragment_header, marking, markings, is_last, fragment_end, is_cut, record_of, first_record, data_in, data_of}
+use Rattle.rb_rpc.specs.RecordLaws.{joined, is_empty, AreFragments, IsMarked, IsMarkedAs, Records}
 use Rattle.rb_rpc.specs.Marks.{Marks, Place, Part, AreOpen, number_so_far, IsInHeader, IsAt, StandsForFed}
 use Rattle.rb_rpc.specs.Streams.{StandsForStream, RecordEnds, ArePart, StandsForMore, StreamGoesOn, RecordData, no_data, more_data, data_among, behind, behind_header, NoRecordEnded}
 use Rattle.rb_rpc.specs.declared.marks.Place.TheVariants.{Header, Data}

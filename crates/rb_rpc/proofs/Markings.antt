@@ -6,8 +6,8 @@ use Rattle.std.proofs.lemmas.Bool.{ltb-false, ltb-true, le-ltb, lt-ltb, cond-tru
 use Rattle.std.proofs.lemmas.List.Elements.{All-cons, All-nil}
 use Rattle.std.proofs.Math.Seq.{take-add}
 use Rattle.rb_xdr.specs.Xdr.{AreBytes, number, number_at}
-use Rattle.rb_rpc.specs.Records.{Fragment, fragment_header, marking, markings, joined, is_empty, AreFragments, IsMarked, IsMarkedAs, is_last, fragment_end, is_cut, record_of, first_record, data_in, data_of, fragment_size, cut_up, reply_fragments, marked}
-use Rattle.rb_rpc.specs.RecordLaws.{HasNoRecord, FirstRecordIsLeast, NoneWhereNoFrontIsOne, DataIsJoined, NoRecordBeginsAnother, IsReplyFragment, AreReplyFragments, RepliesAreMarked}
+use Rattle.rb_rpc.specs.Records.{Fragment, fragment_header, marking, markings, is_last, fragment_end, is_cut, record_of, first_record, data_in, data_of, fragment_size, cut_up, reply_fragments, marked}
+use Rattle.rb_rpc.specs.RecordLaws.{joined, is_empty, AreFragments, IsMarked, IsMarkedAs, HasNoRecord, FirstRecordIsLeast, NoneWhereNoFrontIsOne, DataIsJoined, NoRecordBeginsAnother, IsReplyFragment, AreReplyFragments, RepliesAreMarked}
 use Rattle.rb_xdr.proofs.Words.{AreBytes-drop, length-number, number_at-number, number-number_at, number_at_small}
 
 pub length-header : (len : ℕ) (last : Bool) → length (fragment_header len last) ≡ 4

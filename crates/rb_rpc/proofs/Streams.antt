@@ -3,8 +3,8 @@ use Rattle.std.proofs.Common.{◌≡◌, ℕ, List, [], ◌∷◌, ◌++◌, len
 use Rattle.std.specs.List.{flat_map}
 use Rattle.std.proofs.lemmas.List.{take-append-drop, take_at, drop_at}
 use Rattle.std.proofs.lemmas.List.Concat.{flat_map-append}
-use Rattle.rb_rpc.specs.Records.{IsMarked, first_record, data_of}
-use Rattle.rb_rpc.specs.RecordLaws.{AreMarked, HasNoRecord, Records, RecordsAreFirstOnes, RecordsEnd, RecordsAreUnique}
+use Rattle.rb_rpc.specs.RecordLaws.{IsMarked, AreMarked, HasNoRecord, Records, RecordsAreFirstOnes, RecordsEnd, RecordsAreUnique}
+use Rattle.rb_rpc.specs.Records.{first_record, data_of}
 use Rattle.rb_rpc.proofs.Markings.{some_is, record_again, data_again, first_is_least, has_none, none_where_no_front}
 
 abbrev all_of : List (List ℕ) → List ℕ

@@ -1,8 +1,36 @@
 -- What records of bytes are, in terms of the fragments.
-use Rattle.std.specs.Prelude.{◌≡◌, ℕ, ◌<◌, ◌≤◌, ◌↔◌, false, List, [], ◌∷◌, ◌++◌, length, take, drop, Some, None, All, ⊤}
+use Rattle.std.specs.Prelude.{◌≡◌, ℕ, ◌≤◌, ◌<◌, ◌↔◌, ◌^◌, Bool, false, true, List, ⊤, [], ◌∷◌, ◌++◌, length, take, drop, All, Some, None}
 use Rattle.std.specs.List.{flat_map}
 use Rattle.rb_xdr.specs.Xdr.{AreBytes}
-use Rattle.rb_rpc.specs.Records.{Fragment, IsMarked, IsMarkedAs, joined, first_record, data_of, fragment_size, reply_fragments, marked}
+use Rattle.rb_rpc.specs.Records.{Fragment, first_record, data_of, marked, markings, fragment_size, reply_fragments}
+
+-- ---- the relation
+
+abbrev pub is_empty : {A : Type 0} → List A → Bool
+is_empty [] = true
+is_empty (x ∷ xs) = false
+
+-- a fragment has the flag exactly where none follows it
+abbrev pub AreFragments : List Fragment → Type 0
+AreFragments [] = ⊤
+AreFragments (f ∷ more) = (length f.content < 2 ^ 31) × (f.last ≡ is_empty more) × AreFragments more
+
+abbrev pub joined : List Fragment → List ℕ
+joined fragments = flat_map (λ f. f.content) fragments
+
+-- The bytes are a marked record of these fragments.
+pub record IsMarkedAs (fragments : List Fragment) (bytes : List ℕ) : Type 0 where
+  pub some : is_empty fragments ≡ false
+  pub fragmented : AreFragments fragments
+  pub spelled : bytes ≡ markings fragments
+
+-- The bytes are a marked record of the data `content`.
+pub record IsMarked (bytes content : List ℕ) : Type 0 where
+  pub fragments : List Fragment
+  pub marked : IsMarkedAs fragments bytes
+  pub content_is : content ≡ joined fragments
+
+-- ---- the first record of bytes
 
 -- The first n bytes are a marked record, and no shorter front is one.
 pub record IsFirstRecord (n : ℕ) (bytes : List ℕ) : Type 0 where

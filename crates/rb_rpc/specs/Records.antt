@@ -1,8 +1,8 @@
 -- Record marking (RFC 5531 section 11).
-use Rattle.std.specs.Prelude.{◌≡◌, ℕ, zero, suc, ◌+◌, ◌%◌, ◌^◌, ◌<◌, nat_lt, not, Bool, true, false, if◌then◌else◌, List, [], ◌∷◌, ◌++◌, length, take, drop, slice_range, Option, Some, None, ⊤}
-use Rattle.std.specs.Option.{option_map}
+use Rattle.std.specs.Prelude.{zero, ℕ, suc, ◌+◌, ◌%◌, nat_lt, ◌^◌, not, Bool, false, true, List, [], if◌then◌else◌, ◌∷◌, ◌++◌, length, take, drop, Option, slice_range, Some, None}
 use Rattle.std.specs.List.{flat_map}
-use Rattle.rb_xdr.specs.Xdr.{number, number_at}
+use Rattle.std.specs.Option.{option_map}
+use Rattle.rb_xdr.specs.Xdr.{number_at, number}
 
 -- ---- the relation
 
@@ -19,32 +19,8 @@ fragment_header len last = number (if last then 2 ^ 31 + len else len)
 abbrev pub marking : Fragment → List ℕ
 marking f = fragment_header (length f.content) f.last ++ f.content
 
-abbrev pub is_empty : {A : Type 0} → List A → Bool
-is_empty [] = true
-is_empty (x ∷ xs) = false
-
--- a fragment has the flag exactly where none follows it
-abbrev pub AreFragments : List Fragment → Type 0
-AreFragments [] = ⊤
-AreFragments (f ∷ more) = (length f.content < 2 ^ 31) × (f.last ≡ is_empty more) × AreFragments more
-
 abbrev pub markings : List Fragment → List ℕ
 markings fragments = flat_map marking fragments
-
-abbrev pub joined : List Fragment → List ℕ
-joined fragments = flat_map (λ f. f.content) fragments
-
--- The bytes are a marked record of these fragments.
-pub record IsMarkedAs (fragments : List Fragment) (bytes : List ℕ) : Type 0 where
-  pub some : is_empty fragments ≡ false
-  pub fragmented : AreFragments fragments
-  pub spelled : bytes ≡ markings fragments
-
--- The bytes are a marked record of the data `content`.
-pub record IsMarked (bytes content : List ℕ) : Type 0 where
-  pub fragments : List Fragment
-  pub marked : IsMarkedAs fragments bytes
-  pub content_is : content ≡ joined fragments
 
 -- ---- the same as functions of the bytes
 

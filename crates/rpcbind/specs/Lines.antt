@@ -7,7 +7,7 @@ use Rattle.rb_rpc.specs.declared.peer.Peer.{Peer}
 use Rattle.rb_core.specs.Step.{Event}
 use Rattle.rb_core.specs.Step.Event.{Datagram, Open, Bytes, Pending, Gave, Closed, NextLost, Unsent, Sent, Forward, Expire}
 use Rattle.rb_core.specs.declared.events.Event as event_type
-use Rattle.rb_core.specs.StandsFor.{event_of, events_of}
+use Rattle.rb_core.specs.Runs.{event_of, events_of}
 use Rattle.rpcbind.specs.declared.lines.DatagramFields as fields_type
 use Rattle.rpcbind.specs.declared.lines.Line as line_type
 use Rattle.rpcbind.specs.declared.lines.Line.TheVariants as lines

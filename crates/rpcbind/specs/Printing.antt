@@ -10,7 +10,7 @@ use Rattle.rb_forward.specs.Forwards.{Unsent}
 use Rattle.rb_core.specs.declared.types.CoreFault.{CoreFault}
 use Rattle.rb_core.specs.declared.types.CoreFault.TheVariants.{NoMemory, BadLimits, Full, Spent, Gone}
 use Rattle.rb_core.specs.declared.events.Output as output_type
-use Rattle.rb_core.specs.StandsFor.{outputs_of}
+use Rattle.rb_core.specs.Runs.{outputs_of}
 use Rattle.rb_core.specs.Step.{Output}
 use Rattle.rb_core.specs.Step.Output.{Replied, Silent, Opened, Refused, Took, TookAndClosed, IsPending, Done, TooMuch, LostIs, Forwarded, UnsentIs, Ignored, Nothing, ConnectionClosed, Ready, RepliedTo}
 

@@ -3,10 +3,9 @@ use Rattle.std.specs.Prelude.{◌≡◌, ℕ, ◌+◌, not, IsTrue, List, take, 
 use Rattle.std.specs.Io.Buffered.{writer_contents}
 use Rattle.std.specs.declared.io.buffered.BufWriter.{BufWriter}
 use Rattle.rb_core.specs.State.{State, are_good, opening}
-use Rattle.rb_core.specs.Step.{Event, Output}
+use Rattle.rb_core.specs.Step.{Event, Output, run}
 use Rattle.rb_core.specs.declared.events.Event as event_type
-use Rattle.rb_core.specs.StandsFor.{events_of}
-use Rattle.rb_core.specs.Run.{run}
+use Rattle.rb_core.specs.Runs.{events_of}
 use Rattle.rpcbind.specs.declared.lines.ReadFault.{ReadFault}
 use Rattle.rpcbind.specs.declared.lines.ReadFault.TheVariants as reading
 use Rattle.rpcbind.specs.declared.running.Beginning.{Beginning}

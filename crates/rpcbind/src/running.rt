@@ -2,7 +2,8 @@
 ghost use Rattle.std.specs.Prelude.{◌≡◌, ◌≤◌, ◌⊎◌, [], IsTrue, IfOk, IfErr, OnOk};
 ghost use Rattle.std.specs.Io.Buffered.{writer_buffer};
 ghost use Rattle.rb_core.specs.State.{are_good};
-ghost use Rattle.rb_core.specs.StandsFor.{StandsFor, outputs_of};
+ghost use Rattle.rb_core.specs.StandsFor.{StandsFor};
+ghost use Rattle.rb_core.specs.Runs.{outputs_of};
 ghost use Rattle.rpcbind.specs.Lines.{read};
 ghost use Rattle.rpcbind.specs.Printing.{report};
 ghost use Rattle.rpcbind.specs.Running.{first, run_of, status_of, BufWrites, IsEnoughOf, IsFaultOf, IsCoreFault, IsRefused, Prints, Reads, Replays, Refuses};

@@ -6,7 +6,8 @@ use Rattle.rb_core.specs.Calls.{longest_reply}
 use Rattle.rb_core.specs.Step.{step, datagram}
 use Rattle.rb_core.specs.Step.Event.{Datagram}
 use Rattle.rb_core.specs.Step.Output.{Silent, Replied}
-use Rattle.rb_core.specs.StandsFor.{outcome_with, datagram_cost}
+use Rattle.rb_core.specs.Core.{outcome_with}
+use Rattle.rb_core.specs.CallCosts.{datagram_cost}
 use Rattle.rb_core.proofs.EntriesKept.{step-follows}
 use Rattle.rb_core.proofs.RunSteps.{datagram_shown, shown_of, one_then_other}
 use Rattle.rb_core.proofs.Spending.{datagram_paid, at_most}

@@ -19,17 +19,17 @@ use Rattle.rb_proto.specs.Callers.{own_rows, is_local, owner_text}
 use Rattle.rb_proto.specs.Netids.{netid_named, which_of, netid_of_prot}
 use Rattle.rb_proto.specs.Results.{result_bytes, row_bytes}
 use Rattle.rb_proto.specs.Types.{read_mapping, read_rpcb, read_netbuf, read_entry}
-use Rattle.rb_forward.specs.Table.{longest_arguments}
+use Rattle.rb_forward.specs.StandsFor.{longest_arguments}
 use Rattle.rb_forward.specs.Forwards.{xid_of, question, longest_results, outcome_of, is_same_peer, is_answered, reply, due, drop_caller, later, can_start, next_entry, started, unsent, can_be_sent, sent}
 use Rattle.rb_proto.specs.Remote.{read_remote}
 use Rattle.rb_proto.specs.Forwarding.{outcome_note, address_to_forward, forward_of, forward_call, end_note, replied, fell_due, caller_dropped, call_sent, forwarded_bytes}
 use Rattle.rb_proto.specs.Answers.{row_to_set, adds_row}
-use Rattle.rb_core.specs.Evictions.{begins, kept_removals, crowding, evicted}
-use Rattle.rb_core.specs.Deadlines.{is_due, first_due, expiring}
+use Rattle.rb_core.specs.Losses.{begins, kept_removals, crowding, evicted, is_due, first_due, expiring}
 use Rattle.rb_core.specs.Ending.{forward_reply, expire_connection, expire}
 use Rattle.rb_core.specs.Calls.{is_served, request_of, call_of, message_of, longest_reply, fitting, outcome}
-use Rattle.rb_core.specs.Connections.{taking, reading, settled, when_given, giving, is_live, live_connection, number_for, opening_of, first_lost, is_there, without_number, closing_of}
-use Rattle.rb_core.specs.Giving.{longest_fragment, owed, pending_of, window}
+use Rattle.rb_core.specs.Connections.{taking, reading, settled, when_given, giving, is_live, live_connection, number_for, opening_of, first_lost, is_there, without_number, closing_of, longest_fragment, pending_of}
+use Rattle.rb_core.specs.Laws.{owed}
+use Rattle.rb_core.specs.StandsFor.{window}
 use Rattle.rb_core.specs.Step.{serve, answering, bytes, pending, gave, open_connection, close_connection, next_lost, datagram, unsent_call, sent_call, step}
 use Rattle.std.specs.Fmt.{digits}
 use Rattle.rb_core.specs.WorkedForwards.{ForwardWithoutRow, RefusedCallsAreCounted, ForwardUntilDeadline, IndirectPasses, CallitPasses, TargetRefuses, DeniedIsSystemErr, CallitIsSilent, GreatestResults, NoPlace, GreatestArguments, SilentOnTcp, ForwardPassesOnTcp, ForwardOnTcpIsWhole, ClosedCallerIsDropped, EachEndsInTurn}

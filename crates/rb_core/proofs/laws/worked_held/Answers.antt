@@ -4,17 +4,15 @@ use Rattle.std.specs.Map.{values_of}
 use Rattle.rb_registry.specs.Registry.{slots_of as rows_of}
 use Rattle.rb_registry.specs.Slots.{is_dropped, held_in as held_of_rows}
 use Rattle.rb_stats.specs.Statistics.{stat, items_of, keys_of}
-use Rattle.rb_forward.specs.Table.{slots_of as calls_of, held_in as held_of_calls, longest_arguments}
+use Rattle.rb_forward.specs.StandsFor.{slots_of as calls_of, held_in as held_of_calls, longest_arguments}
 use Rattle.rb_forward.specs.Forwards.{no_forwards}
 use Rattle.rb_forward.proofs.Stands.{held_alike}
 use Rattle.rb_uaddr.specs.Uaddr.{text_of, port_bytes}
 use Rattle.rb_proto.specs.Callers.{own_rows}
 use Rattle.rb_core.specs.declared.slot.Slot.{Slot}
 use Rattle.rb_core.specs.Calls.{longest_reply}
-use Rattle.rb_core.specs.Giving.{longest_fragment}
-use Rattle.rb_core.specs.Slots.{StandsForConnection, held_in}
-use Rattle.rb_core.specs.StandsFor.{source_of}
-use Rattle.rb_core.specs.Streams.{Source}
+use Rattle.rb_core.specs.Connections.{longest_fragment}
+use Rattle.rb_core.specs.StandsFor.{StandsForConnection, held_in, source_of, Source}
 use Rattle.std.specs.Fmt.{digits}
 use Rattle.rb_core.proofs.laws.worked_held.Goals as goal
 

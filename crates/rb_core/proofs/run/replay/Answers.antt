@@ -1,6 +1,6 @@
 use Rattle.std.proofs.Common.{take, ◌≡◌, ◌∷◌, [], ◌++◌, refl, ap, ◌∙◌}
 use Rattle.std.proofs.lemmas.List.{map_push}
-use Rattle.rb_core.specs.StandsFor.{events_of, output_of, outputs_of}
+use Rattle.rb_core.specs.Runs.{events_of, output_of, outputs_of}
 use Rattle.rb_core.proofs.Runs.{one_more, pays_more, pays_within}
 use Rattle.rb_core.proofs.StepBounds.{paid_within, held_within_after}
 use Rattle.rb_core.proofs.run.replay.Goals as goal

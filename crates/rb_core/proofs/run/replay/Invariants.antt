@@ -2,7 +2,8 @@ use Rattle.std.proofs.Common.{◌≡◌, take}
 use Rattle.rb_xdr.specs.Meter.{PaysAtMost}
 use Rattle.rb_core.specs.State.{State}
 use Rattle.rb_core.specs.Costs.{run_cost}
-use Rattle.rb_core.specs.StandsFor.{StandsFor, events_of, outputs_of, Happened}
+use Rattle.rb_core.specs.StandsFor.{StandsFor}
+use Rattle.rb_core.specs.Runs.{events_of, outputs_of, Happened}
 use Rattle.rb_core.proofs.run.replay.Given as goal
 
 abbrev pub invariant-loop-event : goal.invariant-loop-event

@@ -1,5 +1,5 @@
 use Rattle.std.proofs.Common.{◌≡◌, ◌+◌, drop, length}
-use Rattle.rb_core.specs.StandsFor.{events_of}
+use Rattle.rb_core.specs.Runs.{events_of}
 use Rattle.rpcbind.specs.Lines.{events_from, lines_of, with_front}
 use Rattle.rpcbind.proofs.lines.read_lines.Given as goal
 

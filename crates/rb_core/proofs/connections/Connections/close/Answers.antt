@@ -6,7 +6,8 @@ use Rattle.rb_xdr.specs.Meter.{Meter}
 use Rattle.rb_core.specs.contracts.connections.Connections.{the_view}
 use Rattle.rb_core.specs.declared.types.CoreFault.TheVariants.{Gone}
 use Rattle.rb_core.specs.Connections.{closing_of}
-use Rattle.rb_core.specs.Slots.{Acts, StandsForConnections, HasBuffers, AreSpare, IsWithin}
+use Rattle.rb_core.specs.Slots.{Acts, HasBuffers, AreSpare}
+use Rattle.rb_core.specs.StandsFor.{StandsForConnections, IsWithin}
 use Rattle.rb_core.proofs.Holding.{its_buffers, charge_fits, held_without}
 use Rattle.rb_core.proofs.Slots.{acts_from, none_closed, one_closed, slot_is_there, numbered-without}
 use Rattle.rb_xdr.proofs.PoolLemmas.{distinct-without, length-without}

@@ -3,7 +3,8 @@ use Rattle.rb_xdr.specs.Pool.{Pool}
 use Rattle.rb_core.specs.contracts.connections.Connections.{the_view}
 use Rattle.rb_core.specs.declared.slot.Slot.{Slot}
 use Rattle.rb_core.specs.Awaits.{has_idle}
-use Rattle.rb_core.specs.Slots.{IsTable, StandsForConnections}
+use Rattle.rb_core.specs.Slots.{IsTable}
+use Rattle.rb_core.specs.StandsFor.{StandsForConnections}
 use Rattle.rb_core.specs.Listings.{IsToldSlot, AreTold}
 use Rattle.rb_core.proofs.Freed.{freed_from}
 use Rattle.rb_core.proofs.Evicting.{table_evicts, table_evicted, told_evicted, all_keep, later_evicted, length_evicted, idle_evicted, none_freed_by_eviction, stays_evicted}

@@ -2,8 +2,9 @@ use Rattle.std.proofs.Common.{◌≡◌, [], None, refl, sym, subst}
 use Rattle.rb_xdr.proofs.PoolLemmas.{All-value_at}
 use Rattle.rb_core.specs.declared.slot.Stage.TheVariants as stages
 use Rattle.rb_core.specs.contracts.connections.Connections.{the_view}
-use Rattle.rb_core.specs.Deadlines.{expiring}
-use Rattle.rb_core.specs.Slots.{Acts, Table, StandsForConnections, HasBuffers, IsWithin}
+use Rattle.rb_core.specs.Losses.{expiring}
+use Rattle.rb_core.specs.Slots.{Acts, HasBuffers}
+use Rattle.rb_core.specs.StandsFor.{Table, StandsForConnections, IsWithin}
 use Rattle.rb_core.proofs.Holding.{stays_changed}
 use Rattle.rb_core.proofs.Slots.{acts_from, slot_is_there, table_changed}
 use Rattle.rb_core.specs.Awaits.{NoneIsFreed}

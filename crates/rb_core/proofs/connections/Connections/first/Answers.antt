@@ -1,5 +1,6 @@
 use Rattle.std.proofs.Common.{[], ap, sym, subst}
-use Rattle.rb_core.specs.Slots.{StandsForConnections, HasBuffers}
+use Rattle.rb_core.specs.StandsFor.{StandsForConnections}
+use Rattle.rb_core.specs.Slots.{HasBuffers}
 use Rattle.rb_xdr.proofs.PoolLemmas.{All-value_at}
 use Rattle.rb_core.proofs.Slots.{found_slot, no_slot, slot_is_there}
 use Rattle.std.specs.Map.{values_of}

@@ -1,15 +1,15 @@
 use Rattle.std.proofs.Common.{◌+◌, ◌*◌, [], length, Err, ap, sym, subst, ◌∙◌, arith}
-use Rattle.rb_core.specs.Costs.{give_cost}
+use Rattle.rb_core.specs.CallCosts.{give_cost}
 use Rattle.rb_xdr.specs.Meter.{Meter}
 use Rattle.rb_core.specs.contracts.connections.Connections.{the_view}
 use Rattle.rb_core.specs.declared.types.CoreFault.TheVariants.{Gone}
 use Rattle.rb_core.specs.Connections.{on_live, giving}
-use Rattle.rb_core.specs.Slots.{Acts, StandsForConnections, HasBuffers}
+use Rattle.rb_core.specs.Slots.{Acts, HasBuffers}
+use Rattle.rb_core.specs.StandsFor.{StandsForConnections, Source}
 use Rattle.rb_xdr.proofs.PoolLemmas.{All-value_at}
 use Rattle.rb_core.proofs.Holding.{its_buffers, charge_fits, held_few, stays_changed, recounted_cost}
 use Rattle.rb_core.proofs.Slots.{acts_from, gone_acts, live_acts, slot_is_there, table_changed}
 use Rattle.rb_core.proofs.Freed.{none_freed, freed_from}
-use Rattle.rb_core.specs.Streams.{Source}
 use Rattle.rb_core.specs.Listings.{IsToldSlot, AreTold}
 use Rattle.rb_core.proofs.Telling.{told_changed}
 use Rattle.std.specs.Map.{values_of}

@@ -1,4 +1,4 @@
-use Rattle.rb_core.specs.Streams.{Source}
+use Rattle.rb_core.specs.StandsFor.{Source}
 use Rattle.rb_core.proofs.connections.Connections.go_on.Goals as goal
 
 pub returns-in-Told-clause-told : goal.returns-in-Told-clause-told

@@ -4,9 +4,9 @@ use Rattle.rb_proto.specs.ListReplies.{rest_of}
 use Rattle.rb_core.specs.contracts.connections.Connections.{the_view}
 use Rattle.rb_core.specs.Calls.{Outcome, Outcome as said}
 use Rattle.rb_core.specs.Connections.{changed_at, settled}
-use Rattle.rb_core.specs.Streams.{Source}
-use Rattle.rb_core.specs.Slots.{StandsForConnections, HasBuffers}
-use Rattle.rb_core.specs.Costs.{show_list_cost}
+use Rattle.rb_core.specs.StandsFor.{Source, StandsForConnections}
+use Rattle.rb_core.specs.Slots.{HasBuffers}
+use Rattle.rb_core.specs.CallCosts.{show_list_cost}
 use Rattle.rb_core.proofs.Holding.{its_buffers, charge_fits, held_few, stays_changed, recounted_cost}
 use Rattle.rb_core.proofs.Slots.{gone_stays, live_changed, slot_is_there, table_changed}
 use Rattle.rb_core.proofs.Freed.{found_live, one_freed, only_from}

@@ -5,7 +5,8 @@ use Rattle.std.proofs.lemmas.List.Elements.{All-push}
 use Rattle.rb_core.specs.contracts.connections.Connections.{the_view}
 use Rattle.rb_core.specs.declared.types.CoreFault.TheVariants.{Full, Spent}
 use Rattle.rb_core.specs.Connections.{opening_of}
-use Rattle.rb_core.specs.Slots.{Acts, StandsForConnections, HasBuffers, AreBuffers, AreSpare}
+use Rattle.rb_core.specs.Slots.{Acts, HasBuffers, AreBuffers, AreSpare}
+use Rattle.rb_core.specs.StandsFor.{StandsForConnections}
 use Rattle.rb_core.proofs.Holding.{room_for_one, within_pushed, held_pushed}
 use Rattle.rb_core.proofs.Slots.{acts_from, full_acts, spent_acts, opened_acts, numbered-more}
 use Rattle.rb_core.proofs.Freed.{none_freed_by_open, freed_from}

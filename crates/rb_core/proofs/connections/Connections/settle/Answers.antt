@@ -3,8 +3,9 @@ use Rattle.rb_xdr.specs.Meter.{Meter}
 use Rattle.rb_core.specs.contracts.connections.Connections.{the_view}
 use Rattle.rb_core.specs.Connections.{changed_at, settled}
 use Rattle.rb_core.specs.Costs.{show_cost}
-use Rattle.rb_core.specs.StandsFor.{outcome_with}
-use Rattle.rb_core.specs.Slots.{StandsForConnections, HasBuffers}
+use Rattle.rb_core.specs.Core.{outcome_with}
+use Rattle.rb_core.specs.StandsFor.{StandsForConnections}
+use Rattle.rb_core.specs.Slots.{HasBuffers}
 use Rattle.rb_core.proofs.Holding.{its_buffers, charge_fits, held_few, stays_changed, recounted_cost}
 use Rattle.rb_core.proofs.Slots.{gone_stays, live_changed, slot_is_there, table_changed}
 use Rattle.std.proofs.Common.{◌≡◌, true, refl}

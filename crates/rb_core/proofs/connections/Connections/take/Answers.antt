@@ -3,8 +3,9 @@ use Rattle.rb_xdr.specs.Meter.{Meter}
 use Rattle.rb_core.specs.contracts.connections.Connections.{the_view}
 use Rattle.rb_core.specs.declared.types.CoreFault.TheVariants.{Gone}
 use Rattle.rb_core.specs.Connections.{on_live}
-use Rattle.rb_core.specs.Costs.{received_cost}
-use Rattle.rb_core.specs.Slots.{Acts, Shows, StandsForConnections, HasBuffers, feeding, arguments_on}
+use Rattle.rb_core.specs.CallCosts.{received_cost}
+use Rattle.rb_core.specs.Slots.{Acts, Shows, HasBuffers, feeding, arguments_on}
+use Rattle.rb_core.specs.StandsFor.{StandsForConnections}
 use Rattle.rb_core.proofs.Holding.{its_buffers, charge_fits, held_few, stays_changed, recounted_cost}
 use Rattle.rb_core.proofs.Slots.{acts_from, gone_acts, live_acts, gone_arguments, live_arguments, slot_is_there, table_changed}
 use Rattle.rb_xdr.proofs.PoolLemmas.{length-with}

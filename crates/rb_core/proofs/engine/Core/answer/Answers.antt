@@ -10,14 +10,15 @@ use Rattle.rb_core.specs.contracts.engine.Core.{the_view}
 use Rattle.rb_core.specs.declared.message.Message.{Message}
 use Rattle.rb_core.specs.declared.slot.Heard.{Heard}
 use Rattle.rb_core.specs.Calls.{Outcome, message_with, outcome, is_no_call}
-use Rattle.rb_core.specs.StandsFor.{Held, StandsFor, context_of, answering_heard, without_arguments}
+use Rattle.rb_core.specs.StandsFor.{Held, StandsFor, Table}
+use Rattle.rb_core.specs.Core.{context_of, answering_heard, without_arguments}
 use Rattle.rb_core.specs.State.{State}
 use Rattle.rb_core.specs.Slots.{Acts}
-use Rattle.rb_forward.specs.Table.{slots_of, is_waiting, OnlyWaitsAnew}
+use Rattle.rb_forward.specs.StandsFor.{slots_of}
+use Rattle.rb_forward.specs.Table.{is_waiting, OnlyWaitsAnew}
 use Rattle.rb_core.specs.Awaits.{has_idle, AreAwaited}
-use Rattle.rb_core.specs.Rooms.{MakesRoom, source_in}
+use Rattle.rb_core.specs.Listings.{MakesRoom, source_in}
 use Rattle.rb_core.specs.Serving.{served_in, kind_in}
-use Rattle.rb_core.specs.Slots.{Table}
 use Rattle.rb_core.proofs.Answering.{told_for_room, told_after, served_by, list_after}
 use Rattle.rb_core.proofs.Awaited.{awaited_when_answered}
 use Rattle.rb_core.proofs.Steps.{answer_acts}

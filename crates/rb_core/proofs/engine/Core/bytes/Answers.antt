@@ -3,13 +3,13 @@ use Rattle.std.proofs.lemmas.Result.{err_from_is_err_and}
 use Rattle.rb_core.specs.contracts.engine.Core.{the_view}
 use Rattle.rb_xdr.specs.Meter.{PaysAtMost}
 use Rattle.rb_registry.specs.Registry.{slots_of}
-use Rattle.rb_core.specs.Costs.{look_cost, slot_count, kept_count, take_cost, recount_cost, answer_cost}
-use Rattle.rb_core.specs.StandsFor.{Held, StandsFor}
+use Rattle.rb_core.specs.CallCosts.{look_cost, slot_count, kept_count}
+use Rattle.rb_core.specs.Costs.{take_cost, recount_cost, answer_cost}
+use Rattle.rb_core.specs.StandsFor.{Held, StandsFor, StandsForConnections, source_of}
 use Rattle.rb_core.proofs.Spending.{answered_cost, at_most}
-use Rattle.rb_core.specs.Slots.{Acts, StandsForConnections, feeding}
+use Rattle.rb_core.specs.Slots.{Acts, feeding}
 use Rattle.rb_core.specs.Connections.{on_live}
 use Rattle.rb_core.proofs.Steps.{bytes_refused, quiet_acts, heard_acts, nothing_heard, with_heard}
-use Rattle.rb_core.specs.StandsFor.{source_of}
 use Rattle.rb_core.proofs.Begun.{began, acts_begun}
 use Rattle.rb_core.proofs.CallBounds.{look_within, quiet_within, bytes_within}
 use Rattle.rb_core.proofs.engine.Core.bytes.Goals as goal

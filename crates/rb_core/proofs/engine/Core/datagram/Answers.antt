@@ -1,5 +1,6 @@
 use Rattle.std.proofs.Common.{◌≡◌, List, ℕ, refl, subst, ◌∙◌, rules}
-use Rattle.rb_forward.specs.Table.{slots_of, OnlyWaitsAnew}
+use Rattle.rb_forward.specs.StandsFor.{slots_of}
+use Rattle.rb_forward.specs.Table.{OnlyWaitsAnew}
 use Rattle.rb_core.specs.Awaits.{AreAwaited}
 use Rattle.rb_core.proofs.Awaited.{awaited_by_udp}
 use Rattle.rb_rpc.specs.declared.call.Verdict.{Verdict}
@@ -11,15 +12,14 @@ use Rattle.rb_proto.specs.Ledger.{ActsAs}
 use Rattle.rb_core.specs.contracts.engine.Core.{the_view}
 use Rattle.rb_core.specs.declared.message.Message.{Message}
 use Rattle.rb_core.specs.Calls.{Outcome, outcome, message_with, message_of, reply_in}
-use Rattle.rb_core.specs.StandsFor.{outcome_with}
+use Rattle.rb_core.specs.Core.{outcome_with}
 use Rattle.rb_rpc.specs.declared.peer.Caller.TheVariants.{Udp}
-use Rattle.rb_core.specs.StandsFor.{Held}
+use Rattle.rb_core.specs.StandsFor.{Held, Table}
 use Rattle.rb_core.specs.declared.serve.Served.TheVariants.{Told}
 use Rattle.rb_core.specs.declared.types.Outcome.{Outcome as Written}
 use Rattle.rb_core.specs.declared.types.Outcome.TheVariants as outcomes
 use Rattle.rb_core.specs.Serving.{IsWritten}
-use Rattle.rb_core.specs.Rooms.{MakesRoom}
-use Rattle.rb_core.specs.Slots.{Table}
+use Rattle.rb_core.specs.Listings.{MakesRoom}
 use Rattle.rb_core.proofs.Answering.{told_for_room, told_after, served_by}
 use Rattle.rb_core.proofs.Steps.{datagram_acts}
 use Rattle.rb_core.proofs.Begun.{began, acts_begun}

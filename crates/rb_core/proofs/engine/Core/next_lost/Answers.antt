@@ -1,8 +1,7 @@
 use Rattle.std.proofs.Common.{sym, subst}
 use Rattle.rb_core.specs.Step.{next_lost}
-use Rattle.rb_core.specs.StandsFor.{StandsFor}
+use Rattle.rb_core.specs.StandsFor.{StandsFor, source_of}
 use Rattle.rb_core.specs.contracts.engine.Core.{the_view}
-use Rattle.rb_core.specs.StandsFor.{source_of}
 use Rattle.rb_core.proofs.engine.Core.next_lost.Goals as goal
 
 pub returns-clause-lost : goal.returns-clause-lost

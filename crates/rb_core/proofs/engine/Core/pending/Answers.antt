@@ -1,9 +1,10 @@
 use Rattle.std.proofs.Common.{◌+◌, refl, sym, subst}
 use Rattle.rb_xdr.specs.Meter.{PaysAtMost}
-use Rattle.rb_core.specs.Costs.{look_cost, pending_cost}
+use Rattle.rb_core.specs.CallCosts.{look_cost}
+use Rattle.rb_core.specs.Costs.{pending_cost}
 use Rattle.rb_core.specs.Step.{pending}
 use Rattle.rb_core.specs.StandsFor.{Held, StandsFor, source_of}
-use Rattle.rb_core.specs.StepLaws.{lent_by}
+use Rattle.rb_core.specs.Events.{lent_by}
 use Rattle.rb_core.specs.contracts.engine.Core.{the_view}
 use Rattle.rb_core.proofs.Begun.{begins_at}
 use Rattle.rb_core.proofs.CallBounds.{pending_within}

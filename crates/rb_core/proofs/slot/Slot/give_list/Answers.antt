@@ -1,6 +1,6 @@
 use Rattle.std.proofs.Common.{refl, ap, ◌∙◌, arith}
 use Rattle.rb_xdr.specs.Kept.{Kept}
-use Rattle.rb_core.specs.Streams.{Source, rest_behind}
+use Rattle.rb_core.specs.StandsFor.{Source, rest_behind}
 use Rattle.rb_core.proofs.OneSlot.{none_given, list_given, list_goes_on, list_is_over, streaming_phase}
 use Rattle.rb_core.proofs.Streaming.{pending_of_list_count, list_stays, list_moves, list_ends, goes_on_shown}
 use Rattle.rb_core.proofs.slot.Slot.give_list.Goals as goal

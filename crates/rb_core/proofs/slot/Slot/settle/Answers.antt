@@ -1,7 +1,7 @@
 use Rattle.std.proofs.Common.{None, refl, subst}
 use Rattle.rb_xdr.specs.Kept.{Kept}
-use Rattle.rb_core.specs.Connections.{settled}
-use Rattle.rb_core.specs.Giving.{IsGiving, owed_of}
+use Rattle.rb_core.specs.Connections.{settled, owed_of}
+use Rattle.rb_core.specs.StandsFor.{IsGiving}
 use Rattle.rb_core.proofs.slot.Slot.settle.Goals as goal
 
 pub returns-in-NoCall-clause-stands : goal.returns-in-NoCall-clause-stands

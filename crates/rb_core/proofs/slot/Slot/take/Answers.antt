@@ -7,8 +7,8 @@ use Rattle.rb_core.specs.State.{Phase}
 use Rattle.rb_core.specs.Connections.{taking, taking_on, fed_in}
 use Rattle.rb_core.specs.Connections.Taking.{TakesNone}
 use Rattle.rb_core.specs.declared.giving.Stream.{Stream}
-use Rattle.rb_core.specs.Streams.{Source}
-use Rattle.rb_core.specs.Slots.{StandsForPhase, IsBeforePiece}
+use Rattle.rb_core.specs.StandsFor.{Source, StandsForPhase}
+use Rattle.rb_core.specs.Slots.{IsBeforePiece}
 use Rattle.rb_core.proofs.Slots.{reads_nothing}
 use Rattle.rb_core.proofs.OneSlot.{idle_phase, reading_phase, owing_phase, streaming_phase, awaiting_phase, lost_phase, feeding_acts, taken_arguments, nothing_of_nothing, nothing_where_owing, nothing_where_awaiting, nothing_where_lost, some_where_fed, mark_of_idle, mark_of_reading}
 use Rattle.rb_core.proofs.slot.Slot.take.Goals as goal

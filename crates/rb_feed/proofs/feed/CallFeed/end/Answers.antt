@@ -1,7 +1,7 @@
 use Rattle.std.proofs.Common.{length, sym, subst, ◌∙◌}
 use Rattle.rb_rpc.specs.Verdict.{EndsWithin}
 use Rattle.rb_rpc.specs.declared.call.Verdict.{Verdict}
-use Rattle.rb_feed.specs.Feeds.{max_head}
+use Rattle.rb_feed.specs.Laws.{max_head}
 use Rattle.rb_feed.proofs.CallFeeds.{ends_rightly, ends_within, ends_short}
 use Rattle.rb_feed.proofs.feed.CallFeed.end.Goals as goal
 

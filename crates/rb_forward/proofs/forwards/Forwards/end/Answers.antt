@@ -3,13 +3,12 @@ use Rattle.std.specs.Prelude.{All}
 use Rattle.std.specs.Map.{values_of}
 use Rattle.rb_xdr.specs.Meter.{Meter}
 use Rattle.rb_forward.specs.declared.types.Ended.{Ended}
-use Rattle.rb_forward.specs.Forwards.{Forwards}
-use Rattle.rb_forward.specs.Table.{StandsForForwards, IsSpare}
+use Rattle.rb_forward.specs.Forwards.{Forwards, is_connection}
+use Rattle.rb_forward.specs.StandsFor.{StandsForForwards}
+use Rattle.rb_forward.specs.Table.{IsSpare, is_wanted_slot, is_waiting}
 use Rattle.rb_forward.proofs.Stands.{nothing_ends, all_stand, none_taken_out, first_wanted, found_first, one_ends, others_stand, is_there}
 use Rattle.rb_forward.proofs.TableSteps.{its_buffer, fits_in_held, table_ended}
 use Rattle.rb_forward.specs.declared.entries.Slot.{Slot}
-use Rattle.rb_forward.specs.Forwards.{is_connection}
-use Rattle.rb_forward.specs.Table.{is_wanted_slot, is_waiting}
 use Rattle.rb_forward.proofs.Callers.{alone-without, any-without}
 use Rattle.rb_forward.proofs.forwards.Forwards.end.Goals as goal
 

@@ -1,7 +1,7 @@
 use Rattle.std.proofs.Common.{sym, subst, ap, ◌∙◌}
 use Rattle.std.specs.Map.{values_of}
 use Rattle.rb_forward.specs.Forwards.{held}
-use Rattle.rb_forward.specs.Table.{StandsForForwards}
+use Rattle.rb_forward.specs.StandsFor.{StandsForForwards}
 use Rattle.rb_forward.proofs.Stands.{held_alike}
 use Rattle.rb_forward.proofs.TableSteps.{held_within}
 use Rattle.rb_forward.proofs.forwards.Forwards.held.Goals as goal

@@ -1,15 +1,14 @@
 use Rattle.std.proofs.Common.{refl, sym, subst, ap, ◌∙◌, arith, ◌≡◌, false}
 use Rattle.rb_xdr.specs.Meter.{Meter}
 use Rattle.rb_forward.specs.declared.entries.Wanted.TheVariants as wanted
-use Rattle.rb_forward.specs.Table.{StandsForForwards}
+use Rattle.rb_forward.specs.StandsFor.{StandsForForwards}
 use Rattle.rb_forward.proofs.Stands.{none_sent, one_sent, sent_stands, next_sent, is_there, first_wanted, found_first}
-use Rattle.rb_forward.specs.Table.{emptied}
+use Rattle.rb_forward.specs.Table.{emptied, is_wanted_slot, is_waiting}
 use Rattle.rb_forward.proofs.TableSteps.{its_buffer, fits_in_held, table_sent}
 use Rattle.std.specs.Map.{values_of}
 use Rattle.rb_forward.specs.declared.entries.Slot.{Slot}
 use Rattle.rb_forward.specs.declared.entries.Wanted.{Wanted}
 use Rattle.rb_forward.specs.Forwards.{is_connection}
-use Rattle.rb_forward.specs.Table.{is_wanted_slot, is_waiting}
 use Rattle.rb_forward.proofs.Tables.{some_is}
 use Rattle.rb_forward.proofs.Callers.{any-changed}
 use Rattle.rb_forward.proofs.forwards.Forwards.sent.Goals as goal

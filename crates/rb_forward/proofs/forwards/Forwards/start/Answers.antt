@@ -2,13 +2,12 @@ use Rattle.std.proofs.Common.{◌+◌, ◌<◌, length, refl, sym, ap, subst, �
 use Rattle.std.specs.Prelude.{All}
 use Rattle.std.specs.Map.{values_of}
 use Rattle.rb_xdr.specs.Kept.{Kept}
-use Rattle.rb_forward.specs.Forwards.{later}
-use Rattle.rb_forward.specs.Table.{StandsForForwards, IsNew, IsSpare, IsBuffer}
+use Rattle.rb_forward.specs.Forwards.{later, is_connection}
+use Rattle.rb_forward.specs.StandsFor.{StandsForForwards}
+use Rattle.rb_forward.specs.Table.{IsNew, IsSpare, IsBuffer, is_waiting}
 use Rattle.rb_forward.proofs.Stands.{as_many, no_place, no_number, place_and_number, stands_new, started_stands, next_started}
 use Rattle.rb_forward.proofs.TableSteps.{room_for_call, table_started}
 use Rattle.rb_forward.specs.declared.entries.Slot.{Slot}
-use Rattle.rb_forward.specs.Forwards.{is_connection}
-use Rattle.rb_forward.specs.Table.{is_waiting}
 use Rattle.rb_forward.proofs.Callers.{any-more}
 use Rattle.rb_forward.proofs.forwards.Forwards.start.Goals as goal
 

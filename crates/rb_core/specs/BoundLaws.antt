@@ -1,15 +1,16 @@
--- Laws of held bytes: they never pass their bound, and a connection that takes bytes holds less than its share.
-use Rattle.std.specs.Prelude.{◌≡◌, ◌≤◌, ◌<◌, ◌^◌, ℕ, ◌+◌, ◌*◌, Bool, true, is_some, count_by}
+-- Laws of bounds: what is held never passes its bound, and no event takes more steps than its own.
+use Rattle.std.specs.Prelude.{◌≡◌, ℕ, ◌≤◌, ◌<◌, ◌+◌, ◌^◌, count_by, ◌*◌, Bool, is_some, true, List}
 use Rattle.std.specs.List.{AllZip}
 use Rattle.std.specs.Map.{values_of}
 use Rattle.rb_core.specs.declared.slot.Slot.{Slot}
-use Rattle.rb_core.specs.State.{State, Connection}
+use Rattle.rb_core.specs.State.{State, Connection, are_good}
 use Rattle.rb_core.specs.Connections.{fed_in}
-use Rattle.rb_core.specs.Reading.{longest_arguments}
-use Rattle.rb_core.specs.Slots.{charge}
-use Rattle.rb_core.specs.StandsFor.{Held, StandsFor}
-use Rattle.rb_core.specs.HeldBytes.{held, bytes_bound}
-use Rattle.rb_core.specs.Laws.{IsReached}
+use Rattle.rb_core.specs.StandsFor.{longest_arguments, charge, Held, StandsFor}
+use Rattle.rb_core.specs.Bounds.{held, bytes_bound, bound_at, run_bound}
+use Rattle.rb_core.specs.Step.{IsReached, Event}
+use Rattle.rb_core.specs.Costs.{event_cost, run_cost}
+
+-- ---- held bytes: a connection that takes bytes holds less than its share
 
 -- it is Idle or Reading
 abbrev pub takes_bytes : Connection → Bool
@@ -38,7 +39,14 @@ pub record NeverPasses (core : Held) : Type 0 where
   pub within : (s : State) → StandsFor core s → IsReached s → s.setting.listener.port < 2 ^ 16
       → held core ≤ bytes_bound s.setting.limits
 
--- From each such state that the old core stood for, the new one holds no more than the bound.
-abbrev pub StaysWithinBound : Held → Held → Type 0
-StaysWithinBound old new =
-    (s : State) → StandsFor old s → IsReached s → s.setting.listener.port < 2 ^ 16 → held new ≤ bytes_bound s.setting.limits
+-- ---- steps
+
+-- in each state that a run reaches
+abbrev pub StepsAreBounded : Type 0
+StepsAreBounded =
+    (s : State) → IsReached s → are_good s.setting.limits ≡ true → (event : Event) → event_cost s event ≤ bound_at s event
+
+-- and so over a run from there
+abbrev pub RunsAreBounded : Type 0
+RunsAreBounded =
+    (s : State) → IsReached s → are_good s.setting.limits ≡ true → (events : List Event) → run_cost s events ≤ run_bound s events

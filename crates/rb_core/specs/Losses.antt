@@ -1,8 +1,11 @@
--- Rows that are kept for lists that are streamed, and the connections that are closed for room.
-use Rattle.std.specs.Prelude.{ℕ, ◌+◌, nat_lt, not, Bool, false, ◌&&◌, if◌then◌else◌, List, [], ◌∷◌, length, map, filter, filter_map, Option, Some, None}
+-- When a connection becomes Lost: at its deadline, or where the rows that are kept for its list are in the way. Moments are
+-- in milliseconds.
+use Rattle.std.specs.Prelude.{ℕ, ◌+◌, nat_lt, nat_le, not, Bool, false, List, ◌&&◌, [], if◌then◌else◌, ◌∷◌, find, length, map, filter_map, filter, Option, Some, None}
+use Rattle.std.specs.Option.{option_map}
 use Rattle.std.specs.List.{list_any, list_all}
 use Rattle.rb_registry.specs.declared.slot.Slot.{Slot}
 use Rattle.rb_registry.specs.Slots.{all_slots}
+use Rattle.rb_forward.specs.Forwards.{later}
 use Rattle.rb_proto.specs.declared.context.Context.{Context}
 use Rattle.rb_proto.specs.Ledger.{Ledger, rows_in}
 use Rattle.rb_proto.specs.Answers.{wants_room}
@@ -10,7 +13,60 @@ use Rattle.rb_core.specs.declared.message.Message.{Message}
 use Rattle.rb_core.specs.declared.message.Message.TheVariants as says
 use Rattle.rb_core.specs.State.{State, Phase, Connection, Connections}
 use Rattle.rb_core.specs.State.Phase.{Idle, Reading, Owing, Awaiting, Lost}
-use Rattle.rb_core.specs.Deadlines.{lost}
+use Rattle.rb_core.specs.Connections.{changed_at}
+
+-- ---- how long it may take
+
+-- from the opening, the last byte of a reply given, or the end of a silent call to the first byte of the next record
+abbrev pub idle_time : ℕ
+idle_time = 300000
+
+-- from the first byte of a record to its end
+abbrev pub reading_time : ℕ
+reading_time = 30000
+
+-- from the end of a call, or a byte of its reply given, to the next byte of the reply given
+abbrev pub owing_time : ℕ
+owing_time = 30000
+
+-- In this phase, from the mark on. A call that is awaited has a deadline of its own.
+abbrev pub time_in : Phase → Option ℕ
+time_in Idle = Some idle_time
+time_in (Reading fed) = Some reading_time
+time_in (Owing owed) = Some owing_time
+time_in Awaiting = None
+time_in Lost = None
+
+-- ---- what is due
+
+-- the moment from which a connection of this mark and phase is due; a sum ends at the greatest moment
+abbrev pub deadline : ℕ → Phase → Option ℕ
+deadline mark phase = option_map (later mark) (time_in phase)
+
+abbrev pub has_come : ℕ → Option ℕ → Bool
+has_come clock None = false
+has_come clock (Some moment) = nat_le moment clock
+
+unfoldable pub is_due : ℕ → Connection → Bool
+is_due clock c = has_come clock (deadline c.mark c.phase)
+
+-- The connections are in the order of their numbers, so the first is that of least number.
+unfoldable pub first_due : ℕ → Connections → Option ℕ
+first_due clock c = option_map (λ (x : Connection). x.number) (find (is_due clock) c.all)
+
+-- ---- what becomes of it
+
+-- nothing else of it changes
+abbrev pub lost : Connection → Connection
+lost c = record c { phase = Lost }
+
+abbrev pub with_lost : Option ℕ → Connections → Connections
+with_lost None c = c
+with_lost (Some id) c = changed_at id lost c
+
+-- The due connection of least number, if there is one, becomes Lost.
+unfoldable pub expiring : ℕ → Connections → Option ℕ × Connections
+expiring clock c = (first_due clock c, with_lost (first_due clock c) c)
 
 -- ---- rows that are kept
 

@@ -1,0 +1,74 @@
+-- Bounds, by the limits: of the bytes that a core holds, and of the steps that an event takes.
+use Rattle.std.specs.Prelude.{ℕ, ◌+◌, ◌*◌, List, [], ◌∷◌, length, Some}
+use Rattle.std.specs.Map.{values_of}
+use Rattle.rb_registry.specs.Registry.{slots_of as rows_of}
+use Rattle.rb_registry.specs.Slots.{held_in as held_of_rows}
+use Rattle.rb_stats.specs.Stats.{key_count, most_keys}
+use Rattle.rb_forward.specs.StandsFor.{slots_of as calls_of, held_in as held_of_calls, longest_call}
+use Rattle.rb_core.specs.declared.types.Limits.{Limits}
+use Rattle.rb_core.specs.StandsFor.{held_in as held_of_connections, Held}
+use Rattle.rb_core.specs.Calls.{longest_reply}
+use Rattle.rb_core.specs.Connections.{longest_fragment}
+use Rattle.rb_core.specs.Step.{Event, Output, step}
+use Rattle.rb_core.specs.Step.Output.{Took, IsPending, TookAndClosed, Replied, Done, UnsentIs, RepliedTo}
+use Rattle.rb_core.specs.Step.Event.{Gave, Forward, Datagram}
+use Rattle.rb_core.specs.State.{State}
+
+-- ---- held bytes
+
+-- what the connections hold, the rows, live or kept, the keys of the statistics, the forwarded calls, and the last reply
+-- over UDP
+abbrev pub held : Held → ℕ
+held core =
+    held_of_connections (values_of core.connections.slots) + held_of_rows (rows_of core.books.registry) + 48 * key_count core.books.stats
+    + held_of_calls (calls_of core.books.forwards) + length core.reply
+
+-- the longest call that is served: a head of 840 bytes and arguments of 8,816
+abbrev pub greatest_call : ℕ
+greatest_call = 9656
+
+-- the longest address text of a row
+abbrev pub longest_address : ℕ
+longest_address = 24
+
+abbrev pub bytes_bound : Limits → ℕ
+bytes_bound limits =
+    limits.conns * (128 + greatest_call + longest_fragment) + limits.rows * (32 + longest_address) + limits.forwards * (128 + longest_call)
+    + most_keys * 48 + longest_reply
+
+-- ---- steps
+
+abbrev pub count_in : Output → ℕ
+count_in (Took n) = n
+count_in (TookAndClosed n) = n
+count_in other = 0
+
+-- the bytes that an event takes, by its output: a datagram counts whole, and what is refused takes none
+abbrev pub bytes_in : Event → Output → ℕ
+bytes_in (Datagram now peer content) output = length content
+bytes_in (Forward now from message) output = length message
+bytes_in event output = count_in output
+
+-- the bytes that it lends, or tells that they were given
+abbrev pub bytes_out : Event → Output → ℕ
+bytes_out (Gave now id n) Done = n
+bytes_out event (IsPending bytes) = length bytes
+bytes_out event (Replied reply) = length reply
+bytes_out event (UnsentIs (Some unsent)) = length unsent.call
+bytes_out event (RepliedTo peer reply) = length reply
+bytes_out event other = 0
+
+-- for an event at these limits that takes so many bytes, and lends so many or tells that so many were given
+abbrev pub steps_bound : Limits → ℕ → ℕ → ℕ
+steps_bound limits taken given =
+    8 * taken + 8 * given + 64 * (limits.conns + limits.rows + most_keys + limits.forwards) + 16 * greatest_call
+
+-- of an event in a state
+abbrev pub bound_at : State → Event → ℕ
+bound_at s event =
+    let output : Output = (step s event).0 in steps_bound s.setting.limits (bytes_in event output) (bytes_out event output)
+
+-- of each event from the state that it meets, added up
+abbrev pub run_bound : State → List Event → ℕ
+run_bound s [] = 0
+run_bound s (event ∷ events) = bound_at s event + run_bound (step s event).1 events

@@ -1,0 +1,133 @@
+-- What calls cost at most, by what is held.
+use Rattle.std.specs.Prelude.{◌≡◌, ℕ, ◌+◌, ◌*◌, Bool, false, true, List, IfSome, length, Option, Some, Result, None, Ok, Err}
+use Rattle.rb_xdr.specs.Meter.{Meter, PaysAtMost}
+use Rattle.rb_registry.specs.Registry.{Registry, slots_of}
+use Rattle.rb_proto.specs.declared.books.Books.{Books}
+use Rattle.rb_proto.specs.Puts.{statistics_cost}
+use Rattle.rb_core.specs.declared.slot.Heard.{Heard}
+use Rattle.rb_core.specs.declared.slot.Received.{Received}
+use Rattle.rb_core.specs.declared.types.CoreFault.{CoreFault}
+use Rattle.rb_core.specs.declared.types.Taken.{Taken}
+use Rattle.rb_core.specs.Costs.{entry_cost, ended_cost, serve_cost, read_cost, answer_cost, listed_cost, given_cost, recount_cost, exchange_cost, take_cost, begin_list_cost, find_cost, make_room_cost}
+use Rattle.rb_core.specs.StandsFor.{Table, Held, StandsFor}
+use Rattle.rb_core.specs.Connections.{Taking, taking, live_connection}
+use Rattle.rb_core.specs.Connections.Taking.{TakesNone, GoesOn, Ends}
+use Rattle.rb_core.specs.State.{State}
+
+-- ---- on one connection
+
+-- what it costs to show the next fragment: with the looks at how long the reply and the fragment before it are
+abbrev pub advance_cost : ℕ
+advance_cost = 2056
+
+abbrev pub show_list_cost : Registry → ℕ
+show_list_cost registry = listed_cost (length (slots_of registry))
+
+abbrev pub give_cost : Registry → ℕ
+give_cost registry = given_cost (length (slots_of registry))
+
+-- the same of a connection among others
+abbrev pub giving_cost : Registry → ℕ
+giving_cost registry = give_cost registry + recount_cost
+
+abbrev pub heard_cost : Option Heard → ℕ
+heard_cost None = 0
+heard_cost (Some heard) = exchange_cost
+
+-- what it costs to take so many bytes of a piece, and to exchange the buffer of the record that ended with them
+abbrev pub received_cost : Received → ℕ
+received_cost got = take_cost got.count + heard_cost got.heard
+
+abbrev pub taken_cost : Result Received CoreFault → ℕ
+taken_cost (Ok got) = received_cost got + recount_cost
+taken_cost (Err fault) = 0
+
+-- what it costs to take bytes, nothing where the call was refused
+abbrev pub taking_cost : Result Taken CoreFault → ℕ
+taking_cost (Ok taken) = take_cost taken.count + recount_cost
+taking_cost (Err fault) = 0
+
+-- ---- by what is kept
+
+abbrev pub list_cost : ℕ → Registry → ℕ
+list_cost connections registry = begin_list_cost connections (length (slots_of registry))
+
+-- how many rows the books keep
+abbrev pub kept_count : Books → ℕ
+kept_count books = length (slots_of books.registry)
+
+-- what it costs to put results: the rows are walked twice, and the reply is written
+abbrev pub put_results_cost : Books → ℕ
+put_results_cost books = 4 * kept_count books + 9038 + statistics_cost
+
+-- what it costs to serve a message on the old books, which become the new ones
+abbrev pub serving_cost : Books → Books → ℕ
+serving_cost old new = serve_cost (kept_count old) (kept_count new)
+
+-- how many connections are there, and what it costs to look one of them up
+abbrev pub slot_count : Table → ℕ
+slot_count table = length table.slots
+
+abbrev pub look_cost : Table → ℕ
+look_cost table = find_cost (slot_count table)
+
+abbrev pub room_cost_of : Table → Books → ℕ
+room_cost_of table books = make_room_cost (slot_count table) (kept_count books)
+
+-- how many forwarded calls there may be
+abbrev pub forwards_cap : Books → ℕ
+forwards_cap books = books.forwards.cap
+
+-- ---- on a core
+
+-- to make room for a row
+abbrev pub room_cost : Held → ℕ
+room_cost held = room_cost_of held.connections held.books
+
+-- to serve a message, once there is room for the row that it adds
+abbrev pub roomy_cost : Held → Held → ℕ
+roomy_cost old new = room_cost old + serve_cost (kept_count old.books) (kept_count new.books)
+
+-- to answer what a record said
+abbrev pub answering_cost : Held → Held → ℕ
+answering_cost old new = read_cost + roomy_cost old new + list_cost (slot_count old.connections) new.books.registry
+
+-- to answer a datagram
+abbrev pub datagram_cost : Held → Held → ℕ
+datagram_cost old new = 2 + roomy_cost old new
+
+-- to count bytes as given
+abbrev pub gave_cost : Held → ℕ
+gave_cost held = look_cost held.connections + giving_cost held.books.registry
+
+-- to take bytes where no record ends
+abbrev pub quiet_cost : Held → Result Taken CoreFault → ℕ
+quiet_cost held result = look_cost held.connections + taking_cost result
+
+-- to take bytes, and to answer the record that ends with them
+abbrev pub bytes_cost : Held → Held → Result Taken CoreFault → ℕ
+bytes_cost old new result =
+    quiet_cost old result
+    + answer_cost (slot_count old.connections) (kept_count old.books) (kept_count new.books)
+
+-- to close a connection, and to end the call that was forwarded for it
+abbrev pub closing_cost : Held → ℕ
+closing_cost held = look_cost held.connections + 5 + entry_cost (forwards_cap held.books)
+
+-- to end an entry, and to tell its caller
+abbrev pub ending_cost : Held → ℕ
+ending_cost held = ended_cost (forwards_cap held.books) (slot_count held.connections)
+
+abbrev pub has_ended : Taking → Bool
+has_ended TakesNone = false
+has_ended (GoesOn fed) = false
+has_ended (Ends n content) = true
+
+-- No record ends in the piece on the connection of the number.
+abbrev pub NoRecordEnds : State → ℕ → List ℕ → Type 0
+NoRecordEnds s id piece = IfSome (live_connection id s.connections.all) (λ c. has_ended (taking c.phase piece) ≡ false)
+
+-- Where no record ends in the piece on the connection, no more is paid than `quiet_cost`.
+abbrev pub IsCheapIfQuiet : Held → ℕ → List ℕ → Result Taken CoreFault → Meter → Meter → Type 0
+IsCheapIfQuiet held id piece result before now =
+    (s : State) → StandsFor held s → NoRecordEnds s id piece → PaysAtMost before now (quiet_cost held result)

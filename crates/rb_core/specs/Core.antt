@@ -1,0 +1,86 @@
+-- What is true of all that a core holds, and what its calls answer.
+use Rattle.std.specs.Prelude.{◌≡◌, ℕ, ◌≤◌, Bool, List, [], length, None}
+use Rattle.rb_xdr.specs.Kept.{Kept}
+use Rattle.rb_rpc.specs.declared.peer.Caller.{Caller}
+use Rattle.rb_rpc.specs.declared.peer.Caller.TheVariants.{Tcp}
+use Rattle.rb_proto.specs.declared.books.Books.{Books}
+use Rattle.rb_proto.specs.declared.context.Context.{Context}
+use Rattle.rb_proto.specs.Ledger.{AreTied}
+use Rattle.rb_core.specs.declared.types.Outcome as outcome
+use Rattle.rb_core.specs.declared.types.Outcome.TheVariants as outcomes
+use Rattle.rb_core.specs.declared.slot.Heard.{Heard}
+use Rattle.rb_core.specs.declared.types.CoreFault.{CoreFault}
+use Rattle.rb_core.specs.declared.types.CoreFault.TheVariants.{NoMemory, Full, BadLimits, Gone, Spent}
+use Rattle.rb_core.specs.State.{Setting, State}
+use Rattle.rb_core.specs.Calls.{Outcome, Outcome as said, message_with, longest_reply}
+use Rattle.rb_core.specs.StandsFor.{Table, Held, StandsFor}
+use Rattle.rb_core.specs.Slots.{IsDraft, Acts}
+use Rattle.rb_core.specs.Awaits.{AreAwaited}
+use Rattle.rb_core.specs.Listings.{AreTold}
+use Rattle.rb_core.specs.Step.Output.{Forwarded, Silent}
+use Rattle.rb_core.specs.Step.{settled_in, serve_message}
+
+-- What is true of all that a core holds: it has one meter, its draft is empty between two events, each connection for which
+-- a call is forwarded awaits it, the registry can tell the lists that are given, and the reply has so many bytes.
+pub record IsCore (setting : Setting) (connections : Table) (books : Books) (reply draft arguments : Kept) (reply_len : ℕ) : Type 0 where
+  pub conns : connections.conns ≡ setting.limits.conns
+  pub few_conns : setting.limits.conns ≤ 256
+  pub few_rows : setting.limits.rows ≤ 4096
+  pub len : reply_len ≡ length reply.bytes
+  pub short : length reply.bytes ≤ longest_reply
+  pub limit : books.registry.limit ≡ setting.limits.rows
+  pub forwards : books.forwards.cap ≡ setting.limits.forwards
+  pub few : setting.limits.forwards ≤ 64
+  pub first_xid : books.forwards.first_xid ≡ setting.first_xid
+  pub awaited : AreAwaited books.forwards connections
+  pub told : AreTold (record { host = setting.listener.host; registry = books.registry }) connections
+  pub tied : AreTied reply.tie books
+  pub connections_tie : connections.tie ≡ reply.tie
+  pub reply_cap : reply.cap ≡ longest_reply
+  pub is_draft : IsDraft reply.tie draft
+  pub empty : draft.bytes ≡ []
+  pub has_arguments : IsDraft reply.tie arguments
+
+-- ---- what calls answer
+
+-- what the code says of a message, with the reply that it wrote
+abbrev pub outcome_with : outcome.Outcome → List ℕ → Outcome
+outcome_with outcomes.NoCall reply = said.NoCall
+outcome_with outcomes.Reply reply = said.Reply reply None
+outcome_with outcomes.Forwarded reply = said.Forwarded
+outcome_with outcomes.Silent reply = said.Silent
+
+-- the same with the reply in this buffer
+abbrev pub given_in : outcome.Outcome → Kept → Outcome
+given_in given kept = outcome_with given kept.bytes
+
+-- what a call from a caller sees
+abbrev pub context_of : Held → Caller → Context
+context_of held caller = record {
+  listener = held.setting.listener;
+  limit = held.setting.limits.rows;
+  forwards = held.setting.limits.forwards;
+  clock = held.clock;
+  caller = caller;
+}
+
+-- what a record says of this verdict and these arguments is answered
+abbrev pub answering_heard : ℕ → Heard → List ℕ → State → Bool × State
+answering_heard id heard arguments s =
+    settled_in id (serve_message s (Tcp id heard.peer) (message_with heard.verdict arguments) arguments)
+
+-- the same once the arguments are taken out
+abbrev pub without_arguments : Held → Held
+without_arguments held = record held { arguments = [] }
+
+-- An act that answers something, with the reply that is held after it.
+abbrev pub ActsWithReply : (State → Outcome × State) → Held → Held → outcome.Outcome → Type 0
+ActsWithReply act old new given = Acts StandsFor act old new (outcome_with given new.reply)
+
+-- the number of a refusal
+abbrev pub fault_number : CoreFault → ℕ
+fault_number NoMemory = 1
+fault_number BadLimits = 2
+fault_number Full = 3
+fault_number Spent = 4
+fault_number Gone = 5

@@ -1,0 +1,85 @@
+-- What one event does to a core, and what is told of its steps.
+use Rattle.std.specs.Prelude.{◌≡◌, ℕ, ◌≤◌, ◌<◌, ◌+◌, ◌-◌, ◌^◌, min, List, length, Result, Ok, IfOk, Err}
+use Rattle.std.specs.Borrow.{Fml, Bor, MutBor}
+use Rattle.std.specs.Io.BufRead.{Rests}
+use Rattle.rb_xdr.specs.declared.memory.NoMemory.{NoMemory}
+use Rattle.rb_xdr.specs.Meter.{Meter, PaysAtMost}
+use Rattle.rb_core.specs.declared.events.Event as event
+use Rattle.rb_core.specs.declared.events.Output as output
+use Rattle.rb_core.specs.declared.types.CoreFault.{CoreFault}
+use Rattle.rb_core.specs.declared.types.Taken.{Taken}
+use Rattle.rb_core.specs.State.{State}
+use Rattle.rb_core.specs.Step.{IsReached, Event, Output, step}
+use Rattle.rb_core.specs.StandsFor.{Held, StandsFor}
+use Rattle.rb_core.specs.Runs.{output_of}
+use Rattle.rb_core.specs.Costs.{event_cost}
+use Rattle.rb_core.specs.contracts.engine.Core.{the_row}
+use Rattle.rb_core.specs.Bounds.{steps_bound}
+
+-- ---- what it does
+
+-- Letting the event happen from the state gives this, and what is held stands for the state after it.
+abbrev pub Happens : State → Event → output.Output → Held → Type 0
+Happens s event given held = (output_of given ≡ (step s event).0) × StandsFor held (step s event).1
+
+-- The event has happened to a core, which pays at most its cost on the one meter.
+pub record HasHappened (event : Event) (old new : Held) (before now : Meter) (given : output.Output) : Type 0 where
+  pub step : (s : State) → StandsFor old s → Happens s event given new
+  pub cost : (s : State) → StandsFor old s → PaysAtMost before now (event_cost s event)
+  pub tie : new.tie ≡ old.tie
+  pub meter : now.tie ≡ before.tie
+
+-- Where there is a result, the event has happened and gave it.
+abbrev pub MayHappen : Event → Held → Held → Meter → Meter → Result output.Output NoMemory → Type 0
+MayHappen event old new before now result = IfOk result (λ given. HasHappened event old new before now given)
+
+-- ---- what is told of its steps
+
+-- the greatest count that a meter shows
+abbrev pub greatest_count : ℕ
+greatest_count = 2 ^ 128 - 1
+
+-- the count that a meter shows
+abbrev pub shown : Meter → ℕ
+shown meter = min meter.steps greatest_count
+
+-- Nothing is another but what the meter showed as the last event began.
+abbrev pub OnlyBegins : Held → Held → Type 0
+OnlyBegins old new = new ≡ record old { begun = new.begun }
+
+-- Nothing is another, and the meter showed this as the last event began.
+abbrev pub BeginsAt : Meter → Held → Held → Type 0
+BeginsAt before old new = new ≡ record old { begun = shown before }
+
+-- so once what is lent is given back
+abbrev pub LendsFrom : MutBor Held → Meter → Fml
+LendsFrom core before = Rests the_row core (BeginsAt before core.now)
+
+-- These are the steps since the meter was `before`, if the last event began then, while its count is below the greatest.
+abbrev pub TellsSteps : Held → Meter → ℕ → Type 0
+TellsSteps core now steps =
+    (before : Meter) → core.begun ≡ shown before → before.steps ≤ now.steps → now.steps < greatest_count
+    → before.steps + steps ≡ now.steps
+
+-- ---- the steps of one call
+
+-- the bytes that a call takes, by its result: what is refused takes none
+abbrev pub taken_by : Result Taken CoreFault → ℕ
+taken_by (Ok taken) = taken.count
+taken_by (Err fault) = 0
+
+-- the bytes that it lends
+abbrev pub lent_by : Result (Bor (List ℕ)) CoreFault → ℕ
+lent_by (Ok bytes) = length bytes.now
+lent_by (Err fault) = 0
+
+-- so many bytes that it tells as given
+abbrev pub given_by : Result (Unit {0}) CoreFault → ℕ → ℕ
+given_by (Ok u) n = n
+given_by (Err fault) n = 0
+
+-- A call that takes so many bytes, and lends or tells as given so many, pays no more than the bound, whatever state that a
+-- run reaches the core stood for.
+pub record StaysWithinSteps (core : Held) (taken given : ℕ) (before now : Meter) : Type 0 where
+  pub within : (s : State) → StandsFor core s → IsReached s
+      → PaysAtMost before now (steps_bound core.setting.limits taken given)
