@@ -12,7 +12,7 @@ use Rattle.rb_core.specs.Calls.{Outcome, outcome}
 use Rattle.rb_core.specs.StandsFor.{Held, source_of, Table}
 use Rattle.rb_core.specs.Core.{context_of}
 use Rattle.rb_core.specs.Slots.{StaysTable}
-use Rattle.rb_core.specs.Listings.{MakesRoom, source_in, AreTold, stamps_of}
+use Rattle.rb_core.specs.Listings.{Evicts, source_in, AreTold, stamps_of}
 use Rattle.rb_core.specs.Serving.{HasList}
 use Rattle.rb_core.proofs.Crowding.{told_on, stands_on, stamps_low}
 use Rattle.rb_core.proofs.Steps.{Served}
@@ -38,7 +38,7 @@ module _ (view : Held) (caller : Caller) (context : Context) (is : context ≡ c
     pub told_after : AreTold (source_in view.setting.listener.host books) table
     told_after = subst (λ (x : Context). AreTold (source_in x.listener.host books) table) is (told_on context.listener.host mid.registry books.registry cursors table low told)
 
-    pub served_by : (message : Message) (arguments : List ℕ) (given : Outcome) → MakesRoom context message view.connections view.books table mid → ActsAs (outcome context message arguments) mid books given
+    pub served_by : (message : Message) (arguments : List ℕ) (given : Outcome) → Evicts context message view.connections view.books table mid → ActsAs (outcome context message arguments) mid books given
         → SameFrame view.books mid → SameFrame mid books → StaysTable view.connections table → Served (context_of view caller) view message arguments table books given
     served_by message arguments given makes acts first second stays =
         subst (λ (x : Context). Served x view message arguments table books given) is (record {

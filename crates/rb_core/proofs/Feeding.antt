@@ -12,7 +12,7 @@ use Rattle.rb_rpc.specs.Verdict.{verdict}
 use Rattle.rb_rpc.proofs.RecordCuts.{stays}
 use Rattle.rb_rpc.proofs.Feeding.{none_ended}
 use Rattle.rb_feed.specs.Feeds.{StandsForCall}
-use Rattle.rb_core.specs.Reading.{Fed, Intake, Reader, HasData, IsInside, HasMoreData, fed_until, StandsBehind}
+use Rattle.rb_core.specs.Reading.{Fed, Intake, Reader, HasData, IsInside, HasMore, fed_until, StandsBehind}
 use Rattle.rb_core.specs.StandsFor.{kept_of, IsReading}
 
 -- Behind this front of a piece, where the reading began with the first reader and buffer.
@@ -71,7 +71,7 @@ nothing_fed reader intake kept begins = record {
 
 pub run_fed : (first_marks : Marks) (first : Intake) (was : Kept) (marks : Marks) (intake : Intake) (kept : Kept) (ended : Bool) (before run : List ℕ) → IsInside first_marks first was before
     → RecordEnds first_marks run ended → StandsForMore first_marks run ended marks
-    → HasMoreData first_marks first was run intake kept
+    → HasMore first_marks first was run intake kept
     → IsBehindRun marks intake kept ended before run
 run_fed first_marks first was marks intake kept ended before run h ends stands goes_on = record {
   ends = ends before h.marks_are;

@@ -30,7 +30,7 @@ use Rattle.rb_core.specs.Slots.{Acts, Shows, StaysTable, received, fed_with, fee
 use Rattle.rb_core.specs.Step.{context_in, with_ledger, with_reply, settled_in, serve_message, serve, answering, when_taken, bytes_to, bytes, datagram, gave, open_connection, close_connection, moved, dropped_with, unsent_call, sent_call}
 use Rattle.rb_core.specs.CallCosts.{NoRecordEnds, has_ended}
 use Rattle.rb_core.specs.Core.{context_of, answering_heard}
-use Rattle.rb_core.specs.Listings.{MakesRoom, source_in}
+use Rattle.rb_core.specs.Listings.{Evicts, source_in}
 use Rattle.rb_core.specs.Losses.{began_in, crowding, evicted, evicting, with_room}
 use Rattle.rb_registry.specs.Registry.{Registry}
 use Rattle.rb_core.proofs.Crowds.{begins_changed, evicted_changed, crowding_alike}
@@ -185,7 +185,7 @@ closed_refused old id table f acts = record {
 -- What serving a message did where a call sees this: room was made, and these connections are left.
 pub record Served (context : Context) (old : Held) (message : Message) (arguments : List ℕ) (table : Table) (books : Books) (given : Outcome) : Type 0 where
   pub mid : Books
-  pub makes : MakesRoom context message old.connections old.books table mid
+  pub makes : Evicts context message old.connections old.books table mid
   pub acts : ActsAs (outcome context message arguments) mid books given
   pub goes_on : (c : Connections) → StandsForConnections (source_in context.listener.host mid) table c → StandsForConnections (source_in context.listener.host books) table c
   pub frame : SameFrame old.books books

@@ -2,6 +2,7 @@
 use Rattle.std.specs.Prelude.{◌≡◌, ℕ, ◌+◌, ◌*◌, Bool, false, true, List, IfSome, length, Option, Some, Result, None, Ok, Err}
 use Rattle.rb_xdr.specs.Meter.{Meter, PaysAtMost}
 use Rattle.rb_registry.specs.Registry.{Registry, slots_of}
+use Rattle.rb_forward.specs.Costs.{unsent_cost}
 use Rattle.rb_proto.specs.declared.books.Books.{Books}
 use Rattle.rb_proto.specs.Puts.{statistics_cost}
 use Rattle.rb_core.specs.declared.slot.Heard.{Heard}
@@ -113,6 +114,10 @@ bytes_cost old new result =
 -- to close a connection, and to end the call that was forwarded for it
 abbrev pub closing_cost : Held → ℕ
 closing_cost held = look_cost held.connections + 5 + entry_cost (forwards_cap held.books)
+
+-- to lend a call of so many bytes that is to be sent
+abbrev pub lending_cost : Held → ℕ → ℕ
+lending_cost held count = unsent_cost (forwards_cap held.books) count
 
 -- to end an entry, and to tell its caller
 abbrev pub ending_cost : Held → ℕ

@@ -3,6 +3,7 @@ use Rattle.std.specs.Prelude.{◌≡◌, ℕ, ◌≤◌, Bool, List, [], length,
 use Rattle.rb_xdr.specs.Kept.{Kept}
 use Rattle.rb_rpc.specs.declared.peer.Caller.{Caller}
 use Rattle.rb_rpc.specs.declared.peer.Caller.TheVariants.{Tcp}
+use Rattle.rb_forward.specs.declared.types.Ended.{Ended}
 use Rattle.rb_proto.specs.declared.books.Books.{Books}
 use Rattle.rb_proto.specs.declared.context.Context.{Context}
 use Rattle.rb_proto.specs.Ledger.{AreTied}
@@ -17,7 +18,8 @@ use Rattle.rb_core.specs.StandsFor.{Table, Held, StandsFor}
 use Rattle.rb_core.specs.Slots.{IsDraft, Acts}
 use Rattle.rb_core.specs.Awaits.{AreAwaited}
 use Rattle.rb_core.specs.Listings.{AreTold}
-use Rattle.rb_core.specs.Step.Output.{Forwarded, Silent}
+use Rattle.rb_core.specs.declared.types.Told.{Told}
+use Rattle.rb_core.specs.Ending.{tell, told_at}
 use Rattle.rb_core.specs.Step.{settled_in, serve_message}
 
 -- What is true of all that a core holds: it has one meter, its draft is empty between two events, each connection for which
@@ -72,6 +74,15 @@ answering_heard id heard arguments s =
 -- the same once the arguments are taken out
 abbrev pub without_arguments : Held → Held
 without_arguments held = record held { arguments = [] }
+
+-- A record on the connection of a number that said this is answered, with the arguments that are held, and those are out then.
+abbrev pub AnswersHeard : ℕ → Heard → Held → Held → Bool → Type 0
+AnswersHeard id heard old new closed =
+    Acts StandsFor (answering_heard id heard old.arguments) (without_arguments old) new closed
+
+-- The caller of a call that ended is told how, where it ended by this datagram.
+abbrev pub TellsCaller : List ℕ → Ended → Held → Held → Told → Type 0
+TellsCaller message ended old new given = Acts StandsFor (tell ended.forward.caller (told_at message ended)) old new given
 
 -- An act that answers something, with the reply that is held after it.
 abbrev pub ActsWithReply : (State → Outcome × State) → Held → Held → outcome.Outcome → Type 0

@@ -9,7 +9,7 @@ use Rattle.rb_core.specs.declared.events.Output as output
 use Rattle.rb_core.specs.declared.types.CoreFault.{CoreFault}
 use Rattle.rb_core.specs.declared.types.Taken.{Taken}
 use Rattle.rb_core.specs.State.{State}
-use Rattle.rb_core.specs.Step.{IsReached, Event, Output, step}
+use Rattle.rb_core.specs.Step.{IsReached, Event, step}
 use Rattle.rb_core.specs.StandsFor.{Held, StandsFor}
 use Rattle.rb_core.specs.Runs.{output_of}
 use Rattle.rb_core.specs.Costs.{event_cost}

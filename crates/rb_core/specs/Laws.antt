@@ -3,7 +3,7 @@ use Rattle.std.specs.Prelude.{◌≡◌, ℕ, ◌⊎◌, ◌≤◌, ◌<◌, ◌
 use Rattle.std.specs.List.{list_any}
 use Rattle.rb_xdr.specs.Xdr.{AreBytes}
 use Rattle.rb_rpc.specs.declared.peer.Caller.TheVariants.{Tcp}
-use Rattle.rb_rpc.specs.Records.{first_record, data_of, marked}
+use Rattle.rb_rpc.specs.Records.{first_record, data_of}
 use Rattle.rb_rpc.specs.RecordLaws.{IsFirstRecord, HasNoRecord}
 use Rattle.rb_registry.specs.Rows.{are_distinct}
 use Rattle.rb_registry.specs.Laws.{are_accepted}

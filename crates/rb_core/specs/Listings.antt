@@ -114,8 +114,8 @@ abbrev pub source_in : List ℕ → Books → Source
 source_in host books = record { host = host; registry = books.registry }
 
 -- The connections that are in the way of the message's row become Lost, and the ledger stays.
-abbrev pub MakesRoom : Context → Message → Table → Books → Table → Books → Type 0
-MakesRoom context message connections books new_connections new_books =
+abbrev pub Evicts : Context → Message → Table → Books → Table → Books → Type 0
+Evicts context message connections books new_connections new_books =
     (c : Connections) (l : Ledger)
     → StandsForConnections (source_in context.listener.host books) connections c → StandsForLedger books l
     → StandsForConnections (source_in context.listener.host new_books) new_connections

@@ -2,7 +2,7 @@
 use Rattle.std.specs.Prelude.{◌≡◌, ℕ, ◌+◌, ◌-◌, List, ⊤, ◌++◌, length, take, Option, Some, None}
 use Rattle.rb_xdr.specs.Kept.{Kept}
 use Rattle.rb_rpc.specs.declared.marks.Marks.{Marks}
-use Rattle.rb_rpc.specs.Records.{data_of}
+use Rattle.rb_rpc.specs.Records.{data_of, first_record}
 use Rattle.rb_rpc.specs.Verdict.{verdict}
 use Rattle.rb_rpc.specs.Marks.{StandsForFed}
 use Rattle.rb_feed.specs.declared.feed.CallFeed.{CallFeed}
@@ -30,6 +30,16 @@ abbrev pub StandsBehind : Reader → Kept → List ℕ → Option ℕ → Type 0
 StandsBehind reader kept all None = IsReading reader kept all
 StandsBehind reader kept all (Some n) = kept.bytes ≡ kept_of (data_of (take n all))
 
+-- Whatever record the reader stands in, this is what is told of a piece,
+abbrev pub TellsOfPiece : Reader → Kept → List ℕ → Fed → Type 0
+TellsOfPiece reader kept piece result =
+    (fed : List ℕ) → IsReading reader kept fed → result ≡ fed_until fed piece (first_record (fed ++ piece))
+
+-- and there the reader and the buffer stand behind it.
+abbrev pub ReadsPiece : Reader → Kept → List ℕ → Reader → Kept → Type 0
+ReadsPiece reader kept piece new now =
+    (fed : List ℕ) → IsReading reader kept fed → StandsBehind new now (fed ++ piece) (first_record (fed ++ piece))
+
 -- ---- while a piece is taken
 
 -- The first bytes of these arguments are kept, and there is room for so many more.
@@ -38,10 +48,18 @@ pub record AreKept (kept : Kept) (room : ℕ) (arguments : List ℕ) : Type 0 wh
   pub room_is : room + length kept.bytes ≡ longest_arguments
   pub cap : kept.cap ≡ buffer_size
 
--- They do, with the room that is left.
+-- More arguments are kept as far as there is room, which leaves so much.
+abbrev pub KeepsMore : Kept → ℕ → List ℕ → Kept → ℕ → Type 0
+KeepsMore kept room more now left = (arguments : List ℕ) → AreKept kept room arguments → AreKept now left (arguments ++ more)
+
+-- The head and the buffer have this data of a record, with the room that is left.
 pub record HasData (intake : Intake) (kept : Kept) (content : List ℕ) : Type 0 where
   pub head_is : StandsForCall intake.head content
   pub kept_are : AreKept kept intake.room (arguments_of content)
+
+-- With more data they have that too.
+abbrev pub TakesData : Intake → Kept → List ℕ → Intake → Kept → Type 0
+TakesData intake kept more new now = (content : List ℕ) → HasData intake kept content → HasData new now (content ++ more)
 
 -- In the middle of a piece, behind these bytes of a record.
 pub record IsInside (marks : Marks) (intake : Intake) (kept : Kept) (fed : List ℕ) : Type 0 where
@@ -54,8 +72,8 @@ AreArgumentsIn head more arguments =
     (content : List ℕ) → StandsForCall head content → arguments_of (content ++ more) ≡ arguments_of content ++ arguments
 
 -- Behind such bytes of the record, the head and the buffer have their data too.
-abbrev pub HasMoreData : Marks → Intake → Kept → List ℕ → Intake → Kept → Type 0
-HasMoreData marks intake kept run new now =
+abbrev pub HasMore : Marks → Intake → Kept → List ℕ → Intake → Kept → Type 0
+HasMore marks intake kept run new now =
     (fed : List ℕ) → IsInside marks intake kept fed → HasData new now (data_of (fed ++ run))
 
 -- ---- the arguments of what was read

@@ -58,8 +58,8 @@ abbrev pub BeginsList : Source → ℕ → ℕ → ListReply → Table → Table
 BeginsList source id clock list old new = BecomesFrom source (settling id clock (list_outcome source list)) old new
 
 -- It goes on with what its record is answered with, where this is written.
-abbrev pub ServesOn : Source → ℕ → ℕ → Served → Kept → Table → Table → Type 0
-ServesOn source id clock served written old new =
+abbrev pub Serves : Source → ℕ → ℕ → Served → Kept → Table → Table → Type 0
+Serves source id clock served written old new =
     BecomesFrom source (settling id clock (served_in source served written.bytes)) old new
 
 abbrev pub is_closed_by : Source → Served → List ℕ → Bool

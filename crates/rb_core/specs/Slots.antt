@@ -18,7 +18,7 @@ use Rattle.rb_core.specs.declared.slot.Wanted.TheVariants as wanted
 use Rattle.rb_core.specs.declared.slot.Buffers.{Buffers}
 use Rattle.rb_core.specs.State.{Phase, Connection, Connections}
 use Rattle.rb_core.specs.StandsFor.{Source, Table, buffer_size, StandsForConnections, kept_of, IsReading, AreWithin, StandsForConnection, held_in}
-use Rattle.rb_core.specs.Connections.{Taking, longest_fragment, taking, changed_at, reading, settled, is_lost, giving, live_connection, mark_when_fed, on_live, is_live, has_number}
+use Rattle.rb_core.specs.Connections.{Taking, longest_fragment, taking, taking_on, changed_at, reading, settled, is_lost, giving, live_connection, mark_when_fed, on_live, is_live, has_number}
 use Rattle.rb_core.specs.Connections.Taking.{TakesNone, GoesOn, Ends}
 use Rattle.rb_core.specs.State.Phase.{Idle, Reading, Owing, Awaiting, Lost}
 use Rattle.rb_core.specs.Losses.{is_due, deadline, has_come}
@@ -92,6 +92,23 @@ abbrev pub fed_with : ℕ → Connection → Taking → Connection
 fed_with clock c TakesNone = c
 fed_with clock c (GoesOn fed) = reading clock fed c
 fed_with clock c (Ends n content) = record c { phase = Idle; mark = clock }
+
+-- Whatever the slot is fed behind, this is what the core is told of a piece.
+abbrev pub ReceivesPiece : Slot → Reader → ℕ → List ℕ → Received → Type 0
+ReceivesPiece slot reader clock piece result =
+    (c : Connection) (fed : List ℕ) → IsBeforePiece slot reader clock c fed → result ≡ received piece c (taking_on fed piece)
+
+-- the new slot stands for the connection meanwhile
+abbrev pub StandsBehindPiece : Slot → Slot → Reader → ℕ → List ℕ → Type 0
+StandsBehindPiece old new reader clock piece =
+    (source : Source) (c : Connection) (fed : List ℕ) → IsBeforePiece old reader clock c fed
+    → StandsForConnection source new (fed_with clock c (taking_on fed piece))
+
+-- the core has these arguments after it, in the buffer that it hands in
+abbrev pub HearsPiece : Slot → Reader → ℕ → List ℕ → Kept → Kept → Type 0
+HearsPiece slot reader clock piece before after =
+    (c : Connection) (fed : List ℕ) → IsBeforePiece slot reader clock c fed
+    → after.bytes ≡ arguments_after before.bytes (taking_on fed piece)
 
 -- a piece is taken, and what it says is not answered yet
 unfoldable pub feeding : ℕ → List ℕ → Connection → Received × Connection

@@ -237,7 +237,7 @@ impl Connections {
     ghost use Rattle.std.specs.Prelude.{◌≡◌, ◌≤◌, ◌<◌, ◌+◌, ◌*◌, [], true, false, ℕ, length, Some, OnErr, IfOk, IfSome, All};
     ghost use Rattle.rb_core.specs.Connections.{on_live, opening_of, closing_of, first_lost, longest_fragment};
     ghost use Rattle.rb_core.specs.Giving.{source_for, IsToldBy, pending_count};
-    ghost use Rattle.rb_core.specs.Serving.{BeginsList, ServesOn, is_closed_by, kind_in, IsWritten, IsToldIn};
+    ghost use Rattle.rb_core.specs.Serving.{BeginsList, Serves, is_closed_by, kind_in, IsWritten, IsToldIn};
     ghost use Rattle.rb_core.specs.Listings.{AreTold, KeepsTold, EvictsBefore, stamps_of, IsOldest};
     ghost use Rattle.rb_core.specs.Losses.{expiring};
     ghost use Rattle.rb_core.specs.Core.{given_in};
@@ -450,7 +450,7 @@ impl Connections {
         requires written { IsWritten served draft.old.bytes }
         requires list { IsToldIn (source_for host registry.now) served }
         requires told { AreTold (source_for host registry.now) self.old }
-        ensures stands { ServesOn
+        ensures stands { Serves
             (source_for host registry.now) id clock served draft.old self.old self.new }
         ensures closed { result
             ≡ is_closed_by (source_for host registry.now) served draft.old.bytes }

@@ -153,21 +153,21 @@ impl Core {
     ghost use Rattle.rb_core.specs.State.{are_good, opening};
     ghost use Rattle.rb_core.specs.Calls.{longest_reply};
     ghost use Rattle.rb_core.specs.Connections.{longest_fragment};
-    ghost use Rattle.rb_forward.specs.Costs.{sent_cost, unsent_cost};
+    ghost use Rattle.rb_forward.specs.Costs.{sent_cost};
     ghost use Rattle.rb_forward.specs.Outcomes.{PassesWithin};
     ghost use Rattle.rb_forward.specs.StandsFor.{slots_of, longest_call};
     ghost use Rattle.rb_forward.specs.Table.{seen, count_lent, is_waiting, IsNew};
     ghost use Rattle.rb_core.specs.Step.{datagram, open_connection, bytes, pending, gave, close_connection, next_lost, unsent_call, sent_call};
     ghost use Rattle.rb_core.specs.Giving.{pending_count};
-    ghost use Rattle.rb_core.specs.Ending.{told_at, tell, forward_reply, expire_connection, expire};
+    ghost use Rattle.rb_core.specs.Ending.{forward_reply, expire_connection, expire};
     ghost use Rattle.rb_core.specs.Awaits.{has_idle};
     ghost use Rattle.rb_core.specs.Bounds.{held, bytes_bound};
     ghost use Rattle.rb_core.specs.BoundLaws.{NeverPasses};
     ghost use Rattle.rb_core.specs.Events.{shown, OnlyBegins, BeginsAt, LendsFrom, TellsSteps, taken_by, lent_by, given_by, StaysWithinSteps};
     ghost use Rattle.rb_core.specs.Slots.{Acts, Shows, Lends};
     ghost use Rattle.rb_core.specs.StandsFor.{StandsFor};
-    ghost use Rattle.rb_core.specs.Core.{ActsWithReply, answering_heard, without_arguments, context_of};
-    ghost use Rattle.rb_core.specs.CallCosts.{answering_cost, datagram_cost, bytes_cost, gave_cost, closing_cost, ending_cost, IsCheapIfQuiet, look_cost, slot_count};
+    ghost use Rattle.rb_core.specs.Core.{ActsWithReply, AnswersHeard, TellsCaller, context_of};
+    ghost use Rattle.rb_core.specs.CallCosts.{answering_cost, datagram_cost, bytes_cost, gave_cost, closing_cost, lending_cost, ending_cost, IsCheapIfQuiet, look_cost, slot_count};
     ghost use Rattle.rb_core.specs.Costs.{tell_cost, pending_cost};
 
     /// A core with the daemon's own rows alone, at the moment `now` (milliseconds since the start of 1970).
@@ -359,8 +359,7 @@ impl Core {
         requires tie { meter.old.tie ≡ self.old.tie }
         requires idle { has_idle id self.old.connections ≡ true }
         requires caller { is_waiting id (slots_of self.old.books.forwards) ≡ false }
-        ensures acts { Acts StandsFor (answering_heard id heard self.old.arguments)
-            (without_arguments self.old) self.new result }
+        ensures acts { AnswersHeard id heard self.old self.new result }
         ensures tie { self.new.tie ≡ self.old.tie }
         ensures begun { self.new.begun ≡ self.old.begun }
         ensures cost { PaysAtMost meter.old meter.new (answering_cost self.old self.new) }
@@ -484,8 +483,7 @@ impl Core {
         ensures* begun { sem 𝓛 (LendsFrom self.entry meter.old) }
         ensures unsent { Shows StandsFor unsent_call self.old (seen result) }
         ensures few { IfSome result (λ lent. length lent.call.now ≤ longest_call) }
-        ensures cost { PaysAtMost meter.old meter.new
-            (unsent_cost self.old.books.forwards.cap (count_lent result)) }
+        ensures cost { PaysAtMost meter.old meter.new (lending_cost self.old (count_lent result)) }
         ensures bound { StaysWithinSteps self.old 0 (count_lent result) meter.old meter.new }
     {
         self.begun = meter.count();
@@ -616,8 +614,7 @@ impl Core {
         requires empty { self.old.reply ≡ [] }
         requires within { PassesWithin ended.now.outcome (length message.now) }
         requires alone { IsNew ended.now.forward.caller (slots_of self.old.books.forwards) }
-        ensures acts { Acts StandsFor (tell ended.now.forward.caller (told_at message.now ended.now))
-            self.old self.new result }
+        ensures acts { TellsCaller message.now ended.now self.old self.new result }
         ensures tie { self.new.tie ≡ self.old.tie }
         ensures begun { self.new.begun ≡ self.old.begun }
         ensures short { length self.new.reply ≤ longest_reply }

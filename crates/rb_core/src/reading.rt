@@ -3,11 +3,10 @@ ghost use Rattle.std.specs.Prelude.{◌≡◌, ℕ, ◌+◌, ◌-◌, ◌<◌, �
 ghost use Rattle.rb_xdr.specs.Meter.{Pays, PaysAtMost};
 ghost use Rattle.rb_rpc.specs.Marks.{StandsForFed};
 ghost use Rattle.rb_rpc.specs.Streams.{RecordEnds, ArePart, StandsForMore};
-ghost use Rattle.rb_rpc.specs.Records.{first_record};
 ghost use Rattle.rb_feed.specs.Feeds.{StandsForCall};
 ghost use Rattle.rb_feed.specs.Laws.{StandsForMore as StandsForMoreOfCall};
-ghost use Rattle.rb_core.specs.StandsFor.{IsHeld, IsReading};
-ghost use Rattle.rb_core.specs.Reading.{AreKept, HasData, HasMoreData, AreArgumentsIn, fed_until, StandsBehind, KeptSaysTheRecord};
+ghost use Rattle.rb_core.specs.StandsFor.{IsHeld};
+ghost use Rattle.rb_core.specs.Reading.{HasData, HasMore, AreArgumentsIn, KeepsMore, TakesData, TellsOfPiece, ReadsPiece, KeptSaysTheRecord};
 
 use rb_feed::CallFeed;
 use rb_rpc::{Marks, Part, Verdict};
@@ -103,8 +102,7 @@ fn feed_head(head: &mut CallFeed, bytes: &[u8]) -> usize
 /// Adds bytes of the arguments as far as there is room for them, and says how much room is left.
 fn keep(kept: &mut Kept, room: usize, arguments: &[u8], meter: &mut Meter) -> usize
     requires { meter.old.tie ≡ kept.old.tie }
-    ensures kept { (bytes : List ℕ) → AreKept kept.old room bytes
-        → AreKept kept.new result (bytes ++ arguments.now) }
+    ensures kept { KeepsMore kept.old room arguments.now kept.new result }
     ensures cap { kept.new.cap ≡ kept.old.cap }
     ensures tie { kept.new.tie ≡ kept.old.tie }
     ensures cost { PaysAtMost meter.old meter.new (length arguments.now) }
@@ -131,8 +129,7 @@ impl Intake {
     /// Takes data of the record: of the arguments in it the first are kept.
     fn feed_data(&mut self, kept: &mut Kept, bytes: &[u8], meter: &mut Meter)
         requires { meter.old.tie ≡ kept.old.tie }
-        ensures data { (content : List ℕ) → HasData self.old kept.old content
-            → HasData self.new kept.new (content ++ bytes.now) }
+        ensures data { TakesData self.old kept.old bytes.now self.new kept.new }
         ensures cap { kept.new.cap ≡ kept.old.cap }
         ensures tie { kept.new.tie ≡ kept.old.tie }
         ensures cost { PaysAtMost meter.old meter.new (length bytes.now) }
@@ -155,7 +152,7 @@ impl Intake {
         ensures within { result.count ≤ length bytes.now }
         ensures ends { RecordEnds marks.old (take result.count bytes.now) result.ended }
         ensures after { StandsForMore marks.old (take result.count bytes.now) result.ended marks.new }
-        ensures data { HasMoreData marks.old self.old kept.old (take result.count bytes.now)
+        ensures data { HasMore marks.old self.old kept.old (take result.count bytes.now)
             self.new kept.new }
         ensures cap { kept.new.cap ≡ kept.old.cap }
         ensures tie { kept.new.tie ≡ kept.old.tie }
@@ -187,10 +184,8 @@ impl Reader {
     pub fn feed(&mut self, kept: &mut Kept, piece: &[u8], meter: &mut Meter) -> Fed
         requires { meter.old.tie ≡ kept.old.tie }
         ensures within { result.count ≤ length piece.now }
-        ensures taken { (fed : List ℕ) → IsReading self.old kept.old fed
-            → result ≡ fed_until fed piece.now (first_record (fed ++ piece.now)) }
-        ensures after { (fed : List ℕ) → IsReading self.old kept.old fed
-            → StandsBehind self.new kept.new (fed ++ piece.now) (first_record (fed ++ piece.now)) }
+        ensures taken { TellsOfPiece self.old kept.old piece.now result }
+        ensures after { ReadsPiece self.old kept.old piece.now self.new kept.new }
         ensures cap { kept.new.cap ≡ kept.old.cap }
         ensures tie { kept.new.tie ≡ kept.old.tie }
         ensures cost { PaysAtMost meter.old meter.new (result.count + 1) }

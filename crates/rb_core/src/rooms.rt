@@ -4,7 +4,7 @@ ghost use Rattle.rb_xdr.specs.Meter.{PaysAtMost};
 ghost use Rattle.rb_proto.specs.Ledger.{AreTied, SameFrame};
 ghost use Rattle.rb_core.specs.Awaits.{has_idle, NoneIsFreed};
 ghost use Rattle.rb_core.specs.Slots.{StaysTable};
-ghost use Rattle.rb_core.specs.Listings.{AreTold, HasRoom, MakesRoom, source_in};
+ghost use Rattle.rb_core.specs.Listings.{AreTold, HasRoom, Evicts, source_in};
 ghost use Rattle.rb_core.specs.CallCosts.{kept_count, room_cost_of};
 
 use crate::connections::Connections;
@@ -25,7 +25,7 @@ pub fn make_room(
     requires tie { meter.old.tie ≡ connections.old.tie }
     requires limit { books.old.registry.limit ≡ context.now.limit }
     requires told { AreTold (source_in context.now.listener.host books.old) connections.old }
-    ensures makes { MakesRoom context.now message.now
+    ensures makes { Evicts context.now message.now
         connections.old books.old connections.new books.new }
     ensures room { HasRoom context.now message.now books.new }
     ensures told { AreTold (source_in context.now.listener.host books.new) connections.new }

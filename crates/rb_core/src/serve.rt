@@ -231,7 +231,7 @@ fn put_passed(forward: &Forward, results: &[u8], out: &mut Kept, meter: &mut Met
     requires tie { meter.old.tie ≡ out.old.tie }
     requires empty { out.old.bytes ≡ [] }
     requires room { longest_reply ≤ out.old.cap }
-    ensures written { out.new.bytes ≡ success forward.now.xid (forwarded_bytes forward.now results.now) }
+    ensures writes { out.new.bytes ≡ success forward.now.xid (forwarded_bytes forward.now results.now) }
     ensures out { (out.new.cap ≡ out.old.cap) × (out.new.tie ≡ out.old.tie) }
     ensures short { length out.new.bytes ≤ longest_reply }
     ensures some { 0 < length out.new.bytes }

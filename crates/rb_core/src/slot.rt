@@ -135,8 +135,8 @@ fn nothing() -> Received
 impl Slot {
     ghost use Rattle.std.specs.Prelude.{◌≡◌, ◌≤◌, ◌<◌, ◌+◌, ℕ, List, [], true, false, length, Some, IfSome};
     ghost use Rattle.rb_core.specs.State.{Connection};
-    ghost use Rattle.rb_core.specs.Connections.{taking_on, settled, giving, pending_in, longest_fragment};
-    ghost use Rattle.rb_core.specs.Slots.{is_due_slot, SlotActs, SlotBecomes, SlotGives, SlotHears, SlotShows, emptied_slot, IsBeforePiece, HasBuffers, IsDraft, StaysSlot, received, fed_with, feeding, arguments_after, is_lost_stage, is_idle_stage, is_wanted_slot};
+    ghost use Rattle.rb_core.specs.Connections.{settled, giving, pending_in, longest_fragment};
+    ghost use Rattle.rb_core.specs.Slots.{is_due_slot, SlotActs, SlotBecomes, SlotGives, SlotHears, SlotShows, emptied_slot, ReceivesPiece, StandsBehindPiece, HearsPiece, HasBuffers, IsDraft, StaysSlot, feeding, is_lost_stage, is_idle_stage, is_wanted_slot};
     ghost use Rattle.rb_core.specs.StandsFor.{StandsForConnection, charge, most_charge, Source};
     ghost use Rattle.rb_core.specs.Listings.{slot_began, IsNoList, IsToldSlot, KeepsToldSlot};
     ghost use Rattle.rb_core.specs.Giving.{source_for, IsToldBy, GoesOnBy};
@@ -198,18 +198,12 @@ impl Slot {
     ) -> Received
         requires buffers { HasBuffers meter.old.tie self.old }
         requires arguments { IsDraft meter.old.tie arguments.old }
-        ensures received { (c : Connection) (fed : List ℕ)
-            → IsBeforePiece self.old reader clock c fed
-            → result ≡ received piece.now c (taking_on fed piece.now) }
-        ensures stands { (source : Source) (c : Connection) (fed : List ℕ)
-            → IsBeforePiece self.old reader clock c fed
-            → StandsForConnection source self.new (fed_with clock c (taking_on fed piece.now)) }
+        ensures received { ReceivesPiece self.old reader clock piece.now result }
+        ensures stands { StandsBehindPiece self.old self.new reader clock piece.now }
         ensures stage { is_awaiting_stage self.new.stage ≡ false }
         ensures told { IsNoList self.new }
         ensures heard { IfSome result.heard (λ heard. is_idle_stage self.new.stage ≡ true) }
-        ensures arguments { (c : Connection) (fed : List ℕ)
-            → IsBeforePiece self.old reader clock c fed
-            → arguments.new.bytes ≡ arguments_after arguments.old.bytes (taking_on fed piece.now) }
+        ensures arguments { HearsPiece self.old reader clock piece.now arguments.old arguments.new }
         ensures within { result.count ≤ length piece.now }
         ensures stays { StaysSlot meter.old.tie self.old self.new }
         ensures draft { IsDraft meter.old.tie arguments.new }

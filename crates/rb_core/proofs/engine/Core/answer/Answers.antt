@@ -17,7 +17,7 @@ use Rattle.rb_core.specs.Slots.{Acts}
 use Rattle.rb_forward.specs.StandsFor.{slots_of}
 use Rattle.rb_forward.specs.Table.{is_waiting, OnlyWaitsAnew}
 use Rattle.rb_core.specs.Awaits.{has_idle, AreAwaited}
-use Rattle.rb_core.specs.Listings.{MakesRoom, source_in}
+use Rattle.rb_core.specs.Listings.{Evicts, source_in}
 use Rattle.rb_core.specs.Serving.{served_in, kind_in}
 use Rattle.rb_core.proofs.Answering.{told_for_room, told_after, served_by, list_after}
 use Rattle.rb_core.proofs.Awaited.{awaited_when_answered}
@@ -41,8 +41,8 @@ by_lent said verdict lent held says all = says ∙ ap (message_with verdict) all
 of_message : (context : Context) (said message : Message) (lent held : List ℕ) (old new : Books) (given : Outcome) → said ≡ message → lent ≡ held → ActsAs (outcome context said lent) old new given → ActsAs (outcome context message held) old new given
 of_message context said message lent held old new given is all acts = subst (λ (xs : List ℕ). ActsAs (outcome context message xs) old new given) all (subst (λ (m : Message). ActsAs (outcome context m lent) old new given) is acts)
 
-makes_for : (context : Context) (said message : Message) (before after : Table) (old mid : Books) → said ≡ message → MakesRoom context said before old after mid → MakesRoom context message before old after mid
-makes_for context said message before after old mid is makes = subst (λ (m : Message). MakesRoom context m before old after mid) is makes
+makes_for : (context : Context) (said message : Message) (before after : Table) (old mid : Books) → said ≡ message → Evicts context said before old after mid → Evicts context message before old after mid
+makes_for context said message before after old mid is makes = subst (λ (m : Message). Evicts context m before old after mid) is makes
 
 -- what a call sees, of what is held by its other name
 sees : (view now : Held) (context : Context) (id : ℕ) (heard : Heard) → view ≡ now → context ≡ context_of now (Tcp id heard.peer) → context ≡ context_of view (Tcp id heard.peer)

@@ -19,7 +19,7 @@ use Rattle.rb_core.specs.declared.serve.Served.TheVariants.{Told}
 use Rattle.rb_core.specs.declared.types.Outcome.{Outcome as Written}
 use Rattle.rb_core.specs.declared.types.Outcome.TheVariants as outcomes
 use Rattle.rb_core.specs.Serving.{IsWritten}
-use Rattle.rb_core.specs.Listings.{MakesRoom}
+use Rattle.rb_core.specs.Listings.{Evicts}
 use Rattle.rb_core.proofs.Answering.{told_for_room, told_after, served_by}
 use Rattle.rb_core.proofs.Steps.{datagram_acts}
 use Rattle.rb_core.proofs.Begun.{began, acts_begun}
@@ -37,8 +37,8 @@ pub make_room-requires-clause-told : goal.make_room-requires-clause-told
 make_room-requires-clause-told c =
     told_for_room (record (began (the_view c.self.inside) c.count-self-inside.result) { clock = c.max-self-inside.result }) (Udp c.args.peer) c.context-context.result c.context-context.ensures c.self.invariant.told
 
-makes_for : (context : Context) (said : Message) (content : List ℕ) (before after : Table) (old mid : Books) → said ≡ message_of content → MakesRoom context said before old after mid → MakesRoom context (message_of content) before old after mid
-makes_for context said content before after old mid is makes = subst (λ (m : Message). MakesRoom context m before old after mid) is makes
+makes_for : (context : Context) (said : Message) (content : List ℕ) (before after : Table) (old mid : Books) → said ≡ message_of content → Evicts context said before old after mid → Evicts context (message_of content) before old after mid
+makes_for context said content before after old mid is makes = subst (λ (m : Message). Evicts context m before old after mid) is makes
 
 written_is : (given : Written) (reply : List ℕ) → IsWritten (Told given) reply → reply ≡ reply_in (outcome_with given reply)
 written_is outcomes.NoCall reply none = none
