@@ -36,7 +36,6 @@ use Rattle.rb_registry.specs.Registry.{Registry}
 use Rattle.rb_core.proofs.Crowds.{begins_changed, evicted_changed, crowding_alike}
 use Rattle.rb_core.specs.declared.types.Told.{Told}
 use Rattle.rb_core.specs.declared.types.Told.TheVariants.{TcpReady}
-use Rattle.rb_core.specs.declared.types.Expired.TheVariants.{Nothing}
 use Rattle.rb_core.specs.declared.types.Expired.TheVariants as Expires
 use Rattle.rb_core.specs.Ending.{told_at, told_over_udp, tell, tell_end, at_fresh_moment, expired_as}
 use Rattle.rb_core.proofs.MessageFronts.{kept_says}

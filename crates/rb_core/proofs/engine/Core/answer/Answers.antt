@@ -1,4 +1,4 @@
-use Rattle.std.proofs.Common.{◌≡◌, rules, true, false, Bool, List, ℕ, length, take, arith, sym, ap, subst, ◌∙◌}
+use Rattle.std.proofs.Common.{◌≡◌, rules, true, false, Bool, List, ℕ, length, take, arith, refl, sym, ap, subst, ◌∙◌}
 use Rattle.std.specs.List.{slice_range}
 use Rattle.std.proofs.lemmas.List.{take_all}
 use Rattle.rb_rpc.specs.declared.peer.Caller.TheVariants.{Tcp}
@@ -19,9 +19,10 @@ use Rattle.rb_forward.specs.Table.{is_waiting, OnlyWaitsAnew}
 use Rattle.rb_core.specs.Awaits.{has_idle, AreAwaited}
 use Rattle.rb_core.specs.Listings.{Evicts, source_in}
 use Rattle.rb_core.specs.Serving.{served_in, kind_in}
-use Rattle.rb_core.proofs.Answering.{told_for_room, told_after, served_by, list_after}
+use Rattle.rb_core.proofs.Answering.{joined_frames, told_for_room, told_after, served_by, list_after}
 use Rattle.rb_core.proofs.Awaited.{awaited_when_answered}
 use Rattle.rb_core.proofs.Steps.{answer_acts}
+use Rattle.rb_core.proofs.Cores.{stays_twice, core_changed}
 use Rattle.rb_core.proofs.engine.Core.answer.Goals as goal
 
 told : (given : Outcome) (b : Bool) → b ≡ is_no_call given → (act : State → Bool × State) (old new : Held) → Acts StandsFor act old new (is_no_call given) → Acts StandsFor act old new b
@@ -96,24 +97,9 @@ awaited_in : (c : goal.After-go_on) → AreAwaited c.make_room.new.books.forward
 awaited_in c = rw c.make_room.ensures.forwards (λ number waits. c.make_room.ensures.free number (c.self.invariant.awaited number waits))
 
 pub invariant_of-self : goal.invariant_of-self
-invariant_of-self c = record {
-  conns = c.go_on.ensures.stays.conns ∙ c.make_room.ensures.stays.conns ∙ c.self.invariant.conns;
-  few_conns = c.self.invariant.few_conns;
-  few_rows = c.self.invariant.few_rows;
-  len = c.self.invariant.len;
-  short = c.self.invariant.short;
-  limit = search rules;
-  forwards = search rules;
-  few = search rules;
-  first_xid = search rules;
-  awaited =
-      awaited_when_answered c.make_room.new.books.forwards c.serve-served.new.books.forwards c.args.id c.args.heard.peer c.make_room.new.connections c.go_on.new.self (kind_in c.serve-served.result)
-      (awaited_in c) (rw c.make_room.ensures.forwards (waiting_in c)) (anew_in c) c.serve-served.ensures.quiet c.go_on.ensures.others (λ is. c.go_on.ensures.awaits is (c.make_room.ensures.idle c.args.id (idle_in c)));
-  told = c.go_on.ensures.told;
-  tied = search rules;
-  connections_tie = search rules;
-  reply_cap = search rules;
-  is_draft = search rules;
-  empty = search rules;
-  has_arguments = search rules;
-}
+invariant_of-self c =
+    core_changed _ _ _ _ _ _ _ _ _ _ _ _ _ c.self.invariant (stays_twice _ _ _ c.make_room.ensures.stays c.go_on.ensures.stays)
+    (joined_frames _ _ _ c.make_room.ensures.frame c.serve-served.ensures.frame) refl refl c.self.invariant.len c.self.invariant.short
+    (awaited_when_answered c.make_room.new.books.forwards c.serve-served.new.books.forwards c.args.id c.args.heard.peer c.make_room.new.connections c.go_on.new.self (kind_in c.serve-served.result)
+    (awaited_in c) (rw c.make_room.ensures.forwards (waiting_in c)) (anew_in c) c.serve-served.ensures.quiet c.go_on.ensures.others (λ is. c.go_on.ensures.awaits is (c.make_room.ensures.idle c.args.id (idle_in c))))
+    c.go_on.ensures.told (search rules) (search rules) (search rules)

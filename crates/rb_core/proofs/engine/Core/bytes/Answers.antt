@@ -1,4 +1,4 @@
-use Rattle.std.proofs.Common.{◌∙◌, arith, rules, ◌+◌, Ok, Some, None, length, sym, subst}
+use Rattle.std.proofs.Common.{arith, rules, ◌+◌, Ok, Some, None, length, sym, subst}
 use Rattle.std.proofs.lemmas.Result.{err_from_is_err_and}
 use Rattle.rb_core.specs.contracts.engine.Core.{the_view}
 use Rattle.rb_xdr.specs.Meter.{PaysAtMost}
@@ -12,6 +12,8 @@ use Rattle.rb_core.specs.Connections.{on_live}
 use Rattle.rb_core.proofs.Steps.{bytes_refused, quiet_acts, heard_acts, nothing_heard, with_heard}
 use Rattle.rb_core.proofs.Begun.{began, acts_begun}
 use Rattle.rb_core.proofs.CallBounds.{look_within, quiet_within, bytes_within}
+use Rattle.rb_core.proofs.Cores.{core_moved}
+use Rattle.rb_core.proofs.Awaited.{awaited_by_table}
 use Rattle.rb_core.proofs.engine.Core.bytes.Goals as goal
 
 pub returns-in_err-count-clause-acts : goal.returns-in_err-count-clause-acts
@@ -71,43 +73,11 @@ returns-clause-cheap c = λ s h none.
     absurd (nothing_heard c.max-clock.result c.args.id c.in_ok-count.field-0.count c.args.piece.now c.in-Some.heard (the_view c.self.inside) c.take.new.self (heard c) s z none)
 
 pub invariant_of-self-in_default : goal.invariant_of-self-in_default
-invariant_of-self-in_default c = record {
-  conns = c.in_ok-count.ensures.stays.conns ∙ c.self.invariant.conns;
-  few_conns = c.self.invariant.few_conns;
-  few_rows = c.self.invariant.few_rows;
-  len = c.self.invariant.len;
-  short = c.self.invariant.short;
-  limit = search rules;
-  forwards = search rules;
-  few = search rules;
-  first_xid = search rules;
-  awaited = search rules;
-  told = c.in_ok-count.ensures.told (source_of (the_view c.self.inside)) c.self.invariant.told;
-  tied = search rules;
-  connections_tie = search rules;
-  reply_cap = search rules;
-  is_draft = search rules;
-  empty = search rules;
-  has_arguments = search rules;
-}
+invariant_of-self-in_default c =
+    core_moved _ _ _ _ _ _ _ _ _ _ c.self.invariant c.in_ok-count.ensures.stays (awaited_by_table c.self.inside.books.forwards _ _ c.self.invariant.awaited c.in_ok-count.ensures.free) c.in_ok-count.ensures.told
+    c.self.invariant.is_draft c.self.invariant.empty (search rules)
 
 pub invariant_of-self-2 : goal.invariant_of-self-2
-invariant_of-self-2 c = record {
-  conns = c.in_ok-count.ensures.stays.conns ∙ c.self.invariant.conns;
-  few_conns = c.self.invariant.few_conns;
-  few_rows = c.self.invariant.few_rows;
-  len = c.self.invariant.len;
-  short = c.self.invariant.short;
-  limit = search rules;
-  forwards = search rules;
-  few = search rules;
-  first_xid = search rules;
-  awaited = search rules;
-  told = c.in_ok-count.ensures.told (source_of (the_view c.self.inside)) c.self.invariant.told;
-  tied = search rules;
-  connections_tie = search rules;
-  reply_cap = search rules;
-  is_draft = search rules;
-  empty = search rules;
-  has_arguments = search rules;
-}
+invariant_of-self-2 c =
+    core_moved _ _ _ _ _ _ _ _ _ _ c.self.invariant c.in_ok-count.ensures.stays (awaited_by_table c.self.inside.books.forwards _ _ c.self.invariant.awaited c.in_ok-count.ensures.free) c.in_ok-count.ensures.told
+    c.self.invariant.is_draft c.self.invariant.empty (search rules)

@@ -1,4 +1,4 @@
-use Rattle.std.proofs.Common.{◌≡◌, List, ℕ, refl, subst, ◌∙◌, rules}
+use Rattle.std.proofs.Common.{◌≡◌, List, ℕ, refl, subst, rules}
 use Rattle.rb_forward.specs.StandsFor.{slots_of}
 use Rattle.rb_forward.specs.Table.{OnlyWaitsAnew}
 use Rattle.rb_core.specs.Awaits.{AreAwaited}
@@ -20,10 +20,11 @@ use Rattle.rb_core.specs.declared.types.Outcome.{Outcome as Written}
 use Rattle.rb_core.specs.declared.types.Outcome.TheVariants as outcomes
 use Rattle.rb_core.specs.Serving.{IsWritten}
 use Rattle.rb_core.specs.Listings.{Evicts}
-use Rattle.rb_core.proofs.Answering.{told_for_room, told_after, served_by}
+use Rattle.rb_core.proofs.Answering.{joined_frames, told_for_room, told_after, served_by}
 use Rattle.rb_core.proofs.Steps.{datagram_acts}
 use Rattle.rb_core.proofs.Begun.{began, acts_begun}
 use Rattle.rb_core.proofs.CallBounds.{datagram_within}
+use Rattle.rb_core.proofs.Cores.{core_changed}
 use Rattle.rb_core.proofs.engine.Core.datagram.Goals as goal
 
 says_so : (said : Message) (v : Verdict) (arguments content : List ℕ) → said ≡ message_with v arguments → v ≡ verdict content → arguments ≡ arguments_of content → said ≡ message_of content
@@ -75,22 +76,8 @@ invariant_of-self-2 c =
     let awaited : AreAwaited c.make_room.new.books.forwards c.make_room.new.connections = rw c.make_room.ensures.forwards (λ number waits. c.make_room.ensures.free number (c.self.invariant.awaited number waits)) in
     let anew : OnlyWaitsAnew (Udp c.args.peer) (slots_of c.make_room.new.books.forwards) (slots_of c.serve-served.new.books.forwards) =
     subst (λ (x : Context). OnlyWaitsAnew x.caller (slots_of c.make_room.new.books.forwards) (slots_of c.serve-served.new.books.forwards)) c.context-context.ensures c.serve-served.ensures.waiting in
-    record {
-      conns = c.make_room.ensures.stays.conns ∙ c.self.invariant.conns;
-      few_conns = c.self.invariant.few_conns;
-      few_rows = c.self.invariant.few_rows;
-      len = c.len.ensures.len;
-      short = c.serve-served.ensures.short;
-      limit = search rules;
-      forwards = search rules;
-      few = search rules;
-      first_xid = search rules;
-      awaited = awaited_by_udp c.make_room.new.books.forwards c.serve-served.new.books.forwards c.args.peer c.make_room.new.connections awaited anew;
-      told = told_after old (Udp c.args.peer) c.context-context.result c.context-context.ensures c.make_room.new.connections c.make_room.new.books c.serve-served.new.books c.serve-served.ensures.cursors c.serve-served.ensures.floor c.make_room.ensures.told;
-      tied = search rules;
-      connections_tie = search rules;
-      reply_cap = search rules;
-      is_draft = search rules;
-      empty = search rules;
-      has_arguments = search rules;
-    }
+    core_changed _ _ _ _ _ _ _ _ _ _ _ _ _ c.self.invariant c.make_room.ensures.stays
+    (joined_frames _ _ _ c.make_room.ensures.frame c.serve-served.ensures.frame) (search rules) (search rules) c.len.ensures.len c.serve-served.ensures.short
+    (awaited_by_udp c.make_room.new.books.forwards c.serve-served.new.books.forwards c.args.peer c.make_room.new.connections awaited anew)
+    (told_after old (Udp c.args.peer) c.context-context.result c.context-context.ensures c.make_room.new.connections c.make_room.new.books c.serve-served.new.books c.serve-served.ensures.cursors c.serve-served.ensures.floor c.make_room.ensures.told)
+    (search rules) (search rules) (search rules)

@@ -2,8 +2,9 @@ use Rattle.std.proofs.lemmas.Result.{err_from_is_err_and}
 use Rattle.rb_core.specs.contracts.engine.Core.{the_view}
 use Rattle.rb_core.proofs.Steps.{open_done, open_refused}
 use Rattle.rb_core.specs.StandsFor.{source_of}
-use Rattle.std.proofs.Common.{◌∙◌, rules}
 use Rattle.rb_core.proofs.Begun.{began, acts_begun}
+use Rattle.rb_core.proofs.Cores.{core_moved}
+use Rattle.rb_core.proofs.Awaited.{awaited_by_table}
 use Rattle.rb_core.proofs.engine.Core.open.Goals as goal
 
 pub returns-in_err-number-clause-acts : goal.returns-in_err-number-clause-acts
@@ -19,22 +20,6 @@ returns-clause-acts c =
     (open_done (began (the_view c.self.inside) c.count-self-inside.result) c.args.now c.max-clock.result c.max-clock.ensures c.open.new.self c.args.peer c.in_ok-number.number c.in_ok-number.ensures.stays (c.in_ok-number.ensures.acts (source_of (the_view c.self.inside))))
 
 pub invariant_of-self-2 : goal.invariant_of-self-2
-invariant_of-self-2 c = record {
-  conns = c.in_ok-number.ensures.stays.conns ∙ c.self.invariant.conns;
-  few_conns = c.self.invariant.few_conns;
-  few_rows = c.self.invariant.few_rows;
-  len = c.self.invariant.len;
-  short = c.self.invariant.short;
-  limit = search rules;
-  forwards = search rules;
-  few = search rules;
-  first_xid = search rules;
-  awaited = search rules;
-  told = c.in_ok-number.ensures.told (source_of (the_view c.self.inside)) c.self.invariant.told;
-  tied = search rules;
-  connections_tie = search rules;
-  reply_cap = search rules;
-  is_draft = search rules;
-  empty = search rules;
-  has_arguments = search rules;
-}
+invariant_of-self-2 c =
+    core_moved _ _ _ _ _ _ _ _ _ _ c.self.invariant c.in_ok-number.ensures.stays (awaited_by_table c.self.inside.books.forwards _ _ c.self.invariant.awaited c.in_ok-number.ensures.free) c.in_ok-number.ensures.told
+    c.self.invariant.is_draft c.self.invariant.empty c.self.invariant.has_arguments
