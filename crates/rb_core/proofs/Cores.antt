@@ -8,7 +8,7 @@ use Rattle.rb_core.specs.Calls.{longest_reply}
 use Rattle.rb_core.specs.StandsFor.{Table}
 use Rattle.rb_core.specs.Slots.{StaysTable, IsDraft}
 use Rattle.rb_core.specs.Awaits.{AreAwaited}
-use Rattle.rb_core.specs.Listings.{AreTold, KeepsTold}
+use Rattle.rb_core.specs.Listings.{AreTold, KeepsTold, source_in}
 use Rattle.rb_core.specs.Core.{IsCore}
 
 pub stays_twice : (a b c : Table) → StaysTable a b → StaysTable b c → StaysTable a c
@@ -22,7 +22,7 @@ stays_twice a b c first then = record {
 pub core_changed : (setting : Setting) (old new : Table) (books left : Books) (reply written draft after arguments heard : Kept) (len count : ℕ)
     → IsCore setting old books reply draft arguments len → StaysTable old new → SameFrame books left
     → written.tie ≡ reply.tie → written.cap ≡ reply.cap → count ≡ length written.bytes → length written.bytes ≤ longest_reply
-    → AreAwaited left.forwards new → AreTold (record { host = setting.listener.host; registry = left.registry }) new
+    → AreAwaited left.forwards new → AreTold (source_in setting.listener.host left) new
     → IsDraft written.tie after → after.bytes ≡ [] → IsDraft written.tie heard
     → IsCore setting new left written after heard count
 core_changed setting old new books left reply written draft after arguments heard len count h stays frame tie cap counted short awaited told is_draft empty has_arguments = record {
@@ -57,4 +57,4 @@ pub core_moved : (setting : Setting) (old new : Table) (books : Books) (reply dr
 core_moved setting old new books reply draft after arguments heard len h stays awaited told =
     core_changed setting old new books books reply reply draft after arguments heard len len h stays
     (record { limit = refl; cap = refl; first_xid = refl; registry = refl; stats = refl; forwards = refl }) refl refl h.len h.short
-    awaited (told (record { host = setting.listener.host; registry = books.registry }) h.told)
+    awaited (told (source_in setting.listener.host books) h.told)

@@ -28,7 +28,7 @@ use Rattle.rb_core.specs.declared.message.Message.TheVariants as says
 use Rattle.rb_core.specs.State.{Phase, Connection, Connections}
 use Rattle.rb_core.specs.State.Phase.{Idle, Reading, Owing, Awaiting, Lost}
 use Rattle.rb_core.specs.Losses.{began_in, begins, is_kept_for, removals_by, kept_removals, asks_room, crowding, evicted, evicting}
-use Rattle.rb_core.specs.StandsFor.{Source, Table, StandsForPhase, StandsForConnection, StandsForConnections}
+use Rattle.rb_core.specs.StandsFor.{Source, Table, StandsForPhase, StandsForConnection, StandsForConnections, source_for}
 use Rattle.rb_core.specs.Listings.{HasRoom, began_stage, slot_began, IsToldStage, IsToldSlot, AreTold, stamps_of, IsOldest, IsEarliest}
 use Rattle.rb_core.proofs.Evicting.{began_alike}
 
@@ -36,10 +36,10 @@ use Rattle.rb_core.proofs.Evicting.{began_alike}
 
 module _ (host : List ℕ) (old new : Registry) (goes : GoesOn old new) where
   abbrev before : Source
-  before = record { host = host; registry = old }
+  before = source_for host old
 
   abbrev after : Source
-  after = record { host = host; registry = new }
+  after = source_for host new
 
   -- the floor isn't above what the list of a stage began after
   abbrev IsLow : Stage → Type 0

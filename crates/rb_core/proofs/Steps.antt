@@ -21,7 +21,7 @@ use Rattle.rb_core.specs.declared.types.CoreFault.{CoreFault}
 use Rattle.rb_core.specs.declared.types.CoreFault.TheVariants.{Gone}
 use Rattle.rb_rpc.specs.Verdict.{verdict}
 use Rattle.rb_core.specs.Calls.{Outcome, outcome, message_with, message_of, is_no_call, reply_in, longest_reply}
-use Rattle.rb_core.specs.StandsFor.{kept_of, Table, StandsForConnections, Held, StandsFor, source_of, Source}
+use Rattle.rb_core.specs.StandsFor.{kept_of, Table, StandsForConnections, Held, StandsFor, source_of, Source, source_for}
 use Rattle.rb_core.specs.State.{State, Phase, Connection, Connections, at_moment}
 use Rattle.rb_core.specs.State.Phase.{Idle, Reading, Owing, Awaiting, Lost}
 use Rattle.rb_core.specs.Connections.{Taking, taking, reading, settled, is_lost, is_live, live_connection, change_first, changed_at, on_live, opening_of, closing_of, giving}
@@ -41,8 +41,8 @@ use Rattle.rb_core.specs.Ending.{told_at, told_over_udp, tell, tell_end, at_fres
 use Rattle.rb_core.proofs.MessageFronts.{kept_says}
 
 -- the same of a registry by its other name
-pub same_source : (host : List ℕ) (old new : Registry) (table : Table) (c : Connections) → new ≡ old → StandsForConnections (record { host = host; registry = old }) table c → StandsForConnections (record { host = host; registry = new }) table c
-same_source host old new table c same z = subst (λ (r : Registry). StandsForConnections (record { host = host; registry = r }) table c) (sym same) z
+pub same_source : (host : List ℕ) (old new : Registry) (table : Table) (c : Connections) → new ≡ old → StandsForConnections (source_for host old) table c → StandsForConnections (source_for host new) table c
+same_source host old new table c same z = subst (λ (r : Registry). StandsForConnections (source_for host r) table c) (sym same) z
 
 -- ---- the table alone
 

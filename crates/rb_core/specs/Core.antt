@@ -17,7 +17,7 @@ use Rattle.rb_core.specs.Calls.{Outcome, Outcome as said, message_with, longest_
 use Rattle.rb_core.specs.StandsFor.{Table, Held, StandsFor}
 use Rattle.rb_core.specs.Slots.{IsDraft, Acts}
 use Rattle.rb_core.specs.Awaits.{AreAwaited}
-use Rattle.rb_core.specs.Listings.{AreTold}
+use Rattle.rb_core.specs.Listings.{AreTold, source_in}
 use Rattle.rb_core.specs.declared.types.Told.{Told}
 use Rattle.rb_core.specs.Ending.{tell, told_at}
 use Rattle.rb_core.specs.Step.{settled_in, serve_message}
@@ -35,7 +35,7 @@ pub record IsCore (setting : Setting) (connections : Table) (books : Books) (rep
   pub few : setting.limits.forwards ≤ 64
   pub first_xid : books.forwards.first_xid ≡ setting.first_xid
   pub awaited : AreAwaited books.forwards connections
-  pub told : AreTold (record { host = setting.listener.host; registry = books.registry }) connections
+  pub told : AreTold (source_in setting.listener.host books) connections
   pub tied : AreTied reply.tie books
   pub connections_tie : connections.tie ≡ reply.tie
   pub reply_cap : reply.cap ≡ longest_reply

@@ -13,14 +13,11 @@ use Rattle.rb_core.specs.Step.Event.{Open, Bytes, Pending, Gave, Forward, Closed
 
 -- ---- parts of calls
 
--- what the statistics have part in it: a look-up is noted, and they are shown
-abbrev pub counting_cost : ℕ
-counting_cost = note_cost + statistics_cost
-
 -- what it costs to serve a message over so many rows, where so many are left: the procedure walks the rows, twice for
--- an UNSET, those of a list are walked twice, a reply of 9,000 bytes is written, and what is forwarded is kept
+-- an UNSET, those of a list are walked twice, a reply of 9,000 bytes is written, a look-up is noted, the statistics are
+-- shown, and what is forwarded is kept
 abbrev pub serve_cost : ℕ → ℕ → ℕ
-serve_cost rows left = 6 * rows + 4 * left + 9043 + counting_cost + forward_cost
+serve_cost rows left = 6 * rows + 4 * left + 9043 + note_cost + statistics_cost + forward_cost
 
 -- what it costs to show a fragment: the window is emptied, and a header of 4 bytes and at most 1,024 of data are written
 abbrev pub show_cost : ℕ

@@ -2,7 +2,6 @@
 use Rattle.std.specs.Prelude.{◌≡◌, ℕ, ◌<◌, ◌+◌, nat_lt, false, List, if◌then◌else◌, IfSome, length, take, drop, Option, Some, Result, None, Ok, Err}
 use Rattle.rb_xdr.specs.Kept.{Kept}
 use Rattle.rb_rpc.specs.Records.{marked}
-use Rattle.rb_registry.specs.Registry.{Registry}
 use Rattle.rb_proto.specs.declared.list_reply.ListReply.{ListReply}
 use Rattle.rb_proto.specs.ListReplies.{rest_of, IsTold}
 use Rattle.rb_core.specs.declared.types.CoreFault.{CoreFault}
@@ -40,9 +39,6 @@ pending_count (Ok bytes) = Ok (length bytes)
 pending_count (Err fault) = Err fault
 
 -- ---- a list
-
-abbrev pub source_for : List ℕ → Registry → Source
-source_for host registry = record { host = host; registry = registry }
 
 -- The source can tell a list, of which some bytes are yet to be given.
 pub record IsToldBy (source : Source) (list : ListReply) : Type 0 where

@@ -11,7 +11,7 @@ use Rattle.rb_core.specs.declared.slot.Stage.TheVariants as stages
 use Rattle.rb_core.specs.declared.slot.Slot.{Slot}
 use Rattle.rb_core.specs.declared.message.Message.{Message}
 use Rattle.rb_core.specs.declared.message.Message.TheVariants as says
-use Rattle.rb_core.specs.StandsFor.{Source, Table, StandsForConnections}
+use Rattle.rb_core.specs.StandsFor.{Source, Table, StandsForConnections, source_for}
 use Rattle.rb_core.specs.Giving.{GoesOnBy}
 use Rattle.rb_core.specs.Losses.{crowding, evicting}
 use Rattle.rb_core.specs.Slots.{TableBecomes}
@@ -111,7 +111,7 @@ HasRoom context (says.Garbage head) books = ⊤
 
 -- what lists are made from that show a host
 abbrev pub source_in : List ℕ → Books → Source
-source_in host books = record { host = host; registry = books.registry }
+source_in host books = source_for host books.registry
 
 -- The connections that are in the way of the message's row become Lost, and the ledger stays.
 abbrev pub Evicts : Context → Message → Table → Books → Table → Books → Type 0

@@ -67,6 +67,9 @@ pub record Source : Type 0 where
   pub host : List ℕ
   pub registry : Registry
 
+abbrev pub source_for : List ℕ → Registry → Source
+source_for host registry = record { host = host; registry = registry }
+
 -- the bytes behind the fragment that is shown
 abbrev pub rest_behind : Source → Stream → List ℕ
 rest_behind source stream = rest_of source.host source.registry stream.behind
@@ -145,7 +148,7 @@ pub record Held : Type 0 where
 
 -- what lists are made from
 abbrev pub source_of : Held → Source
-source_of held = record { host = held.setting.listener.host; registry = held.books.registry }
+source_of held = source_for held.setting.listener.host held.books.registry
 
 -- Neither the changes nor the history of calls is held, nor a list as a whole. Between two events no arguments are, and no
 -- more bytes of a connection and of the reply than there is room for. No state knows when the last event began.

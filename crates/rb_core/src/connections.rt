@@ -236,7 +236,7 @@ fn recounted(held: u64, before: u64, slot: &Slot, meter: &mut Meter) -> u64
 impl Connections {
     ghost use Rattle.std.specs.Prelude.{◌≡◌, ◌≤◌, ◌<◌, ◌+◌, ◌*◌, [], true, false, ℕ, length, Some, OnErr, IfOk, IfSome, All};
     ghost use Rattle.rb_core.specs.Connections.{on_live, opening_of, closing_of, first_lost, longest_fragment};
-    ghost use Rattle.rb_core.specs.Giving.{source_for, IsToldBy, pending_count};
+    ghost use Rattle.rb_core.specs.Giving.{IsToldBy, pending_count};
     ghost use Rattle.rb_core.specs.Serving.{BeginsList, Serves, is_closed_by, kind_in, IsWritten, IsToldIn};
     ghost use Rattle.rb_core.specs.Listings.{AreTold, KeepsTold, EvictsBefore, stamps_of, IsOldest};
     ghost use Rattle.rb_core.specs.Losses.{expiring};
@@ -246,7 +246,7 @@ impl Connections {
     ghost use Rattle.rb_core.specs.CallCosts.{slot_count, look_cost, taken_cost, list_cost, giving_cost};
     ghost use Rattle.rb_core.specs.Costs.{settle_cost, pending_cost, oldest_cost, evict_cost};
     ghost use Rattle.rb_core.specs.Awaits.{has_idle, AwaitsIfForwarded, NoneIsFreed, OnlyIsFreed, HearsFree};
-    ghost use Rattle.rb_core.specs.StandsFor.{held_in, most_charge};
+    ghost use Rattle.rb_core.specs.StandsFor.{held_in, most_charge, source_for};
     ghost use Rattle.std.specs.Map.{values_of};
 
     /// No connections yet, of at most so many. All of their memory is taken.

@@ -137,9 +137,9 @@ impl Slot {
     ghost use Rattle.rb_core.specs.State.{Connection};
     ghost use Rattle.rb_core.specs.Connections.{settled, giving, pending_in, longest_fragment};
     ghost use Rattle.rb_core.specs.Slots.{is_due_slot, SlotActs, SlotBecomes, SlotGives, SlotHears, SlotShows, emptied_slot, ReceivesPiece, StandsBehindPiece, HearsPiece, HasBuffers, IsDraft, StaysSlot, feeding, is_lost_stage, is_idle_stage, is_wanted_slot};
-    ghost use Rattle.rb_core.specs.StandsFor.{StandsForConnection, charge, most_charge, Source};
+    ghost use Rattle.rb_core.specs.StandsFor.{StandsForConnection, charge, most_charge, source_for};
     ghost use Rattle.rb_core.specs.Listings.{slot_began, IsNoList, IsToldSlot, KeepsToldSlot};
-    ghost use Rattle.rb_core.specs.Giving.{source_for, IsToldBy, GoesOnBy};
+    ghost use Rattle.rb_core.specs.Giving.{IsToldBy, GoesOnBy};
     ghost use Rattle.rb_core.specs.Serving.{SlotBeginsList};
     ghost use Rattle.rb_core.specs.Awaits.{is_awaiting_stage, HearsSlot};
     ghost use Rattle.rb_core.specs.Core.{given_in};

@@ -5,7 +5,7 @@ use Rattle.rb_core.specs.contracts.connections.Connections.{the_view}
 use Rattle.rb_core.specs.declared.types.CoreFault.TheVariants.{Gone}
 use Rattle.rb_core.specs.Connections.{on_live, giving}
 use Rattle.rb_core.specs.Slots.{Acts, HasBuffers}
-use Rattle.rb_core.specs.StandsFor.{StandsForConnections, Source}
+use Rattle.rb_core.specs.StandsFor.{StandsForConnections, source_for}
 use Rattle.rb_xdr.proofs.PoolLemmas.{All-value_at}
 use Rattle.rb_core.proofs.Holding.{its_buffers, charge_fits, held_few, stays_changed, recounted_cost}
 use Rattle.rb_core.proofs.Slots.{acts_from, gone_acts, live_acts, slot_is_there, table_changed}
@@ -21,7 +21,7 @@ wanted_key-requires-clause-numbers c = distinct_numbers c.self.inside.given (val
 
 pub returns-in_default-clause-acts : goal.returns-in_default-clause-acts
 returns-in_default-clause-acts c =
-    let source : Source = record { host = c.args.host; registry = c.args.registry.now } in
+    let source = source_for c.args.host c.args.registry.now in
     subst (λ t. Acts (StandsForConnections source) (on_live c.args.id (giving c.args.clock c.args.n)) t t (Err Gone)) c.self.view_is
     (gone_acts source c.args.id (giving c.args.clock c.args.n) (the_view c.self.inside) (sym c.in_default.ensures.key))
 
@@ -62,7 +62,7 @@ returns-clause-cost c =
 
 pub returns-clause-acts : goal.returns-clause-acts
 returns-clause-acts c =
-    let source : Source = record { host = c.args.host; registry = c.args.registry.now } in
+    let source = source_for c.args.host c.args.registry.now in
     acts_from source (on_live c.args.id (giving c.args.clock c.args.n)) (the_view c.self.inside) c.args.self.now _ _ c.self.view_is
     (live_acts source c.args.id (giving c.args.clock c.args.n) (the_view c.self.inside) c.in-Some.key c.in-Some-get_mut.slot.now c.give.new.self _ c.self.invariant.distinct (sym c.in-Some.ensures.key) (sym c.in-Some-get_mut.ensures.value) c.give.ensures.acts)
 
@@ -75,11 +75,11 @@ returns-clause-free c = freed_from (the_view c.self.inside) c.args.self.now _ c.
 
 pub give-requires-clause-told : goal.give-requires-clause-told
 give-requires-clause-told c =
-    let source : Source = record { host = c.args.host; registry = c.args.registry.now } in
+    let source = source_for c.args.host c.args.registry.now in
     All-value_at (IsToldSlot source) c.self.inside.slots.entries c.in-Some.key c.in-Some-get_mut.slot.now
     (subst (λ t. AreTold source t) (sym c.self.view_is) c.requires.told) (sym c.in-Some-get_mut.ensures.value)
 
 pub returns-clause-told : goal.returns-clause-told
 returns-clause-told c =
-    let source : Source = record { host = c.args.host; registry = c.args.registry.now } in
+    let source = source_for c.args.host c.args.registry.now in
     told_changed (the_view c.self.inside) c.args.self.now c.self.view_is source c.in-Some.key c.give.new.self c.requires.told c.give.ensures.told

@@ -4,7 +4,7 @@ use Rattle.rb_proto.specs.ListReplies.{rest_of}
 use Rattle.rb_core.specs.contracts.connections.Connections.{the_view}
 use Rattle.rb_core.specs.Calls.{Outcome, Outcome as said}
 use Rattle.rb_core.specs.Connections.{changed_at, settled}
-use Rattle.rb_core.specs.StandsFor.{Source, StandsForConnections}
+use Rattle.rb_core.specs.StandsFor.{StandsForConnections, source_for}
 use Rattle.rb_core.specs.Slots.{HasBuffers}
 use Rattle.rb_core.specs.CallCosts.{show_list_cost}
 use Rattle.rb_core.proofs.Holding.{its_buffers, charge_fits, held_few, stays_changed, recounted_cost}
@@ -20,7 +20,7 @@ wanted_key-requires-clause-numbers c = distinct_numbers c.self.inside.given (val
 
 pub returns-in_default-clause-stands : goal.returns-in_default-clause-stands
 returns-in_default-clause-stands c = λ o h.
-    let source : Source = record { host = c.args.host; registry = c.args.registry.now } in
+    let source = source_for c.args.host c.args.registry.now in
     let reply : Outcome = said.Reply (rest_of c.args.host c.args.registry.now c.args.list) (Some c.args.list.stamp) in
     let z = subst (λ t. StandsForConnections source t o) (sym c.self.view_is) h in
     subst (λ t. StandsForConnections source t (changed_at c.args.id (settled c.args.clock reply) o)) c.self.view_is
@@ -63,14 +63,14 @@ returns-clause-cost c =
 
 pub returns-clause-stands : goal.returns-clause-stands
 returns-clause-stands c = λ o h.
-    let source : Source = record { host = c.args.host; registry = c.args.registry.now } in
+    let source = source_for c.args.host c.args.registry.now in
     let reply : Outcome = said.Reply (rest_of c.args.host c.args.registry.now c.args.list) (Some c.args.list.stamp) in
     let z = subst (λ t. StandsForConnections source t o) (sym c.self.view_is) h in
     live_changed source c.args.id (settled c.args.clock reply) (the_view c.self.inside) c.in-Some.key c.in-Some-get_mut.slot.now c.list.new.self c.self.invariant.distinct (sym c.in-Some.ensures.key) (sym c.in-Some-get_mut.ensures.value) c.list.ensures.stands o z
 
 pub returns-clause-told : goal.returns-clause-told
 returns-clause-told c =
-    let source : Source = record { host = c.args.host; registry = c.args.registry.now } in
+    let source = source_for c.args.host c.args.registry.now in
     told_changed (the_view c.self.inside) c.args.self.now c.self.view_is source c.in-Some.key c.list.new.self c.requires.told c.list.ensures.told
 
 pub returns-in_default-clause-others : goal.returns-in_default-clause-others

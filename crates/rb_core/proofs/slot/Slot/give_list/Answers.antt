@@ -1,6 +1,6 @@
 use Rattle.std.proofs.Common.{refl, ap, ◌∙◌, arith}
 use Rattle.rb_xdr.specs.Kept.{Kept}
-use Rattle.rb_core.specs.StandsFor.{Source, rest_behind}
+use Rattle.rb_core.specs.StandsFor.{rest_behind, source_for}
 use Rattle.rb_core.proofs.OneSlot.{none_given, list_given, list_goes_on, list_is_over, streaming_phase}
 use Rattle.rb_core.proofs.Streaming.{pending_of_list_count, list_stays, list_moves, list_ends, goes_on_shown}
 use Rattle.rb_core.proofs.slot.Slot.give_list.Goals as goal
@@ -15,7 +15,7 @@ returns-then-more-eq0-clause-acts c =
 
 pub returns-then-place-shown-clause-acts : goal.returns-then-place-shown-clause-acts
 returns-then-place-shown-clause-acts c =
-    let source : Source = record { host = c.args.host; registry = c.args.registry.now } in
+    let source = source_for c.args.host c.args.registry.now in
     let stream = c.args.stream in
     let old = c.args.self.now in
     list_given source old _ c.args.clock c.args.n c.min-more.result stream c.requires.stage
@@ -24,7 +24,7 @@ returns-then-place-shown-clause-acts c =
 
 pub returns-then-stream-clause-acts : goal.returns-then-stream-clause-acts
 returns-then-stream-clause-acts c =
-    let source : Source = record { host = c.args.host; registry = c.args.registry.now } in
+    let source = source_for c.args.host c.args.registry.now in
     let stream = c.args.stream in
     let old = c.args.self.now in
     list_given source old _ c.args.clock c.args.n c.min-more.result stream c.requires.stage
@@ -34,7 +34,7 @@ returns-then-stream-clause-acts c =
 
 pub returns-else-stream-clause-acts : goal.returns-else-stream-clause-acts
 returns-else-stream-clause-acts c =
-    let source : Source = record { host = c.args.host; registry = c.args.registry.now } in
+    let source = source_for c.args.host c.args.registry.now in
     let stream = c.args.stream in
     let old = c.args.self.now in
     let shown = c.show_list-next.ensures in
@@ -46,6 +46,6 @@ returns-else-stream-clause-acts c =
 
 pub returns-else-stream-clause-told : goal.returns-else-stream-clause-told
 returns-else-stream-clause-told c =
-    let source : Source = record { host = c.args.host; registry = c.args.registry.now } in
+    let source = source_for c.args.host c.args.registry.now in
     let shown = c.show_list-next.ensures in
     goes_on_shown source (rest_behind source c.args.stream) c.show_list-next.result shown.told shown.rest shown.last
