@@ -38,6 +38,7 @@ bytes_bound limits =
 
 -- ---- steps
 
+-- how many bytes of a piece were taken, as an output says
 abbrev pub count_in : Output → ℕ
 count_in (Took n) = n
 count_in (TookAndClosed n) = n

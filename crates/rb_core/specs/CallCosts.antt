@@ -21,9 +21,11 @@ use Rattle.rb_core.specs.State.{State}
 abbrev pub advance_cost : ℕ
 advance_cost = 2056
 
+-- what it costs to show a fragment of a list of these rows
 abbrev pub show_list_cost : Registry → ℕ
 show_list_cost registry = listed_cost (length (slots_of registry))
 
+-- what it costs to count bytes as given, where a list is of these rows
 abbrev pub give_cost : Registry → ℕ
 give_cost registry = given_cost (length (slots_of registry))
 
@@ -31,6 +33,7 @@ give_cost registry = given_cost (length (slots_of registry))
 abbrev pub giving_cost : Registry → ℕ
 giving_cost registry = give_cost registry + recount_cost
 
+-- what it costs to exchange the buffer of a record, where one ended
 abbrev pub heard_cost : Option Heard → ℕ
 heard_cost None = 0
 heard_cost (Some heard) = exchange_cost
@@ -50,6 +53,7 @@ taking_cost (Err fault) = 0
 
 -- ---- by what is kept
 
+-- what it costs to begin a list of these rows on one of so many connections
 abbrev pub list_cost : ℕ → Registry → ℕ
 list_cost connections registry = begin_list_cost connections (length (slots_of registry))
 
@@ -72,6 +76,7 @@ slot_count table = length table.slots
 abbrev pub look_cost : Table → ℕ
 look_cost table = find_cost (slot_count table)
 
+-- what it costs to make room for a row
 abbrev pub room_cost_of : Table → Books → ℕ
 room_cost_of table books = make_room_cost (slot_count table) (kept_count books)
 

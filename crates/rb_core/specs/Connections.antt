@@ -17,7 +17,7 @@ use Rattle.rb_core.specs.Calls.Outcome.{NoCall, Reply, Forwarded, Silent}
 unfoldable pub longest_fragment : ℕ
 longest_fragment = 1028
 
--- of that, what is left of the fragment in which the giving stands
+-- of what is still to be given, what is left of the fragment in which the giving stands
 unfoldable pub pending_of : Owed → List ℕ
 pending_of o = drop o.given (take (longest_fragment * (o.given / longest_fragment + 1)) o.marked)
 

@@ -33,7 +33,7 @@ ShowsOn reply old new given more result =
     (o : Owed) → IsGiving reply old given o
     → IfSome result (λ count. IsGiving reply new count (record o { given = o.given + more }))
 
--- how many bytes that is
+-- how many bytes are pending
 abbrev pub pending_count : Result (List ℕ) CoreFault → Result ℕ CoreFault
 pending_count (Ok bytes) = Ok (length bytes)
 pending_count (Err fault) = Err fault

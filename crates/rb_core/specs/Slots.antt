@@ -145,6 +145,10 @@ BecomesFrom source change old new =
 abbrev pub TableBecomes : (Connections → Connections) → Table → Table → Type 0
 TableBecomes change old new = (source : Source) → BecomesFrom source change old new
 
+-- the connections, with the record of the live one of the number answered so
+abbrev pub settling : ℕ → ℕ → Outcome → Connections → Connections
+settling id clock given c = changed_at id (settled clock given) c
+
 -- the arguments that the core has once a piece for the connection of a number was taken
 abbrev pub arguments_on : ℕ → List ℕ → List ℕ → Connections → List ℕ
 arguments_on id before piece connections = option_map_or (arguments_heard before piece) (live_connection id connections.all) before
@@ -290,7 +294,3 @@ pub record IsTable (slots : Pool Slot) (spare : Pool Buffers) (given conns held 
   pub few : conns ≤ 256
   pub within : AreWithin slots.entries
   pub is_held : held ≡ held_in (values_of slots.entries)
-
--- the connections, with the record of the live one of the number answered so
-abbrev pub settling : ℕ → ℕ → Outcome → Connections → Connections
-settling id clock given c = changed_at id (settled clock given) c

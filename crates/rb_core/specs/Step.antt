@@ -228,6 +228,7 @@ step s (Expire now) = show_expired (expire s now)
 
 -- ---- runs
 
+-- the outputs of a list of events
 abbrev pub run : State → List Event → List Output
 run s [] = []
 run s (event ∷ events) = (step s event).0 ∷ run (step s event).1 events
