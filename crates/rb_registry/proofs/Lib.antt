@@ -5,6 +5,7 @@ pub mod Changes
 pub mod Finds
 pub mod Newest
 pub mod Holding
+pub mod Counting
 pub mod Registries
 pub mod History
 pub mod Stands

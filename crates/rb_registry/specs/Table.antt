@@ -1,7 +1,7 @@
 -- The table of rows with their changes: what it was after n changes, and what calls make of it.
-use Rattle.std.specs.Prelude.{◌≡◌, ℕ, ◌+◌, ◌*◌, ◌^◌, ◌≤◌, ◌<◌, Bool, ◌&&◌, if◌then◌else◌, List, [], ◌∷◌, length, map, filter, not, Option, Some, None, IfSome, Contains, All, min, fold, unwrap_or}
+use Rattle.std.specs.Prelude.{◌≡◌, ℕ, ◌+◌, ◌*◌, ◌^◌, ◌≤◌, ◌<◌, Bool, ◌&&◌, if◌then◌else◌, List, [], ◌∷◌, length, map, filter, not, Option, Some, None, IfSome, Contains, All, min, fold, unwrap_or, count_by}
 use Rattle.std.specs.Borrow.{Bor}
-use Rattle.std.specs.List.{filter_map, list_any}
+use Rattle.std.specs.List.{filter_map}
 use Rattle.std.specs.Map.{values_of}
 use Rattle.rb_xdr.specs.Meter.{Meter}
 use Rattle.rb_xdr.specs.Places.{to_come}
@@ -21,6 +21,18 @@ table_at n (e ∷ rest) = if is_live_at n e.1 then (e.0, e.1.row) ∷ table_at n
 abbrev pub live_at : ℕ → List (ℕ × Slot) → List Row
 live_at n entries = values_of (table_at n entries)
 
+-- the changes that removed the dead ones of these, in the order of the rows
+abbrev pub removals : List (ℕ × Slot) → List ℕ
+removals entries = filter_map (λ slot. slot.removed) (values_of entries)
+
+-- how many they are
+abbrev pub count_dead : List (ℕ × Slot) → ℕ
+count_dead entries = length (removals entries)
+
+-- the bytes that all of these hold
+abbrev pub count_held : List (ℕ × Slot) → ℕ
+count_held entries = held_in (values_of entries)
+
 -- both numbers are of changes that were made, and the address text has at most 128 bytes
 pub record IsStamped (stamp : ℕ) (slot : Slot) : Type 0 where
   pub added : slot.added ≤ stamp
@@ -31,14 +43,15 @@ abbrev pub AreStamped : ℕ → List (ℕ × Slot) → Type 0
 AreStamped stamp [] = Unit {0}
 AreStamped stamp (e ∷ rest) = IsStamped stamp e.1 × AreStamped stamp rest
 
--- What is true of a registry between two calls, where it counts so many bytes as held.
-pub record IsTable (stamp floor limit held : ℕ) (entries : List (ℕ × Slot)) : Type 0 where
+-- What is true of a registry between two calls, where it counts so many bytes as held, and so many rows as dead.
+pub record IsTable (stamp floor limit held dead : ℕ) (entries : List (ℕ × Slot)) : Type 0 where
   pub distinct : HasDistinctKeys entries
   pub stamped : AreStamped stamp entries
   pub made : floor ≤ stamp
   pub few : limit < 2 ^ 56
   pub within : length entries ≤ limit
-  pub is_held : held ≡ held_in (values_of entries)
+  pub is_held : held ≡ count_held entries
+  pub are_dead : dead ≡ count_dead entries
 
 -- ---- what a removal marks, and what a trim drops
 
@@ -53,8 +66,8 @@ marked stamp change slot = if goes stamp change slot then record slot { removed 
 abbrev pub all_marked : ℕ → Change → List (ℕ × Slot) → List (ℕ × Slot)
 all_marked stamp change entries = map (λ e. (e.0, marked stamp change e.1)) entries
 
-abbrev pub some_goes : ℕ → Change → List (ℕ × Slot) → Bool
-some_goes stamp change entries = list_any (goes stamp change) (values_of entries)
+abbrev pub count_going : ℕ → Change → List (ℕ × Slot) → ℕ
+count_going stamp change entries = count_by (goes stamp change) (values_of entries)
 
 abbrev pub with_marks : ℕ → Change → Pool Slot → Pool Slot
 with_marks stamp change pool = record pool { entries = all_marked stamp change pool.entries }
@@ -77,11 +90,7 @@ count_left entries place = length (to_come entries place)
 abbrev pub PaysFor : List (ℕ × Slot) → Option ℕ → Option ℕ → Meter → Meter → Type 0
 PaysFor entries place next old new = new.steps + 2 * count_left entries next ≤ old.steps + 2 * count_left entries place
 
--- ---- the dead rows
-
--- the changes that removed the dead ones of these, in the order of the rows
-abbrev pub removals : List (ℕ × Slot) → List ℕ
-removals entries = filter_map (λ slot. slot.removed) (values_of entries)
+-- ---- the least of the changes that removed the dead rows
 
 abbrev pub lesser : Option ℕ → ℕ → ℕ
 lesser None number = number

@@ -7,7 +7,9 @@ use crate::fault::RegistryFault;
 use crate::removal::Removal;
 use crate::row::{Netid, Owner, Row, Which};
 use crate::slot::Slot;
-use crate::walk::{count_dead, drop_dead, find_exact, find_row, has_key, live_after, mark_covered};
+use crate::walk::{
+    drop_dead, find_exact, find_row, has_key, least_removal, live_after, mark_covered,
+};
 use rb_xdr::{Meter, Pool};
 use std::alloc::Global;
 use std::marker::Model;
@@ -25,6 +27,7 @@ pub struct Registry {
     changes: u64,
     floor: u64,
     held: u64,
+    dead: usize,
 }
 
 /// A core keeps its bytes in pools and buffers alone. A further field would not compile here: it
@@ -35,9 +38,11 @@ fn layout(registry: &Registry) {
         changes,
         floor,
         held,
+        dead,
     } = registry;
     let _: &Pool<Slot> = slots;
     let _: [u64; 3] = [*changes, *floor, *held];
+    let _: usize = *dead;
 }
 
 impl Model for Registry {
@@ -55,7 +60,7 @@ impl Model for Registry {
       tie = r.slots.tie;
     } };
 
-    ghost invariant = { λ r. IsTable r.changes r.floor r.slots.cap r.held r.slots.entries };
+    ghost invariant = { λ r. IsTable r.changes r.floor r.slots.cap r.held r.dead r.slots.entries };
 }
 
 // Whether one more change has a number.
@@ -125,6 +130,7 @@ impl Registry {
             changes: 0,
             floor: 0,
             held,
+            dead: 0,
         })
     }
 
@@ -199,10 +205,12 @@ impl Registry {
             return false;
         }
         let removed = mark_covered(&mut self.slots, self.changes, &removal, meter);
-        if removed {
-            self.changes += 1;
+        if removed == 0 {
+            return false;
         }
-        removed
+        self.changes += 1;
+        self.dead += removed;
+        true
     }
 
     /// The row of exactly this version, else that of the greatest version that the program has on the
@@ -233,10 +241,9 @@ impl Registry {
         ensures counted { length (rows_of self.now) + dead_count self.now
             ≡ length (slots_of self.now) }
         ensures few { length (slots_of self.now) ≤ self.now.limit }
-        ensures cost { PaysAtMost meter.old meter.new (2 * length (slots_of self.now) + 3) }
+        ensures cost { PaysAtMost meter.old meter.new 1 }
     {
-        let (dead, _) = count_dead(&self.slots, meter);
-        self.slots.len(meter) - dead
+        self.slots.len(meter) - self.dead
     }
 
     /// How many changes were accepted: rows set, and removals of at least one row.
@@ -248,17 +255,22 @@ impl Registry {
     }
 
     /// How many dead rows are still there, and the least change that removed one of them, 0 where
-    /// there is none.
+    /// there is none: then no row is looked at.
     pub fn kept(&self, meter: &mut Meter) -> (usize, u64)
         requires { meter.old.tie ≡ self.now.tie }
         ensures count { result.0 ≡ dead_count self.now }
         ensures least { IsLeast (removals_of self.now) result.1 }
-        ensures cost { PaysAtMost meter.old meter.new (2 * length (slots_of self.now) + 2) }
+        ensures cost { PaysAtMost meter.old meter.new (2 * length (slots_of self.now) + 1) }
+        ensures free { dead_count self.now ≡ 0 → meter.new ≡ meter.old }
     {
-        count_dead(&self.slots, meter)
+        if self.dead == 0 {
+            return (0, 0);
+        }
+        (self.dead, least_removal(&self.slots, meter))
     }
 
     /// Drops the dead rows that were removed by that change or one before it, all where none is named.
+    /// Where no row is dead, none is looked at.
     ///
     /// The floor rises to it, or to the number of changes that were accepted where that is less or none
     /// is named. It never falls.
@@ -275,8 +287,11 @@ impl Registry {
         ensures memory { self.new.memory ≡ self.old.memory }
         ensures tie { self.new.tie ≡ self.old.tie }
         ensures cost { PaysAtMost meter.old meter.new (3 * length (slots_of self.old) + 1) }
+        ensures free { dead_count self.old ≡ 0 → meter.new ≡ meter.old }
     {
-        self.held -= drop_dead(&mut self.slots, oldest, meter);
+        let dropped = drop_dead(&mut self.slots, self.dead, oldest, meter);
+        self.dead -= dropped.rows;
+        self.held -= dropped.bytes;
         let told = oldest.unwrap_or(self.changes).min(self.changes);
         self.floor = self.floor.max(told);
     }

@@ -1,13 +1,11 @@
 //! Walks over the rows, live and dead, in their order.
 ghost use Rattle.std.specs.Prelude.{◌≡◌, ◌+◌, ◌*◌, ◌^◌, ◌<◌, length, IfSome, Some, option_copied};
 ghost use Rattle.std.specs.List.{list_any};
-ghost use Rattle.std.specs.Map.{values_of};
 ghost use Rattle.rb_xdr.specs.Meter.{PaysAtMost};
 ghost use Rattle.rb_xdr.specs.Pool.{HasDistinctKeys};
 ghost use Rattle.rb_registry.specs.Removals.{change_of};
 ghost use Rattle.rb_registry.specs.Rows.{find_exact, find_row, is_of_key};
-ghost use Rattle.rb_registry.specs.Slots.{held_in};
-ghost use Rattle.rb_registry.specs.Table.{live_at, some_goes, with_marks, undropped, removals, lesser, least_of, IsNextLive, count_left, PaysFor};
+ghost use Rattle.rb_registry.specs.Table.{live_at, count_going, with_marks, undropped, removals, count_dead, count_held, lesser, least_of, IsNextLive, count_left, PaysFor};
 
 use crate::removal::Removal;
 use crate::row::{Netid, Row};
@@ -81,21 +79,22 @@ pub(crate) fn find_row<'a>(
     newest
 }
 
-/// Marks each live row that the removal covers as removed by the next change, and says whether there was one.
+/// Marks each live row that the removal covers as removed by the next change, and says how many there were.
 pub(crate) fn mark_covered(
     slots: &mut Pool<Slot>,
     stamp: u64,
     removal: &Removal,
     meter: &mut Meter,
-) -> bool
+) -> usize
     requires tie { meter.old.tie ≡ slots.old.tie }
     requires number { stamp + 1 < 2 ^ 64 }
+    requires few { length slots.old.entries < 2 ^ 64 }
     requires distinct { HasDistinctKeys slots.old.entries }
-    ensures removed { result ≡ some_goes stamp (change_of removal.now) slots.old.entries }
+    ensures removed { result ≡ count_going stamp (change_of removal.now) slots.old.entries }
     ensures marks { slots.new ≡ with_marks stamp (change_of removal.now) slots.old }
     ensures cost { PaysAtMost meter.old meter.new (3 * length slots.old.entries + 1) }
 {
-    let mut removed = false;
+    let mut removed = 0;
     let mut place = None;
     'rows: while let Some((key, slot)) = slots.entry_after(place, meter) {
         if slot.is_live_at(stamp) && removal.covers(&slot.row) {
@@ -103,57 +102,73 @@ pub(crate) fn mark_covered(
                 unreachable!()
             };
             gone.removed = Some(stamp + 1);
-            removed = true;
+            removed += 1;
         }
         place = Some(key);
     }
     removed
 }
 
-/// Takes out the dead rows that were removed by that change or one before it, all where none is named, and says how many
-/// bytes they held.
-pub(crate) fn drop_dead(slots: &mut Pool<Slot>, oldest: Option<u64>, meter: &mut Meter) -> u64
+/// How many rows were taken out, and how many bytes they held.
+#[derive(Drop)]
+pub(crate) struct Dropped {
+    pub(crate) rows: usize,
+    pub(crate) bytes: u64,
+}
+
+/// Takes out, of so many dead rows, those that were removed by that change or one before it, all where none is named.
+/// Where no row is dead, none is looked at.
+pub(crate) fn drop_dead(
+    slots: &mut Pool<Slot>,
+    dead: usize,
+    oldest: Option<u64>,
+    meter: &mut Meter,
+) -> Dropped
     requires tie { meter.old.tie ≡ slots.old.tie }
-    requires held { held_in (values_of slots.old.entries) < 2 ^ 64 }
+    requires dead { dead ≡ count_dead slots.old.entries }
+    requires held { count_held slots.old.entries < 2 ^ 64 }
     requires distinct { HasDistinctKeys slots.old.entries }
     ensures left { slots.new
         ≡ record slots.old { entries = undropped oldest slots.old.entries } }
     ensures distinct { HasDistinctKeys slots.new.entries }
-    ensures freed { result + held_in (values_of slots.new.entries)
-        ≡ held_in (values_of slots.old.entries) }
+    ensures rows { result.rows + count_dead slots.new.entries ≡ count_dead slots.old.entries }
+    ensures bytes { result.bytes + count_held slots.new.entries ≡ count_held slots.old.entries }
     ensures cost { PaysAtMost meter.old meter.new (3 * length slots.old.entries + 1) }
+    ensures free { dead ≡ 0 → meter.new ≡ meter.old }
 {
-    let mut freed = 0;
+    if dead == 0 {
+        return Dropped { rows: 0, bytes: 0 };
+    }
+    let mut rows = 0;
+    let mut bytes = 0;
     let mut place = None;
     'rows: while let Some((key, slot)) = slots.entry_after(place, meter) {
         if slot.is_dropped(oldest) {
-            freed += slot.row.charge();
+            rows += 1;
+            bytes += slot.row.charge();
             slots.remove(key, meter);
         } else {
             place = Some(key);
         }
     }
-    freed
+    Dropped { rows, bytes }
 }
 
-/// How many rows are dead, and the least change that removed one of them, 0 where there is none.
-pub(crate) fn count_dead(slots: &Pool<Slot>, meter: &mut Meter) -> (usize, u64)
+/// The least change that removed a row which is still there, 0 where there is none.
+pub(crate) fn least_removal(slots: &Pool<Slot>, meter: &mut Meter) -> u64
     requires tie { meter.old.tie ≡ slots.now.tie }
-    ensures count { result.0 ≡ length (removals slots.now.entries) }
-    ensures least { result.1 ≡ least_of (removals slots.now.entries) }
-    ensures cost { PaysAtMost meter.old meter.new (2 * length slots.now.entries + 2) }
+    ensures least { result ≡ least_of (removals slots.now.entries) }
+    ensures cost { PaysAtMost meter.old meter.new (2 * length slots.now.entries + 1) }
 {
-    let mut count = slots.len(meter);
     let mut least = None;
     let mut place = None;
     'rows: while let Some((key, slot)) = slots.entry_after(place, meter) {
-        match slot.removed {
-            None => count -= 1,
-            Some(removed) => least = Some(lesser(least, removed)),
+        if let Some(removed) = slot.removed {
+            least = Some(lesser(least, removed));
         }
         place = Some(key);
     }
-    (count, least.unwrap_or(0))
+    least.unwrap_or(0)
 }
 
 fn lesser(least: Option<u64>, number: u64) -> u64

@@ -2,13 +2,15 @@ use Rattle.std.proofs.Common.{◌≡◌, ◌+◌, ◌*◌, ◌≤◌, length}
 use Rattle.std.specs.Map.{values_of}
 use Rattle.rb_xdr.specs.Places.{to_come}
 use Rattle.rb_registry.specs.Slots.{is_dropped, held_in}
+use Rattle.rb_registry.specs.Table.{removals}
 use Rattle.rb_registry.proofs.Removing.{Removing}
 use Rattle.rb_registry.proofs.walk.drop_dead.Given as goal
 
 abbrev pub invariant-rows : goal.invariant-rows
 invariant-rows l = record {
   removing : Removing (is_dropped l.oldest) l.fn.slots.entries l.slots.entries l.place;
-  freed : l.freed + held_in (values_of l.slots.entries) ≡ held_in (values_of l.fn.slots.entries);
+  rows : l.rows + length (removals l.slots.entries) ≡ length (removals l.fn.slots.entries);
+  bytes : l.bytes + held_in (values_of l.slots.entries) ≡ held_in (values_of l.fn.slots.entries);
   cap : l.slots.cap ≡ l.fn.slots.cap;
   memory : l.slots.memory ≡ l.fn.slots.memory;
   tie : l.slots.tie ≡ l.fn.slots.tie;

@@ -6,12 +6,12 @@ use Rattle.rb_registry.proofs.registry.Registry.len.Goals as goal
 pub overflow_sub-result : goal.overflow_sub-result
 overflow_sub-result c =
     let whole = live_and_dead c.self.inside.changes c.self.inside.slots.entries c.self.invariant.stamped in
-    omega (arith, whole, c.len.ensures.len, c.count_dead-dead.ensures.count)
+    omega (arith, whole, c.len.ensures.len, c.self.invariant.are_dead)
 
 pub returns-clause-len : goal.returns-clause-len
 returns-clause-len c =
     let whole = live_and_dead c.self.inside.changes c.self.inside.slots.entries c.self.invariant.stamped in
-    rw (← c.self.view_is) (omega (arith, whole, c.len.ensures.len, c.count_dead-dead.ensures.count))
+    rw (← c.self.view_is) (omega (arith, whole, c.len.ensures.len, c.self.invariant.are_dead))
 
 pub returns-clause-counted : goal.returns-clause-counted
 returns-clause-counted c =

@@ -33,6 +33,7 @@ own-preserved c =
         few = c.own.invariant.table.few;
         within = room;
         is_held = omega (arith, c.charge-held.ensures.charge, c.own.invariant.table.is_held, held-push c.in-Ok.field-0 0 c.in-Some.row c.own.slots.entries);
+        are_dead = c.own.invariant.table.are_dead ∙ ap (λ (ns : List ℕ). length ns) (sym (removals-push c.in-Ok.field-0 0 c.in-Some.row c.own.slots.entries));
       });
       slots = rw c.in-Ok.ensures.ok
           (values_of-push c.own.slots.entries c.in-Ok.field-0 (slot_of 0 c.in-Some.row)

@@ -10,7 +10,7 @@ invariant-own l = record {
   can_next : (goal.iterator-own).can_next l.row-iterator;
   finite : (goal.iterator-own).is_finite l.row-iterator;
   left : l.yielded ++ array_into_iter_items l.row-iterator ≡ l.fn.own_rows;
-  table : IsTable 0 0 l.slots.cap l.held l.slots.entries;
+  table : IsTable 0 0 l.slots.cap l.held 0 l.slots.entries;
   slots : values_of l.slots.entries ≡ slots_from 0 l.yielded [];
   dead : removals l.slots.entries ≡ [];
   counted : length (values_of (table_at 0 l.slots.entries)) + length (removals l.slots.entries) ≡ length l.slots.entries;

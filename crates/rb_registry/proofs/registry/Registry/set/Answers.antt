@@ -1,4 +1,4 @@
-use Rattle.std.proofs.Common.{◌≡◌, ◌<◌, length, length-append, ◌∷◌, [], arith, sym, subst, true, false, ◌+◌}
+use Rattle.std.proofs.Common.{◌≡◌, ℕ, List, ap, ◌∙◌, ◌<◌, length, length-append, ◌∷◌, [], arith, sym, subst, true, false, ◌+◌}
 use Rattle.rb_registry.specs.Slots.{slot_of}
 use Rattle.rb_registry.specs.Registry.{Registry, StandsForChanges}
 use Rattle.rb_registry.specs.contracts.registry.Registry.{the_view}
@@ -28,6 +28,7 @@ invariant_of-self c = rw c.in-Ok.ensures.ok (record {
   made = let made = c.self.invariant.made in omega (arith, made);
   few = c.self.invariant.few;
   within = let room : length c.self.inside.slots.entries < c.self.inside.slots.cap = c.in-Ok.ensures.room.0 (λ i. true) in let longer = length-append c.self.inside.slots.entries ((c.in-Ok.field-0, slot_of (c.self.inside.changes + 1) c.args.row) ∷ []) in omega (arith, room, longer);
+  are_dead = c.self.invariant.are_dead ∙ ap (λ (ns : List ℕ). length ns) (sym (removals-push c.in-Ok.field-0 (c.self.inside.changes + 1) c.args.row c.self.inside.slots.entries));
   is_held = let more = held-push c.in-Ok.field-0 (c.self.inside.changes + 1) c.args.row c.self.inside.slots.entries in let held = c.self.invariant.is_held in omega (arith, more, held, c.charge-charge.ensures.charge);
 })
 

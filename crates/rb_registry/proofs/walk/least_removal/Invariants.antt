@@ -2,15 +2,14 @@ use Rattle.std.proofs.Common.{◌≡◌, ◌+◌, ◌*◌, ◌≤◌, length, So
 use Rattle.std.specs.Prelude.{fold}
 use Rattle.rb_xdr.specs.Places.{to_come}
 use Rattle.rb_registry.specs.Table.{removals, lesser}
-use Rattle.rb_registry.proofs.walk.count_dead.Given as goal
+use Rattle.rb_registry.proofs.walk.least_removal.Given as goal
 
 abbrev pub invariant-rows : goal.invariant-rows
 invariant-rows l = record {
-  count : l.count + length (removals (to_come l.slots.entries l.place)) ≡ length (removals l.slots.entries) + length (to_come l.slots.entries l.place);
   least : fold (λ least number. Some (lesser least number)) l.least (removals (to_come l.slots.entries l.place)) ≡ fold (λ least number. Some (lesser least number)) None (removals l.slots.entries);
   tie : l.meter.tie ≡ l.fn.meter.tie;
   rises : l.fn.meter.steps ≤ l.meter.steps;
-  steps : l.meter.steps + 2 * length (to_come l.slots.entries l.place) ≤ l.fn.meter.steps + 1 + 2 * length l.slots.entries;
+  steps : l.meter.steps + 2 * length (to_come l.slots.entries l.place) ≤ l.fn.meter.steps + 2 * length l.slots.entries;
 }
 
 abbrev pub decreases-rows : goal.decreases-rows
