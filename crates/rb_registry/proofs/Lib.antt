@@ -3,6 +3,7 @@ pub mod Marking
 pub mod Tables
 pub mod Changes
 pub mod Finds
+pub mod Searching
 pub mod Newest
 pub mod Holding
 pub mod Counting

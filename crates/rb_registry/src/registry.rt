@@ -117,9 +117,9 @@ impl Registry {
         'own: for row in own_rows {
             held += row.charge();
             let slot = Slot {
-                row,
                 added: 0,
                 removed: None,
+                row,
             };
             let Ok(_) = slots.insert(slot, meter) else {
                 unreachable!()
@@ -157,9 +157,9 @@ impl Registry {
         }
         let charge = row.charge();
         let slot = Slot {
-            row,
             added: self.changes + 1,
             removed: None,
+            row,
         };
         match self.slots.insert(slot, meter) {
             Ok(_) => {

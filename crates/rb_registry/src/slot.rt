@@ -1,27 +1,29 @@
 //! A row with the changes that added and removed it.
 ghost use Rattle.std.specs.Prelude.{◌≡◌};
-ghost use Rattle.rb_registry.specs.Slots.{is_live_at, is_dropped};
+ghost use Rattle.rb_registry.specs.Slots.{is_live_at, is_live_row, is_dropped};
 
-use crate::row::Row;
+use crate::row::{Netid, Row};
 
 /// A row, the number of the change that added it (0 for an own row), and of the one that removed it.
+///
+/// The numbers stand before the row and its long address, so that what a walk looks at is together.
 #[derive(Drop)]
 pub(crate) struct Slot {
-    pub(crate) row: Row,
     pub(crate) added: u64,
     pub(crate) removed: Option<u64>,
+    pub(crate) row: Row,
 }
 
 /// A core keeps its bytes in pools and buffers alone. A further field would not compile here: it
 /// belongs in the table of charges of docs/RULES.md first.
 fn layout(slot: &Slot) {
     let Slot {
-        row,
         added,
         removed,
+        row,
     } = slot;
-    let _: &Row = row;
     let _: (u64, Option<u64>) = (*added, *removed);
+    let _: &Row = row;
 }
 
 impl Slot {
@@ -35,6 +37,14 @@ impl Slot {
                 None => true,
                 Some(removed) => stamp < removed,
             }
+    }
+
+    /// Whether this is the row of the program's version on that netid, live after so many changes.
+    #[tactic(auto, unfolding(crate::specs::Slots::is_live_row))]
+    pub(crate) fn is_live_row(&self, stamp: u64, prog: u32, vers: u32, netid: Netid) -> bool
+        ensures { result ≡ is_live_row stamp prog vers netid self.now }
+    {
+        self.row.is_of(prog, vers, netid) && self.is_live_at(stamp)
     }
 
     /// Whether the row was removed by that change or one before it, or by any where none is named.

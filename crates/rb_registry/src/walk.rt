@@ -23,23 +23,20 @@ pub(crate) fn find_exact<'a>(
     meter: &mut Meter,
 ) -> Option<&'a Row>
     requires tie { meter.old.tie ≡ slots.now.tie }
+    requires distinct { HasDistinctKeys slots.now.entries }
     ensures row { option_copied result
         ≡ find_exact prog vers netid (live_at stamp slots.now.entries) }
     ensures cost { PaysAtMost meter.old meter.new (2 * length slots.now.entries + 1) }
 {
-    let mut place = None;
-    'rows: while let Some((key, slot)) = slots.entry_after(place, meter) {
-        if slot.is_live_at(stamp) && slot.row.is_of(prog, vers, netid) {
-            return Some(&slot.row);
-        }
-        place = Some(key);
-    }
-    None
+    let key = slots.find_key(|slot| slot.is_live_row(stamp, prog, vers, netid), meter)?;
+    let slot = slots.get(key, meter)?;
+    Some(&slot.row)
 }
 
 /// Whether there is a live row of the same program, version and netid.
 pub(crate) fn has_key(slots: &Pool<Slot>, stamp: u64, row: &Row, meter: &mut Meter) -> bool
     requires tie { meter.old.tie ≡ slots.now.tie }
+    requires distinct { HasDistinctKeys slots.now.entries }
     ensures any { result ≡ list_any (is_of_key row.now) (live_at stamp slots.now.entries) }
     ensures cost { PaysAtMost meter.old meter.new (2 * length slots.now.entries + 1) }
 {
@@ -65,11 +62,11 @@ pub(crate) fn find_row<'a>(
     let mut place = None;
     'rows: while let Some((key, slot)) = slots.entry_after(place, meter) {
         let row = &slot.row;
-        if slot.is_live_at(stamp) {
+        if row.is_on(prog, netid) && slot.is_live_at(stamp) {
             if row.is_of(prog, vers, netid) {
                 return Some(row);
             }
-            if row.is_on(prog, netid) && (newest.is_none() || greatest < row.vers) {
+            if newest.is_none() || greatest < row.vers {
                 newest = Some(row);
                 greatest = row.vers;
             }

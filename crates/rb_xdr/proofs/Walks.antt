@@ -1,6 +1,6 @@
 -- Places in a table whose keys are distinct.
 use Rattle.std.proofs.Common.{◌≡◌, ℕ, ◌+◌, Bool, true, false, cond, eqb, List, [], ◌∷◌, ◌++◌, Option, Some, None, refl, sym, ap, ◌∙◌, eq-eqb, arith}
-use Rattle.std.specs.Prelude.{option_map}
+use Rattle.std.specs.Prelude.{option_map, IsSome}
 use Rattle.std.proofs.lemmas.Bool.{eqb-true}
 use Rattle.std.proofs.lemmas.Bool.Decides.{nat_tests}
 use Rattle.rb_xdr.specs.Pool.{value_at, without, first_key, key_after, HasDistinctKeys}
@@ -117,6 +117,15 @@ module _ {T : Type 0} where
       let s = step entries place key d h in
       let clash : Some s.value ≡ None = sym s.found ∙ missing in
       cc
+
+  -- behind a key that is not there comes nothing
+  pub nothing_behind : (entries : List (ℕ × T)) (key : ℕ) → (IsSome (value_at entries key) → ⊥) → behind entries key ≡ []
+  nothing_behind [] key h = refl
+  nothing_behind (e ∷ rest) key h = by_cases (eqb e.0 key) refl (nothing_behind rest key)
+    where
+      by_cases : (b : Bool) → eqb e.0 key ≡ b → ((IsSome (value_at rest key) → ⊥) → behind rest key ≡ []) → behind (e ∷ rest) key ≡ []
+      by_cases true t further = absurd (h (rw t refl))
+      by_cases false t further = rw t (further (rw t at h))
 
   -- a value under a fresh key
   missing-push : (entries : List (ℕ × T)) (key a : ℕ) (value : T) → value_at entries a ≡ None → eqb key a ≡ false → value_at (entries ++ (key, value) ∷ []) a ≡ None

@@ -1,10 +1,10 @@
 //! A table of fixed capacity whose keys are kept in order of insertion, and whose calls are counted.
-ghost use Rattle.std.specs.Prelude.{◌≡◌, ◌<◌, ◌≤◌, ◌+◌, ◌*◌, ◌↔◌, Bool, [], length, IsTrue, IsOk, IsSome, IfOk, IfErr, OnErr, option_copied, Some, None};
+ghost use Rattle.std.specs.Prelude.{◌≡◌, ◌<◌, ◌≤◌, ◌+◌, ◌*◌, ◌↔◌, Bool, [], length, IsTrue, IsOk, IsSome, IfOk, IfErr, IfSome, OnErr, option_copied, Some, None};
 ghost use Rattle.std.specs.Option.{option_copied_mut};
 ghost use Rattle.std.specs.Borrow.{sem};
 ghost use Rattle.rb_xdr.specs.Meter.{Pays, PaysAtMost};
 ghost use Rattle.rb_xdr.specs.Places.{to_come, IsNextEntry, look_cost};
-ghost use Rattle.rb_xdr.specs.Search.{IsTestOf, key_of};
+ghost use Rattle.rb_xdr.specs.Search.{IsTestOf, key_of, search_cost};
 ghost use Rattle.rb_xdr.specs.Pool.{with_entry, value_at, without, first_key, key_after, HasDistinctKeys};
 
 use crate::chain::Chain;
@@ -131,6 +131,13 @@ impl<T> Pool<T> {
         &mut self.values[key]
     }
 
+    fn value(&self, key: usize) -> &T
+        requires { IsSome (value_at self.now.entries key) }
+        ensures { value_at self.now.entries key ≡ Some result.now }
+    {
+        &self.values[key]
+    }
+
     /// Takes the value under `key` out.
     pub fn remove(&mut self, key: usize, meter: &mut Meter) -> Option<T>
         requires { meter.old.tie ≡ self.old.tie }
@@ -177,42 +184,54 @@ impl<T> Pool<T> {
         ensures next { IsNextEntry self.now.entries place result }
         ensures cost { Pays meter.old meter.new (look_cost result) }
     {
-        let Some(key) = self.key_after(place, meter) else {
-            return None;
+        let next = match place {
+            Some(key) if !self.holds(key) => None,
+            _ => self.entry_behind(place),
         };
-        match self.get(key, meter) {
-            Some(value) => Some((key, value)),
-            None => None,
-        }
+        meter.pay(if next.is_some() { 2 } else { 1 });
+        next
     }
 
-    fn key_after(&self, place: Option<usize>, meter: &mut Meter) -> Option<usize>
-        requires { meter.old.tie ≡ self.now.tie }
+    // The same for a place before all of them or behind one that is there: what a walk from entry to
+    // entry knows without a look.
+    fn entry_behind(&self, place: Option<usize>) -> Option<(usize, &T)>
+        requires { IfSome place (λ key. IsSome (value_at self.now.entries key)) }
+        ensures next { IsNextEntry self.now.entries place result }
+        ensures there { IfSome result (λ next. IsSome (value_at self.now.entries next.0)) }
+    {
+        let key = self.key_behind(place)?;
+        Some((key, self.value(key)))
+    }
+
+    fn key_behind(&self, place: Option<usize>) -> Option<usize>
+        requires { IfSome place (λ key. IsSome (value_at self.now.entries key)) }
         ensures key { result ≡ first_key (to_come self.now.entries place) }
         ensures distinct { HasDistinctKeys self.now.entries }
-        ensures cost { Pays meter.old meter.new 1 }
     {
         match place {
-            None => self.first(meter),
-            Some(key) => self.next(key, meter),
+            None => self.keys.first(),
+            Some(key) => self.keys.next(key),
         }
     }
 
-    /// The key of the first value, in the order of insertion, that passes the test. It costs at most 2
-    /// steps for each value and 1.
+    /// The key of the first value, in the order of insertion, that passes the test. It costs 2 steps for
+    /// each value that is looked at, and 1 where there is no more.
     pub fn find_key<F: Fn(&T) -> bool>(&self, test: F, meter: &mut Meter) -> Option<usize>
         requires tie { meter.old.tie ≡ self.now.tie }
         requires callable { F.IsAlwaysCallable test }
         ensures key { (p : T → Bool) → IsTestOf F.Fn test p → result ≡ key_of p self.now.entries }
         ensures cost { PaysAtMost meter.old meter.new (2 * length self.now.entries + 1) }
+        ensures paid { Pays meter.old meter.new (search_cost self.now.entries result) }
     {
         let mut place = None;
-        'entries: while let Some((key, value)) = self.entry_after(place, meter) {
+        'entries: while let Some((key, value)) = self.entry_behind(place) {
+            meter.pay(2);
             if test(value) {
                 return Some(key);
             }
             place = Some(key);
         }
+        meter.pay(1);
         None
     }
 

@@ -14,6 +14,7 @@ entries-preserved g c = record {
   found = λ p t.
       let says = says_at g.F.Fn c.test.ensures c.if-test.false in
       found_behind p c.args.self.now.entries (to_come c.args.self.now.entries c.entries.place) (to_come c.args.self.now.entries (Some c.in-Some.key)) c.in-Some.key c.in-Some.value.now (c.entries.invariant.found p t) c.in-Some.ensures.next (sym (t _ _ says));
+  there = c.in-Some.ensures.there;
   tie = search rules;
   rises = search rules;
   steps = search rules;
