@@ -75,13 +75,13 @@ parts_spell (a ∷ b ∷ c ∷ d ∷ e ∷ f ∷ []) u h =
     subst P (same_Some _ _ rest6) spelled
 parts_spell (a ∷ b ∷ c ∷ d ∷ e ∷ f ∷ g ∷ more) u h = absurd (none-some u h)
 
-read_spells : (text : List ℕ) (u : Uaddr) → parse text ≡ Some u → Spells u text
+pub read_spells : (text : List ℕ) (u : Uaddr) → parse text ≡ Some u → Spells u text
 unfolding parse parts_of
 read_spells text u h = subst (Spells u) (join_with_byte-slice_split dot text) (parts_spell (parts_of text) u h)
 
 -- ---- what is spelled is read
 
-no_dot : (n : ℕ) → n < 256 → All (λ b. (b == dot) ≡ false) (decimal n)
+pub no_dot : (n : ℕ) → n < 256 → All (λ b. (b == dot) ≡ false) (decimal n)
 no_dot n small =
     let P : ℕ → Type 0 = λ b. (b == dot) ≡ false in
     All-from_get_or P (decimal n) 0 (λ i within. ne_eqb _ _ (not_in_digits own (decimal n) dot (digits_decimal own n (wide n small)) (λ r. omega (arith, r)) i within))
@@ -104,7 +104,7 @@ six_read a b c d p1 p2 sa sb sc sd s1 s2 =
     ap of_parts (split_joined a (b ∷ c ∷ d ∷ p1 ∷ p2 ∷ []) small)
     ∙ rw (octet_decimal a sa, octet_decimal b sb, octet_decimal c sc, octet_decimal d sd, octet_decimal p1 s1, octet_decimal p2 s2) refl
 
-numbers_read : (host : List ℕ) (p1 p2 : ℕ) → IsBytes 4 host → p1 < 256 → p2 < 256
+pub numbers_read : (host : List ℕ) (p1 p2 : ℕ) → IsBytes 4 host → p1 < 256 → p2 < 256
     → parse (join_with_byte dot (map decimal (host ++ p1 ∷ p2 ∷ []))) ≡ Some (V4 host (256 * p1 + p2))
 numbers_read [] p1 p2 fits s1 s2 = absurd (omega (arith, fits.count))
 numbers_read (a ∷ []) p1 p2 fits s1 s2 = absurd (omega (arith, fits.count))

@@ -2,4 +2,5 @@ pub mod Octets
 pub mod Parts
 pub mod Spellings
 pub mod GrammarLaws
+pub mod Fronts
 pub mod TransportLaws

@@ -1,8 +1,7 @@
 -- Universal addresses of TCP and UDP over IPv4 (RFC 5665 section 5.2.3.3), and their transport form.
-use Rattle.std.specs.Prelude.{ℕ, ◌+◌, ◌*◌, ◌/◌, ◌%◌, ◌^◌, ◌<◌, ◌≡◌, ◌&&◌, nat_lt, ◌==◌, if◌then◌else◌, List, [], ◌∷◌, ◌++◌, length, map, take, replicate, slice_index, slice_range, Option, Some, None, decimal, bytes_eq, All}
+use Rattle.std.specs.Prelude.{ℕ, ◌+◌, ◌*◌, ◌/◌, ◌%◌, ◌^◌, ◌<◌, ◌≡◌, ◌≢◌, ◌&&◌, nat_lt, ◌==◌, if◌then◌else◌, List, [], ◌∷◌, ◌++◌, length, map, take, replicate, slice_index, slice_range, Option, Some, None, decimal, bytes_eq, All}
 use Rattle.std.specs.List.{slice_split, join_with_byte}
 use Rattle.std.specs.Str.Parse.{digits_value}
-use Rattle.std.specs.Borrow.{Bor}
 use Rattle.rb_uaddr.specs.declared.address.Uaddr.{Uaddr}
 use Rattle.rb_uaddr.specs.declared.address.Uaddr.TheVariants.{V4}
 
@@ -84,5 +83,17 @@ from_transport form =
 
 -- ---- as the code has them
 
-abbrev pub texts_of : List (Bor (List ℕ)) → List (List ℕ)
-texts_of parts = map (λ part. part.now) parts
+-- the text is this number below 256 in decimal, a dot, and this rest
+abbrev pub BeginsWith : ℕ → List ℕ → List ℕ → Type 0
+BeginsWith n rest text = (n < 256) × (text ≡ decimal n ++ dot ∷ rest)
+
+-- no number below 256 stands before a dot
+abbrev pub BeginsWithNone : List ℕ → Type 0
+BeginsWithNone text = (n : ℕ) (rest : List ℕ) → ¬ (BeginsWith n rest text)
+
+-- the first dot behind the first byte stands there
+pub record IsFirstDot (text : List ℕ) (end : ℕ) : Type 0 where
+  pub behind : 0 < end
+  pub within : end < length text
+  pub found : slice_index text end ≡ dot
+  pub first : (i : ℕ) → 0 < i → i < end → slice_index text i ≢ dot

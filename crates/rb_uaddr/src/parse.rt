@@ -1,66 +1,93 @@
-ghost use Rattle.std.specs.Prelude.{◌≡◌, ◌<◌, length, IfSome, IfNone};
+ghost use Rattle.std.specs.Prelude.{◌≡◌, ◌-◌, IfSome, IfNone};
+ghost use Rattle.std.specs.Int.{IsInRange};
+ghost use Rattle.std.specs.Option.{SomeIff};
 ghost use Rattle.std.specs.Result.{result_ok};
-ghost use Rattle.rb_uaddr.specs.Uaddr.{octet, of_parts, parts_of, parse, texts_of};
+ghost use Rattle.rb_uaddr.specs.Uaddr.{octet, parse, BeginsWith, BeginsWithNone, IsFirstDot};
 
 use crate::address::{NotAnAddress, Uaddr, port_from};
-use arrayvec::ArrayVec;
 
-const ZERO: u8 = b'0';
+const DOT: u8 = b'.';
 
 impl Uaddr {
     /// The address that has this text: `h1.h2.h3.h4.p1.p2`, six decimal numbers from 0 to 255
     /// without leading zeros (RFC 5665 section 5.2.3.3). Any other text is `NotAnAddress`.
-    #[tactic(auto, unfolding(crate::specs::Uaddr::parse))]
     pub fn parse(bytes: &[u8]) -> Result<Uaddr, NotAnAddress>
         ensures { result_ok result ≡ parse bytes.now }
     {
-        let Some(parts) = parts(bytes) else {
-            return Err(NotAnAddress);
-        };
-        of_parts(parts.as_slice()).ok_or(NotAnAddress)
+        of_text(bytes).ok_or(NotAnAddress)
     }
 }
 
-/// What stands between the dots, if that is at most six texts.
-fn parts(text: &[u8]) -> Option<ArrayVec<&[u8], 6>>
-    ensures some { IfSome result (λ parts. texts_of parts.items ≡ parts_of text.now) }
-    ensures none { IfNone result (6 < length (parts_of text.now)) }
+/// The address that has this text.
+fn of_text(text: &[u8]) -> Option<Uaddr>
+    ensures { result ≡ parse text.now }
 {
-    let mut parts = ArrayVec::new();
-    match parts.extend(text.split(|b| *b == b'.')) {
-        Ok(()) => Some(parts),
-        Err(_) => None,
-    }
+    let (h1, rest) = before_dot(text)?;
+    let (h2, rest) = before_dot(rest)?;
+    let (h3, rest) = before_dot(rest)?;
+    let (h4, rest) = before_dot(rest)?;
+    let (p1, rest) = before_dot(rest)?;
+    let p2 = octet(rest)?;
+    Some(Uaddr::V4([h1, h2, h3, h4], port_from([p1, p2])))
 }
 
-/// The address between whose dots these texts stand.
-#[tactic(auto, unfolding(crate::specs::Uaddr::of_parts))]
-fn of_parts(parts: &[&[u8]]) -> Option<Uaddr>
-    ensures { result ≡ of_parts (texts_of parts.now) }
+/// The number that stands before the first dot, and what stands behind that dot.
+#[inline]
+fn before_dot(text: &[u8]) -> Option<(u8, &[u8])>
+    ensures some { IfSome result (λ found. BeginsWith found.0 found.1.now text.now) }
+    ensures none { IfNone result (BeginsWithNone text.now) }
 {
-    match parts {
-        [h1, h2, h3, h4, p1, p2] => {
-            let host = [octet(h1)?, octet(h2)?, octet(h3)?, octet(h4)?];
-            let port = port_from([octet(p1)?, octet(p2)?]);
-            Some(Uaddr::V4(host, port))
-        }
+    let end = first_dot(text)?;
+    Some((octet(&text[..end])?, &text[end + 1..]))
+}
+
+/// Where the first dot stands, if that is behind one, two or three bytes.
+#[inline]
+fn first_dot(text: &[u8]) -> Option<usize>
+    ensures some { IfSome result (IsFirstDot text.now) }
+    ensures none { IfNone result (BeginsWithNone text.now) }
+{
+    match text {
+        [_, second, ..] if *second == DOT => Some(1),
+        [_, _, third, ..] if *third == DOT => Some(2),
+        [_, _, _, fourth, ..] if *fourth == DOT => Some(3),
         _ => None,
     }
 }
 
 /// The number below 256 that has this decimal text.
+#[inline]
 fn octet(text: &[u8]) -> Option<u8>
     ensures { result ≡ octet text.now }
 {
-    if *text.first()? == ZERO && text.len() > 1 {
+    let number = match text {
+        [a] => digit(*a)?,
+        [a, b] => 10 * leading_digit(*a)? + digit(*b)?,
+        [a, b, c] => 100 * leading_digit(*a)? + 10 * digit(*b)? + digit(*c)?,
+        _ => return None,
+    };
+    if number > 255 {
         return None;
     }
-    let mut n: u32 = 0;
-    for byte in text {
-        n = 10 * n + char::from(*byte).to_digit(10)?;
-        if n > 255 {
-            return None;
-        }
+    Some(number as u8)
+}
+
+/// The value of a digit that is no zero.
+fn leading_digit(byte: u8) -> Option<u32>
+    ensures { SomeIff result (IsInRange 49 57 byte) (byte - 48) }
+{
+    match byte {
+        b'1'..=b'9' => Some(u32::from(byte - b'0')),
+        _ => None,
     }
-    Some(n as u8)
+}
+
+/// The value of a digit.
+fn digit(byte: u8) -> Option<u32>
+    ensures { SomeIff result (IsInRange 48 57 byte) (byte - 48) }
+{
+    match byte {
+        b'0'..=b'9' => Some(u32::from(byte - b'0')),
+        _ => None,
+    }
 }
