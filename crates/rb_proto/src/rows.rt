@@ -1,14 +1,17 @@
 //! Rows as a list shows them: the room that they want, and their bytes.
-ghost use Rattle.std.specs.Prelude.{◌≡◌, ◌+◌, ◌*◌, length};
+ghost use Rattle.std.specs.Prelude.{◌≡◌, ◌+◌, ◌*◌, ◌++◌, true, length};
 ghost use Rattle.rb_xdr.specs.Meter.{PaysAtMost};
+ghost use Rattle.rb_xdr.specs.Xdr.{boolean};
 ghost use Rattle.rb_registry.specs.Registry.{Reaches, rows_at, slots_of};
 ghost use Rattle.rb_xdr.specs.Puts.{Appends, HasRoom, Leaves};
 ghost use Rattle.rb_proto.specs.ListReplies.{IsShort, FitsIfShort};
 ghost use Rattle.rb_proto.specs.Puts.{write_cost};
+ghost use Rattle.rb_proto.specs.Types.{mapping_spelling};
 ghost use Rattle.rb_proto.specs.Results.{is_shown, row_bytes, rows_bytes};
 
 use crate::answers::Listing;
 use crate::items::{entry_of, mapping_of, rpcb_of};
+use crate::mapping::Mapping;
 use rb_registry::{Cursor, Registry, Row, Which};
 use rb_xdr::{Kept, Meter, Xdr};
 
@@ -41,6 +44,20 @@ pub(crate) fn room_after_row(list: Listing, row: &Row, host: [u8; 4], room: usiz
     }
 }
 
+/// TRUE and a mapping, which are written at once.
+#[tactic(auto, unfolding(rb_xdr::specs::Xdr::number, rb_xdr::specs::Xdr::boolean))]
+fn mapping_item(mapping: &Mapping) -> [u8; MAPPING_ITEM]
+    ensures { result ≡ boolean true ++ mapping_spelling mapping.now }
+{
+    let mut item = [0; MAPPING_ITEM];
+    item[..4].copy_from_slice(&u32::from(true).to_be_bytes());
+    item[4..8].copy_from_slice(&mapping.prog.to_be_bytes());
+    item[8..12].copy_from_slice(&mapping.vers.to_be_bytes());
+    item[12..16].copy_from_slice(&mapping.prot.to_be_bytes());
+    item[16..].copy_from_slice(&mapping.port.to_be_bytes());
+    item
+}
+
 /// Writes what a row adds to a list: TRUE and the item, or nothing where the list doesn't show the row. It is short, and
 /// the buffer has room for it if it is.
 #[tactic(auto, unfolding(crate::specs::Results::row_bytes))]
@@ -55,7 +72,9 @@ pub(crate) fn write_row(list: Listing, row: &Row, host: [u8; 4], out: &mut Kept,
         return;
     }
     match list {
-        Listing::Mappings => (true, mapping_of(row)).write(out, meter),
+        Listing::Mappings => {
+            let _ = out.extend(&mapping_item(&mapping_of(row)), meter);
+        }
         Listing::Rpcbs => {
             let rpcb = rpcb_of(row);
             rpcb.within_limits();

@@ -5,12 +5,6 @@ use Rattle.rb_proto.proofs.rows.write_row.Goals as goal
 pub write-requires-clause-room : goal.write-requires-clause-room
 unfolding row_bytes
 write-requires-clause-room c =
-    rw c.mapping_of.ensures
-    ((rw (c.in-Mappings.is, ← (rw c.in-Mappings.is at c.if-not-is_shown.ensures)) at c.requires.room) (mapping_is_short (mapping_of c.args.row.now)))
-
-pub write-requires-in-Rpcbs-clause-room : goal.write-requires-in-Rpcbs-clause-room
-unfolding row_bytes
-write-requires-in-Rpcbs-clause-room c =
     rw c.rpcb_of-rpcb.ensures
     ((rw c.in-Rpcbs.is at c.requires.room) (rpcb_is_short (rpcb_of c.args.row.now) (rw c.rpcb_of-rpcb.ensures at c.within_limits.ensures)))
 
