@@ -107,3 +107,13 @@ row_bytes host list row = if is_shown list row then boolean true ++ item_bytes h
 -- what the rows add to a list one after another, and its end
 abbrev pub rows_bytes : List ℕ → List Row → Listing → List ℕ
 rows_bytes host rows list = flat_map (row_bytes host list) rows ++ boolean false
+
+-- TRUE and the item of one kind
+abbrev pub mapping_item : Row → List ℕ
+mapping_item row = boolean true ++ mapping_spelling (mapping_of row)
+
+abbrev pub rpcb_item : Row → List ℕ
+rpcb_item row = boolean true ++ rpcb_spelling (rpcb_of row)
+
+abbrev pub entry_item : List ℕ → Row → List ℕ
+entry_item host row = boolean true ++ entry_spelling (entry_of host row)

@@ -1,17 +1,14 @@
 //! Rows as a list shows them: the room that they want, and their bytes.
-ghost use Rattle.std.specs.Prelude.{◌≡◌, ◌+◌, ◌*◌, ◌++◌, true, length};
-ghost use Rattle.rb_xdr.specs.Meter.{PaysAtMost};
-ghost use Rattle.rb_xdr.specs.Xdr.{boolean};
+ghost use Rattle.std.specs.Prelude.{◌≡◌, ◌+◌, ◌*◌, length};
+ghost use Rattle.rb_xdr.specs.Meter.{Pays, PaysAtMost};
 ghost use Rattle.rb_registry.specs.Registry.{Reaches, rows_at, slots_of};
 ghost use Rattle.rb_xdr.specs.Puts.{Appends, HasRoom, Leaves};
 ghost use Rattle.rb_proto.specs.ListReplies.{IsShort, FitsIfShort};
 ghost use Rattle.rb_proto.specs.Puts.{write_cost};
-ghost use Rattle.rb_proto.specs.Types.{mapping_spelling};
-ghost use Rattle.rb_proto.specs.Results.{is_shown, row_bytes, rows_bytes};
+ghost use Rattle.rb_proto.specs.Results.{mapping_item, rpcb_item, entry_item, is_shown, row_bytes, rows_bytes};
 
 use crate::answers::Listing;
 use crate::items::{entry_of, mapping_of, rpcb_of};
-use crate::mapping::Mapping;
 use rb_registry::{Cursor, Registry, Row, Which};
 use rb_xdr::{Kept, Meter, Xdr};
 
@@ -44,11 +41,12 @@ pub(crate) fn room_after_row(list: Listing, row: &Row, host: [u8; 4], room: usiz
     }
 }
 
-/// TRUE and a mapping, which are written at once.
+/// TRUE and the mapping of a row, which are written at once.
 #[tactic(auto, unfolding(rb_xdr::specs::Xdr::number, rb_xdr::specs::Xdr::boolean))]
-fn mapping_item(mapping: &Mapping) -> [u8; MAPPING_ITEM]
-    ensures { result ≡ boolean true ++ mapping_spelling mapping.now }
+fn mapping_item(row: &Row) -> [u8; MAPPING_ITEM]
+    ensures { result ≡ mapping_item row.now }
 {
+    let mapping = mapping_of(row);
     let mut item = [0; MAPPING_ITEM];
     item[..4].copy_from_slice(&u32::from(true).to_be_bytes());
     item[4..8].copy_from_slice(&mapping.prog.to_be_bytes());
@@ -56,6 +54,34 @@ fn mapping_item(mapping: &Mapping) -> [u8; MAPPING_ITEM]
     item[12..16].copy_from_slice(&mapping.prot.to_be_bytes());
     item[16..].copy_from_slice(&mapping.port.to_be_bytes());
     item
+}
+
+/// Writes TRUE and the rpcb of a row. They are short, and the buffer has room for them if they are.
+fn write_rpcb(row: &Row, out: &mut Kept, meter: &mut Meter)
+    requires tie { meter.old.tie ≡ out.old.tie }
+    requires room { FitsIfShort (rpcb_item row.now) out.old }
+    ensures short { IsShort (rpcb_item row.now) }
+    ensures written { Appends (rpcb_item row.now) out.old out.new }
+    ensures cost { Pays meter.old meter.new (length (rpcb_item row.now)) }
+{
+    let rpcb = rpcb_of(row);
+    rpcb.within_limits();
+    true.write(out, meter);
+    rpcb.write(out, meter);
+}
+
+/// Writes TRUE and the entry of a row. They are short, and the buffer has room for them if they are.
+fn write_entry(host: [u8; 4], row: &Row, out: &mut Kept, meter: &mut Meter)
+    requires tie { meter.old.tie ≡ out.old.tie }
+    requires room { FitsIfShort (entry_item host row.now) out.old }
+    ensures short { IsShort (entry_item host row.now) }
+    ensures written { Appends (entry_item host row.now) out.old out.new }
+    ensures cost { Pays meter.old meter.new (length (entry_item host row.now)) }
+{
+    let entry = entry_of(host, row);
+    entry.within_limits();
+    true.write(out, meter);
+    entry.write(out, meter);
 }
 
 /// Writes what a row adds to a list: TRUE and the item, or nothing where the list doesn't show the row. It is short, and
@@ -73,18 +99,10 @@ pub(crate) fn write_row(list: Listing, row: &Row, host: [u8; 4], out: &mut Kept,
     }
     match list {
         Listing::Mappings => {
-            let _ = out.extend(&mapping_item(&mapping_of(row)), meter);
+            let _ = out.extend(&mapping_item(row), meter);
         }
-        Listing::Rpcbs => {
-            let rpcb = rpcb_of(row);
-            rpcb.within_limits();
-            (true, rpcb).write(out, meter);
-        }
-        Listing::Entries(..) => {
-            let entry = entry_of(host, row);
-            entry.within_limits();
-            (true, entry).write(out, meter);
-        }
+        Listing::Rpcbs => write_rpcb(row, out, meter),
+        Listing::Entries(..) => write_entry(host, row, out, meter),
     }
 }
 
