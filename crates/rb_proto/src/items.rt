@@ -14,7 +14,7 @@ use rb_xdr::Text;
 
 /// The owner as DUMP shows it: `unknown`, `superuser` for uid 0, or the uid in decimal.
 #[tactic(auto, unfolding(crate::specs::Callers::owner_text))]
-fn owner_text(owner: Owner) -> Text<128>
+pub(crate) fn owner_text(owner: Owner) -> Text<128>
     ensures { result ≡ owner_text owner }
 {
     match owner {

@@ -5,12 +5,14 @@ ghost use Rattle.rb_registry.specs.Registry.{Reaches, rows_at, slots_of};
 ghost use Rattle.rb_xdr.specs.Puts.{Appends, HasRoom, Leaves};
 ghost use Rattle.rb_proto.specs.ListReplies.{IsShort, FitsIfShort};
 ghost use Rattle.rb_proto.specs.Puts.{write_cost};
-ghost use Rattle.rb_proto.specs.Results.{mapping_item, rpcb_item, entry_item, is_shown, row_bytes, rows_bytes};
+ghost use Rattle.rb_proto.specs.Callers.{owner_text};
+ghost use Rattle.rb_proto.specs.Types.{IsRpcb};
+ghost use Rattle.rb_proto.specs.Results.{mapping_item, rpcb_item, entry_item, is_shown, row_bytes, rows_bytes, rpcb_of};
 
 use crate::answers::Listing;
-use crate::items::{entry_of, mapping_of, rpcb_of};
+use crate::items::{entry_of, mapping_of, owner_text, rpcb_of};
 use rb_registry::{Cursor, Registry, Row, Which};
-use rb_xdr::{Kept, Meter, Xdr};
+use rb_xdr::{Kept, Meter, Text, Xdr};
 
 /// TRUE and a mapping, in bytes.
 const MAPPING_ITEM: usize = 20;
@@ -56,6 +58,34 @@ fn mapping_item(row: &Row) -> [u8; MAPPING_ITEM]
     item
 }
 
+/// The owner of the row as DUMP shows it. Each text of the row is within its limit.
+fn shown_owner(row: &Row) -> Text<128>
+    ensures owner { result ≡ owner_text row.now.owner }
+    ensures within { IsRpcb (rpcb_of row.now) }
+{
+    let owner = owner_text(row.owner);
+    let netid = Text::<32>::new(row.netid.text());
+    let (_prog, _vers) = (row.prog, row.vers);
+    let (_netid, _addr, _owner) = (netid.as_slice(), row.addr.as_slice(), owner.as_slice());
+    owner
+}
+
+/// Writes TRUE and the rpcb of a row, its address from where it lies.
+fn write_texts(row: &Row, owner: &Text<128>, out: &mut Kept, meter: &mut Meter)
+    requires tie { meter.old.tie ≡ out.old.tie }
+    requires owner { owner.now ≡ owner_text row.now.owner }
+    requires room { HasRoom (rpcb_item row.now) out.old }
+    ensures written { Appends (rpcb_item row.now) out.old out.new }
+    ensures cost { Pays meter.old meter.new (length (rpcb_item row.now)) }
+{
+    true.write(out, meter);
+    row.prog.write(out, meter);
+    row.vers.write(out, meter);
+    Text::<32>::new(row.netid.text()).write(out, meter);
+    row.addr.write(out, meter);
+    owner.write(out, meter);
+}
+
 /// Writes TRUE and the rpcb of a row. They are short, and the buffer has room for them if they are.
 fn write_rpcb(row: &Row, out: &mut Kept, meter: &mut Meter)
     requires tie { meter.old.tie ≡ out.old.tie }
@@ -64,10 +94,8 @@ fn write_rpcb(row: &Row, out: &mut Kept, meter: &mut Meter)
     ensures written { Appends (rpcb_item row.now) out.old out.new }
     ensures cost { Pays meter.old meter.new (length (rpcb_item row.now)) }
 {
-    let rpcb = rpcb_of(row);
-    rpcb.within_limits();
-    true.write(out, meter);
-    rpcb.write(out, meter);
+    let owner = shown_owner(row);
+    write_texts(row, &owner, out, meter);
 }
 
 /// Writes TRUE and the entry of a row. They are short, and the buffer has room for them if they are.

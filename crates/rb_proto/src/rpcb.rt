@@ -13,19 +13,6 @@ pub struct Rpcb {
     pub owner: Text<128>,
 }
 
-impl Rpcb {
-    /// Each text is within its limit. This does nothing.
-    pub(crate) fn within_limits(&self)
-        ensures { IsRpcb self.now }
-    {
-        let _prog = self.prog;
-        let _vers = self.vers;
-        let _netid = self.netid.as_slice();
-        let _addr = self.addr.as_slice();
-        let _owner = self.owner.as_slice();
-    }
-}
-
 impl Xdr for Rpcb {
     ghost is_value = { IsRpcb };
 
