@@ -10,7 +10,7 @@ use crate::slot::Slot;
 use crate::walk::{
     drop_dead, find_exact, find_row, has_key, least_removal, live_after, mark_covered,
 };
-use rb_xdr::{Meter, Pool};
+use rb_xdr::{Meter, NoMemory, Pool};
 use std::alloc::Global;
 use std::marker::Model;
 
@@ -108,7 +108,12 @@ impl Registry {
         if cap < own_rows.len() {
             return Err(RegistryFault::BadLimits);
         }
-        let mut slots = Pool::new(alloc, cap, meter)?;
+        let blank = Slot {
+            added: 0,
+            removed: None,
+            row: own_rows[0].clone().map_err(NoMemory::from)?,
+        };
+        let mut slots = Pool::written(alloc, cap, &blank, meter)?;
         if cap >= TOO_MANY {
             // Not reached: that much memory is refused.
             return Err(RegistryFault::NoMemory);

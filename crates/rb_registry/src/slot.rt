@@ -7,7 +7,7 @@ use crate::row::{Netid, Row};
 /// A row, the number of the change that added it (0 for an own row), and of the one that removed it.
 ///
 /// The numbers stand before the row and its long address, so that what a walk looks at is together.
-#[derive(Drop)]
+#[derive(Clone, Drop)]
 pub(crate) struct Slot {
     pub(crate) added: u64,
     pub(crate) removed: Option<u64>,

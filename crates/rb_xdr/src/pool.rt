@@ -59,7 +59,48 @@ impl<T> Pool<T> {
         ensures tie { IfOk result (λ p. p.tie ≡ meter.old.tie) }
         ensures free { meter.new ≡ meter.old }
     {
-        let values = Slab::with_capacity(alloc, cap)?;
+        Pool::around(alloc, Slab::with_capacity(alloc, cap)?, cap, meter)
+    }
+
+    /// The same as `new`, in memory that copies of a value were written to and taken out of again: so all of its pages
+    /// are the process's from the start, and no later call is the first to touch one.
+    pub fn written(
+        alloc: Global,
+        cap: usize,
+        blank: &T,
+        meter: &mut Meter,
+    ) -> Result<Pool<T>, NoMemory>
+    where
+        T: Clone + Drop,
+        ensures empty { IfOk result (λ p. p.entries ≡ []) }
+        ensures cap { IfOk result (λ p. p.cap ≡ cap) }
+        ensures tie { IfOk result (λ p. p.tie ≡ meter.old.tie) }
+        ensures free { meter.new ≡ meter.old }
+    {
+        let mut values = Slab::with_capacity(alloc, cap)?;
+        'copies: for _i in 0..cap {
+            values.insert_reserved(blank.clone()?);
+        }
+        values.clear();
+        Pool::around(alloc, values, cap, meter)
+    }
+
+    // The empty table whose values this slab is to hold.
+    fn around(
+        alloc: Global,
+        values: Slab<T>,
+        cap: usize,
+        meter: &mut Meter,
+    ) -> Result<Pool<T>, NoMemory>
+    where
+        T: Drop,
+        requires empty { values.slots ≡ [] }
+        requires room { cap ≤ values.capacity }
+        ensures empty { IfOk result (λ p. p.entries ≡ []) }
+        ensures cap { IfOk result (λ p. p.cap ≡ cap) }
+        ensures tie { IfOk result (λ p. p.tie ≡ meter.old.tie) }
+        ensures free { meter.new ≡ meter.old }
+    {
         let keys = Chain::new(alloc, values.capacity())?;
         Ok(Pool {
             values,
