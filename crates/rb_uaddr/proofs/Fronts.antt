@@ -1,9 +1,9 @@
 -- What an address begins with: numbers, and a dot behind each.
-use Rattle.std.proofs.Common.{◌≡◌, ◌≢◌, ◌<◌, ◌+◌, ◌-◌, ◌*◌, ℕ, false, List, [], ◌∷◌, ◌++◌, length, map, Some, None, refl, sym, ap, ◌∙◌, arith}
+use Rattle.std.proofs.Common.{◌≡◌, ◌≢◌, ◌<◌, ◌≤◌, ◌+◌, ◌-◌, ◌*◌, ℕ, false, List, [], ◌∷◌, ◌++◌, length, map, take, set, get_or, Some, None, refl, sym, ap, subst, ◌∙◌, arith}
 use Rattle.std.specs.Prelude.{decimal, All, ◌==◌}
 use Rattle.std.specs.List.{join_with_byte}
 use Rattle.std.proofs.lemmas.Bool.{eq-eqb, false≢true}
-use Rattle.std.proofs.lemmas.List.{length-append}
+use Rattle.std.proofs.lemmas.List.{length-append, take_all, take_more_set}
 use Rattle.std.proofs.lemmas.List.Elements.{All-nil, All-cons, All-head, All-tail, All-append}
 use Rattle.std.proofs.lemmas.Option.{none-some}
 use Rattle.rb_uaddr.specs.declared.address.Uaddr.{Uaddr}
@@ -73,11 +73,20 @@ behind_more : (ns rest : List ℕ) (n : ℕ) → behind_numbers ns (decimal n ++
 behind_more [] rest n = refl
 behind_more (m ∷ ns) rest n = ap (λ (xs : List ℕ). decimal m ++ dot ∷ xs) (behind_more ns rest n)
 
-pub one_more : (text ns rest behind : List ℕ) (n : ℕ) → Begun text ns rest → BeginsWith n behind rest → Begun text (ns ++ n ∷ []) behind
-one_more text ns rest behind n b (small, is) = record {
-  small = All-append (λ n. n < 256) ns (n ∷ []) b.small (All-cons (λ n. n < 256) n [] small (All-nil (λ n. n < 256)));
-  is = b.is ∙ ap (behind_numbers ns) is ∙ behind_more ns behind n;
-}
+-- one more number is kept in its place
+pub one_more : (text ns rest behind : List ℕ) (i n : ℕ) → i < length ns → Begun text (take i ns) rest → BeginsWith n behind rest → Begun text (take (i + 1) (set ns i n)) behind
+one_more text ns rest behind i n within b (small, is) =
+    let P : List ℕ → Type 0 = λ front. Begun text front behind in
+    subst P (sym (take_more_set ns i n within)) (record {
+      small = All-append (λ n. n < 256) (take i ns) (n ∷ []) b.small (All-cons (λ n. n < 256) n [] small (All-nil (λ n. n < 256)));
+      is = b.is ∙ ap (behind_numbers (take i ns)) is ∙ behind_more (take i ns) behind n;
+    })
+
+-- every place has its number
+pub all_kept : (text ns rest : List ℕ) (i : ℕ) → length ns ≤ i → Begun text (take i ns) rest → Begun text ns rest
+all_kept text ns rest i past b =
+    let P : List ℕ → Type 0 = λ front. Begun text front rest in
+    subst P (take_all i ns past) b
 
 -- no further number stands before a dot: the text is of no address
 pub no_more_numbers : (text ns rest : List ℕ) → Begun text ns rest → length ns < 5 → BeginsWithNone rest → None ≡ parse text
@@ -106,10 +115,16 @@ no_last_number text ns rest b five none =
     go l = at l.more l.left l.small l.is
 
 -- six numbers are an address
-pub six_numbers : (text rest : List ℕ) (a b c d p1 p2 : ℕ) → Begun text (a ∷ b ∷ c ∷ d ∷ p1 ∷ []) rest → Some p2 ≡ octet rest
-    → Some (V4 (a ∷ b ∷ c ∷ d ∷ []) (256 * p1 + p2)) ≡ parse text
-six_numbers text rest a b c d p1 p2 begun last =
+pub six_numbers : (text ns rest : List ℕ) (p2 : ℕ) → length ns ≡ 5 → Begun text ns rest → Some p2 ≡ octet rest
+    → Some (V4 (get_or ns 0 0 ∷ get_or ns 1 0 ∷ get_or ns 2 0 ∷ get_or ns 3 0 ∷ []) (256 * get_or ns 4 0 + p2)) ≡ parse text
+six_numbers text [] rest p2 five begun last = absurd (omega (arith, five))
+six_numbers text (a ∷ []) rest p2 five begun last = absurd (omega (arith, five))
+six_numbers text (a ∷ b ∷ []) rest p2 five begun last = absurd (omega (arith, five))
+six_numbers text (a ∷ b ∷ c ∷ []) rest p2 five begun last = absurd (omega (arith, five))
+six_numbers text (a ∷ b ∷ c ∷ d ∷ []) rest p2 five begun last = absurd (omega (arith, five))
+six_numbers text (a ∷ b ∷ c ∷ d ∷ p1 ∷ []) rest p2 five begun last =
     let (small2, digits) = octet_is rest p2 (sym last) in
     let s = begun.small in
     let fits = four_bytes a b c d (s 0 0 (omega arith)) (s 1 0 (omega arith)) (s 2 0 (omega arith)) (s 3 0 (omega arith)) in
     sym (ap parse (begun.is ∙ ap (behind_numbers (a ∷ b ∷ c ∷ d ∷ p1 ∷ [])) (sym digits)) ∙ numbers_read (a ∷ b ∷ c ∷ d ∷ []) p1 p2 fits (s 4 0 (omega arith)) small2)
+six_numbers text (a ∷ b ∷ c ∷ d ∷ e ∷ f ∷ more) rest p2 five begun last = absurd (omega (arith, five))

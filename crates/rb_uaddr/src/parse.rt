@@ -1,4 +1,4 @@
-ghost use Rattle.std.specs.Prelude.{◌≡◌, ◌-◌, IfSome, IfNone};
+ghost use Rattle.std.specs.Prelude.{◌≡◌, ◌<◌, ◌-◌, IfSome, IfNone};
 ghost use Rattle.std.specs.Int.{IsInRange};
 ghost use Rattle.std.specs.Option.{SomeIff};
 ghost use Rattle.std.specs.Result.{result_ok};
@@ -22,11 +22,14 @@ impl Uaddr {
 fn of_text(text: &[u8]) -> Option<Uaddr>
     ensures { result ≡ parse text.now }
 {
-    let (h1, rest) = before_dot(text)?;
-    let (h2, rest) = before_dot(rest)?;
-    let (h3, rest) = before_dot(rest)?;
-    let (h4, rest) = before_dot(rest)?;
-    let (p1, rest) = before_dot(rest)?;
+    let mut numbers = [0; 5];
+    let mut rest = text;
+    for number in numbers.iter_mut() {
+        let (first, behind) = before_dot(rest)?;
+        *number = first;
+        rest = behind;
+    }
+    let [h1, h2, h3, h4, p1] = numbers;
     let p2 = octet(rest)?;
     Some(Uaddr::V4([h1, h2, h3, h4], port_from([p1, p2])))
 }
@@ -66,10 +69,14 @@ fn octet(text: &[u8]) -> Option<u8>
         [a, b, c] => 100 * leading_digit(*a)? + 10 * digit(*b)? + digit(*c)?,
         _ => return None,
     };
-    if number > 255 {
-        return None;
-    }
-    Some(number as u8)
+    byte_of(number)
+}
+
+/// The number, if it is a byte.
+fn byte_of(number: u32) -> Option<u8>
+    ensures { SomeIff result (number < 256) number }
+{
+    u8::try_from(number).ok()
 }
 
 /// The value of a digit that is no zero.
