@@ -1,18 +1,13 @@
--- What a row adds to a list is short.
+-- What a row adds to a list of rpcbs or of entries is short.
 use Rattle.std.proofs.Common.{◌++◌, true, arith}
 use Rattle.std.proofs.lemmas.List.{length-append}
 use Rattle.rb_xdr.specs.Xdr.{boolean}
 use Rattle.rb_xdr.proofs.Types.{length-boolean}
-use Rattle.rb_proto.specs.declared.mapping.Mapping.{Mapping}
 use Rattle.rb_proto.specs.declared.rpcb.Rpcb.{Rpcb}
 use Rattle.rb_proto.specs.declared.entry.Entry.{Entry}
-use Rattle.rb_proto.specs.Types.{mapping_spelling, IsRpcb, rpcb_spelling, IsEntry, entry_spelling}
+use Rattle.rb_proto.specs.Types.{IsRpcb, rpcb_spelling, IsEntry, entry_spelling}
 use Rattle.rb_proto.specs.ListReplies.{IsShort}
-use Rattle.rb_proto.proofs.MappingItems.{mapping_item_length}
 use Rattle.rb_proto.proofs.Readings.{rpcb_bounded, entry_bounded}
-
-pub mapping_is_short : (m : Mapping) → IsShort (boolean true ++ mapping_spelling m)
-mapping_is_short m = omega (arith, mapping_item_length m)
 
 pub rpcb_is_short : (r : Rpcb) → IsRpcb r → IsShort (boolean true ++ rpcb_spelling r)
 rpcb_is_short r is = omega (arith, length-append (boolean true) (rpcb_spelling r), length-boolean true, rpcb_bounded r is)
