@@ -44,7 +44,7 @@ fn before_dot(text: &[u8]) -> Option<(u8, &[u8])>
     Some((octet(&text[..end])?, &text[end + 1..]))
 }
 
-/// Where the first dot stands, if that is behind one, two or three bytes.
+/// Where the first dot behind the first byte stands, if that is behind one, two or three bytes.
 #[inline]
 fn first_dot(text: &[u8]) -> Option<usize>
     ensures some { IfSome result (IsFirstDot text.now) }
