@@ -5,7 +5,6 @@ use Rattle.rb_rpc.specs.declared.marks.Marks.{Marks}
 use Rattle.rb_rpc.specs.Records.{data_of, first_record}
 use Rattle.rb_rpc.specs.Verdict.{verdict}
 use Rattle.rb_rpc.specs.Marks.{StandsForFed}
-use Rattle.rb_feed.specs.declared.feed.CallFeed.{CallFeed}
 use Rattle.rb_feed.specs.Feeds.{StandsForCall, arguments_of}
 use Rattle.rb_proto.specs.declared.context.Context.{Context}
 use Rattle.rb_proto.specs.Arguments.{HasArgs}
@@ -65,11 +64,6 @@ TakesData intake kept more new now = (content : List ℕ) → HasData intake kep
 pub record IsInside (marks : Marks) (intake : Intake) (kept : Kept) (fed : List ℕ) : Type 0 where
   pub marks_are : StandsForFed marks fed
   pub data_is : HasData intake kept (data_of fed)
-
--- Of data that follows, these bytes are the call's arguments.
-abbrev pub AreArgumentsIn : CallFeed → List ℕ → List ℕ → Type 0
-AreArgumentsIn head more arguments =
-    (content : List ℕ) → StandsForCall head content → arguments_of (content ++ more) ≡ arguments_of content ++ arguments
 
 -- Behind such bytes of the record, the head and the buffer have their data too.
 abbrev pub HasMore : Marks → Intake → Kept → List ℕ → Intake → Kept → Type 0

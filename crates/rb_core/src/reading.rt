@@ -1,12 +1,11 @@
 //! Bytes that arrive on a connection.
-ghost use Rattle.std.specs.Prelude.{◌≡◌, ℕ, ◌+◌, ◌-◌, ◌<◌, ◌≤◌, [], ◌∷◌, ◌++◌, if◌then◌else◌, List, length, take, drop, min, Some, None};
+ghost use Rattle.std.specs.Prelude.{◌≡◌, ℕ, ◌+◌, ◌-◌, ◌<◌, ◌≤◌, [], ◌∷◌, ◌++◌, if◌then◌else◌, List, length, take, min, Some, None};
 ghost use Rattle.rb_xdr.specs.Meter.{Pays, PaysAtMost};
 ghost use Rattle.rb_rpc.specs.Marks.{StandsForFed};
 ghost use Rattle.rb_rpc.specs.Streams.{RecordEnds, ArePart, StandsForMore};
 ghost use Rattle.rb_feed.specs.Feeds.{StandsForCall};
-ghost use Rattle.rb_feed.specs.Laws.{StandsForMore as StandsForMoreOfCall};
 ghost use Rattle.rb_core.specs.StandsFor.{IsHeld};
-ghost use Rattle.rb_core.specs.Reading.{HasData, HasMore, AreArgumentsIn, KeepsMore, TakesData, TellsOfPiece, ReadsPiece, KeptSaysTheRecord};
+ghost use Rattle.rb_core.specs.Reading.{HasData, HasMore, KeepsMore, TakesData, TellsOfPiece, ReadsPiece, KeptSaysTheRecord};
 
 use rb_feed::CallFeed;
 use rb_rpc::{Marks, Part, Verdict};
@@ -84,21 +83,6 @@ fn next_run(marks: &mut Marks, bytes: &[u8]) -> Run
     }
 }
 
-/// Feeds data of a record to the head of its call. It says how many bytes of it come before the call's arguments.
-fn feed_head(head: &mut CallFeed, bytes: &[u8]) -> usize
-    ensures within { result ≤ length bytes.now }
-    ensures after { StandsForMoreOfCall head.old bytes.now head.new }
-    ensures arguments { AreArgumentsIn head.old bytes.now (drop result bytes.now) }
-{
-    for (i, byte) in bytes.iter().enumerate() {
-        if head.is_in_arguments() {
-            return i;
-        }
-        head.feed(*byte);
-    }
-    bytes.len()
-}
-
 /// Adds bytes of the arguments as far as there is room for them, and says how much room is left.
 fn keep(kept: &mut Kept, room: usize, arguments: &[u8], meter: &mut Meter) -> usize
     requires { meter.old.tie ≡ kept.old.tie }
@@ -134,7 +118,7 @@ impl Intake {
         ensures tie { kept.new.tie ≡ kept.old.tie }
         ensures cost { PaysAtMost meter.old meter.new (length bytes.now) }
     {
-        let count = feed_head(&mut self.head, bytes);
+        let count = self.head.feed(bytes);
         self.room = keep(kept, self.room, &bytes[count..], meter);
     }
 

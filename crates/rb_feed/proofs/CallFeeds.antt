@@ -1,6 +1,6 @@
 -- What a reader of calls makes of the bytes that it is fed.
-use Rattle.std.proofs.Common.{◌≡◌, ◌<◌, ◌≤◌, ◌+◌, ◌*◌, ◌%◌, ◌^◌, ℕ, true, false, List, [], ◌∷◌, ◌++◌, length, refl, sym, ap, subst, ◌∙◌, append_assoc, append-nil, arith, length-append}
-use Rattle.std.proofs.lemmas.List.{take_all}
+use Rattle.std.proofs.Common.{◌≡◌, ◌<◌, ◌≤◌, ◌+◌, ◌*◌, ◌%◌, ◌^◌, ℕ, true, false, List, [], ◌∷◌, ◌++◌, length, take, drop, get_or, refl, sym, ap, subst, ◌∙◌, append_assoc, append-nil, arith, length-append}
+use Rattle.std.proofs.lemmas.List.{take_all, drop_all, take_more, take-append-drop}
 use Rattle.std.proofs.lemmas.List.Concat.{flat_map-append}
 use Rattle.std.proofs.lemmas.List.Sums.{fold-append}
 use Rattle.rb_xdr.specs.Xdr.{AreBytes, AreNumbers, number, number_at, words}
@@ -13,8 +13,8 @@ use Rattle.rb_rpc.proofs.Calls.{AreBytes-append, AreBytes-number}
 use Rattle.rb_rpc.proofs.Feeding.{AreBytes-more, so_far_more, four_are}
 use Rattle.rb_feed.specs.declared.stage.Stage.TheVariants as stages
 use Rattle.rb_feed.specs.Stages.{Stage, stage_after, verdict_at, is_call}
-use Rattle.rb_feed.specs.Feeds.{CallFeed, HasPart, StandsForCall, arguments_of}
-use Rattle.rb_feed.specs.Laws.{max_head}
+use Rattle.rb_feed.specs.Feeds.{CallFeed, HasPart, StandsForCall, behind_head, arguments_of}
+use Rattle.rb_feed.specs.Laws.{StandsForMore, AreArguments, max_head}
 use Rattle.rb_feed.proofs.CallsStay.{calls_stay, end_at_the_place, arguments_grow, none_yet}
 use Rattle.rb_feed.proofs.WordVerdicts.{whole}
 
@@ -104,14 +104,11 @@ more_arguments feed fed more h e = by_verdict (verdict_at feed.stage) refl e
 
 -- ---- one byte more
 
-has_part : (feed : CallFeed) (fed : List ℕ) (h : StandsForCall feed fed) → is_call (verdict fed) ≡ false → HasPart feed h.front
-has_part feed fed h early = h.part (ap is_call (ends_rightly feed fed h) ∙ early)
-
 -- the bytes behind the whole words are a part of one still
-pub part_more : (feed : CallFeed) (fed : List ℕ) (byte : ℕ) → StandsForCall feed fed → is_call (verdict fed) ≡ false → byte < 256 → feed.seen < 3
+pub part_more : (feed : CallFeed) (fed : List ℕ) (byte : ℕ) → StandsForCall feed fed → is_call (verdict_at feed.stage) ≡ false → byte < 256 → feed.seen < 3
     → StandsForCall (record { seen = feed.seen + 1; number = feed.number * 256 % 2 ^ 32 + byte; stage = feed.stage }) (fed ++ byte ∷ [])
 part_more feed fed byte h early small seen =
-    let was : HasPart feed h.front = has_part feed fed h early in
+    let was : HasPart feed h.front = h.part early in
     record {
       numbers = h.numbers;
       front = h.front ++ byte ∷ [];
@@ -130,20 +127,23 @@ fit_more : (ws : List ℕ) (w : ℕ) → AreNumbers ws → w < 2 ^ 32 → AreNum
 fit_more [] w fit small = (small, tt)
 fit_more (x ∷ ws) w fit small = (fit.0, fit_more ws w fit.1 small)
 
+-- four bytes spell a number
+pub spelled : (four : List ℕ) → AreBytes four → length four ≡ 4 → number (number_at 0 four) ≡ four
+spelled four are len = number-number_at 0 four are (omega (arith, len)) ∙ take_all 4 four (omega (arith, len))
+
 -- they are one more word
-pub word_more : (feed : CallFeed) (fed : List ℕ) (byte : ℕ) (stage : Stage) → StandsForCall feed fed → is_call (verdict fed) ≡ false → byte < 256 → 3 ≤ feed.seen
+pub word_more : (feed : CallFeed) (fed : List ℕ) (byte : ℕ) (stage : Stage) → StandsForCall feed fed → is_call (verdict_at feed.stage) ≡ false → byte < 256 → 3 ≤ feed.seen
     → stage ≡ stage_after feed.stage (feed.number * 256 % 2 ^ 32 + byte)
     → StandsForCall (record { seen = 0; number = 0; stage = stage }) (fed ++ byte ∷ [])
 word_more feed fed byte stage h early small seen is =
-    let was : HasPart feed h.front = has_part feed fed h early in
+    let was : HasPart feed h.front = h.part early in
     let four : List ℕ = h.front ++ byte ∷ [] in
     let len : length four ≡ 4 = omega (arith, was.seen_is, seen, was.few, length-append h.front (byte ∷ [])) in
     let are : AreBytes four = AreBytes-more h.front byte was.bytes small in
     let w : ℕ = number_at 0 four in
     let next : feed.number * 256 % 2 ^ 32 + byte ≡ w = ap (λ (n : ℕ). n * 256 % 2 ^ 32 + byte) was.number_is ∙ so_far_more h.front byte was.bytes was.few ∙ four_are four len in
-    let spelled : number w ≡ four = number-number_at 0 four are (omega (arith, len)) ∙ take_all 4 four (omega (arith, len)) in
     let words_are : words (h.numbers ++ w ∷ []) ≡ words h.numbers ++ four =
-    flat_map-append number h.numbers (w ∷ []) ∙ ap (λ (xs : List ℕ). words h.numbers ++ xs) (append-nil (number w) ∙ spelled) in
+    flat_map-append number h.numbers (w ∷ []) ∙ ap (λ (xs : List ℕ). words h.numbers ++ xs) (append-nil (number w) ∙ spelled four are len) in
     record {
       numbers = h.numbers ++ w ∷ [];
       front = [];
@@ -153,8 +153,70 @@ word_more feed fed byte stage h early small seen is =
       part = λ still. record { few = omega arith; bytes = AreBytes-none; seen_is = refl; number_is = refl };
     }
 
+pub no_arguments : (bytes : List ℕ) → is_call (verdict bytes) ≡ false → arguments_of bytes ≡ []
+unfolding arguments_of
+no_arguments bytes early = by_verdict (verdict bytes) early
+  where
+    by_verdict : (v : Verdict) → is_call v ≡ false → behind_head v bytes ≡ []
+    by_verdict NoCall early = refl
+    by_verdict (RpcMismatch xid) early = refl
+    by_verdict (AuthError xid stat) early = refl
+    by_verdict (Call head place) early = absurd cc
+
 -- it is no call, or one whose arguments begin with the next byte
-pub no_arguments : (feed : CallFeed) (fed : List ℕ) (byte : ℕ) → StandsForCall feed fed → is_call (verdict fed) ≡ false → byte < 256 → arguments_of (fed ++ byte ∷ []) ≡ []
-no_arguments feed fed byte h early small =
-    let are : AreBytes fed = subst AreBytes (sym h.fed_is) (AreBytes-append (words h.numbers) h.front (words_are_bytes h.numbers) (has_part feed fed h early).bytes) in
-    none_yet fed byte are small early
+pub none_more : (feed : CallFeed) (fed : List ℕ) (byte : ℕ) → StandsForCall feed fed → is_call (verdict_at feed.stage) ≡ false → byte < 256 → arguments_of (fed ++ byte ∷ []) ≡ arguments_of fed ++ []
+none_more feed fed byte h early small =
+    let are : AreBytes fed = subst AreBytes (sym h.fed_is) (AreBytes-append (words h.numbers) h.front (words_are_bytes h.numbers) (h.part early).bytes) in
+    let no_call : is_call (verdict fed) ≡ false = ap is_call (sym (ends_rightly feed fed h)) ∙ early in
+    none_yet fed byte are small no_call ∙ ap (λ (xs : List ℕ). xs ++ []) (sym (no_arguments fed no_call))
+
+-- ---- the head in a piece
+
+-- Behind this front of the piece no arguments have come.
+pub record HasFed (first feed : CallFeed) (front : List ℕ) : Type 0 where
+  pub stands : StandsForMore first front feed
+  pub none : AreArguments first front []
+
+pub none_fed : (feed : CallFeed) → HasFed feed feed []
+none_fed feed = record {
+  stands = λ fed h. subst (λ (xs : List ℕ). StandsForCall feed xs) (sym (append-nil fed)) h;
+  none = λ fed h. ap arguments_of (append-nil fed) ∙ sym (append-nil (arguments_of fed));
+}
+
+one_more : (fed bytes : List ℕ) (n : ℕ) → n < length bytes → (fed ++ take n bytes) ++ get_or bytes n 0 ∷ [] ≡ fed ++ take (n + 1) bytes
+one_more fed bytes n within =
+    append_assoc fed (take n bytes) (get_or bytes n 0 ∷ []) ∙ ap (λ (xs : List ℕ). fed ++ xs) (sym (take_more bytes n 0 within))
+
+-- a byte of the head
+pub byte_fed : (first feed next : CallFeed) (bytes : List ℕ) (n : ℕ) → n < length bytes → HasFed first feed (take n bytes)
+    → StandsForMore feed (get_or bytes n 0 ∷ []) next → AreArguments feed (get_or bytes n 0 ∷ []) []
+    → HasFed first next (take (n + 1) bytes)
+byte_fed first feed next bytes n within h stands none = record {
+  stands = λ fed at. subst (λ (xs : List ℕ). StandsForCall next xs) (one_more fed bytes n within) (stands (fed ++ take n bytes) (h.stands fed at));
+  none = λ fed at.
+      ap arguments_of (sym (one_more fed bytes n within)) ∙ none (fed ++ take n bytes) (h.stands fed at)
+      ∙ append-nil (arguments_of (fed ++ take n bytes)) ∙ h.none fed at;
+}
+
+-- What the piece came to: the arguments in it, and the feed behind it.
+pub record HasFedAll (first feed : CallFeed) (bytes arguments : List ℕ) : Type 0 where
+  pub stands : StandsForMore first bytes feed
+  pub arguments_are : AreArguments first bytes arguments
+
+then_rest : (fed bytes : List ℕ) (n : ℕ) → (fed ++ take n bytes) ++ drop n bytes ≡ fed ++ bytes
+then_rest fed bytes n = append_assoc fed (take n bytes) (drop n bytes) ∙ ap (λ (xs : List ℕ). fed ++ xs) (take-append-drop n bytes)
+
+-- the rest are arguments
+pub rest_fed : (first feed : CallFeed) (bytes : List ℕ) (n : ℕ) → HasFed first feed (take n bytes) → is_call (verdict_at feed.stage) ≡ true → HasFedAll first feed bytes (drop n bytes)
+rest_fed first feed bytes n h call = record {
+  stands = λ fed at. subst (λ (xs : List ℕ). StandsForCall feed xs) (then_rest fed bytes n) (stands_still feed (fed ++ take n bytes) (drop n bytes) (h.stands fed at) call);
+  arguments_are = λ fed at.
+      ap arguments_of (sym (then_rest fed bytes n)) ∙ more_arguments feed (fed ++ take n bytes) (drop n bytes) (h.stands fed at) call
+      ∙ ap (λ (xs : List ℕ). xs ++ drop n bytes) (h.none fed at ∙ append-nil (arguments_of fed));
+}
+
+-- nothing is left
+pub all_fed : (first feed : CallFeed) (bytes : List ℕ) (n : ℕ) → HasFed first feed (take n bytes) → length bytes ≤ n → HasFedAll first feed bytes (drop n bytes)
+all_fed first feed bytes n h past =
+    let all : HasFed first feed bytes = subst (λ (xs : List ℕ). HasFed first feed xs) (take_all n bytes past) h in
+    record { stands = all.stands; arguments_are = rw (drop_all n bytes past) all.none }

@@ -4,3 +4,4 @@ mod AuthWalks
 mod WordVerdicts
 mod CallsStay
 mod CallFeeds
+mod WholeHeads

@@ -1,5 +1,5 @@
 -- What is said of the bytes that a reader of calls was fed, and of more; and laws of calls.
-use Rattle.std.specs.Prelude.{◌≡◌, ℕ, ◌≤◌, nat_lt, not, Bool, List, [], if◌then◌else◌, ◌++◌, length, take}
+use Rattle.std.specs.Prelude.{◌≡◌, ℕ, ◌≤◌, nat_lt, not, List, ◌++◌, length, take}
 use Rattle.rb_xdr.specs.Xdr.{AreBytes}
 use Rattle.rb_rpc.specs.declared.call.CallHead.{CallHead}
 use Rattle.rb_rpc.specs.declared.call.Verdict.TheVariants as verdicts
@@ -10,18 +10,14 @@ use Rattle.rb_feed.specs.Feeds.{StandsForCall, arguments_of}
 
 -- ---- what is said of the bytes that a feed was fed, and of more
 
--- whether they are a call
-abbrev pub AreCall : CallFeed → Bool → Type 0
-AreCall feed answer = (fed : List ℕ) → StandsForCall feed fed → answer ≡ is_call (verdict fed)
-
 -- Behind more bytes this feed stands for all of them.
 abbrev pub StandsForMore : CallFeed → List ℕ → CallFeed → Type 0
 StandsForMore feed more behind = (fed : List ℕ) → StandsForCall feed fed → StandsForCall behind (fed ++ more)
 
--- whether more bytes are arguments; where they are not, no arguments have come with them either
-abbrev pub AreArguments : CallFeed → List ℕ → Bool → Type 0
-AreArguments feed more answer =
-    (fed : List ℕ) → StandsForCall feed fed → arguments_of (fed ++ more) ≡ (if answer then arguments_of fed ++ more else [])
+-- Of more bytes, these are the call's arguments.
+abbrev pub AreArguments : CallFeed → List ℕ → List ℕ → Type 0
+AreArguments feed more arguments =
+    (fed : List ℕ) → StandsForCall feed fed → arguments_of (fed ++ more) ≡ arguments_of fed ++ arguments
 
 -- ---- laws of calls
 

@@ -1,10 +1,10 @@
-//! Calls that are read byte by byte, as their bytes come.
+//! Calls that are read as their bytes come.
 
 use crate::saved::{stage_saved_as, stage_words};
 use crate::stage::Stage;
-use rb_rpc::Verdict;
+use rb_rpc::{Verdict, read_call};
 
-/// Reads a call byte by byte (RFC 5531 section 9). It keeps what decides of the head, and no bytes
+/// Reads a call piece by piece (RFC 5531 section 9). It keeps what decides of the head, and no bytes
 /// of bodies and arguments.
 #[derive(Clone, Copy, PartialEq, Eq, Debug)]
 pub struct CallFeed {
@@ -26,10 +26,11 @@ fn layout(feed: &CallFeed) {
 }
 
 impl CallFeed {
-    ghost use Rattle.std.specs.Prelude.{◌≡◌, ℕ, true, [], ◌∷◌, List, length, IsTrue};
+    ghost use Rattle.std.specs.Prelude.{◌≡◌, ℕ, ◌≤◌, false, [], ◌∷◌, List, length, drop};
     ghost use Rattle.rb_rpc.specs.Verdict.{verdict, EndsWithin};
+    ghost use Rattle.rb_feed.specs.Stages.{verdict_at, is_call};
     ghost use Rattle.rb_feed.specs.Feeds.{StandsForCall};
-    ghost use Rattle.rb_feed.specs.Laws.{AreCall, StandsForMore, AreArguments, max_head};
+    ghost use Rattle.rb_feed.specs.Laws.{StandsForMore, AreArguments, max_head};
     ghost use Rattle.rb_feed.specs.Saved.{loaded};
 
     /// Before the first byte.
@@ -43,25 +44,12 @@ impl CallFeed {
         }
     }
 
-    /// Whether the bytes so far are a call. Then all that follow are arguments, and need not be
-    /// fed: the feed stands for them as it is.
-    pub fn is_in_arguments(&self) -> bool
-        ensures call { AreCall self.now result }
-        ensures stays { IsTrue result → (more : List ℕ) → StandsForMore self.now more self.now }
-        ensures arguments { IsTrue result → (more : List ℕ) → AreArguments self.now more true }
-    {
-        self.stage.is_call()
-    }
-
-    /// Takes one byte, and says whether it is one of a call's arguments.
-    pub fn feed(&mut self, byte: u8) -> bool
+    /// Takes one byte of a call's head, or of what is no call.
+    fn feed_byte(&mut self, byte: u8)
+        requires { is_call (verdict_at self.old.stage) ≡ false }
         ensures after { StandsForMore self.old (byte ∷ []) self.new }
-        ensures call { AreCall self.old result }
-        ensures arguments { AreArguments self.old (byte ∷ []) result }
+        ensures none { AreArguments self.old (byte ∷ []) [] }
     {
-        if self.is_in_arguments() {
-            return true;
-        }
         let number = self.number.wrapping_mul(256) + u32::from(byte);
         if self.seen < 3 {
             self.seen += 1;
@@ -71,7 +59,31 @@ impl CallFeed {
             self.number = 0;
             self.stage = self.stage.after(number);
         }
-        false
+    }
+
+    /// Takes bytes up to the first of the call's arguments, or all, and says how many. Arguments
+    /// need not be fed: a feed that has read a call's head stands for all that follows.
+    pub fn feed(&mut self, bytes: &[u8]) -> usize
+        ensures within { result ≤ length bytes.now }
+        ensures after { StandsForMore self.old bytes.now self.new }
+        ensures arguments { AreArguments self.old bytes.now (drop result bytes.now) }
+    {
+        // Most heads come whole, and are read at once.
+        if self.seen == 0 && matches!(self.stage, Stage::Xid) {
+            if let Verdict::Call(head, place) = read_call(bytes) {
+                self.stage = Stage::Arguments {
+                    head,
+                    place: place as u32,
+                };
+                return place;
+            }
+        }
+        let mut count = 0;
+        'head: while count < bytes.len() && !self.stage.is_call() {
+            self.feed_byte(bytes[count]);
+            count += 1;
+        }
+        count
     }
 
     /// What the bytes so far are worth, as `read_call` says of them. The head of a call has at

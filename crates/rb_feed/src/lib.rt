@@ -1,4 +1,4 @@
-//! The head of a call read byte by byte, as it comes over a connection (RFC 5531 section 9).
+//! The head of a call read as it comes over a connection (RFC 5531 section 9).
 #![tactic(auto)]
 
 mod feed;

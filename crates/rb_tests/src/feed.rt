@@ -24,11 +24,23 @@ fn calls_are_fed(rt: HostRuntime) -> Result<(), Fail> {
     let mut feed = CallFeed::new();
     for (place, byte) in SET.iter().enumerate() {
         assert_eq!(rt; feed.end(), read_call(&SET[..place]));
-        assert_eq!(rt; feed.is_in_arguments(), place >= 60);
         feed = CallFeed::load(feed.save());
-        assert_eq!(rt; feed.feed(*byte), place >= 60);
+        assert_eq!(rt; feed.feed(&[*byte]), usize::from(place < 60));
     }
     assert_eq!(rt; feed.end(), Verdict::Call(HEAD, 60));
+    Ok(())
+}
+
+// Fed in two pieces, wherever the first ends: words are in one of them or in both.
+#[test]
+fn pieces_are_fed(rt: HostRuntime) -> Result<(), Fail> {
+    for place in 0..SET.len() {
+        let (front, rest) = SET.split_at(place);
+        let mut feed = CallFeed::new();
+        let count = feed.feed(front) + feed.feed(rest);
+        assert_eq!(rt; count, 60);
+        assert_eq!(rt; feed.end(), Verdict::Call(HEAD, 60));
+    }
     Ok(())
 }
 

@@ -1,4 +1,4 @@
-use Rattle.rb_core.proofs.Heads.{kept_more}
+use Rattle.rb_core.proofs.KeptArguments.{kept_more}
 use Rattle.rb_core.proofs.reading.keep.Goals as goal
 
 pub returns-clause-kept : goal.returns-clause-kept

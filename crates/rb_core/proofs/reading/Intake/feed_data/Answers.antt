@@ -6,8 +6,8 @@ use Rattle.rb_core.proofs.reading.Intake.feed_data.Goals as goal
 
 pub returns-clause-data : goal.returns-clause-data
 returns-clause-data c = λ content h.
-    let all = ap (λ (xs : List ℕ). arguments_of content ++ xs) (rest_is c.args.bytes.now c.feed_head-count.result) ∙ sym (c.feed_head-count.ensures.arguments content h.head_is) in
+    let all = ap (λ (xs : List ℕ). arguments_of content ++ xs) (rest_is c.args.bytes.now c.feed-count.result) ∙ sym (c.feed-count.ensures.arguments content h.head_is) in
     record {
-      head_is = c.feed_head-count.ensures.after content h.head_is;
+      head_is = c.feed-count.ensures.after content h.head_is;
       kept_are = subst (λ (xs : List ℕ). AreKept c.keep-self.new.kept c.keep-self.result xs) all (c.keep-self.ensures.kept (arguments_of content) h.kept_are);
     }

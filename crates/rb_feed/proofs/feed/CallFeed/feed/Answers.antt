@@ -1,21 +1,35 @@
-use Rattle.std.proofs.Common.{ℕ, ◌+◌, ◌*◌, ◌%◌, ◌^◌, ◌∷◌, [], ◌++◌, ap, sym, subst, ◌∙◌, arith}
-use Rattle.rb_feed.specs.Stages.{stage_after}
-use Rattle.rb_feed.specs.Feeds.{StandsForCall}
-use Rattle.rb_feed.proofs.CallFeeds.{part_more, word_more, no_arguments}
+use Rattle.std.proofs.Common.{sym, ◌∙◌, arith}
+use Rattle.rb_feed.proofs.CallsStay.{end_at_the_place}
+use Rattle.rb_feed.proofs.CallFeeds.{byte_fed, rest_fed}
+use Rattle.rb_feed.proofs.WholeHeads.{head_fed}
+use Rattle.rb_feed.proofs.feed.CallFeed.feed.Goals.{in-Xid, in_default}
 use Rattle.rb_feed.proofs.feed.CallFeed.feed.Goals as goal
 
-pub returns-then-self-lt3-clause-after : goal.returns-then-self-lt3-clause-after
-returns-then-self-lt3-clause-after c = λ fed h.
-    subst (λ (n : ℕ). StandsForCall (record { seen = c.args.self.now.seen + 1; number = c.args.self.now.number * 256 % 2 ^ 32 + n; stage = c.args.self.now.stage }) (fed ++ c.args.byte ∷ []))
-    (sym c.from.ensures) (part_more c.args.self.now fed c.args.byte h (sym (c.is_in_arguments.ensures.call fed h) ∙ c.if-is_in_arguments.false) (omega arith) c.if-self-lt3.true)
+pub overflow_cast-self : goal.overflow_cast-self
+overflow_cast-self c = record { fits = omega (arith, (end_at_the_place c.args.bytes.now (λ i. (c.type_inv.bytes i).fits) c.in-Call.head c.in-Call.place (sym c.read_call.ensures.verdict ∙ c.in-Call.is)).short) }
 
-pub returns-then-self-lt3-clause-arguments : goal.returns-then-self-lt3-clause-arguments
-returns-then-self-lt3-clause-arguments c = λ fed h. no_arguments c.args.self.now fed c.args.byte h (sym (c.is_in_arguments.ensures.call fed h) ∙ c.if-is_in_arguments.false) (omega arith)
+pub returns-in-Call-clause-after : goal.returns-in-Call-clause-after
+returns-in-Call-clause-after c =
+    elim c.match-matches.branch [
+      | in-Xid w ↦ (head_fed c.args.self.now c.args.bytes.now c.in-Call.head c.in-Call.place (λ i. (c.type_inv.bytes i).fits) (omega (arith, c.if-self-eq0.true)) w.in-Xid.is (sym c.read_call.ensures.verdict ∙ c.in-Call.is)).stands
+      | in_default w ↦ absurd cc
+    ]
 
-pub returns-else-self-lt3-clause-after : goal.returns-else-self-lt3-clause-after
-returns-else-self-lt3-clause-after c = λ fed h.
-    word_more c.args.self.now fed c.args.byte c.after-self.result h (sym (c.is_in_arguments.ensures.call fed h) ∙ c.if-is_in_arguments.false) (omega arith) (omega arith)
-    (c.after-self.ensures ∙ ap (λ (n : ℕ). stage_after c.args.self.now.stage (c.args.self.now.number * 256 % 2 ^ 32 + n)) c.from.ensures)
+pub returns-in-Call-clause-arguments : goal.returns-in-Call-clause-arguments
+returns-in-Call-clause-arguments c =
+    elim c.match-matches.branch [
+      | in-Xid w ↦ (head_fed c.args.self.now c.args.bytes.now c.in-Call.head c.in-Call.place (λ i. (c.type_inv.bytes i).fits) (omega (arith, c.if-self-eq0.true)) w.in-Xid.is (sym c.read_call.ensures.verdict ∙ c.in-Call.is)).arguments_are
+      | in_default w ↦ absurd cc
+    ]
 
-pub returns-else-self-lt3-clause-arguments : goal.returns-else-self-lt3-clause-arguments
-returns-else-self-lt3-clause-arguments c = λ fed h. no_arguments c.args.self.now fed c.args.byte h (sym (c.is_in_arguments.ensures.call fed h) ∙ c.if-is_in_arguments.false) (omega arith)
+pub head-preserved : goal.head-preserved
+head-preserved c = record {
+  within = omega (arith, c.head-test.true);
+  fed = byte_fed c.args.self.now c.head.self c.feed_byte.new.self c.args.bytes.now c.head.count c.head-test.true c.head.invariant.fed c.feed_byte.ensures.after c.feed_byte.ensures.none;
+}
+
+pub returns-else-not-is_call-clause-after : goal.returns-else-not-is_call-clause-after
+returns-else-not-is_call-clause-after c = (rest_fed c.args.self.now c.head.self c.args.bytes.now c.head.count c.head.invariant.fed (sym c.is_call.ensures ∙ c.if-not-is_call.false)).stands
+
+pub returns-else-not-is_call-clause-arguments : goal.returns-else-not-is_call-clause-arguments
+returns-else-not-is_call-clause-arguments c = (rest_fed c.args.self.now c.head.self c.args.bytes.now c.head.count c.head.invariant.fed (sym c.is_call.ensures ∙ c.if-not-is_call.false)).arguments_are
