@@ -16,8 +16,8 @@ use std::alloc::Global;
 use std::marker::Model;
 use std::snapshot::Snapshot;
 
-/// At most `cap` values, each under a key, in memory that `new` took. No call changes `memory`, so
-/// none takes more.
+/// At most `cap` values, each under a key, in memory that `new` or `written` took. No call changes `memory`,
+/// so none takes more.
 ///
 /// Each call costs 1 step, but for `entry_after` and `find_key`, and wants the meter that the table was made with.
 #[derive(Drop)]
