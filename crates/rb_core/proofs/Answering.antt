@@ -5,7 +5,7 @@ use Rattle.rb_rpc.specs.declared.peer.Caller.{Caller}
 use Rattle.rb_registry.specs.Cursors.{GoesOn}
 use Rattle.rb_proto.specs.declared.books.Books.{Books}
 use Rattle.rb_proto.specs.declared.context.Context.{Context}
-use Rattle.rb_proto.specs.Ledger.{ActsAs, SameFrame}
+use Rattle.rb_proto.specs.Books.{ActsAs, SameFrame}
 use Rattle.rb_core.specs.declared.message.Message.{Message}
 use Rattle.rb_core.specs.declared.serve.Served.{Served as CodeServed}
 use Rattle.rb_core.specs.Calls.{Outcome, outcome}

@@ -2,7 +2,7 @@
 use Rattle.std.proofs.Common.{◌≡◌, ◌≤◌, ℕ, [], length, refl, sym, ◌∙◌}
 use Rattle.rb_xdr.specs.Kept.{Kept}
 use Rattle.rb_proto.specs.declared.books.Books.{Books}
-use Rattle.rb_proto.specs.Ledger.{SameFrame}
+use Rattle.rb_proto.specs.Books.{SameFrame}
 use Rattle.rb_core.specs.State.{Setting}
 use Rattle.rb_core.specs.Calls.{longest_reply}
 use Rattle.rb_core.specs.StandsFor.{Table}

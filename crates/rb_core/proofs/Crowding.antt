@@ -9,16 +9,17 @@ use Rattle.std.proofs.lemmas.List.Elements.{All-head, All-tail, All-cons, All-ni
 use Rattle.rb_xdr.specs.Kept.{Kept}
 use Rattle.rb_registry.specs.declared.row.Row.{Row}
 use Rattle.rb_registry.specs.declared.slot.Slot.{Slot as RowSlot}
-use Rattle.rb_registry.specs.Registry.{Registry, removals_of, stamp_told}
-use Rattle.rb_registry.specs.Slots.{is_dropped, later_than, removed_by, all_slots}
-use Rattle.rb_registry.specs.Table.{IsLeast}
+use Rattle.rb_registry.specs.Registry.{Registry, removals_of}
+use Rattle.rb_registry.specs.Table.{stamp_told, later_than, IsLeast}
+use Rattle.rb_registry.specs.Slots.{is_dropped, removed_by, all_slots}
 use Rattle.rb_registry.specs.Rows.{has_place, is_change_left}
 use Rattle.rb_registry.specs.Cursors.{GoesOn}
 use Rattle.rb_proto.specs.declared.context.Context.{Context}
 use Rattle.rb_proto.specs.declared.call.Call.{Call}
 use Rattle.rb_proto.specs.declared.books.Books.{Books}
 use Rattle.rb_proto.specs.Answers.{adds, adds_row, row_to_set}
-use Rattle.rb_proto.specs.Ledger.{Ledger, StandsForLedger, rows_in, removals_after}
+use Rattle.rb_proto.specs.Ledger.{Ledger, StandsForLedger, rows_in}
+use Rattle.rb_proto.specs.Books.{removals_after}
 use Rattle.rb_proto.proofs.ListReplies.{list_reply_goes_on, removals_kept}
 use Rattle.rb_core.specs.declared.slot.Slot.{Slot}
 use Rattle.rb_core.specs.declared.slot.Stage.{Stage}

@@ -4,11 +4,11 @@ use Rattle.rb_rpc.specs.declared.call.CallHead.{CallHead}
 use Rattle.rb_forward.specs.StandsFor.{Table}
 use Rattle.rb_proto.specs.declared.answers.Answer.{Answer}
 use Rattle.rb_proto.specs.declared.answers.Answer.TheVariants as answers
-use Rattle.rb_proto.specs.Forwarding.{StayUnlessForwarded}
+use Rattle.rb_proto.specs.Books.{StayUnlessForwarded, ActsAs}
 use Rattle.rb_proto.specs.declared.books.Books.{Books}
 use Rattle.rb_proto.specs.declared.call.Call.{Call}
 use Rattle.rb_proto.specs.declared.context.Context.{Context}
-use Rattle.rb_proto.specs.Ledger.{Ledger, StandsForLedger, ActsAs, called, rows_in}
+use Rattle.rb_proto.specs.Ledger.{Ledger, StandsForLedger, called, rows_in}
 use Rattle.rb_proto.specs.Answers.{answer}
 use Rattle.rb_proto.specs.Results.{result_bytes, list_bytes, shown_of}
 use Rattle.rb_rpc.specs.declared.peer.Caller.{Caller}
@@ -20,7 +20,8 @@ use Rattle.rb_registry.specs.Registry.{rows_of}
 use Rattle.rb_proto.specs.declared.answers.Results.{Results}
 use Rattle.rb_proto.specs.declared.answers.Results.TheVariants as results
 use Rattle.rb_proto.specs.declared.list_reply.ListReply.{ListReply}
-use Rattle.rb_proto.specs.ListReplies.{rest_of, list_reply}
+use Rattle.rb_proto.specs.ListReplies.{rest_of}
+use Rattle.rb_proto.specs.ListParts.{list_reply}
 use Rattle.rb_core.specs.declared.serve.Served.TheVariants.{Listed}
 use Rattle.rb_core.specs.Listings.{source_in}
 use Rattle.rb_core.specs.Serving.{list_outcome, HasList, IsListFor}

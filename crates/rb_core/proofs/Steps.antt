@@ -12,7 +12,8 @@ use Rattle.rb_feed.specs.Feeds.{arguments_of}
 use Rattle.rb_rpc.specs.declared.call.Verdict.{Verdict}
 use Rattle.rb_forward.specs.declared.types.Ended.{Ended}
 use Rattle.rb_forward.specs.Forwards.{Unsent as UnsentCall, unsent, can_be_sent}
-use Rattle.rb_proto.specs.Ledger.{Ledger, StandsForLedger, ActsAs, Becomes, SameFrame}
+use Rattle.rb_proto.specs.Ledger.{Ledger, StandsForLedger}
+use Rattle.rb_proto.specs.Books.{ActsAs, Becomes, SameFrame}
 use Rattle.rb_proto.specs.Forwarding.{replied, fell_due, caller_dropped, call_sent}
 use Rattle.rb_core.specs.declared.message.Message.{Message}
 use Rattle.rb_core.specs.declared.slot.Heard.{Heard}

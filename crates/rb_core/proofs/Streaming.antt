@@ -5,7 +5,8 @@ use Rattle.std.proofs.lemmas.Bool.Decides.{nat_tests}
 use Rattle.std.proofs.lemmas.List.{length-drop, drop-drop}
 use Rattle.rb_xdr.specs.Kept.{Kept}
 use Rattle.rb_rpc.specs.Records.{marked}
-use Rattle.rb_proto.specs.ListReplies.{longest_part, IsTold}
+use Rattle.rb_proto.specs.ListReplies.{longest_part}
+use Rattle.rb_proto.specs.ListParts.{IsTold}
 use Rattle.rb_core.specs.declared.giving.Stream.{Stream}
 use Rattle.rb_core.specs.State.{Owed}
 use Rattle.rb_core.specs.Connections.{longest_fragment, owed_of, pending_of}

@@ -1,5 +1,5 @@
 -- Which connections could begin a forwarded call: those that are not open yet, and those that await none.
-use Rattle.std.specs.Prelude.{◌≡◌, ⊤, ℕ, ◌==◌, nat_lt, not, Bool, true, false, ◌&&◌, ◌||◌, IfSome, Result, IfOk}
+use Rattle.std.specs.Prelude.{◌≡◌, ⊤, ℕ, ◌==◌, nat_lt, Bool, true, false, not, ◌&&◌, ◌||◌, IfSome, Result, IfOk}
 use Rattle.std.specs.List.{list_any}
 use Rattle.std.specs.Map.{values_of}
 use Rattle.rb_forward.specs.StandsFor.{Table as Entries, slots_of}

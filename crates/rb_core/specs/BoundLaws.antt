@@ -1,13 +1,13 @@
 -- Laws of bounds: what is held never passes its bound, and no event takes more steps than its own.
-use Rattle.std.specs.Prelude.{◌≡◌, ℕ, ◌≤◌, ◌<◌, ◌+◌, ◌^◌, count_by, ◌*◌, Bool, is_some, true, List}
+use Rattle.std.specs.Prelude.{◌≡◌, ◌<◌, ◌≤◌, ℕ, ◌+◌, ◌*◌, ◌^◌, Bool, true, List, count_by, is_some}
 use Rattle.std.specs.List.{AllZip}
 use Rattle.std.specs.Map.{values_of}
 use Rattle.rb_core.specs.declared.slot.Slot.{Slot}
-use Rattle.rb_core.specs.State.{State, Connection, are_good}
+use Rattle.rb_core.specs.State.{Connection, State, are_good}
 use Rattle.rb_core.specs.Connections.{fed_in}
 use Rattle.rb_core.specs.StandsFor.{longest_arguments, charge, Held, StandsFor}
 use Rattle.rb_core.specs.Bounds.{held, bytes_bound, bound_at, run_bound}
-use Rattle.rb_core.specs.Step.{IsReached, Event}
+use Rattle.rb_core.specs.Step.{Event, IsReached}
 use Rattle.rb_core.specs.Costs.{event_cost, run_cost}
 
 -- ---- held bytes: a connection that takes bytes holds less than its share

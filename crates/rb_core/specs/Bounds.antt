@@ -4,14 +4,14 @@ use Rattle.std.specs.Map.{values_of}
 use Rattle.rb_registry.specs.Registry.{slots_of as rows_of}
 use Rattle.rb_registry.specs.Slots.{held_in as held_of_rows}
 use Rattle.rb_stats.specs.Stats.{key_count, most_keys}
-use Rattle.rb_forward.specs.StandsFor.{slots_of as calls_of, held_in as held_of_calls, longest_call}
+use Rattle.rb_forward.specs.StandsFor.{longest_call, slots_of as calls_of, held_in as held_of_calls}
 use Rattle.rb_core.specs.declared.types.Limits.{Limits}
 use Rattle.rb_core.specs.StandsFor.{held_in as held_of_connections, Held}
 use Rattle.rb_core.specs.Calls.{longest_reply}
 use Rattle.rb_core.specs.Connections.{longest_fragment}
 use Rattle.rb_core.specs.Step.{Event, Output, step}
-use Rattle.rb_core.specs.Step.Output.{Took, IsPending, TookAndClosed, Replied, Done, UnsentIs, RepliedTo}
-use Rattle.rb_core.specs.Step.Event.{Gave, Forward, Datagram}
+use Rattle.rb_core.specs.Step.Output.{Took, TookAndClosed, IsPending, Done, Replied, UnsentIs, RepliedTo}
+use Rattle.rb_core.specs.Step.Event.{Gave, Datagram, Forward}
 use Rattle.rb_core.specs.State.{State}
 
 -- ---- held bytes

@@ -1,15 +1,15 @@
 -- What calls cost at most, by what is held.
-use Rattle.std.specs.Prelude.{◌≡◌, ℕ, ◌+◌, ◌*◌, Bool, false, true, List, IfSome, length, Option, Some, Result, None, Ok, Err}
+use Rattle.std.specs.Prelude.{◌≡◌, ℕ, ◌+◌, ◌*◌, Bool, true, false, List, length, Option, Some, None, IfSome, Result, Ok, Err}
 use Rattle.rb_xdr.specs.Meter.{Meter, PaysAtMost}
 use Rattle.rb_registry.specs.Registry.{Registry, slots_of}
 use Rattle.rb_forward.specs.Costs.{unsent_cost}
 use Rattle.rb_proto.specs.declared.books.Books.{Books}
-use Rattle.rb_proto.specs.Puts.{statistics_cost}
+use Rattle.rb_proto.specs.Costs.{statistics_cost}
 use Rattle.rb_core.specs.declared.slot.Heard.{Heard}
 use Rattle.rb_core.specs.declared.slot.Received.{Received}
 use Rattle.rb_core.specs.declared.types.CoreFault.{CoreFault}
 use Rattle.rb_core.specs.declared.types.Taken.{Taken}
-use Rattle.rb_core.specs.Costs.{entry_cost, ended_cost, serve_cost, read_cost, answer_cost, listed_cost, given_cost, recount_cost, exchange_cost, take_cost, begin_list_cost, find_cost, make_room_cost}
+use Rattle.rb_core.specs.Costs.{serve_cost, listed_cost, recount_cost, given_cost, find_cost, take_cost, exchange_cost, read_cost, begin_list_cost, make_room_cost, answer_cost, entry_cost, ended_cost}
 use Rattle.rb_core.specs.StandsFor.{Table, Held, StandsFor}
 use Rattle.rb_core.specs.Connections.{Taking, taking, live_connection}
 use Rattle.rb_core.specs.Connections.Taking.{TakesNone, GoesOn, Ends}

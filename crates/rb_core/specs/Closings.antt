@@ -1,15 +1,15 @@
 -- When a connection becomes Lost, and when it is gone.
-use Rattle.std.specs.Prelude.{◌≡◌, ◌⊎◌, ◌↔◌, ◌≤◌, ◌<◌, ◌+◌, ℕ, true, false, List, ◌++◌, length, take, All, Some}
+use Rattle.std.specs.Prelude.{◌≡◌, ◌⊎◌, ◌↔◌, ◌<◌, ◌≤◌, ℕ, ◌+◌, true, false, List, ◌++◌, length, take, All, Some}
 use Rattle.rb_rpc.specs.declared.peer.Caller.{Caller}
 use Rattle.rb_rpc.specs.declared.peer.Caller.TheVariants.{Tcp, Udp}
 use Rattle.rb_rpc.specs.Records.{first_record, data_of}
 use Rattle.rb_proto.specs.Ledger.{rows_in}
 use Rattle.rb_core.specs.declared.message.Message.TheVariants as says
 use Rattle.rb_core.specs.Calls.{message_of}
-use Rattle.rb_core.specs.State.{State, Connection, at_moment}
-use Rattle.rb_core.specs.Connections.{is_there, fed_in}
+use Rattle.rb_core.specs.State.{Connection, State, at_moment}
+use Rattle.rb_core.specs.Connections.{fed_in, is_there}
 use Rattle.rb_core.specs.Losses.{is_due, began_in, kept_removals, asks_room}
-use Rattle.rb_core.specs.Step.{Event, context_in, step, IsReached}
+use Rattle.rb_core.specs.Step.{context_in, Event, step, IsReached}
 use Rattle.rb_core.specs.Step.Event.{Bytes, Closed, Datagram, Expire}
 use Rattle.rb_core.specs.Laws.{IsLive, IsLost}
 use Rattle.rb_core.specs.DeadlineLaws.{clock_at, NoEntryIsDue}

@@ -1,12 +1,12 @@
 -- Connections: what bytes that arrive and bytes that are given do to one, and how they come and go.
-use Rattle.std.specs.Prelude.{ℕ, ◌+◌, ◌==◌, ◌-◌, nat_lt, not, ◌*◌, Bool, min, ◌/◌, false, true, List, ◌&&◌, [], if◌then◌else◌, ◌∷◌, ◌++◌, find, length, take, drop, filter, Option, Some, Result, None, Ok, Err}
+use Rattle.std.specs.Prelude.{ℕ, ◌+◌, ◌-◌, ◌*◌, ◌/◌, ◌==◌, nat_lt, min, Bool, true, false, not, ◌&&◌, if◌then◌else◌, List, [], ◌∷◌, ◌++◌, length, take, drop, find, filter, Option, Some, None, Result, Ok, Err}
 use Rattle.std.specs.Option.{option_map}
 use Rattle.std.specs.List.{list_any}
 use Rattle.rb_rpc.specs.declared.peer.Peer.{Peer}
 use Rattle.rb_rpc.specs.Records.{first_record, data_of, marked}
 use Rattle.rb_core.specs.declared.types.CoreFault.{CoreFault}
 use Rattle.rb_core.specs.declared.types.CoreFault.TheVariants.{Full, Gone, Spent}
-use Rattle.rb_core.specs.State.{Owed, State, Phase, Connection, greatest_number, Connections}
+use Rattle.rb_core.specs.State.{Owed, Phase, Connection, Connections, State, greatest_number}
 use Rattle.rb_core.specs.State.Phase.{Idle, Reading, Owing, Awaiting, Lost}
 use Rattle.rb_core.specs.Calls.{Outcome}
 use Rattle.rb_core.specs.Calls.Outcome.{NoCall, Reply, Forwarded, Silent}

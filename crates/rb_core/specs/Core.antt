@@ -1,26 +1,26 @@
 -- What is true of all that a core holds, and what its calls answer.
-use Rattle.std.specs.Prelude.{◌≡◌, ℕ, ◌≤◌, Bool, List, [], length, None}
+use Rattle.std.specs.Prelude.{◌≡◌, ◌≤◌, ℕ, Bool, List, [], length, None}
 use Rattle.rb_xdr.specs.Kept.{Kept}
 use Rattle.rb_rpc.specs.declared.peer.Caller.{Caller}
 use Rattle.rb_rpc.specs.declared.peer.Caller.TheVariants.{Tcp}
 use Rattle.rb_forward.specs.declared.types.Ended.{Ended}
 use Rattle.rb_proto.specs.declared.books.Books.{Books}
 use Rattle.rb_proto.specs.declared.context.Context.{Context}
-use Rattle.rb_proto.specs.Ledger.{AreTied}
+use Rattle.rb_proto.specs.Books.{AreTied}
 use Rattle.rb_core.specs.declared.types.Outcome as outcome
 use Rattle.rb_core.specs.declared.types.Outcome.TheVariants as outcomes
 use Rattle.rb_core.specs.declared.slot.Heard.{Heard}
 use Rattle.rb_core.specs.declared.types.CoreFault.{CoreFault}
 use Rattle.rb_core.specs.declared.types.CoreFault.TheVariants.{NoMemory, Full, BadLimits, Gone, Spent}
 use Rattle.rb_core.specs.State.{Setting, State}
-use Rattle.rb_core.specs.Calls.{Outcome, Outcome as said, message_with, longest_reply}
+use Rattle.rb_core.specs.Calls.{message_with, Outcome, Outcome as said, longest_reply}
 use Rattle.rb_core.specs.StandsFor.{Table, Held, StandsFor}
-use Rattle.rb_core.specs.Slots.{IsDraft, Acts}
+use Rattle.rb_core.specs.Slots.{Acts, IsDraft}
 use Rattle.rb_core.specs.Awaits.{AreAwaited}
 use Rattle.rb_core.specs.Listings.{AreTold, source_in}
 use Rattle.rb_core.specs.declared.types.Told.{Told}
-use Rattle.rb_core.specs.Ending.{tell, told_at}
-use Rattle.rb_core.specs.Step.{settled_in, serve_message}
+use Rattle.rb_core.specs.Ending.{told_at, tell}
+use Rattle.rb_core.specs.Step.{serve_message, settled_in}
 
 -- What is true of all that a core holds: it has one meter, its draft is empty between two events, each connection for which
 -- a call is forwarded awaits it, the registry can tell the lists that are given, and the reply has so many bytes.

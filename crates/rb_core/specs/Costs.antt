@@ -2,14 +2,14 @@
 use Rattle.std.specs.Prelude.{ℕ, ◌+◌, ◌*◌, List, [], ◌∷◌, length, Option, Some, None}
 use Rattle.rb_forward.specs.Costs.{end_cost, sent_cost, unsent_cost}
 use Rattle.rb_forward.specs.StandsFor.{longest_call}
-use Rattle.rb_proto.specs.Puts.{note_cost, forward_cost, statistics_cost}
+use Rattle.rb_proto.specs.Costs.{note_cost, forward_cost, statistics_cost}
 use Rattle.rb_proto.specs.ListReplies.{part_room}
 use Rattle.rb_core.specs.StandsFor.{buffer_size}
-use Rattle.rb_core.specs.State.{State, Connection}
+use Rattle.rb_core.specs.State.{Connection, State}
 use Rattle.rb_core.specs.Connections.{Taking, taking, live_connection}
 use Rattle.rb_core.specs.Connections.Taking.{TakesNone, GoesOn, Ends}
 use Rattle.rb_core.specs.Step.{Event, step}
-use Rattle.rb_core.specs.Step.Event.{Open, Bytes, Pending, Gave, Forward, Closed, Datagram, Unsent, NextLost, Sent, Expire}
+use Rattle.rb_core.specs.Step.Event.{Open, Bytes, Pending, Gave, Closed, NextLost, Datagram, Unsent, Sent, Forward, Expire}
 
 -- ---- parts of calls
 

@@ -13,11 +13,11 @@ use Rattle.rb_forward.specs.declared.types.Ended as entry
 use Rattle.rb_proto.specs.declared.answers.Answer.{Answer}
 use Rattle.rb_proto.specs.declared.answers.Answer.TheVariants as answers
 use Rattle.rb_proto.specs.Ledger.{Ledger}
-use Rattle.rb_proto.specs.Forwarding.{refusal, forwarded_bytes, replied, fell_due}
+use Rattle.rb_proto.specs.Forwarding.{refusal, replied, fell_due, forwarded_bytes}
 use Rattle.rb_core.specs.declared.types.Told.TheVariants.{TcpReady, Datagram}
 use Rattle.rb_core.specs.declared.types.Told.TheVariants as told
 use Rattle.rb_core.specs.declared.types.Expired.TheVariants.{Nothing, Ended, ConnectionClosed}
-use Rattle.rb_core.specs.State.{State, Connections, at_moment}
+use Rattle.rb_core.specs.State.{Connections, State, at_moment}
 use Rattle.rb_core.specs.Calls.{Outcome, reply_in, success}
 use Rattle.rb_core.specs.Calls.Outcome.{NoCall, Reply, Forwarded, Silent}
 use Rattle.rb_core.specs.Connections.{settled, on_connection}

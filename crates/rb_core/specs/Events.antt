@@ -1,5 +1,5 @@
 -- What one event does to a core, and what is told of its steps.
-use Rattle.std.specs.Prelude.{◌≡◌, ℕ, ◌≤◌, ◌<◌, ◌+◌, ◌-◌, ◌^◌, min, List, length, Result, Ok, IfOk, Err}
+use Rattle.std.specs.Prelude.{◌≡◌, ◌<◌, ◌≤◌, ℕ, ◌+◌, ◌-◌, ◌^◌, min, List, length, Result, Ok, Err, IfOk}
 use Rattle.std.specs.Borrow.{Fml, Bor, MutBor}
 use Rattle.std.specs.Io.BufRead.{Rests}
 use Rattle.rb_xdr.specs.declared.memory.NoMemory.{NoMemory}
@@ -9,7 +9,7 @@ use Rattle.rb_core.specs.declared.events.Output as output
 use Rattle.rb_core.specs.declared.types.CoreFault.{CoreFault}
 use Rattle.rb_core.specs.declared.types.Taken.{Taken}
 use Rattle.rb_core.specs.State.{State}
-use Rattle.rb_core.specs.Step.{IsReached, Event, step}
+use Rattle.rb_core.specs.Step.{Event, step, IsReached}
 use Rattle.rb_core.specs.StandsFor.{Held, StandsFor}
 use Rattle.rb_core.specs.Runs.{output_of}
 use Rattle.rb_core.specs.Costs.{event_cost}

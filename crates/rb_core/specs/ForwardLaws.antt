@@ -5,7 +5,7 @@ use Rattle.rb_rpc.specs.declared.peer.Peer.{Peer}
 use Rattle.rb_rpc.specs.declared.peer.Caller.{Caller}
 use Rattle.rb_rpc.specs.declared.peer.Caller.TheVariants.{Tcp, Udp}
 use Rattle.rb_forward.specs.declared.types.Outcome.TheVariants.{Failed}
-use Rattle.rb_forward.specs.Forwards.{Entry, is_of_connection, outcome_of, ended_by}
+use Rattle.rb_forward.specs.Forwards.{Entry, outcome_of, is_of_connection, ended_by}
 use Rattle.rb_forward.specs.Ends.{NoneIs, IsFirst, IsReplyTo}
 use Rattle.rb_forward.specs.Laws.{number_of, times}
 use Rattle.rb_proto.specs.declared.listener.Listener.{Listener}
@@ -15,9 +15,9 @@ use Rattle.rb_core.specs.declared.types.Told.TheVariants.{TcpReady}
 use Rattle.rb_core.specs.declared.types.Expired.{Expired}
 use Rattle.rb_core.specs.declared.types.Expired.TheVariants.{Nothing, Ended, ConnectionClosed}
 use Rattle.rb_core.specs.Calls.{Outcome, reply_in}
-use Rattle.rb_core.specs.State.{State, Connection, opening}
+use Rattle.rb_core.specs.State.{Connection, State, opening}
 use Rattle.rb_core.specs.Laws.{is_awaiting}
-use Rattle.rb_core.specs.Connections.{live_connection, settled, changed_at}
+use Rattle.rb_core.specs.Connections.{settled, live_connection, changed_at}
 use Rattle.rb_core.specs.Ending.{told_at, told_over_udp, at_fresh_moment, forward_reply, expire}
 use Rattle.rb_core.specs.Step.{Event, step, after, IsReached}
 use Rattle.rb_core.specs.DeadlineLaws.{clock_at, EntryIsDue}

@@ -1,14 +1,15 @@
 -- What is said of a window on a reply, and of a list that is streamed.
-use Rattle.std.specs.Prelude.{◌≡◌, ℕ, ◌<◌, ◌+◌, nat_lt, false, List, if◌then◌else◌, IfSome, length, take, drop, Option, Some, Result, None, Ok, Err}
+use Rattle.std.specs.Prelude.{◌≡◌, ◌<◌, ℕ, ◌+◌, nat_lt, false, if◌then◌else◌, List, length, take, drop, Option, Some, None, IfSome, Result, Ok, Err}
 use Rattle.rb_xdr.specs.Kept.{Kept}
 use Rattle.rb_rpc.specs.Records.{marked}
 use Rattle.rb_proto.specs.declared.list_reply.ListReply.{ListReply}
-use Rattle.rb_proto.specs.ListReplies.{rest_of, IsTold}
+use Rattle.rb_proto.specs.ListReplies.{rest_of}
+use Rattle.rb_proto.specs.ListParts.{IsTold}
 use Rattle.rb_core.specs.declared.types.CoreFault.{CoreFault}
 use Rattle.rb_core.specs.declared.giving.Stream.{Stream}
 use Rattle.rb_core.specs.Connections.{longest_fragment, pending_of}
 use Rattle.rb_core.specs.State.{Owed}
-use Rattle.rb_core.specs.StandsFor.{Source, IsGiving, rest_behind}
+use Rattle.rb_core.specs.StandsFor.{IsGiving, Source, rest_behind}
 
 -- ---- a window
 

@@ -1,19 +1,19 @@
 -- What is promised of every run from an opening, in one law.
-use Rattle.std.specs.Prelude.{◌≡◌, ◌≤◌, ◌<◌, ◌^◌, ℕ, true, List}
+use Rattle.std.specs.Prelude.{◌≡◌, ◌<◌, ◌≤◌, ℕ, ◌^◌, true, List}
 use Rattle.rb_rpc.specs.declared.peer.Peer.{Peer}
 use Rattle.rb_rpc.specs.declared.peer.Caller.TheVariants.{Udp}
 use Rattle.rb_feed.specs.Feeds.{arguments_of}
 use Rattle.rb_proto.specs.declared.listener.Listener.{Listener}
 use Rattle.rb_core.specs.declared.types.Limits.{Limits}
-use Rattle.rb_core.specs.Calls.{Outcome, message_of, outcome}
+use Rattle.rb_core.specs.Calls.{message_of, Outcome, outcome}
 use Rattle.rb_core.specs.Calls.Outcome.{NoCall, Reply, Forwarded, Silent}
-use Rattle.rb_core.specs.State.{State, are_good, at_moment, opening}
-use Rattle.rb_core.specs.Step.{Event, Output, Output as outputs, context_in, step, after}
+use Rattle.rb_core.specs.State.{State, are_good, opening, at_moment}
+use Rattle.rb_core.specs.Step.{context_in, Event, Output, Output as outputs, step, after}
 use Rattle.rb_core.specs.Step.Event.{Datagram}
 use Rattle.rb_core.specs.Sessions.{session, IsWholeSession}
 use Rattle.rb_core.specs.Costs.{event_cost}
 use Rattle.rb_core.specs.StandsFor.{Held, StandsFor}
-use Rattle.rb_core.specs.Bounds.{held, bytes_bound, steps_bound, bytes_in, bytes_out}
+use Rattle.rb_core.specs.Bounds.{held, bytes_bound, bytes_in, bytes_out, steps_bound}
 
 -- what the sender of a datagram gets
 abbrev pub shown_as : Outcome → Output

@@ -1,5 +1,5 @@
 -- Laws of steps and of runs.
-use Rattle.std.specs.Prelude.{◌≡◌, ℕ, ◌⊎◌, ◌≤◌, ◌<◌, ◌+◌, ◌↔◌, ◌==◌, max, Bool, false, true, List, ⊤, ◌&&◌, [], ◌∷◌, ◌++◌, IfSome, length, take, filter_map, drop, Option, Any, All, Some, Result, None, Ok, Err}
+use Rattle.std.specs.Prelude.{◌≡◌, ◌⊎◌, ◌↔◌, ◌<◌, ◌≤◌, ⊤, ℕ, ◌+◌, ◌==◌, max, Bool, true, false, ◌&&◌, List, [], ◌∷◌, ◌++◌, length, take, drop, filter_map, All, Any, Option, Some, None, IfSome, Result, Ok, Err}
 use Rattle.std.specs.List.{list_any}
 use Rattle.rb_xdr.specs.Xdr.{AreBytes}
 use Rattle.rb_rpc.specs.declared.peer.Caller.TheVariants.{Tcp}
@@ -11,10 +11,10 @@ use Rattle.rb_proto.specs.Callers.{own_rows}
 use Rattle.rb_proto.specs.Ledger.{rows_in}
 use Rattle.rb_core.specs.declared.types.CoreFault.{CoreFault}
 use Rattle.rb_core.specs.declared.types.Taken.{Taken}
-use Rattle.rb_core.specs.State.{Owed, State, Phase, Connection, are_good, at_moment}
-use Rattle.rb_core.specs.Step.{run, IsReached, Event, after, Output, serve, bytes, pending, step, gave, next_lost}
+use Rattle.rb_core.specs.State.{Owed, Phase, Connection, State, are_good, at_moment}
+use Rattle.rb_core.specs.Step.{serve, bytes, pending, gave, next_lost, Event, Output, step, run, after, IsReached}
 use Rattle.rb_core.specs.Step.Output.{Opened, Refused, TooMuch}
-use Rattle.rb_core.specs.Connections.{is_lost, fed_in, live_connection, mark_when_fed, owed_of}
+use Rattle.rb_core.specs.Connections.{owed_of, fed_in, mark_when_fed, is_lost, live_connection}
 use Rattle.rb_core.specs.State.Phase.{Idle, Reading, Owing, Awaiting, Lost}
 use Rattle.rb_core.specs.Calls.{Outcome, is_no_call}
 use Rattle.rb_core.specs.Calls.Outcome.{NoCall, Reply, Forwarded, Silent}

@@ -1,17 +1,17 @@
 -- The lists that are given on the connections of a table, the rows that they need, and room for a row.
-use Rattle.std.specs.Prelude.{◌≡◌, ℕ, ◌≤◌, nat_lt, Bool, min, false, List, ⊤, [], if◌then◌else◌, map, filter_map, Option, Contains, All, Some, None}
+use Rattle.std.specs.Prelude.{◌≡◌, ◌≤◌, ⊤, ℕ, nat_lt, min, Bool, false, if◌then◌else◌, List, [], map, filter_map, All, Contains, Option, Some, None}
 use Rattle.std.specs.Map.{values_of}
 use Rattle.rb_xdr.specs.Pool.{Pool}
 use Rattle.rb_proto.specs.declared.books.Books.{Books}
 use Rattle.rb_proto.specs.declared.context.Context.{Context}
-use Rattle.rb_proto.specs.Answers.{HasRowRoom}
+use Rattle.rb_proto.specs.Books.{HasRowRoom}
 use Rattle.rb_proto.specs.Ledger.{Ledger, StandsForLedger}
 use Rattle.rb_core.specs.declared.slot.Stage.{Stage}
 use Rattle.rb_core.specs.declared.slot.Stage.TheVariants as stages
 use Rattle.rb_core.specs.declared.slot.Slot.{Slot}
 use Rattle.rb_core.specs.declared.message.Message.{Message}
 use Rattle.rb_core.specs.declared.message.Message.TheVariants as says
-use Rattle.rb_core.specs.StandsFor.{Source, Table, StandsForConnections, source_for}
+use Rattle.rb_core.specs.StandsFor.{Source, source_for, Table, StandsForConnections}
 use Rattle.rb_core.specs.Giving.{GoesOnBy}
 use Rattle.rb_core.specs.Losses.{crowding, evicting}
 use Rattle.rb_core.specs.Slots.{TableBecomes}

@@ -1,6 +1,6 @@
 -- When a connection becomes Lost: at its deadline, or where the rows that are kept for its list are in the way. Moments are
 -- in milliseconds.
-use Rattle.std.specs.Prelude.{ℕ, ◌+◌, nat_lt, nat_le, not, Bool, false, List, ◌&&◌, [], if◌then◌else◌, ◌∷◌, find, length, map, filter_map, filter, Option, Some, None}
+use Rattle.std.specs.Prelude.{ℕ, ◌+◌, nat_le, nat_lt, Bool, false, not, ◌&&◌, if◌then◌else◌, List, [], ◌∷◌, length, map, find, filter, filter_map, Option, Some, None}
 use Rattle.std.specs.Option.{option_map}
 use Rattle.std.specs.List.{list_any, list_all}
 use Rattle.rb_registry.specs.declared.slot.Slot.{Slot}
@@ -11,7 +11,7 @@ use Rattle.rb_proto.specs.Ledger.{Ledger, rows_in}
 use Rattle.rb_proto.specs.Answers.{wants_room}
 use Rattle.rb_core.specs.declared.message.Message.{Message}
 use Rattle.rb_core.specs.declared.message.Message.TheVariants as says
-use Rattle.rb_core.specs.State.{State, Phase, Connection, Connections}
+use Rattle.rb_core.specs.State.{Phase, Connection, Connections, State}
 use Rattle.rb_core.specs.State.Phase.{Idle, Reading, Owing, Awaiting, Lost}
 use Rattle.rb_core.specs.Connections.{changed_at}
 

@@ -1,8 +1,8 @@
 -- How a record is read piece by piece, and that what is kept of it says enough (RFC 5531 section 11).
-use Rattle.std.specs.Prelude.{◌≡◌, ℕ, ◌+◌, ◌-◌, List, ⊤, ◌++◌, length, take, Option, Some, None}
+use Rattle.std.specs.Prelude.{◌≡◌, ⊤, ℕ, ◌+◌, ◌-◌, List, ◌++◌, length, take, Option, Some, None}
 use Rattle.rb_xdr.specs.Kept.{Kept}
 use Rattle.rb_rpc.specs.declared.marks.Marks.{Marks}
-use Rattle.rb_rpc.specs.Records.{data_of, first_record}
+use Rattle.rb_rpc.specs.Records.{first_record, data_of}
 use Rattle.rb_rpc.specs.Verdict.{verdict}
 use Rattle.rb_rpc.specs.Marks.{StandsForFed}
 use Rattle.rb_feed.specs.Feeds.{StandsForCall, arguments_of}
@@ -12,7 +12,7 @@ use Rattle.rb_proto.specs.Ledger.{Ledger}
 use Rattle.rb_core.specs.declared.message.Message.{Message}
 use Rattle.rb_core.specs.declared.message.Message.TheVariants as says
 use Rattle.rb_core.specs.StandsFor.{longest_arguments, buffer_size, kept_of, IsReading}
-use Rattle.rb_core.specs.Calls.{message_of, message_with, outcome}
+use Rattle.rb_core.specs.Calls.{message_with, message_of, outcome}
 pub use Rattle.rb_core.specs.declared.reading.Fed.{Fed}
 pub use Rattle.rb_core.specs.declared.reading.Intake.{Intake}
 pub use Rattle.rb_core.specs.declared.reading.Reader.{Reader}

@@ -1,5 +1,5 @@
 -- What a list of events does to a core, what it costs, and how many bytes are held after it.
-use Rattle.std.specs.Prelude.{◌≡◌, option_map, ◌≤◌, ◌<◌, ◌^◌, true, List, ◌++◌, map}
+use Rattle.std.specs.Prelude.{◌≡◌, ◌<◌, ◌≤◌, ◌^◌, true, List, ◌++◌, map, option_map}
 use Rattle.rb_xdr.specs.Meter.{Meter, PaysAtMost}
 use Rattle.rb_forward.specs.Forwards.{Unsent as UnsentPlain}
 use Rattle.rb_core.specs.declared.events.Event as event
@@ -7,9 +7,9 @@ use Rattle.rb_core.specs.declared.events.Event.TheVariants as events
 use Rattle.rb_core.specs.declared.events.UnsentCall.{UnsentCall}
 use Rattle.rb_core.specs.declared.events.Output as output
 use Rattle.rb_core.specs.declared.events.Output.TheVariants as outputs
-use Rattle.rb_core.specs.Step.{run, IsReached, Event, after, Output}
-use Rattle.rb_core.specs.Step.Event.{Open, Bytes, Pending, Gave, Forward, Closed, Datagram, Unsent, NextLost, Sent, Expire}
-use Rattle.rb_core.specs.Step.Output.{Opened, Took, Refused, IsPending, TooMuch, TookAndClosed, Nothing, Replied, Done, Forwarded, LostIs, UnsentIs, Silent, Ignored, ConnectionClosed, Ready, RepliedTo}
+use Rattle.rb_core.specs.Step.{Event, Output, run, after, IsReached}
+use Rattle.rb_core.specs.Step.Event.{Open, Bytes, Pending, Gave, Closed, NextLost, Datagram, Unsent, Sent, Forward, Expire}
+use Rattle.rb_core.specs.Step.Output.{Opened, Refused, TooMuch, Took, TookAndClosed, IsPending, Done, LostIs, Replied, Forwarded, Silent, UnsentIs, Ignored, Nothing, ConnectionClosed, Ready, RepliedTo}
 use Rattle.rb_core.specs.State.{State, are_good}
 use Rattle.rb_core.specs.StandsFor.{Held, StandsFor}
 use Rattle.rb_core.specs.Costs.{run_cost}

@@ -7,12 +7,14 @@ use Rattle.rb_proto.specs.declared.answers.Listing.{Listing}
 use Rattle.rb_proto.specs.declared.answers.Results.{Results}
 use Rattle.rb_proto.specs.declared.answers.Results.TheVariants as results
 use Rattle.rb_proto.specs.declared.list_reply.ListReply.{ListReply}
-use Rattle.rb_proto.specs.ListReplies.{rest_of, ListsRows, IsTold}
+use Rattle.rb_proto.specs.ListReplies.{rest_of}
+use Rattle.rb_proto.specs.ListParts.{ListsRows, IsTold}
 use Rattle.rb_proto.specs.declared.answers.Answer.{Answer}
 use Rattle.rb_proto.specs.declared.books.Books.{Books}
 use Rattle.rb_proto.specs.declared.context.Context.{Context}
-use Rattle.rb_proto.specs.Ledger.{Ledger, StandsForLedger, ActsAs}
-use Rattle.rb_proto.specs.Results.{result_bytes, shown_of}
+use Rattle.rb_proto.specs.Ledger.{Ledger, StandsForLedger}
+use Rattle.rb_proto.specs.Books.{ActsAs}
+use Rattle.rb_proto.specs.Results.{shown_of, result_bytes}
 use Rattle.rb_xdr.specs.Kept.{Kept}
 use Rattle.rb_core.specs.declared.serve.Served.{Served}
 use Rattle.rb_core.specs.declared.serve.Served.TheVariants.{Told, Listed}
@@ -20,9 +22,9 @@ use Rattle.rb_core.specs.declared.types.Outcome.{Outcome as Written}
 use Rattle.rb_core.specs.declared.types.Outcome.TheVariants as outcomes
 use Rattle.rb_core.specs.StandsFor.{Source, Table}
 use Rattle.rb_core.specs.Giving.{IsToldBy}
-use Rattle.rb_core.specs.Calls.{Outcome, Outcome as said, is_no_call, outcome, told_as}
+use Rattle.rb_core.specs.Calls.{Outcome, Outcome as said, is_no_call, told_as, outcome}
 use Rattle.rb_core.specs.Core.{outcome_with}
-use Rattle.rb_core.specs.Slots.{settling, SlotBecomesFrom, BecomesFrom}
+use Rattle.rb_core.specs.Slots.{SlotBecomesFrom, BecomesFrom, settling}
 use Rattle.rb_core.specs.declared.message.Message.{Message}
 use Rattle.rb_core.specs.declared.slot.Slot.{Slot}
 use Rattle.rb_core.specs.Connections.{settled}

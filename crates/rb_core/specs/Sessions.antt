@@ -1,5 +1,5 @@
 -- What passes on one connection in a whole run (RFC 5531 section 11).
-use Rattle.std.specs.Prelude.{◌≡◌, ◌≢◌, ℕ, ◌⊎◌, ◌==◌, max, Bool, false, true, List, ⊤, [], if◌then◌else◌, ◌∷◌, ◌++◌, take, map, Option, All, Some, Result, None, Ok, Err}
+use Rattle.std.specs.Prelude.{◌≡◌, ◌≢◌, ◌⊎◌, ⊤, ℕ, ◌==◌, max, Bool, true, false, if◌then◌else◌, List, [], ◌∷◌, ◌++◌, take, map, All, Option, Some, None, Result, Ok, Err}
 use Rattle.std.specs.List.{flat_map}
 use Rattle.rb_xdr.specs.Xdr.{AreBytes}
 use Rattle.rb_rpc.specs.declared.peer.Caller.{Caller}
@@ -13,15 +13,15 @@ use Rattle.rb_proto.specs.Forwarding.{replied, fell_due}
 use Rattle.rb_core.specs.declared.types.CoreFault.{CoreFault}
 use Rattle.rb_core.specs.declared.types.Limits.{Limits}
 use Rattle.rb_core.specs.Calls.{Outcome}
-use Rattle.rb_core.specs.Step.{Event, after, Output, serve, pending, step}
+use Rattle.rb_core.specs.Step.{serve, pending, Event, Output, step, after}
 use Rattle.rb_core.specs.Step.Event.{Bytes, Gave, Forward, Expire}
 use Rattle.rb_core.specs.Bounds.{count_in}
-use Rattle.rb_core.specs.State.{State, Connection, at_moment, opening}
+use Rattle.rb_core.specs.State.{Connection, State, opening, at_moment}
 use Rattle.rb_core.specs.Step.Output.{Done}
 use Rattle.rb_core.specs.Connections.{live_connection}
 use Rattle.rb_core.specs.Ending.{told_at}
 use Rattle.rb_core.specs.Calls.Outcome.{NoCall, Reply, Forwarded, Silent}
-use Rattle.rb_core.specs.Laws.{owed_in, is_awaiting, IsLive}
+use Rattle.rb_core.specs.Laws.{IsLive, owed_in, is_awaiting}
 
 -- the data of a record, and what was said to it: at the moment that the record ended, or at the end of the call that was
 -- forwarded for it

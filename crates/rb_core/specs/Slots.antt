@@ -1,5 +1,5 @@
 -- What calls do with the slots of connections, and what is true of them.
-use Rattle.std.specs.Prelude.{◌≡◌, ℕ, ◌≤◌, ◌+◌, ◌==◌, not, Bool, false, true, List, ⊤, ◌&&◌, [], ◌∷◌, find, length, Option, All, Some, Result, None, Ok, MatchOption, Err, MatchResult}
+use Rattle.std.specs.Prelude.{◌≡◌, ◌≤◌, ⊤, ℕ, ◌+◌, ◌==◌, Bool, true, false, not, ◌&&◌, List, [], ◌∷◌, length, find, All, Option, Some, None, MatchOption, Result, Ok, Err, MatchResult}
 use Rattle.std.specs.Borrow.{Bor}
 use Rattle.std.specs.Option.{option_map_or}
 use Rattle.std.specs.List.{list_any}
@@ -17,11 +17,11 @@ use Rattle.rb_core.specs.declared.slot.Wanted.{Wanted}
 use Rattle.rb_core.specs.declared.slot.Wanted.TheVariants as wanted
 use Rattle.rb_core.specs.declared.slot.Buffers.{Buffers}
 use Rattle.rb_core.specs.State.{Phase, Connection, Connections}
-use Rattle.rb_core.specs.StandsFor.{Source, Table, buffer_size, StandsForConnections, kept_of, IsReading, AreWithin, StandsForConnection, held_in}
-use Rattle.rb_core.specs.Connections.{Taking, longest_fragment, taking, taking_on, changed_at, reading, settled, is_lost, giving, live_connection, mark_when_fed, on_live, is_live, has_number}
+use Rattle.rb_core.specs.StandsFor.{buffer_size, kept_of, IsReading, Source, StandsForConnection, Table, StandsForConnections, held_in, AreWithin}
+use Rattle.rb_core.specs.Connections.{longest_fragment, Taking, taking_on, taking, mark_when_fed, reading, settled, giving, is_lost, has_number, is_live, live_connection, changed_at, on_live}
 use Rattle.rb_core.specs.Connections.Taking.{TakesNone, GoesOn, Ends}
 use Rattle.rb_core.specs.State.Phase.{Idle, Reading, Owing, Awaiting, Lost}
-use Rattle.rb_core.specs.Losses.{is_due, deadline, has_come}
+use Rattle.rb_core.specs.Losses.{deadline, has_come, is_due}
 use Rattle.rb_core.specs.Calls.{Outcome}
 
 -- An act on what something stands for, which gives a result: from whatever the old one stood for, this result came,

@@ -1,5 +1,5 @@
 -- What a core holds, and the states that it stands for.
-use Rattle.std.specs.Prelude.{◌≡◌, ℕ, ◌≤◌, ◌<◌, ◌+◌, ◌%◌, nat_le, max, ◌*◌, ◌/◌, List, ⊤, [], length, take, drop, All, Some, None}
+use Rattle.std.specs.Prelude.{◌≡◌, ◌<◌, ◌≤◌, ⊤, ℕ, ◌+◌, ◌*◌, ◌/◌, ◌%◌, nat_le, max, List, [], length, take, drop, All, Some, None}
 use Rattle.std.specs.List.{AllZip, sum_by}
 use Rattle.std.specs.Map.{values_of}
 use Rattle.rb_xdr.specs.Kept.{Kept}
@@ -17,7 +17,7 @@ use Rattle.rb_core.specs.declared.slot.Stage.{Stage}
 use Rattle.rb_core.specs.declared.slot.Stage.TheVariants as stages
 use Rattle.rb_core.specs.declared.slot.Slot.{Slot}
 use Rattle.rb_core.specs.Calls.{longest_reply}
-use Rattle.rb_core.specs.State.{Owed, Setting, State, Phase, Connection, Connections}
+use Rattle.rb_core.specs.State.{Setting, Owed, Phase, Connection, Connections, State}
 use Rattle.rb_core.specs.Connections.{longest_fragment}
 use Rattle.rb_core.specs.State.Phase.{Idle, Reading, Owing, Awaiting, Lost}
 

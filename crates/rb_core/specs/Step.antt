@@ -1,5 +1,5 @@
 -- The step of each event, and runs of events.
-use Rattle.std.specs.Prelude.{◌≡◌, ℕ, nat_lt, max, Bool, false, List, [], if◌then◌else◌, ◌∷◌, length, Option, Some, Result, None, Ok, Err}
+use Rattle.std.specs.Prelude.{◌≡◌, ℕ, nat_lt, max, Bool, false, if◌then◌else◌, List, [], ◌∷◌, length, Option, Some, None, Result, Ok, Err}
 use Rattle.rb_rpc.specs.declared.peer.Caller.{Caller}
 use Rattle.rb_rpc.specs.declared.peer.Peer.{Peer}
 use Rattle.rb_rpc.specs.declared.peer.Caller.TheVariants.{Tcp, Udp}
@@ -17,10 +17,10 @@ use Rattle.rb_core.specs.declared.types.Told.TheVariants as ends
 use Rattle.rb_core.specs.declared.types.Expired.TheVariants.{Ended}
 use Rattle.rb_core.specs.declared.types.Expired.TheVariants as expiries
 use Rattle.rb_core.specs.declared.types.Limits.{Limits}
-use Rattle.rb_core.specs.State.{State, Connection, Connections, at_moment, opening}
-use Rattle.rb_core.specs.Calls.{Outcome, Outcome as outcomes, message_of, is_no_call, reply_in, outcome}
+use Rattle.rb_core.specs.State.{Connection, Connections, State, opening, at_moment}
+use Rattle.rb_core.specs.Calls.{message_of, Outcome, Outcome as outcomes, is_no_call, reply_in, outcome}
 use Rattle.rb_core.specs.Losses.{with_room}
-use Rattle.rb_core.specs.Connections.{Taking, taking, reading, settled, giving, live_connection, pending_in, on_live, opening_of, closing_of, first_lost}
+use Rattle.rb_core.specs.Connections.{Taking, taking, reading, settled, pending_in, giving, live_connection, on_live, opening_of, first_lost, closing_of}
 use Rattle.rb_core.specs.Connections.Taking.{TakesNone, GoesOn, Ends}
 pub use Rattle.rb_core.specs.declared.types.Taken.{Taken}
 pub use Rattle.rb_core.specs.Connections.{on_connection}

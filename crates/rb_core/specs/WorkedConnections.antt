@@ -9,7 +9,7 @@ use Rattle.rb_core.specs.Step.Event.{Open, Bytes, Pending, Gave, Closed, NextLos
 use Rattle.rb_core.specs.Step.Output.{Opened, Refused, TooMuch, Took, TookAndClosed, IsPending, Done, LostIs}
 use Rattle.rb_core.specs.Calls.Outcome.{NoCall, Reply}
 use Rattle.rb_core.specs.Sessions.{Exchange, session}
-use Rattle.rb_core.specs.Worked.{fresh, loopback, call_by_none, accepted}
+use Rattle.rb_core.specs.Worked.{loopback, fresh, accepted, call_by_none}
 
 abbrev pub opens : Event
 opens = Open 0 loopback

@@ -6,7 +6,7 @@ use Rattle.rb_core.specs.State.{greatest_number}
 use Rattle.rb_core.specs.Step.{Event, Output, run}
 use Rattle.rb_core.specs.Step.Event.{Open, Bytes, Pending, Gave, Closed, NextLost, Datagram, Expire}
 use Rattle.rb_core.specs.Step.Output.{Opened, Refused, Took, Done, LostIs, Replied, Forwarded, Nothing, ConnectionClosed, RepliedTo}
-use Rattle.rb_core.specs.Worked.{fresh, loopback, call2, call_by_none, accepted}
+use Rattle.rb_core.specs.Worked.{loopback, fresh, call2, accepted, call_by_none}
 use Rattle.rb_core.specs.WorkedConnections.{opens, null_call, in_one}
 
 abbrev pub IdleEnds : Type 0

@@ -10,8 +10,8 @@ use Rattle.rb_core.specs.Step.Output.{Opened, Took, IsPending, Done, Replied, Fo
 use Rattle.rb_core.specs.Calls.{Outcome as said}
 use Rattle.rb_core.specs.Sessions.{session}
 use Rattle.rb_core.specs.ForwardLaws.{ended_in}
-use Rattle.rb_core.specs.Worked.{fresh, loopback, call2, call_by_none, accepted}
-use Rattle.rb_core.specs.WorkedConnections.{opens, in_one, null_call}
+use Rattle.rb_core.specs.Worked.{loopback, fresh, call2, accepted, call_by_none}
+use Rattle.rb_core.specs.WorkedConnections.{opens, null_call, in_one}
 
 -- a SET of program 200001, version 1 on UDP, at port 2049, and its reply
 abbrev pub sets : Event

@@ -6,7 +6,7 @@ use Rattle.rb_core.specs.declared.types.CoreFault.TheVariants.{Gone}
 use Rattle.rb_core.specs.Step.{Event, Output, run, after}
 use Rattle.rb_core.specs.Step.Event.{Bytes, Pending, Gave, Closed, NextLost, Datagram}
 use Rattle.rb_core.specs.Step.Output.{Opened, Refused, Took, IsPending, Done, LostIs, Replied}
-use Rattle.rb_core.specs.Worked.{fresh, fresh_with, loopback, call2, accepted}
+use Rattle.rb_core.specs.Worked.{loopback, fresh, fresh_with, call2, accepted}
 use Rattle.rb_core.specs.WorkedConnections.{opens, in_one}
 
 -- SET and UNSET of version 1 of a program on tcp, port 2049, without a credential

@@ -1,7 +1,7 @@
 //! Room for a row among the live rows and those that were removed, but are kept for lists that are being given.
 ghost use Rattle.std.specs.Prelude.{◌≡◌, ◌≤◌, true, ℕ, length};
 ghost use Rattle.rb_xdr.specs.Meter.{PaysAtMost};
-ghost use Rattle.rb_proto.specs.Ledger.{AreTied, SameFrame};
+ghost use Rattle.rb_proto.specs.Books.{AreTied, SameFrame};
 ghost use Rattle.rb_core.specs.Awaits.{has_idle, NoneIsFreed};
 ghost use Rattle.rb_core.specs.Slots.{StaysTable};
 ghost use Rattle.rb_core.specs.Listings.{AreTold, HasRoom, Evicts, source_in};

@@ -3,7 +3,8 @@ ghost use Rattle.std.specs.Prelude.{◌≡◌, ◌<◌, ◌≤◌, [], false, le
 ghost use Rattle.rb_rpc.specs.Replies.{reply_head};
 ghost use Rattle.rb_xdr.specs.Meter.{PaysAtMost};
 ghost use Rattle.rb_registry.specs.Cursors.{GoesOn};
-ghost use Rattle.rb_proto.specs.Ledger.{AreTied, Ledger, OnlyCallerWaits, SameFrame, StandsForLedger};
+ghost use Rattle.rb_proto.specs.Books.{AreTied, OnlyCallerWaits, SameFrame};
+ghost use Rattle.rb_proto.specs.Ledger.{Ledger, StandsForLedger};
 ghost use Rattle.rb_proto.specs.Results.{result_bytes, results_at, shown_in, shown_of};
 ghost use Rattle.rb_forward.specs.Forwards.{longest_results};
 ghost use Rattle.rb_forward.specs.Outcomes.{PassesWithin};

@@ -1,6 +1,6 @@
 -- The bytes that a reader of calls was fed, and what they are as a call (RFC 5531 section 9).
-use Rattle.std.specs.Prelude.{◌≡◌, ℕ, ◌<◌, false, List, [], ◌++◌, length, drop, fold}
-use Rattle.rb_xdr.specs.Xdr.{AreBytes, words, AreNumbers}
+use Rattle.std.specs.Prelude.{◌≡◌, ◌<◌, ℕ, false, List, [], ◌++◌, length, drop, fold}
+use Rattle.rb_xdr.specs.Xdr.{words, AreBytes, AreNumbers}
 use Rattle.rb_rpc.specs.declared.call.Verdict.{Verdict}
 use Rattle.rb_rpc.specs.declared.call.Verdict.TheVariants as verdicts
 use Rattle.rb_rpc.specs.Marks.{number_so_far}

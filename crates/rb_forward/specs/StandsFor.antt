@@ -3,7 +3,7 @@ use Rattle.std.specs.Prelude.{◌≡◌, ℕ, ◌+◌, List, length}
 use Rattle.std.specs.List.{AllZip, sum_by}
 use Rattle.std.specs.Map.{values_of}
 use Rattle.rb_forward.specs.declared.entries.Slot.{Slot}
-use Rattle.rb_forward.specs.Forwards.{Entry, Forwards, held_call, xid_of}
+use Rattle.rb_forward.specs.Forwards.{Entry, Forwards, xid_of, held_call}
 
 unfoldable pub longest_arguments : ℕ
 longest_arguments = 8800

@@ -1,5 +1,5 @@
 -- What is done with the slots of entries, and what is true of them.
-use Rattle.std.specs.Prelude.{◌≡◌, ℕ, ◌≤◌, ◌<◌, ◌+◌, ◌==◌, nat_lt, nat_le, ◌^◌, not, Bool, false, true, List, ⊤, ◌&&◌, [], ◌∷◌, find, length, Option, All, Some, None}
+use Rattle.std.specs.Prelude.{◌≡◌, ◌<◌, ◌≤◌, ⊤, ℕ, ◌+◌, ◌^◌, ◌==◌, nat_le, nat_lt, Bool, true, false, not, ◌&&◌, List, [], ◌∷◌, length, find, All, Option, Some, None}
 use Rattle.std.specs.List.{list_any}
 use Rattle.std.specs.Map.{values_of}
 use Rattle.rb_xdr.specs.Kept.{Kept}
@@ -12,8 +12,8 @@ use Rattle.rb_forward.specs.declared.entries.Wanted.TheVariants as wanted
 use Rattle.rb_forward.specs.declared.types.Outcome.{Outcome}
 use Rattle.rb_forward.specs.declared.types.Ended.{Ended}
 use Rattle.rb_forward.specs.declared.types.Unsent.{Unsent as Lent}
-use Rattle.rb_forward.specs.Forwards.{Entry, Forwards, is_due, with_end, is_connection, Unsent, is_same_peer, is_of_connection, is_answered, is_unsent}
-use Rattle.rb_forward.specs.StandsFor.{Table, longest_call, StandsForForwards, held_in}
+use Rattle.rb_forward.specs.Forwards.{Entry, Forwards, is_same_peer, is_answered, is_due, is_connection, is_of_connection, with_end, Unsent, is_unsent}
+use Rattle.rb_forward.specs.StandsFor.{longest_call, Table, StandsForForwards, held_in}
 
 -- ---- the table
 

@@ -13,13 +13,13 @@ use Rattle.rb_xdr.specs.Places.{behind, to_come}
 use Rattle.rb_registry.specs.declared.row.Row.{Row}
 use Rattle.rb_registry.specs.declared.slot.Slot.{Slot}
 use Rattle.rb_registry.specs.Slots.{is_live_at}
-use Rattle.rb_registry.specs.Table.{table_at}
-use Rattle.rb_registry.specs.Registry.{Registry, rows_at, slots_of}
-use Rattle.rb_registry.specs.Cursors.{StandsIn, rows_passed, slots_left}
+use Rattle.rb_registry.specs.Registry.{table_at, Registry, rows_at, slots_of, rows_passed}
+use Rattle.rb_registry.specs.Cursors.{StandsIn, slots_left}
 use Rattle.rb_proto.specs.declared.answers.Listing.{Listing}
 use Rattle.rb_proto.specs.declared.list_reply.ListReply.{ListReply}
 use Rattle.rb_proto.specs.Results.{row_bytes, rows_bytes}
-use Rattle.rb_proto.specs.ListReplies.{longest_row, head_unless, rows_behind, bytes_behind, Fills, IsShort}
+use Rattle.rb_proto.specs.ListReplies.{longest_row, head_unless, rows_behind, bytes_behind}
+use Rattle.rb_proto.specs.ListParts.{Fills, IsShort}
 use Rattle.rb_proto.proofs.Lists.{Passes, left}
 
 -- ---- the rows behind a cursor

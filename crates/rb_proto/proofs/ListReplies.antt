@@ -5,11 +5,13 @@ use Rattle.rb_xdr.specs.Xdr.{number, opaque}
 use Rattle.rb_rpc.specs.Replies.{reply_head}
 use Rattle.rb_rpc.specs.declared.reply.ReplyStatus.TheVariants.{Success}
 use Rattle.rb_registry.specs.declared.slot.Slot.{Slot}
-use Rattle.rb_registry.specs.Registry.{Registry, rows_at, rows_of, removals_of}
-use Rattle.rb_registry.specs.Cursors.{rows_passed, GoesOn}
+use Rattle.rb_registry.specs.Registry.{Registry, rows_at, rows_of, removals_of, rows_passed}
+use Rattle.rb_registry.specs.Cursors.{GoesOn}
 use Rattle.rb_proto.specs.declared.answers.Listing.{Listing}
-use Rattle.rb_proto.specs.Ledger.{Books, Ledger, StandsForLedger, removals_after}
-use Rattle.rb_proto.specs.ListReplies.{list_reply, rest_of, ListRepliesGoOn}
+use Rattle.rb_proto.specs.Ledger.{Books, Ledger, StandsForLedger}
+use Rattle.rb_proto.specs.Books.{removals_after}
+use Rattle.rb_proto.specs.ListParts.{list_reply, ListRepliesGoOn}
+use Rattle.rb_proto.specs.ListReplies.{rest_of}
 use Rattle.rb_proto.proofs.Lists.{list-rows}
 
 -- ---- other calls in between

@@ -10,8 +10,8 @@ use Rattle.rb_xdr.specs.Xdr.{boolean, listed}
 use Rattle.rb_xdr.specs.Kept.{Kept}
 use Rattle.rb_xdr.specs.Meter.{Meter, PaysAtMost}
 use Rattle.rb_registry.specs.declared.row.Row.{Row}
-use Rattle.rb_registry.specs.Registry.{Registry, rows_at, slots_of}
-use Rattle.rb_registry.specs.Cursors.{StandsIn, rows_passed, slots_left}
+use Rattle.rb_registry.specs.Registry.{Registry, rows_at, slots_of, rows_passed}
+use Rattle.rb_registry.specs.Cursors.{StandsIn, slots_left}
 use Rattle.rb_proto.specs.declared.answers.Results.{Results}
 use Rattle.rb_proto.specs.declared.answers.Results.TheVariants.{Rows}
 use Rattle.rb_proto.specs.declared.answers.Listing.{Listing}

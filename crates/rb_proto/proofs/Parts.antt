@@ -6,7 +6,8 @@ use Rattle.std.proofs.lemmas.Bool.{cases_lt, le-leb, lt-leb}
 use Rattle.std.proofs.lemmas.List.{drop-drop, drop-take, take-take, take-append-drop, length-take, length-drop}
 use Rattle.rb_registry.specs.Registry.{Registry}
 use Rattle.rb_proto.specs.declared.list_reply.ListReply.{ListReply}
-use Rattle.rb_proto.specs.ListReplies.{longest_part, bytes_behind, rest_of, Fills}
+use Rattle.rb_proto.specs.ListReplies.{longest_part, bytes_behind, rest_of}
+use Rattle.rb_proto.specs.ListParts.{Fills}
 
 take_enough : (n : ℕ) (xs : List ℕ) → length xs ≤ n → take n xs ≡ xs
 take_enough n xs fits = sym (append-nil (take n xs)) ∙ ap (λ (ys : List ℕ). take n xs ++ ys) (sym (drop_of_length-le xs fits)) ∙ take-append-drop n xs

@@ -8,7 +8,8 @@ use Rattle.rb_forward.specs.Forwards.{can_start}
 use Rattle.rb_proto.specs.declared.answers.Answer.{Answer}
 use Rattle.rb_proto.specs.declared.context.Context.{Context}
 use Rattle.rb_proto.specs.declared.remote.RemoteCall.{RemoteCall}
-use Rattle.rb_proto.specs.Ledger.{Books, Ledger, StandsForLedger, ActsAs, rows_in}
+use Rattle.rb_proto.specs.Ledger.{Books, Ledger, StandsForLedger, rows_in}
+use Rattle.rb_proto.specs.Books.{ActsAs}
 use Rattle.rb_proto.specs.Forwarding.{address_to_forward, refuse, forward_call}
 
 -- a test that can't be passed

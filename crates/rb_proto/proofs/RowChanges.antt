@@ -8,11 +8,13 @@ use Rattle.rb_registry.specs.declared.row.Row.{Row}
 use Rattle.rb_registry.specs.declared.row.Which.{Which}
 use Rattle.rb_registry.specs.Rows.{Change, has_place, removes_some, is_of_key, is_change_left}
 use Rattle.rb_registry.specs.Rows.Change.{Added}
-use Rattle.rb_registry.specs.Registry.{Registry, rows_of, dead_count, takes, StandsForMore}
+use Rattle.rb_registry.specs.Registry.{Registry, rows_of, dead_count}
+use Rattle.rb_registry.specs.Table.{takes, StandsForMore}
 use Rattle.rb_stats.specs.Statistics.Note.{WasSet, WasUnset}
-use Rattle.rb_stats.specs.Stats.{HasNoted}
-use Rattle.rb_proto.specs.Ledger.{Books, Ledger, StandsForLedger, ActsAs, rows_in, version_of}
-use Rattle.rb_proto.specs.Answers.{Context, accepts, comes_from_here, can_be_set, accepts_row, set_row, accepts_removal, removal_of, unset_rows, HasRoomFor}
+use Rattle.rb_stats.specs.Counting.{HasNoted}
+use Rattle.rb_proto.specs.Ledger.{Books, Ledger, StandsForLedger, rows_in, version_of}
+use Rattle.rb_proto.specs.Books.{ActsAs, HasRoomFor}
+use Rattle.rb_proto.specs.Answers.{Context, accepts, comes_from_here, can_be_set, accepts_row, set_row, accepts_removal, removal_of, unset_rows}
 
 one_more : (changes : List Change) (change : Change) → changes ++ change ∷ [] ≡ changes → ⊥
 one_more changes change e =

@@ -6,7 +6,7 @@ use Rattle.rb_xdr.proofs.Types.{length-boolean}
 use Rattle.rb_proto.specs.declared.rpcb.Rpcb.{Rpcb}
 use Rattle.rb_proto.specs.declared.entry.Entry.{Entry}
 use Rattle.rb_proto.specs.Types.{IsRpcb, rpcb_spelling, IsEntry, entry_spelling}
-use Rattle.rb_proto.specs.ListReplies.{IsShort}
+use Rattle.rb_proto.specs.ListParts.{IsShort}
 use Rattle.rb_proto.proofs.Readings.{rpcb_bounded, entry_bounded}
 
 pub rpcb_is_short : (r : Rpcb) → IsRpcb r → IsShort (boolean true ++ rpcb_spelling r)

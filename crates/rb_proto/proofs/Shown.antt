@@ -1,7 +1,7 @@
 -- What books show of a ledger that they stand for.
 use Rattle.std.proofs.Common.{◌≡◌, refl}
 use Rattle.rb_stats.specs.Statistics.{statistics}
-use Rattle.rb_stats.specs.Stats.{spelling}
+use Rattle.rb_stats.specs.Counting.{spelling}
 use Rattle.rb_proto.specs.Ledger.{Books, Ledger, StandsForLedger}
 use Rattle.rb_proto.specs.Results.{shown_of, shown_in}
 

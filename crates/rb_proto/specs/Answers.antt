@@ -1,15 +1,14 @@
 -- What each procedure is answered, and the ledger after it (RFC 1833 sections 2.2 and 3.2).
-use Rattle.std.specs.Prelude.{◌≡◌, ℕ, ◌+◌, ◌/◌, ◌-◌, ◌^◌, ◌<◌, ◌==◌, nat_le, min, Bool, true, false, not, ◌&&◌, if◌then◌else◌, List, [], ◌∷◌, ◌++◌, length, Option, Some, None, option_map, is_some}
+use Rattle.std.specs.Prelude.{ℕ, ◌-◌, ◌/◌, ◌^◌, ◌==◌, nat_le, min, Bool, false, not, ◌&&◌, if◌then◌else◌, List, [], ◌∷◌, ◌++◌, length, is_some, Option, Some, None, option_map}
 use Rattle.std.specs.Option.{option_map_or}
 use Rattle.rb_rpc.specs.declared.call.CallHead.{CallHead}
 use Rattle.rb_uaddr.specs.declared.address.Uaddr.TheVariants.{V4}
-use Rattle.rb_uaddr.specs.Uaddr.{any_host, port_of, parse, text_of, merged, transport_of, from_transport}
+use Rattle.rb_uaddr.specs.Uaddr.{port_of, any_host, text_of, parse, merged, transport_of, from_transport}
 use Rattle.rb_registry.specs.declared.row.Netid.{Netid}
 use Rattle.rb_registry.specs.declared.row.Owner.{Owner}
 use Rattle.rb_registry.specs.declared.row.Row.{Row}
 use Rattle.rb_registry.specs.declared.row.Which.{Which}
 use Rattle.rb_registry.specs.declared.row.Which.TheVariants.{Inet}
-use Rattle.rb_registry.specs.Registry.{Registry, rows_of, dead_count}
 use Rattle.rb_registry.specs.Rows.{Change, rpcb_prog, has_place, removes_some, find_exact, find_row}
 use Rattle.rb_registry.specs.Rows.Change.{Added, Removed}
 use Rattle.rb_stats.specs.declared.key.Target.{Target}
@@ -17,22 +16,22 @@ use Rattle.rb_stats.specs.Statistics.{Note}
 use Rattle.rb_stats.specs.Statistics.Note.{WasSet, WasUnset, LookedUp}
 use Rattle.rb_proto.specs.declared.mapping.Mapping.{Mapping}
 use Rattle.rb_proto.specs.declared.rpcb.Rpcb.{Rpcb}
-use Rattle.rb_proto.specs.declared.netbuf.Netbuf.{Netbuf}
-use Rattle.rb_proto.specs.declared.procedure.VoidProcedure.{VoidProcedure}
-use Rattle.rb_proto.specs.declared.procedure.VoidProcedure.TheVariants as voids
 use Rattle.rb_proto.specs.declared.procedure.MappingProcedure.TheVariants as mappings
 use Rattle.rb_proto.specs.declared.procedure.RpcbProcedure.TheVariants as rpcbs
 use Rattle.rb_proto.specs.declared.request.Request.TheVariants as requests
+use Rattle.rb_proto.specs.declared.request.Request.{Request}
+use Rattle.rb_proto.specs.declared.netbuf.Netbuf.{Netbuf}
 use Rattle.rb_proto.specs.declared.answers.Answer.TheVariants as answers
 use Rattle.rb_proto.specs.declared.answers.Results.TheVariants as results
-use Rattle.rb_proto.specs.declared.answers.Listing.{Listing}
-use Rattle.rb_proto.specs.declared.answers.Listing.TheVariants.{Mappings, Rpcbs, Entries}
 use Rattle.rb_proto.specs.declared.answers.Value.{Value}
+use Rattle.rb_proto.specs.declared.answers.Listing.{Listing}
+use Rattle.rb_proto.specs.declared.procedure.VoidProcedure.{VoidProcedure}
+use Rattle.rb_proto.specs.declared.procedure.VoidProcedure.TheVariants as voids
+use Rattle.rb_proto.specs.declared.answers.Listing.TheVariants.{Mappings, Rpcbs, Entries}
 use Rattle.rb_proto.specs.declared.answers.Value.TheVariants as values
-use Rattle.rb_proto.specs.Arguments.{Request}
 use Rattle.rb_proto.specs.Callers.{is_local, peer_of, netid_of, owner_of}
-use Rattle.rb_proto.specs.Netids.{netid_named, netid_of_prot, which_of}
 use Rattle.rb_proto.specs.Ledger.{Ledger, rows_in, version_of, noted}
+use Rattle.rb_proto.specs.Netids.{netid_named, which_of, netid_of_prot}
 use Rattle.rb_proto.specs.Forwarding.{forward_call}
 pub use Rattle.rb_proto.specs.declared.answers.Answer.{Answer}
 pub use Rattle.rb_proto.specs.declared.answers.Results.{Results}
@@ -112,23 +111,6 @@ adds_row context call rows count = adds context rows count (row_to_set call)
 -- a SET that is accepted wants room for its row
 abbrev pub wants_room : Context → Call → Ledger → Bool
 wants_room context call l = adds_row context call (rows_in l) (length l.changes)
-
-abbrev pub wants_room_in : Context → Call → Registry → Bool
-wants_room_in context call kept = adds_row context call (rows_of kept) kept.stamp
-
--- one row more is within the limit, beside the live rows and the dead ones
-abbrev pub HasPlaceLeft : Registry → Type 0
-HasPlaceLeft kept = length (rows_of kept) + dead_count kept < kept.limit
-
--- where the row is accepted, there is room for it
-abbrev pub HasRoomFor : Context → Option Row → Registry → Type 0
-HasRoomFor context row kept = adds context (rows_of kept) kept.stamp row ≡ true → HasPlaceLeft kept
-
--- where the call wants room, there is room
-abbrev pub HasRowRoom : Context → Call → Registry → Type 0
-HasRowRoom context call kept = wants_room_in context call kept ≡ true → HasPlaceLeft kept
-
--- ---- UNSET (RPCBPROC_UNSET, PMAPPROC_UNSET)
 
 -- ---- UNSET (RPCBPROC_UNSET, PMAPPROC_UNSET)
 

@@ -1,13 +1,13 @@
 -- Calls that are forwarded: where to, what their callers are told, and what is noted (RFC 1833 sections 2.2.1 and 3.2).
-use Rattle.std.specs.Prelude.{◌≡◌, ℕ, ◌==◌, Bool, true, false, if◌then◌else◌, List, [], ◌∷◌, ◌++◌, Option, Some, None, option_and_then, ⊤}
+use Rattle.std.specs.Prelude.{ℕ, ◌==◌, Bool, true, false, if◌then◌else◌, List, [], ◌∷◌, ◌++◌, Option, Some, None, option_and_then}
 use Rattle.rb_xdr.specs.Xdr.{number, opaque}
-use Rattle.rb_rpc.specs.declared.peer.Peer.{Peer}
 use Rattle.rb_rpc.specs.declared.peer.Caller.{Caller}
+use Rattle.rb_rpc.specs.declared.peer.Peer.{Peer}
 use Rattle.rb_rpc.specs.declared.reply.ReplyStatus.{ReplyStatus}
 use Rattle.rb_rpc.specs.declared.reply.ReplyStatus.TheVariants as replies
 use Rattle.rb_uaddr.specs.declared.address.Uaddr.{Uaddr}
 use Rattle.rb_uaddr.specs.declared.address.Uaddr.TheVariants.{V4}
-use Rattle.rb_uaddr.specs.Uaddr.{parse, merged, text_of}
+use Rattle.rb_uaddr.specs.Uaddr.{text_of, parse, merged}
 use Rattle.rb_registry.specs.declared.row.Netid.TheVariants as netids
 use Rattle.rb_registry.specs.declared.row.Row.{Row}
 use Rattle.rb_registry.specs.Rows.{rpcb_prog, find_exact}
@@ -21,17 +21,14 @@ use Rattle.rb_forward.specs.declared.types.Forward.{Forward}
 use Rattle.rb_forward.specs.declared.types.Outcome.{Outcome}
 use Rattle.rb_forward.specs.declared.types.Outcome.TheVariants as outcomes
 use Rattle.rb_forward.specs.declared.types.Ended.{Ended}
-use Rattle.rb_proto.specs.declared.forwarding.Asked.{Asked}
-use Rattle.rb_forward.specs.Forwards.{Unsent, Forwards, can_start, unsent, started, reply, due, drop_caller, sent}
-use Rattle.rb_forward.specs.StandsFor.{Table}
-use Rattle.rb_proto.specs.declared.answers.Answer.{Answer}
-use Rattle.rb_proto.specs.declared.answers.Answer.TheVariants as answers
+use Rattle.rb_forward.specs.Forwards.{Forwards, reply, due, drop_caller, can_start, started, sent}
 use Rattle.rb_proto.specs.declared.context.Context.{Context}
 use Rattle.rb_proto.specs.declared.remote.RemoteCall.{RemoteCall}
+use Rattle.rb_proto.specs.declared.answers.Answer.{Answer}
+use Rattle.rb_proto.specs.declared.answers.Answer.TheVariants as answers
 use Rattle.rb_proto.specs.Callers.{netid_of}
-use Rattle.rb_proto.specs.Remote.{args_of}
-use Rattle.rb_proto.specs.declared.books.Books.{Books}
 use Rattle.rb_proto.specs.Ledger.{Ledger, rows_in, noted}
+use Rattle.rb_proto.specs.Remote.{args_of}
 
 -- ---- what is noted
 
@@ -52,10 +49,6 @@ is_indirect Indirect = true
 unfoldable pub outcome_note : Kind → Caller → ℕ → ℕ → ℕ → Bool → Note
 outcome_note kind caller prog vers proc passed =
     Forwarded (version_of_kind kind) (record { prog = prog; vers = vers; netid = netid_of caller }) proc passed (is_indirect kind)
-
--- the same of what is asked
-abbrev pub note_asked : Asked → Bool → Note
-note_asked asked passed = outcome_note asked.kind asked.caller asked.prog asked.vers asked.proc passed
 
 -- ---- where a call is forwarded
 
@@ -111,13 +104,6 @@ unfoldable pub forward_call : Context → ℕ → Kind → RemoteCall → List �
 forward_call context xid kind remote arguments l =
     forward_to context xid kind remote (args_of remote arguments) (address_to_forward remote.prog remote.vers (rows_in l)) l
 
--- no answer but this one leaves a new entry
-abbrev pub StayUnlessForwarded : Answer → Table → Table → Type 0
-StayUnlessForwarded (answers.Results results) old new = new ≡ old
-StayUnlessForwarded (answers.Refused status) old new = new ≡ old
-StayUnlessForwarded answers.Forwarded old new = ⊤
-StayUnlessForwarded answers.Silent old new = new ≡ old
-
 -- ---- how it ends
 
 abbrev pub is_pass : Outcome → Bool
@@ -149,10 +135,6 @@ fell_due clock l = noted_end (due clock l.forwards) l
 -- the connection of this number is closed, and its entry ends
 unfoldable pub caller_dropped : ℕ → Ledger → Option Ended × Ledger
 caller_dropped id l = noted_end (drop_caller id l.forwards) l
-
--- the call that is to be sent next, where the books number the entries
-abbrev pub unsent_of : Books → Ledger → Option Unsent
-unsent_of books l = unsent books.forwards.first_xid l.forwards
 
 -- the call of the entry of this number was sent
 unfoldable pub call_sent : ℕ → Ledger → Ledger

@@ -6,11 +6,14 @@ pub mod Grammar
 pub mod Netids
 pub mod Callers
 pub mod Ledger
+pub mod Books
 pub mod Forwarding
 pub mod ForwardLaws
 pub mod Answers
 pub mod Results
 pub mod ListReplies
+pub mod ListParts
+pub mod Costs
 pub mod Puts
 pub mod Worked
 pub mod WorkedForwards

@@ -2,10 +2,9 @@
 use Rattle.std.specs.Prelude.{ℕ, ◌+◌, ◌-◌, ◌*◌, length}
 use Rattle.rb_xdr.specs.Kept.{Kept}
 use Rattle.rb_registry.specs.Registry.{Registry, slots_of}
-use Rattle.rb_stats.specs.Stats.{most_keys}
-use Rattle.rb_forward.specs.Costs.{start_cost, end_cost}
-use Rattle.rb_forward.specs.StandsFor.{longest_arguments}
+use Rattle.rb_forward.specs.Costs.{end_cost}
 use Rattle.rb_proto.specs.declared.books.Books.{Books}
+use Rattle.rb_proto.specs.Costs.{note_cost, forward_cost, statistics_cost}
 use Rattle.rb_proto.specs.ListReplies.{part_room}
 
 -- one step for the length, and one for each byte that was put
@@ -19,14 +18,6 @@ write_cost kept old new = 2 * length (slots_of kept) + 2 + (length new.bytes - l
 -- two walks over the rows beside it
 abbrev pub list_cost : Registry → Kept → Kept → ℕ
 list_cost kept old new = 4 * length (slots_of kept) + 4 + put_cost old new
-
--- a walk over the keys of the statistics, which notes a look-up
-abbrev pub note_cost : ℕ
-note_cost = 2 * most_keys
-
--- a new entry of forwarded calls, with as many arguments as there may be
-abbrev pub forward_cost : ℕ
-forward_cost = start_cost longest_arguments
 
 -- a walk that changes rows, what notes a look-up, and a new entry
 abbrev pub call_cost : Books → ℕ
@@ -43,10 +34,6 @@ part_cost kept = 3 * length (slots_of kept) + part_room + 6
 -- an entry is looked for and ends, and that is noted
 abbrev pub ending_cost : Books → ℕ
 ending_cost books = end_cost books.forwards.cap + 2 + note_cost
-
--- a walk over the keys for each version, which shows them
-abbrev pub statistics_cost : ℕ
-statistics_cost = 6 * most_keys
 
 -- whatever an answer shows of the books
 abbrev pub results_cost : Books → Kept → Kept → ℕ

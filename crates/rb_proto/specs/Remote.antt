@@ -1,6 +1,6 @@
 -- The argument of the procedures that forward a call (RFC 1833 sections 2.1, rpcb_rmtcallargs, and 3.1, call_args).
-use Rattle.std.specs.Prelude.{◌≡◌, ℕ, ◌+◌, ◌≤◌, List, ◌++◌, length, slice_range}
-use Rattle.rb_xdr.specs.Xdr.{Reader, IsNumber, IsContent, number, opaque, read_number, read_opaque, ◌>>=◌, give}
+use Rattle.std.specs.Prelude.{◌≡◌, ◌≤◌, ℕ, ◌+◌, List, ◌++◌, length, slice_range}
+use Rattle.rb_xdr.specs.Xdr.{number, opaque, Reader, ◌>>=◌, give, read_number, read_opaque, IsNumber, IsContent}
 use Rattle.rb_forward.specs.StandsFor.{longest_arguments}
 use Rattle.rb_proto.specs.declared.remote.RemoteCall.{RemoteCall}
 

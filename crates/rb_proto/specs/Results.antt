@@ -7,7 +7,7 @@ use Rattle.rb_registry.specs.declared.row.Which.TheVariants.{Inet}
 use Rattle.rb_registry.specs.Registry.{rows_of}
 use Rattle.rb_registry.specs.Rows.{netid_text, is_among}
 use Rattle.rb_stats.specs.Statistics.{statistics}
-use Rattle.rb_stats.specs.Stats.{spelling}
+use Rattle.rb_stats.specs.Counting.{spelling}
 use Rattle.rb_proto.specs.declared.listener.Listener.{Listener}
 use Rattle.rb_proto.specs.declared.mapping.Mapping.{Mapping}
 use Rattle.rb_proto.specs.declared.rpcb.Rpcb.{Rpcb}
@@ -20,8 +20,8 @@ use Rattle.rb_proto.specs.declared.answers.Value.TheVariants as values
 use Rattle.rb_proto.specs.Types.{mapping_spelling, rpcb_spelling, netbuf_spelling, entry_spelling}
 use Rattle.rb_proto.specs.Callers.{owner_text}
 use Rattle.rb_proto.specs.Netids.{prot_of, semantics_of, family_text, proto_text}
-use Rattle.rb_proto.specs.Ledger.{Books, Ledger, rows_in}
-use Rattle.rb_proto.specs.Answers.{Results, shown_text, shown_port}
+use Rattle.rb_proto.specs.Ledger.{Ledger, rows_in, Books}
+use Rattle.rb_proto.specs.Answers.{shown_text, shown_port, Results}
 
 -- ---- one result
 

@@ -1,17 +1,18 @@
 -- Worked examples: SETs that want room, and what is yet to be given of a list.
-use Rattle.std.specs.Prelude.{◌≡◌, ℕ, Bool, true, false, List, [], ◌∷◌, ◌++◌, map, drop, Result, Ok, Err, Some, None}
+use Rattle.std.specs.Prelude.{◌≡◌, ℕ, Bool, true, false, List, [], ◌∷◌, ◌++◌, drop, map, Some, None, Result, Ok, Err}
 use Rattle.rb_registry.specs.declared.row.Row.{Row}
 use Rattle.rb_registry.specs.Rows.Change.{Added}
 use Rattle.rb_registry.specs.Worked.{own, first, second, one_removed, of_eight}
 use Rattle.rb_proto.specs.declared.request.ArgumentFault.{ArgumentFault}
 use Rattle.rb_proto.specs.declared.answers.Listing.TheVariants.{Mappings}
 use Rattle.rb_proto.specs.declared.list_reply.ListReply.{ListReply}
-use Rattle.rb_proto.specs.Arguments.{Request, read_request}
+use Rattle.rb_proto.specs.Arguments.{read_request, Request}
 use Rattle.rb_proto.specs.Callers.{own_rows}
 use Rattle.rb_proto.specs.Ledger.{Ledger, fresh_ledger}
 use Rattle.rb_proto.specs.Answers.{wants_room}
-use Rattle.rb_proto.specs.ListReplies.{list_reply, rest_of}
-use Rattle.rb_proto.specs.Worked.{Message, listener, from, call, call_of, context_of}
+use Rattle.rb_proto.specs.ListParts.{list_reply}
+use Rattle.rb_proto.specs.ListReplies.{rest_of}
+use Rattle.rb_proto.specs.Worked.{Message, listener, from, call, context_of, call_of}
 
 -- ---- room
 

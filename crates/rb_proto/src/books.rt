@@ -67,14 +67,15 @@ impl Books {
     ghost use Rattle.rb_forward.specs.Outcomes.{PassesWithin};
     ghost use Rattle.rb_forward.specs.StandsFor.{slots_of, longest_call};
     ghost use Rattle.rb_forward.specs.Table.{seen, count_lent, is_waiting, IsNew, NoneWaitsAnew};
-    ghost use Rattle.rb_proto.specs.Forwarding.{replied, fell_due, caller_dropped, call_sent, unsent_of};
+    ghost use Rattle.rb_proto.specs.Forwarding.{replied, fell_due, caller_dropped, call_sent};
+    ghost use Rattle.rb_proto.specs.Books.{unsent_of, wants_room_in, BooksShow, ActsAs, Becomes, AreTied, SameFrame};
     ghost use Rattle.rb_proto.specs.Puts.{ending_cost, room_cost};
-    ghost use Rattle.rb_proto.specs.Answers.{wants_room, wants_room_in};
-    ghost use Rattle.rb_registry.specs.Registry.{rows_of, slots_of as row_slots, removals_of, floor_told};
-    ghost use Rattle.rb_registry.specs.Slots.{later_than};
+    ghost use Rattle.rb_proto.specs.Answers.{wants_room};
+    ghost use Rattle.rb_registry.specs.Registry.{rows_of, slots_of as row_slots, removals_of};
+    ghost use Rattle.rb_registry.specs.Table.{floor_told, later_than};
     ghost use Rattle.rb_registry.specs.Cursors.{GoesOn};
     ghost use Rattle.rb_proto.specs.Callers.{own_rows};
-    ghost use Rattle.rb_proto.specs.Ledger.{Ledger, StandsForLedger, BooksShow, ActsAs, Becomes, AreTied, SameFrame, fresh_ledger, called};
+    ghost use Rattle.rb_proto.specs.Ledger.{Ledger, StandsForLedger, fresh_ledger, called};
 
     /// Nothing was called: the listener's own rows are there, of at most `limit`. At most so many calls will be forwarded
     /// at a time, the first under this xid. BadLimits where the own rows are more, else NoMemory where an allocation is

@@ -3,11 +3,10 @@ ghost use Rattle.std.specs.Prelude.{◌≡◌};
 ghost use Rattle.rb_xdr.specs.Meter.{PaysAtMost};
 ghost use Rattle.rb_forward.specs.StandsFor.{slots_of};
 ghost use Rattle.rb_forward.specs.Table.{IsNew};
-ghost use Rattle.rb_proto.specs.Ledger.{ActsAs, AreTied, OnlyCallerWaits, SameFrame};
+ghost use Rattle.rb_proto.specs.Books.{ActsAs, AreTied, OnlyCallerWaits, SameFrame, StayUnlessForwarded, HasRowRoom};
 ghost use Rattle.rb_proto.specs.Arguments.{HasArgs};
-ghost use Rattle.rb_proto.specs.Forwarding.{StayUnlessForwarded};
 ghost use Rattle.rb_registry.specs.Cursors.{GoesOn};
-ghost use Rattle.rb_proto.specs.Answers.{answer, answer_void, HasRowRoom};
+ghost use Rattle.rb_proto.specs.Answers.{answer, answer_void};
 ghost use Rattle.rb_proto.specs.Puts.{call_cost};
 
 use crate::answers::{Answer, Listing, Results, Value};

@@ -2,14 +2,15 @@
 ghost use Rattle.std.specs.Prelude.{◌≡◌, ◌+◌, ◌*◌, length};
 ghost use Rattle.rb_xdr.specs.Meter.{PaysAtMost};
 ghost use Rattle.rb_registry.specs.Registry.{rows_of, slots_of as row_slots};
-ghost use Rattle.rb_stats.specs.Stats.{HasNoted};
+ghost use Rattle.rb_stats.specs.Counting.{HasNoted};
 ghost use Rattle.rb_forward.specs.StandsFor.{slots_of};
 ghost use Rattle.rb_forward.specs.Table.{IsNew};
 ghost use Rattle.rb_proto.specs.Callers.{netid_of};
-ghost use Rattle.rb_proto.specs.Ledger.{ActsAs, AreTied, OnlyCallerWaits, SameFrame};
+ghost use Rattle.rb_proto.specs.Books.{ActsAs, AreTied, OnlyCallerWaits, SameFrame, StayUnlessForwarded, note_asked};
 ghost use Rattle.rb_proto.specs.Remote.{HasContent};
-ghost use Rattle.rb_proto.specs.Forwarding.{version_of_kind, is_indirect, is_pass, peer_at, address_to_forward, forward_of, refusal, refuse, forward_call, StayUnlessForwarded, note_asked, end_note};
-ghost use Rattle.rb_proto.specs.Puts.{note_cost, call_cost};
+ghost use Rattle.rb_proto.specs.Forwarding.{version_of_kind, is_indirect, is_pass, peer_at, address_to_forward, forward_of, refusal, refuse, forward_call, end_note};
+ghost use Rattle.rb_proto.specs.Costs.{note_cost};
+ghost use Rattle.rb_proto.specs.Puts.{call_cost};
 
 use crate::answers::Answer;
 use crate::books::Books;

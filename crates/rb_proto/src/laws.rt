@@ -1,6 +1,6 @@
 ghost use Rattle.rb_proto.specs.ForwardLaws.{ForwardsGoToRows, ForwardsAreNotedOnce};
 ghost use Rattle.rb_proto.specs.Grammar.{RequestsAreOfTheGrammar};
-ghost use Rattle.rb_proto.specs.ListReplies.{ListRepliesGoOn};
+ghost use Rattle.rb_proto.specs.ListParts.{ListRepliesGoOn};
 
 /// Arguments are read exactly where the bytes begin with a spelling of them.
 pub fn requests_are_of_the_grammar()

@@ -4,7 +4,8 @@ ghost use Rattle.rb_xdr.specs.Meter.{PaysAtMost};
 ghost use Rattle.rb_xdr.specs.Puts.{Appends};
 ghost use Rattle.rb_registry.specs.Registry.{slots_of};
 ghost use Rattle.rb_registry.specs.Cursors.{StandsIn};
-ghost use Rattle.rb_proto.specs.ListReplies.{longest_part, longest_row, part_room, head_unless, rest_of, ListsRows, IsNextPart, IsBehindPart, IsTold, Fills};
+ghost use Rattle.rb_proto.specs.ListReplies.{longest_part, longest_row, part_room, head_unless, rest_of};
+ghost use Rattle.rb_proto.specs.ListParts.{ListsRows, IsNextPart, IsBehindPart, IsTold, Fills};
 ghost use Rattle.rb_proto.specs.Puts.{part_cost};
 
 use crate::answers::Listing;

@@ -1,11 +1,13 @@
 //! The procedures that look something up, or turn an address into another form (RFC 1833 sections 2.2 and 3.2).
 ghost use Rattle.std.specs.Prelude.{◌≡◌, ◌+◌, option_copied};
 ghost use Rattle.rb_xdr.specs.Meter.{PaysAtMost};
-ghost use Rattle.rb_proto.specs.Ledger.{ActsAs, AreTied, SameFrame, version_of};
+ghost use Rattle.rb_proto.specs.Books.{ActsAs, AreTied, SameFrame};
+ghost use Rattle.rb_proto.specs.Ledger.{version_of};
 ghost use Rattle.rb_stats.specs.Statistics.Note.{LookedUp};
-ghost use Rattle.rb_stats.specs.Stats.{HasNoted};
+ghost use Rattle.rb_stats.specs.Counting.{HasNoted};
 ghost use Rattle.rb_proto.specs.Answers.{shown_text, shown_port, port_found, addr_found, getport, getaddr, getversaddr, target_of, seconds, taddr_of, uaddr_of};
-ghost use Rattle.rb_proto.specs.Puts.{note_cost, call_cost};
+ghost use Rattle.rb_proto.specs.Costs.{note_cost};
+ghost use Rattle.rb_proto.specs.Puts.{call_cost};
 
 use crate::books::{Books, version_of};
 use crate::context::Context;

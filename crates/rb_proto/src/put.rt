@@ -2,10 +2,12 @@
 ghost use Rattle.std.specs.Prelude.{◌≡◌, ◌≤◌, ◌+◌, length};
 ghost use Rattle.rb_xdr.specs.Meter.{PaysAtMost};
 ghost use Rattle.rb_registry.specs.Registry.{rows_of};
-ghost use Rattle.rb_stats.specs.Stats.{spelling};
-ghost use Rattle.rb_proto.specs.Ledger.{Ledger, StandsForLedger, AreTied};
+ghost use Rattle.rb_stats.specs.Counting.{spelling};
+ghost use Rattle.rb_proto.specs.Ledger.{Ledger, StandsForLedger};
+ghost use Rattle.rb_proto.specs.Books.{AreTied};
 ghost use Rattle.rb_xdr.specs.Puts.{Puts};
-ghost use Rattle.rb_proto.specs.Puts.{put_cost, list_cost, statistics_cost, results_cost};
+ghost use Rattle.rb_proto.specs.Puts.{put_cost, list_cost, results_cost};
+ghost use Rattle.rb_proto.specs.Costs.{statistics_cost};
 ghost use Rattle.rb_forward.specs.Forwards.{longest_results};
 ghost use Rattle.rb_proto.specs.Forwarding.{forwarded_bytes};
 ghost use Rattle.rb_proto.specs.Results.{value_bytes, results_at, row_bytes, rows_bytes, shown_in, shown_of};

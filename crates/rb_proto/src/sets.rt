@@ -3,8 +3,8 @@ ghost use Rattle.std.specs.Prelude.{◌≡◌, ◌+◌, ◌*◌, length};
 ghost use Rattle.rb_xdr.specs.Meter.{PaysAtMost};
 ghost use Rattle.rb_registry.specs.Registry.{rows_of, slots_of};
 ghost use Rattle.rb_registry.specs.Cursors.{GoesOn};
-ghost use Rattle.rb_proto.specs.Ledger.{ActsAs, AreTied, SameFrame};
-ghost use Rattle.rb_proto.specs.Answers.{row_of_mapping, row_of_rpcb, can_be_set, row_to_set, accepts, set_row, unset_rows, HasRoomFor};
+ghost use Rattle.rb_proto.specs.Books.{ActsAs, AreTied, SameFrame, HasRoomFor};
+ghost use Rattle.rb_proto.specs.Answers.{row_of_mapping, row_of_rpcb, can_be_set, row_to_set, accepts, set_row, unset_rows};
 
 use crate::books::{Books, owner_of, version_of};
 use crate::call::Call;

@@ -7,10 +7,9 @@ use Rattle.std.proofs.lemmas.Map.Entries.{length-values_of}
 use Rattle.rb_xdr.specs.Pool.{first_key, HasDistinctKeys}
 use Rattle.rb_registry.specs.declared.row.Row.{Row}
 use Rattle.rb_xdr.specs.Places.{behind, count_to, to_come, count_passed}
-use Rattle.rb_registry.specs.Registry.{Registry, table_of, rows_at}
-use Rattle.rb_registry.specs.Cursors.{StandsIn, rows_passed}
+use Rattle.rb_registry.specs.Registry.{Registry, table_of, rows_at, rows_passed, table_at}
+use Rattle.rb_registry.specs.Cursors.{StandsIn}
 use Rattle.rb_xdr.proofs.Walks.{step, up_to, passed}
-use Rattle.rb_registry.specs.Table.{table_at}
 use Rattle.rb_registry.proofs.Removing.{passed-to_come}
 use Rattle.rb_registry.proofs.Tables.{distinct_at, to_come_at}
 

@@ -9,8 +9,8 @@ use Rattle.rb_registry.specs.declared.row.Row.{Row}
 use Rattle.rb_registry.specs.declared.slot.Slot.{Slot}
 use Rattle.rb_registry.specs.Rows.{Change, is_of_key, is_change_left, has_place, removes_some}
 use Rattle.rb_registry.specs.Slots.{slot_of}
-use Rattle.rb_registry.specs.Table.{goes, AreStamped, all_marked, undropped}
-use Rattle.rb_registry.specs.Registry.{Registry, takes, dead_count, stamp_told, rows_of, table_of}
+use Rattle.rb_registry.specs.Table.{goes, AreStamped, all_marked, undropped, takes, stamp_told}
+use Rattle.rb_registry.specs.Registry.{Registry, dead_count, rows_of, table_of}
 use Rattle.rb_registry.specs.Cursors.{GoesOn}
 use Rattle.rb_registry.proofs.Tables.{set_before, marked_table_before, trimmed_table, past_told, past_now, live_and_dead, any_goes, none_marked}
 

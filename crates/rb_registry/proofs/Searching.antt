@@ -10,7 +10,7 @@ use Rattle.rb_registry.specs.declared.row.Netid.{Netid}
 use Rattle.rb_registry.specs.declared.slot.Slot.{Slot}
 use Rattle.rb_registry.specs.Rows.{find_exact, is_on, is_row}
 use Rattle.rb_registry.specs.Slots.{is_live_at, is_live_row}
-use Rattle.rb_registry.specs.Table.{table_at, live_at}
+use Rattle.rb_registry.specs.Registry.{table_at, live_at}
 use Rattle.rb_registry.proofs.Newest.{newest_of}
 
 -- a key that was found has a value

@@ -12,7 +12,8 @@ use Rattle.rb_registry.specs.declared.row.Row.{Row}
 use Rattle.rb_registry.specs.declared.slot.Slot.{Slot}
 use Rattle.rb_registry.specs.Rows.{Change, covers}
 use Rattle.rb_registry.specs.Slots.{is_live_at, stays_at, slot_of, removed_by, is_dropped}
-use Rattle.rb_registry.specs.Table.{IsStamped, AreStamped, table_at, goes, marked, all_marked, removals, lesser, least_of, IsLeast}
+use Rattle.rb_registry.specs.Table.{IsStamped, AreStamped, goes, marked, all_marked, lesser, least_of, IsLeast}
+use Rattle.rb_registry.specs.Registry.{table_at, removals}
 
 -- ---- one slot
 

@@ -5,8 +5,8 @@ use Rattle.std.proofs.Math.Seq.{drop-cons}
 use Rattle.std.proofs.lemmas.List.{drop_all}
 use Rattle.std.proofs.lemmas.Option.{slice_get_within, get_or_from_slice_get}
 use Rattle.rb_registry.specs.declared.row.Row.{Row}
-use Rattle.rb_registry.specs.Registry.{Registry, rows_at}
-use Rattle.rb_registry.specs.Cursors.{StandsIn, rows_passed}
+use Rattle.rb_registry.specs.Registry.{Registry, rows_at, rows_passed}
+use Rattle.rb_registry.specs.Cursors.{StandsIn}
 use Rattle.rb_registry.specs.Walks.{WalkStep, rows_given, IsWalk, WalksGiveRowsAsTheyWere}
 use Rattle.rb_registry.specs.Walks.WalkStep.{Given, Changed}
 

@@ -1,10 +1,10 @@
 -- The rows that a cursor goes over, as they were after so many changes.
-use Rattle.std.specs.Prelude.{◌≡◌, ℕ, ◌+◌, ◌≤◌, List, length, take, Option, IsSome, unwrap_or, slice_get}
+use Rattle.std.specs.Prelude.{◌≡◌, ◌≤◌, ℕ, ◌+◌, List, length, take, slice_get, Option, IsSome}
+use Rattle.rb_xdr.specs.Places.{count_passed}
 use Rattle.rb_registry.specs.declared.row.Row.{Row}
 use Rattle.rb_registry.specs.Rows.{Change, live}
-use Rattle.rb_xdr.specs.Places.{count_passed}
+use Rattle.rb_registry.specs.Registry.{Registry, table_of, rows_at, Reaches, StandsForChanges, rows_passed}
 use Rattle.rb_registry.specs.Table.{count_left}
-use Rattle.rb_registry.specs.Registry.{Registry, table_of, rows_at, Reaches, StandsForChanges}
 
 -- they are the rows that those changes left
 abbrev pub RowsAreLive : Registry → ℕ → Type 0
@@ -14,10 +14,6 @@ RowsAreLive kept stamp = (own : List Row) (changes : List Change) → StandsForC
 pub record StandsIn (kept : Registry) (stamp : ℕ) (cursor : Option ℕ) : Type 0 where
   pub reached : Reaches kept stamp
   pub place : IsSome (count_passed (table_of kept stamp) cursor)
-
--- how many of them a cursor has passed that stands there
-abbrev pub rows_passed : Registry → ℕ → Option ℕ → ℕ
-rows_passed kept stamp cursor = unwrap_or (count_passed (table_of kept stamp) cursor) 0
 
 -- behind it the next cursor has passed one more
 abbrev pub PassesOne : Registry → ℕ → Option ℕ → Option ℕ → Type 0

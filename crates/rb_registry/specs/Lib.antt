@@ -1,7 +1,7 @@
 pub mod Rows
 pub mod Slots
-pub mod Table
 pub mod Registry
+pub mod Table
 pub mod Cursors
 pub mod Walks
 pub mod Removals

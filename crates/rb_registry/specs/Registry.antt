@@ -1,12 +1,28 @@
--- What a contract sees of a `Registry`, and what it stands for.
-use Rattle.std.specs.Prelude.{◌≡◌, ℕ, ◌+◌, ◌≤◌, ◌==◌, nat_lt, Bool, ◌&&◌, if◌then◌else◌, List, [], ◌∷◌, ◌++◌, length, take, min, max, Option, unwrap_or, IsTrue}
-use Rattle.std.specs.List.{list_all}
+-- What a registry keeps, and the changes that it stands for.
+use Rattle.std.specs.Prelude.{◌≡◌, ◌≤◌, ℕ, ◌+◌, ◌==◌, if◌then◌else◌, IsTrue, List, [], ◌∷◌, length, take, Option, unwrap_or}
 use Rattle.std.specs.Map.{values_of}
+use Rattle.std.specs.List.{list_all, filter_map}
+use Rattle.rb_xdr.specs.Places.{count_passed}
 use Rattle.rb_registry.specs.declared.row.Row.{Row}
 use Rattle.rb_registry.specs.declared.slot.Slot.{Slot}
-use Rattle.rb_registry.specs.Rows.{Change, rpcb_prog, live, has_place}
-use Rattle.rb_registry.specs.Slots.{slots_from}
-use Rattle.rb_registry.specs.Table.{table_at, live_at, removals}
+use Rattle.rb_registry.specs.Slots.{is_live_at, slots_from}
+use Rattle.rb_registry.specs.Rows.{Change, rpcb_prog, live}
+
+-- ---- the table as it was
+
+-- The rows that were live after n changes, under their keys and in order.
+abbrev pub table_at : ℕ → List (ℕ × Slot) → List (ℕ × Row)
+table_at n [] = []
+table_at n (e ∷ rest) = if is_live_at n e.1 then (e.0, e.1.row) ∷ table_at n rest else table_at n rest
+
+abbrev pub live_at : ℕ → List (ℕ × Slot) → List Row
+live_at n entries = values_of (table_at n entries)
+
+-- the changes that removed the dead ones of these, in the order of the rows
+abbrev pub removals : List (ℕ × Slot) → List ℕ
+removals entries = filter_map (λ slot. slot.removed) (values_of entries)
+
+-- ---- the registry
 
 -- the rows with their changes, under their keys, how many there may be, the memory that the table holds (as of a `Pool`),
 -- how many changes were accepted, the least number of changes after which the rows can be told, and the number of the
@@ -41,19 +57,6 @@ removals_of kept = removals kept.entries
 abbrev pub dead_count : Registry → ℕ
 dead_count kept = length (removals_of kept)
 
--- the row may be set, and there is room for it beside the live and the dead rows
-abbrev pub takes : Registry → Row → Bool
-takes kept row =
-    has_place kept.limit (rows_of kept) kept.stamp row && nat_lt (length (rows_of kept) + dead_count kept) kept.limit
-
--- the stamp that a trim is told, None and one to come counting as the present one
-abbrev pub stamp_told : Registry → Option ℕ → ℕ
-stamp_told kept oldest = min (unwrap_or oldest kept.stamp) kept.stamp
-
--- the floor after it
-abbrev pub floor_told : Registry → Option ℕ → ℕ
-floor_told kept oldest = max kept.floor (stamp_told kept oldest)
-
 -- the rows after so many changes can be told
 pub record Reaches (kept : Registry) (stamp : ℕ) : Type 0 where
   pub from_floor : kept.floor ≤ stamp
@@ -75,11 +78,8 @@ pub record StandsForChanges (kept : Registry) (own : List Row) (changes : List C
   pub within : length (slots_of kept) ≤ kept.limit
   pub stamp : kept.stamp ≡ length changes
 
--- Whatever changes a registry stood for, it now stands for those and, where it was accepted, for this one.
-abbrev pub StandsForMore : Registry → Registry → Bool → Change → Type 0
-StandsForMore old new accepted change = (own : List Row) (changes : List Change) → StandsForChanges old own changes
-    → StandsForChanges new own (if accepted then changes ++ change ∷ [] else changes)
+-- ---- a cursor
 
--- It stands for the same changes.
-abbrev pub StandsForSame : Registry → Registry → Type 0
-StandsForSame old new = (own : List Row) (changes : List Change) → StandsForChanges old own changes → StandsForChanges new own changes
+-- how many of them a cursor has passed that stands there
+abbrev pub rows_passed : Registry → ℕ → Option ℕ → ℕ
+rows_passed kept stamp cursor = unwrap_or (count_passed (table_of kept stamp) cursor) 0

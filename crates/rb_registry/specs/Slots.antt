@@ -1,9 +1,9 @@
 -- Rows with the changes that added and removed them.
-use Rattle.std.specs.Prelude.{ℕ, ◌+◌, nat_lt, nat_le, Bool, true, false, ◌&&◌, if◌then◌else◌, List, [], ◌∷◌, ◌++◌, length, map, filter, not, Option, Some, None}
+use Rattle.std.specs.Prelude.{ℕ, ◌+◌, nat_le, nat_lt, Bool, true, false, not, ◌&&◌, if◌then◌else◌, List, [], ◌∷◌, ◌++◌, length, map, filter, Option, Some, None}
 use Rattle.std.specs.List.{sum_by}
+use Rattle.rb_registry.specs.declared.slot.Slot.{Slot}
 use Rattle.rb_registry.specs.declared.row.Netid.{Netid}
 use Rattle.rb_registry.specs.declared.row.Row.{Row}
-use Rattle.rb_registry.specs.declared.slot.Slot.{Slot}
 use Rattle.rb_registry.specs.Rows.{Change, covers, is_row}
 use Rattle.rb_registry.specs.Rows.Change.{Added, Removed}
 
@@ -34,10 +34,6 @@ removed_by (Some removed) (Some oldest) = nat_le removed oldest
 
 unfoldable pub is_dropped : Option ℕ → Slot → Bool
 is_dropped oldest slot = removed_by slot.removed oldest
-
--- of changes that removed rows, those behind that one, none where none is named
-abbrev pub later_than : Option ℕ → List ℕ → List ℕ
-later_than oldest numbers = filter (λ number. not (removed_by (Some number) oldest)) numbers
 
 -- ---- those of a list of changes
 

@@ -1,29 +1,17 @@
--- The table of rows with their changes: what it was after n changes, and what calls make of it.
-use Rattle.std.specs.Prelude.{◌≡◌, ℕ, ◌+◌, ◌*◌, ◌^◌, ◌≤◌, ◌<◌, Bool, ◌&&◌, if◌then◌else◌, List, [], ◌∷◌, length, map, filter, not, Option, Some, None, IfSome, Contains, All, min, fold, unwrap_or, count_by}
-use Rattle.std.specs.Borrow.{Bor}
-use Rattle.std.specs.List.{filter_map}
+-- What calls make of the table of rows with their changes.
+use Rattle.std.specs.Prelude.{◌≡◌, ◌<◌, ◌≤◌, ℕ, ◌+◌, ◌*◌, ◌^◌, nat_lt, min, max, Bool, not, ◌&&◌, if◌then◌else◌, List, [], ◌∷◌, ◌++◌, length, map, filter, fold, count_by, All, Contains, Option, Some, None, unwrap_or, IfSome}
 use Rattle.std.specs.Map.{values_of}
-use Rattle.rb_xdr.specs.Meter.{Meter}
-use Rattle.rb_xdr.specs.Places.{to_come}
+use Rattle.std.specs.Borrow.{Bor}
 use Rattle.rb_xdr.specs.Pool.{Pool, HasDistinctKeys}
-use Rattle.rb_registry.specs.declared.row.Row.{Row}
+use Rattle.rb_xdr.specs.Places.{to_come}
+use Rattle.rb_xdr.specs.Meter.{Meter}
 use Rattle.rb_registry.specs.declared.slot.Slot.{Slot}
-use Rattle.rb_registry.specs.Rows.{Change, covers}
-use Rattle.rb_registry.specs.Slots.{is_live_at, is_dropped, held_in}
+use Rattle.rb_registry.specs.declared.row.Row.{Row}
+use Rattle.rb_registry.specs.Registry.{table_at, removals, Registry, rows_of, dead_count, StandsForChanges}
+use Rattle.rb_registry.specs.Slots.{is_live_at, removed_by, is_dropped, held_in}
+use Rattle.rb_registry.specs.Rows.{Change, covers, has_place}
 
 -- ---- the table as it was
-
--- The rows that were live after n changes, under their keys and in order.
-abbrev pub table_at : ℕ → List (ℕ × Slot) → List (ℕ × Row)
-table_at n [] = []
-table_at n (e ∷ rest) = if is_live_at n e.1 then (e.0, e.1.row) ∷ table_at n rest else table_at n rest
-
-abbrev pub live_at : ℕ → List (ℕ × Slot) → List Row
-live_at n entries = values_of (table_at n entries)
-
--- the changes that removed the dead ones of these, in the order of the rows
-abbrev pub removals : List (ℕ × Slot) → List ℕ
-removals entries = filter_map (λ slot. slot.removed) (values_of entries)
 
 -- how many they are
 abbrev pub count_dead : List (ℕ × Slot) → ℕ
@@ -104,3 +92,31 @@ pub record IsLeast (numbers : List ℕ) (least : ℕ) : Type 0 where
   pub none : numbers ≡ [] → least ≡ 0
   pub one : (numbers ≡ [] → ⊥) → Contains numbers least
   pub all : All (λ number. least ≤ number) numbers
+
+-- of changes that removed rows, those behind that one, none where none is named
+abbrev pub later_than : Option ℕ → List ℕ → List ℕ
+later_than oldest numbers = filter (λ number. not (removed_by (Some number) oldest)) numbers
+
+-- ---- what calls leave
+
+-- the row may be set, and there is room for it beside the live and the dead rows
+abbrev pub takes : Registry → Row → Bool
+takes kept row =
+    has_place kept.limit (rows_of kept) kept.stamp row && nat_lt (length (rows_of kept) + dead_count kept) kept.limit
+
+-- the stamp that a trim is told, None and one to come counting as the present one
+abbrev pub stamp_told : Registry → Option ℕ → ℕ
+stamp_told kept oldest = min (unwrap_or oldest kept.stamp) kept.stamp
+
+-- the floor after it
+abbrev pub floor_told : Registry → Option ℕ → ℕ
+floor_told kept oldest = max kept.floor (stamp_told kept oldest)
+
+-- Whatever changes a registry stood for, it now stands for those and, where it was accepted, for this one.
+abbrev pub StandsForMore : Registry → Registry → Bool → Change → Type 0
+StandsForMore old new accepted change = (own : List Row) (changes : List Change) → StandsForChanges old own changes
+    → StandsForChanges new own (if accepted then changes ++ change ∷ [] else changes)
+
+-- It stands for the same changes.
+abbrev pub StandsForSame : Registry → Registry → Type 0
+StandsForSame old new = (own : List Row) (changes : List Change) → StandsForChanges old own changes → StandsForChanges new own changes

@@ -1,9 +1,9 @@
 -- Whole walks over the rows as they were, with other calls between.
-use Rattle.std.specs.Prelude.{◌≡◌, ℕ, ◌≤◌, Option, Some, List, [], ◌∷◌, take}
+use Rattle.std.specs.Prelude.{◌≡◌, ◌≤◌, ℕ, List, [], ◌∷◌, take, Option, Some}
 use Rattle.rb_registry.specs.declared.row.Row.{Row}
 use Rattle.rb_registry.specs.Rows.{Change, live}
-use Rattle.rb_registry.specs.Registry.{Registry, StandsForChanges}
-use Rattle.rb_registry.specs.Cursors.{StandsIn, rows_passed, row_behind, PassesOne, IsAtEnd, GoesOn}
+use Rattle.rb_registry.specs.Registry.{Registry, StandsForChanges, rows_passed}
+use Rattle.rb_registry.specs.Cursors.{StandsIn, PassesOne, IsAtEnd, row_behind, GoesOn}
 
 -- what happens in a walk: the next row is given, with the cursor behind it, or another call leaves the registry so
 pub data WalkStep : Type 0 where

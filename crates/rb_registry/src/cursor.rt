@@ -1,7 +1,7 @@
 //! A place in the list of rows.
 ghost use Rattle.std.specs.Prelude.{◌≡◌, ℕ, Some, length};
-ghost use Rattle.rb_registry.specs.Registry.{Registry, Reaches, slots_of};
-ghost use Rattle.rb_registry.specs.Cursors.{StandsIn, rows_passed, slots_left};
+ghost use Rattle.rb_registry.specs.Registry.{Registry, Reaches, slots_of, rows_passed};
+ghost use Rattle.rb_registry.specs.Cursors.{StandsIn, slots_left};
 
 use std::marker::Model;
 

@@ -79,11 +79,11 @@ impl Registry {
     ghost use Rattle.rb_registry.specs.declared.row.Row.{Row};
     ghost use Rattle.rb_registry.specs.Rows.{find_exact, find_row, live};
     ghost use Rattle.rb_registry.specs.Rows.Change.{Added, Removed};
-    ghost use Rattle.rb_registry.specs.Registry.{rows_of, slots_of, removals_of, dead_count, takes, floor_told, Reaches, AreOwn, StandsForChanges, StandsForMore, StandsForSame};
+    ghost use Rattle.rb_registry.specs.Registry.{rows_of, slots_of, removals_of, dead_count, Reaches, AreOwn, StandsForChanges};
+    ghost use Rattle.rb_registry.specs.Table.{takes, floor_told, StandsForMore, StandsForSame, later_than, IsLeast, PaysFor};
     ghost use Rattle.rb_registry.specs.Removals.{takes_removal};
     ghost use Rattle.rb_registry.specs.Cursors.{RowsAreLive, StandsIn, PassesOne, IsWithin, IsAtEnd, row_behind, slots_left, GoesOn};
-    ghost use Rattle.rb_registry.specs.Slots.{later_than, held_in};
-    ghost use Rattle.rb_registry.specs.Table.{IsLeast, PaysFor};
+    ghost use Rattle.rb_registry.specs.Slots.{held_in};
 
     /// A registry of these rows, with room for `cap` rows in all, for calls that this meter counts.
     ///

@@ -5,7 +5,8 @@ ghost use Rattle.rb_xdr.specs.Meter.{PaysAtMost};
 ghost use Rattle.rb_xdr.specs.Pool.{HasDistinctKeys};
 ghost use Rattle.rb_registry.specs.Removals.{change_of};
 ghost use Rattle.rb_registry.specs.Rows.{find_exact, find_row, is_of_key};
-ghost use Rattle.rb_registry.specs.Table.{live_at, count_going, with_marks, undropped, removals, count_dead, count_held, lesser, least_of, IsNextLive, count_left, PaysFor};
+ghost use Rattle.rb_registry.specs.Registry.{live_at, removals};
+ghost use Rattle.rb_registry.specs.Table.{count_going, with_marks, undropped, count_dead, count_held, lesser, least_of, IsNextLive, count_left, PaysFor};
 
 use crate::removal::Removal;
 use crate::row::{Netid, Row};

@@ -1,8 +1,8 @@
 -- What records of bytes are, in terms of the fragments.
-use Rattle.std.specs.Prelude.{◌≡◌, ℕ, ◌≤◌, ◌<◌, ◌↔◌, ◌^◌, Bool, false, true, List, ⊤, [], ◌∷◌, ◌++◌, length, take, drop, All, Some, None}
+use Rattle.std.specs.Prelude.{◌≡◌, ◌↔◌, ◌<◌, ◌≤◌, ⊤, ℕ, ◌^◌, Bool, true, false, List, [], ◌∷◌, ◌++◌, length, take, drop, All, Some, None}
 use Rattle.std.specs.List.{flat_map}
 use Rattle.rb_xdr.specs.Xdr.{AreBytes}
-use Rattle.rb_rpc.specs.Records.{Fragment, first_record, data_of, marked, markings, fragment_size, reply_fragments}
+use Rattle.rb_rpc.specs.Records.{Fragment, markings, first_record, data_of, fragment_size, reply_fragments, marked}
 
 -- ---- the relation
 

@@ -1,8 +1,8 @@
 -- Record marking (RFC 5531 section 11).
-use Rattle.std.specs.Prelude.{zero, ℕ, suc, ◌+◌, ◌%◌, nat_lt, ◌^◌, not, Bool, false, true, List, [], if◌then◌else◌, ◌∷◌, ◌++◌, length, take, drop, Option, slice_range, Some, None}
+use Rattle.std.specs.Prelude.{ℕ, zero, suc, ◌+◌, ◌%◌, ◌^◌, nat_lt, Bool, true, false, not, if◌then◌else◌, List, [], ◌∷◌, ◌++◌, length, take, drop, slice_range, Option, Some, None}
 use Rattle.std.specs.List.{flat_map}
 use Rattle.std.specs.Option.{option_map}
-use Rattle.rb_xdr.specs.Xdr.{number_at, number}
+use Rattle.rb_xdr.specs.Xdr.{number, number_at}
 
 -- ---- the relation
 

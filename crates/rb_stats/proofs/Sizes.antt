@@ -18,7 +18,8 @@ use Rattle.rb_stats.specs.declared.item.Item.{Item}
 use Rattle.rb_stats.specs.declared.counts.Counts.{Counts}
 use Rattle.rb_stats.specs.Statistics.{Note, Count, Stat, is_version, is_key, is_in, count_of, counts_in, distinct, keys_of, items_of, item_of, item_spelling, lookup_spelling, forward_spelling, spelling_by, stat, stat_spelling, statistics, greatest_list}
 use Rattle.rb_stats.specs.Table.{items_in, stat_in, stat_size}
-use Rattle.rb_stats.specs.Stats.{Stats, StandsForHistory, stat_len, key_count, spelling}
+use Rattle.rb_stats.specs.Stats.{Stats, StandsForHistory, stat_len, key_count}
+use Rattle.rb_stats.specs.Counting.{spelling}
 use Rattle.rb_stats.proofs.Keys.{by_test, both}
 use Rattle.rb_stats.proofs.Writing.{behind_true}
 

@@ -58,7 +58,8 @@ impl Stats {
     ghost use Rattle.rb_stats.specs.Lists.{AreListsOf, lists_size};
     ghost use Rattle.rb_stats.specs.Statistics.{greatest_int};
     ghost use Rattle.rb_stats.specs.Statistics.Note.{Called, WasSet, WasUnset, LookedUp, Forwarded};
-    ghost use Rattle.rb_stats.specs.Stats.{StandsForHistory, HasNoted, SpellsHistory, spelling, key_count, most_keys, put_cost, calls_at};
+    ghost use Rattle.rb_stats.specs.Stats.{StandsForHistory, key_count, most_keys};
+    ghost use Rattle.rb_stats.specs.Counting.{HasNoted, SpellsHistory, spelling, put_cost, calls_at};
 
     /// Nothing was called. NoMemory where the memory for the keys is refused.
     pub fn new(alloc: Global, meter: &mut Meter) -> Result<Stats, NoMemory>
@@ -207,7 +208,7 @@ impl Stats {
         }
     }
 
-    #[tactic(auto, unfolding(crate::specs::Stats::spelling))]
+    #[tactic(auto, unfolding(crate::specs::Counting::spelling))]
     fn write(&self, lists: &AllLists, out: &mut Kept, meter: &mut Meter)
         requires tie { meter.old.tie ≡ out.old.tie }
         requires lists { AreListsOf self.now lists.now }

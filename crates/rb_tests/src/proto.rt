@@ -1,7 +1,7 @@
 ghost use Rattle.std.specs.Prelude.{◌≡◌, ◌≤◌};
 ghost use Rattle.rb_registry.specs.Cursors.{GoesOn};
 ghost use Rattle.rb_rpc.specs.declared.peer.Caller.TheVariants.{Udp};
-ghost use Rattle.rb_proto.specs.Ledger.{SameFrame, AreTied};
+ghost use Rattle.rb_proto.specs.Books.{SameFrame, AreTied};
 
 use rb_forward::{Forward, FwdId, Kind};
 use rb_proto::{

@@ -1,5 +1,5 @@
 -- Universal addresses of TCP and UDP over IPv4 (RFC 5665 section 5.2.3.3), and their transport form.
-use Rattle.std.specs.Prelude.{ℕ, ◌+◌, ◌*◌, ◌/◌, ◌%◌, ◌^◌, ◌<◌, ◌≡◌, ◌≢◌, ◌&&◌, nat_lt, ◌==◌, if◌then◌else◌, List, [], ◌∷◌, ◌++◌, length, map, take, replicate, slice_index, slice_range, Option, Some, None, decimal, bytes_eq, All}
+use Rattle.std.specs.Prelude.{◌≡◌, ◌≢◌, ◌<◌, ℕ, ◌+◌, ◌*◌, ◌/◌, ◌%◌, ◌^◌, ◌==◌, nat_lt, ◌&&◌, if◌then◌else◌, List, [], ◌∷◌, ◌++◌, length, take, map, replicate, slice_range, slice_index, All, Option, Some, None, decimal, bytes_eq}
 use Rattle.std.specs.List.{slice_split, join_with_byte}
 use Rattle.std.specs.Str.Parse.{digits_value}
 use Rattle.rb_uaddr.specs.declared.address.Uaddr.{Uaddr}

@@ -11,7 +11,7 @@ use Rattle.rpcbind.specs.declared.lines.ReadFault.TheVariants as reading
 use Rattle.rpcbind.specs.declared.running.Beginning.{Beginning}
 use Rattle.rpcbind.specs.declared.running.Fault.{Fault}
 use Rattle.rpcbind.specs.declared.running.Fault.TheVariants.{NotText, Lines, NoMemory, BadLimits, SocketFailed, ReadFailed, WriteFailed}
-use Rattle.rpcbind.specs.Lines.{Fails, read, longest_input}
+use Rattle.rpcbind.specs.Lines.{longest_input, read, Fails}
 use Rattle.rpcbind.specs.Printing.{report_of, Writes}
 
 -- the core with which a replay begins

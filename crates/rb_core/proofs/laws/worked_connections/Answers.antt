@@ -11,7 +11,7 @@ use Rattle.rb_rpc.specs.Verdict.{body_length, auth_end, is_over_long, is_broken,
 use Rattle.rb_feed.specs.Feeds.{arguments_of}
 use Rattle.rb_uaddr.specs.Uaddr.{port_of, port_bytes, text_of, octet, of_parts, parts_of, parse, merged, transport_of, from_transport}
 use Rattle.rb_registry.specs.Rows.{is_netid, is_among, may_remove, covers, is_on, is_row, is_change_left, has_place, removes_some, find_exact, versions, greatest, find_row}
-use Rattle.rb_proto.specs.Answers.{comes_from_here, row_of_mapping, row_of_rpcb, can_be_set, accepts_row, set_row, accepts_removal, unset_rows, shown_text, shown_port, getport, getaddr, getversaddr, seconds, taddr_of, uaddr_of, answer}
+use Rattle.rb_proto.specs.Answers.{comes_from_here, row_of_mapping, row_of_rpcb, can_be_set, accepts_row, set_row, accepts_removal, unset_rows, shown_text, shown_port, getport, getaddr, getversaddr, seconds, taddr_of, uaddr_of, answer, row_to_set, adds_row}
 use Rattle.rb_proto.specs.Arguments.{procedure_at, is_known, arguments, request}
 use Rattle.rb_proto.specs.Callers.{own_rows, is_local, owner_text}
 use Rattle.rb_proto.specs.Netids.{netid_named, which_of, netid_of_prot}
@@ -21,7 +21,6 @@ use Rattle.rb_forward.specs.StandsFor.{longest_arguments}
 use Rattle.rb_forward.specs.Forwards.{xid_of, question, longest_results, outcome_of, is_same_peer, is_answered, reply, due, drop_caller, later, can_start, next_entry, started, unsent, can_be_sent, sent}
 use Rattle.rb_proto.specs.Remote.{read_remote}
 use Rattle.rb_proto.specs.Forwarding.{outcome_note, address_to_forward, forward_of, forward_call, end_note, replied, fell_due, caller_dropped, call_sent, forwarded_bytes}
-use Rattle.rb_proto.specs.Answers.{row_to_set, adds_row}
 use Rattle.rb_core.specs.Losses.{begins, kept_removals, crowding, evicted}
 use Rattle.rb_core.specs.Ending.{forward_reply, expire}
 use Rattle.rb_core.specs.Calls.{is_served, request_of, call_of, message_of, longest_reply, fitting, outcome}

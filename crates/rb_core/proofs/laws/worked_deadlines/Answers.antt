@@ -11,13 +11,12 @@ use Rattle.rb_rpc.specs.Verdict.{body_length, auth_end, is_over_long, is_broken,
 use Rattle.rb_feed.specs.Feeds.{arguments_of}
 use Rattle.rb_uaddr.specs.Uaddr.{port_of, port_bytes, text_of, octet, of_parts, parts_of, parse, merged, transport_of, from_transport}
 use Rattle.rb_registry.specs.Rows.{is_netid, is_among, may_remove, covers, is_on, is_row, is_change_left, has_place, removes_some, find_exact, versions, greatest, find_row}
-use Rattle.rb_proto.specs.Answers.{comes_from_here, row_of_mapping, row_of_rpcb, can_be_set, accepts_row, set_row, accepts_removal, unset_rows, shown_text, shown_port, getport, getaddr, getversaddr, seconds, taddr_of, uaddr_of, answer}
+use Rattle.rb_proto.specs.Answers.{comes_from_here, row_of_mapping, row_of_rpcb, can_be_set, accepts_row, set_row, accepts_removal, unset_rows, shown_text, shown_port, getport, getaddr, getversaddr, seconds, taddr_of, uaddr_of, answer, row_to_set, adds_row}
 use Rattle.rb_proto.specs.Arguments.{procedure_at, is_known, arguments, request}
 use Rattle.rb_proto.specs.Callers.{own_rows, is_local, owner_text}
 use Rattle.rb_proto.specs.Netids.{netid_named, which_of, netid_of_prot}
 use Rattle.rb_proto.specs.Results.{result_bytes, row_bytes}
 use Rattle.rb_proto.specs.Types.{read_mapping, read_rpcb, read_netbuf, read_entry}
-use Rattle.rb_proto.specs.Answers.{row_to_set, adds_row}
 use Rattle.rb_core.specs.Losses.{begins, kept_removals, crowding, evicted, is_due, first_due, expiring}
 use Rattle.rb_core.specs.Calls.{is_served, request_of, call_of, message_of, longest_reply, fitting, outcome}
 use Rattle.rb_core.specs.Connections.{taking, reading, settled, when_given, giving, is_live, live_connection, number_for, opening_of, first_lost, is_there, without_number, closing_of, longest_fragment, pending_of}
@@ -26,11 +25,10 @@ use Rattle.rb_core.specs.StandsFor.{window}
 use Rattle.rb_core.specs.Step.{serve, answering, bytes, pending, gave, open_connection, close_connection, next_lost, datagram, step}
 use Rattle.std.specs.Fmt.{digits}
 use Rattle.rb_forward.specs.Forwards.{later, due, drop_caller, can_start, next_entry, started}
-use Rattle.rb_proto.specs.Forwarding.{address_to_forward, forward_of, forward_call, end_note, fell_due, caller_dropped}
+use Rattle.rb_proto.specs.Forwarding.{address_to_forward, forward_of, forward_call, end_note, fell_due, caller_dropped, outcome_note}
 use Rattle.rb_forward.specs.StandsFor.{longest_arguments}
 use Rattle.rb_proto.specs.Remote.{read_remote}
 use Rattle.rb_proto.specs.Ledger.{called, version_of}
-use Rattle.rb_proto.specs.Forwarding.{outcome_note}
 use Rattle.rb_core.specs.Ending.{expire_connection, expire}
 use Rattle.rb_core.specs.WorkedDeadlines.{IdleEnds, ReadingEnds, TwoEnd, OwingEnds, GivenBytesMoveTheMark, IdleAfterTheReply, DueAtOnceAtTheGreatestMoment, ForwardedCallsComeFirst}
 use Rattle.rb_core.proofs.laws.worked_deadlines.Goals as goal

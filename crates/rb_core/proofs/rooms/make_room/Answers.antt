@@ -1,7 +1,7 @@
 use Rattle.std.proofs.Common.{◌≡◌, ◌≤◌, ◌<◌, ◌+◌, true, false, ℕ, List, length, All, sym, ap, ◌∙◌, arith}
 use Rattle.rb_registry.specs.Registry.{rows_of, removals_of}
 use Rattle.rb_proto.specs.Ledger.{rows_in}
-use Rattle.rb_proto.specs.Answers.{wants_room_in}
+use Rattle.rb_proto.specs.Books.{wants_room_in}
 use Rattle.rb_core.specs.Losses.{asks_room, kept_removals, evicting}
 use Rattle.rb_core.specs.Listings.{source_in, AreTold, stamps_of, IsEarliest}
 use Rattle.rb_core.proofs.Crowding.{told_on, stands_on, trimmed_low, kept_are, none_evicted, not_asked, not_crowded, crowded, no_call_asks, no_call_has_room, row_within, room_is_made, earliest_of}

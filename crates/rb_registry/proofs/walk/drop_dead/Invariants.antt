@@ -2,7 +2,7 @@ use Rattle.std.proofs.Common.{◌≡◌, ◌+◌, ◌*◌, ◌≤◌, length}
 use Rattle.std.specs.Map.{values_of}
 use Rattle.rb_xdr.specs.Places.{to_come}
 use Rattle.rb_registry.specs.Slots.{is_dropped, held_in}
-use Rattle.rb_registry.specs.Table.{removals}
+use Rattle.rb_registry.specs.Registry.{removals}
 use Rattle.rb_registry.proofs.Removing.{Removing}
 use Rattle.rb_registry.proofs.walk.drop_dead.Given as goal
 

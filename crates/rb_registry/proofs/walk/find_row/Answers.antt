@@ -5,7 +5,7 @@ use Rattle.rb_registry.specs.Slots.{is_live_at}
 use Rattle.std.specs.Map.{values_of}
 use Rattle.rb_registry.specs.declared.slot.Slot.{Slot}
 use Rattle.rb_registry.specs.Rows.{is_on, is_row}
-use Rattle.rb_registry.specs.Table.{table_at}
+use Rattle.rb_registry.specs.Registry.{table_at}
 use Rattle.rb_registry.proofs.Newest.{newest_of, found_exactly, found_newest, found_first}
 use Rattle.rb_registry.proofs.Tables.{live_first}
 use Rattle.rb_registry.proofs.Searching.{passed_exact, passed_newest}

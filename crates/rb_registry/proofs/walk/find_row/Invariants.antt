@@ -3,7 +3,7 @@ use Rattle.std.specs.Prelude.{find, option_copied}
 use Rattle.std.specs.Map.{values_of}
 use Rattle.rb_xdr.specs.Places.{to_come}
 use Rattle.rb_registry.specs.Rows.{is_row}
-use Rattle.rb_registry.specs.Table.{table_at}
+use Rattle.rb_registry.specs.Registry.{table_at}
 use Rattle.rb_registry.proofs.Newest.{newest_of}
 use Rattle.rb_registry.proofs.walk.find_row.Given as goal
 

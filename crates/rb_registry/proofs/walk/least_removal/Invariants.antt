@@ -1,7 +1,8 @@
 use Rattle.std.proofs.Common.{◌≡◌, ◌+◌, ◌*◌, ◌≤◌, length, Some, None}
 use Rattle.std.specs.Prelude.{fold}
 use Rattle.rb_xdr.specs.Places.{to_come}
-use Rattle.rb_registry.specs.Table.{removals, lesser}
+use Rattle.rb_registry.specs.Registry.{removals}
+use Rattle.rb_registry.specs.Table.{lesser}
 use Rattle.rb_registry.proofs.walk.least_removal.Given as goal
 
 abbrev pub invariant-rows : goal.invariant-rows

@@ -1,6 +1,6 @@
 use Rattle.std.proofs.Common.{◌≡◌, ◌+◌, ◌*◌, ◌≤◌, length}
 use Rattle.rb_xdr.specs.Places.{to_come}
-use Rattle.rb_registry.specs.Table.{table_at}
+use Rattle.rb_registry.specs.Registry.{table_at}
 use Rattle.rb_registry.proofs.walk.live_after.Given as goal
 
 abbrev pub invariant-rows : goal.invariant-rows

@@ -8,7 +8,7 @@ use Rattle.rb_rpc.specs.Verdict.{verdict}
 use Rattle.rb_feed.specs.Feeds.{arguments_of}
 use Rattle.rb_proto.specs.declared.books.Books.{Books}
 use Rattle.rb_proto.specs.declared.context.Context.{Context}
-use Rattle.rb_proto.specs.Ledger.{ActsAs}
+use Rattle.rb_proto.specs.Books.{ActsAs}
 use Rattle.rb_core.specs.contracts.engine.Core.{the_view}
 use Rattle.rb_core.specs.declared.message.Message.{Message}
 use Rattle.rb_core.specs.Calls.{Outcome, outcome, message_with, message_of, reply_in}

@@ -8,7 +8,7 @@ use Rattle.rb_registry.specs.declared.slot.Slot.{Slot}
 use Rattle.std.proofs.lemmas.Grind.{common_steps}
 use Rattle.std.proofs.lemmas.Map.Entries.{length-values_of}
 use Rattle.rb_registry.specs.Slots.{slot_of, slots_from}
-use Rattle.rb_registry.specs.Table.{table_at}
+use Rattle.rb_registry.specs.Registry.{table_at}
 use Rattle.rb_xdr.proofs.Walks.{distinct-push}
 use Rattle.rb_registry.proofs.Finds.{values_of-push}
 use Rattle.rb_registry.proofs.History.{slots-new}

@@ -2,7 +2,8 @@ use Rattle.std.proofs.Common.{◌≡◌, ◌+◌, ◌++◌, length, []}
 use Rattle.std.specs.Array.Iter.{array_into_iter_items}
 use Rattle.std.specs.Map.{values_of}
 use Rattle.rb_registry.specs.Slots.{slots_from}
-use Rattle.rb_registry.specs.Table.{IsTable, table_at, removals}
+use Rattle.rb_registry.specs.Table.{IsTable}
+use Rattle.rb_registry.specs.Registry.{table_at, removals}
 use Rattle.rb_registry.proofs.registry.Registry.new.Given as goal
 
 abbrev pub invariant-own : goal.invariant-own

@@ -1,5 +1,6 @@
 use Rattle.std.proofs.Common.{◌≡◌, length, refl, sym, ap, ◌∙◌, arith}
-use Rattle.rb_stats.specs.Stats.{Stats, key_count, spelling}
+use Rattle.rb_stats.specs.Stats.{Stats, key_count}
+use Rattle.rb_stats.specs.Counting.{spelling}
 use Rattle.rb_stats.specs.declared.key.Version.TheVariants.{Two, Three, Four}
 use Rattle.rb_stats.proofs.Entries.{in_six}
 use Rattle.rb_stats.proofs.Histories.{kept_in}

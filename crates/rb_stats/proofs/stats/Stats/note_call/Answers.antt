@@ -3,7 +3,8 @@ use Rattle.std.specs.Prelude.{slice_index}
 use Rattle.rb_stats.specs.declared.counts.Counts.{Counts}
 use Rattle.rb_stats.specs.Statistics.{greatest_int}
 use Rattle.rb_stats.specs.Statistics.Note.{Called}
-use Rattle.rb_stats.specs.Stats.{Stats, StandsForHistory, stat_at}
+use Rattle.rb_stats.specs.Stats.{Stats, StandsForHistory}
+use Rattle.rb_stats.specs.Counting.{stat_at}
 use Rattle.rb_stats.proofs.Histories.{calling, kept_in, full_call, noted_two, noted_three, noted_four}
 use Rattle.rb_stats.proofs.stats.Stats.note_call.Goals as goal
 

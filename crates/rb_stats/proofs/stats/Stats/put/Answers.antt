@@ -1,5 +1,5 @@
 use Rattle.std.proofs.Common.{◌≡◌, ◌+◌, ◌≤◌, length, false, true, refl, arith}
-use Rattle.rb_stats.specs.Stats.{spelling}
+use Rattle.rb_stats.specs.Counting.{spelling}
 use Rattle.rb_stats.proofs.Sizes.{spelled}
 use Rattle.rb_stats.proofs.stats.Stats.put.Goals as goal
 

@@ -1,0 +1,93 @@
+-- What calls on the books say of the ledger, and what of the books stays.
+use Rattle.std.specs.Prelude.{◌≡◌, ◌<◌, ⊤, ℕ, ◌+◌, Bool, true, List, length, Option}
+use Rattle.std.specs.List.{filter_map}
+use Rattle.rb_rpc.specs.declared.peer.Caller.{Caller}
+use Rattle.rb_registry.specs.declared.row.Row.{Row}
+use Rattle.rb_registry.specs.Slots.{slots_from}
+use Rattle.rb_registry.specs.Registry.{Registry, rows_of, dead_count}
+use Rattle.rb_stats.specs.Statistics.{Note}
+use Rattle.rb_stats.specs.Statistics.Note.{Forwarded}
+use Rattle.rb_forward.specs.StandsFor.{Table, slots_of}
+use Rattle.rb_forward.specs.Table.{OnlyWaitsAnew}
+use Rattle.rb_forward.specs.Forwards.{Unsent, unsent}
+use Rattle.rb_proto.specs.declared.books.Books.{Books}
+use Rattle.rb_proto.specs.declared.call.Call.{Call}
+use Rattle.rb_proto.specs.declared.context.Context.{Context}
+use Rattle.rb_proto.specs.declared.forwarding.Asked.{Asked}
+use Rattle.rb_proto.specs.declared.answers.Answer.{Answer}
+use Rattle.rb_proto.specs.declared.answers.Answer.TheVariants as answers
+use Rattle.rb_proto.specs.Ledger.{Ledger, StandsForLedger}
+use Rattle.rb_proto.specs.Answers.{adds, adds_row}
+use Rattle.rb_proto.specs.Forwarding.{outcome_note}
+
+-- the changes behind the first n that removed rows, in the order of these rows
+abbrev pub removals_after : ℕ → Ledger → List ℕ
+removals_after n l = filter_map (λ slot. slot.removed) (slots_from n l.own l.changes)
+
+-- From each ledger that the books stood for, they stand for what it becomes.
+abbrev pub Becomes : (Ledger → Ledger) → Books → Books → Type 0
+Becomes change old new = (l : Ledger) → StandsForLedger old l → StandsForLedger new (change l)
+
+-- An act on a ledger that gives something. From each ledger that the books stood for, it gives this result; they stand
+-- for the ledger after it, and the registry is as it was where the changes are.
+pub record ActsAs {A : Type 0} (act : Ledger → A × Ledger) (old new : Books) (result : A) : Type 0 where
+  pub gives : (l : Ledger) → StandsForLedger old l → result ≡ (act l).0
+  pub stands : (l : Ledger) → StandsForLedger old l → StandsForLedger new (act l).1
+  pub kept : (l : Ledger) → StandsForLedger old l → (act l).1.changes ≡ l.changes → new.registry ≡ old.registry
+
+-- From each ledger that the books stand for, this is what it shows.
+abbrev pub BooksShow : {A : Type 0} → (Ledger → A) → Books → A → Type 0
+BooksShow show books result = (l : Ledger) → StandsForLedger books l → result ≡ show l
+
+-- Of all callers this one alone may have a forwarded call that it had not before.
+abbrev pub OnlyCallerWaits : Caller → Books → Books → Type 0
+OnlyCallerWaits caller old new = OnlyWaitsAnew caller (slots_of old.forwards) (slots_of new.forwards)
+
+-- the books were made with the meter of this number
+pub record AreTied (tie : ℕ) (books : Books) : Type 0 where
+  pub registry : tie ≡ books.registry.tie
+  pub stats : tie ≡ books.stats.tie
+  pub forwards : tie ≡ books.forwards.tie
+
+-- the limits of rows and of forwarded calls, the first xid of those, and the books' meter stay
+pub record SameFrame (old new : Books) : Type 0 where
+  pub limit : new.registry.limit ≡ old.registry.limit
+  pub cap : new.forwards.cap ≡ old.forwards.cap
+  pub first_xid : new.forwards.first_xid ≡ old.forwards.first_xid
+  pub registry : new.registry.tie ≡ old.registry.tie
+  pub stats : new.stats.tie ≡ old.stats.tie
+  pub forwards : new.forwards.tie ≡ old.forwards.tie
+
+-- ---- room for a row
+
+abbrev pub wants_room_in : Context → Call → Registry → Bool
+wants_room_in context call kept = adds_row context call (rows_of kept) kept.stamp
+
+-- one row more is within the limit, beside the live rows and the dead ones
+abbrev pub HasPlaceLeft : Registry → Type 0
+HasPlaceLeft kept = length (rows_of kept) + dead_count kept < kept.limit
+
+-- where the row is accepted, there is room for it
+abbrev pub HasRoomFor : Context → Option Row → Registry → Type 0
+HasRoomFor context row kept = adds context (rows_of kept) kept.stamp row ≡ true → HasPlaceLeft kept
+
+-- where the call wants room, there is room
+abbrev pub HasRowRoom : Context → Call → Registry → Type 0
+HasRowRoom context call kept = wants_room_in context call kept ≡ true → HasPlaceLeft kept
+
+-- ---- forwarded calls
+
+-- the same of what is asked
+abbrev pub note_asked : Asked → Bool → Note
+note_asked asked passed = outcome_note asked.kind asked.caller asked.prog asked.vers asked.proc passed
+
+-- no answer but this one leaves a new entry
+abbrev pub StayUnlessForwarded : Answer → Table → Table → Type 0
+StayUnlessForwarded (answers.Results results) old new = new ≡ old
+StayUnlessForwarded (answers.Refused status) old new = new ≡ old
+StayUnlessForwarded answers.Forwarded old new = ⊤
+StayUnlessForwarded answers.Silent old new = new ≡ old
+
+-- the call that is to be sent next, where the books number the entries
+abbrev pub unsent_of : Books → Ledger → Option Unsent
+unsent_of books l = unsent books.forwards.first_xid l.forwards

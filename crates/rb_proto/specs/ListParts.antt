@@ -1,0 +1,64 @@
+-- How the parts of a reply that lists rows follow one another.
+use Rattle.std.specs.Prelude.{◌≡◌, ◌≤◌, ℕ, ◌+◌, List, ◌++◌, length, take, drop, slice_range}
+use Rattle.rb_xdr.specs.Kept.{Kept}
+use Rattle.rb_xdr.specs.Puts.{HasRoom}
+use Rattle.rb_rpc.specs.declared.reply.ReplyStatus.TheVariants.{Success}
+use Rattle.rb_rpc.specs.Replies.{reply_head}
+use Rattle.rb_registry.specs.declared.row.Row.{Row}
+use Rattle.rb_registry.specs.Registry.{Registry, rows_of}
+use Rattle.rb_registry.specs.Cursors.{StandsIn, GoesOn}
+use Rattle.rb_proto.specs.declared.answers.Listing.{Listing}
+use Rattle.rb_proto.specs.declared.list_reply.ListReply.{ListReply}
+use Rattle.rb_proto.specs.declared.list_reply.ListPart.{ListPart}
+use Rattle.rb_proto.specs.ListReplies.{longest_part, longest_row, rows_behind, bytes_behind, rest_of}
+use Rattle.rb_proto.specs.Results.{list_bytes, rows_bytes}
+
+-- the bytes are no more than those
+abbrev pub IsShort : List ℕ → Type 0
+IsShort bytes = length bytes ≤ longest_row
+
+-- and then there is room for them
+abbrev pub FitsIfShort : List ℕ → Kept → Type 0
+FitsIfShort bytes kept = IsShort bytes → HasRoom bytes kept
+
+-- the whole reply that lists these rows
+abbrev pub list_reply : List ℕ → ℕ → List Row → Listing → List ℕ
+list_reply host xid rows list = reply_head xid Success ++ list_bytes host rows list
+
+-- A buffer shows the bytes from the old cursor on, all of them or more than `most`. The first `base` of them stand before
+-- the new cursor, and what is shown behind these is no more than a row adds.
+pub record Fills (host : List ℕ) (kept : Registry) (old new : ListReply) (most : ℕ) (shown : List ℕ) (base : ℕ) : Type 0 where
+  pub moved : new ≡ record old { cursor = new.cursor }
+  pub place : StandsIn kept new.stamp new.cursor
+  pub front : shown ≡ take (length shown) (bytes_behind host kept old)
+  pub all : length shown ≤ most → shown ≡ bytes_behind host kept old
+  pub behind : drop base (bytes_behind host kept old) ≡ rows_bytes host (rows_behind kept new.stamp new.cursor) new.list
+  pub before : base ≤ most
+  pub within : base ≤ length shown
+  pub short : length shown ≤ base + longest_row
+
+-- It is the reply under this xid that lists the live rows, of which nothing was given.
+abbrev pub ListsRows : ℕ → Listing → Registry → ListReply → Type 0
+ListsRows xid list kept r = (host : List ℕ) → rest_of host kept r ≡ list_reply host xid (rows_of kept) list
+
+-- the part stands in what is shown: the next bytes that are yet to be given
+abbrev pub IsNextPart : List ℕ → Registry → ListReply → List ℕ → ListPart → Type 0
+IsNextPart host kept r shown part = slice_range shown part.start part.end ≡ take longest_part (rest_of host kept r)
+
+-- the new reply goes on behind the next part of the old one
+abbrev pub IsBehindPart : List ℕ → Registry → ListReply → ListReply → Type 0
+IsBehindPart host kept old new = rest_of host kept new ≡ drop longest_part (rest_of host kept old)
+
+-- The rows of the reply can be told, and what was given of that at the cursor is no more than a row adds.
+pub record IsTold (kept : Registry) (r : ListReply) : Type 0 where
+  pub place : StandsIn kept r.stamp r.cursor
+  pub given : r.given ≤ longest_row
+
+-- in the new registry too the rows of the reply can be told, and the same is yet to be given
+pub record StaysTold (old new : Registry) (r : ListReply) : Type 0 where
+  pub told : IsTold new r
+  pub rest : (host : List ℕ) → rest_of host new r ≡ rest_of host old r
+
+-- Whatever is called in between, the same is yet to be given, as long as the floor isn't above the reply's stamp.
+abbrev pub ListRepliesGoOn : Type 0
+ListRepliesGoOn = (old new : Registry) (r : ListReply) → GoesOn old new → new.floor ≤ r.stamp → IsTold old r → StaysTold old new r
