@@ -1,9 +1,9 @@
 #!/usr/bin/env bash
 # Shows what of the built daemon is resident, at the default limits: after its start, after a load (a million calls over
 # all 64 connections, and calls over UDP that fill its rows, ask for them and list them), and after the same load again,
-# which takes not a page more. What the first load adds are pages of the program that are run for the first time, and
-# tables of the core that are only reserved until then. The word, if there is one, is the path of another built program.
-# The last line is 'N passed, N failed'; the status is 1 where one failed.
+# which takes not a page more. What the first load adds are some pages of the stack, and of the table of connections, which
+# is only reserved until then. The word, if there is one, is the path of another built program. The last line is
+# 'N passed, N failed'; the status is 1 where one failed.
 set -u
 cd "$(dirname "$0")/.." || exit 1
 
