@@ -77,7 +77,7 @@ HasRowRoom context call kept = wants_room_in context call kept ≡ true → HasP
 
 -- ---- forwarded calls
 
--- the same of what is asked
+-- the note of how a call ended that was asked for so
 abbrev pub note_asked : Asked → Bool → Note
 note_asked asked passed = outcome_note asked.kind asked.caller asked.prog asked.vers asked.proc passed
 

@@ -13,7 +13,7 @@ use Rattle.rb_proto.specs.declared.list_reply.ListPart.{ListPart}
 use Rattle.rb_proto.specs.ListReplies.{longest_part, longest_row, rows_behind, bytes_behind, rest_of}
 use Rattle.rb_proto.specs.Results.{list_bytes, rows_bytes}
 
--- the bytes are no more than those
+-- the bytes are no more than a row adds at most
 abbrev pub IsShort : List ℕ → Type 0
 IsShort bytes = length bytes ≤ longest_row
 

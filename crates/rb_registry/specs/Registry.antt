@@ -80,6 +80,6 @@ pub record StandsForChanges (kept : Registry) (own : List Row) (changes : List C
 
 -- ---- a cursor
 
--- how many of them a cursor has passed that stands there
+-- how many of the rows that were live after so many changes a cursor has passed that stands there
 abbrev pub rows_passed : Registry → ℕ → Option ℕ → ℕ
 rows_passed kept stamp cursor = unwrap_or (count_passed (table_of kept stamp) cursor) 0

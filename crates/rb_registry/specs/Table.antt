@@ -11,13 +11,13 @@ use Rattle.rb_registry.specs.Registry.{table_at, removals, Registry, rows_of, de
 use Rattle.rb_registry.specs.Slots.{is_live_at, removed_by, is_dropped, held_in}
 use Rattle.rb_registry.specs.Rows.{Change, covers, has_place}
 
--- ---- the table as it was
+-- ---- what a registry counts
 
--- how many they are
+-- how many of these rows are dead
 abbrev pub count_dead : List (ℕ × Slot) → ℕ
 count_dead entries = length (removals entries)
 
--- the bytes that all of these hold
+-- the bytes that they hold, live and dead
 abbrev pub count_held : List (ℕ × Slot) → ℕ
 count_held entries = held_in (values_of entries)
 
