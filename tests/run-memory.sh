@@ -1,9 +1,8 @@
 #!/usr/bin/env bash
-# Shows what of the built daemon is resident, at the default limits: after its start, after a load (a million calls over
-# all 64 connections, and calls over UDP that fill its rows, ask for them and list them), and after the same load again,
-# which takes not a page more. What the first load adds are some pages of the stack, and of the table of connections, which
-# is only reserved until then. The word, if there is one, is the path of another built program. The last line is
-# 'N passed, N failed'; the status is 1 where one failed.
+# Shows what of the built daemon is resident, at the default limits: after its start, and after a load (a million calls
+# over all 64 connections, and calls over UDP that fill its rows, ask for them, list them and are forwarded), which takes
+# not a page more. The word, if there is one, is the path of another built program. The last line is 'N passed, N failed';
+# the status is 1 where one failed.
 set -u
 cd "$(dirname "$0")/.." || exit 1
 
@@ -62,40 +61,37 @@ call_over_tcp() {
     for socket in "${sockets[@]}"; do exec {socket}>&-; done
 }
 
-# Sends the longest datagram there can be, which is no call; sets rows until none has room, asks for each, and lists them.
+# Sends the longest datagram there can be, which is no call; sets rows until none has room, asks for each, lists them, and
+# calls a program of the loopback that does not answer, as often as calls are forwarded at a time.
 call_over_udp() {
     local socket i
     exec {socket}<> /dev/udp/127.0.0.1/$port
     dd if=/dev/zero bs=65507 count=1 >&"$socket" 2> /dev/null || return 1
+    words 1 0 2 100000 2 1 0 0 0 0 300001 1 17 2049 >&"$socket"
     for i in $(seq 1100); do words "$i" 0 2 100000 2 1 0 0 0 0 $((200000 + i)) 1 6 2049 >&"$socket"; done
     for i in $(seq 1100); do words "$i" 0 2 100000 2 3 0 0 0 0 $((200000 + i)) 1 6 0 >&"$socket"; done
     for i in 2 3 4; do words "$i" 0 2 100000 "$i" 4 0 0 0 0 >&"$socket"; done
+    for i in $(seq 17); do words "$i" 0 2 100000 4 10 0 0 0 0 300001 1 0 0 >&"$socket"; done
     timeout 5 head -c 28 <&"$socket" > /dev/null
     local status=$?
     exec {socket}>&-
     return $status
 }
 
-# One load, and what is resident after it.
-load() {
-    call_over_tcp
-    judge $? "1,024,000 calls over 64 connections are answered"
-    call_over_udp
-    judge $? "calls over UDP are answered"
-    echo "resident after it: $(resident) kB"
-}
-
 [ -x "$program" ] || { echo "no program $program: run 'make' first"; exit 1; }
 start_daemon "$work/daemon" --port $port || exit 1
-echo "resident after the start: $(resident) kB"
-load
-first=$(resident)
-load
-second=$(resident)
-[ "$first" -le 4096 ]
+before=$(resident)
+echo "resident after the start: $before kB"
+call_over_tcp
+judge $? "1,024,000 calls over 64 connections are answered"
+call_over_udp
+judge $? "calls over UDP are answered"
+after=$(resident)
+echo "resident after the load: $after kB"
+[ "$after" -le 4096 ]
 judge $? "at most 4,096 kB"
-[ "$second" -eq "$first" ]
-judge $? "the second load takes not a page more"
+[ "$after" -eq "$before" ]
+judge $? "the load takes not a page more"
 kill -0 "$daemon" 2> /dev/null
 judge $? "the daemon serves on"
 echo "$passed passed, $failed failed"

@@ -257,7 +257,7 @@ impl Connections {
     {
         let spare = make_spare(alloc, conns, meter)?;
         Ok(Connections {
-            slots: Pool::new(alloc, conns, meter)?,
+            slots: Pool::written(alloc, conns, || Slot::blank(alloc), meter)?,
             spare,
             given: 0,
             conns,

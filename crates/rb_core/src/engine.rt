@@ -28,7 +28,7 @@ const LONGEST_FORWARD: u64 = 8_840;
 /// How many keys the statistics may have.
 const MOST_KEYS: u64 = 192;
 
-/// The daemon's logic. All of its memory is reserved by `new`.
+/// The daemon's logic, over the pools and buffers that `new` makes.
 pub struct Core {
     limits: Limits,
     listener: Listener,

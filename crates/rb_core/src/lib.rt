@@ -29,7 +29,7 @@ pub use laws::{
 pub use message::{Message, read_message};
 pub use rb_forward::{FwdId, Unsent};
 pub use rb_proto::Listener;
-pub use rb_rpc::{Caller, Peer};
+pub use rb_rpc::Peer;
 pub use rb_xdr::NoMemory;
 pub use reading::kept_bytes_say_the_record;
 pub use run::replay;

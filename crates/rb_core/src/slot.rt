@@ -9,7 +9,8 @@ use crate::types::Outcome;
 use rb_proto::ListReply;
 use rb_registry::Registry;
 use rb_rpc::{Peer, Verdict};
-use rb_xdr::{Kept, Meter};
+use rb_xdr::{Kept, Meter, NoMemory};
+use std::alloc::Global;
 use std::mem;
 
 /// What the fixed part of a connection counts as, in bytes.
@@ -133,6 +134,22 @@ fn nothing() -> Received
 }
 
 impl Slot {
+    /// What is written to a place before any connection has it: its buffers have no memory.
+    pub fn blank(alloc: Global) -> Result<Slot, NoMemory> {
+        let meter = &mut Meter::new();
+        Ok(Slot {
+            number: 0,
+            peer: Peer {
+                host: [0; 4],
+                port: 0,
+            },
+            stage: Stage::Idle,
+            mark: 0,
+            buffer: Kept::new(alloc, 0, meter)?,
+            window: Kept::new(alloc, 0, meter)?,
+        })
+    }
+
     ghost use Rattle.std.specs.Prelude.{◌≡◌, ◌≤◌, ◌<◌, ◌+◌, ℕ, List, [], true, false, length, Some, IfSome};
     ghost use Rattle.rb_core.specs.State.{Connection};
     ghost use Rattle.rb_core.specs.Connections.{settled, giving, pending_in, longest_fragment};

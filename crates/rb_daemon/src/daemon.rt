@@ -17,7 +17,7 @@ use std::time::Duration;
 /// The most events that one wait shows. The system keeps the others for the next.
 const EVENTS: usize = 64;
 
-/// A core and the sockets that it is served by. All of its memory is taken by `new`.
+/// A core and the sockets that it is served by. What it takes of memory it takes in `new`; `tests/run-memory.sh` shows so.
 #[derive(Drop)]
 pub struct Daemon<'a, R: Clock> {
     clock: &'a R,
@@ -48,6 +48,7 @@ impl<'a, R: Clock> Daemon<'a, R> {
         let engine = engine_of(alloc, limits, Listener { host, port }, moment(rt))?;
         let poll = Poll::new(rt).map_err(DaemonFault::Socket)?;
         let sockets = Sockets::bind(rt, bind, port).map_err(DaemonFault::Socket)?;
+        sockets.write_stack();
         let events = Events::with_capacity(alloc, EVENTS).map_err(DaemonFault::Memory)?;
         let mut serving = Serving::new(alloc, engine, sockets, limits.conns).map_err(
             DaemonFault::Memory,

@@ -25,6 +25,9 @@ const MOST_FORWARDS: usize = 64;
 /// The most that can be due at one moment: forwarded calls, and connections, of which there are at most 256.
 const THINGS_DUE: usize = MOST_FORWARDS + 256;
 
+/// More bytes than a turn needs of the stack.
+const STACK: usize = 32_768;
+
 const LISTENER: Token = Token(usize::MAX);
 
 const CALLS: Token = Token(usize::MAX - 1);
@@ -48,6 +51,14 @@ impl Sockets {
             calls: UdpSocket::bind(net, SocketAddr::from((host, port)))?,
             forwards: UdpSocket::bind(net, SocketAddr::from((host, 0)))?,
         })
+    }
+
+    /// Writes to as much of the stack as a turn needs, so that its memory is the process's from here on: an array there is
+    /// handed to a receive. What is received before a call was forwarded is no reply to one. The array goes when this
+    /// returns, so it is not to be inlined.
+    #[inline(never)]
+    pub(crate) fn write_stack(&self) {
+        let _ = self.forwards.recv_from(&mut [0; STACK]);
     }
 }
 

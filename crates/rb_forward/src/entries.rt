@@ -8,9 +8,10 @@ ghost use Rattle.rb_xdr.specs.Places.{to_come};
 ghost use Rattle.rb_forward.specs.Costs.{find_cost};
 ghost use Rattle.rb_forward.specs.Table.{is_wanted_slot, wanted_slot};
 
-use crate::types::Forward;
+use crate::types::{Forward, Kind};
 use rb_rpc::{Caller, Peer};
-use rb_xdr::{Kept, Meter, Pool};
+use rb_xdr::{Kept, Meter, NoMemory, Pool};
+use std::alloc::Global;
 
 /// What is kept of an entry.
 #[derive(Drop)]
@@ -57,6 +58,32 @@ pub enum Wanted {
 }
 
 impl Slot {
+    /// What is written to a place before any entry has it: its buffer has no memory.
+    pub fn blank(alloc: Global) -> Result<Slot, NoMemory> {
+        let nobody = Peer {
+            host: [0; 4],
+            port: 0,
+        };
+        let forward = Forward {
+            caller: Caller::Udp(nobody),
+            xid: 0,
+            kind: Kind::Indirect,
+            target: nobody,
+            shown: nobody,
+            prog: 0,
+            vers: 0,
+            proc: 0,
+        };
+        Ok(Slot {
+            number: 0,
+            forward,
+            xid: 0,
+            deadline: 0,
+            sent: false,
+            call: Kept::new(alloc, 0, &mut Meter::new())?,
+        })
+    }
+
     ghost use Rattle.std.specs.Prelude.{◌≡◌};
     ghost use Rattle.rb_forward.specs.Forwards.{is_same_peer, is_connection};
     ghost use Rattle.rb_forward.specs.Table.{is_wanted_slot};

@@ -105,7 +105,7 @@ impl Forwards {
     {
         let spare = make_spare(alloc, cap as usize, meter)?;
         Ok(Forwards {
-            slots: Pool::new(alloc, cap as usize, meter)?,
+            slots: Pool::written(alloc, cap as usize, || Slot::blank(alloc), meter)?,
             spare,
             given: 0,
             first_xid,

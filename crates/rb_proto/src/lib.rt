@@ -34,7 +34,7 @@ pub use laws::{
     forwards_are_noted_once, forwards_go_to_rows, list_replies_go_on, requests_are_of_the_grammar,
 };
 pub use list_reply::{ListPart, ListReply};
-pub use listener::{Listener, own_rows};
+pub use listener::Listener;
 pub use mapping::Mapping;
 pub use netbuf::Netbuf;
 pub use procedure::{MappingProcedure, Procedure, RpcbProcedure, VoidProcedure};

@@ -37,7 +37,7 @@ fn own_row(listener: &Listener, vers: u32, netid: Netid) -> Row
 
 /// The rows of the portmapper itself: versions 4, 3 and 2, on tcp and then on udp, at the listener's port of every host.
 #[tactic(auto, unfolding(crate::specs::Callers::own_rows))]
-pub fn own_rows(listener: &Listener) -> [Row; 6]
+pub(crate) fn own_rows(listener: &Listener) -> [Row; 6]
     ensures rows { result ≡ own_rows listener.now }
     ensures own { AreOwn result }
 {

@@ -108,12 +108,7 @@ impl Registry {
         if cap < own_rows.len() {
             return Err(RegistryFault::BadLimits);
         }
-        let blank = Slot {
-            added: 0,
-            removed: None,
-            row: own_rows[0].clone().map_err(NoMemory::from)?,
-        };
-        let mut slots = Pool::written(alloc, cap, &blank, meter)?;
+        let mut slots = Pool::written(alloc, cap, || Slot::blank(&own_rows[0]), meter)?;
         if cap >= TOO_MANY {
             // Not reached: that much memory is refused.
             return Err(RegistryFault::NoMemory);

@@ -3,11 +3,12 @@ ghost use Rattle.std.specs.Prelude.{◌≡◌};
 ghost use Rattle.rb_registry.specs.Slots.{is_live_at, is_live_row, is_dropped};
 
 use crate::row::{Netid, Row};
+use rb_xdr::NoMemory;
 
 /// A row, the number of the change that added it (0 for an own row), and of the one that removed it.
 ///
 /// The numbers stand before the row and its long address, so that what a walk looks at is together.
-#[derive(Clone, Drop)]
+#[derive(Drop)]
 pub(crate) struct Slot {
     pub(crate) added: u64,
     pub(crate) removed: Option<u64>,
@@ -27,6 +28,15 @@ fn layout(slot: &Slot) {
 }
 
 impl Slot {
+    /// What is written to a place before any row has it: a copy of a row.
+    pub(crate) fn blank(row: &Row) -> Result<Slot, NoMemory> {
+        Ok(Slot {
+            added: 0,
+            removed: None,
+            row: row.clone().map_err(NoMemory::from)?,
+        })
+    }
+
     /// Whether the row was live after so many changes.
     #[tactic(auto, unfolding(crate::specs::Slots::is_live_at))]
     pub(crate) fn is_live_at(&self, stamp: u64) -> bool

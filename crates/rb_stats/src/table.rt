@@ -8,9 +8,8 @@ ghost use Rattle.rb_stats.specs.Statistics.{greatest_list};
 ghost use Rattle.rb_stats.specs.Table.{list_len, is_item, HasNone, IsTable, count_with, HasCounted, HasAdded};
 
 use crate::item::Item;
-use crate::key::{Key, Target, Version};
+use crate::key::{Key, Version};
 use crate::stat::{GREATEST_LIST, Lists, lists_of};
-use rb_registry::Netid;
 use rb_xdr::{Meter, NoMemory, Pool};
 use std::alloc::Global;
 use std::marker::Model;
@@ -130,17 +129,8 @@ impl Items {
         ensures tie { IfOk result (λ t. t.tie ≡ meter.old.tie) }
         ensures free { meter.new ≡ meter.old }
     {
-        let blank = Item::new(Key {
-            version: Version::Two,
-            target: Target {
-                prog: 0,
-                vers: 0,
-                netid: Netid::Tcp,
-            },
-            proc: None,
-        });
         Ok(Items {
-            items: Pool::written(alloc, GREATEST_TABLE, &blank, meter)?,
+            items: Pool::written(alloc, GREATEST_TABLE, || Ok(Item::default()), meter)?,
             len: 0,
         })
     }

@@ -3,7 +3,7 @@ use Rattle.std.proofs.Common.{◌≡◌, ℕ, ◌+◌, Bool, true, false, cond, 
 use Rattle.std.specs.Prelude.{option_map, IsSome}
 use Rattle.std.proofs.lemmas.Bool.{eqb-true}
 use Rattle.std.proofs.lemmas.Bool.Decides.{nat_tests}
-use Rattle.rb_xdr.specs.Pool.{value_at, without, first_key, key_after, HasDistinctKeys}
+use Rattle.rb_xdr.specs.Pool.{value_at, without, first_key, HasDistinctKeys}
 use Rattle.rb_xdr.specs.Places.{behind, count_to, to_come, count_passed}
 
 by_test : (P : Bool → Type 0) (b : Bool) → ((b ≡ true) → P true) → ((b ≡ false) → P false) → P b
@@ -30,13 +30,6 @@ module _ {T : Type 0} where
       by_test (λ t. t ≡ false) (eqb a b)
       (λ same. let e : a ≡ b = eqb-true a b same in let clash : value_at entries a ≡ Some v = rw e some_value in absurd cc)
       (λ differ. refl)
-
-  -- the key that comes next is that of the first entry behind
-  pub key_after-behind : (entries : List (ℕ × T)) (key : ℕ) → key_after entries key ≡ first_key (behind entries key)
-  key_after-behind [] key = refl
-  key_after-behind (e ∷ rest) key =
-      elim (eqb e.0 key) as (λ b. cond b (first_key rest) (key_after rest key) ≡ first_key (cond b rest (behind rest key)))
-      [ true ↦ refl | false ↦ key_after-behind rest key ]
 
   -- one entry further: the entry of this key is the next one at that place
   pub record Steps (entries : List (ℕ × T)) (place : Option ℕ) (key : ℕ) : Type 0 where

@@ -5,7 +5,7 @@ ghost use Rattle.std.specs.Borrow.{sem};
 ghost use Rattle.rb_xdr.specs.Meter.{Pays, PaysAtMost};
 ghost use Rattle.rb_xdr.specs.Places.{to_come, IsNextEntry, look_cost};
 ghost use Rattle.rb_xdr.specs.Search.{IsTestOf, key_of, search_cost};
-ghost use Rattle.rb_xdr.specs.Pool.{with_entry, value_at, without, first_key, key_after, HasDistinctKeys};
+ghost use Rattle.rb_xdr.specs.Pool.{with_entry, value_at, without, first_key, HasDistinctKeys};
 
 use crate::chain::Chain;
 use crate::full::Full;
@@ -62,24 +62,25 @@ impl<T> Pool<T> {
         Pool::around(alloc, Slab::with_capacity(alloc, cap)?, cap, meter)
     }
 
-    /// The same as `new`, in memory that copies of a value were written to and taken out of again: so all of its pages
-    /// are the process's from the start, and no later call is the first to touch one.
-    pub fn written(
+    /// The same as `new`, in memory that values which are made so were written to and taken out of again: so all of its
+    /// pages are the process's from the start, and no later call is the first to touch one.
+    pub fn written<F: Fn() -> Result<T, NoMemory>>(
         alloc: Global,
         cap: usize,
-        blank: &T,
+        blank: F,
         meter: &mut Meter,
     ) -> Result<Pool<T>, NoMemory>
     where
-        T: Clone + Drop,
+        T: Drop,
+        requires callable { F.IsAlwaysCallable blank }
         ensures empty { IfOk result (λ p. p.entries ≡ []) }
         ensures cap { IfOk result (λ p. p.cap ≡ cap) }
         ensures tie { IfOk result (λ p. p.tie ≡ meter.old.tie) }
         ensures free { meter.new ≡ meter.old }
     {
         let mut values = Slab::with_capacity(alloc, cap)?;
-        'copies: for _i in 0..cap {
-            values.insert_reserved(blank.clone()?);
+        'blanks: for _i in 0..cap {
+            values.insert_reserved(blank()?);
         }
         values.clear();
         Pool::around(alloc, values, cap, meter)
@@ -201,21 +202,6 @@ impl<T> Pool<T> {
     {
         meter.pay(1);
         self.keys.first()
-    }
-
-    /// The key that was inserted next after `key`, of those that are there.
-    pub fn next(&self, key: usize, meter: &mut Meter) -> Option<usize>
-        requires { meter.old.tie ≡ self.now.tie }
-        ensures key { result ≡ key_after self.now.entries key }
-        ensures distinct { HasDistinctKeys self.now.entries }
-        ensures cost { Pays meter.old meter.new 1 }
-    {
-        meter.pay(1);
-        if self.values.contains(key) {
-            self.keys.next(key)
-        } else {
-            None
-        }
     }
 
     /// The value inserted next after that of `place`, of those that are there, or the first at None,

@@ -28,11 +28,11 @@ own-preserved c =
       left = append_assoc c.own.yielded (c.in-Some.row ∷ []) _ ∙ ap (λ (rows : List Row). c.own.yielded ++ rows) (sym c.in-Some.ensures.steps) ∙ c.own.invariant.left;
       table = rw c.in-Ok.ensures.ok (record {
         distinct = distinct-push c.own.slots.entries c.in-Ok.field-0 (slot_of 0 c.in-Some.row) c.own.invariant.table.distinct c.in-Ok.ensures.fresh;
-        stamped = AreStamped-own c.in-Ok.field-0 c.in-Some.row c.own.slots.entries c.charge.ensures.addr c.own.invariant.table.stamped;
+        stamped = AreStamped-own c.in-Ok.field-0 c.in-Some.row c.own.slots.entries c.charge-held.ensures.addr c.own.invariant.table.stamped;
         made = c.own.invariant.table.made;
         few = c.own.invariant.table.few;
         within = room;
-        is_held = omega (arith, c.charge.ensures.charge, c.own.invariant.table.is_held, held-push c.in-Ok.field-0 0 c.in-Some.row c.own.slots.entries);
+        is_held = omega (arith, c.charge-held.ensures.charge, c.own.invariant.table.is_held, held-push c.in-Ok.field-0 0 c.in-Some.row c.own.slots.entries);
         are_dead = c.own.invariant.table.are_dead ∙ ap (λ (ns : List ℕ). length ns) (sym (removals-push c.in-Ok.field-0 0 c.in-Some.row c.own.slots.entries));
       });
       slots = rw c.in-Ok.ensures.ok
@@ -41,7 +41,7 @@ own-preserved c =
           ∙ sym (map-append (slot_of 0) c.own.yielded (c.in-Some.row ∷ []))
           ∙ sym (slots-new 0 (c.own.yielded ++ c.in-Some.row ∷ [])));
       dead = rw c.in-Ok.ensures.ok (removals-push c.in-Ok.field-0 0 c.in-Some.row c.own.slots.entries ∙ c.own.invariant.dead);
-      counted = rw c.in-Ok.ensures.ok (live_and_dead 0 _ (AreStamped-own c.in-Ok.field-0 c.in-Some.row c.own.slots.entries c.charge.ensures.addr c.own.invariant.table.stamped));
+      counted = rw c.in-Ok.ensures.ok (live_and_dead 0 _ (AreStamped-own c.in-Ok.field-0 c.in-Some.row c.own.slots.entries c.charge-held.ensures.addr c.own.invariant.table.stamped));
       count = rw c.in-Ok.ensures.ok (omega (arith, more, longer, c.own.invariant.count));
       rows = rw c.in-Ok.ensures.ok
           (ap (λ (es : List (ℕ × Row)). values_of es) (own_now c.in-Ok.field-0 c.in-Some.row c.own.slots.entries)
@@ -57,7 +57,7 @@ pub overflow_add-held : goal.overflow_add-held
 overflow_add-held c =
     let table = c.own.invariant.table in
     let most = held_bound 0 c.own.slots.entries table.stamped in
-    omega (arith, most, table.within, table.few, table.is_held, c.charge.ensures.charge, c.charge.ensures.addr)
+    omega (arith, most, table.within, table.few, table.is_held, c.charge-held.ensures.charge, c.charge-held.ensures.addr)
 
 pub returns-clause-made : goal.returns-clause-made
 returns-clause-made c =

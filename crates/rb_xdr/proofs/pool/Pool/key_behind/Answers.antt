@@ -1,8 +1,7 @@
 use Rattle.std.proofs.Common.{is_some, sym, ap, ◌∙◌}
 use Rattle.std.specs.Prelude.{IsSome}
 use Rattle.rb_xdr.specs.Pool.{Pool, value_at}
-use Rattle.rb_xdr.proofs.Walks.{key_after-behind}
-use Rattle.rb_xdr.proofs.Tables.{filled, value_at-table, key_after-entries_at, HasDistinctKeys-entries_at}
+use Rattle.rb_xdr.proofs.Tables.{filled, value_at-table, behind-entries_at, HasDistinctKeys-entries_at}
 use Rattle.rb_xdr.proofs.pool.Pool.key_behind.Goals as goal
 
 pub next-requires : goal.next-requires
@@ -18,7 +17,7 @@ returns-in-None-clause-distinct g c = rw (← c.self.view_is) (HasDistinctKeys-e
 
 pub returns-in-Some-clause-key : goal.returns-in-Some-clause-key
 returns-in-Some-clause-key g c =
-    rw (c.in-Some.is, ← key_after-behind c.args.self.now.entries c.in-Some.key, ← c.self.view_is, key_after-entries_at _ _ c.in-Some.key (filled _ _ _ _ _ c.self.invariant)) c.next.ensures
+    rw (c.in-Some.is, ← c.self.view_is, behind-entries_at _ _ c.in-Some.key (filled _ _ _ _ _ c.self.invariant)) c.next.ensures
 
 pub returns-in-Some-clause-distinct : goal.returns-in-Some-clause-distinct
 returns-in-Some-clause-distinct g c = rw (← c.self.view_is) (HasDistinctKeys-entries_at _ _ c.self.invariant.distinct)
