@@ -1,5 +1,5 @@
 //! What holds of the definitions.
-ghost use Rattle.rb_core.specs.Grammar.{MessagesAreOfTheGrammar};
+ghost use Rattle.rb_core.specs.Grammar.{AskedMessagesAreOfTheGrammar, RefusedMessagesAreOfTheGrammar, GarbageMessagesAreOfTheGrammar, NoCallsAreOfTheGrammar};
 ghost use Rattle.rb_core.specs.Laws.{RunsAppend, StatesAppend, RefusedEventsChangeNothing, NumbersNeverRecur, CutsDoNotMatter, NextLostIsLeast, BytesAreTakenExactly, RepliesAreGivenWhole, OwedRepliesStay, LedgersAreWellKept};
 ghost use Rattle.rb_core.specs.Closings.{ConnectionsCloseExactly};
 ghost use Rattle.rb_core.specs.ForwardLaws.{ConnectionsAwait, RepliesEndTheirOwn, DeadlinesEndOne, EventsChangeAtMostOne, EntriesEndOnce};
@@ -94,9 +94,15 @@ pub fn worked_forwards()
     ensures each_ends_in_turn { EachEndsInTurn }
 {}
 
-/// A message asks for a procedure exactly where its bytes begin with a call of it and its arguments.
+/// A message asks for a procedure exactly where its bytes begin with a call of it and its arguments. It is refused with each
+/// status exactly where they begin with what that status is for. Its arguments are garbage exactly where they begin with a
+/// call of a procedure that there is, and then with the arguments of no request. It is no call exactly where they begin with
+/// no call and with nothing that RPC refuses.
 pub fn messages_are_of_the_grammar()
-    ensures { MessagesAreOfTheGrammar }
+    ensures asked { AskedMessagesAreOfTheGrammar }
+    ensures refused { RefusedMessagesAreOfTheGrammar }
+    ensures garbage { GarbageMessagesAreOfTheGrammar }
+    ensures no_call { NoCallsAreOfTheGrammar }
 {}
 
 /// A run of two lists of events is the run of the first, and then of the second.

@@ -1,7 +1,7 @@
 pub mod Auths
 pub mod Calls
 mod Replies
-mod Refusals
+pub mod Refusals
 pub mod Markings
 pub mod Numbers
 pub mod SysBodies
