@@ -8,6 +8,8 @@ mod feed;
 #[cfg(test)]
 mod forward;
 #[cfg(test)]
+mod lines;
+#[cfg(test)]
 mod proto;
 #[cfg(test)]
 mod registry;

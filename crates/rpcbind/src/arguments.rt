@@ -1,14 +1,13 @@
 //! The words of the command line: two commands and their options.
 ghost use Rattle.std.specs.Prelude.{◌≡◌, ◌≤◌, ◌^◌, IfErr};
-ghost use Rattle.rpcbind.specs.Fields.{decimal};
+ghost use Rattle.rb_lines.specs.Fields.{decimal};
 
-use crate::fields::decimal;
 use crate::options::command;
-use crate::running::{Beginning, Fault, explain};
 use crate::service::Service;
 use clap::error::ErrorKind;
 use clap::{ArgMatches, Error};
 use rb_core::{Limits, Listener};
+use rb_lines::{Beginning, Fault, decimal, explain};
 use std::alloc::Global;
 use std::convert::AsStr;
 use std::fmt;

@@ -4,19 +4,11 @@
 ghost use Rattle.std.specs.Prelude.{◌≤◌, IfErr};
 
 mod arguments;
-mod fields;
-mod laws;
-mod lines;
 mod options;
-mod printing;
-mod running;
 mod service;
-#[cfg(test)]
-mod tests;
-mod worked;
 
 use arguments::Words;
-use running::{Beginning, Fault, explain, run_replay};
+use rb_lines::{Beginning, Fault, explain, run_replay};
 use service::run_service;
 use std::io::{BufWriter, ErrorKind};
 use std::process::ExitCode;

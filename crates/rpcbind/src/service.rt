@@ -1,9 +1,9 @@
 //! The command `serve`.
 ghost use Rattle.std.specs.Prelude.{◌≤◌};
 
-use crate::running::{Fault, explain};
 use rb_core::Limits;
 use rb_daemon::{Daemon, DaemonFault};
+use rb_lines::{Fault, explain};
 use std::io::Write;
 use std::net::{Ipv4Addr, Net};
 use std::rt::Clock;

@@ -1,0 +1,97 @@
+-- What an event line is spelled from: words, with one space between each two.
+use Rattle.std.specs.Prelude.{◌≡◌, ◌↔◌, ◌⊎◌, ℕ, ◌+◌, ◌*◌, ◌^◌, ◌<◌, List, [], ◌∷◌, ◌++◌, length, codes, Some, All}
+use Rattle.std.specs.Char.{digit_value}
+use Rattle.std.specs.Str.Parse.{IsNumeral, digits_value}
+use Rattle.rb_rpc.specs.declared.peer.Peer.{Peer}
+use Rattle.rb_rpc.specs.Peers.{peer_text}
+use Rattle.rb_core.specs.Step.{Event}
+use Rattle.rb_core.specs.Step.Event.{Datagram, Open, Bytes, Pending, Gave, Closed, NextLost, Unsent, Sent, Forward, Expire}
+use Rattle.rb_lines.specs.Fields.{peer}
+use Rattle.rb_lines.specs.Lines.{line}
+use Rattle.rb_lines.specs.Lines.Line.{Skipped, Happens, Bad}
+
+-- ---- the words
+
+abbrev pub Spells : List ℕ → List ℕ → Type 0
+Spells word text = text ≡ word
+
+-- a number below 2^64 in decimal digits, leading zeros allowed
+pub record SpellsNumber (n : ℕ) (text : List ℕ) : Type 0 where
+  pub digits : IsNumeral 10 text
+  pub value : digits_value 10 text ≡ n
+  pub fits : n < 2 ^ 64
+
+-- `h1.h2.h3.h4:port` in decimal without leading zeros, each h below 256
+pub record SpellsPeer (p : Peer) (text : List ℕ) : Type 0 where
+  pub count : length p.host ≡ 4
+  pub host_fits : All (λ h. h < 256) p.host
+  pub port_fits : p.port < 65536
+  pub text_is : text ≡ peer_text p
+
+-- two hexadecimal digits of either case, the high four bits first
+pub record SpellsByte (byte high low : ℕ) : Type 0 where
+  pub high_digit : digit_value high < 16
+  pub low_digit : digit_value low < 16
+  pub value : digit_value high * 16 + digit_value low ≡ byte
+
+abbrev pub SpellsBytes : List ℕ → List ℕ → Type 0
+SpellsBytes [] [] = Unit {0}
+SpellsBytes (byte ∷ bytes) (high ∷ low ∷ text) = SpellsByte byte high low × SpellsBytes bytes text
+SpellsBytes _ _ = ⊥
+
+-- two digits for each byte, or `-` for no bytes
+abbrev pub SpellsHex : List ℕ → List ℕ → Type 0
+SpellsHex [] text = text ≡ codes "-"
+SpellsHex (byte ∷ bytes) text = SpellsBytes (byte ∷ bytes) text
+
+-- ---- the lines
+
+-- a text of the one kind, a space, and a text of the other
+pub record Spaced (Front Back : List ℕ → Type 0) (text : List ℕ) : Type 0 where
+  pub front : List ℕ
+  pub back : List ℕ
+  pub in_front : Front front
+  pub behind : Back back
+  pub text_is : text ≡ front ++ 32 ∷ back
+
+infixr 5 ◌␣◌
+abbrev pub ◌␣◌ : (List ℕ → Type 0) → (List ℕ → Type 0) → List ℕ → Type 0
+Front ␣ Back = Spaced Front Back
+
+abbrev pub SpellsEvent : Event → List ℕ → Type 0
+SpellsEvent (Open now from) = Spells (codes "open") ␣ SpellsNumber now ␣ SpellsPeer from
+SpellsEvent (Bytes now id bytes) = Spells (codes "bytes") ␣ SpellsNumber now ␣ SpellsNumber id ␣ SpellsHex bytes
+SpellsEvent (Pending id) = Spells (codes "pending") ␣ SpellsNumber id
+SpellsEvent (Gave now id n) = Spells (codes "gave") ␣ SpellsNumber now ␣ SpellsNumber id ␣ SpellsNumber n
+SpellsEvent (Closed id) = Spells (codes "closed") ␣ SpellsNumber id
+SpellsEvent NextLost = Spells (codes "lost")
+SpellsEvent (Datagram now from bytes) =
+    Spells (codes "datagram") ␣ SpellsNumber now ␣ SpellsPeer from ␣ SpellsHex bytes
+SpellsEvent Unsent = Spells (codes "unsent")
+SpellsEvent (Sent id) = Spells (codes "sent") ␣ SpellsNumber id
+SpellsEvent (Forward now from bytes) =
+    Spells (codes "forward") ␣ SpellsNumber now ␣ SpellsPeer from ␣ SpellsHex bytes
+SpellsEvent (Expire now) = Spells (codes "expire") ␣ SpellsNumber now
+
+-- an empty line, or one that begins with `#`
+abbrev pub SaysNothing : List ℕ → Type 0
+SaysNothing text = (text ≡ []) ⊎ ((rest : List ℕ) × (text ≡ codes "#" ++ rest))
+
+-- ---- the laws
+
+-- A line is this event exactly where it is spelled so.
+abbrev pub EventsAreSpelled : Type 0
+EventsAreSpelled = (text : List ℕ) (event : Event) → (line text ≡ Happens event) ↔ SpellsEvent event text
+
+abbrev pub SkippedSayNothing : Type 0
+SkippedSayNothing = (text : List ℕ) → (line text ≡ Skipped) ↔ SaysNothing text
+
+-- A line is bad exactly where it says something, and no event.
+abbrev pub BadSpellNothing : Type 0
+BadSpellNothing =
+    (text : List ℕ)
+    → (line text ≡ Bad) ↔ ((SaysNothing text → ⊥) × ((event : Event) → SpellsEvent event text → ⊥))
+
+-- A peer's text is read as this peer, and what is read as it is its text.
+abbrev pub PeersAreSpelled : Type 0
+PeersAreSpelled = (text : List ℕ) (p : Peer) → (peer text ≡ Some p) ↔ SpellsPeer p text

@@ -1,0 +1,158 @@
+-- Event lines: what a text of them says.
+use Rattle.std.specs.Prelude.{◌≡◌, ℕ, ◌+◌, ◌^◌, ◌==◌, nat_lt, ◌||◌, if◌then◌else◌, List, [], ◌∷◌, ◌++◌, length, slice_index, Option, Some, None, Result, Ok, Err, codes}
+use Rattle.std.specs.List.{slice_split}
+use Rattle.std.specs.Option.{option_map}
+use Rattle.std.specs.Str.{bytes_eq}
+use Rattle.rb_rpc.specs.declared.peer.Peer.{Peer}
+use Rattle.rb_core.specs.Step.{Event}
+use Rattle.rb_core.specs.Step.Event.{Open, Bytes, Pending, Gave, Closed, NextLost, Datagram, Unsent, Sent, Forward, Expire}
+use Rattle.rb_core.specs.declared.events.Event as event_type
+use Rattle.rb_core.specs.Runs.{event_of, events_of}
+use Rattle.rb_lines.specs.declared.lines.DatagramFields as fields_type
+use Rattle.rb_lines.specs.declared.lines.Line as line_type
+use Rattle.rb_lines.specs.declared.lines.Line.TheVariants as lines
+use Rattle.rb_lines.specs.declared.lines.ReadFault.{ReadFault}
+use Rattle.rb_lines.specs.declared.lines.ReadFault.TheVariants.{BadLine, TooLong, NoMemory}
+use Rattle.rb_lines.specs.Fields.{◌>>=◌, cut, decimal, peer, hex_bytes}
+
+-- what follows the words `datagram` and `forward`: a moment, a peer and bytes, of which the event is made
+unfoldable pub datagram_line : (ℕ → Peer → List ℕ → Event) → List ℕ → Option Event
+datagram_line make text = do
+  first ← cut 32 text
+  second ← cut 32 first.1
+  now ← decimal (2 ^ 64) first.0
+  from ← peer second.0
+  bytes ← hex_bytes second.1
+  Some (make now from bytes)
+
+-- what follows the word `open`: a moment and a peer
+unfoldable pub open_line : List ℕ → Option Event
+open_line text = do
+  parts ← cut 32 text
+  now ← decimal (2 ^ 64) parts.0
+  from ← peer parts.1
+  Some (Open now from)
+
+-- what follows the word `bytes`: a moment, a connection's number and bytes
+unfoldable pub bytes_line : List ℕ → Option Event
+bytes_line text = do
+  first ← cut 32 text
+  second ← cut 32 first.1
+  now ← decimal (2 ^ 64) first.0
+  id ← decimal (2 ^ 64) second.0
+  bytes ← hex_bytes second.1
+  Some (Bytes now id bytes)
+
+-- what follows the word `gave`: a moment, a connection's number and how many bytes
+unfoldable pub gave_line : List ℕ → Option Event
+gave_line text = do
+  first ← cut 32 text
+  second ← cut 32 first.1
+  now ← decimal (2 ^ 64) first.0
+  id ← decimal (2 ^ 64) second.0
+  n ← decimal (2 ^ 64) second.1
+  Some (Gave now id n)
+
+-- the event of a line of more than one word: the first, and what stands behind the space after it
+unfoldable pub event : List ℕ → List ℕ → Option Event
+event word rest =
+    if bytes_eq word (codes "datagram") then datagram_line Datagram rest
+    else if bytes_eq word (codes "open") then open_line rest
+    else if bytes_eq word (codes "bytes") then bytes_line rest
+    else if bytes_eq word (codes "pending") then option_map Pending (decimal (2 ^ 64) rest)
+    else if bytes_eq word (codes "gave") then gave_line rest
+    else if bytes_eq word (codes "closed") then option_map Closed (decimal (2 ^ 64) rest)
+    else if bytes_eq word (codes "sent") then option_map Sent (decimal (2 ^ 64) rest)
+    else if bytes_eq word (codes "forward") then datagram_line Forward rest
+    else if bytes_eq word (codes "expire") then option_map Expire (decimal (2 ^ 64) rest)
+    else None
+
+-- the event of a line of one word
+unfoldable pub lone_event : List ℕ → Option Event
+lone_event word =
+    if bytes_eq word (codes "lost") then Some NextLost
+    else if bytes_eq word (codes "unsent") then Some Unsent
+    else None
+
+abbrev pub event_of_parts : List ℕ → Option (List ℕ × List ℕ) → Option Event
+event_of_parts text None = lone_event text
+event_of_parts text (Some parts) = event parts.0 parts.1
+
+pub data Line : Type 0 where
+  Skipped : Line
+  Happens : Event → Line
+  Bad : Line
+
+abbrev pub happens_or_bad : Option Event → Line
+happens_or_bad (Some event) = Happens event
+happens_or_bad None = Bad
+
+-- an empty line, and one that begins with `#`, says nothing
+unfoldable pub line : List ℕ → Line
+line text =
+    if length text == 0 || slice_index text 0 == 35 then Skipped
+    else happens_or_bad (event_of_parts text (cut 32 text))
+
+-- what the line of this number adds to what the lines after it give
+abbrev pub onto : ℕ → Line → Result (List Event) ReadFault → Result (List Event) ReadFault
+onto k Skipped rest = rest
+onto k Bad rest = Err (BadLine k)
+onto k (Happens event) (Ok events) = Ok (event ∷ events)
+onto k (Happens event) (Err fault) = Err fault
+
+-- the events of the lines, the first of which has this number, or the number of the first bad line
+unfoldable pub events_from : ℕ → List (List ℕ) → Result (List Event) ReadFault
+events_from k [] = Ok []
+events_from k (text ∷ texts) = onto k (line text) (events_from (k + 1) texts)
+
+-- the lines of a text: a line feed ends each but the last
+unfoldable pub lines_of : List ℕ → List (List ℕ)
+lines_of text = slice_split (λ b. b == 10) text
+
+-- in bytes
+unfoldable pub longest_input : ℕ
+longest_input = 16777216
+
+-- the events of a text
+unfoldable pub read : List ℕ → Result (List Event) ReadFault
+read text = if nat_lt longest_input (length text) then Err TooLong else events_from 1 (lines_of text)
+
+-- ---- as the code has them
+
+abbrev pub line_of : line_type.Line → Line
+line_of lines.Skipped = Skipped
+line_of (lines.Happens event) = Happens (event_of event)
+line_of lines.Bad = Bad
+
+-- The fields are those of which any such event is made.
+abbrev pub AreFieldsOf : List ℕ → Option fields_type.DatagramFields → Type 0
+AreFieldsOf text read =
+    (make : ℕ → Peer → List ℕ → Event)
+    → option_map (λ f. make f.now f.from f.bytes.items) read ≡ datagram_line make text
+
+-- What a function returned is what reading gives, unless memory ran out.
+abbrev pub Fails : ReadFault → Result (List Event) ReadFault → Type 0
+Fails NoMemory given = Unit {0}
+Fails TooLong given = given ≡ Err TooLong
+Fails (BadLine k) given = given ≡ Err (BadLine k)
+
+abbrev pub Gives : {X : Type 0} → (X → List Event) → Result X ReadFault → Result (List Event) ReadFault → Type 0
+Gives events (Ok x) given = given ≡ Ok (events x)
+Gives events (Err fault) given = Fails fault given
+
+-- the events that were read, in front of those that are left
+abbrev pub with_front : List Event → Result (List Event) ReadFault → Result (List Event) ReadFault
+with_front front (Ok events) = Ok (front ++ events)
+with_front front (Err fault) = Err fault
+
+-- The events grew by what the line of this number says.
+abbrev pub Adds : ℕ → Line → List event_type.Event → List event_type.Event → Type 0
+Adds k said old new =
+    (rest : Result (List Event) ReadFault)
+    → with_front (events_of new) rest ≡ with_front (events_of old) (onto k said rest)
+
+-- what may be wrong with the line of this number
+abbrev pub IsFaultOf : ℕ → Line → ReadFault → Type 0
+IsFaultOf k said NoMemory = Unit {0}
+IsFaultOf k said TooLong = ⊥
+IsFaultOf k said (BadLine n) = (said ≡ Bad) × (n ≡ k)

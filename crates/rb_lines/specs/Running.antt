@@ -1,0 +1,95 @@
+-- What `rpcbind replay` does with its input.
+use Rattle.std.specs.Prelude.{◌≡◌, ℕ, ◌+◌, not, IsTrue, List, take, Option, IfSome, Result, Ok, Err}
+use Rattle.std.specs.Io.Buffered.{writer_contents}
+use Rattle.std.specs.declared.io.buffered.BufWriter.{BufWriter}
+use Rattle.rb_core.specs.State.{State, are_good, opening}
+use Rattle.rb_core.specs.Step.{Event, Output, run}
+use Rattle.rb_core.specs.declared.events.Event as event_type
+use Rattle.rb_core.specs.Runs.{events_of}
+use Rattle.rb_lines.specs.declared.lines.ReadFault.{ReadFault}
+use Rattle.rb_lines.specs.declared.lines.ReadFault.TheVariants as reading
+use Rattle.rb_lines.specs.declared.running.Beginning.{Beginning}
+use Rattle.rb_lines.specs.declared.running.Fault.{Fault}
+use Rattle.rb_lines.specs.declared.running.Fault.TheVariants.{NotText, Lines, NoMemory, BadLimits, SocketFailed, ReadFailed, WriteFailed}
+use Rattle.rb_lines.specs.Lines.{longest_input, read, Fails}
+use Rattle.rb_lines.specs.Printing.{report_of, Writes}
+
+-- the core with which a replay begins
+abbrev pub first : Beginning → State
+first beginning =
+    opening beginning.limits beginning.listener beginning.first_xid beginning.moment
+
+-- what the events of a replay give
+abbrev pub run_of : Beginning → List event_type.Event → List Output
+run_of beginning events = run (first beginning) (events_of events)
+
+-- the exit status
+abbrev pub status_of : Fault → ℕ
+status_of NotText = 2
+status_of (Lines (reading.BadLine k)) = 2
+status_of (Lines reading.TooLong) = 2
+status_of (Lines reading.NoMemory) = 1
+status_of NoMemory = 1
+status_of BadLimits = 1
+status_of SocketFailed = 1
+status_of ReadFailed = 1
+status_of WriteFailed = 1
+
+-- the text is event lines
+abbrev pub IsRead : Result (List Event) ReadFault → Type 0
+IsRead (Ok events) = Unit {0}
+IsRead (Err fault) = ⊥
+
+-- the text is no event lines
+abbrev pub IsRefused : Result (List Event) ReadFault → Type 0
+IsRefused (Ok events) = ⊥
+IsRefused (Err fault) = Unit {0}
+
+-- How the making of the core, or the run, may fail: by limits out of their ranges, and else by want of memory.
+abbrev pub IsCoreFault : Beginning → Fault → Type 0
+IsCoreFault beginning BadLimits = IsTrue (not (are_good beginning.limits))
+IsCoreFault beginning NoMemory = IsTrue (are_good beginning.limits)
+IsCoreFault beginning other = ⊥
+
+-- How a replay of a text that reads as this may fail: by what is wrong with the text, and where nothing is, by limits
+-- out of their ranges, by want of memory or by the writer.
+abbrev pub IsFaultOf : Beginning → Fault → Result (List Event) ReadFault → Type 0
+IsFaultOf beginning NotText given = ⊥
+IsFaultOf beginning (Lines fault) given = Fails fault given
+IsFaultOf beginning NoMemory given = IsRead given × IsCoreFault beginning NoMemory
+IsFaultOf beginning BadLimits given = IsRead given × IsCoreFault beginning BadLimits
+IsFaultOf beginning SocketFailed given = ⊥
+IsFaultOf beginning ReadFailed given = ⊥
+IsFaultOf beginning WriteFailed given = IsRead given × IsTrue (are_good beginning.limits)
+
+-- The same as `Writes`, with what is in the writer's buffer.
+abbrev pub BufWrites : {W A : Type 0} → (W → Option (List ℕ)) → BufWriter W A → BufWriter W A
+    → List ℕ → Type 0
+BufWrites contents old new text = Writes (writer_contents contents) old new text
+
+-- The printed outputs of the run of these events were written, and nothing else.
+abbrev pub Prints : {W A : Type 0} → Beginning → (W → Option (List ℕ))
+    → BufWriter W A → BufWriter W A → Result (List Event) ReadFault → Type 0
+Prints beginning contents old new (Ok events) =
+    BufWrites contents old new (report_of (run (first beginning) events))
+Prints beginning contents old new (Err fault) = ⊥
+
+-- Where the bytes that a reader has left are known, this holds of what they read as.
+abbrev pub Reads : {R : Type 0} → (R → Option (List ℕ)) → R
+    → (Result (List Event) ReadFault → Type 0) → Type 0
+Reads remaining reader Holds = IfSome (remaining reader) (λ input. Holds (read input))
+
+-- Where they are known, the printed outputs of the run of their events were written, and nothing else.
+abbrev pub Replays : {R W A : Type 0} → Beginning → (R → Option (List ℕ)) → R
+    → (W → Option (List ℕ)) → BufWriter W A → BufWriter W A → Type 0
+Replays beginning remaining reader contents old new =
+    Reads remaining reader (Prints beginning contents old new)
+
+-- What was read of an input is all of it, or enough to show that it is too long.
+abbrev pub IsEnoughOf : Option (List ℕ) → List ℕ → Type 0
+IsEnoughOf left text = IfSome left (λ input. text ≡ take (longest_input + 1) input)
+
+-- Where nothing was run, the fault is what is wrong with the input.
+abbrev pub Refuses : {R : Type 0} → Beginning → (R → Option (List ℕ)) → R → Fault → Type 0
+Refuses beginning remaining reader fault =
+    status_of fault ≡ 2 → Reads remaining reader (IsFaultOf beginning fault)

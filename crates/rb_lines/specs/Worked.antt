@@ -1,0 +1,139 @@
+-- Worked examples: what texts of event lines say, and what is printed for them.
+use Rattle.std.specs.Prelude.{◌≡◌, ◌^◌, ◌-◌, List, ℕ, [], ◌∷◌, ◌++◌, codes, Some, None, Ok, Err}
+use Rattle.std.specs.List.{flat_map}
+use Rattle.std.specs.Int.{w32, to_be_bytes}
+use Rattle.rb_rpc.specs.declared.peer.Peer.{Peer}
+use Rattle.rb_core.specs.Step.Event.{Datagram, Open, Bytes, Pending, Gave, Closed, NextLost, Unsent, Sent, Forward, Expire}
+use Rattle.rb_core.specs.declared.types.CoreFault.TheVariants.{Full, Spent, Gone}
+use Rattle.rb_core.specs.Step.Output.{Replied, Silent, Opened, Refused, Took, TookAndClosed, IsPending, Done, TooMuch, LostIs, Forwarded, UnsentIs, Ignored, Nothing, Ready, RepliedTo}
+use Rattle.rb_lines.specs.declared.lines.ReadFault.TheVariants.{BadLine}
+use Rattle.rb_lines.specs.Fields.{decimal, peer}
+use Rattle.rb_lines.specs.Lines.{read}
+use Rattle.rb_lines.specs.Printing.{report_of}
+
+-- numbers, each as four bytes
+abbrev pub words : List ℕ → List ℕ
+words numbers = flat_map (to_be_bytes w32) numbers
+
+-- a line, and the line feed that ends it
+abbrev pub ended : List ℕ → List ℕ
+ended text = text ++ 10 ∷ []
+
+abbrev pub here : Peer
+here = record { host = 127 ∷ 0 ∷ 0 ∷ 1 ∷ []; port = 900 }
+
+-- A SET, the port of its row, and the same SET again, as three lines and as three events.
+abbrev pub StoredRunIsRead : Type 0
+StoredRunIsRead =
+    read
+    (ended (codes "datagram 0 127.0.0.1:900 000000030000000000000002000186a000000002000000010000000000000000000000000000000000030d41000000010000000600000801")
+    ++ ended (codes "datagram 0 127.0.0.1:900 000000040000000000000002000186a000000002000000030000000000000000000000000000000000030d41000000010000000600000000")
+    ++ ended (codes "datagram 0 127.0.0.1:900 000000050000000000000002000186a000000002000000010000000000000000000000000000000000030d41000000010000000600000801"))
+    ≡ Ok
+    (Datagram 0 here (words (3 ∷ 0 ∷ 2 ∷ 100000 ∷ 2 ∷ 1 ∷ 0 ∷ 0 ∷ 0 ∷ 0 ∷ 200001 ∷ 1 ∷ 6 ∷ 2049 ∷ []))
+    ∷ Datagram 0 here (words (4 ∷ 0 ∷ 2 ∷ 100000 ∷ 2 ∷ 3 ∷ 0 ∷ 0 ∷ 0 ∷ 0 ∷ 200001 ∷ 1 ∷ 6 ∷ 0 ∷ []))
+    ∷ Datagram 0 here (words (5 ∷ 0 ∷ 2 ∷ 100000 ∷ 2 ∷ 1 ∷ 0 ∷ 0 ∷ 0 ∷ 0 ∷ 200001 ∷ 1 ∷ 6 ∷ 2049 ∷ []))
+    ∷ [])
+
+-- Its replies TRUE, port 2049 and FALSE, and what is printed for them.
+abbrev pub StoredRunIsPrinted : Type 0
+StoredRunIsPrinted =
+    report_of
+    (Replied (words (3 ∷ 1 ∷ 0 ∷ 0 ∷ 0 ∷ 0 ∷ 1 ∷ []))
+    ∷ Replied (words (4 ∷ 1 ∷ 0 ∷ 0 ∷ 0 ∷ 0 ∷ 2049 ∷ []))
+    ∷ Replied (words (5 ∷ 1 ∷ 0 ∷ 0 ∷ 0 ∷ 0 ∷ 0 ∷ []))
+    ∷ Silent
+    ∷ [])
+    ≡ ended (codes "reply 00000003000000010000000000000000000000000000000000000001")
+    ++ ended (codes "reply 00000004000000010000000000000000000000000000000000000801")
+    ++ ended (codes "reply 00000005000000010000000000000000000000000000000000000000")
+    ++ ended (codes "silent")
+
+abbrev pub BadEventLine : Type 0
+BadEventLine = read (codes "datagram 0 127.0.0.1:900 0g") ≡ Err (BadLine 1)
+
+-- Comments and empty lines say nothing and count. The last line may lack its line feed. A carriage return,
+-- a space too many and a space at the end make a bad line.
+abbrev pub LinesAreCounted : Type 0
+LinesAreCounted =
+    (read (ended (codes "# a" ++ 9 ∷ 13 ∷ []) ++ ended [] ++ codes "datagram 007 127.0.0.1:900 Af") ≡ Ok (Datagram 7 here (175 ∷ []) ∷ []))
+    × (read (ended (codes "#") ++ ended [] ++ codes "datagram 7 127.0.0.1:900 -" ++ 13 ∷ []) ≡ Err (BadLine 3))
+    × (read (ended (codes "datagram 7 127.0.0.1:900 -") ++ ended (codes "datagram 7  127.0.0.1:900 -")) ≡ Err (BadLine 2))
+    × (read (codes "datagram 7 127.0.0.1:900 00 ") ≡ Err (BadLine 1))
+    × (read (codes " datagram 7 127.0.0.1:900 00") ≡ Err (BadLine 1))
+    × (read (codes "datagram 7 127.0.0.1:900 ") ≡ Err (BadLine 1))
+    × (read (codes "datagram 7 127.0.0.1:900 000") ≡ Err (BadLine 1))
+    × (read (codes "datagrams 7 127.0.0.1:900 00") ≡ Err (BadLine 1))
+    × (read [] ≡ Ok [])
+
+abbrev pub NumbersOfLines : Type 0
+NumbersOfLines =
+    (decimal (2 ^ 64) (codes "18446744073709551615") ≡ Some (2 ^ 64 - 1))
+    × (decimal (2 ^ 64) (codes "18446744073709551616") ≡ None)
+    × (decimal (2 ^ 64) (codes "000000000000000000000000000018446744073709551615") ≡ Some (2 ^ 64 - 1))
+    × (decimal (2 ^ 64) (codes "+1") ≡ None)
+    × (decimal (2 ^ 64) [] ≡ None)
+
+abbrev pub PeersOfLines : Type 0
+PeersOfLines =
+    (peer (codes "127.0.0.1:900") ≡ Some here)
+    × (peer (codes "255.255.255.255:65535") ≡ Some (record { host = 255 ∷ 255 ∷ 255 ∷ 255 ∷ []; port = 65535 }))
+    × (peer (codes "0.0.0.0:0") ≡ Some (record { host = 0 ∷ 0 ∷ 0 ∷ 0 ∷ []; port = 0 }))
+    × (peer (codes "127.0.0.01:900") ≡ None)
+    × (peer (codes "127.0.0.1:0900") ≡ None)
+    × (peer (codes "127.0.0.256:900") ≡ None)
+    × (peer (codes "127.0.0.1:65536") ≡ None)
+    × (peer (codes "127.0.0:900") ≡ None)
+    × (peer (codes "127.0.0.1.1:900") ≡ None)
+    × (peer (codes "127.0.0.1") ≡ None)
+
+-- The lines of connections.
+abbrev pub ConnectionsAreRead : Type 0
+ConnectionsAreRead =
+    (read
+    (ended (codes "open 0005 127.0.0.1:900") ++ ended (codes "bytes 6 1 80000028") ++ ended (codes "bytes 0 7 -")
+    ++ ended (codes "pending 01") ++ ended (codes "gave 0 1 29") ++ ended (codes "closed 18446744073709551615") ++ codes "lost")
+    ≡ Ok
+    (Open 5 here ∷ Bytes 6 1 (128 ∷ 0 ∷ 0 ∷ 40 ∷ []) ∷ Bytes 0 7 [] ∷ Pending 1 ∷ Gave 0 1 29 ∷ Closed (2 ^ 64 - 1) ∷ NextLost ∷ []))
+    × (read (codes "open 5") ≡ Err (BadLine 1))
+    × (read (codes "open 5 127.0.0.1:900 ") ≡ Err (BadLine 1))
+    × (read (codes "bytes 0 7") ≡ Err (BadLine 1))
+    × (read (codes "bytes 0 7 ") ≡ Err (BadLine 1))
+    × (read (codes "pending") ≡ Err (BadLine 1))
+    × (read (codes "pending +1") ≡ Err (BadLine 1))
+    × (read (codes "gave 0 1") ≡ Err (BadLine 1))
+    × (read (codes "gave 0 1 18446744073709551616") ≡ Err (BadLine 1))
+    × (read (codes "closed 1 ") ≡ Err (BadLine 1))
+    × (read (codes "lost ") ≡ Err (BadLine 1))
+
+abbrev pub ConnectionsArePrinted : Type 0
+ConnectionsArePrinted =
+    report_of
+    (Opened 1 ∷ Refused Full ∷ Refused Spent ∷ Refused Gone ∷ Took 360 ∷ TookAndClosed 12 ∷ IsPending (128 ∷ 0 ∷ 0 ∷ 24 ∷ []) ∷ IsPending [] ∷ Done ∷ TooMuch ∷ LostIs None ∷ LostIs (Some 10) ∷ [])
+    ≡ ended (codes "open 1") ++ ended (codes "full") ++ ended (codes "spent") ++ ended (codes "gone") ++ ended (codes "took 360")
+    ++ ended (codes "took 12 closed") ++ ended (codes "pending 80000018") ++ ended (codes "pending -") ++ ended (codes "ok")
+    ++ ended (codes "toomuch") ++ ended (codes "lost -") ++ ended (codes "lost 10")
+
+-- The lines of forwarded calls.
+abbrev pub ForwardsAreRead : Type 0
+ForwardsAreRead =
+    (read
+    (ended (codes "unsent") ++ ended (codes "sent 01") ++ ended (codes "forward 2000 127.0.0.1:900 000003e8")
+    ++ ended (codes "forward 2000 127.0.0.1:900 -") ++ codes "expire 6000")
+    ≡ Ok
+    (Unsent ∷ Sent 1 ∷ Forward 2000 here (0 ∷ 0 ∷ 3 ∷ 232 ∷ []) ∷ Forward 2000 here [] ∷ Expire 6000 ∷ []))
+    × (read (codes "unsent ") ≡ Err (BadLine 1))
+    × (read (codes "sent") ≡ Err (BadLine 1))
+    × (read (codes "sent 18446744073709551616") ≡ Err (BadLine 1))
+    × (read (codes "forward 2000 127.0.0.1:900") ≡ Err (BadLine 1))
+    × (read (codes "expire -1") ≡ Err (BadLine 1))
+
+abbrev pub ForwardsArePrinted : Type 0
+ForwardsArePrinted =
+    report_of
+    (Forwarded ∷ UnsentIs None
+    ∷ UnsentIs (Some (record { number = 1; target = here; call = 0 ∷ 0 ∷ 3 ∷ 232 ∷ [] }))
+    ∷ Ignored ∷ Nothing ∷ Ready 7 ∷ RepliedTo here (0 ∷ 0 ∷ 0 ∷ 15 ∷ []) ∷ [])
+    ≡ ended (codes "forwarded") ++ ended (codes "unsent -") ++ ended (codes "unsent 1 127.0.0.1:900 000003e8")
+    ++ ended (codes "ignored") ++ ended (codes "nothing") ++ ended (codes "ready 7")
+    ++ ended (codes "datagram 127.0.0.1:900 0000000f")

@@ -1,0 +1,20 @@
+//! What holds of the definitions.
+ghost use Rattle.rb_lines.specs.LineGrammar.{EventsAreSpelled, SkippedSayNothing, BadSpellNothing, PeersAreSpelled};
+ghost use Rattle.rb_lines.specs.LineLaws.{ReadsTheEvents, StopsAtTheFirstBadLine, RefusesLongText};
+
+/// A text that is short enough reads as the events of its lines where none is bad, and is refused at its first bad
+/// line else.
+pub fn text_reads_as_its_lines()
+    ensures events { ReadsTheEvents }
+    ensures bad_line { StopsAtTheFirstBadLine }
+    ensures too_long { RefusesLongText }
+{}
+
+/// A line is an event exactly where it is spelled as one, is skipped exactly where it says nothing, and is bad else;
+/// a peer's text and its reading are inverse.
+pub fn lines_are_of_the_grammar()
+    ensures events { EventsAreSpelled }
+    ensures skipped { SkippedSayNothing }
+    ensures bad { BadSpellNothing }
+    ensures peers { PeersAreSpelled }
+{}

@@ -1,0 +1,15 @@
+//! Event lines: reading them, running their events, and printing what each gives.
+#![tactic(auto)]
+
+mod fields;
+mod laws;
+mod lines;
+mod printing;
+mod running;
+mod worked;
+
+pub use fields::decimal;
+pub use laws::{lines_are_of_the_grammar, text_reads_as_its_lines};
+pub use lines::{ReadFault, read_events};
+pub use running::{Beginning, Fault, explain, run_replay};
+pub use worked::worked_examples;

@@ -1,0 +1,229 @@
+//! Event lines, one event in each.
+ghost use Rattle.std.specs.Prelude.{◌≡◌, ◌≤◌, IfOk, IfErr, OnOk};
+ghost use Rattle.std.specs.Option.{option_map};
+ghost use Rattle.rb_core.specs.Runs.{event_of, events_of};
+ghost use Rattle.rb_lines.specs.Lines.{Adds, AreFieldsOf, events_from, lines_of, IsFaultOf, datagram_line, open_line, bytes_line, gave_line, event, lone_event, line, line_of, longest_input, Gives, read};
+
+use crate::fields::{cut, decimal, hex_bytes, peer};
+use rb_core::{Event, NoMemory, Peer};
+use std::alloc::Global;
+use thiserror::Error;
+
+/// The length in bytes of the longest text that is read as event lines.
+#[tactic(auto, unfolding(crate::specs::Lines::longest_input))]
+pub fn longest_input() -> usize
+    ensures value { result ≡ longest_input }
+    ensures small { result ≤ 16777216 }
+{
+    16_777_216
+}
+
+/// Why a text was not read as event lines.
+#[derive(Clone, Copy, Debug, Drop, Error, PartialEq, Eq)]
+pub enum ReadFault {
+    /// The number of the first line that is no event line, from 1. Every line counts.
+    #[error("line {0}: bad event")]
+    BadLine(usize),
+    #[error("input too long")]
+    TooLong,
+    #[error("no memory")]
+    NoMemory,
+}
+
+/// What a line says.
+#[derive(Drop)]
+enum Line {
+    Skipped,
+    Happens(Event),
+    Bad,
+}
+
+/// What follows the words `datagram` and `forward`.
+#[derive(Drop)]
+struct DatagramFields {
+    now: u64,
+    from: Peer,
+    bytes: Vec<u8>,
+}
+
+/// A moment, a peer and bytes.
+#[tactic(auto, unfolding(crate::specs::Lines::datagram_line))]
+fn datagram_fields(alloc: Global, text: &[u8]) -> Result<Option<DatagramFields>, NoMemory>
+    ensures { IfOk result (AreFieldsOf text.now) }
+{
+    let Some((now, rest)) = cut(text, b' ') else {
+        return Ok(None);
+    };
+    let Some((from, bytes)) = cut(rest, b' ') else {
+        return Ok(None);
+    };
+    let Some(now) = decimal(now) else {
+        return Ok(None);
+    };
+    let Some(from) = peer(from) else {
+        return Ok(None);
+    };
+    let Some(bytes) = hex_bytes(alloc, bytes)? else {
+        return Ok(None);
+    };
+    Ok(Some(DatagramFields { now, from, bytes }))
+}
+
+/// What follows the word `open`: a moment and a peer.
+#[tactic(auto, unfolding(crate::specs::Lines::open_line))]
+fn open_line(text: &[u8]) -> Option<Event>
+    ensures { option_map event_of result ≡ open_line text.now }
+{
+    let (now, from) = cut(text, b' ')?;
+    let now = decimal(now)?;
+    let from = peer(from)?;
+    Some(Event::Open(now, from))
+}
+
+/// What follows the word `bytes`: a moment, a connection's number and bytes.
+#[tactic(auto, unfolding(crate::specs::Lines::bytes_line))]
+fn bytes_line(alloc: Global, text: &[u8]) -> Result<Option<Event>, NoMemory>
+    ensures { IfOk result (λ read. option_map event_of read ≡ bytes_line text.now) }
+{
+    let Some((now, rest)) = cut(text, b' ') else {
+        return Ok(None);
+    };
+    let Some((id, bytes)) = cut(rest, b' ') else {
+        return Ok(None);
+    };
+    let Some(now) = decimal(now) else {
+        return Ok(None);
+    };
+    let Some(id) = decimal(id) else {
+        return Ok(None);
+    };
+    let Some(bytes) = hex_bytes(alloc, bytes)? else {
+        return Ok(None);
+    };
+    Ok(Some(Event::Bytes(now, id, bytes)))
+}
+
+/// What follows the word `gave`: a moment, a connection's number and how many bytes.
+#[tactic(auto, unfolding(crate::specs::Lines::gave_line))]
+fn gave_line(text: &[u8]) -> Option<Event>
+    ensures { option_map event_of result ≡ gave_line text.now }
+{
+    let (now, rest) = cut(text, b' ')?;
+    let (id, n) = cut(rest, b' ')?;
+    let now = decimal(now)?;
+    let id = decimal(id)?;
+    let n = decimal(n)?;
+    Some(Event::Gave(now, id, n))
+}
+
+/// The event of a line of more than one word: the first, and what stands behind the space after it.
+#[tactic(auto, unfolding(crate::specs::Lines::event))]
+fn read_event(alloc: Global, word: &[u8], rest: &[u8]) -> Result<Option<Event>, NoMemory>
+    ensures { IfOk result (λ read. option_map event_of read ≡ event word.now rest.now) }
+{
+    if word == b"datagram".as_slice() {
+        return Ok(datagram_fields(alloc, rest)?.map(|f| Event::Datagram(f.now, f.from, f.bytes)));
+    }
+    if word == b"open".as_slice() {
+        return Ok(open_line(rest));
+    }
+    if word == b"bytes".as_slice() {
+        return bytes_line(alloc, rest);
+    }
+    if word == b"pending".as_slice() {
+        return Ok(decimal(rest).map(Event::Pending));
+    }
+    if word == b"gave".as_slice() {
+        return Ok(gave_line(rest));
+    }
+    if word == b"closed".as_slice() {
+        return Ok(decimal(rest).map(Event::Closed));
+    }
+    if word == b"sent".as_slice() {
+        return Ok(decimal(rest).map(Event::Sent));
+    }
+    if word == b"forward".as_slice() {
+        return Ok(datagram_fields(alloc, rest)?.map(|f| Event::Forward(f.now, f.from, f.bytes)));
+    }
+    if word == b"expire".as_slice() {
+        return Ok(decimal(rest).map(Event::Expire));
+    }
+    Ok(None)
+}
+
+/// The event of a line of one word.
+#[tactic(auto, unfolding(crate::specs::Lines::lone_event))]
+fn lone_event(word: &[u8]) -> Option<Event>
+    ensures { option_map event_of result ≡ lone_event word.now }
+{
+    if word == b"lost".as_slice() {
+        return Some(Event::NextLost);
+    }
+    if word == b"unsent".as_slice() {
+        return Some(Event::Unsent);
+    }
+    None
+}
+
+#[tactic(auto, unfolding(crate::specs::Lines::line))]
+fn read_line(alloc: Global, text: &[u8]) -> Result<Line, NoMemory>
+    ensures { IfOk result (λ read. line_of read ≡ line text.now) }
+{
+    if text.is_empty() || text[0] == b'#' {
+        return Ok(Line::Skipped);
+    }
+    let event = match cut(text, b' ') {
+        None => lone_event(text),
+        Some((word, rest)) => read_event(alloc, word, rest)?,
+    };
+    match event {
+        Some(event) => Ok(Line::Happens(event)),
+        None => Ok(Line::Bad),
+    }
+}
+
+/// Adds what the line of this number says.
+fn take_line(
+    alloc: Global,
+    events: &mut Vec<Event>,
+    number: usize,
+    text: &[u8],
+) -> Result<(), ReadFault>
+    ensures ok { OnOk result (Adds number (line text.now) events.old.items events.new.items) }
+    ensures err { IfErr result (λ fault. IsFaultOf number (line text.now) fault) }
+{
+    match read_line(alloc, text) {
+        Err(NoMemory) => Err(ReadFault::NoMemory),
+        Ok(Line::Bad) => Err(ReadFault::BadLine(number)),
+        Ok(Line::Skipped) => Ok(()),
+        Ok(Line::Happens(event)) => match events.push(event) {
+            Ok(()) => Ok(()),
+            Err(_) => Err(ReadFault::NoMemory),
+        },
+    }
+}
+
+/// The events of the lines of a text.
+fn read_lines(alloc: Global, text: &[u8]) -> Result<Vec<Event>, ReadFault>
+    ensures { Gives (λ events. events_of events.items) result (events_from 1 (lines_of text.now)) }
+{
+    let mut events = Vec::new(alloc);
+    for (i, line) in text.split(|b| *b == b'\n').enumerate() {
+        if let Err(fault) = take_line(alloc, &mut events, i + 1, line) {
+            return Err(fault);
+        }
+    }
+    Ok(events)
+}
+
+/// The events of a text of event lines, one in each line. A text of more than 16,777,216 bytes is
+/// too long, whatever it says. Empty lines and lines that begin with `#` say nothing.
+#[tactic(auto, unfolding(crate::specs::Lines::read))]
+pub fn read_events(alloc: Global, text: &[u8]) -> Result<Vec<Event>, ReadFault>
+    ensures { Gives (λ events. events_of events.items) result (read text.now) }
+{
+    if text.len() > longest_input() {
+        return Err(ReadFault::TooLong);
+    }
+    read_lines(alloc, text)
+}

@@ -1,0 +1,216 @@
+//! The command `replay`.
+ghost use Rattle.std.specs.Prelude.{◌≡◌, ◌≤◌, ◌⊎◌, [], IsTrue, IfOk, IfErr, OnOk};
+ghost use Rattle.std.specs.Io.Buffered.{writer_buffer};
+ghost use Rattle.rb_core.specs.State.{are_good};
+ghost use Rattle.rb_core.specs.StandsFor.{StandsFor};
+ghost use Rattle.rb_core.specs.Runs.{outputs_of};
+ghost use Rattle.rb_lines.specs.Lines.{read};
+ghost use Rattle.rb_lines.specs.Printing.{report};
+ghost use Rattle.rb_lines.specs.Running.{first, run_of, status_of, BufWrites, IsEnoughOf, IsFaultOf, IsCoreFault, IsRefused, Prints, Reads, Replays, Refuses};
+
+use crate::lines::{ReadFault, longest_input, read_events};
+use crate::printing::{WriteFailed, print_outputs};
+use rb_core::{Core, CoreFault, Event, Limits, Listener, Output, replay};
+use rb_xdr::Meter;
+use std::alloc::Global;
+use std::io;
+use std::io::{BufWriter, Read, Write};
+use thiserror::Error;
+
+/// What the core of a replay begins with.
+#[derive(Clone, Copy, Debug, PartialEq, Eq)]
+pub struct Beginning {
+    pub limits: Limits,
+    pub listener: Listener,
+    /// The number of the first forwarded call.
+    pub first_xid: u32,
+    /// The first moment, in milliseconds since the start of 1970.
+    pub moment: u64,
+}
+
+/// Why the program ends before all is done.
+#[derive(Clone, Copy, Debug, Drop, Error, PartialEq, Eq)]
+pub enum Fault {
+    #[error("rpcbind: a word is no text")]
+    NotText,
+    #[error("rpcbind: {0}")]
+    Lines(ReadFault),
+    #[error("rpcbind: no memory")]
+    NoMemory,
+    #[error("rpcbind: bad limits")]
+    BadLimits,
+    #[error("rpcbind: socket failed")]
+    SocketFailed,
+    #[error("rpcbind: read failed")]
+    ReadFailed,
+    #[error("rpcbind: write failed")]
+    WriteFailed,
+}
+
+impl Fault {
+    ghost use Rattle.rb_lines.specs.Running.{status_of};
+
+    /// The exit status of a program that ends by this fault: 2 where nothing was run because of its
+    /// words or its input, else 1.
+    pub fn status(self) -> u8
+        ensures { result ≡ status_of self }
+    {
+        match self {
+            Fault::NotText | Fault::Lines(ReadFault::BadLine(_) | ReadFault::TooLong) => 2,
+            Fault::Lines(ReadFault::NoMemory)
+            | Fault::NoMemory
+            | Fault::BadLimits
+            | Fault::SocketFailed
+            | Fault::ReadFailed
+            | Fault::WriteFailed => 1,
+        }
+    }
+}
+
+/// The first bytes of what the reader has left: as many as an input may have, and one more.
+fn read_input<R: Read>(alloc: Global, reader: &mut R) -> Result<Vec<u8>, Fault>
+    ensures bytes { IfOk result (λ text. IsEnoughOf (R.remaining reader.old) text.items) }
+    ensures err { IfErr result (λ fault. (fault ≡ Fault.NoMemory) ⊎ (fault ≡ Fault.ReadFailed)) }
+{
+    let mut text = Vec::new(alloc);
+    let limit = longest_input() as u64 + 1;
+    match reader.take(limit).read_to_end(&mut text) {
+        Ok(_) => Ok(text),
+        Err(error) if error.kind() == io::ErrorKind::OutOfMemory => Err(Fault::NoMemory),
+        Err(_) => Err(Fault::ReadFailed),
+    }
+}
+
+/// A new core, as a replay begins.
+fn first_core(alloc: Global, beginning: &Beginning, meter: &mut Meter) -> Result<Core, Fault>
+    ensures made { IfOk result (λ core. StandsFor core (first beginning.now)) }
+    ensures tie { IfOk result (λ core. core.tie ≡ meter.new.tie) }
+    ensures good { OnOk result (IsTrue (are_good beginning.now.limits)) }
+    ensures err { IfErr result (IsCoreFault beginning.now) }
+{
+    let Beginning {
+        limits,
+        listener,
+        first_xid,
+        moment,
+    } = *beginning;
+    match Core::new(alloc, limits, listener, first_xid, moment, meter) {
+        Ok(core) => Ok(core),
+        Err(CoreFault::BadLimits) => Err(Fault::BadLimits),
+        Err(_) => Err(Fault::NoMemory),
+    }
+}
+
+/// The outputs of the events, from a new core.
+fn outputs_from(
+    alloc: Global,
+    beginning: &Beginning,
+    events: &[Event],
+) -> Result<Vec<Output>, Fault>
+    ensures ok { IfOk result
+        (λ outputs. outputs_of outputs.items ≡ run_of beginning.now events.now) }
+    ensures good { OnOk result (IsTrue (are_good beginning.now.limits)) }
+    ensures err { IfErr result (IsCoreFault beginning.now) }
+{
+    let mut meter = Meter::new();
+    let mut core = first_core(alloc, beginning, &mut meter)?;
+    let mut outputs = Vec::new(alloc);
+    match replay(alloc, &mut core, events, &mut outputs, &mut meter) {
+        Ok(()) => Ok(outputs),
+        Err(_) => Err(Fault::NoMemory),
+    }
+}
+
+/// Writes what the outputs are printed as, to the last byte.
+fn put_outputs<W: Write + Drop>(
+    outputs: &[Output],
+    out: &mut BufWriter<W>,
+) -> Result<(), WriteFailed>
+    ensures ok { OnOk result (BufWrites W.contents out.old out.new (report outputs.now)) }
+    ensures flushed { OnOk result (writer_buffer out.new ≡ []) }
+{
+    print_outputs(outputs, out)?;
+    match out.flush() {
+        Ok(()) => Ok(()),
+        Err(_) => Err(WriteFailed),
+    }
+}
+
+/// Runs the events of a text and writes what they give.
+fn replay_text<W: Write + Drop>(
+    alloc: Global,
+    beginning: &Beginning,
+    text: &[u8],
+    out: &mut BufWriter<W>,
+) -> Result<(), Fault>
+    ensures ok { OnOk result
+        (Prints beginning.now W.contents out.old out.new (read text.now)) }
+    ensures good { OnOk result (IsTrue (are_good beginning.now.limits)) }
+    ensures flushed { OnOk result (writer_buffer out.new ≡ []) }
+    ensures err { IfErr result (λ fault. IsFaultOf beginning.now fault (read text.now)) }
+    ensures unwritten { IfErr result (λ fault. status_of fault ≡ 2 → out.new ≡ out.old) }
+{
+    let events = match read_events(alloc, text) {
+        Ok(events) => events,
+        Err(fault) => return Err(Fault::Lines(fault)),
+    };
+    let outputs = outputs_from(alloc, beginning, &events)?;
+    match put_outputs(&outputs, out) {
+        Ok(()) => Ok(()),
+        Err(WriteFailed) => Err(Fault::WriteFailed),
+    }
+}
+
+/// Reads all there is, runs its events and writes what they give.
+fn replay_all<R: Read, W: Write + Drop>(
+    alloc: Global,
+    beginning: &Beginning,
+    reader: &mut R,
+    out: &mut BufWriter<W>,
+) -> Result<(), Fault>
+    ensures ok { OnOk result
+        (Replays beginning.now R.remaining reader.old W.contents out.old out.new) }
+    ensures good { OnOk result (IsTrue (are_good beginning.now.limits)) }
+    ensures flushed { OnOk result (writer_buffer out.new ≡ []) }
+    ensures refused { IfErr result (Refuses beginning.now R.remaining reader.old) }
+    ensures unwritten { IfErr result (λ fault. status_of fault ≡ 2 → out.new ≡ out.old) }
+{
+    let text = read_input(alloc, reader)?;
+    replay_text(alloc, beginning, &text, out)
+}
+
+/// Runs the command `replay`: it reads event lines to the end, makes a core, runs their events on it and writes a line
+/// for each. The answer is the exit status.
+///
+/// 0 says that all went well and that the writer's buffer was written out. 2 says that the input is no event lines,
+/// and nothing was run or written, whatever the limits are. 1 says that the limits are out of their ranges, or that
+/// reading, writing or memory failed. What is wrong is written to `faults`; at 0 nothing is.
+pub fn run_replay<R: Read, W: Write + Drop, E: Write>(
+    alloc: Global,
+    beginning: &Beginning,
+    reader: &mut R,
+    out: &mut BufWriter<W>,
+    faults: &mut E,
+) -> u8
+    ensures status { result ≤ 2 }
+    ensures ok { result ≡ 0
+        → Replays beginning.now R.remaining reader.old W.contents out.old out.new }
+    ensures good { result ≡ 0 → IsTrue (are_good beginning.now.limits) }
+    ensures flushed { result ≡ 0 → writer_buffer out.new ≡ [] }
+    ensures quiet { result ≡ 0 → faults.new ≡ faults.old }
+    ensures refused { result ≡ 2 → Reads R.remaining reader.old IsRefused }
+    ensures unwritten { result ≡ 2 → out.new ≡ out.old }
+{
+    match replay_all(alloc, beginning, reader, out) {
+        Ok(()) => 0,
+        Err(fault) => explain(fault, faults),
+    }
+}
+
+/// Writes what is wrong, where that can be written, and gives the status.
+pub fn explain<E: Write>(fault: Fault, faults: &mut E) -> u8
+    ensures { result ≡ status_of fault }
+{
+    let _ = writeln!(faults, "{fault}");
+    fault.status()
+}

@@ -1,0 +1,16 @@
+//! Worked examples of the definitions, which the proof computes.
+ghost use Rattle.rb_lines.specs.Worked.{StoredRunIsRead, StoredRunIsPrinted, BadEventLine, LinesAreCounted, NumbersOfLines, PeersOfLines, ConnectionsAreRead, ConnectionsArePrinted, ForwardsAreRead, ForwardsArePrinted};
+
+/// The definitions give what the worked examples say.
+pub fn worked_examples()
+    ensures stored_run_is_read { StoredRunIsRead }
+    ensures stored_run_is_printed { StoredRunIsPrinted }
+    ensures bad_event_line { BadEventLine }
+    ensures lines_are_counted { LinesAreCounted }
+    ensures numbers { NumbersOfLines }
+    ensures peers { PeersOfLines }
+    ensures connections_are_read { ConnectionsAreRead }
+    ensures connections_are_printed { ConnectionsArePrinted }
+    ensures forwards_are_read { ForwardsAreRead }
+    ensures forwards_are_printed { ForwardsArePrinted }
+{}

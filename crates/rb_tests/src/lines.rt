@@ -1,0 +1,91 @@
+//! Event lines, read and run.
+use rb_core::{Core, Event, Limits, Listener};
+use rb_lines::{Beginning, ReadFault, read_events, run_replay};
+use rb_xdr::Meter;
+use std::alloc::{AllocError, Global};
+use std::io;
+use std::io::{BufWriter, ErrorKind, Read};
+use std::test::Fail;
+
+/// Gives no byte, but an error of this kind.
+#[derive(Drop)]
+struct Failing(ErrorKind);
+
+impl Read for Failing {
+    fn read(&mut self, _buf: &mut [u8]) -> io::Result<usize> {
+        Err(io::Error::from(self.0))
+    }
+}
+
+const BEGINNING: Beginning = Beginning {
+    limits: Limits {
+        conns: 4,
+        rows: 300,
+        forwards: 4,
+    },
+    listener: Listener {
+        host: [192, 0, 2, 1],
+        port: 111,
+    },
+    first_xid: 1000,
+    moment: 0,
+};
+
+/// The status, what is printed and what is said of faults.
+fn ran<R: Read>(alloc: Global, reader: &mut R) -> Result<(u8, Vec<u8>, Vec<u8>), AllocError> {
+    let mut output = BufWriter::new(alloc, Vec::new(alloc)).map_err(|_| AllocError)?;
+    let mut faults = Vec::new(alloc);
+    let status = run_replay(alloc, &BEGINNING, reader, &mut output, &mut faults);
+    let (printed, _) = output.into_parts();
+    Ok((status, printed, faults))
+}
+
+#[test]
+fn read_events_has_memory(rt: HostRuntime) -> Result<(), Fail> {
+    let alloc = rt.alloc();
+    let read = read_events(alloc, b"datagram 7 127.0.0.1:900 -\n").map_err(|_| "refused")?;
+    assert!(rt; matches!(read.as_slice(), [Event::Datagram(7, _, _)]));
+    let refused = read_events(alloc, b"datagram 0 127.0.0.1:900 0g");
+    assert!(rt; matches!(refused, Err(ReadFault::BadLine(1))));
+    Ok(())
+}
+
+#[test]
+fn run_replay_has_memory(rt: HostRuntime) -> Result<(), Fail> {
+    let mut input =
+        b"datagram 0 127.0.0.1:900 000000040000000000000002000186a000000002000000030000000000000000000000000000000000030d41000000010000000600000000\ndatagram 0 127.0.0.1:900 -".as_slice();
+    let (status, printed, faults) = ran(rt.alloc(), &mut input)?;
+    assert_eq!(rt; status, 0);
+    let wanted = b"reply 00000004000000010000000000000000000000000000000000000000\nsilent\n";
+    assert_eq!(rt; printed.as_slice(), wanted.as_slice());
+    assert_eq!(rt; faults.len(), 0);
+    Ok(())
+}
+
+#[test]
+fn says_that_reading_failed(rt: HostRuntime) -> Result<(), Fail> {
+    let (status, _, faults) = ran(rt.alloc(), &mut Failing(ErrorKind::Other))?;
+    assert_eq!(rt; status, 1);
+    assert_eq!(rt; faults.as_slice(), b"rpcbind: read failed\n".as_slice());
+    Ok(())
+}
+
+#[test]
+fn says_that_memory_is_refused(rt: HostRuntime) -> Result<(), Fail> {
+    let (status, _, faults) = ran(rt.alloc(), &mut Failing(ErrorKind::OutOfMemory))?;
+    assert_eq!(rt; status, 1);
+    assert_eq!(rt; faults.as_slice(), b"rpcbind: no memory\n".as_slice());
+    Ok(())
+}
+
+#[test]
+fn greatest_limits_have_memory(rt: HostRuntime) {
+    let limits = Limits {
+        conns: 256,
+        rows: 4096,
+        forwards: 64,
+    };
+    let listener = BEGINNING.listener;
+    let made = Core::new(rt.alloc(), limits, listener, 1000, 0, &mut Meter::new());
+    assert!(rt; made.is_ok());
+}

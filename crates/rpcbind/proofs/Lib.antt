@@ -1,8 +1,0 @@
-pub mod Decimal
-pub mod Reading
-pub mod Prints
-pub mod Inputs
-pub mod LineLaws
-pub mod Words
-pub mod HexWords
-pub mod LineWords
