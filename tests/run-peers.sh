@@ -64,15 +64,18 @@ start() {
     cat "$work/daemon"
 }
 
+# Debian's, and not the one that `make install` may have put before it on the PATH.
 run_rpcinfo() {
-    command -v rpcinfo > /dev/null || { skip "rpcinfo is not installed (package rpcbind)"; return; }
+    local rpcinfo
+    rpcinfo=$(dpkg -L rpcbind 2> /dev/null | grep '/rpcinfo$' | head -n 1)
+    [ -x "$rpcinfo" ] || { skip "rpcinfo is not installed (package rpcbind)"; return; }
     dpkg-query -W rpcbind libtirpc3 libtirpc3t64 2> /dev/null
-    wants "rpcinfo -p" '100000 4 tcp 111 ' rpcinfo -p 127.0.0.1
-    wants "rpcinfo -s" '100000 2,3,4 .*superuser' rpcinfo -s 127.0.0.1
-    wants "rpcinfo -T udp" 'program 100000 version 4 ready' rpcinfo -T udp 127.0.0.1 100000
-    wants "rpcinfo -T tcp" 'program 100000 version 4 ready' rpcinfo -T tcp 127.0.0.1 100000
-    wants "rpcinfo -t" 'program 100000 version 2 ready' rpcinfo -t 127.0.0.1 100000 2
-    wants "rpcinfo -u" 'program 100000 version 2 ready' rpcinfo -u 127.0.0.1 100000 2
+    wants "rpcinfo -p" '100000 4 tcp 111 ' "$rpcinfo" -p 127.0.0.1
+    wants "rpcinfo -s" '100000 2,3,4 .*superuser' "$rpcinfo" -s 127.0.0.1
+    wants "rpcinfo -T udp" 'program 100000 version 4 ready' "$rpcinfo" -T udp 127.0.0.1 100000
+    wants "rpcinfo -T tcp" 'program 100000 version 4 ready' "$rpcinfo" -T tcp 127.0.0.1 100000
+    wants "rpcinfo -t" 'program 100000 version 2 ready' "$rpcinfo" -t 127.0.0.1 100000 2
+    wants "rpcinfo -u" 'program 100000 version 2 ready' "$rpcinfo" -u 127.0.0.1 100000 2
 }
 
 run_libtirpc() {

@@ -239,11 +239,13 @@ run_help_of() {
     judge $bad "the help of '$command'"
 }
 
-run_version() {
-    echo 'rpcbind 0.1.0' > "$work/wanted"
-    run /dev/null --version
+# The version of the program, which each command says with its own name.
+run_version_of() {
+    local command=$1 name=$2
+    echo "$name 0.1.0" > "$work/wanted"
+    run /dev/null $command --version
     as_wanted "$work/wanted" /dev/null 0
-    judge $? "the version"
+    judge $? "the version by '$command'"
 }
 
 # ---- rpcinfo
@@ -391,7 +393,9 @@ if [ -x "$program" ]; then
     run_help_of '' help version
     run_help_of serve bind announce port conns rows forwards turns help version
     run_help_of replay announce port conns rows forwards xid now help version
-    run_version
+    run_version_of '' rpcbind
+    run_version_of serve rpcbind-serve
+    run_version_of replay rpcbind-replay
 else
     judge 1 "no program $program: run 'make' first"
 fi

@@ -2,11 +2,14 @@
 ghost use Rattle.std.specs.Prelude.{◌≤◌};
 
 use crate::turns::{Host, address};
-use std::io::{Read, Write};
+use std::io::{ErrorKind, Read, Write};
 use std::net::{Ipv4Addr, SocketAddr, TcpStream, UdpSocket};
 
 /// The most turns that a test takes for one answer.
 const TURNS: u32 = 100;
+
+/// The most reads at a time.
+const READS: u32 = 4096;
 
 /// The most bytes that a client keeps.
 const ROOM: usize = 4096;
@@ -49,6 +52,29 @@ impl Client {
         }
     }
 
+    /// Takes turns until the daemon closed the connection. What comes before counts for nothing.
+    pub(crate) fn await_end(&mut self, host: &mut Host<'_>) {
+        for _ in 0..TURNS {
+            host.turn();
+            self.is_closed = self.discard();
+            if self.is_closed {
+                break;
+            }
+        }
+    }
+
+    /// Reads what has come, and says whether the end is behind it.
+    fn discard(&mut self) -> bool {
+        for _ in 0..READS {
+            match self.stream.read(&mut self.got) {
+                Ok(0) => return true,
+                Ok(_) => {}
+                Err(error) => return error.kind() != ErrorKind::WouldBlock,
+            }
+        }
+        false
+    }
+
     /// Takes a turn, after which nothing has come.
     pub(crate) fn receive_nothing(&mut self, host: &mut Host<'_>) -> bool {
         host.turn();
@@ -67,6 +93,11 @@ impl Client {
     /// Whether these bytes came, and no others.
     pub(crate) fn got_just(&self, bytes: &[u8]) -> bool {
         self.len == bytes.len() && self.got.starts_with(bytes)
+    }
+
+    /// Whether the first bytes that came are these.
+    pub(crate) fn got_first(&self, bytes: &[u8]) -> bool {
+        self.got[..self.len].starts_with(bytes)
     }
 
     /// Whether the last bytes that came are these.

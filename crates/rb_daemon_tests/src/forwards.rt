@@ -1,7 +1,7 @@
 //! Calls that are forwarded to a socket of the test.
 use crate::client::{Caller, Client};
 use crate::datagrams::answers;
-use crate::messages::{bytes_of, null_reply};
+use crate::messages::{MARK_24, bytes_of, null_reply};
 use crate::turns::{Host, Stopped};
 use std::test::Fail;
 
@@ -66,7 +66,18 @@ fn forwards_over_tcp(rt: &HostRuntime, host: &mut Host<'_>) -> Option<bool> {
     let is_sent = client.send(&bytes_of(rt.alloc(), &TWO_CALLS).ok()?);
     let is_answered = target_answers(rt, host, &mut target)?;
     client.receive(host, 80);
-    Some(is_set && is_sent && is_answered && client.len() == 80 && host.is_well())
+    let replies = two_replies(rt)?;
+    Some(is_set && is_sent && is_answered && client.got_just(&replies) && host.is_well())
+}
+
+/// The answer of the target in a record of 48 bytes, and behind it the NULL reply.
+fn two_replies(rt: &HostRuntime) -> Option<Vec<u8>> {
+    let mut words = Vec::new(rt.alloc());
+    words.push(0x8000_0030).ok()?;
+    words.extend_from_slice(&passed_reply()).ok()?;
+    words.push(MARK_24).ok()?;
+    words.extend_from_slice(&null_reply(16)).ok()?;
+    bytes_of(rt.alloc(), &words).ok()
 }
 
 /// An INDIRECT in a record of 56 bytes, and a NULL call in one of 40.

@@ -1,6 +1,6 @@
 //! Connections that are too many, and clients that go away.
 use crate::client::Client;
-use crate::messages::{MARK_40, bytes_of, null_record};
+use crate::messages::{MARK_40, bytes_of, null_record, null_reply_record};
 use crate::records::answers_a_call;
 use crate::turns::{Host, Stopped};
 use std::alloc::Global;
@@ -9,6 +9,7 @@ use std::test::Fail;
 /// Where two connections are open and no more may be, a third is closed at once, and the second is served.
 fn closes_one_too_many(rt: &HostRuntime, host: &mut Host<'_>) -> Option<bool> {
     let call = null_record(rt.alloc(), 1).ok()?;
+    let reply = null_reply_record(rt.alloc(), 1).ok()?;
     let _first = Client::new(rt)?;
     let mut second = Client::new(rt)?;
     host.turn();
@@ -16,7 +17,7 @@ fn closes_one_too_many(rt: &HostRuntime, host: &mut Host<'_>) -> Option<bool> {
     third.receive(host, 1);
     let is_sent = second.send(&call);
     second.receive(host, 28);
-    Some(third.is_closed() && is_sent && second.len() == 28 && host.is_well())
+    Some(third.is_closed() && is_sent && second.got_just(&reply) && host.is_well())
 }
 
 #[test]
@@ -53,7 +54,7 @@ fn client_leaves_in_a_call(rt: HostRuntime) -> Result<(), Fail> {
 }
 
 /// Records that list all rows, which is answered with some hundred bytes each.
-fn dumps(alloc: Global, count: u32) -> Option<Vec<u8>> {
+pub(crate) fn dumps(alloc: Global, count: u32) -> Option<Vec<u8>> {
     let mut words = Vec::new(alloc);
     for xid in 0..count {
         let call = [MARK_40, xid, 0, 2, 100_000, 4, 4, 0, 0, 0, 0];

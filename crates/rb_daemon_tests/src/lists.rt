@@ -1,15 +1,22 @@
 //! Replies of more than one fragment.
 use crate::client::{Caller, Client};
 use crate::datagrams::answers;
+use crate::leaving::dumps;
 use crate::messages::{MARK_40, bytes_of, null_call, null_reply_record};
-use crate::turns::{Host, Stopped};
+use crate::records::answers_a_call;
+use crate::turns::{Host, PORT, Stopped};
 use std::test::Fail;
 
-/// 95 programs are set: with the daemon's own six, version 2 lists 101 rows.
-fn sets_rows(rt: &HostRuntime, host: &mut Host<'_>) -> Option<bool> {
+/// A SET of version 2: the program, version 1, on TCP at port 2049.
+fn set_call(xid: u32, prog: u32) -> [u32; 14] {
+    [xid, 0, 2, 100_000, 2, 1, 0, 0, 0, 0, prog, 1, 6, 2049]
+}
+
+/// So many programs are set, from 300000 on.
+fn sets_rows(rt: &HostRuntime, host: &mut Host<'_>, count: u32) -> Option<bool> {
     let mut caller = Caller::new(rt, 0)?;
-    for i in 0..95 {
-        let set = [i, 0, 2, 100_000, 2, 1, 0, 0, 0, 0, 300_000 + i, 1, 6, 2049];
+    for i in 0..count {
+        let set = set_call(i, 300_000u32.wrapping_add(i));
         if !answers(rt, host, &mut caller, &set, &[i, 1, 0, 0, 0, 0, 1])? {
             return Some(false);
         }
@@ -26,16 +33,20 @@ fn list_and_null(rt: &HostRuntime) -> Option<Vec<u8>> {
     bytes_of(rt.alloc(), &words).ok()
 }
 
-/// The list is 24 bytes of head, 20 of each row and 4 of its end: 2,048, in two fragments of the greatest length. The call
-/// behind it is answered too.
+/// A fragment of 1,024 bytes that is not the last, the head of the reply, and the first own row: version 4 on TCP.
+const LIST_BEGINS: [u32; 12] = [1024, 1, 1, 0, 0, 0, 0, 1, 100_000, 4, 6, PORT as u32];
+
+/// With the daemon's own six there are 101 rows. The list is 24 bytes of head, 20 of each row and 4 of its end: 2,048, in
+/// two fragments of the greatest length. The call behind it is answered too.
 fn gives_full_fragments(rt: &HostRuntime, host: &mut Host<'_>) -> Option<bool> {
-    let are_set = sets_rows(rt, host)?;
+    let are_set = sets_rows(rt, host, 95)?;
     let calls = list_and_null(rt)?;
+    let list = bytes_of(rt.alloc(), &LIST_BEGINS).ok()?;
     let reply = null_reply_record(rt.alloc(), 2).ok()?;
     let mut client = Client::new(rt)?;
     let is_sent = client.send(&calls);
     client.receive(host, 2084);
-    let is_whole = client.len() == 2084 && client.got_last(&reply);
+    let is_whole = client.len() == 2084 && client.got_first(&list) && client.got_last(&reply);
     Some(are_set && is_sent && is_whole && host.is_well())
 }
 
@@ -44,5 +55,39 @@ fn list_of_full_fragments(rt: HostRuntime) -> Result<(), Fail> {
     let clock = Stopped::new(&rt);
     let mut host = Host::new(&clock, 1).ok_or("no daemon")?;
     assert_eq!(rt; gives_full_fragments(&rt, &mut host), Some(true));
+    Ok(())
+}
+
+/// In one turn the first program is removed, and another is set.
+fn replaces_a_row(rt: &HostRuntime, host: &mut Host<'_>) -> Option<bool> {
+    let unset = [1, 0, 2, 100_000, 2, 2, 0, 0, 0, 0, 300_000, 1, 0, 0];
+    let mut caller = Caller::new(rt, 0)?;
+    let is_sent = caller.send(&bytes_of(rt.alloc(), &unset).ok()?)
+        && caller.send(&bytes_of(rt.alloc(), &set_call(2, 400_000)).ok()?);
+    caller.receive(host);
+    let is_unset = caller.got_just(&bytes_of(rt.alloc(), &[1, 1, 0, 0, 0, 0, 1]).ok()?);
+    caller.receive(host);
+    let is_set = caller.got_just(&bytes_of(rt.alloc(), &[2, 1, 0, 0, 0, 0, 1]).ok()?);
+    Some(is_sent && is_unset && is_set)
+}
+
+/// All 300 rows are there. A client asks for more lists than are given in a few turns, so one of them is in the middle
+/// when a row goes, which the list still needs. The next SET takes the place, and the connection is closed.
+fn evicts_the_reader(rt: &HostRuntime, host: &mut Host<'_>) -> Option<bool> {
+    let are_set = sets_rows(rt, host, 294)?;
+    let mut reader = Client::new(rt)?;
+    host.turn();
+    let is_sent = reader.send(&dumps(rt.alloc(), 400)?);
+    host.turn();
+    let is_replaced = replaces_a_row(rt, host)?;
+    reader.await_end(host);
+    Some(are_set && is_sent && is_replaced && reader.is_closed() && answers_a_call(rt, host, 3)?)
+}
+
+#[test]
+fn set_evicts_a_reader(rt: HostRuntime) -> Result<(), Fail> {
+    let clock = Stopped::new(&rt);
+    let mut host = Host::new(&clock, 1).ok_or("no daemon")?;
+    assert_eq!(rt; evicts_the_reader(&rt, &mut host), Some(true));
     Ok(())
 }

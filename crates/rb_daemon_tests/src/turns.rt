@@ -6,7 +6,7 @@ use std::net::{Ipv4Addr, Net, SocketAddr, TcpListener, TcpStream, UdpSocket};
 use std::rt::Clock;
 use std::time::Duration;
 
-const PORT: u16 = 20_111;
+pub(crate) const PORT: u16 = 20_111;
 
 /// Milliseconds: what comes over the loopback is there long before.
 const WAIT: u64 = 20;

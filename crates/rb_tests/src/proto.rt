@@ -7,10 +7,10 @@ use rb_forward::{Forward, FwdId, Kind};
 use rb_proto::{
     Answer, ArgumentFault, Books, Call, Context, Entry, ListReply, Listener, Listing, Mapping,
     Netbuf, RemoteCall, Rpcb, answer, forwards_are_noted_once, forwards_go_to_rows,
-    list_replies_go_on, own_rows, put_forwarded, put_results, put_row, read_args, refusal,
+    list_replies_go_on, put_forwarded, put_results, put_row, read_args, refusal,
     requests_are_of_the_grammar, worked_examples, worked_forwards, worked_lists,
 };
-use rb_registry::{Cursor, Registry};
+use rb_registry::Cursor;
 use rb_rpc::{CallHead, Caller, Credential, Peer, ReplyStatus};
 use rb_xdr::{Kept, Meter, Xdr};
 use std::test::Fail;
@@ -241,7 +241,8 @@ fn forwarded_results_are_put(rt: HostRuntime) -> Result<(), Fail> {
 fn rows_are_put_within_the_limit(rt: HostRuntime) -> Result<(), Fail> {
     let mut meter = Meter::new();
     let mut out = Kept::new(rt.alloc(), 40, &mut meter)?;
-    let registry = Registry::new(rt.alloc(), LIMIT, own_rows(&LISTENER), &mut meter)?;
+    let books = Books::new(rt.alloc(), LIMIT, 0, 0, &LISTENER, &mut meter)?;
+    let registry = &books.registry;
     let first = registry.next_row(registry.stamp(), Cursor::start(), &mut meter);
     if let Some((_, row)) = first {
         put_row(Listing::Mappings, row, &LISTENER, 39, &mut out, &mut meter)?;
