@@ -12,7 +12,10 @@ fn pool_has_memory(rt: HostRuntime) -> Result<(), Fail> {
     let second = pool.insert(20, &mut meter)?;
     assert_eq!(rt; pool.insert(30, &mut meter), Err(Full { value: 30 }));
     assert_eq!(rt; pool.first(&mut meter), Some(first));
-    assert_eq!(rt; pool.find_key(|value| *value == 20, &mut meter), Some(second));
+    assert_eq!(rt;
+        pool.find_key(|value| *value == 20, &mut meter),
+        Some(second)
+    );
     assert_eq!(rt; pool.len(&mut meter), 2);
     assert_eq!(rt; meter.count(), 9);
     Ok(())
