@@ -4,7 +4,6 @@ use Rattle.std.specs.Borrow.{Fml, Bor, MutBor}
 use Rattle.std.specs.Io.BufRead.{Rests}
 use Rattle.rb_xdr.specs.declared.memory.NoMemory.{NoMemory}
 use Rattle.rb_xdr.specs.Meter.{Meter, PaysAtMost}
-use Rattle.rb_core.specs.declared.events.Event as event
 use Rattle.rb_core.specs.declared.events.Output as output
 use Rattle.rb_core.specs.declared.types.CoreFault.{CoreFault}
 use Rattle.rb_core.specs.declared.types.Taken.{Taken}

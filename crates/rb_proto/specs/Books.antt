@@ -6,7 +6,6 @@ use Rattle.rb_registry.specs.declared.row.Row.{Row}
 use Rattle.rb_registry.specs.Slots.{slots_from}
 use Rattle.rb_registry.specs.Registry.{Registry, rows_of, dead_count}
 use Rattle.rb_stats.specs.Statistics.{Note}
-use Rattle.rb_stats.specs.Statistics.Note.{Forwarded}
 use Rattle.rb_forward.specs.StandsFor.{Table, slots_of}
 use Rattle.rb_forward.specs.Table.{OnlyWaitsAnew}
 use Rattle.rb_forward.specs.Forwards.{Unsent, unsent}

@@ -1,5 +1,5 @@
 -- Calls as they are written (RFC 5531 section 9, appendix A).
-use Rattle.std.specs.Prelude.{ℕ, List, [], ◌++◌, None}
+use Rattle.std.specs.Prelude.{ℕ, List, [], ◌++◌}
 use Rattle.rb_xdr.specs.Xdr.{number, opaque, array}
 use Rattle.rb_rpc.specs.declared.call.Credential.TheVariants as credentials
 use Rattle.rb_rpc.specs.declared.call.CallHead.{CallHead}

@@ -1,5 +1,5 @@
 -- Where a reader of marked records stands behind the bytes that it was fed (RFC 5531 section 11).
-use Rattle.std.specs.Prelude.{◌≡◌, ℕ, ◌+◌, ◌*◌, ◌^◌, ◌<◌, not, Bool, false, List, [], ◌∷◌, ◌++◌, length, fold, ⊤}
+use Rattle.std.specs.Prelude.{◌≡◌, ℕ, ◌+◌, ◌*◌, ◌^◌, ◌<◌, Bool, false, List, [], ◌∷◌, ◌++◌, length, fold, ⊤}
 use Rattle.rb_xdr.specs.Xdr.{AreBytes}
 use Rattle.rb_rpc.specs.Records.{Fragment, fragment_header, markings}
 use Rattle.rb_rpc.specs.declared.marks.Place.TheVariants.{Header, Data}

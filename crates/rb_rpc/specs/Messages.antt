@@ -2,7 +2,6 @@
 use Rattle.std.specs.Prelude.{ℕ, ◌==◌, List, [], ◌∷◌, ◌++◌, Option, Some, None, Ok, Err}
 use Rattle.std.specs.Prelude.{find}
 use Rattle.rb_xdr.specs.Xdr.{Reading, ◌>>=◌, give, number, opaque, read_number, read_opaque, read_array}
-use Rattle.rb_rpc.specs.declared.call.Credential.TheVariants as credentials
 use Rattle.rb_rpc.specs.declared.auth.AuthStat.TheVariants as stats
 pub use Rattle.rb_rpc.specs.declared.call.CallHead.{CallHead}
 pub use Rattle.rb_rpc.specs.declared.call.Credential.{Credential}

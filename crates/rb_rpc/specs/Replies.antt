@@ -1,5 +1,5 @@
 -- Replies (RFC 5531 section 9).
-use Rattle.std.specs.Prelude.{ℕ, ◌+◌, List, ◌++◌}
+use Rattle.std.specs.Prelude.{ℕ, List, ◌++◌}
 use Rattle.rb_xdr.specs.Xdr.{number}
 use Rattle.rb_rpc.specs.Messages.{auth_none, auth_stat_number}
 use Rattle.rb_rpc.specs.declared.reply.ReplyStatus.TheVariants.{Success, ProgUnavail, ProgMismatch, ProcUnavail, GarbageArgs, SystemErr, RpcMismatch, AuthError}
