@@ -5,7 +5,7 @@ use Rattle.std.proofs.lemmas.Bool.{lt-ltb, le-ltb}
 use Rattle.std.proofs.lemmas.Bool.Decides.{nat_tests}
 use Rattle.rb_xdr.specs.Kept.{Kept}
 use Rattle.rb_rpc.specs.declared.peer.Peer.{Peer}
-use Rattle.rb_rpc.specs.Records.{first_record, data_of}
+use Rattle.rb_rpc.specs.Records.{first_record, data_of, BeginWith}
 use Rattle.rb_rpc.specs.Verdict.{verdict}
 use Rattle.rb_rpc.specs.declared.call.Verdict.{Verdict}
 use Rattle.rb_core.specs.declared.slot.Slot.{Slot}
@@ -14,8 +14,8 @@ use Rattle.rb_core.specs.declared.slot.Stage.TheVariants as stages
 use Rattle.rb_core.specs.declared.slot.Received.{Received}
 use Rattle.rb_core.specs.State.{Owed, Phase, Connection}
 use Rattle.rb_core.specs.State.Phase.{Idle, Reading, Owing, Awaiting, Lost}
-use Rattle.rb_core.specs.Connections.{Taking, taking, taking_on, mark_when_fed, fed_in, pending_in, phase_when_given, when_given, giving, pending_of}
-use Rattle.rb_core.specs.Connections.Taking.{TakesNone}
+use Rattle.rb_core.specs.Connections.{Taking, taking, taking_on, taking_up_to, mark_when_fed, fed_in, pending_in, phase_when_given, when_given, giving, pending_of}
+use Rattle.rb_core.specs.Connections.Taking.{TakesNone, Ends}
 use Rattle.rb_core.specs.StandsFor.{IsGiving, IsReading, Source, IsStreaming, StandsForPhase, StandsForConnection}
 use Rattle.rb_core.specs.Reading.{Fed, Reader, fed_until}
 use Rattle.rb_core.specs.declared.giving.Stream.{Stream}
@@ -133,6 +133,14 @@ pub some_where_fed : (phase : Phase) (fed piece : List ℕ) → fed_in phase ≡
 unfolding taking
 some_where_fed phase fed [] is some = absurd (some refl)
 some_where_fed phase fed (byte ∷ piece) is some = rw is refl
+
+-- a record that is one fragment is taken whole
+pub taken_whole : (content piece : List ℕ) → BeginWith content piece → taking_on [] piece ≡ Ends (4 + length content) content
+taken_whole content piece begins =
+    let count : 4 + length content - 0 ≡ 4 + length content = omega arith in
+    ap (λ (r : Option ℕ). taking_up_to [] piece r) begins.ends
+    ∙ ap (λ (n : ℕ). Ends n (data_of (take (4 + length content) piece))) count
+    ∙ ap (λ (xs : List ℕ). Ends (4 + length content) xs) begins.content_is
 
 -- ---- how a record ends in a piece
 

@@ -7,6 +7,7 @@ use Rattle.std.specs.Map.{values_of}
 use Rattle.rb_xdr.specs.Kept.{Kept}
 use Rattle.rb_xdr.specs.Pool.{Pool, HasDistinctKeys}
 use Rattle.rb_rpc.specs.Verdict.{verdict}
+use Rattle.rb_rpc.specs.declared.peer.Peer.{Peer}
 use Rattle.rb_core.specs.declared.types.CoreFault.{CoreFault}
 use Rattle.rb_core.specs.declared.slot.Slot.{Slot}
 use Rattle.rb_core.specs.declared.reading.Reader.{Reader}
@@ -80,6 +81,11 @@ abbrev pub received : List ℕ → Connection → Taking → Received
 received piece c TakesNone = record { count = 0; heard = None }
 received piece c (GoesOn fed) = record { count = length piece; heard = None }
 received piece c (Ends n content) = record { count = n; heard = Some (record { peer = c.peer; verdict = verdict content }) }
+
+-- the same of a record that is one fragment with this data
+abbrev pub heard_whole : Peer → List ℕ → Received
+heard_whole peer content =
+    record { count = 4 + length content; heard = Some (record { peer = peer; verdict = verdict content }) }
 
 -- the arguments that the core has after it: those that are kept of the record that ended, or what it had before
 abbrev pub arguments_after : List ℕ → Taking → List ℕ

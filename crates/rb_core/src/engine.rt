@@ -257,12 +257,12 @@ impl Core {
         self.reply.clear(meter);
         let verdict = read_call(content);
         let arguments = arguments_behind(verdict, content);
-        let message = message_with(verdict, arguments);
+        let message = &message_with(verdict, arguments);
         make_room(
             &mut self.connections,
             &mut self.books,
             &context,
-            &message,
+            message,
             meter,
         );
         let served = serve(
@@ -367,12 +367,12 @@ impl Core {
         let context = self.context(Caller::Tcp(id, heard.peer));
         let len = self.arguments.len(meter);
         let arguments = self.arguments.lend(0..len, meter);
-        let message = message_with(heard.verdict, arguments);
+        let message = &message_with(heard.verdict, arguments);
         make_room(
             &mut self.connections,
             &mut self.books,
             &context,
-            &message,
+            message,
             meter,
         );
         let served = serve(

@@ -4,11 +4,13 @@ ghost use Rattle.rb_xdr.specs.Meter.{Pays, PaysAtMost};
 ghost use Rattle.rb_rpc.specs.Marks.{StandsForFed};
 ghost use Rattle.rb_rpc.specs.Streams.{RecordEnds, ArePart, StandsForMore};
 ghost use Rattle.rb_feed.specs.Feeds.{StandsForCall};
-ghost use Rattle.rb_core.specs.StandsFor.{IsHeld};
+ghost use Rattle.rb_core.specs.StandsFor.{IsHeld, buffer_size, kept_of};
+ghost use Rattle.rb_rpc.specs.Verdict.{verdict};
 ghost use Rattle.rb_core.specs.Reading.{HasData, HasMore, KeepsMore, TakesData, TellsOfPiece, ReadsPiece, KeptSaysTheRecord};
 
+use crate::message::arguments_behind;
 use rb_feed::CallFeed;
-use rb_rpc::{Marks, Part, Verdict};
+use rb_rpc::{Marks, Part, Verdict, read_call};
 use rb_xdr::{Kept, Meter};
 
 /// The greatest length of arguments that are served.
@@ -192,6 +194,27 @@ impl Reader {
             verdict: None,
         }
     }
+}
+
+/// The verdict on a record that came whole, by its data, of which the first 8,816 bytes of its call's arguments are kept
+/// and nothing else.
+#[tactic(auto, unfolding(crate::specs::StandsFor::longest_arguments))]
+pub fn read_record(content: &[u8], kept: &mut Kept, meter: &mut Meter) -> Verdict
+    requires tie { meter.old.tie ≡ kept.old.tie }
+    requires cap { kept.old.cap ≡ buffer_size }
+    ensures verdict { result ≡ verdict content.now }
+    ensures kept { kept.new ≡ record kept.old { bytes = kept_of content.now } }
+    ensures cost { PaysAtMost meter.old meter.new (1 + length content.now) }
+{
+    let verdict = read_call(content);
+    kept.clear(meter);
+    let _ = keep(
+        kept,
+        LONGEST_ARGUMENTS,
+        arguments_behind(verdict, content),
+        meter,
+    );
+    verdict
 }
 
 /// The verdict on a record and the first 8,816 bytes behind the head of its call decide what it says.

@@ -176,7 +176,7 @@ fn put_answer(
 pub fn serve(
     books: &mut Books,
     context: &Context,
-    message: Message,
+    message: &Message,
     arguments: &[u8],
     out: &mut Kept,
     meter: &mut Meter,
@@ -185,13 +185,13 @@ pub fn serve(
     requires limit { books.old.registry.limit ≡ context.now.limit }
     requires forwards { books.old.forwards.cap ≡ context.now.forwards }
     requires caller { IsNew context.now.caller (slots_of books.old.forwards) }
-    requires args { HasArgsIn message arguments.now }
-    requires row_room { HasRoom context.now message books.old }
+    requires args { HasArgsIn message.now arguments.now }
+    requires row_room { HasRoom context.now message.now books.old }
     requires tie { meter.old.tie ≡ out.old.tie }
     requires empty { out.old.bytes ≡ [] }
     requires room { longest_reply ≤ out.old.cap }
     ensures acts { ServesMessage
-        context.now message arguments.now books.old books.new result out.new }
+        context.now message.now arguments.now books.old books.new result out.new }
     ensures cursors { GoesOn books.old.registry books.new.registry }
     ensures floor { books.new.registry.floor ≡ books.old.registry.floor }
     ensures list { HasList context.now.caller
@@ -207,12 +207,12 @@ pub fn serve(
     match message {
         Message::NoCall => Served::Told(Outcome::NoCall),
         Message::Refused(head) => {
-            put_head(out, head, meter);
+            put_head(out, *head, meter);
             Served::Told(Outcome::Reply)
         }
         Message::Garbage(head) => {
             let (xid, status) = (head.xid, ReplyStatus::GarbageArgs);
-            books.note_call(&head);
+            books.note_call(head);
             put_head(out, ReplyHead { xid, status }, meter);
             Served::Told(Outcome::Reply)
         }

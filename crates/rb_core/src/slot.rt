@@ -4,11 +4,11 @@ ghost use Rattle.rb_xdr.specs.Meter.{Pays, PaysAtMost};
 
 use crate::deadlines::time_in;
 use crate::giving::{Stream, advance, begin, pending, pending_len, show_list};
-use crate::reading::{Fed, Reader};
+use crate::reading::{Fed, Reader, read_record};
 use crate::types::Outcome;
 use rb_proto::ListReply;
 use rb_registry::Registry;
-use rb_rpc::{Peer, Verdict};
+use rb_rpc::{FRAGMENT_HEADER, Peer, Verdict, one_fragment};
 use rb_xdr::{Kept, Meter, NoMemory};
 use std::alloc::Global;
 use std::mem;
@@ -153,8 +153,8 @@ impl Slot {
     ghost use Rattle.std.specs.Prelude.{◌≡◌, ◌≤◌, ◌<◌, ◌+◌, ℕ, List, [], true, false, length, Some, IfSome};
     ghost use Rattle.rb_core.specs.State.{Connection};
     ghost use Rattle.rb_core.specs.Connections.{settled, giving, pending_in, longest_fragment};
-    ghost use Rattle.rb_core.specs.Slots.{is_due_slot, SlotActs, SlotBecomes, SlotGives, SlotHears, SlotShows, emptied_slot, ReceivesPiece, StandsBehindPiece, HearsPiece, HasBuffers, IsDraft, StaysSlot, feeding, is_lost_stage, is_idle_stage, is_wanted_slot};
-    ghost use Rattle.rb_core.specs.StandsFor.{StandsForConnection, charge, most_charge, source_for};
+    ghost use Rattle.rb_core.specs.Slots.{is_due_slot, SlotActs, SlotBecomes, SlotGives, SlotHears, SlotShows, emptied_slot, ReceivesPiece, StandsBehindPiece, HearsPiece, HasBuffers, IsDraft, StaysSlot, feeding, heard_whole, is_lost_stage, is_idle_stage, is_wanted_slot};
+    ghost use Rattle.rb_core.specs.StandsFor.{StandsForConnection, charge, most_charge, source_for, kept_of};
     ghost use Rattle.rb_core.specs.Listings.{slot_began, IsNoList, IsToldSlot, KeepsToldSlot};
     ghost use Rattle.rb_core.specs.Giving.{IsToldBy, GoesOnBy};
     ghost use Rattle.rb_core.specs.Serving.{SlotBeginsList};
@@ -242,6 +242,22 @@ impl Slot {
         }
     }
 
+    /// Takes a record whole that is one fragment with this data, whose arguments go into this buffer.
+    fn hear(&self, content: &[u8], arguments: &mut Kept, meter: &mut Meter) -> Received
+        requires arguments { IsDraft meter.old.tie arguments.old }
+        ensures received { result ≡ heard_whole self.now.peer content.now }
+        ensures arguments { arguments.new.bytes ≡ kept_of content.now }
+        ensures draft { IsDraft meter.old.tie arguments.new }
+        ensures cost { PaysAtMost meter.old meter.new (1 + length content.now) }
+    {
+        let peer = self.peer;
+        let verdict = read_record(content, arguments, meter);
+        Received {
+            count: FRAGMENT_HEADER + content.len(),
+            heard: Some(Heard { peer, verdict }),
+        }
+    }
+
     /// Takes bytes of the piece up to the one that ends a record, or all, and says what the record is: its arguments go
     /// into the buffer, in exchange for its own. Nothing is taken while a reply is owed or awaited. From the end of a
     /// record on the connection is Idle, until it is settled.
@@ -270,7 +286,10 @@ impl Slot {
         match self.stage {
             Stage::Idle => {
                 self.mark = clock;
-                self.feed(Reader::new(), piece, clock, arguments, meter)
+                match one_fragment(piece) {
+                    Some(content) => self.hear(content, arguments, meter),
+                    None => self.feed(Reader::new(), piece, clock, arguments, meter),
+                }
             }
             Stage::Reading(reader) => self.feed(reader, piece, clock, arguments, meter),
             Stage::Owing(_) | Stage::Streaming(_) | Stage::Awaiting | Stage::Lost => nothing(),

@@ -57,7 +57,7 @@ fn told(value: Value) -> Answer
 pub fn answer(
     books: &mut Books,
     context: &Context,
-    call: Call,
+    call: &Call,
     arguments: &[u8],
     meter: &mut Meter,
 ) -> Answer
@@ -65,9 +65,9 @@ pub fn answer(
     requires limit { books.old.registry.limit ≡ context.now.limit }
     requires forwards { books.old.forwards.cap ≡ context.now.forwards }
     requires caller { IsNew context.now.caller (slots_of books.old.forwards) }
-    requires args { HasArgs call.request arguments.now }
-    requires room { HasRowRoom context.now call books.old.registry }
-    ensures acts { ActsAs (answer context.now call arguments.now) books.old books.new result }
+    requires args { HasArgs call.now.request arguments.now }
+    requires room { HasRowRoom context.now call.now books.old.registry }
+    ensures acts { ActsAs (answer context.now call.now arguments.now) books.old books.new result }
     ensures quiet { StayUnlessForwarded result books.old.forwards books.new.forwards }
     ensures waiting { OnlyCallerWaits context.now.caller books.old books.new }
     ensures cursors { GoesOn books.old.registry books.new.registry }
@@ -75,43 +75,43 @@ pub fn answer(
     ensures frame { SameFrame books.old books.new }
     ensures cost { PaysAtMost meter.old meter.new (call_cost books.old) }
 {
-    let Call { head, request } = call;
-    match request {
-        Request::Void(procedure) => Answer::Results(answer_void(context, procedure)),
+    let head = &call.head;
+    match &call.request {
+        Request::Void(procedure) => Answer::Results(answer_void(context, *procedure)),
         Request::Mapping(MappingProcedure::Set, mapping) => {
-            let row = row_of_mapping(owner_of(head.cred), &mapping);
-            told(Value::Bool(set_row(books, context, &head, row, meter)))
+            let row = row_of_mapping(owner_of(head.cred), mapping);
+            told(Value::Bool(set_row(books, context, head, row, meter)))
         }
         Request::Mapping(MappingProcedure::Unset, mapping) => {
             let (prog, vers) = (mapping.prog, mapping.vers);
-            let done = unset_rows(books, context, &head, prog, vers, Some(Which::Inet), meter);
+            let done = unset_rows(books, context, head, prog, vers, Some(Which::Inet), meter);
             told(Value::Bool(done))
         }
         Request::Mapping(MappingProcedure::Getport, mapping) => {
-            told(Value::Number(getport(books, &head, &mapping, meter)))
+            told(Value::Number(getport(books, head, mapping, meter)))
         }
         Request::Rpcb(RpcbProcedure::Set, rpcb) => {
-            let row = row_of_rpcb(owner_of(head.cred), &rpcb);
-            told(Value::Bool(set_row(books, context, &head, row, meter)))
+            let row = row_of_rpcb(owner_of(head.cred), rpcb);
+            told(Value::Bool(set_row(books, context, head, row, meter)))
         }
         Request::Rpcb(RpcbProcedure::Unset, rpcb) => {
             let which = which_of(rpcb.netid.as_slice());
-            let done = unset_rows(books, context, &head, rpcb.prog, rpcb.vers, which, meter);
+            let done = unset_rows(books, context, head, rpcb.prog, rpcb.vers, which, meter);
             told(Value::Bool(done))
         }
         Request::Rpcb(RpcbProcedure::Getaddr, rpcb) => {
-            told(Value::Text(getaddr(books, context, &head, &rpcb, meter)))
+            told(Value::Text(getaddr(books, context, head, rpcb, meter)))
         }
         Request::Rpcb(RpcbProcedure::Getversaddr, rpcb) => {
-            told(Value::Text(getversaddr(books, context, &head, &rpcb, meter)))
+            told(Value::Text(getversaddr(books, context, head, rpcb, meter)))
         }
         Request::Rpcb(RpcbProcedure::Getaddrlist, rpcb) => {
             Answer::Results(Results::Rows(Listing::Entries(rpcb.prog, rpcb.vers)))
         }
-        Request::Uaddr2taddr(text) => told(Value::Netbuf(uaddr2taddr(&text))),
-        Request::Taddr2uaddr(netbuf) => told(Value::Text(taddr2uaddr(&netbuf))),
+        Request::Uaddr2taddr(text) => told(Value::Netbuf(uaddr2taddr(text))),
+        Request::Taddr2uaddr(netbuf) => told(Value::Text(taddr2uaddr(netbuf))),
         Request::Forward(kind, remote) => {
-            forward_call(books, context, head.xid, kind, &remote, arguments, meter)
+            forward_call(books, context, head.xid, *kind, remote, arguments, meter)
         }
     }
 }

@@ -1,12 +1,13 @@
 -- First records and fragments agree.
 use Rattle.std.proofs.Common.{◌≡◌, ◌<◌, ◌≤◌, ◌+◌, ◌-◌, ◌%◌, ◌^◌, ℕ, zero, suc, Bool, true, false, not, cond, ltb, List, [], ◌∷◌, ◌++◌, length, take, drop, Option, Some, None, refl, sym, ap, subst, ◌∙◌, append_assoc, append-nil, arith, inl, inr, ◌⊎◌, length-append}
-use Rattle.std.specs.Prelude.{option_map, slice_range}
-use Rattle.std.proofs.lemmas.List.{take-append-drop, length-take, length-drop, take_at, drop_at, nil_from_length}
+use Rattle.std.specs.Prelude.{option_map, slice_range, nat_lt}
+use Rattle.std.specs.Int.{w32, from_be_bytes}
+use Rattle.std.proofs.lemmas.List.{take-append-drop, take-take, drop-take, length-take, length-drop, take_at, drop_at, nil_from_length}
 use Rattle.std.proofs.lemmas.Bool.{ltb-false, ltb-true, le-ltb, lt-ltb, cond-true, cond-false}
 use Rattle.std.proofs.lemmas.List.Elements.{All-cons, All-nil}
 use Rattle.std.proofs.Math.Seq.{take-add}
 use Rattle.rb_xdr.specs.Xdr.{AreBytes, number, number_at}
-use Rattle.rb_rpc.specs.Records.{Fragment, fragment_header, marking, markings, is_last, fragment_end, is_cut, record_of, first_record, data_in, data_of, fragment_size, cut_up, reply_fragments, marked}
+use Rattle.rb_rpc.specs.Records.{Fragment, fragment_header, marking, markings, is_last, fragment_end, is_cut, record_of, first_record, data_in, data_of, BeginWith, fragment_size, cut_up, reply_fragments, marked}
 use Rattle.rb_rpc.specs.RecordLaws.{joined, is_empty, AreFragments, IsMarked, IsMarkedAs, HasNoRecord, FirstRecordIsLeast, NoneWhereNoFrontIsOne, DataIsJoined, NoRecordBeginsAnother, IsReplyFragment, AreReplyFragments, RepliesAreMarked}
 use Rattle.rb_xdr.proofs.Words.{AreBytes-drop, length-number, number_at-number, number-number_at, number_at_small}
 
@@ -99,6 +100,44 @@ pub data_again : (bytes content rest : List ℕ) → IsMarked bytes content → 
 unfolding data_of
 data_again bytes content rest m =
     rw (m.marked.spelled, m.content_is) (data_walk (length (markings m.fragments ++ rest)) m.fragments rest m.marked.some m.marked.fragmented (omega (arith, at_least m.fragments, length-append (markings m.fragments) rest)))
+
+-- ---- one fragment
+
+end_of_one : (k : ℕ) (bytes : List ℕ) → 0 < k → is_cut bytes ≡ false → is_last bytes ≡ true → record_of k bytes ≡ Some (fragment_end bytes)
+end_of_one zero bytes some cut last = absurd (omega (arith, some))
+end_of_one (suc k) bytes some cut last = rw (cut, last) refl
+
+data_of_one : (k : ℕ) (bytes : List ℕ) → 0 < k → is_last bytes ≡ true → data_in k bytes ≡ slice_range bytes 4 (fragment_end bytes)
+data_of_one zero bytes some last = absurd (omega (arith, some))
+data_of_one (suc k) bytes some last = rw last refl
+
+-- the first word of a front
+front_word : (n : ℕ) (bytes : List ℕ) → number_at 0 (take (4 + n) bytes) ≡ number_at 0 bytes
+unfolding number_at
+front_word n bytes = ap (λ (xs : List ℕ). from_be_bytes w32 xs) (take-take 4 (4 + n) bytes (omega arith))
+
+pub one_begins : (bytes : List ℕ) (n : ℕ) → n ≡ number_at 0 bytes → 2 ^ 31 ≤ n → 4 + n % 2 ^ 31 ≤ length bytes → BeginWith (take (4 + n % 2 ^ 31 - 4) (drop 4 bytes)) bytes
+unfolding first_record data_of
+one_begins bytes n is last whole =
+    let end : ℕ = 4 + n % 2 ^ 31 in
+    let content : List ℕ = take (end - 4) (drop 4 bytes) in
+    let size : length content ≡ end - 4 = omega (arith, length-take (end - 4) (drop 4 bytes), length-drop 4 bytes, whole) in
+    let front : List ℕ = take (4 + length content) bytes in
+    let end_is : fragment_end bytes ≡ end = ap (λ (k : ℕ). 4 + k % 2 ^ 31) (sym is) in
+    let flag : is_last bytes ≡ true = ap not (le-ltb (number_at 0 bytes) (2 ^ 31) (omega (arith, is, last))) in
+    let word : number_at 0 front ≡ number_at 0 bytes = front_word (length content) bytes in
+    let front_end : fragment_end front ≡ end = ap (λ (k : ℕ). 4 + k % 2 ^ 31) (word ∙ sym is) in
+    let front_flag : is_last front ≡ true = ap (λ (k : ℕ). not (nat_lt k (2 ^ 31))) word ∙ flag in
+    record {
+      ends =
+          end_of_one (length bytes) bytes (omega (arith, whole)) (le-ltb (length bytes) (fragment_end bytes) (omega (arith, end_is, whole))) flag
+          ∙ ap (λ (k : ℕ). Some k) (omega (arith, end_is, size));
+      content_is =
+          data_of_one (length front) front (omega (arith, length-take (4 + length content) bytes, whole)) front_flag
+          ∙ ap (λ (k : ℕ). take (k - 4) (drop 4 front)) front_end
+          ∙ ap (λ (xs : List ℕ). take (end - 4) xs) (drop-take 4 (length content) bytes)
+          ∙ take-take (end - 4) (length content) (drop 4 bytes) (omega (arith, size));
+    }
 
 -- ---- from the bytes to the fragments
 

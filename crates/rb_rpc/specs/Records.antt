@@ -1,5 +1,5 @@
 -- Record marking (RFC 5531 section 11).
-use Rattle.std.specs.Prelude.{ℕ, zero, suc, ◌+◌, ◌%◌, ◌^◌, nat_lt, Bool, true, false, not, if◌then◌else◌, List, [], ◌∷◌, ◌++◌, length, take, drop, slice_range, Option, Some, None}
+use Rattle.std.specs.Prelude.{◌≡◌, ℕ, zero, suc, ◌+◌, ◌%◌, ◌^◌, nat_lt, Bool, true, false, not, if◌then◌else◌, List, [], ◌∷◌, ◌++◌, length, take, drop, slice_range, Option, Some, None}
 use Rattle.std.specs.List.{flat_map}
 use Rattle.std.specs.Option.{option_map}
 use Rattle.rb_xdr.specs.Xdr.{number, number_at}
@@ -47,6 +47,13 @@ record_of (suc k) bytes =
 unfoldable pub first_record : List ℕ → Option ℕ
 first_record bytes = record_of (length bytes) bytes
 
+-- the data of the first record, where that is one fragment and whole
+abbrev pub one_fragment : List ℕ → Option (List ℕ)
+one_fragment bytes =
+    if is_cut bytes then None
+    else if is_last bytes then Some (slice_range bytes 4 (fragment_end bytes))
+    else None
+
 abbrev pub data_in : ℕ → List ℕ → List ℕ
 data_in zero bytes = []
 data_in (suc k) bytes =
@@ -56,6 +63,11 @@ data_in (suc k) bytes =
 -- The data of the marked record that the bytes begin with, as far as the bytes go.
 unfoldable pub data_of : List ℕ → List ℕ
 data_of bytes = data_in (length bytes) bytes
+
+-- The bytes begin with a record of this data that is one fragment.
+pub record BeginWith (content bytes : List ℕ) : Type 0 where
+  pub ends : first_record bytes ≡ Some (4 + length content)
+  pub content_is : data_of (take (4 + length content) bytes) ≡ content
 
 -- ---- a reply, marked
 

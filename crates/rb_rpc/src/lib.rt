@@ -20,7 +20,7 @@ pub use laws::{
     replies_are_of_the_grammar, verdict_is_of_the_grammar, written_calls_are_read,
     written_replies_are_read,
 };
-pub use marks::{Marks, Part, fragment_header};
+pub use marks::{FRAGMENT_HEADER, Marks, Part, fragment_header, one_fragment};
 pub use peer::{Caller, Peer};
 pub use reply::{BadReply, ReplyHead, ReplyStatus, put_reply, read_reply};
 pub use worked::{worked_calls, worked_records, worked_replies};

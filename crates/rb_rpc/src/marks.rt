@@ -1,7 +1,10 @@
 //! Record marking (RFC 5531 section 11).
-ghost use Rattle.std.specs.Prelude.{◌≡◌, ◌≤◌};
-ghost use Rattle.rb_rpc.specs.Records.{fragment_header};
+ghost use Rattle.std.specs.Prelude.{◌≡◌, ◌≤◌, IfSome};
+ghost use Rattle.std.specs.Option.{option_map};
+ghost use Rattle.rb_rpc.specs.Records.{fragment_header, one_fragment, BeginWith};
 ghost use Rattle.rb_rpc.specs.Streams.{behind, behind_header};
+
+use crate::integers::number_at;
 
 /// What a byte of a record is.
 #[derive(Clone, Copy, PartialEq, Eq, Debug)]
@@ -23,6 +26,9 @@ enum Place {
 
 /// The highest bit of a header: the fragment is the last of its record.
 const LAST: u32 = 1 << 31;
+
+/// How many bytes the header of a fragment has.
+pub const FRAGMENT_HEADER: usize = 4;
 
 const START: Place = Place::Header { seen: 0, number: 0 };
 
@@ -126,6 +132,23 @@ impl Marks {
             }
         }
     }
+}
+
+/// The data of the record in front of the bytes, where that is one fragment and whole: so most calls come. `None` says
+/// nothing of records of many fragments.
+pub fn one_fragment(bytes: &[u8]) -> Option<&[u8]>
+    ensures exact { option_map (λ lent. lent.now) result ≡ one_fragment bytes.now }
+    ensures content { IfSome result (λ lent. BeginWith lent.now bytes.now) }
+{
+    if bytes.len() < FRAGMENT_HEADER {
+        return None;
+    }
+    let header = number_at(bytes, 0);
+    let end = FRAGMENT_HEADER + (header % LAST) as usize;
+    if bytes.len() < end || header < LAST {
+        return None;
+    }
+    Some(&bytes[FRAGMENT_HEADER..end])
 }
 
 /// The header of a fragment of so many bytes of data (1 to 1,024), the last of its record or not.

@@ -125,7 +125,7 @@ fn serve(
     if LIMIT - books.registry.len(meter) <= dead {
         return Err("no room".into());
     }
-    let given = answer(books, &context, Call { head, request }, args, meter);
+    let given = answer(books, &context, &Call { head, request }, args, meter);
     out.clear(meter);
     if let Answer::Results(results) = given {
         put_results(&results, books, &LISTENER, 1000, out, meter)?;

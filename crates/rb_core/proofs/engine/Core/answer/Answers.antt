@@ -67,21 +67,21 @@ pub returns-clause-acts : goal.returns-clause-acts
 returns-clause-acts c =
     let held = c.self.inside.arguments.bytes in
     let all = all_lent c.lend-arguments.result.now held c.len-len.result c.lend-arguments.ensures.bytes c.len-len.ensures.len in
-    let says = by_lent c.message_with-message.result c.args.heard.verdict c.lend-arguments.result.now held c.message_with-message.ensures.message all in
+    let says = by_lent c.message_with.result c.args.heard.verdict c.lend-arguments.result.now held c.message_with.ensures.message all in
     let view = without_arguments (the_view c.self.inside) in
     let books = c.serve-served.new.books in
     let host = c.self.inside.listener.host in
     let is = sees (the_view c.self.inside) _ c.context-context.result c.args.id c.args.heard c.self.view_is c.context-context.ensures in
     let given : Outcome = served_in (source_in host books) c.serve-served.result c.serve-served.new.out.bytes in
     let message : Message = message_with c.args.heard.verdict held in
-    let acts = of_message c.context-context.result c.message_with-message.result message c.lend-arguments.result.now held _ _ given says all
-    (subst (λ (x : Context). ActsAs (outcome c.context-context.result c.message_with-message.result c.lend-arguments.result.now) c.make_room.new.books books (served_in (source_in x.listener.host books) c.serve-served.result c.serve-served.new.out.bytes)) is c.serve-served.ensures.acts) in
+    let acts = of_message c.context-context.result c.message_with.result message c.lend-arguments.result.now held _ _ given says all
+    (subst (λ (x : Context). ActsAs (outcome c.context-context.result c.message_with.result c.lend-arguments.result.now) c.make_room.new.books books (served_in (source_in x.listener.host books) c.serve-served.result c.serve-served.new.out.bytes)) is c.serve-served.ensures.acts) in
     rw c.clear.ensures.empty (
     heard_from c.args.id c.args.heard (the_view c.self.inside) c.args.self.now _ c.go_on.result c.self.view_is (
     told given c.go_on.result c.go_on.ensures.closed (answering_heard c.args.id c.args.heard held) _ _
     (answer_acts view c.args.id c.args.heard.peer message held c.make_room.new.connections books given c.go_on.new.self
     (served_by view (Tcp c.args.id c.args.heard.peer) c.context-context.result is c.make_room.new.connections c.make_room.new.books books c.serve-served.ensures.cursors c.serve-served.ensures.floor c.make_room.ensures.told
-    message held given (makes_for c.context-context.result c.message_with-message.result message _ _ _ _ says c.make_room.ensures.makes) acts c.make_room.ensures.frame c.serve-served.ensures.frame c.make_room.ensures.stays)
+    message held given (makes_for c.context-context.result c.message_with.result message _ _ _ _ says c.make_room.ensures.makes) acts c.make_room.ensures.frame c.serve-served.ensures.frame c.make_room.ensures.stays)
     c.go_on.ensures.stays c.go_on.ensures.stands)))
 
 waiting_in : (c : goal.After-go_on) → is_waiting c.args.id (slots_of c.self.inside.books.forwards) ≡ false

@@ -51,17 +51,17 @@ pub returns-clause-acts : goal.returns-clause-acts
 returns-clause-acts c =
     let content = c.args.content.now in
     let old : Held = record (began (the_view c.self.inside) c.count-self-inside.result) { clock = c.max-self-inside.result } in
-    let says = says_so c.message_with-message.result c.read_call-verdict.result c.arguments_behind-arguments.result.now content c.message_with-message.ensures.message c.read_call-verdict.ensures.verdict c.arguments_behind-arguments.ensures in
+    let says = says_so c.message_with.result c.read_call-verdict.result c.arguments_behind-arguments.result.now content c.message_with.ensures.message c.read_call-verdict.ensures.verdict c.arguments_behind-arguments.ensures in
     let books = c.serve-served.new.books in
     let reply = c.serve-served.new.out.bytes in
     let given : Outcome = outcome_with c.in-Told.outcome reply in
-    let acts : ActsAs (outcome c.context-context.result c.message_with-message.result c.arguments_behind-arguments.result.now) c.make_room.new.books books given = rw c.in-Told.is at c.serve-served.ensures.acts in
+    let acts : ActsAs (outcome c.context-context.result c.message_with.result c.arguments_behind-arguments.result.now) c.make_room.new.books books given = rw c.in-Told.is at c.serve-served.ensures.acts in
     acts_begun _ (the_view c.self.inside) c.args.self.now _ c.count-self-inside.result _ c.self.view_is
     (datagram_acts (began (the_view c.self.inside) c.count-self-inside.result) c.args.now c.max-self-inside.result c.args.peer content c.make_room.new.connections books reply c.serve-served.new.out.tie c.max-self-inside.ensures c.serve-served.ensures.short
     given
     (served_by old (Udp c.args.peer) c.context-context.result c.context-context.ensures c.make_room.new.connections c.make_room.new.books books c.serve-served.ensures.cursors c.serve-served.ensures.floor c.make_room.ensures.told
-    (message_of content) (arguments_of content) given (makes_for c.context-context.result c.message_with-message.result content _ _ _ _ says c.make_room.ensures.makes)
-    (of_content c.context-context.result c.message_with-message.result c.arguments_behind-arguments.result.now content _ _ given says c.arguments_behind-arguments.ensures acts)
+    (message_of content) (arguments_of content) given (makes_for c.context-context.result c.message_with.result content _ _ _ _ says c.make_room.ensures.makes)
+    (of_content c.context-context.result c.message_with.result c.arguments_behind-arguments.result.now content _ _ given says c.arguments_behind-arguments.ensures acts)
     c.make_room.ensures.frame c.serve-served.ensures.frame c.make_room.ensures.stays)
     (written_is c.in-Told.outcome reply (rw c.in-Told.is at c.serve-served.ensures.written)))
 
