@@ -5,7 +5,7 @@ use Rattle.std.proofs.lemmas.Bool.{lt-ltb, le-ltb}
 use Rattle.std.proofs.lemmas.Bool.Decides.{nat_tests}
 use Rattle.rb_xdr.specs.Kept.{Kept}
 use Rattle.rb_rpc.specs.declared.peer.Peer.{Peer}
-use Rattle.rb_rpc.specs.Records.{first_record, data_of, BeginWith}
+use Rattle.rb_rpc.specs.Records.{first_record, data_of, BeginsWithRecord}
 use Rattle.rb_rpc.specs.Verdict.{verdict}
 use Rattle.rb_rpc.specs.declared.call.Verdict.{Verdict}
 use Rattle.rb_core.specs.declared.slot.Slot.{Slot}
@@ -135,7 +135,7 @@ some_where_fed phase fed [] is some = absurd (some refl)
 some_where_fed phase fed (byte ∷ piece) is some = rw is refl
 
 -- a record that is one fragment is taken whole
-pub taken_whole : (content piece : List ℕ) → BeginWith content piece → taking_on [] piece ≡ Ends (4 + length content) content
+pub taken_whole : (content piece : List ℕ) → BeginsWithRecord content piece → taking_on [] piece ≡ Ends (4 + length content) content
 taken_whole content piece begins =
     let count : 4 + length content - 0 ≡ 4 + length content = omega arith in
     ap (λ (r : Option ℕ). taking_up_to [] piece r) begins.ends

@@ -7,7 +7,7 @@ use Rattle.std.proofs.lemmas.Bool.{ltb-false, ltb-true, le-ltb, lt-ltb, cond-tru
 use Rattle.std.proofs.lemmas.List.Elements.{All-cons, All-nil}
 use Rattle.std.proofs.Math.Seq.{take-add}
 use Rattle.rb_xdr.specs.Xdr.{AreBytes, number, number_at}
-use Rattle.rb_rpc.specs.Records.{Fragment, fragment_header, marking, markings, is_last, fragment_end, is_cut, record_of, first_record, data_in, data_of, BeginWith, fragment_size, cut_up, reply_fragments, marked}
+use Rattle.rb_rpc.specs.Records.{Fragment, fragment_header, marking, markings, is_last, fragment_end, is_cut, record_of, first_record, data_in, data_of, BeginsWithRecord, fragment_size, cut_up, reply_fragments, marked}
 use Rattle.rb_rpc.specs.RecordLaws.{joined, is_empty, AreFragments, IsMarked, IsMarkedAs, HasNoRecord, FirstRecordIsLeast, NoneWhereNoFrontIsOne, DataIsJoined, NoRecordBeginsAnother, IsReplyFragment, AreReplyFragments, RepliesAreMarked}
 use Rattle.rb_xdr.proofs.Words.{AreBytes-drop, length-number, number_at-number, number-number_at, number_at_small}
 
@@ -116,7 +116,7 @@ front_word : (n : ℕ) (bytes : List ℕ) → number_at 0 (take (4 + n) bytes) �
 unfolding number_at
 front_word n bytes = ap (λ (xs : List ℕ). from_be_bytes w32 xs) (take-take 4 (4 + n) bytes (omega arith))
 
-pub one_begins : (bytes : List ℕ) (n : ℕ) → n ≡ number_at 0 bytes → 2 ^ 31 ≤ n → 4 + n % 2 ^ 31 ≤ length bytes → BeginWith (take (4 + n % 2 ^ 31 - 4) (drop 4 bytes)) bytes
+pub one_begins : (bytes : List ℕ) (n : ℕ) → n ≡ number_at 0 bytes → 2 ^ 31 ≤ n → 4 + n % 2 ^ 31 ≤ length bytes → BeginsWithRecord (take (4 + n % 2 ^ 31 - 4) (drop 4 bytes)) bytes
 unfolding first_record data_of
 one_begins bytes n is last whole =
     let end : ℕ = 4 + n % 2 ^ 31 in

@@ -65,7 +65,7 @@ unfoldable pub data_of : List ℕ → List ℕ
 data_of bytes = data_in (length bytes) bytes
 
 -- The bytes begin with a record of this data that is one fragment.
-pub record BeginWith (content bytes : List ℕ) : Type 0 where
+pub record BeginsWithRecord (content bytes : List ℕ) : Type 0 where
   pub ends : first_record bytes ≡ Some (4 + length content)
   pub content_is : data_of (take (4 + length content) bytes) ≡ content
 

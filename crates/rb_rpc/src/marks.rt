@@ -1,7 +1,7 @@
 //! Record marking (RFC 5531 section 11).
 ghost use Rattle.std.specs.Prelude.{◌≡◌, ◌≤◌, IfSome};
 ghost use Rattle.std.specs.Option.{option_map};
-ghost use Rattle.rb_rpc.specs.Records.{fragment_header, one_fragment, BeginWith};
+ghost use Rattle.rb_rpc.specs.Records.{fragment_header, one_fragment, BeginsWithRecord};
 ghost use Rattle.rb_rpc.specs.Streams.{behind, behind_header};
 
 use crate::integers::number_at;
@@ -27,7 +27,7 @@ enum Place {
 /// The highest bit of a header: the fragment is the last of its record.
 const LAST: u32 = 1 << 31;
 
-/// How many bytes the header of a fragment has.
+/// How many bytes the header of a fragment has (RFC 5531 section 11).
 pub const FRAGMENT_HEADER: usize = 4;
 
 const START: Place = Place::Header { seen: 0, number: 0 };
@@ -134,11 +134,11 @@ impl Marks {
     }
 }
 
-/// The data of the record in front of the bytes, where that is one fragment and whole: so most calls come. `None` says
-/// nothing of records of many fragments.
+/// The data of the record in front of the bytes, where that is one fragment and whole (RFC 5531 section 11): so most calls
+/// come. `None` where the first fragment is cut short, or is not the last of its record.
 pub fn one_fragment(bytes: &[u8]) -> Option<&[u8]>
     ensures exact { option_map (λ lent. lent.now) result ≡ one_fragment bytes.now }
-    ensures content { IfSome result (λ lent. BeginWith lent.now bytes.now) }
+    ensures content { IfSome result (λ lent. BeginsWithRecord lent.now bytes.now) }
 {
     if bytes.len() < FRAGMENT_HEADER {
         return None;

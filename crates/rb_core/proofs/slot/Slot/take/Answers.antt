@@ -7,7 +7,7 @@ use Rattle.rb_core.specs.State.{Phase}
 use Rattle.rb_core.specs.Connections.{taking, taking_on, fed_in}
 use Rattle.rb_core.specs.Connections.Taking.{TakesNone, Ends}
 use Rattle.rb_rpc.specs.declared.peer.Peer.{Peer}
-use Rattle.rb_rpc.specs.Records.{BeginWith}
+use Rattle.rb_rpc.specs.Records.{BeginsWithRecord}
 use Rattle.rb_core.specs.declared.giving.Stream.{Stream}
 use Rattle.rb_core.specs.StandsFor.{Source, StandsForPhase}
 use Rattle.rb_core.specs.Slots.{IsBeforePiece, heard_whole}
@@ -38,7 +38,7 @@ returns-in-Some-clause-acts c =
     let piece = c.args.piece.now in
     let content : List ℕ = c.in-Some.content.now in
     let some = some_bytes piece (sym c.is_empty.ensures ∙ c.if-is_empty.false) in
-    let begins : BeginWith content piece = rw c.in-Some.is at c.one_fragment.ensures.content in
+    let begins : BeginsWithRecord content piece = rw c.in-Some.is at c.one_fragment.ensures.content in
     λ source. feeding_acts source c.args.self.now _ c.args.clock piece _ (λ x h.
     let p = idle_phase source _ _ _ x.phase c.in-Idle.is h.phase in
     record {
@@ -108,7 +108,7 @@ returns-in-Some-clause-arguments c = λ source x h.
     let piece = c.args.piece.now in
     let content : List ℕ = c.in-Some.content.now in
     let some = some_bytes piece (sym c.is_empty.ensures ∙ c.if-is_empty.false) in
-    let begins : BeginWith content piece = rw c.in-Some.is at c.one_fragment.ensures.content in
+    let begins : BeginsWithRecord content piece = rw c.in-Some.is at c.one_fragment.ensures.content in
     let p = idle_phase source _ _ _ x.phase c.in-Idle.is h.phase in
     taken_arguments _ _ piece x (Ends (4 + length content) content) (some_where_fed x.phase [] piece (ap fed_in p.0) some ∙ taken_whole content piece begins) c.hear.ensures.arguments
 
