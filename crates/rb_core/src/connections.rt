@@ -207,7 +207,10 @@ fn make_spare(alloc: Global, conns: usize, meter: &mut Meter) -> Result<Pool<Buf
 }
 
 /// The key of the first slot that is wanted. One that is wanted by its number is looked for under the hint first.
+///
+/// It is inlined, since each caller knows what kind is wanted, and a call over TCP looks its connection up four times.
 #[tactic(auto, unfolding(crate::specs::Slots::wanted_slot))]
+#[inline(always)]
 fn wanted_key(slots: &Pool<Slot>, hint: usize, wanted: Wanted, meter: &mut Meter) -> Option<usize>
     requires tie { meter.old.tie ≡ slots.now.tie }
     requires numbers { HasDistinctNumbers (values_of slots.now.entries) }
@@ -568,6 +571,7 @@ impl Connections {
     }
 
     /// The first connection that is wanted.
+    #[inline(always)]
     fn first(&self, wanted: Wanted, meter: &mut Meter) -> Option<&Slot>
         requires { meter.old.tie ≡ self.now.tie }
         ensures found { Finds wanted self.now result }

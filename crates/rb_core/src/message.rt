@@ -11,7 +11,7 @@ use rb_rpc::{CallHead, ReplyHead, ReplyStatus, Verdict, read_call};
 
 /// What the data of a record, or a datagram, says.
 #[derive(Drop)]
-pub enum Message {
+pub enum Message<'a> {
     /// Nothing that can be answered.
     NoCall,
     /// A call that gets this reply, whatever the daemon holds.
@@ -19,7 +19,7 @@ pub enum Message {
     /// A call of a procedure that is served, whose arguments can't be read.
     Garbage(CallHead),
     /// A call of a procedure that is served, with its arguments.
-    Asked(Call),
+    Asked(Call<'a>),
 }
 
 #[tactic(auto, unfolding(crate::specs::Calls::is_served))]
@@ -29,15 +29,15 @@ fn is_served(vers: u32) -> bool
     vers == 2 || vers == 3 || vers == 4
 }
 
-fn refusal(xid: u32, status: ReplyStatus) -> Message
+fn refusal(xid: u32, status: ReplyStatus) -> Message<'static>
     ensures { result ≡ Message.Refused (record { xid = xid; status = status }) }
 {
     Message::Refused(ReplyHead { xid, status })
 }
 
 #[tactic(auto, unfolding(crate::specs::Calls::request_of))]
-fn request_of(head: CallHead, request: Result<Request, ArgumentFault>) -> Message
-    ensures { result ≡ request_of head request }
+fn request_of<'a>(head: CallHead, request: Result<Request<'a>, ArgumentFault>) -> Message<'a>
+    ensures { result ≡ request_of head request.entry }
 {
     match request {
         Ok(request) => Message::Asked(Call { head, request }),
@@ -48,7 +48,7 @@ fn request_of(head: CallHead, request: Result<Request, ArgumentFault>) -> Messag
 
 /// What a call with a readable head says.
 #[tactic(auto, unfolding(crate::specs::Calls::call_of))]
-fn call_of(head: CallHead, arguments: &[u8]) -> Message
+fn call_of(head: CallHead, arguments: &[u8]) -> Message<'_>
     ensures message { result ≡ call_of head arguments.now }
     ensures args { HasArgsIn result arguments.now }
 {
@@ -62,7 +62,7 @@ fn call_of(head: CallHead, arguments: &[u8]) -> Message
 }
 
 /// What a message says on which this is the verdict, and these are the bytes behind its head.
-pub fn message_with(verdict: Verdict, arguments: &[u8]) -> Message
+pub fn message_with(verdict: Verdict, arguments: &[u8]) -> Message<'_>
     ensures message { result ≡ message_with verdict arguments.now }
     ensures args { HasArgsIn result arguments.now }
 {
@@ -89,7 +89,7 @@ pub fn arguments_behind(verdict: Verdict, bytes: &[u8]) -> &[u8]
 
 /// What the data of a record, or a datagram, says: the first line of the order of refusals that holds decides.
 #[tactic(auto, unfolding(crate::specs::Calls::message_of, rb_feed::specs::Feeds::arguments_of))]
-pub fn read_message(bytes: &[u8]) -> Message
+pub fn read_message(bytes: &[u8]) -> Message<'_>
     ensures { result ≡ message_of bytes.now }
 {
     let verdict = read_call(bytes);

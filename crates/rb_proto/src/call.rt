@@ -23,10 +23,10 @@ use rb_rpc::CallHead;
 use rb_xdr::Meter;
 
 /// A call of a procedure that is served, with arguments that could be read.
-#[derive(PartialEq, Eq, Debug, Drop)]
-pub struct Call {
+#[derive(Drop)]
+pub struct Call<'a> {
     pub head: CallHead,
-    pub request: Request,
+    pub request: Request<'a>,
 }
 
 /// What a procedure without arguments is answered. It leaves nothing behind.
@@ -95,8 +95,8 @@ pub fn answer(
             told(Value::Bool(set_row(books, context, head, row, meter)))
         }
         Request::Rpcb(RpcbProcedure::Unset, rpcb) => {
-            let which = which_of(rpcb.netid.as_slice());
-            let done = unset_rows(books, context, head, rpcb.prog, rpcb.vers, which, meter);
+            let which = which_of(rpcb.netid());
+            let done = unset_rows(books, context, head, rpcb.prog(), rpcb.vers(), which, meter);
             told(Value::Bool(done))
         }
         Request::Rpcb(RpcbProcedure::Getaddr, rpcb) => {
@@ -106,7 +106,7 @@ pub fn answer(
             told(Value::Text(getversaddr(books, context, head, rpcb, meter)))
         }
         Request::Rpcb(RpcbProcedure::Getaddrlist, rpcb) => {
-            Answer::Results(Results::Rows(Listing::Entries(rpcb.prog, rpcb.vers)))
+            Answer::Results(Results::Rows(Listing::Entries(rpcb.prog(), rpcb.vers())))
         }
         Request::Uaddr2taddr(text) => told(Value::Netbuf(uaddr2taddr(text))),
         Request::Taddr2uaddr(netbuf) => told(Value::Text(taddr2uaddr(netbuf))),

@@ -9,6 +9,7 @@ mod entry;
 mod forwarding;
 mod items;
 mod laws;
+mod lent;
 mod list_reply;
 mod listener;
 mod lookups;
@@ -33,6 +34,7 @@ pub use forwarding::refusal;
 pub use laws::{
     forwards_are_noted_once, forwards_go_to_rows, list_replies_go_on, requests_are_of_the_grammar,
 };
+pub use lent::{LentNetbuf, LentRpcb, LentText};
 pub use list_reply::{ListPart, ListReply};
 pub use listener::Listener;
 pub use mapping::Mapping;

@@ -11,10 +11,10 @@ ghost use Rattle.rb_proto.specs.Puts.{call_cost};
 
 use crate::books::{Books, version_of};
 use crate::context::Context;
+use crate::lent::{LentNetbuf, LentRpcb, LentText};
 use crate::mapping::Mapping;
 use crate::netbuf::Netbuf;
 use crate::netids::netid_of_prot;
-use crate::rpcb::Rpcb;
 use rb_registry::Row;
 use rb_rpc::CallHead;
 use rb_stats::{Stats, Target};
@@ -64,12 +64,12 @@ fn addr_found(host: [u8; 4], found: Option<&Row>) -> Text<128>
 }
 
 /// What a call asks for on its own transport.
-fn target_of(context: &Context, rpcb: &Rpcb) -> Target
+fn target_of(context: &Context, rpcb: &LentRpcb) -> Target
     ensures { result ≡ target_of context.now rpcb.now }
 {
     Target {
-        prog: rpcb.prog,
-        vers: rpcb.vers,
+        prog: rpcb.prog(),
+        vers: rpcb.vers(),
         netid: context.netid(),
     }
 }
@@ -123,7 +123,7 @@ pub(crate) fn getaddr(
     books: &mut Books,
     context: &Context,
     head: &CallHead,
-    rpcb: &Rpcb,
+    rpcb: &LentRpcb,
     meter: &mut Meter,
 ) -> Text<128>
     requires { AreTied meter.old.tie books.old }
@@ -135,7 +135,7 @@ pub(crate) fn getaddr(
 {
     let found = books
         .registry
-        .find(rpcb.prog, rpcb.vers, context.netid(), meter);
+        .find(rpcb.prog(), rpcb.vers(), context.netid(), meter);
     let addr = addr_found(context.listener.host, found);
     let target = target_of(context, rpcb);
     note_lookup(&mut books.stats, head, target, found.is_some(), meter);
@@ -148,7 +148,7 @@ pub(crate) fn getversaddr(
     books: &mut Books,
     context: &Context,
     head: &CallHead,
-    rpcb: &Rpcb,
+    rpcb: &LentRpcb,
     meter: &mut Meter,
 ) -> Text<128>
     requires { AreTied meter.old.tie books.old }
@@ -160,7 +160,7 @@ pub(crate) fn getversaddr(
 {
     let found = books
         .registry
-        .find_exact(rpcb.prog, rpcb.vers, context.netid(), meter);
+        .find_exact(rpcb.prog(), rpcb.vers(), context.netid(), meter);
     let addr = addr_found(context.listener.host, found);
     let target = target_of(context, rpcb);
     note_lookup(&mut books.stats, head, target, found.is_some(), meter);
@@ -177,7 +177,7 @@ pub(crate) fn gettime(clock: u64) -> u32
 
 /// RPCBPROC_UADDR2TADDR (RFC 1833 section 2.2.1): an empty buf where the text is no address.
 #[tactic(auto, unfolding(crate::specs::Answers::taddr_of))]
-pub(crate) fn uaddr2taddr(text: &Text<128>) -> Netbuf
+pub(crate) fn uaddr2taddr(text: &LentText<128>) -> Netbuf
     ensures { result ≡ taddr_of text.now }
 {
     match Uaddr::parse(text.as_slice()) {
@@ -197,10 +197,10 @@ pub(crate) fn uaddr2taddr(text: &Text<128>) -> Netbuf
 
 /// RPCBPROC_TADDR2UADDR (RFC 1833 section 2.2.1): the empty text where the buf is no address.
 #[tactic(auto, unfolding(crate::specs::Answers::uaddr_of))]
-pub(crate) fn taddr2uaddr(netbuf: &Netbuf) -> Text<128>
+pub(crate) fn taddr2uaddr(netbuf: &LentNetbuf) -> Text<128>
     ensures { result ≡ uaddr_of netbuf.now }
 {
-    match Uaddr::from_transport(netbuf.buf.as_slice()) {
+    match Uaddr::from_transport(netbuf.buf()) {
         Ok(address) => Text::new(address.text().as_slice()),
         Err(_) => Text::new(&[]),
     }

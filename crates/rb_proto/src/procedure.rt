@@ -1,12 +1,14 @@
 //! The table of procedures.
 ghost use Rattle.std.specs.Prelude.{◌≡◌, Option, IfSome};
-ghost use Rattle.rb_proto.specs.Arguments.{front, procedure_at, arguments, HasArgs};
+ghost use Rattle.rb_proto.specs.Arguments.{value_of, procedure_at, arguments, HasArgs};
 ghost use Rattle.rb_proto.specs.Numbers.{is_void, is_mapping, is_rpcb, is_procedure, number_of};
 
+use crate::lent::{LentNetbuf, LentRpcb, LentText};
+use crate::mapping::Mapping;
 use crate::remote::RemoteCall;
 use crate::request::Request;
 use rb_forward::Kind;
-use rb_xdr::Xdr;
+use rb_xdr::{Xdr, XdrFault};
 
 /// A procedure without arguments.
 #[derive(Clone, Copy, PartialEq, Eq, Debug)]
@@ -81,11 +83,11 @@ const PROCEDURES: [(u32, u32, Procedure); 28] = [
     (4, 12, Procedure::Void(VoidProcedure::Getstat)),
 ];
 
-/// The value that stands in front of the bytes. What follows it counts for nothing.
-fn front<T: Xdr>(bytes: &[u8]) -> Option<T>
-    ensures { result ≡ front T.reads bytes.now }
+/// What was read. What follows it counts for nothing.
+fn value_of<T: Drop>(read: Result<(T, usize), XdrFault>) -> Option<T>
+    ensures { result ≡ value_of read }
 {
-    match T::read(bytes) {
+    match read {
         Ok((value, _)) => Some(value),
         Err(_) => None,
     }
@@ -105,16 +107,25 @@ impl Procedure {
 
     /// What the bytes ask of the procedure, unless its arguments can't be read.
     #[tactic(auto, unfolding(crate::specs::Arguments::arguments))]
-    pub(crate) fn read(self, bytes: &[u8]) -> Option<Request>
+    pub(crate) fn read(self, bytes: &[u8]) -> Option<Request<'_>>
         ensures request { result ≡ arguments self bytes.now }
         ensures args { IfSome result (λ request. HasArgs request bytes.now) }
     {
         match self {
             Procedure::Void(procedure) => Some(Request::Void(procedure)),
-            Procedure::Mapping(procedure) => Some(Request::Mapping(procedure, front(bytes)?)),
-            Procedure::Rpcb(procedure) => Some(Request::Rpcb(procedure, front(bytes)?)),
-            Procedure::Uaddr2taddr => Some(Request::Uaddr2taddr(front(bytes)?)),
-            Procedure::Taddr2uaddr => Some(Request::Taddr2uaddr(front(bytes)?)),
+            Procedure::Mapping(procedure) => {
+                let mapping = value_of(Mapping::read(bytes))?;
+                Some(Request::Mapping(procedure, mapping))
+            }
+            Procedure::Rpcb(procedure) => {
+                let rpcb = value_of(LentRpcb::read(bytes))?;
+                Some(Request::Rpcb(procedure, rpcb))
+            }
+            Procedure::Uaddr2taddr => Some(Request::Uaddr2taddr(value_of(LentText::read(bytes))?)),
+            Procedure::Taddr2uaddr => {
+                let netbuf = value_of(LentNetbuf::read(bytes))?;
+                Some(Request::Taddr2uaddr(netbuf))
+            }
             Procedure::Forward(kind) => Some(Request::Forward(kind, RemoteCall::read(bytes)?)),
         }
     }

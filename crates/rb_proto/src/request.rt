@@ -2,23 +2,21 @@
 ghost use Rattle.std.specs.Prelude.{◌≡◌, IfOk};
 ghost use Rattle.rb_proto.specs.Arguments.{read_request, HasArgs};
 
+use crate::lent::{LentNetbuf, LentRpcb, LentText};
 use crate::mapping::Mapping;
-use crate::netbuf::Netbuf;
 use crate::procedure::{MappingProcedure, Procedure, RpcbProcedure, VoidProcedure};
 use crate::remote::RemoteCall;
-use crate::rpcb::Rpcb;
 use rb_forward::Kind;
-use rb_xdr::Text;
 use thiserror::Error;
 
-/// A procedure with its argument.
-#[derive(PartialEq, Eq, Debug, Drop)]
-pub enum Request {
+/// A procedure with its argument, whose texts stay in the bytes that it was read from.
+#[derive(Drop)]
+pub enum Request<'a> {
     Void(VoidProcedure),
     Mapping(MappingProcedure, Mapping),
-    Rpcb(RpcbProcedure, Rpcb),
-    Uaddr2taddr(Text<128>),
-    Taddr2uaddr(Netbuf),
+    Rpcb(RpcbProcedure, LentRpcb<'a>),
+    Uaddr2taddr(LentText<'a, 128>),
+    Taddr2uaddr(LentNetbuf<'a>),
     Forward(Kind, RemoteCall),
 }
 
@@ -36,7 +34,7 @@ pub enum ArgumentFault {
 ///
 /// ProcUnavail comes before GarbageArgs. The args of a call that is to be forwarded stay in the bytes.
 #[tactic(auto, unfolding(crate::specs::Arguments::is_known, crate::specs::Arguments::request))]
-pub fn read_args(vers: u32, proc: u32, bytes: &[u8]) -> Result<Request, ArgumentFault>
+pub fn read_args(vers: u32, proc: u32, bytes: &[u8]) -> Result<Request<'_>, ArgumentFault>
     ensures request { result ≡ read_request vers proc bytes.now }
     ensures args { IfOk result (λ request. HasArgs request bytes.now) }
 {

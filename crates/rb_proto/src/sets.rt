@@ -9,11 +9,11 @@ ghost use Rattle.rb_proto.specs.Answers.{row_of_mapping, row_of_rpcb, can_be_set
 use crate::books::{Books, owner_of, version_of};
 use crate::call::Call;
 use crate::context::Context;
+use crate::lent::LentRpcb;
 use crate::mapping::Mapping;
 use crate::netids::{netid_named, netid_of_prot};
 use crate::procedure::{MappingProcedure, RpcbProcedure};
 use crate::request::Request;
-use crate::rpcb::Rpcb;
 use rb_registry::{Owner, RPCB_PROG, Registry, Row, Which};
 use rb_rpc::CallHead;
 use rb_uaddr::Uaddr;
@@ -37,15 +37,15 @@ pub(crate) fn row_of_mapping(owner: Owner, mapping: &Mapping) -> Option<Row>
 
 /// The row that a SET asks for, with the address as it was given.
 #[tactic(auto, unfolding(crate::specs::Answers::row_of_rpcb))]
-pub(crate) fn row_of_rpcb(owner: Owner, rpcb: &Rpcb) -> Option<Row>
+pub(crate) fn row_of_rpcb(owner: Owner, rpcb: &LentRpcb) -> Option<Row>
     ensures { result ≡ row_of_rpcb owner rpcb.now }
 {
-    let netid = netid_named(rpcb.netid.as_slice())?;
+    let netid = netid_named(rpcb.netid())?;
     Some(Row {
-        prog: rpcb.prog,
-        vers: rpcb.vers,
+        prog: rpcb.prog(),
+        vers: rpcb.vers(),
         netid,
-        addr: Text::new(rpcb.addr.as_slice()),
+        addr: Text::new(rpcb.addr()),
         owner,
     })
 }

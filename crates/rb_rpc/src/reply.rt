@@ -44,6 +44,9 @@ pub struct BadReply;
 /// Where the verifier of an accepted reply begins, behind three words.
 const VERIFIER: usize = 12;
 
+/// How many bytes an accepted reply has up to its accept_stat, where its verifier is the null one.
+const ACCEPTED_HEAD: usize = 24;
+
 const REPLY: u32 = 1;
 
 // reply_stat
@@ -69,8 +72,22 @@ const RPC_MISMATCH: u32 = 0;
 
 const AUTH_ERROR: u32 = 1;
 
-/// Puts an accepted reply with the null verifier up to its accept_stat, or nothing.
+/// An accepted reply with the null verifier up to its accept_stat.
 #[tactic(auto, unfolding(rb_xdr::specs::Xdr::number, rb_xdr::specs::Xdr::opaque))]
+fn accepted(xid: u32, stat: u32) -> [u8; ACCEPTED_HEAD]
+    ensures { result ≡ accepted xid auth_none stat }
+{
+    let mut head = [0; ACCEPTED_HEAD];
+    head[..4].copy_from_slice(&xid.to_be_bytes());
+    head[4..8].copy_from_slice(&REPLY.to_be_bytes());
+    head[8..12].copy_from_slice(&ACCEPTED.to_be_bytes());
+    head[12..16].copy_from_slice(&AUTH_NONE.to_be_bytes());
+    head[20..].copy_from_slice(&stat.to_be_bytes());
+    head
+}
+
+/// Puts an accepted reply with the null verifier up to its accept_stat, or nothing. It is written at once, since each
+/// reply with results begins so.
 fn put_accepted(xid: u32, stat: u32, out: &mut Kept, meter: &mut Meter) -> Result<(), Full>
     requires { meter.old.tie ≡ out.old.tie }
     ensures room { IsOk result ↔ HasRoom (accepted xid auth_none stat) out.old }
@@ -81,7 +98,11 @@ fn put_accepted(xid: u32, stat: u32, out: &mut Kept, meter: &mut Meter) -> Resul
     ensures cost { OnOk result (Pays meter.old meter.new 25) }
     ensures cost_of_refusal { OnErr result (Pays meter.old meter.new 1) }
 {
-    put_numbers(&[xid, REPLY, ACCEPTED, AUTH_NONE, 0, stat], out, meter)
+    let head = accepted(xid, stat);
+    if out.room(meter) < head.len() {
+        return Err(Full { value: () });
+    }
+    out.extend(&head, meter)
 }
 
 /// Puts the head of a reply, or nothing. The verifier of an accepted one is AUTH_NONE, empty.
