@@ -3,6 +3,7 @@ ghost use Rattle.std.specs.Prelude.{◌≡◌, IfOk};
 use rb_core::{Core, CoreFault, Event, Limits, Listener, NoMemory, Outcome, Output, Peer, replay};
 use rb_xdr::Meter;
 use std::alloc::{AllocError, Global};
+use std::process::Abort;
 use std::test::Fail;
 
 const LOOPBACK: Peer = Peer {
@@ -23,6 +24,9 @@ const LIMITS: Limits = Limits {
 
 // A NULL call of version 2, of xid 1.
 const NULL: [u32; 10] = [1, 0, 2, 100_000, 2, 0, 0, 0, 0, 0];
+
+// The reply to that call.
+const NULL_REPLY: &[u8] = b"\0\0\0\x01\0\0\0\x01\0\0\0\0\0\0\0\0\0\0\0\0\0\0\0\0";
 
 // A whole record with that call.
 const NULL_RECORD: [u32; 11] = [0x8000_0028, 1, 0, 2, 100_000, 2, 0, 0, 0, 0, 0];
@@ -60,20 +64,23 @@ fn outputs(
     Ok(outputs)
 }
 
+// The call is answered, and the 24 bytes of its reply are held.
+fn null_is_answered(rt: &impl Abort, core: &mut Core, call: &[u8], meter: &mut Meter)
+    requires { meter.old.tie ≡ core.old.tie }
+{
+    assert_eq!(rt; core.held(), 270);
+    assert_eq!(rt; core.datagram(0, LOOPBACK, call, meter), Outcome::Reply);
+    assert_eq!(rt; core.udp_reply(meter), NULL_REPLY);
+    assert_eq!(rt; core.held(), 294);
+    assert!(rt; core.held() <= core.bytes_bound());
+}
+
 #[test]
 fn new_core_has_memory(rt: HostRuntime) -> Result<(), Fail> {
     let mut meter = Meter::new();
     let call = words(rt.alloc(), &NULL)?;
-    let reply = words(rt.alloc(), &[1, 1, 0, 0, 0, 0])?;
     let mut core = new_core(rt.alloc(), &mut meter)?;
-    assert_eq!(rt; core.held(), 270);
-    assert_eq!(rt;
-        core.datagram(0, LOOPBACK, &call, &mut meter),
-        Outcome::Reply
-    );
-    assert_eq!(rt; core.udp_reply(&mut meter), reply.as_slice());
-    assert_eq!(rt; core.held(), 294);
-    assert!(rt; core.held() <= core.bytes_bound());
+    null_is_answered(&rt, &mut core, &call, &mut meter);
     Ok(())
 }
 
@@ -129,29 +136,48 @@ fn rest_is_pending(outputs: &[Output]) -> bool {
     matches!(outputs.get(3), Some(Output::Pending(rest)) if rest.as_slice() == REST.as_slice())
 }
 
-#[test]
-fn connections_have_memory(rt: HostRuntime) -> Result<(), Fail> {
-    let mut meter = Meter::new();
-    let events = one_connection(rt.alloc())?;
-    let mut core = new_core(rt.alloc(), &mut meter)?;
-    let given = outputs(rt.alloc(), &mut core, &events, &mut meter)?;
+fn connection_is_served(
+    rt: &impl Abort,
+    alloc: Global,
+    core: &mut Core,
+    meter: &mut Meter,
+) -> Result<(), Fail>
+    requires { meter.old.tie ≡ core.old.tie }
+{
+    let events = one_connection(alloc)?;
+    let given = outputs(alloc, core, &events, meter)?;
     assert!(rt; given.len() == 6 && rest_is_pending(&given));
     assert!(rt; matches!(given.last(), Some(Output::Done)));
     assert_eq!(rt; core.held(), 270);
     Ok(())
 }
 
+#[test]
+fn connections_have_memory(rt: HostRuntime) -> Result<(), Fail> {
+    let mut meter = Meter::new();
+    let mut core = new_core(rt.alloc(), &mut meter)?;
+    connection_is_served(&rt, rt.alloc(), &mut core, &mut meter)
+}
+
+fn null_call(alloc: Global) -> Result<Vec<Event>, AllocError> {
+    let mut events = Vec::new(alloc);
+    events.push(Event::Datagram(0, LOOPBACK, words(alloc, &NULL)?))?;
+    Ok(events)
+}
+
+fn is_null_reply(outputs: &[Output]) -> bool {
+    matches!(outputs, [Output::Replied(reply)] if reply.as_slice() == NULL_REPLY)
+}
+
 /// A NULL call and its reply, of which 24 bytes are held.
 #[test]
 fn null_reply(rt: HostRuntime) -> Result<(), Fail> {
     let mut meter = Meter::new();
-    let mut events = Vec::new(rt.alloc());
-    events.push(Event::Datagram(0, LOOPBACK, words(rt.alloc(), &NULL)?))?;
+    let events = null_call(rt.alloc())?;
     let mut core = new_core(rt.alloc(), &mut meter)?;
     assert_eq!(rt; core.held(), 270);
     let given = outputs(rt.alloc(), &mut core, &events, &mut meter)?;
-    let wanted = words(rt.alloc(), &[1, 1, 0, 0, 0, 0])?;
-    assert!(rt; matches!(given.as_slice(), [Output::Replied(reply)] if *reply == wanted));
+    assert!(rt; is_null_reply(&given));
     assert_eq!(rt; core.held(), 294);
     Ok(())
 }
@@ -194,22 +220,63 @@ fn stays_small(
     Ok(true)
 }
 
+fn connection_opens(
+    rt: &impl Abort,
+    alloc: Global,
+    core: &mut Core,
+    meter: &mut Meter,
+) -> Result<(), Fail>
+    requires { meter.old.tie ≡ core.old.tie }
+    ensures tie { core.new.tie ≡ core.old.tie }
+    ensures same_meter { meter.new.tie ≡ meter.old.tie }
+{
+    let open = opening(alloc)?;
+    let given = outputs(alloc, core, &open, meter)?;
+    assert!(rt; matches!(given.as_slice(), [Output::Opened(1)]) && core.held() == 398);
+    Ok(())
+}
+
+// The first 44 bytes of the record.
+fn record_begins(
+    rt: &impl Abort,
+    alloc: Global,
+    core: &mut Core,
+    meter: &mut Meter,
+) -> Result<(), Fail>
+    requires { meter.old.tie ≡ core.old.tie }
+    ensures tie { core.new.tie ≡ core.old.tie }
+    ensures same_meter { meter.new.tie ≡ meter.old.tie }
+{
+    let first = arrival(alloc, &words(alloc, &OVERLONG)?)?;
+    let given = outputs(alloc, core, &first, meter)?;
+    assert!(rt; took(&given, 44) && core.held() == 398);
+    Ok(())
+}
+
+// The 100,000 bytes behind them.
+fn record_ends(
+    rt: &impl Abort,
+    alloc: Global,
+    core: &mut Core,
+    meter: &mut Meter,
+) -> Result<(), Fail>
+    requires { meter.old.tie ≡ core.old.tie }
+{
+    let next = arrival(alloc, &[0xff; 1000])?;
+    assert!(rt; stays_small(alloc, core, &next, meter)?);
+    let given = outputs(alloc, core, &next, meter)?;
+    assert!(rt; took(&given, 1000) && core.held() == 450);
+    assert!(rt; core.held() <= core.bytes_bound());
+    Ok(())
+}
+
 /// What is held while a record of 100,044 bytes comes in, in 101 pieces.
 #[test]
 fn overlong_record_is_answered(rt: HostRuntime) -> Result<(), Fail> {
     let mut meter = Meter::new();
-    let open = opening(rt.alloc())?;
-    let first = arrival(rt.alloc(), &words(rt.alloc(), &OVERLONG)?)?;
-    let next = arrival(rt.alloc(), &[0xff; 1000])?;
     let mut core = new_core(rt.alloc(), &mut meter)?;
     assert_eq!(rt; core.held(), 270);
-    let given = outputs(rt.alloc(), &mut core, &open, &mut meter)?;
-    assert!(rt; matches!(given.as_slice(), [Output::Opened(1)]) && core.held() == 398);
-    let given = outputs(rt.alloc(), &mut core, &first, &mut meter)?;
-    assert!(rt; took(&given, 44) && core.held() == 398);
-    assert!(rt; stays_small(rt.alloc(), &mut core, &next, &mut meter)?);
-    let given = outputs(rt.alloc(), &mut core, &next, &mut meter)?;
-    assert!(rt; took(&given, 1000) && core.held() == 450);
-    assert!(rt; core.held() <= core.bytes_bound());
-    Ok(())
+    connection_opens(&rt, rt.alloc(), &mut core, &mut meter)?;
+    record_begins(&rt, rt.alloc(), &mut core, &mut meter)?;
+    record_ends(&rt, rt.alloc(), &mut core, &mut meter)
 }

@@ -1,7 +1,9 @@
-ghost use Rattle.std.specs.Prelude.{◌≡◌, ◌≤◌};
+ghost use Rattle.std.specs.Prelude.{◌≡◌, IfOk};
 ghost use Rattle.rb_registry.specs.Cursors.{GoesOn};
 ghost use Rattle.rb_rpc.specs.declared.peer.Caller.TheVariants.{Udp};
-ghost use Rattle.rb_proto.specs.Books.{SameFrame, AreTied};
+ghost use Rattle.rb_proto.specs.Books.{AreTied};
+ghost use Rattle.rb_proto.specs.ListParts.{IsTold};
+ghost use Rattle.rb_tests.specs.Ready.{AreReady};
 
 use rb_forward::{Forward, FwdId, Kind};
 use rb_proto::{
@@ -10,9 +12,11 @@ use rb_proto::{
     list_replies_go_on, put_forwarded, put_results, put_row, read_args, refusal,
     requests_are_of_the_grammar, worked_examples, worked_forwards, worked_lists,
 };
-use rb_registry::Cursor;
+use rb_registry::{Cursor, Registry, RegistryFault};
 use rb_rpc::{CallHead, Caller, Credential, Peer, ReplyStatus};
 use rb_xdr::{Kept, Meter, Xdr};
+use std::alloc::Global;
+use std::process::Abort;
 use std::test::Fail;
 
 const LISTENER: Listener = Listener {
@@ -96,6 +100,25 @@ fn head(vers: u32, proc: u32) -> CallHead {
     }
 }
 
+// Books with room for two rows and for one forwarded call.
+fn new_books(alloc: Global, meter: &mut Meter) -> Result<Books, RegistryFault>
+    ensures tied { IfOk result (λ books. AreTied meter.new.tie books) }
+    ensures limit { IfOk result (λ books. books.registry.limit ≡ 8) }
+    ensures forwards { IfOk result (λ books. books.forwards.cap ≡ 1) }
+    ensures meter { meter.new.tie ≡ meter.old.tie }
+{
+    Books::new(alloc, LIMIT, 1, 1000, &LISTENER, meter)
+}
+
+// All that was put into the buffer.
+fn all_bytes<'a>(out: &'a Kept, meter: &mut Meter) -> &'a [u8]
+    requires { meter.old.tie ≡ out.now.tie }
+    ensures { meter.new.tie ≡ meter.old.tie }
+{
+    let len = out.len(meter);
+    out.lend(0..len, meter)
+}
+
 // Puts the results of such a call into the empty buffer, if it has any.
 fn serve(
     books: &mut Books,
@@ -105,17 +128,11 @@ fn serve(
     out: &mut Kept,
     meter: &mut Meter,
 ) -> Result<(), Fail>
-    requires tied { AreTied meter.old.tie books.old }
-    requires limit { books.old.registry.limit ≡ 8 }
-    requires forwards { books.old.forwards.cap ≡ 1 }
-    requires out { meter.old.tie ≡ out.old.tie }
-    requires room { 1000 ≤ out.old.cap }
-    ensures books { SameFrame books.old books.new }
+    requires { AreReady meter.old.tie books.old out.old }
+    ensures ready { AreReady meter.new.tie books.new out.new }
     ensures cursors { GoesOn books.old.registry books.new.registry }
     ensures floor { books.new.registry.floor ≡ books.old.registry.floor }
-    ensures out { out.new.tie ≡ out.old.tie }
     ensures room { out.new.cap ≡ out.old.cap }
-    ensures meter { meter.new.tie ≡ meter.old.tie }
 {
     let head = head(vers, proc);
     let context = context();
@@ -133,32 +150,93 @@ fn serve(
     Ok(())
 }
 
+// The answer to a DUMP of version 2.
+fn own_rows_are_put(
+    rt: &impl Abort,
+    books: &mut Books,
+    out: &mut Kept,
+    meter: &mut Meter,
+) -> Result<(), Fail>
+    requires { AreReady meter.old.tie books.old out.old }
+{
+    serve(books, 2, 4, b"", out, meter)?;
+    assert_eq!(rt; all_bytes(out, meter), OWN_ROWS);
+    Ok(())
+}
+
 #[test]
 fn calls_are_read_answered_and_put(rt: HostRuntime) -> Result<(), Fail> {
     let mut meter = Meter::new();
     let mut out = Kept::new(rt.alloc(), 1000, &mut meter)?;
-    let mut books = Books::new(rt.alloc(), LIMIT, 1, 1000, &LISTENER, &mut meter)?;
-    serve(&mut books, 2, 4, b"", &mut out, &mut meter)?;
-    let len = out.len(&mut meter);
-    assert_eq!(rt; out.lend(0..len, &mut meter), OWN_ROWS);
+    let mut books = new_books(rt.alloc(), &mut meter)?;
+    own_rows_are_put(&rt, &mut books, &mut out, &mut meter)
+}
+
+// Begins a list while a seventh row is there, which is then removed.
+fn begin_list(books: &mut Books, out: &mut Kept, meter: &mut Meter) -> Result<ListReply, Fail>
+    requires { AreReady meter.old.tie books.old out.old }
+    ensures told { IfOk result (λ list. IsTold books.new.registry list) }
+    ensures ready { AreReady meter.new.tie books.new out.new }
+    ensures room { out.new.cap ≡ out.old.cap }
+{
+    serve(books, 2, 1, TCP_ROW, out, meter)?;
+    let list = ListReply::new(7, Listing::Mappings, &books.registry);
+    serve(books, 2, 2, TCP_ROW, out, meter)?;
+    Ok(list)
+}
+
+// The list has the removed row too, which is kept for it.
+fn list_is_as_of_its_call(
+    rt: &impl Abort,
+    books: &mut Books,
+    out: &mut Kept,
+    meter: &mut Meter,
+) -> Result<(), Fail>
+    requires ready { AreReady meter.old.tie books.old out.old }
+    requires room { out.old.cap ≡ 2000 }
+{
+    let mut list = begin_list(books, out, meter)?;
+    let part = list.next_part(&books.registry, LISTENER.host, out, meter);
+    assert!(rt; part.last);
+    assert_eq!(rt; out.lend(part.start..part.end, meter), LISTED);
+    books.trim(Some(list.stamp()), meter);
+    assert_eq!(rt; books.registry.kept(meter), (1, 2));
     Ok(())
 }
 
 #[test]
 fn lists_are_as_of_their_call(rt: HostRuntime) -> Result<(), Fail> {
-    worked_lists();
-    list_replies_go_on();
     let mut meter = Meter::new();
     let mut out = Kept::new(rt.alloc(), 2000, &mut meter)?;
-    let mut books = Books::new(rt.alloc(), LIMIT, 1, 1000, &LISTENER, &mut meter)?;
-    serve(&mut books, 2, 1, TCP_ROW, &mut out, &mut meter)?;
-    let mut list = ListReply::new(7, Listing::Mappings, &books.registry);
-    serve(&mut books, 2, 2, TCP_ROW, &mut out, &mut meter)?;
-    let part = list.next_part(&books.registry, LISTENER.host, &mut out, &mut meter);
-    assert!(rt; part.last);
-    assert_eq!(rt; out.lend(part.start..part.end, &mut meter), LISTED);
-    books.trim(Some(list.stamp()), &mut meter);
-    assert_eq!(rt; books.registry.kept(&mut meter), (1, 2));
+    let mut books = new_books(rt.alloc(), &mut meter)?;
+    list_is_as_of_its_call(&rt, &mut books, &mut out, &mut meter)
+}
+
+// Whether the SET of a row on tcp wants room.
+fn set_wants_room(books: &Books, meter: &mut Meter) -> Result<bool, ArgumentFault>
+    requires tied { AreTied meter.old.tie books.now }
+    requires limit { books.now.registry.limit ≡ 8 }
+    ensures { meter.new.tie ≡ meter.old.tie }
+{
+    let call = Call {
+        head: head(2, 1),
+        request: read_args(2, 1, TCP_ROW)?,
+    };
+    Ok(books.wants_room(&context(), &call, meter))
+}
+
+// It wants room until the row is there.
+fn room_is_wanted_once(
+    rt: &impl Abort,
+    books: &mut Books,
+    out: &mut Kept,
+    meter: &mut Meter,
+) -> Result<(), Fail>
+    requires { AreReady meter.old.tie books.old out.old }
+{
+    assert_eq!(rt; set_wants_room(books, meter), Ok(true));
+    serve(books, 2, 1, TCP_ROW, out, meter)?;
+    assert_eq!(rt; set_wants_room(books, meter), Ok(false));
     Ok(())
 }
 
@@ -166,27 +244,31 @@ fn lists_are_as_of_their_call(rt: HostRuntime) -> Result<(), Fail> {
 fn sets_want_room(rt: HostRuntime) -> Result<(), Fail> {
     let mut meter = Meter::new();
     let mut out = Kept::new(rt.alloc(), 1000, &mut meter)?;
-    let mut books = Books::new(rt.alloc(), LIMIT, 1, 1000, &LISTENER, &mut meter)?;
-    let request = read_args(2, 1, TCP_ROW)?;
-    let call = Call {
-        head: head(2, 1),
-        request,
-    };
-    assert!(rt; books.wants_room(&context(), &call, &mut meter));
-    serve(&mut books, 2, 1, TCP_ROW, &mut out, &mut meter)?;
-    assert!(rt; !books.wants_room(&context(), &call, &mut meter));
-    Ok(())
+    let mut books = new_books(rt.alloc(), &mut meter)?;
+    room_is_wanted_once(&rt, &mut books, &mut out, &mut meter)
+}
+
+#[test]
+fn laws_hold(_rt: HostRuntime) {
+    requests_are_of_the_grammar();
+    forwards_go_to_rows();
+    forwards_are_noted_once();
+    list_replies_go_on();
+    worked_examples();
+    worked_forwards();
+    worked_lists();
 }
 
 #[test]
 fn arguments_are_refused(rt: HostRuntime) {
-    requests_are_of_the_grammar();
-    forwards_go_to_rows();
-    forwards_are_noted_once();
-    worked_examples();
-    worked_forwards();
-    assert_eq!(rt; read_args(2, 6, b""), Err(ArgumentFault::ProcUnavail));
-    assert_eq!(rt; read_args(2, 1, &[0; 12]), Err(ArgumentFault::GarbageArgs));
+    assert_eq!(rt;
+        read_args(2, 6, b"").err(),
+        Some(ArgumentFault::ProcUnavail)
+    );
+    assert_eq!(rt;
+        read_args(2, 1, &[0; 12]).err(),
+        Some(ArgumentFault::GarbageArgs)
+    );
 }
 
 #[test]
@@ -199,19 +281,31 @@ fn remote_calls_are_read(rt: HostRuntime) {
     assert_eq!(rt; refused, Answer::Refused(ReplyStatus::SystemErr));
 }
 
+// A call is forwarded, sent and answered, and then none is left.
+fn forwarded_call_ends(
+    rt: &impl Abort,
+    books: &mut Books,
+    out: &mut Kept,
+    meter: &mut Meter,
+) -> Result<(), Fail>
+    requires { AreReady meter.old.tie books.old out.old }
+{
+    serve(books, 4, 1, UDP_ROW, out, meter)?;
+    serve(books, 4, 10, REMOTE, out, meter)?;
+    assert!(rt; books.unsent(meter).is_some());
+    assert!(rt; books.sent(FwdId { number: 1 }, meter).is_ok());
+    assert!(rt; books.reply(CLOCK, TARGET, SUCCESS, meter).is_some());
+    assert!(rt; books.due(CLOCK + 5000, meter).is_none());
+    books.drop_caller(1, meter);
+    Ok(())
+}
+
 #[test]
 fn forwarded_calls_end(rt: HostRuntime) -> Result<(), Fail> {
     let mut meter = Meter::new();
     let mut out = Kept::new(rt.alloc(), 1000, &mut meter)?;
-    let mut books = Books::new(rt.alloc(), LIMIT, 1, 1000, &LISTENER, &mut meter)?;
-    serve(&mut books, 4, 1, UDP_ROW, &mut out, &mut meter)?;
-    serve(&mut books, 4, 10, REMOTE, &mut out, &mut meter)?;
-    assert!(rt; books.unsent(&mut meter).is_some());
-    assert!(rt; books.sent(FwdId { number: 1 }, &mut meter).is_ok());
-    assert!(rt; books.reply(CLOCK, TARGET, SUCCESS, &mut meter).is_some());
-    assert!(rt; books.due(CLOCK + 5000, &mut meter).is_none());
-    books.drop_caller(1, &mut meter);
-    Ok(())
+    let mut books = new_books(rt.alloc(), &mut meter)?;
+    forwarded_call_ends(&rt, &mut books, &mut out, &mut meter)
 }
 
 // Results passed for a CALLIT of version 2.
@@ -231,27 +325,36 @@ fn forwarded_results_are_put(rt: HostRuntime) -> Result<(), Fail> {
         proc: 0,
     };
     put_forwarded(&forward, ARGS, 100, &mut out, &mut meter)?;
-    let len = out.len(&mut meter);
     let results = b"\0\0\x08\x01\0\0\0\x04\0\0\0\x07";
-    assert_eq!(rt; out.lend(0..len, &mut meter), results.as_slice());
+    assert_eq!(rt; all_bytes(&out, &mut meter), results.as_slice());
     Ok(())
+}
+
+// Whether the first row is put once within 39 bytes, and not a second time.
+fn is_put_once(registry: &Registry, out: &mut Kept, meter: &mut Meter) -> bool
+    requires registry { meter.old.tie ≡ registry.now.tie }
+    requires out { meter.old.tie ≡ out.old.tie }
+    requires room { out.old.cap ≡ 40 }
+    ensures out { out.new.tie ≡ out.old.tie }
+    ensures meter { meter.new.tie ≡ meter.old.tie }
+{
+    let first = registry.next_row(registry.stamp(), Cursor::start(), meter);
+    let Some((_, row)) = first else {
+        return false;
+    };
+    let is_put = put_row(Listing::Mappings, row, &LISTENER, 39, out, meter).is_ok();
+    let refused = put_row(Listing::Mappings, row, &LISTENER, 39, out, meter);
+    is_put && refused.is_err()
 }
 
 #[test]
 fn rows_are_put_within_the_limit(rt: HostRuntime) -> Result<(), Fail> {
     let mut meter = Meter::new();
     let mut out = Kept::new(rt.alloc(), 40, &mut meter)?;
-    let books = Books::new(rt.alloc(), LIMIT, 0, 0, &LISTENER, &mut meter)?;
-    let registry = &books.registry;
-    let first = registry.next_row(registry.stamp(), Cursor::start(), &mut meter);
-    if let Some((_, row)) = first {
-        put_row(Listing::Mappings, row, &LISTENER, 39, &mut out, &mut meter)?;
-        let refused = put_row(Listing::Mappings, row, &LISTENER, 39, &mut out, &mut meter);
-        assert!(rt; refused.is_err());
-    }
+    let books = new_books(rt.alloc(), &mut meter)?;
+    assert!(rt; is_put_once(&books.registry, &mut out, &mut meter));
     let (first_row, _) = OWN_ROWS.split_at(20);
-    let len = out.len(&mut meter);
-    assert_eq!(rt; out.lend(0..len, &mut meter), first_row);
+    assert_eq!(rt; all_bytes(&out, &mut meter), first_row);
     Ok(())
 }
 
@@ -267,24 +370,27 @@ fn again<T: Xdr>(bytes: &[u8], out: &mut Kept, meter: &mut Meter) -> Result<(), 
     Ok(())
 }
 
+// A value of each type, through one buffer.
+fn types_come_back(rt: &impl Abort, out: &mut Kept, meter: &mut Meter) -> Result<(), Fail>
+    requires { meter.old.tie ≡ out.old.tie }
+{
+    again::<Rpcb>(UDP_ROW, out, meter)?;
+    assert_eq!(rt; all_bytes(out, meter), UDP_ROW);
+    again::<Mapping>(NO_TEXTS, out, meter)?;
+    let (mapping, _) = NO_TEXTS.split_at(16);
+    assert_eq!(rt; all_bytes(out, meter), mapping);
+    let (entry, _) = ENTRIES[4..].split_at(48);
+    again::<Entry>(entry, out, meter)?;
+    assert_eq!(rt; all_bytes(out, meter), entry);
+    let buf = b"\0\0\0\x10\0\0\0\x03abc\0";
+    again::<Netbuf>(buf.as_slice(), out, meter)?;
+    assert_eq!(rt; all_bytes(out, meter), buf.as_slice());
+    Ok(())
+}
+
 #[test]
 fn types_go_both_ways(rt: HostRuntime) -> Result<(), Fail> {
     let mut meter = Meter::new();
     let mut out = Kept::new(rt.alloc(), 100, &mut meter)?;
-    again::<Rpcb>(UDP_ROW, &mut out, &mut meter)?;
-    let len = out.len(&mut meter);
-    assert_eq!(rt; out.lend(0..len, &mut meter), UDP_ROW);
-    again::<Mapping>(NO_TEXTS, &mut out, &mut meter)?;
-    let (mapping, _) = NO_TEXTS.split_at(16);
-    let len = out.len(&mut meter);
-    assert_eq!(rt; out.lend(0..len, &mut meter), mapping);
-    let (entry, _) = ENTRIES[4..].split_at(48);
-    again::<Entry>(entry, &mut out, &mut meter)?;
-    let len = out.len(&mut meter);
-    assert_eq!(rt; out.lend(0..len, &mut meter), entry);
-    let buf = b"\0\0\0\x10\0\0\0\x03abc\0";
-    again::<Netbuf>(buf.as_slice(), &mut out, &mut meter)?;
-    let len = out.len(&mut meter);
-    assert_eq!(rt; out.lend(0..len, &mut meter), buf.as_slice());
-    Ok(())
+    types_come_back(&rt, &mut out, &mut meter)
 }

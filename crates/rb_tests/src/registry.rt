@@ -3,6 +3,7 @@ ghost use Rattle.rb_registry.specs.Registry.{AreOwn};
 
 use rb_registry::{Cursor, Netid, Owner, Registry, RegistryFault, Row, Which};
 use rb_xdr::{Meter, Text};
+use std::process::Abort;
 use std::test::Fail;
 
 // A row at port 111 of every host.
@@ -60,28 +61,38 @@ fn registry_has_memory(rt: HostRuntime) -> Result<(), Fail> {
     Ok(())
 }
 
-#[test]
-fn rows_are_set_and_found(rt: HostRuntime) -> Result<(), Fail> {
-    let mut meter = Meter::new();
-    let mut registry = Registry::new(rt.alloc(), 300, own_rows(), &mut meter)?;
+// Two versions of a program are set, and the first of them no second time.
+fn two_are_set(rt: &impl Abort, registry: &mut Registry, meter: &mut Meter)
+    requires { meter.old.tie ≡ registry.old.tie }
+    ensures { meter.new.tie ≡ registry.new.tie }
+{
     let uid = Owner::Uid(500);
-    assert!(rt; registry.set(row(200_001, 1, Netid::Tcp, uid), &mut meter));
-    assert!(rt; !registry.set(row(200_001, 1, Netid::Tcp, uid), &mut meter));
-    assert!(rt; registry.set(row(200_001, 3, Netid::Tcp, uid), &mut meter));
+    assert!(rt; registry.set(row(200_001, 1, Netid::Tcp, uid), meter));
+    assert!(rt; !registry.set(row(200_001, 1, Netid::Tcp, uid), meter));
+    assert!(rt; registry.set(row(200_001, 3, Netid::Tcp, uid), meter));
     assert_eq!(rt; registry.stamp(), 2);
+}
 
+// They are found, behind the own rows.
+fn two_are_found(rt: &impl Abort, registry: &Registry, meter: &mut Meter) -> Result<(), Fail>
+    requires { meter.old.tie ≡ registry.now.tie }
+{
     let newest = registry
-        .find(200_001, 9, Netid::Tcp, &mut meter)
+        .find(200_001, 9, Netid::Tcp, meter)
         .ok_or("no row")?;
     assert_eq!(rt; newest.vers, 3);
-    assert!(rt;
-        registry
-            .find_exact(200_001, 9, Netid::Tcp, &mut meter)
-            .is_none()
-    );
-    assert_eq!(rt; versions(&registry, &mut meter), 43_243_213);
-    assert_eq!(rt; Netid::Udp.text(), b"udp".as_slice());
+    assert!(rt; registry.find_exact(200_001, 9, Netid::Tcp, meter).is_none());
+    assert_eq!(rt; versions(registry, meter), 43_243_213);
     Ok(())
+}
+
+#[test]
+fn rows_are_set_and_found(rt: HostRuntime) -> Result<(), Fail> {
+    assert_eq!(rt; Netid::Udp.text(), b"udp".as_slice());
+    let mut meter = Meter::new();
+    let mut registry = Registry::new(rt.alloc(), 300, own_rows(), &mut meter)?;
+    two_are_set(&rt, &mut registry, &mut meter);
+    two_are_found(&rt, &registry, &mut meter)
 }
 
 #[test]

@@ -1,23 +1,47 @@
+ghost use Rattle.std.specs.Prelude.{◌≡◌, []};
+
 use rb_xdr::{
     Full, Kept, Meter, NoMemory, Opaque, Pool, Text, Xdr, XdrFault, spelling_laws, take_opaque,
     types_are_read_exactly, worked_examples,
 };
+use std::process::Abort;
 use std::test::Fail;
+
+// Two values are inserted and found, and a third is refused.
+fn two_are_kept(rt: &impl Abort, pool: &mut Pool<u32>, meter: &mut Meter) -> Result<(), Fail>
+    requires { meter.old.tie ≡ pool.old.tie }
+{
+    let first = pool.insert(10, meter)?;
+    let second = pool.insert(20, meter)?;
+    assert_eq!(rt; pool.insert(30, meter), Err(Full { value: 30 }));
+    assert_eq!(rt; pool.first(meter), Some(first));
+    assert_eq!(rt; pool.find_key(|value| *value == 20, meter), Some(second));
+    assert_eq!(rt; pool.len(meter), 2);
+    assert_eq!(rt; meter.count(), 9);
+    Ok(())
+}
 
 #[test]
 fn pool_has_memory(rt: HostRuntime) -> Result<(), Fail> {
     let mut meter = Meter::new();
     let mut pool: Pool<u32> = Pool::new(rt.alloc(), 2, &mut meter)?;
-    let first = pool.insert(10, &mut meter)?;
-    let second = pool.insert(20, &mut meter)?;
-    assert_eq!(rt; pool.insert(30, &mut meter), Err(Full { value: 30 }));
-    assert_eq!(rt; pool.first(&mut meter), Some(first));
-    assert_eq!(rt;
-        pool.find_key(|value| *value == 20, &mut meter),
-        Some(second)
-    );
-    assert_eq!(rt; pool.len(&mut meter), 2);
-    assert_eq!(rt; meter.count(), 9);
+    two_are_kept(&rt, &mut pool, &mut meter)
+}
+
+// A value is inserted, written to and removed.
+fn one_is_written(rt: &impl Abort, pool: &mut Pool<u32>, meter: &mut Meter) -> Result<(), Fail>
+    requires tie { meter.old.tie ≡ pool.old.tie }
+    requires empty { pool.old.entries ≡ [] }
+{
+    let first = pool.insert(10, meter)?;
+    if let Some(value) = pool.get_mut(first, meter) {
+        *value += 1;
+    }
+    assert_eq!(rt; pool.get(first, meter).copied(), Some(11));
+    assert!(rt; matches!(pool.entry_after(None, meter), Some((_, 11))));
+    assert!(rt; pool.entry_after(Some(first), meter).is_none());
+    assert_eq!(rt; pool.remove(first, meter), Some(11));
+    assert_eq!(rt; meter.count(), 7);
     Ok(())
 }
 
@@ -25,15 +49,31 @@ fn pool_has_memory(rt: HostRuntime) -> Result<(), Fail> {
 fn pool_values_are_written_and_removed(rt: HostRuntime) -> Result<(), Fail> {
     let mut meter = Meter::new();
     let mut pool: Pool<u32> = Pool::new(rt.alloc(), 2, &mut meter)?;
-    let first = pool.insert(10, &mut meter)?;
-    if let Some(value) = pool.get_mut(first, &mut meter) {
-        *value += 1;
-    }
-    assert_eq!(rt; pool.get(first, &mut meter).copied(), Some(11));
-    assert!(rt; matches!(pool.entry_after(None, &mut meter), Some((_, 11))));
-    assert!(rt; pool.entry_after(Some(first), &mut meter).is_none());
-    assert_eq!(rt; pool.remove(first, &mut meter), Some(11));
-    assert_eq!(rt; meter.count(), 7);
+    one_is_written(&rt, &mut pool, &mut meter)
+}
+
+// Four bytes fill the buffer, and are read.
+fn four_are_put(rt: &impl Abort, kept: &mut Kept, meter: &mut Meter) -> Result<(), Fail>
+    requires { meter.old.tie ≡ kept.old.tie }
+    ensures { meter.new.tie ≡ kept.new.tie }
+{
+    kept.extend(b"abc", meter)?;
+    kept.push(b'd', meter)?;
+    assert_eq!(rt; kept.push(b'e', meter), Err(Full { value: () }));
+    assert_eq!(rt; kept.lend(1..3, meter), b"bc".as_slice());
+    assert_eq!(rt; kept.room(meter), 0);
+    Ok(())
+}
+
+// Four others fill it after a clear.
+fn four_are_put_again(rt: &impl Abort, kept: &mut Kept, meter: &mut Meter) -> Result<(), Fail>
+    requires { meter.old.tie ≡ kept.old.tie }
+{
+    kept.clear(meter);
+    kept.extend(b"efgh", meter)?;
+    assert_eq!(rt; kept.push(b'i', meter), Err(Full { value: () }));
+    assert_eq!(rt; kept.len(meter), 4);
+    assert_eq!(rt; meter.count(), 15);
     Ok(())
 }
 
@@ -41,17 +81,8 @@ fn pool_values_are_written_and_removed(rt: HostRuntime) -> Result<(), Fail> {
 fn kept_has_memory(rt: HostRuntime) -> Result<(), Fail> {
     let mut meter = Meter::new();
     let mut kept = Kept::new(rt.alloc(), 4, &mut meter)?;
-    kept.extend(b"abc", &mut meter)?;
-    kept.push(b'd', &mut meter)?;
-    assert_eq!(rt; kept.push(b'e', &mut meter), Err(Full { value: () }));
-    assert_eq!(rt; kept.lend(1..3, &mut meter), b"bc".as_slice());
-    assert_eq!(rt; kept.room(&mut meter), 0);
-    kept.clear(&mut meter);
-    kept.extend(b"efgh", &mut meter)?;
-    assert_eq!(rt; kept.push(b'i', &mut meter), Err(Full { value: () }));
-    assert_eq!(rt; kept.len(&mut meter), 4);
-    assert_eq!(rt; meter.count(), 15);
-    Ok(())
+    four_are_put(&rt, &mut kept, &mut meter)?;
+    four_are_put_again(&rt, &mut kept, &mut meter)
 }
 
 #[test]
