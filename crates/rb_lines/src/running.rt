@@ -1,9 +1,10 @@
 //! The command `replay`.
 ghost use Rattle.std.specs.Prelude.{◌≡◌, ◌≤◌, ◌⊎◌, [], IsTrue, IfOk, IfErr, OnOk};
 ghost use Rattle.std.specs.Io.Buffered.{writer_buffer};
-ghost use Rattle.rb_core.specs.State.{are_good};
+ghost use Rattle.rb_core.specs.State.{State, are_good};
 ghost use Rattle.rb_core.specs.StandsFor.{StandsFor};
-ghost use Rattle.rb_core.specs.Runs.{outputs_of};
+ghost use Rattle.rb_core.specs.Runs.{events_of, outputs_of};
+ghost use Rattle.rb_core.specs.Step.{run};
 ghost use Rattle.rb_lines.specs.Lines.{read};
 ghost use Rattle.rb_lines.specs.Printing.{report};
 ghost use Rattle.rb_lines.specs.Running.{first, run_of, status_of, BufWrites, IsEnoughOf, IsFaultOf, IsCoreFault, IsRefused, Prints, Reads, Replays, Refuses};
@@ -101,6 +102,25 @@ fn first_core(alloc: Global, beginning: &Beginning, meter: &mut Meter) -> Result
     }
 }
 
+/// The outputs of the events on a core.
+fn outputs_on(
+    alloc: Global,
+    core: &mut Core,
+    events: &[Event],
+    meter: &mut Meter,
+) -> Result<Vec<Output>, Fault>
+    requires { meter.old.tie ≡ core.old.tie }
+    ensures ok { (s : State) → StandsFor core.old s → IfOk result
+        (λ outputs. outputs_of outputs.items ≡ run s (events_of events.now)) }
+    ensures err { IfErr result (λ fault. fault ≡ Fault.NoMemory) }
+{
+    let mut outputs = Vec::new(alloc);
+    match replay(alloc, core, events, &mut outputs, meter) {
+        Ok(()) => Ok(outputs),
+        Err(_) => Err(Fault::NoMemory),
+    }
+}
+
 /// The outputs of the events, from a new core.
 fn outputs_from(
     alloc: Global,
@@ -114,11 +134,7 @@ fn outputs_from(
 {
     let mut meter = Meter::new();
     let mut core = first_core(alloc, beginning, &mut meter)?;
-    let mut outputs = Vec::new(alloc);
-    match replay(alloc, &mut core, events, &mut outputs, &mut meter) {
-        Ok(()) => Ok(outputs),
-        Err(_) => Err(Fault::NoMemory),
-    }
+    outputs_on(alloc, &mut core, events, &mut meter)
 }
 
 /// Writes what the outputs are printed as, to the last byte.
