@@ -1,5 +1,6 @@
 //! Rows as items of lists.
 ghost use Rattle.std.specs.Prelude.{◌≡◌};
+ghost use Rattle.rb_xdr.specs.Xdr.{IsContent};
 ghost use Rattle.rb_proto.specs.Callers.{owner_text};
 ghost use Rattle.rb_proto.specs.Results.{mapping_of, rpcb_of, entry_of};
 
@@ -12,15 +13,16 @@ use itoa::Buffer;
 use rb_registry::{Owner, Row};
 use rb_xdr::Text;
 
-/// The owner as DUMP shows it: `unknown`, `superuser` for uid 0, or the uid in decimal.
+/// The owner as DUMP shows it: `unknown`, `superuser` for uid 0, or the uid in decimal, whose digits stand in the buffer.
 #[tactic(auto, unfolding(crate::specs::Callers::owner_text))]
-pub(crate) fn owner_text(owner: Owner) -> Text<128>
-    ensures { result ≡ owner_text owner }
+pub(crate) fn owner_text(owner: Owner, digits: &mut Buffer) -> &[u8]
+    ensures text { result.now ≡ owner_text owner }
+    ensures content { IsContent 128 result.now }
 {
     match owner {
-        Owner::Unknown => Text::new(b"unknown"),
-        Owner::SUPERUSER => Text::new(b"superuser"),
-        Owner::Uid(uid) => Text::new(Buffer::new().format(uid).as_bytes()),
+        Owner::Unknown => b"unknown",
+        Owner::SUPERUSER => b"superuser",
+        Owner::Uid(uid) => digits.format(uid).as_bytes(),
     }
 }
 
@@ -45,7 +47,7 @@ pub(crate) fn rpcb_of(row: &Row) -> Rpcb
         vers: row.vers,
         netid: Text::new(row.netid.text()),
         addr: Text::new(row.addr.as_slice()),
-        owner: owner_text(row.owner),
+        owner: Text::new(owner_text(row.owner, &mut Buffer::new())),
     }
 }
 

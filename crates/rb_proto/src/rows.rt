@@ -11,8 +11,9 @@ ghost use Rattle.rb_proto.specs.Results.{mapping_item, rpcb_item, entry_item, is
 
 use crate::answers::Listing;
 use crate::items::{entry_of, mapping_of, owner_text, rpcb_of};
+use itoa::Buffer;
 use rb_registry::{Cursor, Registry, Row, Which};
-use rb_xdr::{Kept, Meter, Text, Xdr};
+use rb_xdr::{Kept, Meter, Text, Xdr, write_opaque};
 
 /// TRUE and a mapping, in bytes.
 const MAPPING_ITEM: usize = 20;
@@ -59,21 +60,22 @@ fn mapping_item(row: &Row) -> [u8; MAPPING_ITEM]
 }
 
 /// The owner of the row as DUMP shows it. Each text of the row is within its limit.
-fn shown_owner(row: &Row) -> Text<128>
-    ensures owner { result ≡ owner_text row.now.owner }
+fn shown_owner<'a>(row: &Row, digits: &'a mut Buffer) -> &'a [u8]
+    ensures owner { result.now ≡ owner_text row.now.owner }
     ensures within { IsRpcb (rpcb_of row.now) }
 {
-    let owner = owner_text(row.owner);
+    let owner = owner_text(row.owner, digits);
     let netid = Text::<32>::new(row.netid.text());
     let (_prog, _vers) = (row.prog, row.vers);
-    let (_netid, _addr, _owner) = (netid.as_slice(), row.addr.as_slice(), owner.as_slice());
+    let (_netid, _addr) = (netid.as_slice(), row.addr.as_slice());
     owner
 }
 
-/// Writes TRUE and the rpcb of a row, its address from where it lies.
-fn write_texts(row: &Row, owner: &Text<128>, out: &mut Kept, meter: &mut Meter)
+/// Writes TRUE and the rpcb of a row, each text from where it lies.
+fn write_texts(row: &Row, owner: &[u8], out: &mut Kept, meter: &mut Meter)
     requires tie { meter.old.tie ≡ out.old.tie }
     requires owner { owner.now ≡ owner_text row.now.owner }
+    requires within { IsRpcb (rpcb_of row.now) }
     requires room { HasRoom (rpcb_item row.now) out.old }
     ensures written { Appends (rpcb_item row.now) out.old out.new }
     ensures cost { Pays meter.old meter.new (length (rpcb_item row.now)) }
@@ -81,9 +83,9 @@ fn write_texts(row: &Row, owner: &Text<128>, out: &mut Kept, meter: &mut Meter)
     true.write(out, meter);
     row.prog.write(out, meter);
     row.vers.write(out, meter);
-    Text::<32>::new(row.netid.text()).write(out, meter);
+    write_opaque(row.netid.text(), out, meter);
     row.addr.write(out, meter);
-    owner.write(out, meter);
+    write_opaque(owner, out, meter);
 }
 
 /// Writes TRUE and the rpcb of a row. They are short, and the buffer has room for them if they are.
@@ -94,8 +96,9 @@ fn write_rpcb(row: &Row, out: &mut Kept, meter: &mut Meter)
     ensures written { Appends (rpcb_item row.now) out.old out.new }
     ensures cost { Pays meter.old meter.new (length (rpcb_item row.now)) }
 {
-    let owner = shown_owner(row);
-    write_texts(row, &owner, out, meter);
+    let mut digits = Buffer::new();
+    let owner = shown_owner(row, &mut digits);
+    write_texts(row, owner, out, meter);
 }
 
 /// Writes TRUE and the entry of a row. They are short, and the buffer has room for them if they are.

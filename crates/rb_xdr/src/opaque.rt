@@ -5,6 +5,8 @@ ghost use Rattle.rb_xdr.specs.Forms.Form.{Content};
 ghost use Rattle.rb_xdr.specs.Xdr.{IsContent, opaque, residue, are_zero, read_content, read_opaque, max_opaque};
 ghost use Rattle.rb_xdr.specs.XdrLaws.{BeginsWith, IsOnlyRead, BeginsWithNone};
 ghost use Rattle.rb_xdr.specs.XdrLends.{lent};
+ghost use Rattle.rb_xdr.specs.Puts.{Appends, HasRoom};
+ghost use Rattle.rb_xdr.specs.Meter.{Pays};
 
 use crate::fault::XdrFault;
 use crate::kept::Kept;
@@ -85,6 +87,20 @@ pub fn take_opaque(bytes: &[u8], limit: usize) -> Result<(&[u8], usize), XdrFaul
     lend_opaque(bytes, limit)
 }
 
+/// Adds the spelling of this content, as opaque data or as a string, at the end of a buffer that has room for it.
+#[tactic(auto, using(crate::proofs::XdrSets::lengths), unfolding(crate::specs::Xdr::opaque))]
+pub fn write_opaque(content: &[u8], out: &mut Kept, meter: &mut Meter)
+    requires tie { meter.old.tie ≡ out.old.tie }
+    requires count { length content.now < 2 ^ 32 }
+    requires room { HasRoom (opaque content.now) out.old }
+    ensures written { Appends (opaque content.now) out.old out.new }
+    ensures cost { Pays meter.old meter.new (length (opaque content.now)) }
+{
+    (content.len() as u32).write(out, meter);
+    let _ = out.extend(content, meter);
+    let _ = out.extend(zeros_after(content.len()), meter);
+}
+
 /// Bytes, at most `N` of them and fewer than 2^32.
 #[derive(Drop)]
 pub struct Opaque<const N: usize> {
@@ -146,12 +162,8 @@ impl<const N: usize> Xdr for Opaque<N> {
             .checked_sub(residue_of(count))
     }
 
-    #[tactic(auto, using(crate::proofs::XdrSets::lengths), unfolding(crate::specs::Xdr::opaque))]
     fn write(&self, out: &mut Kept, meter: &mut Meter) {
-        let bytes = self.as_slice();
-        (bytes.len() as u32).write(out, meter);
-        let _ = out.extend(bytes, meter);
-        let _ = out.extend(zeros_after(bytes.len()), meter);
+        write_opaque(self.as_slice(), out, meter);
     }
 
     fn read(bytes: &[u8]) -> Result<(Self, usize), XdrFault> {

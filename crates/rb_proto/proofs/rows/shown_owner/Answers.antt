@@ -7,5 +7,5 @@ returns-clause-within c = record {
   vers = search rules;
   netid = rw (c.new-netid.ensures, c.text.ensures) at c.as_slice-netid.ensures.content;
   addr = c.as_slice-addr.ensures.content;
-  owner = rw c.owner_text-owner.ensures at c.as_slice-owner.ensures.content;
+  owner = rw c.owner_text-owner.ensures.text at c.owner_text-owner.ensures.content;
 }
