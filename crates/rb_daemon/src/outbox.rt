@@ -9,9 +9,8 @@ use std::marker::Model;
 /// The most bytes of a fragment of a reply: its header, and 1,024 of data.
 const FRAGMENT: usize = 1028;
 
-/// How many bytes wait at most: fourteen fragments, so that a reply of 9,000 bytes fits with its headers, and a long list
-/// goes out in few writes.
-pub(crate) const OUTBOX: usize = 14 * FRAGMENT;
+/// How many bytes wait at most: a whole reply of 9,000 bytes fits, with the headers of its nine fragments.
+pub(crate) const OUTBOX: usize = 9 * FRAGMENT;
 
 /// Bytes that the core counts as given, from the first that the socket has not taken.
 #[derive(Drop)]
