@@ -1,8 +1,11 @@
--- What a row adds to a list of rpcbs or of entries is short.
-use Rattle.std.proofs.Common.{◌++◌, true, arith}
+-- What a row adds to a list of rpcbs or of entries is short, and so is its netid.
+use Rattle.std.proofs.Common.{◌++◌, true, arith, rules}
 use Rattle.std.proofs.lemmas.List.{length-append}
-use Rattle.rb_xdr.specs.Xdr.{boolean}
+use Rattle.rb_xdr.specs.Xdr.{boolean, IsContent}
 use Rattle.rb_xdr.proofs.Types.{length-boolean}
+use Rattle.rb_registry.specs.declared.row.Netid.{Netid}
+use Rattle.rb_registry.specs.declared.row.Netid.TheVariants.{Tcp, Udp}
+use Rattle.rb_registry.specs.Rows.{netid_text}
 use Rattle.rb_proto.specs.declared.rpcb.Rpcb.{Rpcb}
 use Rattle.rb_proto.specs.declared.entry.Entry.{Entry}
 use Rattle.rb_proto.specs.Types.{IsRpcb, rpcb_spelling, IsEntry, entry_spelling}
@@ -14,3 +17,7 @@ rpcb_is_short r is = omega (arith, length-append (boolean true) (rpcb_spelling r
 
 pub entry_is_short : (e : Entry) → IsEntry e → IsShort (boolean true ++ entry_spelling e)
 entry_is_short e is = omega (arith, length-append (boolean true) (entry_spelling e), length-boolean true, entry_bounded e is)
+
+pub netid_is_content : (netid : Netid) → IsContent 32 (netid_text netid)
+netid_is_content Tcp = search rules
+netid_is_content Udp = search rules

@@ -112,6 +112,10 @@ rows_bytes host rows list = flat_map (row_bytes host list) rows ++ boolean false
 abbrev pub mapping_item : Row → List ℕ
 mapping_item row = boolean true ++ mapping_spelling (mapping_of row)
 
+-- TRUE and an rpcb up to its netid
+abbrev pub rpcb_head : Rpcb → List ℕ
+rpcb_head r = boolean true ++ number r.prog ++ number r.vers ++ opaque r.netid
+
 abbrev pub rpcb_item : Row → List ℕ
 rpcb_item row = boolean true ++ rpcb_spelling (rpcb_of row)
 

@@ -7,16 +7,19 @@ ghost use Rattle.rb_proto.specs.ListParts.{IsShort, FitsIfShort};
 ghost use Rattle.rb_proto.specs.Puts.{write_cost};
 ghost use Rattle.rb_proto.specs.Callers.{owner_text};
 ghost use Rattle.rb_proto.specs.Types.{IsRpcb};
-ghost use Rattle.rb_proto.specs.Results.{mapping_item, rpcb_item, entry_item, is_shown, row_bytes, rows_bytes, rpcb_of};
+ghost use Rattle.rb_proto.specs.Results.{mapping_item, rpcb_head, rpcb_item, entry_item, is_shown, row_bytes, rows_bytes, rpcb_of};
 
 use crate::answers::Listing;
 use crate::items::{entry_of, mapping_of, owner_text, rpcb_of};
 use itoa::Buffer;
 use rb_registry::{Cursor, Registry, Row, Which};
-use rb_xdr::{Kept, Meter, Text, Xdr, write_opaque};
+use rb_xdr::{Kept, Meter, Xdr, write_opaque};
 
 /// TRUE and a mapping, in bytes.
 const MAPPING_ITEM: usize = 20;
+
+/// TRUE and an rpcb up to its netid, in bytes.
+const RPCB_HEAD: usize = 20;
 
 /// Whether the list shows the row.
 fn is_shown(list: Listing, row: &Row) -> bool
@@ -59,16 +62,28 @@ fn mapping_item(row: &Row) -> [u8; MAPPING_ITEM]
     item
 }
 
+/// TRUE and the rpcb of a row up to its netid, which are written at once.
+#[tactic(auto, unfolding(rb_xdr::specs::Xdr::number, rb_xdr::specs::Xdr::boolean, rb_xdr::specs::Xdr::opaque))]
+fn rpcb_head(row: &Row) -> [u8; RPCB_HEAD]
+    ensures { result ≡ rpcb_head (rpcb_of row.now) }
+{
+    let netid = row.netid.text();
+    let mut head = [0; RPCB_HEAD];
+    head[..4].copy_from_slice(&u32::from(true).to_be_bytes());
+    head[4..8].copy_from_slice(&row.prog.to_be_bytes());
+    head[8..12].copy_from_slice(&row.vers.to_be_bytes());
+    head[12..16].copy_from_slice(&(netid.len() as u32).to_be_bytes());
+    head[16..19].copy_from_slice(netid);
+    head
+}
+
 /// The owner of the row as DUMP shows it. Each text of the row is within its limit.
 fn shown_owner<'a>(row: &Row, digits: &'a mut Buffer) -> &'a [u8]
     ensures owner { result.now ≡ owner_text row.now.owner }
     ensures within { IsRpcb (rpcb_of row.now) }
 {
-    let owner = owner_text(row.owner, digits);
-    let netid = Text::<32>::new(row.netid.text());
-    let (_prog, _vers) = (row.prog, row.vers);
-    let (_netid, _addr) = (netid.as_slice(), row.addr.as_slice());
-    owner
+    let (_prog, _vers, _addr) = (row.prog, row.vers, row.addr.as_slice());
+    owner_text(row.owner, digits)
 }
 
 /// Writes TRUE and the rpcb of a row, each text from where it lies.
@@ -80,10 +95,7 @@ fn write_texts(row: &Row, owner: &[u8], out: &mut Kept, meter: &mut Meter)
     ensures written { Appends (rpcb_item row.now) out.old out.new }
     ensures cost { Pays meter.old meter.new (length (rpcb_item row.now)) }
 {
-    true.write(out, meter);
-    row.prog.write(out, meter);
-    row.vers.write(out, meter);
-    write_opaque(row.netid.text(), out, meter);
+    let _ = out.extend(&rpcb_head(row), meter);
     row.addr.write(out, meter);
     write_opaque(owner, out, meter);
 }

@@ -87,7 +87,8 @@ pub fn take_opaque(bytes: &[u8], limit: usize) -> Result<(&[u8], usize), XdrFaul
     lend_opaque(bytes, limit)
 }
 
-/// Adds the spelling of this content, as opaque data or as a string, at the end of a buffer that has room for it.
+/// Adds the spelling of this content, as opaque data or as a string (RFC 4506, sections 4.10 and 4.11),
+/// at the end of a buffer that has room for it, in as many steps as the spelling has bytes.
 #[tactic(auto, using(crate::proofs::XdrSets::lengths), unfolding(crate::specs::Xdr::opaque))]
 pub fn write_opaque(content: &[u8], out: &mut Kept, meter: &mut Meter)
     requires tie { meter.old.tie ≡ out.old.tie }
