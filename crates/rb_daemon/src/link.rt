@@ -2,8 +2,9 @@
 ghost use Rattle.std.specs.Prelude.{◌≤◌};
 
 use crate::engine::{Engine, Given};
-use crate::outbox::{OUTBOX, Outbox};
+use crate::outbox::{LONG_ROOM, OWN_ROOM, Outbox};
 use mio::net::TcpStream;
+use std::alloc::{AllocError, Global};
 use std::io;
 use std::io::{ErrorKind, Read};
 
@@ -14,7 +15,10 @@ pub(crate) const SOCKET_CALLS: usize = 64;
 const READ_AHEAD: usize = 1024;
 
 /// Each exchange with the core, but the last, takes or gives a byte at least.
-const EXCHANGES: usize = READ_AHEAD + OUTBOX;
+const EXCHANGES: usize = READ_AHEAD + LONG_ROOM;
+
+/// So many bytes to write are enough for a turn: as many as go out of outboxes of the connections' own.
+const ENOUGH: usize = SOCKET_CALLS * OWN_ROOM;
 
 /// All of its memory is there before the first connection has it, and stays for the next.
 #[derive(Drop)]
@@ -29,7 +33,10 @@ pub(crate) struct Link {
     end: usize,
     /// Whether the core may owe a reply: from bytes that it took, until none is pending.
     may_owe: bool,
+    /// Its own, or the long one.
     outbox: Outbox,
+    /// How many bytes were written in the last turn that served it.
+    written: usize,
     /// Whether the last read got less than it had room for, so that an event comes with what arrives next.
     is_dry: bool,
     /// The last turn that served it.
@@ -45,7 +52,7 @@ pub(crate) struct Link {
 pub(crate) enum Progress {
     /// The next event on it will be shown.
     Blocked,
-    /// It used up its socket calls.
+    /// It used up its socket calls, or wrote enough.
     CutOff,
     /// It is to be closed.
     Over,
@@ -61,19 +68,20 @@ enum Step {
 
 impl Link {
     /// A place that no connection has.
-    pub(crate) fn new() -> Link {
-        Link {
+    pub(crate) fn new(alloc: Global) -> Result<Link, AllocError> {
+        Ok(Link {
             id: 0,
             stream: None,
             held: [0; READ_AHEAD],
             start: 0,
             end: 0,
             may_owe: false,
-            outbox: Outbox::new(),
+            outbox: Outbox::new(alloc, OWN_ROOM)?,
+            written: 0,
             is_dry: false,
             served_in: 0,
             is_waiting: false,
-        }
+        })
     }
 
     pub(crate) fn is_free(&self) -> bool {
@@ -98,10 +106,12 @@ impl Link {
         self.is_waiting = false;
     }
 
-    /// Closes the connection that has the place, and gives its number.
-    pub(crate) fn close(&mut self) -> Option<u64> {
+    /// Closes the connection that has the place, and gives its number. The long outbox is for others from here on.
+    pub(crate) fn close(&mut self, spare: &mut Outbox) -> Option<u64> {
         let stream = self.stream.take()?;
         drop(stream);
+        self.outbox.clear();
+        spare.take_longer(&mut self.outbox);
         self.is_waiting = false;
         Some(self.id)
     }
@@ -122,12 +132,30 @@ impl Link {
 
     /// Hands in, takes over, writes and reads until the socket would block or has used up its calls of this turn. A read
     /// that gets less than it has room for is the last, unless the peer may have ended what it sends: of that no other
-    /// event comes.
-    pub(crate) fn serve(&mut self, engine: &mut Engine, turn: u64, may_end: bool) -> Progress {
+    /// event comes. It has the long outbox meanwhile, where that is to spare, and longer where bytes are left in it.
+    pub(crate) fn serve(
+        &mut self,
+        engine: &mut Engine,
+        spare: &mut Outbox,
+        turn: u64,
+        may_end: bool,
+    ) -> Progress {
         self.served_in = turn;
         self.is_waiting = false;
         self.is_dry = false;
+        self.written = 0;
+        self.outbox.take_longer(spare);
+        let progress = self.serve_calls(engine, may_end);
+        spare.take_longer(&mut self.outbox);
+        progress
+    }
+
+    /// Makes socket calls until they are enough for a turn, or none is left to make.
+    fn serve_calls(&mut self, engine: &mut Engine, may_end: bool) -> Progress {
         for _ in 0..SOCKET_CALLS {
+            if self.written >= ENOUGH {
+                break;
+            }
             match self.step(engine, may_end) {
                 Step::GoesOn => {}
                 Step::Blocks => return Progress::Blocked,
@@ -208,7 +236,10 @@ impl Link {
         };
         match self.outbox.send(stream) {
             Ok(0) => Step::Ends,
-            Ok(_) => Step::GoesOn,
+            Ok(n) => {
+                self.written = self.written.saturating_add(n);
+                Step::GoesOn
+            }
             Err(error) => step_after(&error),
         }
     }

@@ -1,25 +1,36 @@
 //! Bytes of replies on their way from the core to a socket.
-ghost use Rattle.std.specs.Prelude.{◌≤◌, ℕ, List, length, drop};
+ghost use Rattle.std.specs.Prelude.{◌≡◌, ◌≤◌, ◌+◌, ℕ, List, length, drop, vec_len, vec_capacity};
 
-use arrayvec::ArrayVec;
-use std::io;
+use std::alloc::{AllocError, Global};
 use std::io::Write;
 use std::marker::Model;
+use std::{io, mem};
 
 /// The most bytes of a fragment of a reply: its header, and 1,024 of data.
 const FRAGMENT: usize = 1028;
 
-/// How many bytes wait at most: a whole reply of 9,000 bytes fits, with the headers of its nine fragments.
-pub(crate) const OUTBOX: usize = 9 * FRAGMENT;
+/// The room of a connection's own outbox: a whole reply of 9,000 bytes fits, with the headers of its nine fragments.
+pub(crate) const OWN_ROOM: usize = 9 * FRAGMENT;
+
+/// The room of the outbox that goes from one connection to another: a list of 1,000 rows fits.
+pub(crate) const LONG_ROOM: usize = 64 * FRAGMENT;
 
 /// Bytes that the core counts as given, from the first that the socket has not taken.
 #[derive(Drop)]
 pub(crate) struct Outbox {
-    held: ArrayVec<u8, OUTBOX>,
+    /// It never grows beyond the capacity that it began with.
+    held: Vec<u8>,
     /// How many of them the socket has taken.
     sent: usize,
     /// Whether the last fragment that was taken over is the last of its reply.
     is_reply_over: bool,
+}
+
+/// How many more bytes fit into the memory that is there.
+fn room_in(held: &Vec<u8>) -> usize
+    ensures { vec_len held.now + result ≡ vec_capacity held.now }
+{
+    held.capacity() - held.len()
 }
 
 impl Model for Outbox {
@@ -34,14 +45,18 @@ impl Outbox {
     ghost use Rattle.std.specs.Prelude.{◌≡◌, ◌==◌, [], IfOk, OnErr};
     ghost use Rattle.std.specs.Io.KnownBytes.{WriteAppends};
 
-    pub(crate) fn new() -> Outbox
-        ensures { result ≡ [] }
+    /// An empty one with this room. It is written to, so that its memory is the process's from here on.
+    pub(crate) fn new(alloc: Global, room: usize) -> Result<Outbox, AllocError>
+        ensures { IfOk result (λ outbox. outbox ≡ []) }
     {
-        Outbox {
-            held: ArrayVec::new(),
+        let mut held = Vec::with_capacity(alloc, room)?;
+        held.resize(room, 0)?;
+        held.clear();
+        Ok(Outbox {
+            held,
             sent: 0,
             is_reply_over: true,
-        }
+        })
     }
 
     pub(crate) fn is_empty(&self) -> bool
@@ -53,7 +68,7 @@ impl Outbox {
     /// Whether any fragment fits. Where one may not, nothing more is taken over until the socket has taken all, so that each
     /// fragment is taken over whole.
     pub(crate) fn has_room(&self) -> bool {
-        self.held.remaining_capacity() >= FRAGMENT
+        room_in(&self.held) >= FRAGMENT
     }
 
     /// Whether the last fragment that was taken over is the last of its reply.
@@ -66,6 +81,16 @@ impl Outbox {
     {
         self.held.clear();
         self.sent = 0;
+    }
+
+    /// Has the longer of two that are empty, in exchange for the shorter.
+    pub(crate) fn take_longer(&mut self, other: &mut Outbox)
+        ensures stays { self.new ≡ self.old }
+        ensures other { other.new ≡ other.old }
+    {
+        if self.is_empty() && other.is_empty() && self.held.capacity() < other.held.capacity() {
+            mem::swap(self, other);
+        }
     }
 
     /// Writes what waits, once.
@@ -93,7 +118,11 @@ impl Write for Outbox {
 
     fn write(&mut self, bytes: &[u8]) -> io::Result<usize> {
         self.is_reply_over = matches!(bytes, [0x80..=0xff, ..]);
-        self.held.write(bytes)
+        let count = bytes.len().min(room_in(&self.held));
+        let Ok(()) = self.held.extend_from_slice(&bytes[..count]) else {
+            unreachable!()
+        };
+        Ok(count)
     }
 
     fn flush(&mut self) -> io::Result<()> {

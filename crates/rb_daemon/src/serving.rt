@@ -4,6 +4,7 @@ ghost use Rattle.std.specs.Prelude.{◌≡◌, ◌≤◌, length, vec_len, IfOk}
 use crate::engine::{Due, Engine};
 use crate::faults::{AcceptFault, DaemonFault, accept_fault};
 use crate::link::{Link, Progress, SOCKET_CALLS};
+use crate::outbox::{LONG_ROOM, Outbox};
 use mio::event::Event;
 use mio::net::{TcpListener, TcpStream, UdpSocket};
 use mio::{Interest, Registry, Token};
@@ -84,6 +85,8 @@ pub(crate) struct Serving {
     sockets: Sockets,
     /// The places of connections, by the keys that their events show.
     links: Vec<Link>,
+    /// The long outbox, or that of the connection which has it.
+    spare: Outbox,
     datagram: Vec<u8>,
     /// The number of the turn, and its moment.
     turn: u64,
@@ -103,7 +106,7 @@ fn free_places(alloc: Global, count: usize) -> Result<Vec<Link>, AllocError>
 {
     let mut places = Vec::with_capacity(alloc, count)?;
     'places: for _i in 0..count {
-        places.push_reserved(Link::new());
+        places.push_reserved(Link::new(alloc)?);
     }
     Ok(places)
 }
@@ -121,6 +124,7 @@ impl Serving {
             engine,
             sockets,
             links: free_places(alloc, conns)?,
+            spare: Outbox::new(alloc, LONG_ROOM)?,
             datagram,
             turn: 0,
             moment: 0,
@@ -255,7 +259,7 @@ impl Serving {
         if link.is_free() || link.was_served_in(self.turn) {
             return;
         }
-        match link.serve(&mut self.engine, self.turn, may_end) {
+        match link.serve(&mut self.engine, &mut self.spare, self.turn, may_end) {
             Progress::Blocked => {}
             Progress::CutOff => self.left.links = true,
             Progress::Over => self.close(key),
@@ -267,7 +271,7 @@ impl Serving {
         let Some(link) = self.links.get_mut(key) else {
             return;
         };
-        if let Some(id) = link.close() {
+        if let Some(id) = link.close(&mut self.spare) {
             self.engine.closed(id);
         }
     }
