@@ -31,6 +31,10 @@ pub acts_begun : {A : Type 0} (act : State → A × State) (view now new : Held)
 acts_begun act view now new n x is acts =
     subst (λ (held : Held). Acts StandsFor act held new x) is (record { gives = λ s h. acts.gives s (still_stands view n s h); stands = λ s h. acts.stands s (still_stands view n s h) })
 
+-- what it shows, of a core by its other name
+pub shows_begun : {A : Type 0} (show : State → A) (view now : Held) (n : ℕ) (x : A) → view ≡ now → ((s : State) → StandsFor (began view n) s → x ≡ show s) → (s : State) → StandsFor now s → x ≡ show s
+shows_begun show view now n x is shows = subst (λ (held : Held). (s : State) → StandsFor held s → x ≡ show s) is (λ s h. shows s (still_stands view n s h))
+
 -- that event alone, of a core by its other name
 pub begins_at : (view now : Held) (n : ℕ) (before : Meter) → view ≡ now → n ≡ shown before → BeginsAt before now (began view n)
 begins_at view now n before is count = ap (λ (held : Held). began held n) is ∙ ap (began now) count

@@ -1,13 +1,16 @@
 -- What a call pays is within the bound on its steps.
-use Rattle.std.proofs.Common.{◌≡◌, ◌≤◌, ℕ, ◌+◌, List, length, Ok, sym, ap, ◌∙◌, arith}
+use Rattle.std.proofs.Common.{◌≡◌, ◌≤◌, ℕ, ◌+◌, max, cond, true, false, eqb, List, length, Result, Ok, Err, refl, sym, ap, ◌∙◌, arith}
 use Rattle.rb_xdr.specs.Meter.{Meter, PaysAtMost}
 use Rattle.rb_rpc.specs.declared.peer.Peer.{Peer}
 use Rattle.rb_forward.specs.Costs.{sent_cost, unsent_cost}
 use Rattle.rb_forward.specs.StandsFor.{longest_arguments as longest_args}
 use Rattle.rb_core.specs.Calls.{Outcome, longest_reply}
 use Rattle.rb_core.specs.StandsFor.{longest_arguments, buffer_size, Held, StandsFor}
-use Rattle.rb_core.specs.State.{State, Setting}
-use Rattle.rb_core.specs.Step.{Taken, datagram, bytes, show_taken, step, IsReached}
+use Rattle.rb_core.specs.State.{State, Setting, Connections}
+use Rattle.rb_core.specs.declared.types.CoreFault.{CoreFault}
+use Rattle.rb_core.specs.Connections.{on_live, giving}
+use Rattle.rb_core.specs.AtOnce.{without_front, exchanging}
+use Rattle.rb_core.specs.Step.{Taken, datagram, bytes, gave, moved, show_taken, step, IsReached}
 use Rattle.rb_core.specs.Step.Event.{Bytes, Datagram}
 use Rattle.rb_core.specs.Slots.{Acts}
 use Rattle.rb_core.specs.CallCosts.{look_cost, slot_count, kept_count, gave_cost, closing_cost, ending_cost, datagram_cost}
@@ -83,14 +86,25 @@ module _ (core : Held) (a b : Meter) where
   pub quiet_within : (taken : ℕ) → PaysAtMost a b (look_cost core.connections + (take_cost taken + recount_cost)) → StaysWithinSteps core taken 0 a b
   quiet_within taken pays = record { within = λ s h reached. at_most a b (look_cost core.connections + (take_cost taken + recount_cost)) _ (omega (arith, few_connections s h reached)) pays }
 
-  pub bytes_within : (new : Held) (now id : ℕ) (piece : List ℕ) (taken : Taken) → Acts StandsFor (λ s. bytes s now id piece) core new (Ok taken)
-      → PaysAtMost a b (look_cost core.connections + (take_cost taken.count + recount_cost) + answer_cost (slot_count core.connections) (kept_count core.books) (kept_count new.books))
-      → StaysWithinSteps core taken.count 0 a b
+  -- the state keeps its setting where bytes are given
+  kept_setting : (now n id : ℕ) (s : State) → (without_front now n id s).setting ≡ s.setting
+  unfolding gave
+  kept_setting now n id s = elim (eqb n 0) as (λ b. (cond b s (gave s now id n).1).setting ≡ s.setting) [ true ↦ refl | false ↦ by_result (on_live id (giving (max s.clock now) n) s.connections) ]
+    where
+      by_result : (r : Result (Unit {0}) CoreFault × Connections) → (moved now s r).1.setting ≡ s.setting
+      by_result (Err fault, c) = refl
+      by_result (Ok u, c) = refl
+
+  pub exchange_within : (new : Held) (now id room n more : ℕ) (piece : List ℕ) (taken : Taken) (given : List ℕ) → Acts StandsFor (exchanging now id piece room) core new (Ok taken, given) → more ≤ n + 2
+      → PaysAtMost a b (look_cost core.connections + (take_cost taken.count + recount_cost) + answer_cost (slot_count core.connections) (kept_count core.books) (kept_count new.books) + more)
+      → StaysWithinSteps core taken.count n a b
   unfolding step longest_reply longest_arguments buffer_size longest_args
-  bytes_within new now id piece taken acts pays = record {
+  exchange_within new now id room n more piece taken given acts few pays = record {
     within = λ s h reached.
-        let same = ap (λ (t : State). t.setting) (sym (same_state show_taken (λ t. bytes t now id piece) core new (bytes s now id piece))) ∙ (step-follows s (Bytes now id piece)).setting in
+        let same =
+        kept_setting now _ id (bytes s now id piece).1
+        ∙ ap (λ (t : State). t.setting) (sym (same_state show_taken (λ t. bytes t now id piece) core new (bytes s now id piece))) ∙ (step-follows s (Bytes now id piece)).setting in
         let left = rows_left new s _ h (acts.stands s h) same in
-        at_most a b (look_cost core.connections + (take_cost taken.count + recount_cost) + answer_cost (slot_count core.connections) (kept_count core.books) (kept_count new.books)) _
-        (omega (arith, few_connections s h reached, few_rows s h, left)) pays;
+        at_most a b (look_cost core.connections + (take_cost taken.count + recount_cost) + answer_cost (slot_count core.connections) (kept_count core.books) (kept_count new.books) + more) _
+        (omega (arith, few, few_connections s h reached, few_rows s h, left)) pays;
   }

@@ -40,7 +40,7 @@ find-changed id f feeds (d ∷ all) c is = by_test (is_live id d) refl (find-cha
     by_test true e later = rw (e, feeds.live d e) (ap (λ x. Some (f x)) (one_is (is_live id d) d c _ e is))
     by_test false e later = rw (e, e) (later (other_is (is_live id d) d c _ e is))
 
-changed-twice : (id : ℕ) (f g h : Connection → Connection) → IsFeeding id f → ((c : Connection) → g (f c) ≡ h c) → (all : List Connection) → change_first (is_live id) g (change_first (is_live id) f all) ≡ change_first (is_live id) h all
+pub changed-twice : (id : ℕ) (f g h : Connection → Connection) → IsFeeding id f → ((c : Connection) → g (f c) ≡ h c) → (all : List Connection) → change_first (is_live id) g (change_first (is_live id) f all) ≡ change_first (is_live id) h all
 changed-twice id f g h feeds same [] = refl
 changed-twice id f g h feeds same (d ∷ all) = by_test (is_live id d) refl (changed-twice id f g h feeds same all)
   where

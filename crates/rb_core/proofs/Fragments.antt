@@ -1,6 +1,8 @@
 -- The fragments of a marked reply, and where the giving of it stands.
 use Rattle.std.proofs.Common.{Option, ◌≡◌, ◌<◌, ◌≤◌, ◌+◌, ◌-◌, ◌*◌, ◌/◌, ◌%◌, ◌^◌, Some, None, ℕ, zero, suc, Bool, true, false, cond, ltb, leb, List, [], ◌∷◌, ◌++◌, length, take, drop, min, refl, sym, ap, subst, ◌∙◌, append-nil, arith, inl, inr, ◌⊎◌, length-append}
 use Rattle.std.specs.Prelude.{slice_range}
+use Rattle.std.proofs.lemmas.Slice.{take-put_mid}
+use borrow.Rule.Slice.PartMut.{put_mid}
 use Rattle.std.proofs.lemmas.List.{length-take, length-drop, take_at, drop_at, take_all, take_min, drop-drop, drop-take}
 use Rattle.std.proofs.lemmas.Bool.{le-ltb, lt-ltb, cond-true, cond-false, cases_lt, le-leb, lt-leb}
 use Rattle.rb_xdr.specs.Kept.{Kept}
@@ -59,7 +61,7 @@ marked-long reply long =
     ap (λ (f : List Fragment). markings f) (cut_long (length reply) reply long (omega arith))
     ∙ ap (λ (n : ℕ). (fragment_header n false ++ take fragment_size reply) ++ marked (drop fragment_size reply)) size
 
-length-short : (reply : List ℕ) → length reply ≤ fragment_size → length (marked reply) ≡ 4 + length reply
+pub length-short : (reply : List ℕ) → length reply ≤ fragment_size → length (marked reply) ≡ 4 + length reply
 length-short reply few =
     omega (arith, ap (λ (xs : List ℕ). length xs) (marked-short reply few), length-append (fragment_header (length reply) true) reply, length-header (length reply) true)
 
@@ -67,7 +69,7 @@ length-front : (reply : List ℕ) → fragment_size < length reply → length (f
 length-front reply long =
     omega (arith, long, length-append (fragment_header fragment_size false) (take fragment_size reply), length-header fragment_size false, length-take fragment_size reply)
 
-length-long : (reply : List ℕ) → fragment_size < length reply → length (marked reply) ≡ 1028 + length (marked (drop fragment_size reply))
+pub length-long : (reply : List ℕ) → fragment_size < length reply → length (marked reply) ≡ 1028 + length (marked (drop fragment_size reply))
 length-long reply long =
     omega (arith, ap (λ (xs : List ℕ). length xs) (marked-long reply long), length-append (fragment_header fragment_size false ++ take fragment_size reply) (marked (drop fragment_size reply)), length-front reply long)
 
@@ -324,3 +326,15 @@ fragment_few reply shown given o g = omega (arith, (place_of reply shown given o
 pub fragment_full : (reply : List ℕ) (shown : Kept) (given : ℕ) (o : Owed) → IsGiving reply shown given o → 1024 * (given / 1028) + 1024 < length reply → length shown.bytes ≡ 1028
 fragment_full reply shown given o g more =
     elim (place_of reply shown given o g).ends [ inl there ↦ there.1 | inr none ↦ absurd (omega (arith, none.0, more)) ]
+
+-- the header and the bytes of a reply that are written one behind the other
+pub written_whole : (reply header lent room : List ℕ) (n : ℕ) → length reply ≤ fragment_size → n ≡ length reply → header ≡ fragment_header n true → lent ≡ slice_range reply 0 n → 4 ≤ length room
+    → take (4 + n) (put_mid 4 (4 + n - 4) (header ++ drop 4 room) lent) ≡ marked reply
+written_whole reply header lent room n few all is_header is_lent fits =
+    let whole : lent ≡ reply = is_lent ∙ ap (λ (k : ℕ). take k reply) (omega (arith, all)) ∙ take_all (length reply) reply (omega arith) in
+    let four : length header ≡ 4 = ap (λ (xs : List ℕ). length xs) is_header ∙ length-header n true in
+    take-put_mid 4 (4 + n - 4) (header ++ drop 4 room) lent (4 + n) (omega (arith, all, ap (λ (xs : List ℕ). length xs) whole)) (omega (arith, four, length-append header (drop 4 room)))
+    ∙ ap (λ (xs : List ℕ). xs ++ lent) (take_at header (drop 4 room) 4 four)
+    ∙ ap (λ (xs : List ℕ). header ++ xs) whole
+    ∙ ap (λ (xs : List ℕ). xs ++ reply) (is_header ∙ ap (λ (k : ℕ). fragment_header k true) all)
+    ∙ sym (marked-short reply few)

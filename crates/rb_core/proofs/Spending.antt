@@ -14,12 +14,12 @@ use Rattle.rb_core.specs.CallCosts.{datagram_cost, gave_cost, IsCheapIfQuiet, he
 use Rattle.rb_core.specs.Costs.{find_cost, exchange_cost, read_cost, make_room_cost, serve_cost, begin_list_cost, given_cost, answer_cost, connection_count, row_limit, take_cost, recount_cost, count_taken, piece_cost, record_cost}
 use Rattle.rb_core.proofs.Slots.{as_many}
 
--- a record ended, and it was answered
-pub answered_cost : (m0 m1 m2 : Meter) (n other rows left count : ℕ) (h : Option Heard) (x : Heard) → h ≡ Some x → other ≡ n
+-- a record ended, and it was answered, where so much more was paid
+pub answered_cost : (m0 m1 m2 : Meter) (n other rows left count more : ℕ) (h : Option Heard) (x : Heard) → h ≡ Some x → other ≡ n
     → PaysAtMost m0 m1 (find_cost n + (take_cost count + heard_cost h + recount_cost))
-    → PaysAtMost m1 m2 (read_cost + (make_room_cost other rows + serve_cost rows left) + begin_list_cost other left)
-    → PaysAtMost m0 m2 (find_cost n + (take_cost count + recount_cost) + answer_cost n rows left)
-answered_cost m0 m1 m2 n other rows left count h x is same first second =
+    → PaysAtMost m1 m2 (read_cost + (make_room_cost other rows + serve_cost rows left) + begin_list_cost other left + more)
+    → PaysAtMost m0 m2 (find_cost n + (take_cost count + recount_cost) + answer_cost n rows left + more)
+answered_cost m0 m1 m2 n other rows left count more h x is same first second =
     let taken : PaysAtMost m0 m1 (find_cost n + (take_cost count + exchange_cost + recount_cost)) = rw is at first in
     record {
       steps = omega (arith, taken.steps, second.steps, same);

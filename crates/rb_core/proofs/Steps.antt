@@ -1,6 +1,6 @@
 -- A core that stands for a state before a call stands for the state after it.
 use Rattle.std.proofs.Common.{◌≡◌, ◌≤◌, ℕ, Bool, true, false, cond, List, [], ◌∷◌, map, Option, Some, None, Result, Ok, Err, length, eqb, refl, sym, ap, subst, ◌∙◌, max, arith}
-use Rattle.std.specs.Prelude.{find, not, IfSome}
+use Rattle.std.specs.Prelude.{find, not, ◌||◌, IfSome}
 use Rattle.std.specs.Option.{option_map_or}
 use Rattle.std.proofs.lemmas.Bool.{and_parts}
 use Rattle.rb_rpc.specs.declared.peer.Peer.{Peer}
@@ -28,9 +28,10 @@ use Rattle.rb_core.specs.State.Phase.{Idle, Reading, Owing, Awaiting, Lost}
 use Rattle.rb_core.specs.Connections.{Taking, taking, reading, settled, is_lost, is_live, live_connection, change_first, changed_at, on_live, opening_of, closing_of, giving}
 use Rattle.rb_core.specs.Connections.Taking.{TakesNone, GoesOn, Ends}
 use Rattle.rb_core.specs.Slots.{Acts, Shows, StaysTable, received, fed_with, feeding, arguments_after, arguments_heard, arguments_on}
-use Rattle.rb_core.specs.Step.{context_in, with_ledger, with_reply, settled_in, serve_message, serve, answering, when_taken, bytes_to, bytes, datagram, gave, open_connection, close_connection, moved, dropped_with, unsent_call, sent_call}
+use Rattle.rb_core.specs.Step.{context_in, with_ledger, with_reply, settled_in, serve_message, serve, answering, with_count, when_taken, Taken, bytes_to, bytes, datagram, gave, open_connection, close_connection, moved, dropped_with, unsent_call, sent_call}
 use Rattle.rb_core.specs.CallCosts.{NoRecordEnds, has_ended}
 use Rattle.rb_core.specs.Core.{context_of, answering_heard}
+use Rattle.rb_core.specs.AtOnce.{at_once, at_once_in, owes}
 use Rattle.rb_core.specs.Listings.{Evicts, source_in}
 use Rattle.rb_core.specs.Losses.{began_in, crowding, evicted, evicting, with_room}
 use Rattle.rb_registry.specs.Registry.{Registry}
@@ -212,33 +213,6 @@ module _ (old : Held) (caller : Caller) (message : Message) (arguments : List �
   serve_connections =
       subst (λ (x : Context). StandsForConnections (source_in old.setting.listener.host books) table (evicting (crowding x message s.connections.all s.ledger) s.connections)) same_context (served.goes_on _ made.0)
 
--- the connection on which it came goes on
-pub answer_acts : (old : Held) (id : ℕ) (peer : Peer) (message : Message) (arguments : List ℕ) (roomy : Table) (books : Books) (given : Outcome) (table : Table)
-    → Served (context_of old (Tcp id peer)) old message arguments roomy books given → StaysTable roomy table
-    → ((c : Connections) → StandsForConnections (source_in old.setting.listener.host books) roomy c → StandsForConnections (source_in old.setting.listener.host books) table (changed_at id (settled old.clock given) c))
-    → Acts StandsFor (λ s. settled_in id (serve_message s (Tcp id peer) message arguments)) old (record old { connections = table; books = books }) (is_no_call given)
-answer_acts old id peer message arguments roomy books given table served stays settles = record {
-  gives = λ s h. ap is_no_call (serve_gives old (Tcp id peer) message arguments roomy books given served s h);
-  stands = λ s h. record {
-    setting = h.setting;
-    clock = h.clock;
-    conns = stays.conns ∙ served.stays.conns ∙ h.conns;
-    within = stays.within (served.stays.within h.within);
-    connections =
-        let left : Connections = evicting (crowd_in s (Tcp id peer) message) s.connections in
-        subst (λ (o : Outcome). StandsForConnections (source_in old.setting.listener.host books) table (changed_at id (settled s.clock o) left)) (serve_gives old (Tcp id peer) message arguments roomy books given served s h)
-        (subst (λ (n : ℕ). StandsForConnections (source_in old.setting.listener.host books) table (changed_at id (settled n given) left)) h.clock
-        (settles left (serve_connections old (Tcp id peer) message arguments roomy books given served s h)));
-    limit = served.frame.limit ∙ h.limit;
-    forwards = served.frame.cap ∙ h.forwards;
-    first_xid = served.frame.first_xid ∙ h.first_xid;
-    ledger = serve_stands old (Tcp id peer) message arguments roomy books given served s h;
-    reply = h.reply;
-    short = h.short;
-    arguments = h.arguments;
-  };
-}
-
 -- a datagram is answered
 module _ (old : Held) (now clock : ℕ) (peer : Peer) (content : List ℕ) (table : Table) (books : Books) (reply : List ℕ) (tie : ℕ) (is : clock ≡ max old.clock now) (few : length reply ≤ longest_reply) where
   moment : (s : State) → StandsFor old s → StandsFor (record old { clock = clock }) (at_moment now s)
@@ -335,6 +309,21 @@ module _ {X : Type 0} (test : X → Bool) where
       by_cases true t further = rw t (rw (still y t) refl)
       by_cases false t further = rw t (rw t (ap (λ (zs : List X). y ∷ zs) further))
 
+reading_is_live : (clock id : ℕ) (fed : List ℕ) (c : Connection) → is_live id c ≡ true → is_live id (reading clock fed c) ≡ true
+unfolding is_live reading
+reading_is_live clock id fed c h = let p = and_parts (eqb c.number id) (not (is_lost c.phase)) h in rw p.0 refl
+
+-- the live connection is found changed where it stays live
+find_changed_live : (id : ℕ) (f : Connection → Connection) → ((c : Connection) → is_live id c ≡ true → is_live id (f c) ≡ true) → (all : List Connection) (c : Connection) → find (is_live id) all ≡ Some c → find (is_live id) (change_first (is_live id) f all) ≡ Some (f c)
+find_changed_live id f still [] c there = absurd cc
+find_changed_live id f still (x ∷ all) c there = by_test (is_live id x) refl (find_changed_live id f still all c)
+  where
+    by_test : (b : Bool) → is_live id x ≡ b → (find (is_live id) all ≡ Some c → find (is_live id) (change_first (is_live id) f all) ≡ Some (f c)) → find (is_live id) (change_first (is_live id) f (x ∷ all)) ≡ Some (f c)
+    by_test true t further =
+        let same : x ≡ c = some_is (is_live id) x c (rw t at there) in
+        rw t (rw (still x t) (ap (λ (y : Connection). Some (f y)) same))
+    by_test false t further = rw t (rw t (further (rw t at there)))
+
 -- Idle, from this moment on
 abbrev idle : ℕ → Connection → Connection
 idle clock c = record c { phase = Idle; mark = clock }
@@ -398,6 +387,19 @@ takes_no_list (Reading fed) piece n content e = refl
 takes_no_list (Owing o) piece n content e = absurd cc
 takes_no_list Awaiting piece n content e = refl
 takes_no_list Lost piece n content e = refl
+
+-- and owes no reply
+takes_owing_none : (phase : Phase) (piece : List ℕ) (n : ℕ) (content : List ℕ) → taking phase piece ≡ Ends n content → owes phase ≡ false
+unfolding taking
+takes_owing_none Idle piece n content e = refl
+takes_owing_none (Reading fed) piece n content e = refl
+takes_owing_none (Owing o) piece n content e = absurd cc
+takes_owing_none Awaiting piece n content e = refl
+takes_owing_none Lost piece n content e = refl
+
+-- what was taken, of a connection that is there
+abbrev pub taken_of : Taken × State → Result Taken CoreFault × State
+taken_of (taken, s) = (Ok taken, s)
 
 -- the live connection that took a piece, and what came of it
 pub record Fed (old : Held) (clock id : ℕ) (piece : List ℕ) (table : Table) (got : Received) (s : State) : Type 0 where
@@ -499,30 +501,68 @@ module _ (old : Held) (now clock id : ℕ) (piece : List ℕ) (is : clock ≡ ma
       goes : (s : State) → StandsFor old s → Quiet s count
       goes s h = let f = fed_by (quiet count) acts s h in by_taking s h f (taking f.connection.phase piece) refl
 
-  -- what is given where one ended, and what it said is answered
-  pub heard_acts : (count : ℕ) (said : Heard) (new : Held) (closed : Bool) → Acts (StandsForConnections (source_of old)) (on_live id (feeding clock piece)) old.connections table (Ok (heard count said))
-      → Acts StandsFor (answering_heard id said arguments) (held_with []) new closed
-      → Acts StandsFor (λ s. bytes s now id piece) old new (Ok (record { count = count; closed = closed }))
-  heard_acts count said new closed acts answers = record { gives = λ s h. (goes s h).0; stands = λ s h. (goes s h).1 }
+  -- nothing is given at once there
+  pub quiet_gives_none : (room count : ℕ) → Acts (StandsForConnections (source_of old)) (on_live id (feeding clock piece)) old.connections table (Ok (quiet count))
+      → (s : State) → StandsFor old s → 0 ≡ at_once room id (live_connection id s.connections.all) (bytes s now id piece)
+  unfolding live_connection reading
+  quiet_gives_none room count acts s h = let f = fed_by (quiet count) acts s h in by_taking f (taking f.connection.phase piece) refl
     where
-      by_taking : (s : State) → StandsFor old s → (f : Fed old clock id piece table (heard count said) s) (t : Taking) → taking f.connection.phase piece ≡ t
-          → (Ok (record { count = count; closed = closed }) ≡ (bytes s now id piece).0) × StandsFor new (bytes s now id piece).1
-      by_taking s h f TakesNone t = let gives : heard count said ≡ quiet 0 = rw t at f.gives in absurd (nobody said (ap (λ (r : Received). r.heard) gives))
-      by_taking s h f (GoesOn fed) t = let gives : heard count said ≡ quiet (length piece) = rw t at f.gives in absurd (nobody said (ap (λ (r : Received). r.heard) gives))
-      by_taking s h f (Ends n content) t =
+      owing_none : (phase : Phase) → 0 ≡ cond (owes phase || false) 0 (at_once_in room phase)
+      owing_none (Owing o) = refl
+      owing_none Idle = refl
+      owing_none (Reading fed) = refl
+      owing_none Awaiting = refl
+      owing_none Lost = refl
+
+      either : (b : Bool) → ◌≡◌ {A = ℕ} 0 (cond b 0 0)
+      either true = refl
+      either false = refl
+
+      by_taking : (f : Fed old clock id piece table (quiet count) s) (t : Taking) → taking f.connection.phase piece ≡ t → 0 ≡ at_once room id (live_connection id s.connections.all) (bytes s now id piece)
+      by_taking f TakesNone t = rw (bytes_by s f.connection TakesNone f.there t) (rw f.there (rw f.there (owing_none f.connection.phase)))
+      by_taking f (GoesOn fed) t =
+          rw (bytes_by s f.connection (GoesOn fed) f.there t)
+          (rw f.there (rw (find_changed_live id (reading (max s.clock now) fed) (reading_is_live (max s.clock now) id fed) s.connections.all f.connection f.there) (either (owes f.connection.phase || false))))
+      by_taking f (Ends n content) t =
+          let gives : quiet count ≡ heard n (record { peer = f.connection.peer; verdict = verdict content }) = rw t at f.gives in
+          absurd (nobody (record { peer = f.connection.peer; verdict = verdict content }) (sym (ap (λ (r : Received). r.heard) gives)))
+
+  -- where one ended: the state meanwhile, and what it said is answered from there
+  pub record RecordEnded (count : ℕ) (said : Heard) (s : State) : Type 0 where
+    pub meanwhile : State
+    pub stands : StandsFor (held_with []) meanwhile
+    pub moment : meanwhile.clock ≡ max s.clock now
+    pub before : Connection
+    pub there : live_connection id s.connections.all ≡ Some before
+    pub owes_none : owes before.phase ≡ false
+    pub goes : bytes s now id piece ≡ taken_of (with_count count (answering_heard id said arguments meanwhile))
+
+  pub ended_by : (count : ℕ) (said : Heard) → Acts (StandsForConnections (source_of old)) (on_live id (feeding clock piece)) old.connections table (Ok (heard count said))
+      → (s : State) → StandsFor old s → RecordEnded count said s
+  ended_by count said acts s h = let f = fed_by (heard count said) acts s h in by_taking f (taking f.connection.phase piece) refl
+    where
+      by_taking : (f : Fed old clock id piece table (heard count said) s) (t : Taking) → taking f.connection.phase piece ≡ t → RecordEnded count said s
+      by_taking f TakesNone t = let gives : heard count said ≡ quiet 0 = rw t at f.gives in absurd (nobody said (ap (λ (r : Received). r.heard) gives))
+      by_taking f (GoesOn fed) t = let gives : heard count said ≡ quiet (length piece) = rw t at f.gives in absurd (nobody said (ap (λ (r : Received). r.heard) gives))
+      by_taking f (Ends n content) t =
           let gives : heard count said ≡ heard n (record { peer = f.connection.peer; verdict = verdict content }) = rw t at f.gives in
           let k : count ≡ n = ap (λ (r : Received). r.count) gives in
           let who : said ≡ record { peer = f.connection.peer; verdict = verdict content } = some_is {X = Heard} (λ x. true) _ _ (ap (λ (r : Received). r.heard) gives) in
           let same = fed_to s f.connection (Ends n content) (idle clock) f.there t refl in
-          let z = table_with s h [] refl (changed_at id (idle clock) s.connections) (subst (StandsForConnections (source_of old) table) same f.stands) in
           let alike = heard_alike clock id said arguments content (at_moment now s) f.connection f.there (takes_no_list f.connection.phase piece n content t) (ap (λ (x : Heard). x.verdict) who) (held_after s f.connection (Ends n content) h f.there t) in
-          let one : closed ≡ (answering (at_moment now s) id said.peer content).0 = answers.gives _ z ∙ ap (λ r. r.0) alike in
-          let two : StandsFor new (answering (at_moment now s) id said.peer content).1 = subst (λ (r : Bool × State). StandsFor new r.1) alike (answers.stands _ z) in
           let from = ap (λ (x : Heard). x.peer) who in
-          (rw (bytes_by s f.connection (Ends n content) f.there t) (rw (k, ← from, one) refl), rw (bytes_by s f.connection (Ends n content) f.there t) (rw (← from) two))
-
-      goes : (s : State) → StandsFor old s → (Ok (record { count = count; closed = closed }) ≡ (bytes s now id piece).0) × StandsFor new (bytes s now id piece).1
-      goes s h = let f = fed_by (heard count said) acts s h in by_taking s h f (taking f.connection.phase piece) refl
+          record {
+            meanwhile = record (at_moment now s) { connections = changed_at id (idle clock) s.connections };
+            stands = table_with s h [] refl (changed_at id (idle clock) s.connections) (subst (StandsForConnections (source_of old) table) same f.stands);
+            moment = refl;
+            before = f.connection;
+            there = f.there;
+            owes_none = takes_owing_none f.connection.phase piece n content t;
+            goes =
+                bytes_by s f.connection (Ends n content) f.there t
+                ∙ ap (λ (r : Bool × State). taken_of (with_count n r)) (ap (λ (p : Peer). answering (at_moment now s) id p content) (sym from) ∙ sym alike)
+                ∙ ap (λ (m : ℕ). taken_of (with_count m (answering_heard id said arguments (record (at_moment now s) { connections = changed_at id (idle clock) s.connections })))) (sym k);
+          }
 
 abbrev unheard : CoreFault → Result Received CoreFault
 unheard fault = Err fault

@@ -75,11 +75,6 @@ answering_heard id heard arguments s =
 abbrev pub without_arguments : Held → Held
 without_arguments held = record held { arguments = [] }
 
--- A record on the connection of a number that said this is answered, with the arguments that are held, and those are out then.
-abbrev pub AnswersHeard : ℕ → Heard → Held → Held → Bool → Type 0
-AnswersHeard id heard old new closed =
-    Acts StandsFor (answering_heard id heard old.arguments) (without_arguments old) new closed
-
 -- The caller of a call that ended is told how, where it ended by this datagram.
 abbrev pub TellsCaller : List ℕ → Ended → Held → Held → Told → Type 0
 TellsCaller message ended old new given = Acts StandsFor (tell ended.forward.caller (told_at message ended)) old new given

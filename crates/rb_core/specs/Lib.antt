@@ -9,6 +9,7 @@ pub mod Costs
 pub mod Bounds
 pub mod Runs
 pub mod Slots
+pub mod AtOnce
 pub mod Awaits
 pub mod Reading
 pub mod Giving

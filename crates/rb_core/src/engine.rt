@@ -6,9 +6,9 @@ ghost use Rattle.rb_core.specs.Bounds.{bytes_bound};
 use crate::connections::{BUFFER_SIZE, Connections, LONGEST_FRAGMENT};
 use crate::message::{arguments_behind, message_with};
 use crate::rooms::make_room;
-use crate::serve::{LONGEST_REPLY, Served, put_end, serve};
+use crate::serve::{LONGEST_REPLY, Served, give_at_once, put_end, serve};
 use crate::slot::{Heard, Received};
-use crate::types::{CoreFault, Expired, Limits, Outcome, Taken, Told};
+use crate::types::{CoreFault, Exchanged, Expired, Limits, Outcome, Taken, Told};
 use rb_forward::{Ended, FwdId, Unsent};
 use rb_proto::{Books, Context, Listener};
 use rb_rpc::{Caller, Peer, read_call};
@@ -147,7 +147,7 @@ fn are_good(limits: &Limits) -> bool
 }
 
 impl Core {
-    ghost use Rattle.std.specs.Prelude.{◌≡◌, ◌+◌, ◌*◌, ◌≤◌, ◌↔◌, [], true, false, length, IsTrue, IfOk, IfErr, IfSome, IsErrOf, OnErr, not};
+    ghost use Rattle.std.specs.Prelude.{◌≡◌, ◌+◌, ◌*◌, ◌≤◌, ◌↔◌, [], true, false, length, take, IsTrue, IfOk, IfErr, IfSome, IsErrOf, OnErr, not};
     ghost use Rattle.std.specs.Borrow.{sem};
     ghost use Rattle.rb_xdr.specs.Meter.{Pays, PaysAtMost};
     ghost use Rattle.rb_core.specs.State.{are_good, opening};
@@ -166,7 +166,8 @@ impl Core {
     ghost use Rattle.rb_core.specs.Events.{shown, OnlyBegins, BeginsAt, LendsFrom, TellsSteps, taken_by, lent_by, given_by, StaysWithinSteps};
     ghost use Rattle.rb_core.specs.Slots.{Acts, Shows, Lends};
     ghost use Rattle.rb_core.specs.StandsFor.{StandsFor};
-    ghost use Rattle.rb_core.specs.Core.{ActsWithReply, AnswersHeard, TellsCaller, context_of};
+    ghost use Rattle.rb_core.specs.Core.{ActsWithReply, TellsCaller, context_of};
+    ghost use Rattle.rb_core.specs.AtOnce.{AnswersGiving, Exchanges, GivesAtOnce, count_given, count_now, exchange_cost, taken_in, whole_cost};
     ghost use Rattle.rb_core.specs.CallCosts.{answering_cost, datagram_cost, bytes_cost, gave_cost, closing_cost, lending_cost, ending_cost, IsCheapIfQuiet, look_cost, slot_count};
     ghost use Rattle.rb_core.specs.Costs.{tell_cost, pending_cost};
 
@@ -336,6 +337,39 @@ impl Core {
         ensures bound { StaysWithinSteps self.old (taken_by result) 0 meter.old meter.new }
         ensures cheap { IsCheapIfQuiet self.old id piece.now result meter.old meter.new }
     {
+        let Exchanged { taken, given: _ } = self.exchange(now, id, piece, &mut [], meter)?;
+        Ok(taken)
+    }
+
+    /// Takes bytes as `bytes` does. Where the record that ends is answered by a reply of one fragment, and there is room for the
+    /// longest, 1,028 bytes, the reply is written there and given at once: it is pending no more. So one call is three
+    /// events, `bytes`, `pending` and `gave`, and its steps are those of all.
+    #[tactic(auto, using(crate::proofs::Bounds::never_passes))]
+    pub fn exchange(
+        &mut self,
+        now: u64,
+        id: u64,
+        piece: &[u8],
+        room: &mut [u8],
+        meter: &mut Meter,
+    ) -> Result<Exchanged, CoreFault>
+        requires { meter.old.tie ≡ self.old.tie }
+        ensures acts { Exchanges now id piece.now self.old self.new result room.new }
+        ensures count { Shows StandsFor (count_now now id piece.now (length room.old))
+            self.old (count_given result) }
+        ensures fits { count_given result ≤ length room.new }
+        ensures within { IfOk result (λ done. done.taken.count ≤ length piece.now) }
+        ensures refused { OnErr result (OnlyBegins self.old self.new) }
+        ensures tie { self.new.tie ≡ self.old.tie }
+        ensures begun { self.new.begun ≡ shown meter.old }
+        ensures held { NeverPasses self.new }
+        ensures cost { PaysAtMost meter.old meter.new
+            (exchange_cost self.old self.new (length room.old) result) }
+        ensures bound { StaysWithinSteps
+            self.old (taken_by (taken_in result)) (count_given result) meter.old meter.new }
+        ensures cheap { IsCheapIfQuiet
+            self.old id piece.now (taken_in result) meter.old meter.new }
+    {
         self.begun = meter.count();
         let clock = self.clock.max(now);
         let Received { count, heard } = self
@@ -343,26 +377,34 @@ impl Core {
             .take(id, piece, clock, &mut self.arguments, meter)?;
         self.clock = clock;
         let Some(heard) = heard else {
-            return Ok(Taken {
-                count,
-                closed: false,
+            let closed = false;
+            return Ok(Exchanged {
+                taken: Taken { count, closed },
+                given: 0,
             });
         };
-        let closed = self.answer(id, heard, meter);
-        Ok(Taken { count, closed })
+        let (closed, given) = self.answer(id, heard, room, meter);
+        Ok(Exchanged {
+            taken: Taken { count, closed },
+            given,
+        })
     }
 
     /// Answers what a record on a connection says, whose arguments are held, and lets the connection go on. It says whether
-    /// it is Lost now.
+    /// it is Lost now, and how many bytes of the reply were given at once.
     #[tactic(auto, unfolding(crate::specs::Calls::longest_reply, crate::specs::StandsFor::longest_arguments, crate::specs::StandsFor::buffer_size))]
-    fn answer(&mut self, id: u64, heard: Heard, meter: &mut Meter) -> bool
+    fn answer(&mut self, id: u64, heard: Heard, room: &mut [u8], meter: &mut Meter) -> (bool, usize)
         requires tie { meter.old.tie ≡ self.old.tie }
         requires idle { has_idle id self.old.connections ≡ true }
         requires caller { is_waiting id (slots_of self.old.books.forwards) ≡ false }
-        ensures acts { AnswersHeard id heard self.old self.new result }
+        ensures acts { AnswersGiving
+            id heard self.old self.new result.0 (take result.1 room.new) }
+        ensures within { result.1 ≤ length room.new }
+        ensures count { GivesAtOnce (length room.old) id heard self.old result.1 }
         ensures tie { self.new.tie ≡ self.old.tie }
         ensures begun { self.new.begun ≡ self.old.begun }
-        ensures cost { PaysAtMost meter.old meter.new (answering_cost self.old self.new) }
+        ensures cost { PaysAtMost meter.old meter.new
+            (answering_cost self.old self.new + whole_cost (length room.old) result.1) }
     {
         let context = self.context(Caller::Tcp(id, heard.peer));
         let len = self.arguments.len(meter);
@@ -384,11 +426,14 @@ impl Core {
             meter,
         );
         self.arguments.clear(meter);
+        let (left, given) = give_at_once(served, &mut self.draft, room, meter);
         let host = self.listener.host;
         let registry = &self.books.registry;
         let draft = &mut self.draft;
-        self.connections
-            .go_on(id, served, self.clock, host, registry, draft, meter)
+        let closed = self
+            .connections
+            .go_on(id, left, self.clock, host, registry, draft, meter);
+        (closed, given)
     }
 
     /// How many bytes are pending on a connection. `Gone` where there is no such connection, or it is Lost.

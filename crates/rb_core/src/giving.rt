@@ -15,10 +15,11 @@ ghost use Rattle.rb_proto.specs.ListParts.{IsBehindPart, IsTold};
 ghost use Rattle.rb_core.specs.Slots.{IsDraft};
 ghost use Rattle.rb_core.specs.Costs.{show_cost, pending_cost};
 ghost use Rattle.rb_core.specs.CallCosts.{advance_cost, show_list_cost};
+ghost use Rattle.rb_core.specs.AtOnce.{IsGivenWhole, whole_cost, whole_length};
 
 use rb_proto::ListReply;
 use rb_registry::Registry;
-use rb_rpc::fragment_header;
+use rb_rpc::{FRAGMENT_HEADER, fragment_header};
 use rb_xdr::{Kept, Meter};
 
 /// The data bytes of each fragment but the last, which has 1 to as many.
@@ -90,6 +91,32 @@ pub fn begin(reply: &Kept, window: &mut Kept, meter: &mut Meter)
     ensures cost { PaysAtMost meter.old meter.new show_cost }
 {
     show(reply, 0, window, meter);
+}
+
+/// Gives a reply of one fragment whole, marked, where there is room for the longest: its buffer is empty then. It says how
+/// many bytes were given, 0 where none were.
+#[tactic(auto, unfolding(crate::specs::Connections::longest_fragment))]
+pub fn give_whole(reply: &mut Kept, room: &mut [u8], meter: &mut Meter) -> usize
+    requires tie { meter.old.tie ≡ reply.old.tie }
+    requires some { 0 < length reply.old.bytes }
+    ensures count { result ≡ whole_length (length room.old) (length reply.old.bytes) }
+    ensures stays { result ≡ 0 → reply.new ≡ reply.old }
+    ensures whole { 0 < result → IsGivenWhole reply.old reply.new (take result room.new) }
+    ensures within { result ≤ length room.new }
+    ensures cost { PaysAtMost meter.old meter.new (whole_cost (length room.old) result) }
+{
+    if room.len() < MARKED {
+        return 0;
+    }
+    let len = reply.len(meter);
+    if len > DATA {
+        return 0;
+    }
+    room[..FRAGMENT_HEADER].copy_from_slice(&fragment_header(len, true));
+    let end = FRAGMENT_HEADER + len;
+    room[FRAGMENT_HEADER..end].copy_from_slice(reply.lend(0..len, meter));
+    reply.clear(meter);
+    end
 }
 
 /// How many bytes are left of the fragment that the window shows, where `given` of all were given.

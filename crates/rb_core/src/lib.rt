@@ -1,4 +1,5 @@
 //! The port mapper's logic without sockets: one event is one public call on `Core`, and nothing happens between two.
+//! `Core::exchange` alone is up to three in one: bytes that arrive, and a short reply that is pending and given.
 #![tactic(auto)]
 
 mod connections;
@@ -33,4 +34,4 @@ pub use rb_rpc::Peer;
 pub use rb_xdr::NoMemory;
 pub use reading::kept_bytes_say_the_record;
 pub use run::replay;
-pub use types::{CoreFault, Expired, Limits, Outcome, Taken, Told};
+pub use types::{CoreFault, Exchanged, Expired, Limits, Outcome, Taken, Told};

@@ -1,5 +1,5 @@
 //! Serves a message: what it is answered with, and what is remembered of it.
-ghost use Rattle.std.specs.Prelude.{◌≡◌, ◌<◌, ◌≤◌, [], false, length};
+ghost use Rattle.std.specs.Prelude.{◌≡◌, ◌<◌, ◌≤◌, [], false, length, take};
 ghost use Rattle.rb_rpc.specs.Replies.{reply_head};
 ghost use Rattle.rb_xdr.specs.Meter.{PaysAtMost};
 ghost use Rattle.rb_registry.specs.Cursors.{GoesOn};
@@ -18,9 +18,12 @@ ghost use Rattle.rb_core.specs.Awaits.{kind_of, StayUnlessForwarded};
 ghost use Rattle.rb_core.specs.Listings.{HasRoom, source_in};
 ghost use Rattle.rb_core.specs.Core.{given_in};
 ghost use Rattle.rb_core.specs.Serving.{TellsAnswer, ServesMessage, kind_in, IsWritten, HasList, IsListFor};
+ghost use Rattle.rb_core.specs.AtOnce.{IsLeft, count_at_once, whole_cost};
 ghost use Rattle.rb_core.specs.CallCosts.{put_results_cost, serving_cost};
+ghost use Rattle.rb_core.specs.Slots.{IsDraft};
 ghost use Rattle.rb_core.specs.Costs.{put_end_cost};
 
+use crate::giving::give_whole;
 use crate::message::Message;
 use crate::types::Outcome;
 use rb_forward::{Ended, Forward, Outcome as End};
@@ -222,6 +225,32 @@ pub fn serve(
             let given = answer(books, context, call, arguments, meter);
             put_answer(&given, xid, books, context, out, meter)
         }
+    }
+}
+
+/// Gives the reply that is written at once, where it is one fragment and there is room for the longest. It says what is left
+/// to do then, and how many bytes were given, 0 where none were.
+pub fn give_at_once(
+    served: Served,
+    draft: &mut Kept,
+    room: &mut [u8],
+    meter: &mut Meter,
+) -> (Served, usize)
+    requires draft { IsDraft meter.old.tie draft.old }
+    requires written { IsWritten served draft.old.bytes }
+    ensures count { result.1 ≡ count_at_once (length room.old) served draft.old.bytes }
+    ensures left { IsLeft served result.0 draft.old draft.new (take result.1 room.new) }
+    ensures written { IsWritten result.0 draft.new.bytes }
+    ensures draft { IsDraft meter.old.tie draft.new }
+    ensures within { result.1 ≤ length room.new }
+    ensures cost { PaysAtMost meter.old meter.new (whole_cost (length room.old) result.1) }
+{
+    if !matches!(served, Served::Told(Outcome::Reply)) {
+        return (served, 0);
+    }
+    match give_whole(draft, room, meter) {
+        0 => (served, 0),
+        given => (Served::Told(Outcome::Silent), given),
     }
 }
 

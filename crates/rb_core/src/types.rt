@@ -58,6 +58,15 @@ pub struct Taken {
     pub closed: bool,
 }
 
+/// What came of bytes that arrived on a connection, where a reply may be given at once.
+#[derive(Clone, Copy, Debug, PartialEq, Eq)]
+pub struct Exchanged {
+    /// How far they were taken.
+    pub taken: Taken,
+    /// How many bytes were given.
+    pub given: usize,
+}
+
 /// Whom the end of a forwarded call is to be told.
 #[derive(Clone, Copy, Debug, PartialEq, Eq)]
 pub enum Told {

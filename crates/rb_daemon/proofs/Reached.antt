@@ -1,7 +1,8 @@
 -- A state that a run reaches goes on by each event.
-use Rattle.std.proofs.Common.{◌≡◌, ◌≤◌, ℕ, Bool, false, cond, List, [], ◌∷◌, ◌++◌, length, Option, Some, None, Result, Ok, Err, refl, sym, ap, subst, ◌∙◌}
+use Rattle.std.proofs.Common.{◌≡◌, ◌≤◌, ℕ, Bool, false, cond, List, [], ◌∷◌, ◌++◌, length, Option, Some, None, Result, Ok, Err, refl, sym, ap, subst, ◌∙◌, ◌<◌, zero, suc, take, inl, inr, ◌⊎◌, arith}
 use Rattle.std.proofs.Math.Logic.{∥∥₁_elim}
-use Rattle.std.proofs.lemmas.Bool.{le-ltb}
+use Rattle.std.proofs.lemmas.Bool.{le-ltb, cond-false, ne_eqb}
+use Rattle.std.proofs.lemmas.List.{length-take}
 use Rattle.rb_rpc.specs.declared.peer.Peer.{Peer}
 use Rattle.rb_proto.specs.declared.listener.Listener.{Listener}
 use Rattle.rb_core.specs.declared.types.CoreFault.{CoreFault}
@@ -10,13 +11,14 @@ use Rattle.rb_core.specs.declared.types.Taken.{Taken}
 use Rattle.rb_core.specs.State.{State, opening}
 use Rattle.rb_core.specs.Calls.{Outcome, Outcome as outcomes}
 use Rattle.rb_core.specs.Step.{Event, Output, step, open_connection, bytes, pending, gave, close_connection, datagram, sent_call, output_or, show_taken, show_done, show_outcome, show_end, show_expired, is_too_much, IsReached}
+use Rattle.rb_core.specs.AtOnce.{pending_bytes, count_now, without_front, exchanging}
 use Rattle.rb_core.specs.declared.types.Told.{Told}
 use Rattle.rb_core.specs.declared.types.Expired.{Expired}
 use Rattle.rb_core.specs.Ending.{forward_reply, expire}
 use Rattle.rb_core.specs.Step.Event.{Open, Bytes, Gave, Closed, Datagram, Sent, Forward, Expire}
 use Rattle.rb_core.specs.Step.Output.{Opened, TooMuch}
 use Rattle.rb_core.specs.declared.types.Expired.TheVariants as expiries
-use Rattle.rb_core.specs.Slots.{Acts}
+use Rattle.rb_core.specs.Slots.{Acts, Shows}
 use Rattle.rb_core.specs.StandsFor.{Held, StandsFor}
 use Rattle.rb_core.proofs.Begun.{began, stands_begun}
 use Rattle.rb_core.proofs.RunLaws.{after-append}
@@ -109,8 +111,32 @@ look_served old new n is = same_served old new (stands_begun old new n is)
 pub open_served : (old new : Held) (now : ℕ) (peer : Peer) (r : Result ℕ CoreFault) → Acts StandsFor (λ s. open_connection s now peer) old new r → ∥ IsServed old ∥₁ → ∥ IsServed new ∥₁
 open_served old new now peer r acts = served_on old new (λ s. (open_connection s now peer).1) acts.stands (λ s. open_reached s now peer)
 
-pub bytes_served : (old new : Held) (now id : ℕ) (piece : List ℕ) (r : Result Taken CoreFault) → Acts StandsFor (λ s. bytes s now id piece) old new r → ∥ IsServed old ∥₁ → ∥ IsServed new ∥₁
-bytes_served old new now id piece r acts = served_on old new (λ s. (bytes s now id piece).1) acts.stands (λ s. bytes_reached s now id piece)
+none_or_more : (n : ℕ) → (n ≡ 0) ⊎ (0 < n)
+none_or_more zero = inl refl
+none_or_more (suc n) = inr (omega arith)
+
+-- bytes that were taken, and as many that were given as there were
+exchange_reached : (s : State) (now id n : ℕ) (piece : List ℕ) → n ≤ length (pending_bytes (pending (bytes s now id piece).1 id)) → IsReached s → IsReached (without_front now n id (bytes s now id piece).1)
+exchange_reached s now id n piece few r = elim (none_or_more n) [
+  | inl none ↦ rw none first
+  | inr some ↦ subst IsReached (sym (cond-false _ _ _ (ne_eqb n 0 (λ e. omega (arith, e, some))))) (by_pending some (pending (bytes s now id piece).1 id) refl few)
+]
+  where
+    first : IsReached (bytes s now id piece).1
+    first = bytes_reached s now id piece r
+
+    by_pending : 0 < n → (owed : Result (List ℕ) CoreFault) → pending (bytes s now id piece).1 id ≡ owed → n ≤ length (pending_bytes owed) → IsReached (gave (bytes s now id piece).1 now id n).1
+    by_pending some (Ok owed) is within = gave_reached (bytes s now id piece).1 now id n owed is within first
+    by_pending some (Err fault) is within = absurd (omega (arith, some, within))
+
+pub exchange_served : (old new : Held) (now id room n : ℕ) (piece given : List ℕ) (r : Result Taken CoreFault) → length given ≡ n → Shows StandsFor (count_now now id piece room) old n
+    → Acts StandsFor (exchanging now id piece room) old new (r, given) → ∥ IsServed old ∥₁ → ∥ IsServed new ∥₁
+exchange_served old new now id room n piece given r all counts acts held =
+    ∥∥₁_elim held squash₁ (λ h.
+    let k : ℕ = count_now now id piece room h.state in
+    let is : given ≡ take k (pending_bytes (pending (bytes h.state now id piece).1 id)) = ap (λ (x : Result Taken CoreFault × List ℕ). x.1) (acts.gives h.state h.stands) in
+    let few : k ≤ length (pending_bytes (pending (bytes h.state now id piece).1 id)) = omega (arith, all, counts h.state h.stands, ap (λ (xs : List ℕ). length xs) is, length-take k (pending_bytes (pending (bytes h.state now id piece).1 id))) in
+    ∣ record { state = (exchanging now id piece room h.state).1; stands = acts.stands h.state h.stands; reached = exchange_reached h.state now id k piece few h.reached } ∣₁)
 
 pub closed_served : (old new : Held) (id : ℕ) (r : Result (Unit {0}) CoreFault) → Acts StandsFor (λ s. close_connection s id) old new r → ∥ IsServed old ∥₁ → ∥ IsServed new ∥₁
 closed_served old new id r acts = served_on old new (λ s. (close_connection s id).1) acts.stands (λ s. closed_reached s id)

@@ -1,9 +1,12 @@
 -- What a call of the engine does, at the engine's moment.
-use Rattle.std.specs.Prelude.{ℕ, ◌%◌, ◌^◌, List, Option}
+use Rattle.std.specs.Prelude.{◌≡◌, ℕ, ◌%◌, ◌^◌, List, ◌++◌, Option, Result}
 use Rattle.rb_proto.specs.declared.listener.Listener.{Listener}
 use Rattle.rb_core.specs.declared.types.Limits.{Limits}
 use Rattle.rb_core.specs.State.{State, opening}
+use Rattle.rb_core.specs.declared.types.CoreFault.{CoreFault}
+use Rattle.rb_core.specs.declared.types.Exchanged.{Exchanged}
 use Rattle.rb_core.specs.Step.{pending}
+use Rattle.rb_core.specs.AtOnce.{exchanging, taken_in}
 use Rattle.rb_core.specs.Slots.{Acts}
 use Rattle.rb_core.specs.StandsFor.{StandsFor}
 use Rattle.rb_daemon.specs.declared.engine.Engine.{Engine}
@@ -26,3 +29,11 @@ ActsNow step old new result = Acts StandsFor (λ s. step s old.moment) old.core 
 abbrev pub Gives : {W : Type 0} → ℕ → (W → Option (List ℕ)) → Engine → W → W → Given → Type 0
 Gives id contents engine old new given =
     (s : State) → StandsFor engine.core s → WasGiven (pending s id) (contents old) (contents new) given
+
+-- Bytes came on a connection, and what is given at once stands in the outbox, behind what it held.
+pub record FillsOutbox (id : ℕ) (piece : List ℕ) (old new : Engine) (before after : List ℕ) (result : Result Exchanged CoreFault) : Type 0 where
+  pub room : ℕ
+  pub given : List ℕ
+  pub acts : Acts StandsFor (exchanging old.moment id piece room) old.core new.core (taken_in result, given)
+  pub appended : after ≡ before ++ given
+  pub moment : new.moment ≡ old.moment

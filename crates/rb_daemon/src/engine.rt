@@ -3,14 +3,15 @@ ghost use Rattle.std.specs.Prelude.{◌≡◌};
 ghost use Rattle.rb_daemon.specs.Served.{IsServed};
 
 use mio::net::UdpSocket;
-use rb_core::{Core, CoreFault, Expired, Limits, Listener, Outcome, Peer, Taken, Told};
+use rb_core::{Core, CoreFault, Exchanged, Expired, Limits, Listener, Outcome, Peer, Told};
 use rb_xdr::Meter;
 use std::alloc::Global;
 use std::io::{ErrorKind, Write};
 use std::net::{Ipv4Addr, SocketAddr};
 
 /// The core, the meter that it was made with, and the moment of the turn, in milliseconds since the start of 1970.
-/// Nothing else calls the core, so what is called here, line by line, are the events of a run.
+/// Nothing else calls the core, so what is called here, line by line, are the events of a run, `exchange` as the bytes
+/// that came and the reply that was given.
 #[derive(Drop)]
 pub(crate) struct Engine {
     core: Core,
@@ -46,8 +47,10 @@ pub(crate) enum Due {
 impl Engine {
     ghost use Rattle.std.specs.Prelude.{◌≡◌, ◌≤◌, ◌↔◌, IsTrue, IsErrOf, length, not, IfOk};
     ghost use Rattle.rb_core.specs.State.{State, are_good};
-    ghost use Rattle.rb_core.specs.Step.{open_connection, bytes, close_connection, next_lost, datagram};
+    ghost use Rattle.rb_core.specs.Step.{open_connection, close_connection, next_lost, datagram};
     ghost use Rattle.rb_core.specs.StandsFor.{StandsFor};
+    ghost use Rattle.rb_core.specs.Slots.{Shows};
+    ghost use Rattle.rb_core.specs.AtOnce.{Exchanges, count_given, count_now};
     ghost use Rattle.rb_daemon.specs.Served.{after_giving, ready_of, replying, expiring, sending};
     ghost use Rattle.rb_daemon.specs.Moves.{BeginsAt, Moves, ActsNow, Gives};
 
@@ -87,12 +90,24 @@ impl Engine {
         self.core.open(self.moment, peer, &mut self.meter)
     }
 
-    pub(crate) fn bytes(&mut self, id: u64, piece: &[u8]) -> Result<Taken, CoreFault>
-        ensures acts { ActsNow (λ s now. bytes s now id piece.now) self.old self.new result }
-        ensures within { IfOk result (λ taken. taken.count ≤ length piece.now) }
+    /// Bytes came on a connection. A reply of one fragment to the record that ends with them goes into the room, where there is
+    /// enough.
+    pub(crate) fn exchange(
+        &mut self,
+        id: u64,
+        piece: &[u8],
+        room: &mut [u8],
+    ) -> Result<Exchanged, CoreFault>
+        ensures acts { Exchanges
+            self.old.moment id piece.now self.old.core self.new.core result room.new }
+        ensures count { Shows StandsFor (count_now self.old.moment id piece.now (length room.old))
+            self.old.core (count_given result) }
+        ensures fits { count_given result ≤ length room.new }
+        ensures within { IfOk result (λ done. done.taken.count ≤ length piece.now) }
         ensures moment { self.new.moment ≡ self.old.moment }
     {
-        self.core.bytes(self.moment, id, piece, &mut self.meter)
+        self.core
+            .exchange(self.moment, id, piece, room, &mut self.meter)
     }
 
     /// Writes the bytes that are pending on a connection, once, and tells the core how many the writer took.

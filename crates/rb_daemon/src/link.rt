@@ -4,6 +4,7 @@ ghost use Rattle.std.specs.Prelude.{◌≤◌};
 use crate::engine::{Engine, Given};
 use crate::outbox::{LONG_ROOM, OWN_ROOM, Outbox};
 use mio::net::TcpStream;
+use rb_core::Exchanged;
 use std::alloc::{AllocError, Global};
 use std::io;
 use std::io::{ErrorKind, Read};
@@ -204,19 +205,20 @@ impl Link {
     }
 
     /// Hands in the bytes that were read and not yet taken, up to the end of a record, and says how many were taken, or
-    /// `None` where the connection is over.
+    /// `None` where the connection is over. A short reply is in the outbox at once, and then the core owes none.
     fn hand_in(&mut self, engine: &mut Engine) -> Option<usize> {
         if self.start == self.end {
             return Some(0);
         }
-        let taken = engine
-            .bytes(self.id, &self.held[self.start..self.end])
-            .ok()?;
+        let (id, start, end) = (self.id, self.start, self.end);
+        let held = &mut self.held;
+        let outbox = &mut self.outbox;
+        let Exchanged { taken, given } = outbox.exchange(engine, id, &held[start..end]).ok()?;
         if taken.closed {
             return None;
         }
         self.start += taken.count;
-        self.may_owe = true;
+        self.may_owe = given == 0;
         Some(taken.count)
     }
 

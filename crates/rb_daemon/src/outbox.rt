@@ -1,6 +1,8 @@
 //! Bytes of replies on their way from the core to a socket.
-ghost use Rattle.std.specs.Prelude.{◌≡◌, ◌≤◌, ◌+◌, ℕ, List, length, drop, vec_len, vec_capacity};
+ghost use Rattle.std.specs.Prelude.{◌≡◌, ◌≤◌, ◌++◌, ℕ, List, length, take, drop};
 
+use crate::engine::Engine;
+use rb_core::{CoreFault, Exchanged};
 use std::alloc::{AllocError, Global};
 use std::io::Write;
 use std::marker::Model;
@@ -12,38 +14,32 @@ const FRAGMENT: usize = 1028;
 /// The room of a connection's own outbox: a whole reply of 9,000 bytes fits, with the headers of its nine fragments.
 pub(crate) const OWN_ROOM: usize = 9 * FRAGMENT;
 
-/// The room of the outbox that goes from one connection to another: a list of 1,000 rows fits.
+/// The room of the outbox that goes from one connection to another: a list of 1,000 rows with usual texts fits.
 pub(crate) const LONG_ROOM: usize = 64 * FRAGMENT;
 
 /// Bytes that the core counts as given, from the first that the socket has not taken.
 #[derive(Drop)]
 pub(crate) struct Outbox {
-    /// It never grows beyond the capacity that it began with.
+    /// All of its room: the bytes of `held[sent..end]` are on their way.
     held: Vec<u8>,
-    /// How many of them the socket has taken.
     sent: usize,
+    end: usize,
     /// Whether the last fragment that was taken over is the last of its reply.
     is_reply_over: bool,
-}
-
-/// How many more bytes fit into the memory that is there.
-fn room_in(held: &Vec<u8>) -> usize
-    ensures { vec_len held.now + result ≡ vec_capacity held.now }
-{
-    held.capacity() - held.len()
 }
 
 impl Model for Outbox {
     ghost Value = { List ℕ };
 
-    ghost view = { λ outbox. drop outbox.sent outbox.held.items };
+    ghost view = { λ outbox. drop outbox.sent (take outbox.end outbox.held.items) };
 
-    ghost invariant = { λ outbox. outbox.sent ≤ length outbox.held.items };
+    ghost invariant = { λ outbox. (outbox.sent ≤ outbox.end) × (outbox.end ≤ length outbox.held.items) };
 }
 
 impl Outbox {
     ghost use Rattle.std.specs.Prelude.{◌≡◌, ◌==◌, [], IfOk, OnErr};
     ghost use Rattle.std.specs.Io.KnownBytes.{WriteAppends};
+    ghost use Rattle.rb_daemon.specs.Moves.{FillsOutbox};
 
     /// An empty one with this room. It is written to, so that its memory is the process's from here on.
     pub(crate) fn new(alloc: Global, room: usize) -> Result<Outbox, AllocError>
@@ -51,10 +47,10 @@ impl Outbox {
     {
         let mut held = Vec::with_capacity(alloc, room)?;
         held.resize(room, 0)?;
-        held.clear();
         Ok(Outbox {
             held,
             sent: 0,
+            end: 0,
             is_reply_over: true,
         })
     }
@@ -62,13 +58,13 @@ impl Outbox {
     pub(crate) fn is_empty(&self) -> bool
         ensures { result ≡ (length self.now == 0) }
     {
-        self.sent == self.held.len()
+        self.sent == self.end
     }
 
     /// Whether any fragment fits. Where one may not, nothing more is taken over until the socket has taken all, so that each
     /// fragment is taken over whole.
     pub(crate) fn has_room(&self) -> bool {
-        room_in(&self.held) >= FRAGMENT
+        self.held.len() - self.end >= FRAGMENT
     }
 
     /// Whether the last fragment that was taken over is the last of its reply.
@@ -79,8 +75,8 @@ impl Outbox {
     pub(crate) fn clear(&mut self)
         ensures { self.new ≡ [] }
     {
-        self.held.clear();
         self.sent = 0;
+        self.end = 0;
     }
 
     /// Has the longer of two that are empty, in exchange for the shorter.
@@ -88,9 +84,25 @@ impl Outbox {
         ensures stays { self.new ≡ self.old }
         ensures other { other.new ≡ other.old }
     {
-        if self.is_empty() && other.is_empty() && self.held.capacity() < other.held.capacity() {
+        if self.is_empty() && other.is_empty() && self.held.len() < other.held.len() {
             mem::swap(self, other);
         }
+    }
+
+    /// Hands bytes in that came on a connection, and takes the reply over that is given at once, if there is one.
+    pub(crate) fn exchange(
+        &mut self,
+        engine: &mut Engine,
+        id: u64,
+        piece: &[u8],
+    ) -> Result<Exchanged, CoreFault>
+        ensures acts { FillsOutbox id piece.now engine.old engine.new self.old self.new result }
+        ensures within { IfOk result (λ done. done.taken.count ≤ length piece.now) }
+    {
+        let room = &mut self.held.as_mut_slice()[self.end..];
+        let done = engine.exchange(id, piece, room)?;
+        self.end += done.given;
+        Ok(done)
     }
 
     /// Writes what waits, once.
@@ -100,9 +112,9 @@ impl Outbox {
         ensures left { IfOk result (λ n. self.new ≡ drop n self.old) }
         ensures kept { OnErr result (self.new ≡ self.old) }
     {
-        let n = writer.write(&self.held.as_slice()[self.sent..])?;
+        let n = writer.write(&self.held.as_slice()[self.sent..self.end])?;
         self.sent += n;
-        if self.sent == self.held.len() {
+        if self.sent == self.end {
             self.clear();
         }
         Ok(n)
@@ -118,10 +130,10 @@ impl Write for Outbox {
 
     fn write(&mut self, bytes: &[u8]) -> io::Result<usize> {
         self.is_reply_over = matches!(bytes, [0x80..=0xff, ..]);
-        let count = bytes.len().min(room_in(&self.held));
-        let Ok(()) = self.held.extend_from_slice(&bytes[..count]) else {
-            unreachable!()
-        };
+        let count = bytes.len().min(self.held.len() - self.end);
+        let behind = self.end + count;
+        self.held.as_mut_slice()[self.end..behind].copy_from_slice(&bytes[..count]);
+        self.end = behind;
         Ok(count)
     }
 

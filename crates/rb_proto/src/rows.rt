@@ -86,7 +86,7 @@ fn shown_owner<'a>(row: &Row, digits: &'a mut Buffer) -> &'a [u8]
     owner_text(row.owner, digits)
 }
 
-/// Writes TRUE and the rpcb of a row, each text from where it lies.
+/// Writes TRUE and the rpcb of a row: its address and its owner from where they lie.
 fn write_texts(row: &Row, owner: &[u8], out: &mut Kept, meter: &mut Meter)
     requires tie { meter.old.tie ≡ out.old.tie }
     requires owner { owner.now ≡ owner_text row.now.owner }

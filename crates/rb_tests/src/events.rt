@@ -1,6 +1,9 @@
 ghost use Rattle.std.specs.Prelude.{◌≡◌, IfOk};
 
-use rb_core::{Core, CoreFault, Event, Limits, Listener, NoMemory, Outcome, Output, Peer, replay};
+use rb_core::{
+    Core, CoreFault, Event, Exchanged, Limits, Listener, NoMemory, Outcome, Output, Peer, Taken,
+    replay,
+};
 use rb_xdr::Meter;
 use std::alloc::{AllocError, Global};
 use std::process::Abort;
@@ -279,4 +282,60 @@ fn overlong_record_is_answered(rt: HostRuntime) -> Result<(), Fail> {
     connection_opens(&rt, rt.alloc(), &mut core, &mut meter)?;
     record_begins(&rt, rt.alloc(), &mut core, &mut meter)?;
     record_ends(&rt, rt.alloc(), &mut core, &mut meter)
+}
+
+/// The whole reply to a NULL call of xid 1 on a connection.
+const NULL_MARKED: [u8; 28] = [
+    0x80, 0, 0, 24, 0, 0, 0, 1, 0, 0, 0, 1, 0, 0, 0, 0, 0, 0, 0, 0, 0, 0, 0, 0, 0, 0, 0, 0,
+];
+
+// The whole record is taken, and so many bytes of its reply are given at once.
+fn gives_at_once(
+    core: &mut Core,
+    record: &[u8],
+    room: &mut [u8],
+    given: usize,
+    meter: &mut Meter,
+) -> bool
+    requires { meter.old.tie ≡ core.old.tie }
+    ensures tie { core.new.tie ≡ core.old.tie }
+    ensures same_meter { meter.new.tie ≡ meter.old.tie }
+{
+    let taken = Taken {
+        count: 44,
+        closed: false,
+    };
+    core.exchange(0, 1, record, room, meter) == Ok(Exchanged { taken, given })
+}
+
+// Where there is room for the longest fragment the reply is given at once, and is pending no more.
+fn gives_with_room(core: &mut Core, record: &[u8], meter: &mut Meter) -> bool
+    requires { meter.old.tie ≡ core.old.tie }
+    ensures tie { core.new.tie ≡ core.old.tie }
+    ensures same_meter { meter.new.tie ≡ meter.old.tie }
+{
+    let mut room = [0; 1028];
+    gives_at_once(core, record, &mut room, 28, meter)
+        && room.starts_with(&NULL_MARKED)
+        && core.pending(1, meter) == Ok(&[])
+}
+
+// Where there is a byte less the reply is pending.
+fn waits_without_room(core: &mut Core, record: &[u8], meter: &mut Meter) -> bool
+    requires { meter.old.tie ≡ core.old.tie }
+{
+    let mut room = [0; 1027];
+    gives_at_once(core, record, &mut room, 0, meter)
+        && core.pending(1, meter) == Ok(NULL_MARKED.as_slice())
+}
+
+#[test]
+fn replies_are_given_at_once(rt: HostRuntime) -> Result<(), Fail> {
+    let mut meter = Meter::new();
+    let record = words(rt.alloc(), &NULL_RECORD)?;
+    let mut core = new_core(rt.alloc(), &mut meter)?;
+    connection_opens(&rt, rt.alloc(), &mut core, &mut meter)?;
+    assert!(rt; gives_with_room(&mut core, &record, &mut meter));
+    assert!(rt; waits_without_room(&mut core, &record, &mut meter));
+    Ok(())
 }

@@ -1,0 +1,385 @@
+-- Replies that are given in the call that takes the end of their record.
+use Rattle.std.proofs.Common.{◌≡◌, ◌<◌, ◌≤◌, ◌+◌, ℕ, zero, suc, Bool, true, false, not, cond, List, [], ◌∷◌, length, take, drop, eqb, ltb, max, Option, Some, None, arith, refl, sym, ap, subst, ◌∙◌, inl, inr, ◌⊎◌}
+use Rattle.std.specs.Prelude.{◌&&◌, ◌||◌, is_none, find, Err, Result, Ok}
+use Rattle.std.specs.List.{AllZip, list_any}
+use Rattle.std.specs.Map.{values_of}
+use Rattle.std.proofs.lemmas.Bool.{and_parts, le-ltb, lt-ltb, cases_lt, cond-false, ne_eqb}
+use Rattle.std.proofs.lemmas.List.{take_all, length-take}
+use Rattle.rb_xdr.specs.Kept.{Kept}
+use Rattle.rb_rpc.specs.Records.{fragment_size, marked}
+use Rattle.rb_rpc.specs.declared.peer.Peer.{Peer}
+use Rattle.rb_rpc.specs.declared.peer.Caller.{Caller}
+use Rattle.rb_rpc.specs.declared.peer.Caller.TheVariants.{Tcp, Udp}
+use Rattle.rb_proto.specs.declared.books.Books.{Books}
+use Rattle.rb_forward.specs.StandsFor.{Table as Entries}
+use Rattle.rb_core.specs.declared.serve.Served.{Served as CodeServed}
+use Rattle.rb_core.specs.declared.serve.Served.TheVariants.{Told, Listed}
+use Rattle.rb_core.specs.declared.types.Outcome.TheVariants as outcomes
+use Rattle.rb_core.specs.declared.slot.Heard.{Heard}
+use Rattle.rb_core.specs.declared.slot.Slot.{Slot}
+use Rattle.rb_core.specs.declared.slot.Stage.{Stage}
+use Rattle.rb_core.specs.declared.slot.Stage.TheVariants as stages
+use Rattle.rb_core.specs.declared.message.Message.{Message}
+use Rattle.rb_core.specs.declared.types.CoreFault.{CoreFault}
+use Rattle.rb_core.specs.declared.types.Taken.{Taken}
+use Rattle.rb_core.specs.State.{State, Phase, Connection, Connections}
+use Rattle.rb_core.specs.State.Phase.{Idle, Reading, Owing, Awaiting, Lost}
+use Rattle.rb_core.specs.Calls.{Outcome, is_no_call}
+use Rattle.rb_core.specs.Calls.Outcome.{NoCall, Reply, Forwarded, Silent}
+use Rattle.rb_core.specs.Connections.{longest_fragment, pending_of, owed_of, phase_after, settled, pending_in, phase_when_given, when_given, giving, is_lost, is_live, live_connection, change_first, changed_at, on_live, on_connection}
+use Rattle.rb_core.specs.StandsFor.{Source, StandsForPhase, StandsForConnection, StandsForConnections, Table, Held, StandsFor, source_of}
+use Rattle.rb_core.specs.Slots.{Acts, Shows, StaysTable, is_idle_stage, feeding, arguments_on}
+use Rattle.rb_core.specs.Awaits.{is_idle_slot, has_idle, StayUnlessForwarded}
+use Rattle.rb_core.specs.Listings.{source_in}
+use Rattle.rb_core.specs.Losses.{evicting}
+use Rattle.rb_core.specs.Serving.{served_in, kind_in, HasList}
+use Rattle.rb_core.specs.Core.{context_of, answering_heard}
+use Rattle.rb_core.specs.Step.{settled_in, serve_message, bytes, pending, pending_at, pending_on, gave, with_count}
+use Rattle.rb_core.specs.AtOnce.{pending_bytes, at_once_in, at_once_on, at_once, owes, whole_length, count_at_once, given_when_answered, front, without_front, then_giving, exchanging, answered_giving, IsLeft, whole_cost}
+use Rattle.rb_core.proofs.Cuts.{IsFeeding, find-changed, changed-twice}
+use Rattle.rb_core.proofs.Fragments.{length-short, length-long, some-marked}
+use Rattle.rb_core.proofs.Steps.{Served, serve_gives, serve_stands, serve_connections, crowd_in, change_alike, change_nothing, RecordEnded, ended_by, taken_of}
+
+-- ---- the connection that goes on
+
+-- A connection is live where its slot is Idle.
+pub record Lives (id : ℕ) (all : List Connection) : Type 0 where
+  pub connection : Connection
+  pub there : find (is_live id) all ≡ Some connection
+
+idle_lives : (source : Source) (id : ℕ) (slot : Slot) (c : Connection) → StandsForConnection source slot c → is_idle_slot id slot ≡ true → is_live id c ≡ true
+unfolding is_live
+idle_lives source id slot c stands idle =
+    let p = and_parts (eqb slot.number id) (is_idle_stage slot.stage) idle in
+    rw (ap (λ (n : ℕ). eqb n id) (sym stands.number) ∙ p.0) (by_stage slot.stage c.phase p.1 stands.phase)
+  where
+    by_stage : (stage : Stage) (phase : Phase) → is_idle_stage stage ≡ true → StandsForPhase source stage slot.buffer slot.window phase → not (is_lost phase) ≡ true
+    by_stage stages.Idle Idle e z = refl
+    by_stage stages.Idle (Reading fed) e z = refl
+    by_stage stages.Idle (Owing o) e z = refl
+    by_stage stages.Idle Awaiting e z = refl
+    by_stage stages.Idle Lost e z = absurd z
+    by_stage (stages.Reading reader) phase e z = absurd cc
+    by_stage (stages.Owing given) phase e z = absurd cc
+    by_stage (stages.Streaming stream) phase e z = absurd cc
+    by_stage stages.Awaiting phase e z = absurd cc
+    by_stage stages.Lost phase e z = absurd cc
+
+idle_among : (source : Source) (id : ℕ) (slots : List Slot) (all : List Connection) → AllZip (StandsForConnection source) slots all → list_any (is_idle_slot id) slots ≡ true → Lives id all
+idle_among source id [] all zip any = absurd cc
+idle_among source id (slot ∷ slots) [] zip any = absurd zip
+idle_among source id (slot ∷ slots) (c ∷ all) zip any = by_live (is_live id c) refl (idle_among source id slots all zip.1)
+  where
+    by_live : (b : Bool) → is_live id c ≡ b → (list_any (is_idle_slot id) slots ≡ true → Lives id all) → Lives id (c ∷ all)
+    by_live true t further = record { connection = c; there = rw t refl }
+    by_live false t further = by_idle (is_idle_slot id slot) refl
+      where
+        by_idle : (b : Bool) → is_idle_slot id slot ≡ b → Lives id (c ∷ all)
+        by_idle true e = let clash : true ≡ false = sym (idle_lives source id slot c zip.0 e) ∙ t in absurd cc
+        by_idle false e = let lives = further (rw e at any) in record { connection = lives.connection; there = rw t lives.there }
+
+pub idle_is_live : (source : Source) (id : ℕ) (table : Table) (c : Connections) → StandsForConnections source table c → has_idle id table ≡ true → Lives id c.all
+unfolding has_idle
+idle_is_live source id table c stands idle = idle_among source id (values_of table.slots) c.all stands.all idle
+
+-- ---- what is left of an answer
+
+nonzero : (n : ℕ) → 0 < n → eqb n 0 ≡ false
+nonzero n h = ne_eqb n 0 (λ e. omega (arith, e, h))
+
+both : (a b : Bool) (xs ys : List ℕ) → a ≡ b → xs ≡ ys → ◌≡◌ {A = Bool × List ℕ} (a, xs) (b, ys)
+both a b xs ys same alike = rw (same, alike) refl
+
+none_or_some : (xs : List ℕ) → (xs ≡ []) ⊎ (0 < length xs)
+none_or_some [] = inl refl
+none_or_some (x ∷ xs) = inr (omega arith)
+
+-- The bytes that are given are those that are pending once the record is answered, and what is left is what they leave.
+pub record Leaves (given left : Outcome) (bytes : List ℕ) : Type 0 where
+  pub all : bytes ≡ [] → left ≡ given
+  pub closes : is_no_call left ≡ is_no_call given
+  pub lives : 0 < length bytes → is_lost (phase_after given) ≡ false
+  pub shows : 0 < length bytes → pending_in (phase_after given) ≡ bytes
+  pub later : 0 < length bytes → (clock : ℕ) (c : Connection) → when_given clock (length bytes) (settled clock given c) ≡ settled clock left c
+
+all_pending : (reply : List ℕ) → length reply ≤ fragment_size → pending_of (owed_of reply None 0) ≡ marked reply
+unfolding pending_of longest_fragment
+all_pending reply few = take_all 1028 (marked reply) (omega (arith, few, length-short reply few))
+
+idle_then : (n : ℕ) (reply : List ℕ) → length (marked reply) ≤ n → phase_when_given n (Owing (owed_of reply None 0)) ≡ Idle
+idle_then n reply all = cond-false _ _ _ (le-ltb (0 + n) (length (marked reply)) (omega (arith, all)))
+
+whole_leaves : (clock : ℕ) (c : Connection) (reply given : List ℕ) → 0 < length given → given ≡ marked reply → when_given clock (length given) (settled clock (Reply reply None) c) ≡ settled clock Silent c
+unfolding when_given settled
+whole_leaves clock c reply given some is =
+    cond-false _ _ _ (nonzero (length given) some)
+    ∙ ap (λ (p : Phase). record c { phase = p; mark = clock }) (idle_then (length given) reply (omega (arith, ap (λ (xs : List ℕ). length xs) is)))
+
+pub leaves : (source : Source) (served left : CodeServed) (before after : Kept) (given : List ℕ) → IsLeft served left before after given → Leaves (served_in source served before.bytes) (served_in source left after.bytes) given
+leaves source served left before after given is = record {
+  all = all_left;
+  closes = elim (none_or_some given) [ inl none ↦ ap is_no_call (all_left none) | inr some ↦ rw (is.is_reply some, is.is_over some) refl ];
+  lives = λ some. rw (is.is_reply some) refl;
+  shows = λ some. rw (is.is_reply some) (all_pending before.bytes (is.whole some).few ∙ sym (is.whole some).is_marked);
+  later = λ some clock c. rw (is.is_reply some, is.is_over some) (whole_leaves clock c before.bytes given some (is.whole some).is_marked);
+}
+  where
+    all_left : given ≡ [] → served_in source left after.bytes ≡ served_in source served before.bytes
+    all_left none = let same = is.all none in rw (same.0, same.1) refl
+
+-- A list that is streamed is left.
+pub list_left : (caller : Caller) (source : Source) (served left : CodeServed) (before after : Kept) (given : List ℕ) → IsLeft served left before after given → HasList caller source served → HasList caller source left
+list_left caller source served left before after given is has = elim (none_or_some given) [
+  | inl none ↦ subst (λ (x : CodeServed). HasList caller source x) (sym (is.all none).0) has
+  | inr some ↦ subst (λ (x : CodeServed). HasList caller source x) (sym (is.is_over some)) (no_list caller)
+]
+  where
+    no_list : (caller : Caller) → HasList caller source (Told outcomes.Silent)
+    no_list (Tcp id peer) = tt
+    no_list (Udp peer) = tt
+
+-- No entry is new where none was.
+pub quiet_left : (old new : Entries) (served left : CodeServed) (before after : Kept) (given : List ℕ) → IsLeft served left before after given → StayUnlessForwarded (kind_in served) old new → StayUnlessForwarded (kind_in left) old new
+quiet_left old new served left before after given is quiet = elim (none_or_some given) [
+  | inl none ↦ subst (λ (x : CodeServed). StayUnlessForwarded (kind_in x) old new) (sym (is.all none).0) quiet
+  | inr some ↦ subst (λ (x : CodeServed). StayUnlessForwarded (kind_in x) old new) (sym (is.is_over some)) (subst (λ (x : CodeServed). StayUnlessForwarded (kind_in x) old new) (is.is_reply some) quiet)
+]
+
+module _ (id : ℕ) (given left : Outcome) (bytes : List ℕ) (is : Leaves given left bytes) where
+  feeding_on : (clock : ℕ) → 0 < length bytes → IsFeeding id (settled clock given)
+  unfolding is_live settled
+  feeding_on clock some = record { live = λ c live. let p = and_parts (eqb c.number id) (not (is_lost c.phase)) live in rw (p.0, is.lives some) refl }
+
+  given_none : (clock : ℕ) (c : Connections) → bytes ≡ [] → changed_at id (settled clock left) c ≡ changed_at id (when_given clock (length bytes)) (changed_at id (settled clock given) c)
+  unfolding when_given
+  given_none clock c none =
+      rw (is.all none, none) (ap (λ (xs : List Connection). record c { all = xs }) (sym (change_nothing (is_live id) (change_first (is_live id) (settled clock given) c.all))))
+
+  given_some : (clock : ℕ) (c : Connections) → 0 < length bytes → changed_at id (settled clock left) c ≡ changed_at id (when_given clock (length bytes)) (changed_at id (settled clock given) c)
+  given_some clock c some =
+      ap (λ (xs : List Connection). record c { all = xs })
+      (sym (changed-twice id (settled clock given) (when_given clock (length bytes)) (settled clock left) (feeding_on clock some) (is.later some clock) c.all))
+
+  given_then : (clock : ℕ) (c : Connections) → changed_at id (settled clock left) c ≡ changed_at id (when_given clock (length bytes)) (changed_at id (settled clock given) c)
+  given_then clock c = elim (none_or_some bytes) [ inl none ↦ given_none clock c none | inr some ↦ given_some clock c some ]
+
+  -- these bytes are pending once the record is answered
+  pub in_front : (clock : ℕ) (c : Connections) → Lives id c.all → bytes ≡ take (length bytes) (pending_bytes (pending_at id (changed_at id (settled clock given) c)))
+  unfolding live_connection settled
+  in_front clock c lives = elim (none_or_some bytes) [
+    | inl none ↦ rw none refl
+    | inr some ↦
+        rw (find-changed id (settled clock given) (feeding_on clock some) c.all lives.connection lives.there)
+        (rw (is.shows some) (sym (take_all (length bytes) bytes (omega arith))))
+  ]
+
+-- ---- how many bytes are given at once
+
+marked_fits : (room : ℕ) (reply : List ℕ) → at_once_in room (Owing (owed_of reply None 0)) ≡ whole_length room (length reply)
+unfolding longest_fragment
+marked_fits room reply = elim (cases_lt fragment_size (length reply)) [
+  | inl long ↦ rw (lt-ltb fragment_size (length reply) long) (rw (lt-ltb 1028 (length (marked reply)) (omega (arith, long, length-long reply long, some-marked (drop fragment_size reply)))) refl)
+  | inr few ↦
+      rw (le-ltb fragment_size (length reply) few) (rw (le-ltb 1028 (length (marked reply)) (omega (arith, few, length-short reply few)))
+      (ap (λ (n : ℕ). cond (not (ltb room 1028)) n 0) (length-short reply few)))
+]
+
+-- what is given at once of an outcome
+abbrev count_of : ℕ → Outcome → ℕ
+count_of room given = cond (is_no_call given) 0 (at_once_in room (phase_after given))
+
+pub counts_served : (room : ℕ) (source : Source) (served : CodeServed) (reply : List ℕ) → count_at_once room served reply ≡ count_of room (served_in source served reply)
+counts_served room source (Told outcomes.NoCall) reply = refl
+counts_served room source (Told outcomes.Reply) reply = sym (marked_fits room reply)
+counts_served room source (Told outcomes.Forwarded) reply = refl
+counts_served room source (Told outcomes.Silent) reply = refl
+counts_served room source (Listed list) reply = refl
+
+keeps_live : (id clock : ℕ) (given : Outcome) → is_lost (phase_after given) ≡ false → IsFeeding id (settled clock given)
+unfolding is_live settled
+keeps_live id clock given lives = record { live = λ c live. let p = and_parts (eqb c.number id) (not (is_lost c.phase)) live in rw (p.0, lives) refl }
+
+counts_settled : (room id clock : ℕ) (given : Outcome) (c : Connections) → Lives id c.all → cond (is_no_call given) 0 (at_once_on room (live_connection id (changed_at id (settled clock given) c).all)) ≡ count_of room given
+unfolding live_connection settled
+counts_settled room id clock NoCall c lives = refl
+counts_settled room id clock (Reply reply began) c lives = rw (find-changed id (settled clock (Reply reply began)) (keeps_live id clock (Reply reply began) refl) c.all lives.connection lives.there) refl
+counts_settled room id clock Forwarded c lives = rw (find-changed id (settled clock Forwarded) (keeps_live id clock Forwarded refl) c.all lives.connection lives.there) refl
+counts_settled room id clock Silent c lives = rw (find-changed id (settled clock Silent) (keeps_live id clock Silent refl) c.all lives.connection lives.there) refl
+
+-- A message from a connection is answered, and so many bytes of the reply are given.
+pub answer_counts : (room : ℕ) (old : Held) (id : ℕ) (peer : Peer) (message : Message) (arguments : List ℕ) (roomy : Table) (books : Books) (given : Outcome)
+    → Served (context_of old (Tcp id peer)) old message arguments roomy books given → has_idle id roomy ≡ true → (s : State) → StandsFor old s
+    → given_when_answered room id (settled_in id (serve_message s (Tcp id peer) message arguments)) ≡ count_of room given
+answer_counts room old id peer message arguments roomy books given served idle s h =
+    let says = serve_gives old (Tcp id peer) message arguments roomy books given served s h in
+    let conns : Connections = evicting (crowd_in s (Tcp id peer) message) s.connections in
+    let lives = idle_is_live (source_in old.setting.listener.host books) id roomy conns (serve_connections old (Tcp id peer) message arguments roomy books given served s h) idle in
+    subst (λ (o : Outcome). cond (is_no_call o) 0 (at_once_on room (live_connection id (changed_at id (settled s.clock o) conns).all)) ≡ count_of room given) says
+    (counts_settled room id s.clock given conns lives)
+
+-- A message from a connection is answered, and these bytes of the reply are given.
+pub answer_giving : (old : Held) (id : ℕ) (peer : Peer) (message : Message) (arguments : List ℕ) (roomy : Table) (books : Books) (given left : Outcome) (bytes : List ℕ) (table : Table)
+    → Served (context_of old (Tcp id peer)) old message arguments roomy books given → StaysTable roomy table → Leaves given left bytes → has_idle id roomy ≡ true
+    → ((c : Connections) → StandsForConnections (source_in old.setting.listener.host books) roomy c → StandsForConnections (source_in old.setting.listener.host books) table (changed_at id (settled old.clock left) c))
+    → Acts StandsFor (λ s. answered_giving id (length bytes) (settled_in id (serve_message s (Tcp id peer) message arguments))) old (record old { connections = table; books = books }) (is_no_call given, bytes)
+unfolding pending
+answer_giving old id peer message arguments roomy books given left bytes table served stays leave idle settles = record {
+  gives = λ s h.
+      let says = serve_gives old (Tcp id peer) message arguments roomy books given served s h in
+      let among = serve_connections old (Tcp id peer) message arguments roomy books given served s h in
+      let conns : Connections = evicting (crowd_in s (Tcp id peer) message) s.connections in
+      let lives = idle_is_live (source_in old.setting.listener.host books) id roomy conns among idle in
+      both _ _ _ _ (ap is_no_call says)
+      (subst (λ (o : Outcome). bytes ≡ take (length bytes) (pending_bytes (pending_at id (changed_at id (settled s.clock o) conns)))) says (in_front id given left bytes leave s.clock conns lives));
+  stands = λ s h. record {
+    setting = h.setting;
+    clock = h.clock;
+    conns = stays.conns ∙ served.stays.conns ∙ h.conns;
+    within = stays.within (served.stays.within h.within);
+    connections =
+        let conns : Connections = evicting (crowd_in s (Tcp id peer) message) s.connections in
+        subst (λ (o : Outcome). StandsForConnections (source_in old.setting.listener.host books) table (changed_at id (when_given s.clock (length bytes)) (changed_at id (settled s.clock o) conns))) (serve_gives old (Tcp id peer) message arguments roomy books given served s h)
+        (subst (λ (n : ℕ). StandsForConnections (source_in old.setting.listener.host books) table (changed_at id (when_given n (length bytes)) (changed_at id (settled n given) conns))) h.clock
+        (subst (λ (c : Connections). StandsForConnections (source_in old.setting.listener.host books) table c) (given_then id given left bytes leave old.clock conns)
+        (settles conns (serve_connections old (Tcp id peer) message arguments roomy books given served s h))));
+    limit = served.frame.limit ∙ h.limit;
+    forwards = served.frame.cap ∙ h.forwards;
+    first_xid = served.frame.first_xid ∙ h.first_xid;
+    ledger = serve_stands old (Tcp id peer) message arguments roomy books given served s h;
+    reply = h.reply;
+    short = h.short;
+    arguments = h.arguments;
+  };
+}
+
+-- ---- bytes that are taken, and a reply that is given
+
+-- so many bytes are given
+abbrev pub giving_by : ℕ → ℕ → List ℕ → ℕ → State → (Result Taken CoreFault × List ℕ) × State
+giving_by now id piece n s = then_giving now id n (bytes s now id piece)
+
+-- They are as many as are given at once.
+pub counted : (now id n : ℕ) (piece : List ℕ) (room : ℕ) (old new : Held) (x : Result Taken CoreFault × List ℕ) → Acts StandsFor (giving_by now id piece n) old new x
+    → ((s : State) → StandsFor old s → n ≡ at_once room id (live_connection id s.connections.all) (bytes s now id piece)) → Acts StandsFor (exchanging now id piece room) old new x
+counted now id n piece room old new x acts same = record {
+  gives = λ s h. acts.gives s h ∙ ap (λ (k : ℕ). (then_giving now id k (bytes s now id piece)).0) (same s h);
+  stands = λ s h. subst (λ (k : ℕ). StandsFor new (then_giving now id k (bytes s now id piece)).1) (same s h) (acts.stands s h);
+}
+
+-- none are where the bytes are refused
+pub none_refused : (now id : ℕ) (piece : List ℕ) (room : ℕ) (old new : Held) (f : CoreFault) → Acts StandsFor (λ s. bytes s now id piece) old new (Err f)
+    → (s : State) → StandsFor old s → 0 ≡ at_once room id (live_connection id s.connections.all) (bytes s now id piece)
+none_refused now id piece room old new f acts s h = by_result (live_connection id s.connections.all) (bytes s now id piece) (acts.gives s h)
+  where
+    by_result : (m : Option Connection) (r : Result Taken CoreFault × State) → Err f ≡ r.0 → 0 ≡ at_once room id m r
+    by_result None r e = refl
+    by_result (Some c) (Err g, t) e = refl
+    by_result (Some c) (Ok x, t) e = absurd cc
+
+-- Where nothing is given at once it is the event alone.
+pub plainly : (now id : ℕ) (piece : List ℕ) (old new : Held) (taken : Result Taken CoreFault) → Acts StandsFor (λ s. bytes s now id piece) old new taken → Acts StandsFor (giving_by now id piece 0) old new (taken, [])
+plainly now id piece old new taken acts = record {
+  gives = λ s h. ap (λ (r : Result Taken CoreFault). pair r) (acts.gives s h);
+  stands = acts.stands;
+}
+  where
+    pair : Result Taken CoreFault → Result Taken CoreFault × List ℕ
+    pair r = (r, [])
+
+-- where there is no room, none are
+no_room : (id : ℕ) (m : Option Connection) (r : Result Taken CoreFault × State) → at_once 0 id m r ≡ 0
+unfolding longest_fragment
+no_room id None r = refl
+no_room id (Some c) (Err f, s) = refl
+no_room id (Some c) (Ok taken, s) = elim (owes c.phase || taken.closed) as (λ b. cond b 0 (at_once_on 0 (live_connection id s.connections.all)) ≡ 0) [ true ↦ refl | false ↦ on_none (live_connection id s.connections.all) ]
+  where
+    none_in : (phase : Phase) → at_once_in 0 phase ≡ 0
+    none_in (Owing o) = elim (is_none o.began && not (ltb 1028 (length o.marked))) as (λ b. cond (b && false) (length o.marked) 0 ≡ 0) [ true ↦ refl | false ↦ refl ]
+    none_in Idle = refl
+    none_in (Reading fed) = refl
+    none_in Awaiting = refl
+    none_in Lost = refl
+
+    on_none : (o : Option Connection) → at_once_on 0 o ≡ 0
+    on_none None = refl
+    on_none (Some x) = none_in x.phase
+
+pub alone : (now id : ℕ) (piece given : List ℕ) (room : ℕ) (old new : Held) (taken : Result Taken CoreFault) → room ≡ 0 → Acts StandsFor (exchanging now id piece room) old new (taken, given) → Acts StandsFor (λ s. bytes s now id piece) old new taken
+alone now id piece given room old new taken none acts = record {
+  gives = λ s h. ap (λ (x : Result Taken CoreFault × List ℕ). x.0) (acts.gives s h);
+  stands = λ s h.
+      subst (λ (k : ℕ). StandsFor new (without_front now k id (bytes s now id piece).1))
+      (ap (λ (r : ℕ). at_once r id (live_connection id s.connections.all) (bytes s now id piece)) none ∙ no_room id (live_connection id s.connections.all) (bytes s now id piece))
+      (acts.stands s h);
+}
+
+-- n bytes, as many as there are of what is pending, are given by one event
+given_by_event : (now id n : ℕ) (s : State) → max s.clock now ≡ s.clock → n ≤ length (pending_bytes (pending s id)) → on_connection id (when_given s.clock n) s ≡ without_front now n id s
+unfolding pending gave when_given giving live_connection
+given_by_event now id n s late few = elim (none_or_more n) [ inl none ↦ of_none none | inr some ↦ of_some some (live_connection id s.connections.all) refl few ]
+  where
+    none_or_more : (k : ℕ) → (k ≡ 0) ⊎ (0 < k)
+    none_or_more zero = inl refl
+    none_or_more (suc k) = inr (omega arith)
+
+    of_none : n ≡ 0 → on_connection id (when_given s.clock n) s ≡ without_front now n id s
+    of_none e = rw e (ap (λ (xs : List Connection). record s { connections = record s.connections { all = xs } }) (change_nothing (is_live id) s.connections.all))
+
+    given_at : (c : Connection) → n ≤ length (pending_in c.phase) → when_given s.clock n c ≡ (giving (max s.clock now) n c).1
+    given_at c within = rw late (ap (λ (m : ℕ). when_given s.clock m c) (omega (arith, within)))
+
+    of_some : 0 < n → (found : Option Connection) → live_connection id s.connections.all ≡ found → n ≤ length (pending_bytes (pending_on found)) → on_connection id (when_given s.clock n) s ≡ without_front now n id s
+    of_some some None there within = absurd (omega (arith, some, within))
+    of_some some (Some c) there within =
+        ap (λ (xs : List Connection). record s { connections = record s.connections { all = xs } }) (change_alike (is_live id) (when_given s.clock n) (λ x. (giving (max s.clock now) n x).1) s.connections.all c there (given_at c within))
+        ∙ ap (λ (k : ℕ). record s { clock = k; connections = changed_at id (λ x. (giving (max s.clock now) n x).1) s.connections }) (sym late)
+        ∙ sym (cond-false _ _ _ (nonzero n some) ∙ rw there refl)
+
+-- The record that ended is answered, and these bytes of the reply are given.
+pub exchange_heard : (old : Held) (now clock id : ℕ) (piece : List ℕ) (is : clock ≡ max old.clock now) (table : Table) (stays : StaysTable old.connections table)
+    (arguments : List ℕ) (holds : Shows (StandsForConnections (source_of old)) (arguments_on id old.arguments piece) old.connections arguments)
+    (count : ℕ) (said : Heard) (new : Held) (closed : Bool) (given : List ℕ) → Acts (StandsForConnections (source_of old)) (on_live id (feeding clock piece)) old.connections table (Ok (record { count = count; heard = Some said }))
+    → Acts StandsFor (λ s. answered_giving id (length given) (answering_heard id said arguments s)) (record old { clock = clock; connections = table; arguments = [] }) new (closed, given)
+    → Acts StandsFor (giving_by now id piece (length given)) old new (Ok (record { count = count; closed = closed }), given)
+exchange_heard old now clock id piece is table stays arguments holds count said new closed given acts answers = record {
+  gives = λ s h.
+      let e = ended s h in
+      ap (λ (x : Bool × List ℕ). taken x) (answers.gives e.meanwhile e.stands)
+      ∙ ap (λ (r : Result Taken CoreFault × State). (then_giving now id (length given) r).0) (sym e.goes);
+  stands = λ s h.
+      let e = ended s h in
+      let a : Bool × State = answering_heard id said arguments e.meanwhile in
+      let front_is : given ≡ front (length given) id a.1 = ap (λ (x : Bool × List ℕ). x.1) (answers.gives e.meanwhile e.stands) in
+      let few : length given ≤ length (pending_bytes (pending a.1 id)) = omega (arith, ap (λ (xs : List ℕ). length xs) front_is, length-take (length given) (pending_bytes (pending a.1 id))) in
+      let late : max a.1.clock now ≡ a.1.clock = omega (arith, e.moment) in
+      subst (λ (r : Result Taken CoreFault × State). StandsFor new (without_front now (length given) id r.1)) (sym e.goes)
+      (subst (λ (t : State). StandsFor new t) (given_by_event now id (length given) a.1 late few) (answers.stands e.meanwhile e.stands));
+}
+  where
+    taken : Bool × List ℕ → Result Taken CoreFault × List ℕ
+    taken x = (Ok (record { count = count; closed = x.0 }), x.1)
+
+    ended : (s : State) → StandsFor old s → RecordEnded old now clock id piece is table stays arguments holds count said s
+    ended = ended_by old now clock id piece is table stays arguments holds count said acts
+
+-- the same by how many they are
+pub by_count : (now id n : ℕ) (piece room : List ℕ) (old new : Held) (taken : Result Taken CoreFault) → n ≤ length room
+    → Acts StandsFor (giving_by now id piece (length (take n room))) old new (taken, take n room) → Acts StandsFor (giving_by now id piece n) old new (taken, take n room)
+by_count now id n piece room old new taken within acts = subst (λ (k : ℕ). Acts StandsFor (giving_by now id piece k) old new (taken, take n room)) (omega (arith, within, length-take n room)) acts
+
+pub whole_few : (room n : ℕ) → whole_cost room n ≤ n + 2
+whole_few room n = elim (eqb room 0) as (λ b. cond b 0 (n + 2) ≤ n + 2) [ true ↦ omega arith | false ↦ omega arith ]
+
+-- as many as the answer gives
+pub counted_heard : (old : Held) (now clock id : ℕ) (piece : List ℕ) (is : clock ≡ max old.clock now) (table : Table) (stays : StaysTable old.connections table)
+    (arguments : List ℕ) (holds : Shows (StandsForConnections (source_of old)) (arguments_on id old.arguments piece) old.connections arguments)
+    (count room n : ℕ) (said : Heard) → Acts (StandsForConnections (source_of old)) (on_live id (feeding clock piece)) old.connections table (Ok (record { count = count; heard = Some said }))
+    → ((s : State) → StandsFor (record old { clock = clock; connections = table; arguments = [] }) s → n ≡ given_when_answered room id (answering_heard id said arguments s))
+    → (s : State) → StandsFor old s → n ≡ at_once room id (live_connection id s.connections.all) (bytes s now id piece)
+counted_heard old now clock id piece is table stays arguments holds count room n said acts counts s h =
+    let e : RecordEnded old now clock id piece is table stays arguments holds count said s = ended_by old now clock id piece is table stays arguments holds count said acts s h in
+    let a : Bool × State = answering_heard id said arguments e.meanwhile in
+    counts e.meanwhile e.stands
+    ∙ ap (λ (b : Bool). cond (b || a.0) 0 (at_once_on room (live_connection id a.1.connections.all))) (sym e.owes_none)
+    ∙ ap (λ (m : Option Connection). at_once room id m (taken_of (with_count count a))) (sym e.there)
+    ∙ ap (λ (r : Result Taken CoreFault × State). at_once room id (live_connection id s.connections.all) r) (sym e.goes)

@@ -1,0 +1,153 @@
+-- Replies that are given in the call that takes the end of their record: three events in one.
+use Rattle.std.specs.Prelude.{◌≡◌, ◌<◌, ◌≤◌, ℕ, ◌+◌, ◌==◌, nat_lt, Bool, true, false, not, ◌&&◌, ◌||◌, if◌then◌else◌, List, [], length, take, Option, Some, None, is_none, Result, Ok, Err}
+use Rattle.rb_xdr.specs.Kept.{Kept}
+use Rattle.rb_rpc.specs.Records.{fragment_size, marked}
+use Rattle.rb_core.specs.declared.serve.Served.{Served}
+use Rattle.rb_core.specs.declared.serve.Served.TheVariants.{Told, Listed}
+use Rattle.rb_core.specs.declared.slot.Heard.{Heard}
+use Rattle.rb_core.specs.declared.types.CoreFault.{CoreFault}
+use Rattle.rb_core.specs.declared.types.Exchanged.{Exchanged}
+use Rattle.rb_core.specs.declared.types.Outcome.TheVariants as outcomes
+use Rattle.rb_core.specs.declared.types.Taken.{Taken}
+use Rattle.rb_core.specs.State.{Owed, Phase, Connection, State}
+use Rattle.rb_core.specs.State.Phase.{Idle, Reading, Owing, Awaiting, Lost}
+use Rattle.rb_core.specs.Connections.{longest_fragment, when_given, live_connection, on_connection}
+use Rattle.rb_core.specs.Step.{bytes, pending, gave}
+use Rattle.rb_core.specs.StandsFor.{Held, StandsFor}
+use Rattle.rb_core.specs.Slots.{Acts}
+use Rattle.rb_core.specs.Core.{answering_heard, without_arguments}
+use Rattle.rb_core.specs.CallCosts.{bytes_cost}
+
+-- ---- three events
+
+-- the bytes that are pending, none where there is no such connection
+abbrev pub pending_bytes : Result (List ℕ) CoreFault → List ℕ
+pending_bytes (Ok bytes) = bytes
+pending_bytes (Err fault) = []
+
+-- the first n bytes of what is pending on the connection
+abbrev pub front : ℕ → ℕ → State → List ℕ
+front n id s = take n (pending_bytes (pending s id))
+
+-- the state once they were given
+abbrev pub without_front : ℕ → ℕ → ℕ → State → State
+without_front now n id s = if n == 0 then s else (gave s now id n).1
+
+abbrev pub then_giving : ℕ → ℕ → ℕ → Result Taken CoreFault × State → (Result Taken CoreFault × List ℕ) × State
+then_giving now id n (taken, s) = ((taken, front n id s), without_front now n id s)
+
+-- the reply is no list and one fragment, and there is room for the longest
+abbrev pub fits_at_once : ℕ → Owed → Bool
+fits_at_once room o = is_none o.began && not (nat_lt longest_fragment (length o.marked)) && not (nat_lt room longest_fragment)
+
+abbrev pub at_once_in : ℕ → Phase → ℕ
+at_once_in room (Owing o) = if fits_at_once room o then length o.marked else 0
+at_once_in room Idle = 0
+at_once_in room (Reading fed) = 0
+at_once_in room Awaiting = 0
+at_once_in room Lost = 0
+
+-- how many bytes of its reply a connection gives at once
+abbrev pub at_once_on : ℕ → Option Connection → ℕ
+at_once_on room None = 0
+at_once_on room (Some c) = at_once_in room c.phase
+
+abbrev pub owes : Phase → Bool
+owes (Owing o) = true
+owes Idle = false
+owes (Reading fed) = false
+owes Awaiting = false
+owes Lost = false
+
+-- It owes none that was not given at once, and is not Lost.
+abbrev pub at_once_of : ℕ → ℕ → Connection → Result Taken CoreFault × State → ℕ
+at_once_of room id before (Err fault, s) = 0
+at_once_of room id before (Ok taken, s) =
+    if owes before.phase || taken.closed then 0 else at_once_on room (live_connection id s.connections.all)
+
+-- how many bytes are given at once where bytes came on the connection
+abbrev pub at_once : ℕ → ℕ → Option Connection → Result Taken CoreFault × State → ℕ
+at_once room id None result = 0
+at_once room id (Some before) result = at_once_of room id before result
+
+abbrev pub count_now : ℕ → ℕ → List ℕ → ℕ → State → ℕ
+count_now now id piece room s = at_once room id (live_connection id s.connections.all) (bytes s now id piece)
+
+-- Bytes arrive on a connection; where they end a record whose reply is one fragment, and no list, and there is room for the
+-- longest, the reply is given.
+abbrev pub exchanging : ℕ → ℕ → List ℕ → ℕ → State → (Result Taken CoreFault × List ℕ) × State
+exchanging now id piece room s =
+    then_giving now id (count_now now id piece room s) (bytes s now id piece)
+
+-- how far the bytes were taken
+abbrev pub taken_in : Result Exchanged CoreFault → Result Taken CoreFault
+taken_in (Ok exchanged) = Ok exchanged.taken
+taken_in (Err fault) = Err fault
+
+-- how many were given
+abbrev pub count_given : Result Exchanged CoreFault → ℕ
+count_given (Ok exchanged) = exchanged.given
+count_given (Err fault) = 0
+
+-- From each state that the old core stands for, bytes are taken so, and these are given, where there is this room.
+abbrev pub Exchanges : ℕ → ℕ → List ℕ → Held → Held → Result Exchanged CoreFault → List ℕ → Type 0
+Exchanges now id piece old new result room =
+    Acts StandsFor (exchanging now id piece (length room)) old new (taken_in result, take (count_given result) room)
+
+-- ---- an answer
+
+abbrev pub given_when_answered : ℕ → ℕ → Bool × State → ℕ
+given_when_answered room id (closed, s) = if closed then 0 else at_once_on room (live_connection id s.connections.all)
+
+abbrev pub answered_giving : ℕ → ℕ → Bool × State → (Bool × List ℕ) × State
+answered_giving id n (closed, s) = ((closed, front n id s), on_connection id (when_given s.clock n) s)
+
+-- A record on the connection of a number that said this is answered, with the arguments that are held, which are out then, and
+-- these bytes of the reply are given.
+abbrev pub AnswersGiving : ℕ → Heard → Held → Held → Bool → List ℕ → Type 0
+AnswersGiving id heard old new closed given =
+    Acts StandsFor (λ s. answered_giving id (length given) (answering_heard id heard old.arguments s))
+    (without_arguments old) new (closed, given)
+
+-- They are as many as are given at once where there is this room.
+abbrev pub GivesAtOnce : ℕ → ℕ → Heard → Held → ℕ → Type 0
+GivesAtOnce room id heard old n =
+    (s : State) → StandsFor (without_arguments old) s → n ≡ given_when_answered room id (answering_heard id heard old.arguments s)
+
+-- ---- a reply
+
+-- A reply is one fragment, and is given whole: these are its bytes, marked (RFC 5531 section 11), and its buffer is empty.
+pub record IsGivenWhole (before after : Kept) (given : List ℕ) : Type 0 where
+  pub some : 0 < length before.bytes
+  pub few : length before.bytes ≤ fragment_size
+  pub is_marked : given ≡ marked before.bytes
+  pub is_empty : after ≡ record before { bytes = [] }
+
+-- with how many bytes a reply of so many is given whole, where there is this room: 0 where it is not
+abbrev pub whole_length : ℕ → ℕ → ℕ
+whole_length room n = if not (nat_lt fragment_size n) && not (nat_lt room longest_fragment) then 4 + n else 0
+
+-- with how many what a message is answered with is given at once, where this is written
+abbrev pub count_at_once : ℕ → Served → List ℕ → ℕ
+count_at_once room (Told outcomes.Reply) reply = whole_length room (length reply)
+count_at_once room (Told outcomes.NoCall) reply = 0
+count_at_once room (Told outcomes.Forwarded) reply = 0
+count_at_once room (Told outcomes.Silent) reply = 0
+count_at_once room (Listed list) reply = 0
+
+-- What is left to do of what a message is answered with, and of what is written, once these bytes were given: all of it where
+-- none were, and nothing of a reply that was given whole.
+pub record IsLeft (served left : Served) (before after : Kept) (given : List ℕ) : Type 0 where
+  pub all : given ≡ [] → (left ≡ served) × (after ≡ before)
+  pub is_reply : 0 < length given → served ≡ Told outcomes.Reply
+  pub is_over : 0 < length given → left ≡ Told outcomes.Silent
+  pub whole : 0 < length given → IsGivenWhole before after given
+
+-- what it costs to give n bytes so, where there is this room: the look at how many there are, they themselves, and the
+-- buffer emptied
+abbrev pub whole_cost : ℕ → ℕ → ℕ
+whole_cost room n = if room == 0 then 0 else n + 2
+
+-- to take bytes, to answer the record that ends with them, and to give the reply where there is this room
+abbrev pub exchange_cost : Held → Held → ℕ → Result Exchanged CoreFault → ℕ
+exchange_cost old new room result = bytes_cost old new (taken_in result) + whole_cost room (count_given result)
