@@ -37,7 +37,7 @@ use Rattle.rb_core.specs.BoundLaws.{takes_bytes, HoldsArguments, unheld_share, H
 use Rattle.rb_core.proofs.EntriesKept.{HasShortArgs, reached-kept}
 use Rattle.rb_core.proofs.Ledgers.{IsShortChange, reached-short}
 use Rattle.rb_core.proofs.Room.{reached-room}
-use Rattle.rb_core.proofs.ShortTexts.{own_short}
+use Rattle.rb_uaddr.proofs.ShortTexts.{own_short}
 
 -- ---- connections
 

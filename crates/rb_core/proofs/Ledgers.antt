@@ -51,7 +51,7 @@ use Rattle.rb_core.specs.Step.{Event, Output, Taken, context_in, serve, dropped_
 use Rattle.rb_core.specs.Step.Event.{Open, Bytes, Pending, Gave, Closed, NextLost, Datagram, Unsent, Sent, Forward, Expire}
 use Rattle.rb_core.specs.Step.Output.{Opened, TooMuch, IsPending}
 use Rattle.rb_core.specs.Laws.{LedgersAreWellKept}
-use Rattle.rb_core.proofs.ShortTexts.{read_short}
+use Rattle.rb_uaddr.proofs.ShortTexts.{read_short}
 use Rattle.rb_uaddr.specs.Uaddr.{parse, port_of}
 use Rattle.std.proofs.lemmas.List.Elements.{All-nil, All-push}
 use Rattle.std.specs.Prelude.{All, ⊤, not}
