@@ -7,7 +7,7 @@ use rb_xdr::NoMemory;
 
 /// A row, the number of the change that added it (0 for an own row), and of the one that removed it.
 ///
-/// The numbers stand before the row and its long address, so that what a walk looks at is together.
+/// The numbers stand before the row and its address, so that what a walk looks at is together.
 #[derive(Drop)]
 pub(crate) struct Slot {
     pub(crate) added: u64,
