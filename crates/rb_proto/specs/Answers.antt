@@ -64,10 +64,10 @@ row_of_mapping owner m =
     at : Netid → Row
     at netid = record { prog = m.prog; vers = m.vers; netid = netid; addr = text_of (V4 any_host m.port); owner = owner }
 
--- the address is kept as it is given, and r_owner is ignored
+-- the address is kept as it is given, where it is one, and r_owner is ignored
 unfoldable pub row_of_rpcb : Owner → Rpcb → Option Row
 row_of_rpcb owner r =
-    option_map at (netid_named r.netid)
+    if is_some (parse r.addr) then option_map at (netid_named r.netid) else None
   where
     at : Netid → Row
     at netid = record { prog = r.prog; vers = r.vers; netid = netid; addr = r.addr; owner = owner }

@@ -1,6 +1,7 @@
 //! What is answered.
-use crate::netbuf::Netbuf;
+use crate::netbuf::AddressBuf;
 use rb_rpc::ReplyStatus;
+use rb_uaddr::MAX_TEXT;
 use rb_xdr::Text;
 
 /// What a call is answered.
@@ -31,8 +32,9 @@ pub enum Value {
     Void,
     Bool(bool),
     Number(u32),
-    Text(Text<128>),
-    Netbuf(Netbuf),
+    /// The text of an address, or the empty text.
+    Text(Text<MAX_TEXT>),
+    Netbuf(AddressBuf),
 }
 
 /// A list of rows, each as an item of one kind.

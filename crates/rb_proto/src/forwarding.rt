@@ -116,7 +116,7 @@ fn address_to_forward(registry: &Registry, remote: &RemoteCall, meter: &mut Mete
         return None;
     }
     let row = registry.find_exact(remote.prog, remote.vers, Netid::Udp, meter)?;
-    Uaddr::parse(row.addr.as_slice()).ok()
+    Some(row.addr.address())
 }
 
 /// What is asked at the address, for a call of this xid. In place of 0.0.0.0 the call goes to 127.0.0.1, and the

@@ -56,7 +56,7 @@ pub(crate) fn entry_of(host: [u8; 4], row: &Row) -> Entry
     ensures { result ≡ entry_of host row.now }
 {
     Entry {
-        maddr: shown_text(host, &row.addr),
+        maddr: Text::new(shown_text(host, &row.addr).as_slice()),
         netid: Text::new(row.netid.text()),
         semantics: semantics_of(row.netid),
         protofmly: Text::new(family_text(row.netid)),

@@ -38,7 +38,7 @@ pub use lent::{LentNetbuf, LentRpcb, LentText};
 pub use list_reply::{ListPart, ListReply};
 pub use listener::Listener;
 pub use mapping::Mapping;
-pub use netbuf::Netbuf;
+pub use netbuf::{AddressBuf, Netbuf};
 pub use procedure::{MappingProcedure, Procedure, RpcbProcedure, VoidProcedure};
 pub use put::{put_forwarded, put_results, put_row};
 pub use remote::RemoteCall;

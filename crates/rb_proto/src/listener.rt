@@ -6,7 +6,6 @@ ghost use Rattle.rb_proto.specs.Callers.{own_row, own_rows, is_local};
 use rb_registry::{Netid, Owner, RPCB_PROG, Row};
 use rb_rpc::Peer;
 use rb_uaddr::Uaddr;
-use rb_xdr::Text;
 
 /// The host and the port of the daemon's own TCP and UDP sockets.
 #[derive(Clone, Copy, PartialEq, Eq, Debug)]
@@ -30,7 +29,7 @@ fn own_row(listener: &Listener, vers: u32, netid: Netid) -> Row
         prog: RPCB_PROG,
         vers,
         netid,
-        addr: Text::new(Uaddr::any(listener.port).text().as_slice()),
+        addr: Uaddr::any(listener.port).text(),
         owner: Owner::SUPERUSER,
     }
 }

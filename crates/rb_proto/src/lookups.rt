@@ -13,34 +13,28 @@ use crate::books::{Books, version_of};
 use crate::context::Context;
 use crate::lent::{LentNetbuf, LentRpcb, LentText};
 use crate::mapping::Mapping;
-use crate::netbuf::Netbuf;
+use crate::netbuf::AddressBuf;
 use crate::netids::netid_of_prot;
 use rb_registry::Row;
 use rb_rpc::CallHead;
 use rb_stats::{Stats, Target};
-use rb_uaddr::Uaddr;
-use rb_xdr::{Meter, Opaque, Text};
+use rb_uaddr::{MAX_TEXT, Uaddr, UaddrText};
+use rb_xdr::{Meter, Text};
 
-/// The address as a caller is told it: the listener's host stands in for 0.0.0.0, and any other text stays.
+/// The address as a caller is told it: the listener's host stands in for 0.0.0.0.
 #[tactic(auto, unfolding(crate::specs::Answers::shown_text))]
-pub(crate) fn shown_text(host: [u8; 4], addr: &Text<128>) -> Text<128>
+pub(crate) fn shown_text(host: [u8; 4], addr: &UaddrText) -> UaddrText
     ensures { result ≡ shown_text host addr.now }
 {
-    match Uaddr::parse(addr.as_slice()) {
-        Ok(address) => Text::new(address.merge(host).text().as_slice()),
-        Err(_) => Text::new(addr.as_slice()),
-    }
+    addr.address().merge(host).text()
 }
 
-/// The port of the address, 0 where there is none.
+/// The port of the address.
 #[tactic(auto, unfolding(crate::specs::Answers::shown_port))]
-pub(crate) fn shown_port(addr: &Text<128>) -> u32
+pub(crate) fn shown_port(addr: &UaddrText) -> u32
     ensures { result ≡ shown_port addr.now }
 {
-    match Uaddr::parse(addr.as_slice()) {
-        Ok(address) => u32::from(address.port()),
-        Err(_) => 0,
-    }
+    u32::from(addr.address().port())
 }
 
 /// The port of a row that was looked up, 0 where there is none.
@@ -54,11 +48,11 @@ fn port_found(found: Option<&Row>) -> u32
 }
 
 /// The address of a row that was looked up, the empty text where there is none.
-fn addr_found(host: [u8; 4], found: Option<&Row>) -> Text<128>
+fn addr_found(host: [u8; 4], found: Option<&Row>) -> Text<MAX_TEXT>
     ensures { result ≡ addr_found host (option_copied found.entry) }
 {
     match found {
-        Some(row) => shown_text(host, &row.addr),
+        Some(row) => Text::new(shown_text(host, &row.addr).as_slice()),
         None => Text::new(&[]),
     }
 }
@@ -125,7 +119,7 @@ pub(crate) fn getaddr(
     head: &CallHead,
     rpcb: &LentRpcb,
     meter: &mut Meter,
-) -> Text<128>
+) -> Text<MAX_TEXT>
     requires { AreTied meter.old.tie books.old }
     ensures acts { ActsAs (getaddr context.now head.now rpcb.now) books.old books.new result }
     ensures registry { books.new.registry ≡ books.old.registry }
@@ -150,7 +144,7 @@ pub(crate) fn getversaddr(
     head: &CallHead,
     rpcb: &LentRpcb,
     meter: &mut Meter,
-) -> Text<128>
+) -> Text<MAX_TEXT>
     requires { AreTied meter.old.tie books.old }
     ensures acts { ActsAs (getversaddr context.now head.now rpcb.now) books.old books.new result }
     ensures registry { books.new.registry ≡ books.old.registry }
@@ -177,27 +171,18 @@ pub(crate) fn gettime(clock: u64) -> u32
 
 /// RPCBPROC_UADDR2TADDR (RFC 1833 section 2.2.1): an empty buf where the text is no address.
 #[tactic(auto, unfolding(crate::specs::Answers::taddr_of))]
-pub(crate) fn uaddr2taddr(text: &LentText<128>) -> Netbuf
+pub(crate) fn uaddr2taddr(text: &LentText<128>) -> AddressBuf
     ensures { result ≡ taddr_of text.now }
 {
     match Uaddr::parse(text.as_slice()) {
-        Ok(address) => {
-            let form = address.to_transport();
-            Netbuf {
-                maxlen: form.as_slice().len() as u32,
-                buf: Opaque::new(form.as_slice()),
-            }
-        }
-        Err(_) => Netbuf {
-            maxlen: 0,
-            buf: Opaque::new(&[]),
-        },
+        Ok(address) => AddressBuf::new(address.to_transport().as_slice()),
+        Err(_) => AddressBuf::new(&[]),
     }
 }
 
 /// RPCBPROC_TADDR2UADDR (RFC 1833 section 2.2.1): the empty text where the buf is no address.
 #[tactic(auto, unfolding(crate::specs::Answers::uaddr_of))]
-pub(crate) fn taddr2uaddr(netbuf: &LentNetbuf) -> Text<128>
+pub(crate) fn taddr2uaddr(netbuf: &LentNetbuf) -> Text<MAX_TEXT>
     ensures { result ≡ uaddr_of netbuf.now }
 {
     match Uaddr::from_transport(netbuf.buf()) {

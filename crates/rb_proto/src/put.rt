@@ -86,7 +86,7 @@ fn put_value(value: &Value, limit: usize, out: &mut Kept, meter: &mut Meter) -> 
         Value::Bool(b) => put_within(b, limit, out, meter),
         Value::Number(n) => put_within(n, limit, out, meter),
         Value::Text(text) => put_within(text, limit, out, meter),
-        Value::Netbuf(netbuf) => put_within(netbuf, limit, out, meter),
+        Value::Netbuf(netbuf) => put_within(netbuf.content(), limit, out, meter),
     }
 }
 

@@ -1,5 +1,6 @@
 //! Rows as a list shows them: the room that they want, and their bytes.
-ghost use Rattle.std.specs.Prelude.{◌≡◌, ◌+◌, ◌*◌, length};
+ghost use Rattle.std.specs.Prelude.{◌≡◌, ◌+◌, ◌*◌, ◌≤◌, length};
+ghost use Rattle.rb_xdr.specs.Xdr.{IsContent};
 ghost use Rattle.rb_xdr.specs.Meter.{Pays, PaysAtMost};
 ghost use Rattle.rb_registry.specs.Registry.{Reaches, rows_at, slots_of};
 ghost use Rattle.rb_xdr.specs.Puts.{Appends, HasRoom, Leaves};
@@ -77,12 +78,19 @@ fn rpcb_head(row: &Row) -> [u8; RPCB_HEAD]
     head
 }
 
+/// The text of an address is within the limit of an rpcb's. This does nothing.
+fn within_limit(addr: &[u8])
+    requires { length addr.now ≤ 24 }
+    ensures { IsContent 128 addr.now }
+{}
+
 /// The owner of the row as DUMP shows it. Each text of the row is within its limit.
 fn shown_owner<'a>(row: &Row, digits: &'a mut Buffer) -> &'a [u8]
     ensures owner { result.now ≡ owner_text row.now.owner }
     ensures within { IsRpcb (rpcb_of row.now) }
 {
-    let (_prog, _vers, _addr) = (row.prog, row.vers, row.addr.as_slice());
+    let (_prog, _vers) = (row.prog, row.vers);
+    within_limit(row.addr.as_slice());
     owner_text(row.owner, digits)
 }
 
@@ -96,7 +104,7 @@ fn write_texts(row: &Row, owner: &[u8], out: &mut Kept, meter: &mut Meter)
     ensures cost { Pays meter.old meter.new (length (rpcb_item row.now)) }
 {
     let _ = out.extend(&rpcb_head(row), meter);
-    row.addr.write(out, meter);
+    write_opaque(row.addr.as_slice(), out, meter);
     write_opaque(owner, out, meter);
 }
 

@@ -16,8 +16,8 @@ use crate::procedure::{MappingProcedure, RpcbProcedure};
 use crate::request::Request;
 use rb_registry::{Owner, RPCB_PROG, Registry, Row, Which};
 use rb_rpc::CallHead;
-use rb_uaddr::Uaddr;
-use rb_xdr::{Meter, Text};
+use rb_uaddr::{Uaddr, UaddrText};
+use rb_xdr::Meter;
 
 /// The row that a SET of version 2 asks for, at every host.
 #[tactic(auto, unfolding(crate::specs::Answers::row_of_mapping))]
@@ -30,12 +30,12 @@ pub(crate) fn row_of_mapping(owner: Owner, mapping: &Mapping) -> Option<Row>
         prog: mapping.prog,
         vers: mapping.vers,
         netid,
-        addr: Text::new(Uaddr::any(port).text().as_slice()),
+        addr: Uaddr::any(port).text(),
         owner,
     })
 }
 
-/// The row that a SET asks for, with the address as it was given.
+/// The row that a SET asks for, where its address is one, with the text as it was given.
 #[tactic(auto, unfolding(crate::specs::Answers::row_of_rpcb))]
 pub(crate) fn row_of_rpcb(owner: Owner, rpcb: &LentRpcb) -> Option<Row>
     ensures { result ≡ row_of_rpcb owner rpcb.now }
@@ -45,7 +45,7 @@ pub(crate) fn row_of_rpcb(owner: Owner, rpcb: &LentRpcb) -> Option<Row>
         prog: rpcb.prog(),
         vers: rpcb.vers(),
         netid,
-        addr: Text::new(rpcb.addr()),
+        addr: UaddrText::read(rpcb.addr()).ok()?,
         owner,
     })
 }
@@ -68,10 +68,7 @@ pub(crate) fn row_to_set(call: &Call) -> Option<Row>
 fn can_be_set(row: &Row) -> bool
     ensures { result ≡ can_be_set row.now }
 {
-    match Uaddr::parse(row.addr.as_slice()) {
-        Ok(address) => row.prog != RPCB_PROG && address.port() != 0,
-        Err(_) => false,
-    }
+    row.prog != RPCB_PROG && row.addr.address().port() != 0
 }
 
 /// Whether a SET of the row is accepted.

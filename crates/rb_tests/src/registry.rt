@@ -2,7 +2,8 @@ ghost use Rattle.std.specs.Prelude.{◌≡◌};
 ghost use Rattle.rb_registry.specs.Registry.{AreOwn};
 
 use rb_registry::{Cursor, Netid, Owner, Registry, RegistryFault, Row, Which};
-use rb_xdr::{Meter, Text};
+use rb_uaddr::Uaddr;
+use rb_xdr::Meter;
 use std::process::Abort;
 use std::test::Fail;
 
@@ -14,7 +15,7 @@ fn row(prog: u32, vers: u32, netid: Netid, owner: Owner) -> Row
         prog,
         vers,
         netid,
-        addr: Text::new(b"0.0.0.0.0.111"),
+        addr: Uaddr::any(111).text(),
         owner,
     }
 }

@@ -1,4 +1,4 @@
-use rb_uaddr::{NotAnAddress, Uaddr};
+use rb_uaddr::{NotAnAddress, Uaddr, UaddrText};
 use std::test::Fail;
 
 #[test]
@@ -32,6 +32,17 @@ fn other_texts_are_refused(rt: HostRuntime) -> Result<(), Fail> {
         format!(in rt.alloc(); "{NotAnAddress}")?.as_str(),
         "not a universal address"
     );
+    Ok(())
+}
+
+#[test]
+fn texts_are_kept(rt: HostRuntime) -> Result<(), Fail> {
+    let text = UaddrText::read(b"192.0.2.1.8.1")?;
+    assert_eq!(rt; text.as_slice(), b"192.0.2.1.8.1".as_slice());
+    assert_eq!(rt; text.address(), Uaddr::V4([192, 0, 2, 1], 2049));
+    assert_eq!(rt; text, text.clone()?);
+    assert!(rt; text != Uaddr::any(2049).text());
+    assert_eq!(rt; UaddrText::read(b"192.0.2.1.8.01"), Err(NotAnAddress));
     Ok(())
 }
 

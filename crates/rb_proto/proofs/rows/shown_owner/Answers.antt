@@ -7,6 +7,6 @@ returns-clause-within c = record {
   prog = search rules;
   vers = search rules;
   netid = netid_is_content c.args.row.now.netid;
-  addr = c.as_slice-addr.ensures.content;
+  addr = rw c.as_slice.ensures.value at c.within_limit.ensures;
   owner = rw c.owner_text.ensures.text at c.owner_text.ensures.content;
 }
