@@ -16,7 +16,7 @@ use Rattle.rb_core.specs.declared.slot.Received.{Received}
 use Rattle.rb_core.specs.declared.types.CoreFault.{CoreFault}
 use Rattle.rb_core.specs.StandsFor.{Table}
 use Rattle.rb_core.specs.Slots.{AreNumbered, is_numbered, is_idle_stage, is_lost_stage, is_wanted_slot, wanted_slot}
-use Rattle.rb_core.specs.Awaits.{is_awaiting_stage, is_free_slot, is_free, is_idle_slot, has_idle, NoneIsFreed, OnlyIsFreed, HearsSlot, HeardFrom, HearsFree}
+use Rattle.rb_core.specs.Awaits.{is_awaiting_stage, is_free_slot, is_free, is_idle_slot, has_idle, is_unsettled_slot, IsSettled, NoneIsFreed, OnlyIsFreed, HearsSlot, HeardFrom, HearsFree}
 use Rattle.rb_core.proofs.Slots.{any-without, none_any}
 
 -- ---- whether any slot is so
@@ -184,6 +184,25 @@ module _ (table : Table) where
   unfolding has_idle
   is_idle id k old new v number stage = any-put (is_idle_slot id) table.slots k old new v (rw (eq-eqb new.number id number, stage) refl)
 
+  -- it is Idle since this moment
+  now_settled : (id clock k : ℕ) (old new : Slot) → AreNumbered table.given (values_of table.slots) → value_at table.slots k ≡ Some old → old.number ≡ id → is_idle_stage new.stage ≡ true → new.mark ≡ clock
+      → IsSettled id clock (record table { slots = with_value table.slots k new })
+  now_settled id clock k old new n v number idle mark =
+      alone-changed (is_unsettled_slot id clock) id table.given (λ s e. rw e refl) table.slots k old new n v number (rw (idle, eq-eqb new.mark clock mark) (both-not (eqb new.number id)))
+    where
+      both-not : (b : Bool) → (b && false) ≡ false
+      both-not true = refl
+      both-not false = refl
+
+  -- a record ended on it
+  pub heard_on : (id clock k : ℕ) (old new : Slot) → AreNumbered table.given (values_of table.slots) → value_at table.slots k ≡ Some old → old.number ≡ id → new.number ≡ old.number → HearsSlot clock old new
+      → HeardFrom id clock table (record table { slots = with_value table.slots k new })
+  heard_on id clock k old new n v number same h = record {
+    was_free = was_free id k old v number h.awaited_none;
+    is_idle = is_idle id k old new v (same ∙ number) h.is_idle;
+    is_settled = now_settled id clock k old new n v number h.is_idle h.mark;
+  }
+
 -- the slot that was found is live, and of the number
 pub found_live : (id k : ℕ) (es : List (ℕ × Slot)) (slot : Slot) → HasDistinctKeys es → option_map (λ e. e.0) (wanted_slot (wanted.Live id) es) ≡ Some k → value_at es k ≡ Some slot → (slot.number ≡ id) × (is_lost_stage slot.stage ≡ false)
 unfolding wanted_slot is_wanted_slot
@@ -225,13 +244,13 @@ none_idle id es none table is idle =
         rw (idle-lost s.stage (eqb s.number id) p.0) (none_there slots p.1)
 
 -- a record ended on it
-pub heard_from : (table : Table) (id k : ℕ) (old new : Slot) (got : Received) → value_at table.slots k ≡ Some old → old.number ≡ id → new.number ≡ old.number → IfSome got.heard (λ heard. HearsSlot old new)
-    → HearsFree id table (record table { slots = with_value table.slots k new }) (Ok got)
-heard_from table id k old new got v number same hears = by_heard got.heard hears
+pub heard_from : (table : Table) (id clock k : ℕ) (old new : Slot) (got : Received) → AreNumbered table.given (values_of table.slots) → value_at table.slots k ≡ Some old → old.number ≡ id → new.number ≡ old.number
+    → IfSome got.heard (λ heard. HearsSlot clock old new) → HearsFree id clock table (record table { slots = with_value table.slots k new }) (Ok got)
+heard_from table id clock k old new got n v number same hears = by_heard got.heard hears
   where
-    by_heard : (m : Option Heard) → IfSome m (λ heard. HearsSlot old new) → IfSome m (λ heard. HeardFrom id table (record table { slots = with_value table.slots k new }))
+    by_heard : (m : Option Heard) → IfSome m (λ heard. HearsSlot clock old new) → IfSome m (λ heard. HeardFrom id clock table (record table { slots = with_value table.slots k new }))
     by_heard None h = tt
-    by_heard (Some heard) h = record { was_free = was_free table id k old v number h.awaited_none; is_idle = is_idle table id k old new v (same ∙ number) h.is_idle }
+    by_heard (Some heard) h = heard_on table id clock k old new n v number same h
 
 -- the same of a table by its other name
 pub freed_from : (view now new : Table) → view ≡ now → NoneIsFreed view new → NoneIsFreed now new
@@ -240,5 +259,5 @@ freed_from view now new is freed = subst (λ (t : Table). NoneIsFreed t new) is 
 pub only_from : (id : ℕ) (view now new : Table) → view ≡ now → OnlyIsFreed id view new → OnlyIsFreed id now new
 only_from id view now new is freed = subst (λ (t : Table). OnlyIsFreed id t new) is freed
 
-pub hears_from : (id : ℕ) (view now new : Table) (r : Result Received CoreFault) → view ≡ now → HearsFree id view new r → HearsFree id now new r
-hears_from id view now new r is hears = subst (λ (t : Table). HearsFree id t new r) is hears
+pub hears_from : (id clock : ℕ) (view now new : Table) (r : Result Received CoreFault) → view ≡ now → HearsFree id clock view new r → HearsFree id clock now new r
+hears_from id clock view now new r is hears = subst (λ (t : Table). HearsFree id clock t new r) is hears

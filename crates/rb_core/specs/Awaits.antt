@@ -39,6 +39,18 @@ is_idle_slot id slot = slot.number == id && is_idle_stage slot.stage
 unfoldable pub has_idle : ℕ → Table → Bool
 has_idle id table = list_any (is_idle_slot id) (values_of table.slots)
 
+-- it has this number, and is anything but Idle since this moment
+abbrev pub is_unsettled_slot : ℕ → ℕ → Slot → Bool
+is_unsettled_slot id clock slot = slot.number == id && not (is_idle_stage slot.stage && slot.mark == clock)
+
+-- The connection of this number, where there is one, is Idle since this moment.
+abbrev pub IsSettled : ℕ → ℕ → Table → Type 0
+IsSettled id clock table = list_any (is_unsettled_slot id clock) (values_of table.slots) ≡ false
+
+-- each that was Idle since a moment is so
+abbrev pub KeepsSettled : Table → Table → Type 0
+KeepsSettled old new = (id clock : ℕ) → IsSettled id clock old → IsSettled id clock new
+
 -- No connection is free for which a call is forwarded.
 abbrev pub AreAwaited : Entries → Table → Type 0
 AreAwaited entries table = (id : ℕ) → is_waiting id (slots_of entries) ≡ true → is_free id table ≡ false
@@ -55,18 +67,20 @@ OnlyIsFreed number old new = (id : ℕ) → (id == number) ≡ false → is_free
 abbrev pub AwaitsIfForwarded : Outcome → ℕ → Table → Table → Type 0
 AwaitsIfForwarded given id old new = given ≡ outcomes.Forwarded → has_idle id old ≡ true → is_free id new ≡ false
 
--- A record ended on it: it awaited no forwarded call, and is Idle.
-pub record HearsSlot (old new : Slot) : Type 0 where
+-- A record ended on it: it awaited no forwarded call, and is Idle since this moment.
+pub record HearsSlot (clock : ℕ) (old new : Slot) : Type 0 where
   pub awaited_none : is_awaiting_stage old.stage ≡ false
   pub is_idle : is_idle_stage new.stage ≡ true
+  pub mark : new.mark ≡ clock
 
--- A record ended on a connection that was free, and is Idle.
-pub record HeardFrom (id : ℕ) (old new : Table) : Type 0 where
+-- A record ended on a connection that was free, and is Idle since this moment.
+pub record HeardFrom (id clock : ℕ) (old new : Table) : Type 0 where
   pub was_free : is_free id old ≡ true
   pub is_idle : has_idle id new ≡ true
+  pub is_settled : IsSettled id clock new
 
-abbrev pub HearsFree : ℕ → Table → Table → Result Received CoreFault → Type 0
-HearsFree id old new result = IfOk result (λ got. IfSome got.heard (λ heard. HeardFrom id old new))
+abbrev pub HearsFree : ℕ → ℕ → Table → Table → Result Received CoreFault → Type 0
+HearsFree id clock old new result = IfOk result (λ got. IfSome got.heard (λ heard. HeardFrom id clock old new))
 
 -- what the code says of an answer
 abbrev pub kind_of : Answer → Outcome

@@ -39,9 +39,10 @@ recount_cost = 4
 abbrev pub given_cost : ℕ → ℕ
 given_cost rows = 3 + listed_cost rows
 
--- what it costs to look a connection up, at the hint and among so many, and its slot
+-- what it costs to look a connection up, at the hint, there once more where a record comes whole, and among so many, and
+-- its slot
 abbrev pub find_cost : ℕ → ℕ
-find_cost connections = 2 * connections + 3
+find_cost connections = 2 * connections + 4
 
 -- what it costs to take so many bytes of a piece: the look at the room for arguments, and each byte may be kept
 abbrev pub take_cost : ℕ → ℕ

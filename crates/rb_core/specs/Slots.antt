@@ -6,6 +6,7 @@ use Rattle.std.specs.List.{list_any}
 use Rattle.std.specs.Map.{values_of}
 use Rattle.rb_xdr.specs.Kept.{Kept}
 use Rattle.rb_xdr.specs.Pool.{Pool, HasDistinctKeys}
+use Rattle.rb_rpc.specs.Records.{BeginsWithRecord}
 use Rattle.rb_rpc.specs.Verdict.{verdict}
 use Rattle.rb_rpc.specs.declared.peer.Peer.{Peer}
 use Rattle.rb_core.specs.declared.types.CoreFault.{CoreFault}
@@ -162,6 +163,14 @@ arguments_on id before piece connections = option_map_or (arguments_heard before
 -- so in the buffer that it hands in
 abbrev pub TableHears : ℕ → List ℕ → Table → Kept → Kept → Type 0
 TableHears id piece table before after = TableShows (arguments_on id before.bytes piece) table after.bytes
+
+-- A record that is one fragment came whole on the live connection of the number, from this peer: what it does there, and
+-- which arguments are kept of it.
+pub record HearsWhole (id clock : ℕ) (peer : Peer) (old new : Table) : Type 0 where
+  pub acts : (piece content : List ℕ) → BeginsWithRecord content piece
+      → TableActs (on_live id (feeding clock piece)) old new (Ok (heard_whole peer content))
+  pub arguments : (before piece content : List ℕ) → BeginsWithRecord content piece
+      → TableShows (arguments_on id before piece) old (kept_of content)
 
 -- n bytes that are pending are given on the live connection of the number, or as many as there are
 abbrev pub TableGives : Source → ℕ → ℕ → ℕ → Table → Table → Result (Unit {0}) CoreFault → Type 0

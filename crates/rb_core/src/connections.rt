@@ -9,13 +9,13 @@ ghost use Rattle.rb_core.specs.StandsFor.{charge, most_charge, IsWithin};
 ghost use Rattle.rb_core.specs.Listings.{earlier, began_early, with_evicted, stamps_in, IsOldest};
 ghost use Rattle.rb_core.specs.Costs.{oldest_cost, evict_cost};
 
-use crate::reading::LONGEST_ARGUMENTS;
+use crate::reading::{LONGEST_ARGUMENTS, read_record};
 use crate::serve::{LONGEST_REPLY, Served};
-use crate::slot::{Buffers, CHARGE, Received, Slot, Stage, Wanted};
+use crate::slot::{Buffers, CHARGE, Heard, Received, Slot, Stage, Wanted};
 use crate::types::{CoreFault, Outcome};
 use rb_proto::ListReply;
 use rb_registry::Registry;
-use rb_rpc::Peer;
+use rb_rpc::{FRAGMENT_HEADER, Peer, one_fragment};
 use rb_xdr::{Kept, Meter, NoMemory, Pool};
 use std::alloc::Global;
 use std::marker::Model;
@@ -237,18 +237,18 @@ fn recounted(held: u64, before: u64, slot: &Slot, meter: &mut Meter) -> u64
 }
 
 impl Connections {
-    ghost use Rattle.std.specs.Prelude.{◌≡◌, ◌≤◌, ◌<◌, ◌+◌, ◌*◌, [], true, false, ℕ, length, Some, OnErr, IfOk, IfSome, All};
+    ghost use Rattle.std.specs.Prelude.{◌≡◌, ◌≤◌, ◌<◌, ◌+◌, ◌*◌, [], true, false, ℕ, length, Some, Ok, OnErr, IfOk, IfSome, IfNone, All};
     ghost use Rattle.rb_core.specs.Connections.{on_live, opening_of, closing_of, first_lost, longest_fragment};
     ghost use Rattle.rb_core.specs.Giving.{IsToldBy, pending_count};
     ghost use Rattle.rb_core.specs.Serving.{BeginsList, Serves, is_closed_by, kind_in, IsWritten, IsToldIn};
     ghost use Rattle.rb_core.specs.Listings.{AreTold, KeepsTold, EvictsBefore, stamps_of, IsOldest};
     ghost use Rattle.rb_core.specs.Losses.{expiring};
     ghost use Rattle.rb_core.specs.Core.{given_in};
-    ghost use Rattle.rb_core.specs.Slots.{settling, Finds, TableActs, TableBecomes, TableGives, TableHears, TableLends, TableShows, StaysTable, IsDraft, empty_table, feeding, HasBuffers};
+    ghost use Rattle.rb_core.specs.Slots.{settling, Finds, TableActs, TableBecomes, TableGives, TableHears, TableLends, TableShows, HearsWhole, StaysTable, IsDraft, empty_table, feeding, HasBuffers};
     ghost use Rattle.rb_core.specs.Step.{pending_at};
-    ghost use Rattle.rb_core.specs.CallCosts.{slot_count, look_cost, taken_cost, list_cost, giving_cost};
+    ghost use Rattle.rb_core.specs.CallCosts.{slot_count, look_cost, received_cost, taken_cost, list_cost, giving_cost};
     ghost use Rattle.rb_core.specs.Costs.{settle_cost, pending_cost, oldest_cost, evict_cost};
-    ghost use Rattle.rb_core.specs.Awaits.{has_idle, AwaitsIfForwarded, NoneIsFreed, OnlyIsFreed, HearsFree};
+    ghost use Rattle.rb_core.specs.Awaits.{has_idle, AwaitsIfForwarded, NoneIsFreed, OnlyIsFreed, HeardFrom, HearsFree, IsSettled, KeepsSettled};
     ghost use Rattle.rb_core.specs.StandsFor.{held_in, most_charge, source_for};
     ghost use Rattle.std.specs.Map.{values_of};
 
@@ -323,6 +323,61 @@ impl Connections {
         Ok(())
     }
 
+    /// A record that is one fragment comes whole on the live connection of the number, where that is Idle and was opened or
+    /// found last: it says who sends it, and the connection is Idle until it is settled. `None` where it is not so, and
+    /// nothing changed.
+    pub fn hear(&mut self, id: u64, clock: u64, meter: &mut Meter) -> Option<Peer>
+        requires { meter.old.tie ≡ self.old.tie }
+        ensures hears { IfSome result (λ peer. HearsWhole id clock peer self.old self.new) }
+        ensures from { IfSome result (λ peer. HeardFrom id clock self.old self.new) }
+        ensures refused { IfNone result (self.new ≡ self.old) }
+        ensures told { KeepsTold self.old self.new }
+        ensures free { NoneIsFreed self.old self.new }
+        ensures stays { StaysTable self.old self.new }
+        ensures as_many { length self.new.slots ≡ length self.old.slots }
+        ensures cost { Pays meter.old meter.new 1 }
+    {
+        let slot = self.slots.get_mut(self.last, meter)?;
+        slot.hear_whole(id, clock)
+    }
+
+    /// Takes a record that is one fragment and comes whole, where `hear` does: so come most of those that come together.
+    /// `None` where it is not so, and nothing changed.
+    fn take_whole(
+        &mut self,
+        id: u64,
+        piece: &[u8],
+        clock: u64,
+        arguments: &mut Kept,
+        meter: &mut Meter,
+    ) -> Option<Received>
+        requires tie { meter.old.tie ≡ self.old.tie }
+        requires arguments { IsDraft meter.old.tie arguments.old }
+        ensures acts { IfSome result (λ got.
+            TableActs (on_live id (feeding clock piece.now)) self.old self.new (Ok got)) }
+        ensures arguments { IfSome result (λ got.
+            TableHears id piece.now self.old arguments.old arguments.new) }
+        ensures told { KeepsTold self.old self.new }
+        ensures free { NoneIsFreed self.old self.new }
+        ensures from { IfSome result (λ got. HeardFrom id clock self.old self.new) }
+        ensures within { IfSome result (λ got. got.count ≤ length piece.now) }
+        ensures refused { IfNone result (self.new ≡ self.old) }
+        ensures kept { IfNone result (arguments.new ≡ arguments.old) }
+        ensures stays { StaysTable self.old self.new }
+        ensures draft { IsDraft meter.old.tie arguments.new }
+        ensures as_many { length self.new.slots ≡ length self.old.slots }
+        ensures cost { IfSome result (λ got. PaysAtMost meter.old meter.new (received_cost got)) }
+        ensures look { IfNone result (PaysAtMost meter.old meter.new 1) }
+    {
+        let content = one_fragment(piece)?;
+        let peer = self.hear(id, clock, meter)?;
+        let verdict = read_record(content, arguments, meter);
+        Some(Received {
+            count: FRAGMENT_HEADER + content.len(),
+            heard: Some(Heard { peer, verdict }),
+        })
+    }
+
     /// Takes bytes that arrive on the live connection of the number, up to the end of a record, and says what the
     /// record is, whose arguments go into the buffer: `Gone` where there is no such connection.
     pub fn take(
@@ -339,7 +394,7 @@ impl Connections {
         ensures arguments { TableHears id piece.now self.old arguments.old arguments.new }
         ensures told { KeepsTold self.old self.new }
         ensures free { NoneIsFreed self.old self.new }
-        ensures hears { HearsFree id self.old self.new result }
+        ensures hears { HearsFree id clock self.old self.new result }
         ensures within { IfOk result (λ got. got.count ≤ length piece.now) }
         ensures refused { OnErr result (self.new ≡ self.old) }
         ensures kept { OnErr result (arguments.new ≡ arguments.old) }
@@ -347,6 +402,37 @@ impl Connections {
         ensures draft { IsDraft meter.old.tie arguments.new }
         ensures as_many { length self.new.slots ≡ length self.old.slots }
         ensures cost { PaysAtMost meter.old meter.new (look_cost self.old + taken_cost result) }
+    {
+        match self.take_whole(id, piece, clock, arguments, meter) {
+            Some(received) => Ok(received),
+            None => self.take_piece(id, piece, clock, arguments, meter),
+        }
+    }
+
+    /// The same for any piece, whichever connection was found before.
+    fn take_piece(
+        &mut self,
+        id: u64,
+        piece: &[u8],
+        clock: u64,
+        arguments: &mut Kept,
+        meter: &mut Meter,
+    ) -> Result<Received, CoreFault>
+        requires tie { meter.old.tie ≡ self.old.tie }
+        requires arguments { IsDraft meter.old.tie arguments.old }
+        ensures acts { TableActs (on_live id (feeding clock piece.now)) self.old self.new result }
+        ensures arguments { TableHears id piece.now self.old arguments.old arguments.new }
+        ensures told { KeepsTold self.old self.new }
+        ensures free { NoneIsFreed self.old self.new }
+        ensures hears { HearsFree id clock self.old self.new result }
+        ensures within { IfOk result (λ got. got.count ≤ length piece.now) }
+        ensures refused { OnErr result (self.new ≡ self.old) }
+        ensures kept { OnErr result (arguments.new ≡ arguments.old) }
+        ensures stays { StaysTable self.old self.new }
+        ensures draft { IsDraft meter.old.tie arguments.new }
+        ensures as_many { length self.new.slots ≡ length self.old.slots }
+        ensures cost { PaysAtMost meter.old meter.new
+            (2 * slot_count self.old + 3 + taken_cost result) }
     {
         let Some(key) = wanted_key(&self.slots, self.last, Wanted::Live(id), meter) else {
             return Err(CoreFault::Gone);
@@ -435,8 +521,8 @@ impl Connections {
         self.held = recounted(self.held, before, slot, meter);
     }
 
-    /// The live connection of the number goes on with what its record is answered with, where a reply is written in this
-    /// buffer, which is empty after it. It says whether the connection is Lost now.
+    /// The live connection of the number, which is Idle since this moment, goes on with what its record is answered with,
+    /// where a reply is written in this buffer, which is empty after it. It says whether the connection is Lost now.
     pub fn go_on(
         &mut self,
         id: u64,
@@ -453,6 +539,7 @@ impl Connections {
         requires written { IsWritten served draft.old.bytes }
         requires list { IsToldIn (source_for host registry.now) served }
         requires told { AreTold (source_for host registry.now) self.old }
+        requires settled { IsSettled id clock self.old }
         ensures stands { Serves
             (source_for host registry.now) id clock served draft.old self.old self.new }
         ensures closed { result
@@ -467,6 +554,8 @@ impl Connections {
             (list_cost (slot_count self.old) registry.now) }
     {
         match served {
+            // It is Idle since this moment, and stays so.
+            Served::Told(Outcome::Silent) => false,
             Served::Told(outcome) => {
                 self.settle(id, outcome, draft, clock, meter);
                 outcome.is_no_call()
@@ -535,6 +624,7 @@ impl Connections {
         ensures told { KeepsTold self.old self.new }
         ensures later { All (λ stamp. earliest ≤ stamp) (stamps_of self.new) }
         ensures idle { (id : ℕ) → has_idle id self.old ≡ true → has_idle id self.new ≡ true }
+        ensures settled { KeepsSettled self.old self.new }
         ensures free { NoneIsFreed self.old self.new }
         ensures stays { StaysTable self.old self.new }
         ensures as_many { length self.new.slots ≡ length self.old.slots }

@@ -160,7 +160,7 @@ impl Core {
     ghost use Rattle.rb_core.specs.Step.{datagram, open_connection, bytes, pending, gave, close_connection, next_lost, unsent_call, sent_call};
     ghost use Rattle.rb_core.specs.Giving.{pending_count};
     ghost use Rattle.rb_core.specs.Ending.{forward_reply, expire_connection, expire};
-    ghost use Rattle.rb_core.specs.Awaits.{has_idle};
+    ghost use Rattle.rb_core.specs.Awaits.{has_idle, IsSettled};
     ghost use Rattle.rb_core.specs.Bounds.{held, bytes_bound};
     ghost use Rattle.rb_core.specs.BoundLaws.{NeverPasses};
     ghost use Rattle.rb_core.specs.Events.{shown, OnlyBegins, BeginsAt, LendsFrom, TellsSteps, taken_by, lent_by, given_by, StaysWithinSteps};
@@ -396,6 +396,7 @@ impl Core {
     fn answer(&mut self, id: u64, heard: Heard, room: &mut [u8], meter: &mut Meter) -> (bool, usize)
         requires tie { meter.old.tie ≡ self.old.tie }
         requires idle { has_idle id self.old.connections ≡ true }
+        requires settled { IsSettled id self.old.clock self.old.connections }
         requires caller { is_waiting id (slots_of self.old.books.forwards) ≡ false }
         ensures acts { AnswersGiving
             id heard self.old self.new result.0 (take result.1 room.new) }

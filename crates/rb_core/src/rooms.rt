@@ -2,7 +2,7 @@
 ghost use Rattle.std.specs.Prelude.{◌≡◌, ◌≤◌, true, ℕ, length};
 ghost use Rattle.rb_xdr.specs.Meter.{PaysAtMost};
 ghost use Rattle.rb_proto.specs.Books.{AreTied, SameFrame};
-ghost use Rattle.rb_core.specs.Awaits.{has_idle, NoneIsFreed};
+ghost use Rattle.rb_core.specs.Awaits.{has_idle, NoneIsFreed, KeepsSettled};
 ghost use Rattle.rb_core.specs.Slots.{StaysTable};
 ghost use Rattle.rb_core.specs.Listings.{AreTold, HasRoom, Evicts, source_in};
 ghost use Rattle.rb_core.specs.CallCosts.{kept_count, room_cost_of};
@@ -31,6 +31,7 @@ pub fn make_room(
     ensures told { AreTold (source_in context.now.listener.host books.new) connections.new }
     ensures idle { (id : ℕ) → has_idle id connections.old ≡ true
         → has_idle id connections.new ≡ true }
+    ensures settled { KeepsSettled connections.old connections.new }
     ensures free { NoneIsFreed connections.old connections.new }
     ensures forwards { books.new.forwards ≡ books.old.forwards }
     ensures frame { SameFrame books.old books.new }

@@ -150,7 +150,7 @@ impl Slot {
         })
     }
 
-    ghost use Rattle.std.specs.Prelude.{◌≡◌, ◌≤◌, ◌<◌, ◌+◌, ℕ, List, [], true, false, length, Some, IfSome};
+    ghost use Rattle.std.specs.Prelude.{◌≡◌, ◌≤◌, ◌<◌, ◌+◌, ℕ, List, [], true, false, length, Some, IfSome, IfNone};
     ghost use Rattle.rb_core.specs.State.{Connection};
     ghost use Rattle.rb_core.specs.Connections.{settled, giving, pending_in, longest_fragment};
     ghost use Rattle.rb_core.specs.Slots.{is_due_slot, SlotActs, SlotBecomes, SlotGives, SlotHears, SlotShows, emptied_slot, ReceivesPiece, StandsBehindPiece, HearsPiece, HasBuffers, IsDraft, StaysSlot, feeding, heard_whole, is_lost_stage, is_idle_stage, is_wanted_slot};
@@ -220,6 +220,7 @@ impl Slot {
         ensures stage { is_awaiting_stage self.new.stage ≡ false }
         ensures told { IsNoList self.new }
         ensures heard { IfSome result.heard (λ heard. is_idle_stage self.new.stage ≡ true) }
+        ensures mark { IfSome result.heard (λ heard. self.new.mark ≡ clock) }
         ensures arguments { HearsPiece self.old reader clock piece.now arguments.old arguments.new }
         ensures within { result.count ≤ length piece.now }
         ensures stays { StaysSlot meter.old.tie self.old self.new }
@@ -258,6 +259,23 @@ impl Slot {
         }
     }
 
+    /// Goes on as a record comes whole at this moment, where it is the connection of the number and Idle, and says who sends
+    /// it: it stays Idle, until it is settled. `None` where it is not so, and nothing changed.
+    pub fn hear_whole(&mut self, id: u64, clock: u64) -> Option<Peer>
+        ensures idle { IfSome result (λ peer. self.old.stage ≡ Stage.Idle) }
+        ensures number { IfSome result (λ peer. self.old.number ≡ id) }
+        ensures mark { IfSome result (λ peer. self.new.mark ≡ clock) }
+        ensures kept { self.new ≡ record self.old { mark = self.new.mark } }
+        ensures peer { IfSome result (λ peer. peer ≡ self.old.peer) }
+        ensures stays { IfNone result (self.new ≡ self.old) }
+    {
+        if self.number != id || !matches!(self.stage, Stage::Idle) {
+            return None;
+        }
+        self.mark = clock;
+        Some(self.peer)
+    }
+
     /// Takes bytes of the piece up to the one that ends a record, or all, and says what the record is: its arguments go
     /// into the buffer, in exchange for its own. Nothing is taken while a reply is owed or awaited. From the end of a
     /// record on the connection is Idle, until it is settled.
@@ -274,7 +292,7 @@ impl Slot {
         ensures arguments { SlotHears piece.now self.old arguments.old arguments.new }
         ensures awaits { is_awaiting_stage self.new.stage ≡ is_awaiting_stage self.old.stage }
         ensures told { KeepsToldSlot self.old self.new }
-        ensures heard { IfSome result.heard (λ heard. HearsSlot self.old self.new) }
+        ensures heard { IfSome result.heard (λ heard. HearsSlot clock self.old self.new) }
         ensures within { result.count ≤ length piece.now }
         ensures stays { StaysSlot meter.old.tie self.old self.new }
         ensures draft { IsDraft meter.old.tie arguments.new }

@@ -2,12 +2,13 @@ use Rattle.std.proofs.Common.{◌≡◌, ◌∙◌, length, true, ap, sym, subst
 use Rattle.rb_xdr.specs.Pool.{Pool}
 use Rattle.rb_core.specs.contracts.connections.Connections.{the_view}
 use Rattle.rb_core.specs.declared.slot.Slot.{Slot}
-use Rattle.rb_core.specs.Awaits.{has_idle}
+use Rattle.rb_core.specs.Awaits.{has_idle, IsSettled}
 use Rattle.rb_core.specs.Slots.{IsTable}
 use Rattle.rb_core.specs.StandsFor.{StandsForConnections}
 use Rattle.rb_core.specs.Listings.{IsToldSlot, AreTold}
 use Rattle.rb_core.proofs.Freed.{freed_from}
 use Rattle.rb_core.proofs.Evicting.{table_evicts, table_evicted, told_evicted, all_keep, later_evicted, length_evicted, idle_evicted, none_freed_by_eviction, stays_evicted}
+use Rattle.rb_core.proofs.Settled.{settled_evicted}
 use Rattle.rb_core.proofs.connections.Connections.evict.Goals as goal
 
 pub invariant_of-self : goal.invariant_of-self
@@ -34,6 +35,10 @@ returns-clause-later c = rw c.evict_slots.ensures.evicted (later_evicted c.args.
 pub returns-clause-idle : goal.returns-clause-idle
 returns-clause-idle c = λ id idle.
     rw c.evict_slots.ensures.evicted (idle_evicted c.args.earliest id (the_view c.self.inside) (subst (λ t. has_idle id t ≡ true) (sym c.self.view_is) idle))
+
+pub returns-clause-settled : goal.returns-clause-settled
+returns-clause-settled c = λ id clock settled.
+    rw c.evict_slots.ensures.evicted (settled_evicted c.args.earliest id clock (the_view c.self.inside) (subst (λ t. IsSettled id clock t) (sym c.self.view_is) settled))
 
 pub returns-clause-free : goal.returns-clause-free
 returns-clause-free c =

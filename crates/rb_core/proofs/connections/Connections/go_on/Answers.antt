@@ -1,5 +1,11 @@
 use Rattle.rb_core.specs.StandsFor.{source_for}
+use Rattle.rb_core.proofs.Settled.{stays_silent}
 use Rattle.rb_core.proofs.connections.Connections.go_on.Goals as goal
+
+pub returns-in-Told-Silent-clause-stands : goal.returns-in-Told-Silent-clause-stands
+returns-in-Told-Silent-clause-stands c =
+    let source = source_for c.args.host c.args.registry.now in
+    stays_silent source c.args.id c.args.clock c.args.self.now c.args.served c.in-Told-Silent.field-0 c.args.draft.now.bytes c.in-Told-Silent.is (rw c.in-Told-Silent.is at c.in-Told-Silent.field-0-is) c.requires.settled
 
 pub returns-in-Told-clause-told : goal.returns-in-Told-clause-told
 returns-in-Told-clause-told c =
