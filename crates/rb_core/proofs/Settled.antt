@@ -122,13 +122,13 @@ module _ (source : Source) (slot : Slot) (piece content : List ℕ) (idle : slot
 
   pub hears_whole : (clock : ℕ) → Acts (StandsForConnection source) (feeding clock piece) slot (record slot { mark = clock }) (heard_whole slot.peer content)
   hears_whole clock = feeding_acts source slot (record slot { mark = clock }) clock piece (heard_whole slot.peer content) (λ c h.
-    let p = idle_phase source slot.stage slot.buffer slot.window c.phase idle h.phase in
-    record {
-      taken = Ends (4 + length content) content;
-      is = takes_whole c h;
-      gives = ap (λ peer. heard_whole peer content) h.peer;
-      stands = record { number = h.number; peer = h.peer; mark = refl; phase = rw idle (p.1, p.2) };
-    })
+      let p = idle_phase source slot.stage slot.buffer slot.window c.phase idle h.phase in
+      record {
+        taken = Ends (4 + length content) content;
+        is = takes_whole c h;
+        gives = ap (λ peer. heard_whole peer content) h.peer;
+        stands = record { number = h.number; peer = h.peer; mark = refl; phase = rw idle (p.1, p.2) };
+      })
 
   pub keeps_whole : (before : List ℕ) → Shows (StandsForConnection source) (arguments_heard before piece) slot (kept_of content)
   keeps_whole before c h = taken_arguments before (kept_of content) piece c (Ends (4 + length content) content) (takes_whole c h) refl

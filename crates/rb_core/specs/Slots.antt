@@ -164,11 +164,15 @@ arguments_on id before piece connections = option_map_or (arguments_heard before
 abbrev pub TableHears : ℕ → List ℕ → Table → Kept → Kept → Type 0
 TableHears id piece table before after = TableShows (arguments_on id before.bytes piece) table after.bytes
 
+-- so many bytes of a piece were taken on the live connection of the number, and this was heard
+abbrev pub TableTakes : ℕ → ℕ → List ℕ → Table → Table → Received → Type 0
+TableTakes id clock piece old new got = TableActs (on_live id (feeding clock piece)) old new (Ok got)
+
 -- A record that is one fragment came whole on the live connection of the number, from this peer: what it does there, and
 -- which arguments are kept of it.
 pub record HearsWhole (id clock : ℕ) (peer : Peer) (old new : Table) : Type 0 where
   pub acts : (piece content : List ℕ) → BeginsWithRecord content piece
-      → TableActs (on_live id (feeding clock piece)) old new (Ok (heard_whole peer content))
+      → TableTakes id clock piece old new (heard_whole peer content)
   pub arguments : (before piece content : List ℕ) → BeginsWithRecord content piece
       → TableShows (arguments_on id before piece) old (kept_of content)
 

@@ -237,14 +237,14 @@ fn recounted(held: u64, before: u64, slot: &Slot, meter: &mut Meter) -> u64
 }
 
 impl Connections {
-    ghost use Rattle.std.specs.Prelude.{◌≡◌, ◌≤◌, ◌<◌, ◌+◌, ◌*◌, [], true, false, ℕ, length, Some, Ok, OnErr, IfOk, IfSome, IfNone, All};
+    ghost use Rattle.std.specs.Prelude.{◌≡◌, ◌≤◌, ◌<◌, ◌+◌, ◌*◌, [], true, false, ℕ, length, Some, OnErr, IfOk, IfSome, IfNone, All};
     ghost use Rattle.rb_core.specs.Connections.{on_live, opening_of, closing_of, first_lost, longest_fragment};
     ghost use Rattle.rb_core.specs.Giving.{IsToldBy, pending_count};
     ghost use Rattle.rb_core.specs.Serving.{BeginsList, Serves, is_closed_by, kind_in, IsWritten, IsToldIn};
     ghost use Rattle.rb_core.specs.Listings.{AreTold, KeepsTold, EvictsBefore, stamps_of, IsOldest};
     ghost use Rattle.rb_core.specs.Losses.{expiring};
     ghost use Rattle.rb_core.specs.Core.{given_in};
-    ghost use Rattle.rb_core.specs.Slots.{settling, Finds, TableActs, TableBecomes, TableGives, TableHears, TableLends, TableShows, HearsWhole, StaysTable, IsDraft, empty_table, feeding, HasBuffers};
+    ghost use Rattle.rb_core.specs.Slots.{settling, Finds, TableActs, TableBecomes, TableGives, TableHears, TableLends, TableShows, TableTakes, HearsWhole, StaysTable, IsDraft, empty_table, feeding, HasBuffers};
     ghost use Rattle.rb_core.specs.Step.{pending_at};
     ghost use Rattle.rb_core.specs.CallCosts.{slot_count, look_cost, received_cost, taken_cost, list_cost, giving_cost};
     ghost use Rattle.rb_core.specs.Costs.{settle_cost, pending_cost, oldest_cost, evict_cost};
@@ -353,10 +353,9 @@ impl Connections {
     ) -> Option<Received>
         requires tie { meter.old.tie ≡ self.old.tie }
         requires arguments { IsDraft meter.old.tie arguments.old }
-        ensures acts { IfSome result (λ got.
-            TableActs (on_live id (feeding clock piece.now)) self.old self.new (Ok got)) }
-        ensures arguments { IfSome result (λ got.
-            TableHears id piece.now self.old arguments.old arguments.new) }
+        ensures acts { IfSome result (TableTakes id clock piece.now self.old self.new) }
+        ensures arguments { IfSome result
+            (λ _. TableHears id piece.now self.old arguments.old arguments.new) }
         ensures told { KeepsTold self.old self.new }
         ensures free { NoneIsFreed self.old self.new }
         ensures from { IfSome result (λ got. HeardFrom id clock self.old self.new) }
