@@ -236,6 +236,42 @@ kept_are source table c books l (Some k) before t z least h floor dropped =
     ∙ sym (ap (λ (ns : List ℕ). filter (is_kept_for ns) (removals_by l)) (begins_alike source (values_of table.slots) c.all z.all)
     ∙ filter_alike (is_kept_for (stamps_of table)) (λ change. nat_lt k change) (removals_by l) (λ change. kept_by_oldest (stamps_of table) k change least))
 
+filter_fewer : (p q : ℕ → Bool) (xs : List ℕ) → ((x : ℕ) → p x ≡ true → q x ≡ true) → length (filter p xs) ≤ length (filter q xs)
+filter_fewer p q [] also = omega arith
+filter_fewer p q (x ∷ xs) also = by_test (p x) refl (q x) refl (filter_fewer p q xs also)
+  where
+    by_test : (a : Bool) → p x ≡ a → (b : Bool) → q x ≡ b → length (filter p xs) ≤ length (filter q xs) → length (filter p (x ∷ xs)) ≤ length (filter q (x ∷ xs))
+    by_test true e true f fewer = rw (e, f) (omega (arith, fewer))
+    by_test true e false f fewer = let clash : true ≡ false = sym (also x e) ∙ f in absurd cc
+    by_test false e true f fewer = rw (e, f) (omega (arith, fewer))
+    by_test false e false f fewer = rw (e, f) fewer
+
+-- what some list began before is above what none began before
+kept_above : (floor change : ℕ) (stamps : List ℕ) → All (λ n. floor ≤ n) stamps → is_kept_for stamps change ≡ true → nat_lt floor change ≡ true
+kept_above floor change [] low is = absurd cc
+kept_above floor change (n ∷ stamps) low is = by_test (nat_lt n change) refl (kept_above floor change stamps (All-tail (λ m. floor ≤ m) n stamps low))
+  where
+    by_test : (b : Bool) → nat_lt n change ≡ b → (is_kept_for stamps change ≡ true → nat_lt floor change ≡ true) → nat_lt floor change ≡ true
+    by_test true t further =
+        let first : floor ≤ n = All-head (λ m. floor ≤ m) n stamps low in
+        let early = ltb-true n change t in
+        lt-ltb floor change (omega (arith, first, early))
+    by_test false t further = further (rw t at is)
+
+-- the rows that are kept for lists are among the dead ones
+pub kept_few : (source : Source) (table : Table) (c : Connections) (books : Books) (l : Ledger)
+    → AreTold source table → StandsForConnections source table c → StandsForLedger books l → books.registry.floor ≡ source.registry.floor
+    → length (kept_removals c.all l) ≤ length (removals_of books.registry)
+unfolding kept_removals
+kept_few source table c books l t z h floor =
+    let dead : removals_of books.registry ≡ filter (λ change. nat_lt books.registry.floor change) (removals_by l) =
+    removals_kept books l h ∙ not_dropped books.registry.floor (all_slots l.own l.changes) in
+    let kept : filter (is_kept_for (begins c.all)) (removals_by l) ≡ filter (is_kept_for (stamps_of table)) (removals_by l) =
+    ap (λ (ns : List ℕ). filter (is_kept_for ns) (removals_by l)) (begins_alike source (values_of table.slots) c.all z.all) in
+    let low : All (λ n. books.registry.floor ≤ n) (stamps_of table) = subst (λ (k : ℕ). All (λ n. k ≤ n) (stamps_of table)) (sym floor) (stamps_low source table t) in
+    let fewer = filter_fewer (is_kept_for (stamps_of table)) (λ change. nat_lt books.registry.floor change) (removals_by l) (λ change. kept_above books.registry.floor change (stamps_of table) low) in
+    omega (arith, fewer, ap (λ (xs : List ℕ). length xs) dead, ap (λ (xs : List ℕ). length xs) kept)
+
 -- ---- who is in the way
 
 none_goes : (x : Connection) → evicted [] x ≡ x

@@ -72,9 +72,9 @@ oldest_cost connections = 2 * connections + 1
 abbrev pub evict_cost : ℕ → ℕ
 evict_cost connections = 3 * connections + 1
 
--- what it costs to look whether a row wants room among so many, and to make it
+-- what it costs to look whether there is room, whether a row wants it among so many, and to make it
 abbrev pub make_room_cost : ℕ → ℕ → ℕ
-make_room_cost connections rows = 14 * rows + 2 * oldest_cost connections + evict_cost connections + 11
+make_room_cost connections rows = 14 * rows + 2 * oldest_cost connections + evict_cost connections + 12
 
 -- what it costs to answer the record that ended, among so many connections and rows
 abbrev pub answer_cost : ℕ → ℕ → ℕ → ℕ

@@ -1,7 +1,7 @@
 //! Room for a row among the live rows and those that were removed, but are kept for lists that are being given.
-ghost use Rattle.std.specs.Prelude.{◌≡◌, ◌≤◌, true, ℕ, length};
+ghost use Rattle.std.specs.Prelude.{◌≡◌, ◌≤◌, true, ℕ, length, IsTrue};
 ghost use Rattle.rb_xdr.specs.Meter.{PaysAtMost};
-ghost use Rattle.rb_proto.specs.Books.{AreTied, SameFrame};
+ghost use Rattle.rb_proto.specs.Books.{AreTied, HasPlaceLeft, SameFrame};
 ghost use Rattle.rb_core.specs.Awaits.{has_idle, NoneIsFreed, KeepsSettled};
 ghost use Rattle.rb_core.specs.Slots.{StaysTable};
 ghost use Rattle.rb_core.specs.Listings.{AreTold, HasRoom, Evicts, source_in};
@@ -10,7 +10,24 @@ ghost use Rattle.rb_core.specs.CallCosts.{kept_count, room_cost_of};
 use crate::connections::Connections;
 use crate::message::Message;
 use rb_proto::{Books, Context};
+use rb_registry::Registry;
 use rb_xdr::Meter;
+
+/// So many dead rows are looked after, though there is room beside them: fewer stay where they are, so that not each SET
+/// walks the rows for them.
+const MANY_DEAD: usize = 16;
+
+/// Whether there is room for a row beside the live and the dead ones, of which there are few.
+fn is_roomy(registry: &Registry, limit: usize, meter: &mut Meter) -> bool
+    requires tie { meter.old.tie ≡ registry.now.tie }
+    requires limit { registry.now.limit ≡ limit }
+    ensures room { IsTrue result → HasPlaceLeft registry.now }
+    ensures cost { PaysAtMost meter.old meter.new 1 }
+{
+    let live = registry.len(meter);
+    let dead = registry.dead();
+    dead < MANY_DEAD && dead < limit - live
+}
 
 /// Makes room for the row that a message is to add: where the live rows and those that are kept for lists reach the limit,
 /// the connections become Lost whose lists began before the earliest change that removed a kept row.
@@ -43,6 +60,9 @@ pub fn make_room(
     let Message::Asked(call) = message else {
         return;
     };
+    if is_roomy(&books.registry, context.limit, meter) {
+        return;
+    }
     if !books.wants_room(context, call, meter) {
         return;
     }

@@ -246,6 +246,13 @@ impl Registry {
         self.slots.len(meter) - self.dead
     }
 
+    /// How many dead rows are still there.
+    pub fn dead(&self) -> usize
+        ensures count { result ≡ dead_count self.now }
+    {
+        self.dead
+    }
+
     /// How many changes were accepted: rows set, and removals of at least one row.
     pub fn stamp(&self) -> u64
         ensures stamp { result ≡ self.now.stamp }

@@ -1,10 +1,10 @@
-use Rattle.std.proofs.Common.{◌≡◌, ◌≤◌, ◌<◌, ◌+◌, true, false, ℕ, List, length, All, sym, ap, ◌∙◌, arith}
+use Rattle.std.proofs.Common.{◌≡◌, ◌≤◌, ◌<◌, ◌+◌, true, false, ℕ, List, length, All, refl, sym, ap, ◌∙◌, arith}
 use Rattle.rb_registry.specs.Registry.{rows_of, removals_of}
 use Rattle.rb_proto.specs.Ledger.{rows_in}
 use Rattle.rb_proto.specs.Books.{wants_room_in}
 use Rattle.rb_core.specs.Losses.{asks_room, kept_removals, evicting}
 use Rattle.rb_core.specs.Listings.{source_in, AreTold, stamps_of, IsEarliest}
-use Rattle.rb_core.proofs.Crowding.{told_on, stands_on, trimmed_low, kept_are, none_evicted, not_asked, not_crowded, crowded, no_call_asks, no_call_has_room, row_within, room_is_made, earliest_of}
+use Rattle.rb_core.proofs.Crowding.{told_on, stands_on, trimmed_low, kept_are, kept_few, none_evicted, not_asked, not_crowded, crowded, no_call_asks, no_call_has_room, row_within, room_is_made, earliest_of}
 use Rattle.rb_core.proofs.rooms.make_room.Goals as goal
 
 pub returns-in_default-clause-makes : goal.returns-in_default-clause-makes
@@ -13,6 +13,14 @@ returns-in_default-clause-makes c = λ x l z h.
 
 pub returns-in_default-clause-room : goal.returns-in_default-clause-room
 returns-in_default-clause-room c = no_call_has_room c.args.context.now c.args.message.now c.args.books.now c.in_default.not-Asked
+
+pub returns-then-is_roomy-clause-makes : goal.returns-then-is_roomy-clause-makes
+returns-then-is_roomy-clause-makes c = λ x l z h.
+    let source = source_in c.args.context.now.listener.host c.args.books.now in
+    let few = kept_few source c.args.connections.now x c.args.books.now l c.requires.told z h refl in
+    let place = c.is_roomy.ensures.room (c.if-is_roomy.true) in
+    let room : length (rows_in l) + length (kept_removals x.all l) < c.args.context.now.limit = omega (arith, few, place, ap (λ rs. length rs) h.registry.rows, c.requires.limit) in
+    (rw (not_crowded c.args.context.now c.args.message.now x.all l room, none_evicted x) z, h)
 
 pub returns-then-not-wants_room-clause-makes : goal.returns-then-not-wants_room-clause-makes
 returns-then-not-wants_room-clause-makes c = λ x l z h.
