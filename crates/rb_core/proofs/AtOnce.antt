@@ -383,3 +383,26 @@ counted_heard old now clock id piece is table stays arguments holds count room n
     ∙ ap (λ (b : Bool). cond (b || a.0) 0 (at_once_on room (live_connection id a.1.connections.all))) (sym e.owes_none)
     ∙ ap (λ (m : Option Connection). at_once room id m (taken_of (with_count count a))) (sym e.there)
     ∙ ap (λ (r : Result Taken CoreFault × State). at_once room id (live_connection id s.connections.all) r) (sym e.goes)
+
+-- The same where the record came whole, and no arguments are held.
+pub exchange_whole : (old : Held) (now clock id : ℕ) (piece : List ℕ) (is : clock ≡ max old.clock now) (table : Table) (stays : StaysTable old.connections table)
+    (arguments : List ℕ) (holds : Shows (StandsForConnections (source_of old)) (arguments_on id old.arguments piece) old.connections arguments)
+    (count : ℕ) (said : Heard) (new : Held) (closed : Bool) (given : List ℕ) → Acts (StandsForConnections (source_of old)) (on_live id (feeding clock piece)) old.connections table (Ok (record { count = count; heard = Some said }))
+    → Acts StandsFor (λ s. answered_giving id (length given) (answering_heard id said arguments s)) (record old { clock = clock; connections = table }) new (closed, given)
+    → Acts StandsFor (giving_by now id piece (length given)) old new (Ok (record { count = count; closed = closed }), given)
+exchange_whole old now clock id piece is table stays arguments holds count said new closed given acts answers = record { gives = λ s h. (by_empty h.arguments).gives s h; stands = λ s h. (by_empty h.arguments).stands s h }
+  where
+    by_empty : old.arguments ≡ [] → Acts StandsFor (giving_by now id piece (length given)) old new (Ok (record { count = count; closed = closed }), given)
+    by_empty none =
+        exchange_heard old now clock id piece is table stays arguments holds count said new closed given acts
+        (subst (λ (xs : List ℕ). Acts StandsFor (λ s. answered_giving id (length given) (answering_heard id said arguments s)) (record old { clock = clock; connections = table; arguments = xs }) new (closed, given)) none answers)
+
+pub counted_whole : (old : Held) (now clock id : ℕ) (piece : List ℕ) (is : clock ≡ max old.clock now) (table : Table) (stays : StaysTable old.connections table)
+    (arguments : List ℕ) (holds : Shows (StandsForConnections (source_of old)) (arguments_on id old.arguments piece) old.connections arguments)
+    (count room n : ℕ) (said : Heard) → Acts (StandsForConnections (source_of old)) (on_live id (feeding clock piece)) old.connections table (Ok (record { count = count; heard = Some said }))
+    → ((s : State) → StandsFor (record old { clock = clock; connections = table }) s → n ≡ given_when_answered room id (answering_heard id said arguments s))
+    → (s : State) → StandsFor old s → n ≡ at_once room id (live_connection id s.connections.all) (bytes s now id piece)
+counted_whole old now clock id piece is table stays arguments holds count room n said acts counts s h =
+    counted_heard old now clock id piece is table stays arguments holds count room n said acts
+    (subst (λ (xs : List ℕ). (t : State) → StandsFor (record old { clock = clock; connections = table; arguments = xs }) t → n ≡ given_when_answered room id (answering_heard id said arguments t)) h.arguments counts)
+    s h

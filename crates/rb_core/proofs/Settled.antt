@@ -28,7 +28,7 @@ use Rattle.rb_core.specs.Awaits.{is_unsettled_slot, IsSettled, HeardFrom}
 use Rattle.rb_core.specs.Listings.{evicted_slot}
 use Rattle.rb_core.proofs.Evicting.{all_evicted}
 use Rattle.rb_core.proofs.Freed.{heard_on}
-use Rattle.rb_core.proofs.Hints.{distinct_numbers, first_by_hint}
+use Rattle.rb_core.proofs.ByHint.{distinct_numbers, first_by_hint}
 use Rattle.rb_core.proofs.Slots.{live_acts, live_arguments}
 use Rattle.rb_core.proofs.OneSlot.{idle_phase, feeding_acts, some_where_fed, taken_whole, taken_arguments}
 

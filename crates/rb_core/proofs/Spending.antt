@@ -17,7 +17,7 @@ use Rattle.rb_core.proofs.Slots.{as_many}
 -- a record ended, and it was answered, where so much more was paid
 pub answered_cost : (m0 m1 m2 : Meter) (n other rows left count more : ℕ) (h : Option Heard) (x : Heard) → h ≡ Some x → other ≡ n
     → PaysAtMost m0 m1 (find_cost n + (take_cost count + heard_cost h + recount_cost))
-    → PaysAtMost m1 m2 (read_cost + (make_room_cost other rows + serve_cost rows left) + begin_list_cost other left + more)
+    → PaysAtMost m1 m2 (read_cost + (make_room_cost other rows + serve_cost rows left + begin_list_cost other left) + more)
     → PaysAtMost m0 m2 (find_cost n + (take_cost count + recount_cost) + answer_cost n rows left + more)
 answered_cost m0 m1 m2 n other rows left count more h x is same first second =
     let taken : PaysAtMost m0 m1 (find_cost n + (take_cost count + exchange_cost + recount_cost)) = rw is at first in
@@ -26,6 +26,14 @@ answered_cost m0 m1 m2 n other rows left count more h x is same first second =
       rises = omega (arith, taken.rises, second.rises);
       tie = second.tie ∙ taken.tie;
     }
+
+-- a piece is taken where a record was not heard whole
+pub looked_first : (m0 m1 m2 : Meter) (n more : ℕ) → PaysAtMost m0 m1 1 → PaysAtMost m1 m2 (2 * n + 3 + more) → PaysAtMost m0 m2 (find_cost n + more)
+looked_first m0 m1 m2 n more first second = record {
+  steps = omega (arith, first.steps, second.steps);
+  rises = omega (arith, first.rises, second.rises);
+  tie = second.tie ∙ first.tie;
+}
 
 -- ---- what is held by what is plain
 

@@ -2,6 +2,9 @@
 use Rattle.std.specs.Prelude.{◌≡◌, ◌<◌, ◌≤◌, ℕ, ◌+◌, ◌==◌, nat_lt, Bool, true, false, not, ◌&&◌, ◌||◌, if◌then◌else◌, List, [], length, take, Option, Some, None, is_none, Result, Ok, Err}
 use Rattle.rb_xdr.specs.Kept.{Kept}
 use Rattle.rb_rpc.specs.Records.{fragment_size, marked}
+use Rattle.rb_rpc.specs.declared.peer.Caller.TheVariants.{Tcp}
+use Rattle.rb_proto.specs.declared.books.Books.{Books}
+use Rattle.rb_proto.specs.declared.context.Context.{Context}
 use Rattle.rb_core.specs.declared.serve.Served.{Served}
 use Rattle.rb_core.specs.declared.serve.Served.TheVariants.{Told, Listed}
 use Rattle.rb_core.specs.declared.slot.Heard.{Heard}
@@ -13,9 +16,9 @@ use Rattle.rb_core.specs.State.{Owed, Phase, Connection, State}
 use Rattle.rb_core.specs.State.Phase.{Idle, Reading, Owing, Awaiting, Lost}
 use Rattle.rb_core.specs.Connections.{longest_fragment, when_given, live_connection, on_connection}
 use Rattle.rb_core.specs.Step.{bytes, pending, gave}
-use Rattle.rb_core.specs.StandsFor.{Held, StandsFor}
+use Rattle.rb_core.specs.StandsFor.{Table, Held, StandsFor}
 use Rattle.rb_core.specs.Slots.{Acts}
-use Rattle.rb_core.specs.Core.{answering_heard, without_arguments}
+use Rattle.rb_core.specs.Core.{context_of, answering_heard}
 use Rattle.rb_core.specs.CallCosts.{bytes_cost}
 
 -- ---- three events
@@ -102,17 +105,29 @@ given_when_answered room id (closed, s) = if closed then 0 else at_once_on room 
 abbrev pub answered_giving : ℕ → ℕ → Bool × State → (Bool × List ℕ) × State
 answered_giving id n (closed, s) = ((closed, front n id s), on_connection id (when_given s.clock n) s)
 
--- A record on the connection of a number that said this is answered, with the arguments that are held, which are out then, and
--- these bytes of the reply are given.
-abbrev pub AnswersGiving : ℕ → Heard → Held → Held → Bool → List ℕ → Type 0
-AnswersGiving id heard old new closed given =
-    Acts StandsFor (λ s. answered_giving id (length given) (answering_heard id heard old.arguments s))
-    (without_arguments old) new (closed, given)
+-- A record on the connection of a number that said this is answered, with these arguments, and these bytes of the reply are given.
+abbrev pub AnswersGiving : ℕ → Heard → List ℕ → Held → Held → Bool → List ℕ → Type 0
+AnswersGiving id heard arguments old new closed given =
+    Acts StandsFor (λ s. answered_giving id (length given) (answering_heard id heard arguments s)) old new (closed, given)
 
 -- They are as many as are given at once where there is this room.
-abbrev pub GivesAtOnce : ℕ → ℕ → Heard → Held → ℕ → Type 0
-GivesAtOnce room id heard old n =
-    (s : State) → StandsFor (without_arguments old) s → n ≡ given_when_answered room id (answering_heard id heard old.arguments s)
+abbrev pub GivesAtOnce : ℕ → ℕ → Heard → List ℕ → Held → ℕ → Type 0
+GivesAtOnce room id heard arguments old n =
+    (s : State) → StandsFor old s → n ≡ given_when_answered room id (answering_heard id heard arguments s)
+
+-- a core with these connections and books
+abbrev pub with_parts : Held → Table → Books → Held
+with_parts held connections books = record held { connections = connections; books = books }
+
+-- Such a record is answered so from these connections and books, in any core in which a call on that connection sees this.
+abbrev pub AnswersFrom : Context → ℕ → Heard → List ℕ → Table → Books → Table → Books → Bool → List ℕ → Type 0
+AnswersFrom context id heard arguments table books left after closed given =
+    (held : Held) → context ≡ context_of held (Tcp id heard.peer)
+    → AnswersGiving id heard arguments (with_parts held table books) (with_parts held left after) closed given
+
+abbrev pub GivesFrom : ℕ → Context → ℕ → Heard → List ℕ → Table → Books → ℕ → Type 0
+GivesFrom room context id heard arguments table books n =
+    (held : Held) → context ≡ context_of held (Tcp id heard.peer) → GivesAtOnce room id heard arguments (with_parts held table books) n
 
 -- ---- a reply
 

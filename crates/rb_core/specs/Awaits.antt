@@ -1,9 +1,11 @@
 -- Which connections could begin a forwarded call: those that are not open yet, and those that await none.
-use Rattle.std.specs.Prelude.{◌≡◌, ⊤, ℕ, ◌==◌, nat_lt, Bool, true, false, not, ◌&&◌, ◌||◌, IfSome, Result, IfOk}
+use Rattle.std.specs.Prelude.{◌≡◌, ⊤, ℕ, ◌==◌, nat_lt, Bool, true, false, not, ◌&&◌, ◌||◌, if◌then◌else◌, Option, Some, None, IfSome, Result, IfOk}
 use Rattle.std.specs.List.{list_any}
 use Rattle.std.specs.Map.{values_of}
+use Rattle.rb_rpc.specs.declared.peer.Peer.{Peer}
 use Rattle.rb_forward.specs.StandsFor.{Table as Entries, slots_of}
 use Rattle.rb_forward.specs.Table.{is_waiting}
+use Rattle.rb_proto.specs.declared.books.Books.{Books}
 use Rattle.rb_proto.specs.declared.answers.Answer.{Answer}
 use Rattle.rb_proto.specs.declared.answers.Answer.TheVariants as answers
 use Rattle.rb_core.specs.declared.slot.Slot.{Slot}
@@ -36,6 +38,10 @@ is_free id table = nat_lt table.given id || list_any (is_free_slot id) (values_o
 abbrev pub is_idle_slot : ℕ → Slot → Bool
 is_idle_slot id slot = slot.number == id && is_idle_stage slot.stage
 
+-- who sends a record that comes whole on it
+abbrev pub sender_on : ℕ → Slot → Option Peer
+sender_on id slot = if is_idle_slot id slot then Some slot.peer else None
+
 unfoldable pub has_idle : ℕ → Table → Bool
 has_idle id table = list_any (is_idle_slot id) (values_of table.slots)
 
@@ -54,6 +60,10 @@ KeepsSettled old new = (id clock : ℕ) → IsSettled id clock old → IsSettled
 -- No connection is free for which a call is forwarded.
 abbrev pub AreAwaited : Entries → Table → Type 0
 AreAwaited entries table = (id : ℕ) → is_waiting id (slots_of entries) ≡ true → is_free id table ≡ false
+
+-- so it stays
+abbrev pub KeepsAwaited : Books → Table → Books → Table → Type 0
+KeepsAwaited old before new after = AreAwaited old.forwards before → AreAwaited new.forwards after
 
 -- no connection is free that was not so before
 abbrev pub NoneIsFreed : Table → Table → Type 0

@@ -80,6 +80,11 @@ look_cost table = find_cost (slot_count table)
 abbrev pub room_cost_of : Table → Books → ℕ
 room_cost_of table books = make_room_cost (slot_count table) (kept_count books)
 
+-- what it costs to answer what a record said, once its arguments are there: to make room, to serve it, and to let its
+-- connection go on
+abbrev pub served_cost : Table → Books → Books → ℕ
+served_cost table old new = room_cost_of table old + serving_cost old new + list_cost (slot_count table) new.registry
+
 -- how many forwarded calls there may be
 abbrev pub forwards_cap : Books → ℕ
 forwards_cap books = books.forwards.cap
@@ -94,9 +99,9 @@ room_cost held = room_cost_of held.connections held.books
 abbrev pub roomy_cost : Held → Held → ℕ
 roomy_cost old new = room_cost old + serve_cost (kept_count old.books) (kept_count new.books)
 
--- to answer what a record said
+-- to answer what a record said, whose arguments are held
 abbrev pub answering_cost : Held → Held → ℕ
-answering_cost old new = read_cost + roomy_cost old new + list_cost (slot_count old.connections) new.books.registry
+answering_cost old new = read_cost + served_cost old.connections old.books new.books
 
 -- to answer a datagram
 abbrev pub datagram_cost : Held → Held → ℕ

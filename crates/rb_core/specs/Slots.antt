@@ -12,10 +12,12 @@ use Rattle.rb_rpc.specs.declared.peer.Peer.{Peer}
 use Rattle.rb_core.specs.declared.types.CoreFault.{CoreFault}
 use Rattle.rb_core.specs.declared.slot.Slot.{Slot}
 use Rattle.rb_core.specs.declared.reading.Reader.{Reader}
+use Rattle.rb_core.specs.declared.slot.Heard.{Heard}
 use Rattle.rb_core.specs.declared.slot.Received.{Received}
 use Rattle.rb_core.specs.declared.slot.Stage.{Stage}
 use Rattle.rb_core.specs.declared.slot.Stage.TheVariants as stages
 use Rattle.rb_core.specs.declared.slot.Wanted.{Wanted}
+use Rattle.rb_core.specs.declared.slot.Whole.{Whole}
 use Rattle.rb_core.specs.declared.slot.Wanted.TheVariants as wanted
 use Rattle.rb_core.specs.declared.slot.Buffers.{Buffers}
 use Rattle.rb_core.specs.State.{Phase, Connection, Connections}
@@ -77,16 +79,19 @@ pub record IsBeforePiece (slot : Slot) (reader : Reader) (clock : ℕ) (c : Conn
   pub reads : IsReading reader slot.buffer fed
   pub window : slot.window.bytes ≡ []
 
+-- what is heard by a record with this data from a peer
+abbrev pub heard_of : Peer → List ℕ → Heard
+heard_of peer content = record { peer = peer; verdict = verdict content }
+
 -- what the core is told of a piece that a connection takes
 abbrev pub received : List ℕ → Connection → Taking → Received
 received piece c TakesNone = record { count = 0; heard = None }
 received piece c (GoesOn fed) = record { count = length piece; heard = None }
-received piece c (Ends n content) = record { count = n; heard = Some (record { peer = c.peer; verdict = verdict content }) }
+received piece c (Ends n content) = record { count = n; heard = Some (heard_of c.peer content) }
 
--- the same of a record that is one fragment with this data
+-- what the core is told of a record that is one fragment with this data
 abbrev pub heard_whole : Peer → List ℕ → Received
-heard_whole peer content =
-    record { count = 4 + length content; heard = Some (record { peer = peer; verdict = verdict content }) }
+heard_whole peer content = record { count = 4 + length content; heard = Some (heard_of peer content) }
 
 -- the arguments that the core has after it: those that are kept of the record that ended, or what it had before
 abbrev pub arguments_after : List ℕ → Taking → List ℕ
@@ -168,6 +173,22 @@ TableHears id piece table before after = TableShows (arguments_on id before.byte
 abbrev pub TableTakes : ℕ → ℕ → List ℕ → Table → Table → Received → Type 0
 TableTakes id clock piece old new got = TableActs (on_live id (feeding clock piece)) old new (Ok got)
 
+-- what is heard by a record that came whole,
+abbrev pub heard_in : Whole → Heard
+heard_in whole = heard_of whole.peer whole.content.now
+
+-- and which arguments are kept of it
+abbrev pub kept_in : Whole → List ℕ
+kept_in whole = kept_of whole.content.now
+
+-- it was taken on the live connection of the number,
+abbrev pub TakesWhole : ℕ → ℕ → List ℕ → Whole → Table → Table → Type 0
+TakesWhole id clock piece whole old new = TableTakes id clock piece old new (heard_whole whole.peer whole.content.now)
+
+-- where the core has its arguments after it
+abbrev pub KeepsWhole : ℕ → List ℕ → Whole → Table → Type 0
+KeepsWhole id piece whole old = (before : List ℕ) → TableShows (arguments_on id before piece) old (kept_in whole)
+
 -- A record that is one fragment came whole on the live connection of the number, from this peer: what it does there, and
 -- which arguments are kept of it.
 pub record HearsWhole (id clock : ℕ) (peer : Peer) (old new : Table) : Type 0 where
@@ -233,6 +254,13 @@ is_by_number (wanted.Live id) = true
 is_by_number (wanted.Numbered id) = true
 is_by_number wanted.AnyLost = false
 is_by_number (wanted.Due clock) = false
+
+-- by which, and else by 0, which none has
+abbrev pub number_wanted : Wanted → ℕ
+number_wanted (wanted.Live id) = id
+number_wanted (wanted.Numbered id) = id
+number_wanted wanted.AnyLost = 0
+number_wanted (wanted.Due clock) = 0
 
 -- the key and the slot of the first connection that is wanted
 unfoldable pub wanted_slot : Wanted → List (ℕ × Slot) → Option (ℕ × Slot)

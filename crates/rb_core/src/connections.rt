@@ -9,13 +9,14 @@ ghost use Rattle.rb_core.specs.StandsFor.{charge, most_charge, IsWithin};
 ghost use Rattle.rb_core.specs.Listings.{earlier, began_early, with_evicted, stamps_in, IsOldest};
 ghost use Rattle.rb_core.specs.Costs.{oldest_cost, evict_cost};
 
-use crate::reading::{LONGEST_ARGUMENTS, read_record};
+use crate::hints::Hints;
+use crate::reading::LONGEST_ARGUMENTS;
 use crate::serve::{LONGEST_REPLY, Served};
-use crate::slot::{Buffers, CHARGE, Heard, Received, Slot, Stage, Wanted};
+use crate::slot::{Buffers, CHARGE, Received, Slot, Stage, Wanted, Whole};
 use crate::types::{CoreFault, Outcome};
 use rb_proto::ListReply;
 use rb_registry::Registry;
-use rb_rpc::{FRAGMENT_HEADER, Peer, one_fragment};
+use rb_rpc::{Peer, one_fragment};
 use rb_xdr::{Kept, Meter, NoMemory, Pool};
 use std::alloc::Global;
 use std::marker::Model;
@@ -38,8 +39,7 @@ pub struct Connections {
     given: u64,
     conns: usize,
     held: u64,
-    /// The key under which a connection was opened or found last, where the next look begins.
-    last: usize,
+    hints: Hints,
 }
 
 /// A core keeps its bytes in pools and buffers alone. A further field would not compile here: it
@@ -51,11 +51,11 @@ fn layout(connections: &Connections) {
         given,
         conns,
         held,
-        last,
+        hints,
     } = connections;
     let _: &Pool<Slot> = slots;
     let _: &Pool<Buffers> = spare;
-    let _: (u64, usize, u64, usize) = (*given, *conns, *held, *last);
+    let _: (u64, usize, u64, Hints) = (*given, *conns, *held, *hints);
 }
 
 impl Model for Connections {
@@ -211,12 +211,13 @@ fn make_spare(alloc: Global, conns: usize, meter: &mut Meter) -> Result<Pool<Buf
 /// It is inlined, since each caller knows what kind is wanted, and a call over TCP looks its connection up four times.
 #[tactic(auto, unfolding(crate::specs::Slots::wanted_slot))]
 #[inline(always)]
-fn wanted_key(slots: &Pool<Slot>, hint: usize, wanted: Wanted, meter: &mut Meter) -> Option<usize>
+fn wanted_key(slots: &Pool<Slot>, hints: &Hints, wanted: Wanted, meter: &mut Meter) -> Option<usize>
     requires tie { meter.old.tie ≡ slots.now.tie }
     requires numbers { HasDistinctNumbers (values_of slots.now.entries) }
     ensures key { result ≡ option_map (λ e. e.0) (wanted_slot wanted slots.now.entries) }
     ensures cost { PaysAtMost meter.old meter.new (2 * length slots.now.entries + 2) }
 {
+    let hint = hints.key(wanted);
     match slots.get(hint, meter) {
         Some(slot) if wanted.is_by_number() && slot.is_wanted(wanted) => Some(hint),
         _ => slots.find_key(|slot| slot.is_wanted(wanted), meter),
@@ -244,7 +245,7 @@ impl Connections {
     ghost use Rattle.rb_core.specs.Listings.{AreTold, KeepsTold, EvictsBefore, stamps_of, IsOldest};
     ghost use Rattle.rb_core.specs.Losses.{expiring};
     ghost use Rattle.rb_core.specs.Core.{given_in};
-    ghost use Rattle.rb_core.specs.Slots.{settling, Finds, TableActs, TableBecomes, TableGives, TableHears, TableLends, TableShows, TableTakes, HearsWhole, StaysTable, IsDraft, empty_table, feeding, HasBuffers};
+    ghost use Rattle.rb_core.specs.Slots.{settling, Finds, TableActs, TableBecomes, TableGives, TableHears, TableLends, TableShows, TakesWhole, KeepsWhole, HearsWhole, StaysTable, IsDraft, empty_table, feeding, HasBuffers};
     ghost use Rattle.rb_core.specs.Step.{pending_at};
     ghost use Rattle.rb_core.specs.CallCosts.{slot_count, look_cost, received_cost, taken_cost, list_cost, giving_cost};
     ghost use Rattle.rb_core.specs.Costs.{settle_cost, pending_cost, oldest_cost, evict_cost};
@@ -265,7 +266,7 @@ impl Connections {
             given: 0,
             conns,
             held: 0,
-            last: 0,
+            hints: Hints::new(),
         })
     }
 
@@ -297,7 +298,8 @@ impl Connections {
             buffer,
             window,
         };
-        self.last = put_slot(&mut self.slots, slot, meter);
+        let key = put_slot(&mut self.slots, slot, meter);
+        self.hints.note(self.given, key);
         Ok(self.given)
     }
 
@@ -311,7 +313,7 @@ impl Connections {
         ensures stays { StaysTable self.old self.new }
         ensures cost { PaysAtMost meter.old meter.new (look_cost self.old + 5) }
     {
-        let Some(key) = wanted_key(&self.slots, self.last, Wanted::Numbered(id), meter) else {
+        let Some(key) = wanted_key(&self.slots, &self.hints, Wanted::Numbered(id), meter) else {
             return Err(CoreFault::Gone);
         };
         let Some(slot) = self.slots.remove(key, meter) else {
@@ -323,10 +325,9 @@ impl Connections {
         Ok(())
     }
 
-    /// A record that is one fragment comes whole on the live connection of the number, where that is Idle and was opened or
-    /// found last: it says who sends it, and the connection is Idle until it is settled. `None` where it is not so, and
-    /// nothing changed.
-    pub fn hear(&mut self, id: u64, clock: u64, meter: &mut Meter) -> Option<Peer>
+    /// The connection of the number hears a record whole, where it is Idle and under its hint: it says who sends it, and stays
+    /// Idle until it is settled. `None` where it is not so, and nothing changed.
+    fn hear_at_hint(&mut self, id: u64, clock: u64, meter: &mut Meter) -> Option<Peer>
         requires { meter.old.tie ≡ self.old.tie }
         ensures hears { IfSome result (λ peer. HearsWhole id clock peer self.old self.new) }
         ensures from { IfSome result (λ peer. HeardFrom id clock self.old self.new) }
@@ -337,44 +338,35 @@ impl Connections {
         ensures as_many { length self.new.slots ≡ length self.old.slots }
         ensures cost { Pays meter.old meter.new 1 }
     {
-        let slot = self.slots.get_mut(self.last, meter)?;
+        let slot = self.slots.get_mut(self.hints.key(Wanted::Live(id)), meter)?;
         slot.hear_whole(id, clock)
     }
 
-    /// Takes a record that is one fragment and comes whole, where `hear` does: so come most of those that come together.
-    /// `None` where it is not so, and nothing changed.
-    fn take_whole(
+    /// Takes a record that is one fragment and comes whole on the live connection of the number, where that is Idle and under
+    /// its hint: so come most of those that come together. The connection is Idle until it is settled. `None` where it is not
+    /// so, and nothing changed.
+    pub fn hear<'a>(
         &mut self,
         id: u64,
-        piece: &[u8],
+        piece: &'a [u8],
         clock: u64,
-        arguments: &mut Kept,
         meter: &mut Meter,
-    ) -> Option<Received>
-        requires tie { meter.old.tie ≡ self.old.tie }
-        requires arguments { IsDraft meter.old.tie arguments.old }
-        ensures acts { IfSome result (TableTakes id clock piece.now self.old self.new) }
-        ensures arguments { IfSome result
-            (λ _. TableHears id piece.now self.old arguments.old arguments.new) }
+    ) -> Option<Whole<'a>>
+        requires { meter.old.tie ≡ self.old.tie }
+        ensures acts { IfSome result (λ whole. TakesWhole id clock piece.now whole self.old self.new) }
+        ensures arguments { IfSome result (λ whole. KeepsWhole id piece.now whole self.old) }
+        ensures from { IfSome result (λ whole. HeardFrom id clock self.old self.new) }
+        ensures within { IfSome result (λ whole. 4 + length whole.content.now ≤ length piece.now) }
+        ensures refused { IfNone result (self.new ≡ self.old) }
         ensures told { KeepsTold self.old self.new }
         ensures free { NoneIsFreed self.old self.new }
-        ensures from { IfSome result (λ got. HeardFrom id clock self.old self.new) }
-        ensures within { IfSome result (λ got. got.count ≤ length piece.now) }
-        ensures refused { IfNone result (self.new ≡ self.old) }
-        ensures kept { IfNone result (arguments.new ≡ arguments.old) }
         ensures stays { StaysTable self.old self.new }
-        ensures draft { IsDraft meter.old.tie arguments.new }
         ensures as_many { length self.new.slots ≡ length self.old.slots }
-        ensures cost { IfSome result (λ got. PaysAtMost meter.old meter.new (received_cost got)) }
-        ensures look { IfNone result (PaysAtMost meter.old meter.new 1) }
+        ensures cost { PaysAtMost meter.old meter.new 1 }
     {
         let content = one_fragment(piece)?;
-        let peer = self.hear(id, clock, meter)?;
-        let verdict = read_record(content, arguments, meter);
-        Some(Received {
-            count: FRAGMENT_HEADER + content.len(),
-            heard: Some(Heard { peer, verdict }),
-        })
+        let peer = self.hear_at_hint(id, clock, meter)?;
+        Some(Whole { peer, content })
     }
 
     /// Takes bytes that arrive on the live connection of the number, up to the end of a record, and says what the
@@ -400,43 +392,13 @@ impl Connections {
         ensures stays { StaysTable self.old self.new }
         ensures draft { IsDraft meter.old.tie arguments.new }
         ensures as_many { length self.new.slots ≡ length self.old.slots }
-        ensures cost { PaysAtMost meter.old meter.new (look_cost self.old + taken_cost result) }
-    {
-        match self.take_whole(id, piece, clock, arguments, meter) {
-            Some(received) => Ok(received),
-            None => self.take_piece(id, piece, clock, arguments, meter),
-        }
-    }
-
-    /// The same for any piece, whichever connection was found before.
-    fn take_piece(
-        &mut self,
-        id: u64,
-        piece: &[u8],
-        clock: u64,
-        arguments: &mut Kept,
-        meter: &mut Meter,
-    ) -> Result<Received, CoreFault>
-        requires tie { meter.old.tie ≡ self.old.tie }
-        requires arguments { IsDraft meter.old.tie arguments.old }
-        ensures acts { TableActs (on_live id (feeding clock piece.now)) self.old self.new result }
-        ensures arguments { TableHears id piece.now self.old arguments.old arguments.new }
-        ensures told { KeepsTold self.old self.new }
-        ensures free { NoneIsFreed self.old self.new }
-        ensures hears { HearsFree id clock self.old self.new result }
-        ensures within { IfOk result (λ got. got.count ≤ length piece.now) }
-        ensures refused { OnErr result (self.new ≡ self.old) }
-        ensures kept { OnErr result (arguments.new ≡ arguments.old) }
-        ensures stays { StaysTable self.old self.new }
-        ensures draft { IsDraft meter.old.tie arguments.new }
-        ensures as_many { length self.new.slots ≡ length self.old.slots }
         ensures cost { PaysAtMost meter.old meter.new
             (2 * slot_count self.old + 3 + taken_cost result) }
     {
-        let Some(key) = wanted_key(&self.slots, self.last, Wanted::Live(id), meter) else {
+        let Some(key) = wanted_key(&self.slots, &self.hints, Wanted::Live(id), meter) else {
             return Err(CoreFault::Gone);
         };
-        self.last = key;
+        self.hints.note(id, key);
         let Some(slot) = self.slots.get_mut(key, meter) else {
             unreachable!()
         };
@@ -468,11 +430,11 @@ impl Connections {
         ensures empty { reply.new.bytes ≡ [] }
         ensures cost { PaysAtMost meter.old meter.new (settle_cost (slot_count self.old)) }
     {
-        let Some(key) = wanted_key(&self.slots, self.last, Wanted::Live(id), meter) else {
+        let Some(key) = wanted_key(&self.slots, &self.hints, Wanted::Live(id), meter) else {
             reply.clear(meter);
             return;
         };
-        self.last = key;
+        self.hints.note(id, key);
         let Some(slot) = self.slots.get_mut(key, meter) else {
             unreachable!()
         };
@@ -508,10 +470,10 @@ impl Connections {
         ensures cost { PaysAtMost meter.old meter.new
             (list_cost (slot_count self.old) registry.now) }
     {
-        let Some(key) = wanted_key(&self.slots, self.last, Wanted::Live(id), meter) else {
+        let Some(key) = wanted_key(&self.slots, &self.hints, Wanted::Live(id), meter) else {
             return;
         };
-        self.last = key;
+        self.hints.note(id, key);
         let Some(slot) = self.slots.get_mut(key, meter) else {
             unreachable!()
         };
@@ -594,10 +556,10 @@ impl Connections {
         ensures cost { PaysAtMost meter.old meter.new
             (look_cost self.old + giving_cost registry.now) }
     {
-        let Some(key) = wanted_key(&self.slots, self.last, Wanted::Live(id), meter) else {
+        let Some(key) = wanted_key(&self.slots, &self.hints, Wanted::Live(id), meter) else {
             return Err(CoreFault::Gone);
         };
-        self.last = key;
+        self.hints.note(id, key);
         let Some(slot) = self.slots.get_mut(key, meter) else {
             unreachable!()
         };
@@ -641,7 +603,7 @@ impl Connections {
         ensures stays { StaysTable self.old self.new }
         ensures cost { PaysAtMost meter.old meter.new (look_cost self.old) }
     {
-        let Some(key) = wanted_key(&self.slots, self.last, Wanted::Due(clock), meter) else {
+        let Some(key) = wanted_key(&self.slots, &self.hints, Wanted::Due(clock), meter) else {
             return None;
         };
         let Some(slot) = self.slots.get_mut(key, meter) else {
@@ -667,7 +629,7 @@ impl Connections {
         ensures buffers { IfSome result (λ slot. HasBuffers self.now.tie slot.now) }
         ensures cost { PaysAtMost meter.old meter.new (look_cost self.now) }
     {
-        let Some(key) = wanted_key(&self.slots, self.last, wanted, meter) else {
+        let Some(key) = wanted_key(&self.slots, &self.hints, wanted, meter) else {
             return None;
         };
         match self.slots.get(key, meter) {

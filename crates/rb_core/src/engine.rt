@@ -3,15 +3,17 @@ ghost use Rattle.std.specs.Prelude.{◌≡◌, ◌≤◌, IsTrue};
 ghost use Rattle.rb_core.specs.State.{are_good};
 ghost use Rattle.rb_core.specs.Bounds.{bytes_bound};
 
+use crate::answer::answer;
 use crate::connections::{BUFFER_SIZE, Connections, LONGEST_FRAGMENT};
 use crate::message::{arguments_behind, message_with};
+use crate::reading::kept_arguments;
 use crate::rooms::make_room;
-use crate::serve::{LONGEST_REPLY, Served, give_at_once, put_end, serve};
-use crate::slot::{Heard, Received};
+use crate::serve::{LONGEST_REPLY, Served, put_end, serve};
+use crate::slot::{Heard, Received, Whole};
 use crate::types::{CoreFault, Exchanged, Expired, Limits, Outcome, Taken, Told};
 use rb_forward::{Ended, FwdId, Unsent};
 use rb_proto::{Books, Context, Listener};
-use rb_rpc::{Caller, Peer, read_call};
+use rb_rpc::{Caller, FRAGMENT_HEADER, Peer, read_call};
 use rb_xdr::{Kept, Meter};
 use std::alloc::Global;
 use std::marker::Model;
@@ -164,9 +166,9 @@ impl Core {
     ghost use Rattle.rb_core.specs.Bounds.{held, bytes_bound};
     ghost use Rattle.rb_core.specs.BoundLaws.{NeverPasses};
     ghost use Rattle.rb_core.specs.Events.{shown, OnlyBegins, BeginsAt, LendsFrom, TellsSteps, taken_by, lent_by, given_by, StaysWithinSteps};
-    ghost use Rattle.rb_core.specs.Slots.{Acts, Shows, Lends};
+    ghost use Rattle.rb_core.specs.Slots.{Acts, Shows, Lends, heard_in, kept_in};
     ghost use Rattle.rb_core.specs.StandsFor.{StandsFor};
-    ghost use Rattle.rb_core.specs.Core.{ActsWithReply, TellsCaller, context_of};
+    ghost use Rattle.rb_core.specs.Core.{ActsWithReply, TellsCaller, context_of, without_arguments};
     ghost use Rattle.rb_core.specs.AtOnce.{AnswersGiving, Exchanges, GivesAtOnce, count_given, count_now, exchange_cost, taken_in, whole_cost};
     ghost use Rattle.rb_core.specs.CallCosts.{answering_cost, datagram_cost, bytes_cost, gave_cost, closing_cost, lending_cost, ending_cost, IsCheapIfQuiet, look_cost, slot_count};
     ghost use Rattle.rb_core.specs.Costs.{tell_cost, pending_cost};
@@ -372,6 +374,15 @@ impl Core {
     {
         self.begun = meter.count();
         let clock = self.clock.max(now);
+        if let Some(whole) = self.connections.hear(id, piece, clock, meter) {
+            self.clock = clock;
+            let (closed, given) = self.answer_whole(id, whole, room, meter);
+            let count = FRAGMENT_HEADER + whole.content.len();
+            return Ok(Exchanged {
+                taken: Taken { count, closed },
+                given,
+            });
+        }
         let Received { count, heard } = self
             .connections
             .take(id, piece, clock, &mut self.arguments, meter)?;
@@ -383,25 +394,70 @@ impl Core {
                 given: 0,
             });
         };
-        let (closed, given) = self.answer(id, heard, room, meter);
+        let (closed, given) = self.answer_held(id, heard, room, meter);
         Ok(Exchanged {
             taken: Taken { count, closed },
             given,
         })
     }
 
-    /// Answers what a record on a connection says, whose arguments are held, and lets the connection go on. It says whether
-    /// it is Lost now, and how many bytes of the reply were given at once.
-    #[tactic(auto, unfolding(crate::specs::Calls::longest_reply, crate::specs::StandsFor::longest_arguments, crate::specs::StandsFor::buffer_size))]
-    fn answer(&mut self, id: u64, heard: Heard, room: &mut [u8], meter: &mut Meter) -> (bool, usize)
+    /// Answers a record that came whole on a connection, and lets the connection go on. It says whether that is Lost now, and
+    /// how many bytes of the reply were given at once.
+    fn answer_whole(
+        &mut self,
+        id: u64,
+        whole: Whole<'_>,
+        room: &mut [u8],
+        meter: &mut Meter,
+    ) -> (bool, usize)
         requires tie { meter.old.tie ≡ self.old.tie }
         requires idle { has_idle id self.old.connections ≡ true }
         requires settled { IsSettled id self.old.clock self.old.connections }
         requires caller { is_waiting id (slots_of self.old.books.forwards) ≡ false }
-        ensures acts { AnswersGiving
-            id heard self.old self.new result.0 (take result.1 room.new) }
+        ensures acts { AnswersGiving id (heard_in whole.entry) (kept_in whole.entry)
+            self.old self.new result.0 (take result.1 room.new) }
         ensures within { result.1 ≤ length room.new }
-        ensures count { GivesAtOnce (length room.old) id heard self.old result.1 }
+        ensures count { GivesAtOnce (length room.old) id (heard_in whole.entry)
+            (kept_in whole.entry) self.old result.1 }
+        ensures tie { self.new.tie ≡ self.old.tie }
+        ensures begun { self.new.begun ≡ self.old.begun }
+        ensures cost { PaysAtMost meter.old meter.new
+            (answering_cost self.old self.new + whole_cost (length room.old) result.1) }
+    {
+        let Whole { peer, content } = whole;
+        let verdict = read_call(content);
+        let arguments = kept_arguments(verdict, content);
+        let context = self.context(Caller::Tcp(id, peer));
+        answer(
+            &mut self.connections,
+            &mut self.books,
+            &mut self.draft,
+            &context,
+            id,
+            Heard { peer, verdict },
+            arguments,
+            room,
+            meter,
+        )
+    }
+
+    /// The same of a record of which this was heard, whose arguments are held. They are out after it.
+    fn answer_held(
+        &mut self,
+        id: u64,
+        heard: Heard,
+        room: &mut [u8],
+        meter: &mut Meter,
+    ) -> (bool, usize)
+        requires tie { meter.old.tie ≡ self.old.tie }
+        requires idle { has_idle id self.old.connections ≡ true }
+        requires settled { IsSettled id self.old.clock self.old.connections }
+        requires caller { is_waiting id (slots_of self.old.books.forwards) ≡ false }
+        ensures acts { AnswersGiving id heard self.old.arguments
+            (without_arguments self.old) self.new result.0 (take result.1 room.new) }
+        ensures within { result.1 ≤ length room.new }
+        ensures count { GivesAtOnce (length room.old) id heard self.old.arguments
+            (without_arguments self.old) result.1 }
         ensures tie { self.new.tie ≡ self.old.tie }
         ensures begun { self.new.begun ≡ self.old.begun }
         ensures cost { PaysAtMost meter.old meter.new
@@ -410,31 +466,19 @@ impl Core {
         let context = self.context(Caller::Tcp(id, heard.peer));
         let len = self.arguments.len(meter);
         let arguments = self.arguments.lend(0..len, meter);
-        let message = &message_with(heard.verdict, arguments);
-        make_room(
+        let done = answer(
             &mut self.connections,
             &mut self.books,
-            &context,
-            message,
-            meter,
-        );
-        let served = serve(
-            &mut self.books,
-            &context,
-            message,
-            arguments,
             &mut self.draft,
+            &context,
+            id,
+            heard,
+            arguments,
+            room,
             meter,
         );
         self.arguments.clear(meter);
-        let (left, given) = give_at_once(served, &mut self.draft, room, meter);
-        let host = self.listener.host;
-        let registry = &self.books.registry;
-        let draft = &mut self.draft;
-        let closed = self
-            .connections
-            .go_on(id, left, self.clock, host, registry, draft, meter);
-        (closed, given)
+        done
     }
 
     /// How many bytes are pending on a connection. `Gone` where there is no such connection, or it is Lost.

@@ -2,11 +2,13 @@
 //! `Core::exchange` alone is up to three in one: bytes that arrive, and a short reply that is pending and given.
 #![tactic(auto)]
 
+mod answer;
 mod connections;
 mod deadlines;
 mod engine;
 mod events;
 mod giving;
+mod hints;
 mod laws;
 mod message;
 mod reading;

@@ -4,13 +4,13 @@ ghost use Rattle.rb_xdr.specs.Meter.{Pays, PaysAtMost};
 ghost use Rattle.rb_rpc.specs.Marks.{StandsForFed};
 ghost use Rattle.rb_rpc.specs.Streams.{RecordEnds, ArePart, StandsForMore};
 ghost use Rattle.rb_feed.specs.Feeds.{StandsForCall};
-ghost use Rattle.rb_core.specs.StandsFor.{IsHeld, buffer_size, kept_of};
-ghost use Rattle.rb_rpc.specs.Verdict.{verdict};
+ghost use Rattle.rb_core.specs.StandsFor.{IsHeld, kept_of};
+ghost use Rattle.rb_rpc.specs.Verdict.{verdict as verdict_of, EndsWithin};
 ghost use Rattle.rb_core.specs.Reading.{HasData, HasMore, KeepsMore, TakesData, TellsOfPiece, ReadsPiece, KeptSaysTheRecord};
 
 use crate::message::arguments_behind;
 use rb_feed::CallFeed;
-use rb_rpc::{Marks, Part, Verdict, read_call};
+use rb_rpc::{Marks, Part, Verdict};
 use rb_xdr::{Kept, Meter};
 
 /// The greatest length of arguments that are served.
@@ -196,25 +196,15 @@ impl Reader {
     }
 }
 
-/// The verdict on a record that came whole, by its data, of which the first 8,816 bytes of its call's arguments are kept
-/// and nothing else.
+/// What is kept of a record that came whole, on whose data this is the verdict: the first 8,816 bytes of its call's arguments.
 #[tactic(auto, unfolding(crate::specs::StandsFor::longest_arguments))]
-pub fn read_record(content: &[u8], kept: &mut Kept, meter: &mut Meter) -> Verdict
-    requires tie { meter.old.tie ≡ kept.old.tie }
-    requires cap { kept.old.cap ≡ buffer_size }
-    ensures verdict { result ≡ verdict content.now }
-    ensures kept { kept.new ≡ record kept.old { bytes = kept_of content.now } }
-    ensures cost { PaysAtMost meter.old meter.new (1 + length content.now) }
+pub fn kept_arguments(verdict: Verdict, content: &[u8]) -> &[u8]
+    requires verdict { verdict ≡ verdict_of content.now }
+    requires within { EndsWithin verdict (length content.now) }
+    ensures { result.now ≡ kept_of content.now }
 {
-    let verdict = read_call(content);
-    kept.clear(meter);
-    let _ = keep(
-        kept,
-        LONGEST_ARGUMENTS,
-        arguments_behind(verdict, content),
-        meter,
-    );
-    verdict
+    let arguments = arguments_behind(verdict, content);
+    &arguments[..LONGEST_ARGUMENTS.min(arguments.len())]
 }
 
 /// The verdict on a record and the first 8,816 bytes behind the head of its call decide what it says.

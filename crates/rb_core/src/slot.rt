@@ -4,11 +4,11 @@ ghost use Rattle.rb_xdr.specs.Meter.{Pays, PaysAtMost};
 
 use crate::deadlines::time_in;
 use crate::giving::{Stream, advance, begin, pending, pending_len, show_list};
-use crate::reading::{Fed, Reader, read_record};
+use crate::reading::{Fed, Reader};
 use crate::types::Outcome;
 use rb_proto::ListReply;
 use rb_registry::Registry;
-use rb_rpc::{FRAGMENT_HEADER, Peer, Verdict, one_fragment};
+use rb_rpc::{Peer, Verdict};
 use rb_xdr::{Kept, Meter, NoMemory};
 use std::alloc::Global;
 use std::mem;
@@ -70,6 +70,13 @@ pub struct Heard {
 pub struct Received {
     pub count: usize,
     pub heard: Option<Heard>,
+}
+
+/// A record that is one fragment and came whole: who sent it, and its data.
+#[derive(Clone, Copy, Debug, PartialEq, Eq)]
+pub struct Whole<'a> {
+    pub peer: Peer,
+    pub content: &'a [u8],
 }
 
 /// What is kept of a connection.
@@ -158,7 +165,7 @@ impl Slot {
     ghost use Rattle.rb_core.specs.Listings.{slot_began, IsNoList, IsToldSlot, KeepsToldSlot};
     ghost use Rattle.rb_core.specs.Giving.{IsToldBy, GoesOnBy};
     ghost use Rattle.rb_core.specs.Serving.{SlotBeginsList};
-    ghost use Rattle.rb_core.specs.Awaits.{is_awaiting_stage, HearsSlot};
+    ghost use Rattle.rb_core.specs.Awaits.{is_awaiting_stage, sender_on, HearsSlot};
     ghost use Rattle.rb_core.specs.Core.{given_in};
     ghost use Rattle.rb_core.specs.CallCosts.{received_cost, give_cost, show_list_cost};
     ghost use Rattle.rb_core.specs.Costs.{show_cost, pending_cost};
@@ -243,22 +250,6 @@ impl Slot {
         }
     }
 
-    /// Takes a record whole that is one fragment with this data, whose arguments go into this buffer.
-    fn hear(&self, content: &[u8], arguments: &mut Kept, meter: &mut Meter) -> Received
-        requires arguments { IsDraft meter.old.tie arguments.old }
-        ensures received { result ≡ heard_whole self.now.peer content.now }
-        ensures arguments { arguments.new.bytes ≡ kept_of content.now }
-        ensures draft { IsDraft meter.old.tie arguments.new }
-        ensures cost { PaysAtMost meter.old meter.new (1 + length content.now) }
-    {
-        let peer = self.peer;
-        let verdict = read_record(content, arguments, meter);
-        Received {
-            count: FRAGMENT_HEADER + content.len(),
-            heard: Some(Heard { peer, verdict }),
-        }
-    }
-
     /// Goes on as a record comes whole at this moment, where it is the connection of the number and Idle, and says who sends
     /// it: it stays Idle, until it is settled. `None` where it is not so, and nothing changed.
     pub fn hear_whole(&mut self, id: u64, clock: u64) -> Option<Peer>
@@ -267,6 +258,7 @@ impl Slot {
         ensures mark { IfSome result (λ peer. self.new.mark ≡ clock) }
         ensures kept { self.new ≡ record self.old { mark = self.new.mark } }
         ensures peer { IfSome result (λ peer. peer ≡ self.old.peer) }
+        ensures sender { result ≡ sender_on id self.old }
         ensures stays { IfNone result (self.new ≡ self.old) }
     {
         if self.number != id || !matches!(self.stage, Stage::Idle) {
@@ -304,10 +296,7 @@ impl Slot {
         match self.stage {
             Stage::Idle => {
                 self.mark = clock;
-                match one_fragment(piece) {
-                    Some(content) => self.hear(content, arguments, meter),
-                    None => self.feed(Reader::new(), piece, clock, arguments, meter),
-                }
+                self.feed(Reader::new(), piece, clock, arguments, meter)
             }
             Stage::Reading(reader) => self.feed(reader, piece, clock, arguments, meter),
             Stage::Owing(_) | Stage::Streaming(_) | Stage::Awaiting | Stage::Lost => nothing(),

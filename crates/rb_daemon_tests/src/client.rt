@@ -56,23 +56,30 @@ impl Client {
     pub(crate) fn await_end(&mut self, host: &mut Host<'_>) {
         for _ in 0..TURNS {
             host.turn();
-            self.is_closed = self.discard();
+            let _ = self.discard();
             if self.is_closed {
                 break;
             }
         }
     }
 
-    /// Reads what has come, and says whether the end is behind it.
-    fn discard(&mut self) -> bool {
+    /// Reads what has come, and says how many bytes that is.
+    pub(crate) fn discard(&mut self) -> usize {
+        let mut count = 0usize;
         for _ in 0..READS {
             match self.stream.read(&mut self.got) {
-                Ok(0) => return true,
-                Ok(_) => {}
-                Err(error) => return error.kind() != ErrorKind::WouldBlock,
+                Ok(0) => {
+                    self.is_closed = true;
+                    break;
+                }
+                Ok(n) => count = count.saturating_add(n),
+                Err(error) => {
+                    self.is_closed = error.kind() != ErrorKind::WouldBlock;
+                    break;
+                }
             }
         }
-        false
+        count
     }
 
     /// Takes a turn, after which nothing has come.

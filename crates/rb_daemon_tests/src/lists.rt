@@ -58,6 +58,32 @@ fn list_of_full_fragments(rt: HostRuntime) -> Result<(), Fail> {
     Ok(())
 }
 
+/// A turn writes at most so many bytes to one connection: enough, 64 times 9,252, and what the last write is more.
+const MOST_OF_A_TURN: usize = 592_128 + 65_792;
+
+/// All 300 rows are there, so a list has more than 10,000 bytes, and a client asks for 400. It is left when it has got enough for a
+/// turn, and is served on in the next.
+fn leaves_a_greedy_client(rt: &HostRuntime, host: &mut Host<'_>) -> Option<bool> {
+    let are_set = sets_rows(rt, host, 294)?;
+    let mut reader = Client::new(rt)?;
+    host.turn();
+    let is_sent = reader.send(&dumps(rt.alloc(), 400)?);
+    host.turn();
+    let first = reader.discard();
+    host.turn();
+    let second = reader.discard();
+    let is_left = 0 < first && first <= MOST_OF_A_TURN && 0 < second;
+    Some(are_set && is_sent && is_left && host.is_well())
+}
+
+#[test]
+fn greedy_client_is_left(rt: HostRuntime) -> Result<(), Fail> {
+    let clock = Stopped::new(&rt);
+    let mut host = Host::new(&clock, 1).ok_or("no daemon")?;
+    assert_eq!(rt; leaves_a_greedy_client(&rt, &mut host), Some(true));
+    Ok(())
+}
+
 /// In one turn the first program is removed, and another is set.
 fn replaces_a_row(rt: &HostRuntime, host: &mut Host<'_>) -> Option<bool> {
     let unset = [1, 0, 2, 100_000, 2, 2, 0, 0, 0, 0, 300_000, 1, 0, 0];

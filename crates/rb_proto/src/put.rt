@@ -116,7 +116,9 @@ fn put_rows(
     Ok(())
 }
 
-/// Puts the statistics: all or nothing.
+/// Puts the statistics: all or nothing. It takes most of the stack that writing results does, so it is not inlined: each
+/// other reply does without.
+#[inline(never)]
 fn put_statistics(
     stats: &Stats,
     limit: usize,

@@ -13,7 +13,7 @@ use Rattle.rb_core.proofs.Slots.{acts_from, none_closed, one_closed, slot_is_the
 use Rattle.rb_xdr.proofs.PoolLemmas.{distinct-without, length-without}
 use Rattle.rb_core.proofs.Freed.{none_freed_by_close, freed_from}
 use Rattle.rb_core.proofs.Telling.{keeps_less}
-use Rattle.rb_core.proofs.Hints.{distinct_numbers}
+use Rattle.rb_core.proofs.ByHint.{distinct_numbers}
 use Rattle.rb_core.proofs.connections.Connections.close.Goals as goal
 
 pub wanted_key-requires-clause-numbers : goal.wanted_key-requires-clause-numbers

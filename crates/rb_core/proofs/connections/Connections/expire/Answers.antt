@@ -12,7 +12,7 @@ use Rattle.rb_core.proofs.Freed.{none_freed}
 use Rattle.rb_core.proofs.Expiring.{none_expires, one_expires, due-free}
 use Rattle.rb_core.proofs.Telling.{keeps_changed}
 use Rattle.std.specs.Map.{values_of}
-use Rattle.rb_core.proofs.Hints.{distinct_numbers}
+use Rattle.rb_core.proofs.ByHint.{distinct_numbers}
 use Rattle.rb_core.proofs.connections.Connections.expire.Goals as goal
 
 pub wanted_key-requires-clause-numbers : goal.wanted_key-requires-clause-numbers

@@ -4,7 +4,7 @@ use Rattle.rb_core.specs.Slots.{HasBuffers}
 use Rattle.rb_xdr.proofs.PoolLemmas.{All-value_at}
 use Rattle.rb_core.proofs.Slots.{found_slot, no_slot, slot_is_there}
 use Rattle.std.specs.Map.{values_of}
-use Rattle.rb_core.proofs.Hints.{distinct_numbers}
+use Rattle.rb_core.proofs.ByHint.{distinct_numbers}
 use Rattle.rb_core.proofs.connections.Connections.first.Goals as goal
 
 pub wanted_key-requires-clause-numbers : goal.wanted_key-requires-clause-numbers

@@ -13,7 +13,7 @@ use Rattle.rb_core.proofs.Freed.{none_freed, freed_from}
 use Rattle.rb_core.specs.Listings.{IsToldSlot, AreTold}
 use Rattle.rb_core.proofs.Telling.{told_changed}
 use Rattle.std.specs.Map.{values_of}
-use Rattle.rb_core.proofs.Hints.{distinct_numbers}
+use Rattle.rb_core.proofs.ByHint.{distinct_numbers}
 use Rattle.rb_core.proofs.connections.Connections.give.Goals as goal
 
 pub wanted_key-requires-clause-numbers : goal.wanted_key-requires-clause-numbers

@@ -12,7 +12,7 @@ use Rattle.rb_core.proofs.Slots.{gone_stays, live_changed, slot_is_there, table_
 use Rattle.rb_core.proofs.Freed.{found_live, one_freed, only_from}
 use Rattle.rb_core.proofs.Telling.{told_changed}
 use Rattle.std.specs.Map.{values_of}
-use Rattle.rb_core.proofs.Hints.{distinct_numbers}
+use Rattle.rb_core.proofs.ByHint.{distinct_numbers}
 use Rattle.rb_core.proofs.connections.Connections.list.Goals as goal
 
 pub wanted_key-requires-clause-numbers : goal.wanted_key-requires-clause-numbers

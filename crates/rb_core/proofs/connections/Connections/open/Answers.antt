@@ -28,26 +28,26 @@ overflow_add-self-2 c = let room = room_for_one c.self.inside.slots c.self.insid
 
 pub invariant_of-self : goal.invariant_of-self
 invariant_of-self c = record {
-  distinct = c.put_slot-self-inside.ensures.distinct;
+  distinct = c.put_slot-key.ensures.distinct;
   spare_distinct = c.take_buffers-buffer.ensures.distinct;
-  room = omega (arith, c.put_slot-self-inside.ensures.more, c.take_buffers-buffer.ensures.fewer, c.self.invariant.room);
-  cap = c.put_slot-self-inside.ensures.cap ∙ c.self.invariant.cap;
+  room = omega (arith, c.put_slot-key.ensures.more, c.take_buffers-buffer.ensures.fewer, c.self.invariant.room);
+  cap = c.put_slot-key.ensures.cap ∙ c.self.invariant.cap;
   spare_cap = c.take_buffers-buffer.ensures.cap ∙ c.self.invariant.spare_cap;
-  tie = c.take_buffers-buffer.ensures.tie ∙ c.self.invariant.tie ∙ sym c.put_slot-self-inside.ensures.tie;
+  tie = c.take_buffers-buffer.ensures.tie ∙ c.self.invariant.tie ∙ sym c.put_slot-key.ensures.tie;
   buffers =
-      subst (λ t. All (HasBuffers t) (values_of c.put_slot-self-inside.new.slots.entries)) (sym c.put_slot-self-inside.ensures.tie)
-      (rw c.put_slot-self-inside.ensures.last (All-push (HasBuffers c.self.inside.slots.tie) (values_of c.self.inside.slots.entries) _ c.self.invariant.buffers
+      subst (λ t. All (HasBuffers t) (values_of c.put_slot-key.new.slots.entries)) (sym c.put_slot-key.ensures.tie)
+      (rw c.put_slot-key.ensures.last (All-push (HasBuffers c.self.inside.slots.tie) (values_of c.self.inside.slots.entries) _ c.self.invariant.buffers
       (subst (λ t. AreBuffers t c.take_buffers-buffer.result.buffer c.take_buffers-buffer.result.window) c.self.invariant.tie c.take_buffers-buffer.ensures.made.buffers)));
   spare_buffers =
-      subst (λ t. All (AreSpare t) (values_of c.take_buffers-buffer.new.spare.entries)) (c.self.invariant.tie ∙ sym c.put_slot-self-inside.ensures.tie)
+      subst (λ t. All (AreSpare t) (values_of c.take_buffers-buffer.new.spare.entries)) (c.self.invariant.tie ∙ sym c.put_slot-key.ensures.tie)
       c.take_buffers-buffer.ensures.buffers;
-  numbers = rw c.put_slot-self-inside.ensures.last (numbered-more c.self.inside.given (values_of c.self.inside.slots.entries) _ c.self.invariant.numbers refl);
+  numbers = rw c.put_slot-key.ensures.last (numbered-more c.self.inside.given (values_of c.self.inside.slots.entries) _ c.self.invariant.numbers refl);
   few = c.self.invariant.few;
   within =
-      rw c.put_slot-self-inside.ensures.last
+      rw c.put_slot-key.ensures.last
       (within_pushed (values_of c.self.inside.slots.entries) _ c.take_buffers-buffer.ensures.made.buffer_empty c.take_buffers-buffer.ensures.made.window_empty c.self.invariant.within);
   is_held =
-      rw c.put_slot-self-inside.ensures.last
+      rw c.put_slot-key.ensures.last
       (held_pushed (values_of c.self.inside.slots.entries) _ c.take_buffers-buffer.ensures.made.buffer_empty c.take_buffers-buffer.ensures.made.window_empty c.self.inside.held c.self.invariant.is_held);
 }
 
@@ -55,9 +55,9 @@ pub returns-clause-stays : goal.returns-clause-stays
 returns-clause-stays c =
     rw (← c.self.view_is) (record {
       conns = refl;
-      tie = c.put_slot-self-inside.ensures.tie;
+      tie = c.put_slot-key.ensures.tie;
       within = λ within.
-          rw c.put_slot-self-inside.ensures.last
+          rw c.put_slot-key.ensures.last
           (within_pushed (values_of c.self.inside.slots.entries) _ c.take_buffers-buffer.ensures.made.buffer_empty c.take_buffers-buffer.ensures.made.window_empty within);
     })
 
@@ -65,7 +65,7 @@ pub returns-clause-acts : goal.returns-clause-acts
 returns-clause-acts c = λ source.
     let conns = ap (λ t. t.conns) c.self.view_is in
     acts_from source (opening_of c.args.self.now.conns c.args.peer c.args.clock) (the_view c.self.inside) c.args.self.now _ _ c.self.view_is
-    (opened_acts source c.args.self.now.conns c.args.peer c.args.clock (the_view c.self.inside) _ _ (omega (arith, conns, c.len.ensures.len, c.if-len-self.false)) (omega (arith, c.if-self.false)) c.put_slot-self-inside.ensures.last refl
+    (opened_acts source c.args.self.now.conns c.args.peer c.args.clock (the_view c.self.inside) _ _ (omega (arith, conns, c.len.ensures.len, c.if-len-self.false)) (omega (arith, c.if-self.false)) c.put_slot-key.ensures.last refl
     (record {
       number = refl;
       peer = refl;
@@ -81,7 +81,7 @@ returns-then-self-clause-free c = λ id none. none
 
 pub returns-clause-free : goal.returns-clause-free
 returns-clause-free c =
-    freed_from (the_view c.self.inside) c.args.self.now _ c.self.view_is (none_freed_by_open (the_view c.self.inside) _ _ c.put_slot-self-inside.ensures.last refl refl)
+    freed_from (the_view c.self.inside) c.args.self.now _ c.self.view_is (none_freed_by_open (the_view c.self.inside) _ _ c.put_slot-key.ensures.last refl refl)
 
 pub returns-then-len-self-clause-told : goal.returns-then-len-self-clause-told
 returns-then-len-self-clause-told c = λ source told. told
@@ -91,4 +91,4 @@ returns-then-self-clause-told c = λ source told. told
 
 pub returns-clause-told : goal.returns-clause-told
 returns-clause-told c =
-    keeps_more (the_view c.self.inside) c.args.self.now c.self.view_is _ c.put_slot-self-inside.new.slots.entries c.put_slot-self-inside.ensures.last (λ source. tt)
+    keeps_more (the_view c.self.inside) c.args.self.now c.self.view_is _ c.put_slot-key.new.slots.entries c.put_slot-key.ensures.last (λ source. tt)

@@ -13,7 +13,7 @@ use Rattle.rb_core.specs.Awaits.{has_idle}
 use Rattle.rb_core.proofs.Freed.{found_live, none_idle, one_freed, now_awaits, only_from}
 use Rattle.rb_core.proofs.Telling.{keeps_changed, no_list_told}
 use Rattle.std.specs.Map.{values_of}
-use Rattle.rb_core.proofs.Hints.{distinct_numbers}
+use Rattle.rb_core.proofs.ByHint.{distinct_numbers}
 use Rattle.rb_core.proofs.connections.Connections.settle.Goals as goal
 
 pub wanted_key-requires-clause-numbers : goal.wanted_key-requires-clause-numbers

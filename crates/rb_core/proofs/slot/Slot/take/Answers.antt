@@ -6,11 +6,9 @@ use Rattle.rb_core.specs.declared.slot.Stage.TheVariants as stages
 use Rattle.rb_core.specs.State.{Phase}
 use Rattle.rb_core.specs.Connections.{taking, taking_on, fed_in}
 use Rattle.rb_core.specs.Connections.Taking.{TakesNone}
-use Rattle.rb_rpc.specs.Records.{BeginsWithRecord}
 use Rattle.rb_core.specs.declared.giving.Stream.{Stream}
 use Rattle.rb_core.specs.StandsFor.{Source, StandsForPhase}
 use Rattle.rb_core.specs.Slots.{IsBeforePiece}
-use Rattle.rb_core.proofs.Settled.{hears_whole, keeps_whole}
 use Rattle.rb_core.proofs.Slots.{reads_nothing}
 use Rattle.rb_core.proofs.OneSlot.{idle_phase, reading_phase, owing_phase, streaming_phase, awaiting_phase, lost_phase, feeding_acts, taken_arguments, nothing_of_nothing, nothing_where_owing, nothing_where_awaiting, nothing_where_lost, some_where_fed, mark_of_idle, mark_of_reading}
 use Rattle.rb_core.proofs.slot.Slot.take.Goals as goal
@@ -33,14 +31,8 @@ returns-then-is_empty-clause-acts c =
       stands = h;
     })
 
-pub returns-in-Some-clause-acts : goal.returns-in-Some-clause-acts
-returns-in-Some-clause-acts c =
-    let content : List ℕ = c.in-Some.content.now in
-    let begins : BeginsWithRecord content c.args.piece.now = rw c.in-Some.is at c.one_fragment.ensures.content in
-    λ source. rw c.hear.ensures.received (hears_whole source c.args.self.now c.args.piece.now content c.in-Idle.is begins c.args.clock)
-
-pub returns-in-None-clause-acts : goal.returns-in-None-clause-acts
-returns-in-None-clause-acts c =
+pub returns-in-Idle-clause-acts : goal.returns-in-Idle-clause-acts
+returns-in-Idle-clause-acts c =
     let piece = c.args.piece.now in
     let some = some_bytes piece (sym c.is_empty.ensures ∙ c.if-is_empty.false) in
     λ source. feeding_acts source c.args.self.now _ c.args.clock piece _ (λ x h.
@@ -94,14 +86,8 @@ returns-then-is_empty-clause-arguments c = λ source x h.
     let nothing = no_bytes piece (sym c.is_empty.ensures ∙ c.if-is_empty.true) in
     taken_arguments _ _ piece x TakesNone (rw nothing (nothing_of_nothing x.phase)) refl
 
-pub returns-in-Some-clause-arguments : goal.returns-in-Some-clause-arguments
-returns-in-Some-clause-arguments c =
-    let content : List ℕ = c.in-Some.content.now in
-    let begins : BeginsWithRecord content c.args.piece.now = rw c.in-Some.is at c.one_fragment.ensures.content in
-    λ source. rw c.hear.ensures.arguments (keeps_whole source c.args.self.now c.args.piece.now content c.in-Idle.is begins c.args.arguments.now.bytes)
-
-pub returns-in-None-clause-arguments : goal.returns-in-None-clause-arguments
-returns-in-None-clause-arguments c = λ source x h.
+pub returns-in-Idle-clause-arguments : goal.returns-in-Idle-clause-arguments
+returns-in-Idle-clause-arguments c = λ source x h.
     let piece = c.args.piece.now in
     let some = some_bytes piece (sym c.is_empty.ensures ∙ c.if-is_empty.false) in
     let p = idle_phase source _ _ _ x.phase c.in-Idle.is h.phase in
