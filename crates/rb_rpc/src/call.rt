@@ -80,7 +80,8 @@ fn sys_uid(bytes: &[u8]) -> Option<u32>
     uid_of(&bytes[body..body + body_length(bytes, CREDENTIAL)]).ok()
 }
 
-/// What the words and the credential say.
+/// What the words and the credential say. It is inlined, so that the words go into the verdict one by one.
+#[inline(always)]
 fn head_of(bytes: &[u8]) -> CallHead
     requires header { 32 ≤ length bytes.now }
     requires whole { auth_end 24 bytes.now ≤ length bytes.now }
