@@ -8,8 +8,7 @@ use Rattle.std.proofs.lemmas.List.{take_all, length-take}
 use Rattle.rb_xdr.specs.Kept.{Kept}
 use Rattle.rb_rpc.specs.Records.{fragment_size, marked}
 use Rattle.rb_rpc.specs.declared.peer.Peer.{Peer}
-use Rattle.rb_rpc.specs.declared.peer.Caller.{Caller}
-use Rattle.rb_rpc.specs.declared.peer.Caller.TheVariants.{Tcp, Udp}
+use Rattle.rb_rpc.specs.declared.peer.Caller.TheVariants.{Tcp}
 use Rattle.rb_proto.specs.declared.books.Books.{Books}
 use Rattle.rb_forward.specs.StandsFor.{Table as Entries}
 use Rattle.rb_core.specs.declared.serve.Served.{Served as CodeServed}
@@ -32,7 +31,7 @@ use Rattle.rb_core.specs.Slots.{Acts, Shows, StaysTable, is_idle_stage, feeding,
 use Rattle.rb_core.specs.Awaits.{is_idle_slot, has_idle, StayUnlessForwarded}
 use Rattle.rb_core.specs.Listings.{source_in}
 use Rattle.rb_core.specs.Losses.{evicting}
-use Rattle.rb_core.specs.Serving.{served_in, kind_in, HasList}
+use Rattle.rb_core.specs.Serving.{served_in, kind_in}
 use Rattle.rb_core.specs.Core.{context_of, answering_heard}
 use Rattle.rb_core.specs.Step.{settled_in, serve_message, bytes, pending, pending_at, pending_on, gave, with_count}
 use Rattle.rb_core.specs.AtOnce.{pending_bytes, at_once_in, at_once_on, at_once, owes, whole_length, count_at_once, given_when_answered, front, without_front, then_giving, exchanging, answered_giving, IsLeft, whole_cost}
@@ -127,17 +126,6 @@ leaves source served left before after given is = record {
     all_left : given ≡ [] → served_in source left after.bytes ≡ served_in source served before.bytes
     all_left none = let same = is.all none in rw (same.0, same.1) refl
 
--- A list that is streamed is left.
-pub list_left : (caller : Caller) (source : Source) (served left : CodeServed) (before after : Kept) (given : List ℕ) → IsLeft served left before after given → HasList caller source served → HasList caller source left
-list_left caller source served left before after given is has = elim (none_or_some given) [
-  | inl none ↦ subst (λ (x : CodeServed). HasList caller source x) (sym (is.all none).0) has
-  | inr some ↦ subst (λ (x : CodeServed). HasList caller source x) (sym (is.is_over some)) (no_list caller)
-]
-  where
-    no_list : (caller : Caller) → HasList caller source (Told outcomes.Silent)
-    no_list (Tcp id peer) = tt
-    no_list (Udp peer) = tt
-
 -- No entry is new where none was.
 pub quiet_left : (old new : Entries) (served left : CodeServed) (before after : Kept) (given : List ℕ) → IsLeft served left before after given → StayUnlessForwarded (kind_in served) old new → StayUnlessForwarded (kind_in left) old new
 quiet_left old new served left before after given is quiet = elim (none_or_some given) [
@@ -193,7 +181,7 @@ counts_served room source (Told outcomes.NoCall) reply = refl
 counts_served room source (Told outcomes.Reply) reply = sym (marked_fits room reply)
 counts_served room source (Told outcomes.Forwarded) reply = refl
 counts_served room source (Told outcomes.Silent) reply = refl
-counts_served room source (Listed list) reply = refl
+counts_served room source (Listed xid listing) reply = refl
 
 keeps_live : (id clock : ℕ) (given : Outcome) → is_lost (phase_after given) ≡ false → IsFeeding id (settled clock given)
 unfolding is_live settled

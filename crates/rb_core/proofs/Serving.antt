@@ -16,15 +16,17 @@ use Rattle.rb_rpc.specs.declared.peer.Caller.TheVariants.{Tcp, Udp}
 use Rattle.rb_rpc.specs.declared.reply.ReplyStatus.TheVariants.{Success}
 use Rattle.rb_rpc.specs.Replies.{reply_head}
 use Rattle.rb_registry.specs.declared.row.Row.{Row}
-use Rattle.rb_registry.specs.Registry.{rows_of}
+use Rattle.rb_registry.specs.Registry.{Registry, rows_of}
+use Rattle.rb_proto.specs.declared.answers.Listing.{Listing}
 use Rattle.rb_proto.specs.declared.answers.Results.{Results}
 use Rattle.rb_proto.specs.declared.answers.Results.TheVariants as results
 use Rattle.rb_proto.specs.declared.list_reply.ListReply.{ListReply}
-use Rattle.rb_proto.specs.ListReplies.{rest_of}
-use Rattle.rb_proto.specs.ListParts.{list_reply}
+use Rattle.rb_proto.specs.ListParts.{list_reply, ListsRows, IsTold}
 use Rattle.rb_core.specs.declared.serve.Served.TheVariants.{Listed}
+use Rattle.rb_core.specs.StandsFor.{source_for}
+use Rattle.rb_core.specs.Giving.{IsToldBy}
 use Rattle.rb_core.specs.Listings.{source_in}
-use Rattle.rb_core.specs.Serving.{list_outcome, HasList, IsListFor}
+use Rattle.rb_core.specs.Serving.{list_outcome, listing_outcome, IsStreamedTo, streamed}
 use Rattle.rb_core.proofs.Replies.{some_head}
 use Rattle.rb_core.specs.declared.message.Message.TheVariants as says
 use Rattle.rb_core.specs.Calls.{Outcome, told_as, told_results, reply_with, outcome}
@@ -62,23 +64,28 @@ quiet_as answers.Silent old new same = same
 
 -- ---- lists
 
-pub listed : (caller : Caller) (given : Results) (xid : ℕ) (books : Books) (host : List ℕ) (list : ListReply) (l : Ledger) → IsListFor caller given xid books.registry (Some list) → StandsForLedger books l
-    → list_outcome (source_in host books) list ≡ told_results caller (length l.changes) xid (result_bytes host (shown_of l) given) given
+pub listed : (caller : Caller) (given : Results) (xid : ℕ) (books : Books) (host : List ℕ) (listing : Listing) (l : Ledger) → Some listing ≡ streamed caller given → StandsForLedger books l
+    → listing_outcome (source_in host books) xid listing ≡ told_results caller (length l.changes) xid (result_bytes host (shown_of l) given) given
 unfolding result_bytes
-listed (Udp peer) given xid books host list l none h = absurd cc
-listed (Tcp id peer) (results.Rows listing) xid books host list l is h =
-    let rows : rest_of host books.registry list ≡ list_reply host xid (rows_in l) listing = is.rest host ∙ ap (λ (rows : List Row). list_reply host xid rows listing) h.registry.rows in
-    let stamp : list.stamp ≡ length l.changes = is.stamp ∙ h.registry.stamp in
-    rw (rows, stamp) refl
-listed (Tcp id peer) (results.Value value) xid books host list l none h = absurd cc
-listed (Tcp id peer) results.Statistics xid books host list l none h = absurd cc
+listed (Udp peer) given xid books host listing l e h = absurd cc
+listed (Tcp id peer) (results.Rows rows) xid books host listing l e h =
+    let same : listing ≡ rows = cc in
+    let live : list_reply host xid (rows_of books.registry) listing ≡ list_reply host xid (rows_in l) listing = ap (λ (rows : List Row). list_reply host xid rows listing) h.registry.rows in
+    rw (live, h.registry.stamp, same) refl
+listed (Tcp id peer) (results.Value value) xid books host listing l e h = absurd cc
+listed (Tcp id peer) results.Statistics xid books host listing l e h = absurd cc
 
-pub list_is_told : (caller : Caller) (given : Results) (xid : ℕ) (books : Books) (host : List ℕ) (list : ListReply) → IsListFor caller given xid books.registry (Some list)
-    → HasList caller (source_in host books) (Listed list)
-list_is_told (Udp peer) given xid books host list none = absurd cc
-list_is_told (Tcp id peer) (results.Rows listing) xid books host list is =
-    let some = some_head xid Success in
-    let whole = length-append (reply_head xid Success) (list_bytes host (rows_of books.registry) listing) in
-    record { told = is.told; some = omega (arith, some, whole, ap (λ (xs : List ℕ). length xs) (is.rest host)) }
-list_is_told (Tcp id peer) (results.Value value) xid books host list none = absurd cc
-list_is_told (Tcp id peer) results.Statistics xid books host list none = absurd cc
+pub streamed_to : (caller : Caller) (given : Results) (xid : ℕ) (listing : Listing) → Some listing ≡ streamed caller given → IsStreamedTo caller (Listed xid listing)
+streamed_to (Udp peer) given xid listing e = absurd cc
+streamed_to (Tcp id peer) given xid listing e = tt
+
+-- a list of which nothing was given
+module _ (host : List ℕ) (registry : Registry) (xid : ℕ) (listing : Listing) (list : ListReply) (rest : ListsRows xid listing registry list) where
+  pub fresh_is_told : IsTold registry list → IsToldBy (source_for host registry) list
+  fresh_is_told told =
+      let some = some_head xid Success in
+      let whole = length-append (reply_head xid Success) (list_bytes host (rows_of registry) listing) in
+      record { told = told; some = omega (arith, some, whole, ap (λ (xs : List ℕ). length xs) (rest host)) }
+
+  pub fresh_outcome : list.stamp ≡ registry.stamp → list_outcome (source_for host registry) list ≡ listing_outcome (source_for host registry) xid listing
+  fresh_outcome stamp = rw (rest host, stamp) refl

@@ -148,7 +148,7 @@ count_at_once room (Told outcomes.Reply) reply = whole_length room (length reply
 count_at_once room (Told outcomes.NoCall) reply = 0
 count_at_once room (Told outcomes.Forwarded) reply = 0
 count_at_once room (Told outcomes.Silent) reply = 0
-count_at_once room (Listed list) reply = 0
+count_at_once room (Listed xid listing) reply = 0
 
 -- What is left to do of what a message is answered with, and of what is written, once these bytes were given: all of it where
 -- none were, and nothing of a reply that was given whole.

@@ -2,13 +2,13 @@
 use Rattle.std.specs.Prelude.{◌≡◌, ◌<◌, ⊤, ℕ, Bool, List, [], length, Option, Some, None}
 use Rattle.rb_rpc.specs.declared.peer.Caller.{Caller}
 use Rattle.rb_rpc.specs.declared.peer.Caller.TheVariants.{Tcp, Udp}
-use Rattle.rb_registry.specs.Registry.{Registry}
+use Rattle.rb_registry.specs.Registry.{rows_of}
 use Rattle.rb_proto.specs.declared.answers.Listing.{Listing}
 use Rattle.rb_proto.specs.declared.answers.Results.{Results}
 use Rattle.rb_proto.specs.declared.answers.Results.TheVariants as results
 use Rattle.rb_proto.specs.declared.list_reply.ListReply.{ListReply}
 use Rattle.rb_proto.specs.ListReplies.{rest_of}
-use Rattle.rb_proto.specs.ListParts.{ListsRows, IsTold}
+use Rattle.rb_proto.specs.ListParts.{list_reply}
 use Rattle.rb_proto.specs.declared.answers.Answer.{Answer}
 use Rattle.rb_proto.specs.declared.books.Books.{Books}
 use Rattle.rb_proto.specs.declared.context.Context.{Context}
@@ -21,7 +21,6 @@ use Rattle.rb_core.specs.declared.serve.Served.TheVariants.{Told, Listed}
 use Rattle.rb_core.specs.declared.types.Outcome.{Outcome as Written}
 use Rattle.rb_core.specs.declared.types.Outcome.TheVariants as outcomes
 use Rattle.rb_core.specs.StandsFor.{Source, Table}
-use Rattle.rb_core.specs.Giving.{IsToldBy}
 use Rattle.rb_core.specs.Calls.{Outcome, Outcome as said, is_no_call, told_as, outcome}
 use Rattle.rb_core.specs.Core.{outcome_with}
 use Rattle.rb_core.specs.Slots.{SlotBecomesFrom, BecomesFrom, settling}
@@ -34,6 +33,11 @@ use Rattle.rb_core.specs.Listings.{source_in}
 abbrev pub list_outcome : Source → ListReply → Outcome
 list_outcome source list = said.Reply (rest_of source.host source.registry list) (Some list.stamp)
 
+-- a list under this xid of the rows that are live now
+abbrev pub listing_outcome : Source → ℕ → Listing → Outcome
+listing_outcome source xid listing =
+    said.Reply (list_reply source.host xid (rows_of source.registry) listing) (Some source.registry.stamp)
+
 -- The connection that a slot stands for owes a list.
 abbrev pub SlotBeginsList : Source → ℕ → ListReply → Slot → Slot → Type 0
 SlotBeginsList source clock list old new = SlotBecomesFrom source (settled clock (list_outcome source list)) old new
@@ -41,7 +45,7 @@ SlotBeginsList source clock list old new = SlotBecomesFrom source (settled clock
 -- what the code answers a message with, where this is written
 abbrev pub served_in : Source → Served → List ℕ → Outcome
 served_in source (Told given) reply = outcome_with given reply
-served_in source (Listed list) reply = list_outcome source list
+served_in source (Listed xid listing) reply = listing_outcome source xid listing
 
 -- From each ledger that the books stand for, an answer is told so.
 abbrev pub TellsAnswer : Books → Context → ℕ → Answer → Served → List ℕ → Type 0
@@ -69,7 +73,7 @@ is_closed_by source served reply = is_no_call (served_in source served reply)
 
 abbrev pub kind_in : Served → Written
 kind_in (Told given) = given
-kind_in (Listed list) = outcomes.Reply
+kind_in (Listed xid listing) = outcomes.Reply
 
 -- a reply is written where it is to be, and else nothing
 abbrev pub IsWritten : Served → List ℕ → Type 0
@@ -77,32 +81,20 @@ IsWritten (Told outcomes.Reply) reply = 0 < length reply
 IsWritten (Told outcomes.NoCall) reply = reply ≡ []
 IsWritten (Told outcomes.Forwarded) reply = reply ≡ []
 IsWritten (Told outcomes.Silent) reply = reply ≡ []
-IsWritten (Listed list) reply = reply ≡ []
-
--- the source can tell a list that is streamed
-abbrev pub IsToldIn : Source → Served → Type 0
-IsToldIn source (Told given) = ⊤
-IsToldIn source (Listed list) = IsToldBy source list
+IsWritten (Listed xid listing) reply = reply ≡ []
 
 abbrev pub IsNoListIn : Served → Type 0
 IsNoListIn (Told given) = ⊤
-IsNoListIn (Listed list) = ⊥
+IsNoListIn (Listed xid listing) = ⊥
 
--- a list is streamed on a connection alone, and the source can tell it
-abbrev pub HasList : Caller → Source → Served → Type 0
-HasList (Tcp id peer) source served = IsToldIn source served
-HasList (Udp peer) source served = IsNoListIn served
-
--- the reply under this xid that lists the live rows
-pub record IsList (xid : ℕ) (listing : Listing) (registry : Registry) (list : ListReply) : Type 0 where
-  pub told : IsTold registry list
-  pub rest : ListsRows xid listing registry list
-  pub stamp : list.stamp ≡ registry.stamp
+-- a list is streamed on a connection alone
+abbrev pub IsStreamedTo : Caller → Served → Type 0
+IsStreamedTo (Tcp id peer) served = ⊤
+IsStreamedTo (Udp peer) served = IsNoListIn served
 
 -- the list that is streamed to a caller, where results are one
-abbrev pub IsListFor : Caller → Results → ℕ → Registry → Option ListReply → Type 0
-IsListFor (Udp peer) given xid registry list = list ≡ None
-IsListFor (Tcp id peer) (results.Rows listing) xid registry (Some list) = IsList xid listing registry list
-IsListFor (Tcp id peer) (results.Rows listing) xid registry None = ⊥
-IsListFor (Tcp id peer) (results.Value value) xid registry list = list ≡ None
-IsListFor (Tcp id peer) results.Statistics xid registry list = list ≡ None
+abbrev pub streamed : Caller → Results → Option Listing
+streamed (Udp peer) given = None
+streamed (Tcp id peer) (results.Rows listing) = Some listing
+streamed (Tcp id peer) (results.Value value) = None
+streamed (Tcp id peer) results.Statistics = None

@@ -58,7 +58,7 @@ pub fn answer(
     ensures cost { PaysAtMost meter.old meter.new
         (served_cost connections.old books.old books.new + whole_cost (length room.old) result.1) }
 {
-    let message = &message_with(heard.verdict, arguments);
+    let message = &message_with(&heard.verdict, arguments);
     make_room(connections, books, context, message, meter);
     let served = serve(books, context, message, arguments, draft, meter);
     let (left, given) = give_at_once(served, draft, room, meter);

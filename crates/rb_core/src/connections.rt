@@ -241,7 +241,7 @@ impl Connections {
     ghost use Rattle.std.specs.Prelude.{◌≡◌, ◌≤◌, ◌<◌, ◌+◌, ◌*◌, [], true, false, ℕ, length, Some, OnErr, IfOk, IfSome, IfNone, All};
     ghost use Rattle.rb_core.specs.Connections.{on_live, opening_of, closing_of, first_lost, longest_fragment};
     ghost use Rattle.rb_core.specs.Giving.{IsToldBy, pending_count};
-    ghost use Rattle.rb_core.specs.Serving.{BeginsList, Serves, is_closed_by, kind_in, IsWritten, IsToldIn};
+    ghost use Rattle.rb_core.specs.Serving.{BeginsList, Serves, is_closed_by, kind_in, IsWritten};
     ghost use Rattle.rb_core.specs.Listings.{AreTold, KeepsTold, EvictsBefore, stamps_of, IsOldest};
     ghost use Rattle.rb_core.specs.Losses.{expiring};
     ghost use Rattle.rb_core.specs.Core.{given_in};
@@ -498,7 +498,6 @@ impl Connections {
         requires tie { meter.old.tie ≡ self.old.tie }
         requires draft { IsDraft meter.old.tie draft.old }
         requires written { IsWritten served draft.old.bytes }
-        requires list { IsToldIn (source_for host registry.now) served }
         requires told { AreTold (source_for host registry.now) self.old }
         requires settled { IsSettled id clock self.old }
         ensures stands { Serves
@@ -521,7 +520,8 @@ impl Connections {
                 self.settle(id, outcome, draft, clock, meter);
                 outcome.is_no_call()
             }
-            Served::Listed(list) => {
+            Served::Listed(xid, listing) => {
+                let list = ListReply::new(xid, listing, registry);
                 self.list(id, list, clock, host, registry, draft, meter);
                 false
             }

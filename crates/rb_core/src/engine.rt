@@ -260,7 +260,7 @@ impl Core {
         self.reply.clear(meter);
         let verdict = read_call(content);
         let arguments = arguments_behind(verdict, content);
-        let message = &message_with(verdict, arguments);
+        let message = &message_with(&verdict, arguments);
         make_room(
             &mut self.connections,
             &mut self.books,
@@ -279,7 +279,7 @@ impl Core {
         self.reply_len = self.reply.len(meter) as u64;
         match served {
             Served::Told(outcome) => outcome,
-            Served::Listed(_) => unreachable!(),
+            Served::Listed(_, _) => unreachable!(),
         }
     }
 

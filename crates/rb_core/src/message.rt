@@ -36,20 +36,23 @@ fn refusal(xid: u32, status: ReplyStatus) -> Message<'static>
 }
 
 #[tactic(auto, unfolding(crate::specs::Calls::request_of))]
-fn request_of<'a>(head: CallHead, request: Result<Request<'a>, ArgumentFault>) -> Message<'a>
-    ensures { result ≡ request_of head request.entry }
+fn request_of<'a>(head: &CallHead, request: Result<Request<'a>, ArgumentFault>) -> Message<'a>
+    ensures { result ≡ request_of head.now request.entry }
 {
     match request {
-        Ok(request) => Message::Asked(Call { head, request }),
+        Ok(request) => Message::Asked(Call {
+            head: *head,
+            request,
+        }),
         Err(ArgumentFault::ProcUnavail) => refusal(head.xid, ReplyStatus::ProcUnavail),
-        Err(ArgumentFault::GarbageArgs) => Message::Garbage(head),
+        Err(ArgumentFault::GarbageArgs) => Message::Garbage(*head),
     }
 }
 
 /// What a call with a readable head says.
 #[tactic(auto, unfolding(crate::specs::Calls::call_of))]
-fn call_of(head: CallHead, arguments: &[u8]) -> Message<'_>
-    ensures message { result ≡ call_of head arguments.now }
+fn call_of<'a>(head: &CallHead, arguments: &'a [u8]) -> Message<'a>
+    ensures message { result ≡ call_of head.now arguments.now }
     ensures args { HasArgsIn result arguments.now }
 {
     if head.prog != RPCB_PROG {
@@ -62,14 +65,14 @@ fn call_of(head: CallHead, arguments: &[u8]) -> Message<'_>
 }
 
 /// What a message says on which this is the verdict, and these are the bytes behind its head.
-pub fn message_with(verdict: Verdict, arguments: &[u8]) -> Message<'_>
-    ensures message { result ≡ message_with verdict arguments.now }
+pub fn message_with<'a>(verdict: &Verdict, arguments: &'a [u8]) -> Message<'a>
+    ensures message { result ≡ message_with verdict.now arguments.now }
     ensures args { HasArgsIn result arguments.now }
 {
     match verdict {
         Verdict::NoCall => Message::NoCall,
-        Verdict::RpcMismatch(xid) => refusal(xid, ReplyStatus::RpcMismatch(2, 2)),
-        Verdict::AuthError(xid, stat) => refusal(xid, ReplyStatus::AuthError(stat)),
+        Verdict::RpcMismatch(xid) => refusal(*xid, ReplyStatus::RpcMismatch(2, 2)),
+        Verdict::AuthError(xid, stat) => refusal(*xid, ReplyStatus::AuthError(*stat)),
         Verdict::Call(head, _) => call_of(head, arguments),
     }
 }
@@ -93,5 +96,5 @@ pub fn read_message(bytes: &[u8]) -> Message<'_>
     ensures { result ≡ message_of bytes.now }
 {
     let verdict = read_call(bytes);
-    message_with(verdict, arguments_behind(verdict, bytes))
+    message_with(&verdict, arguments_behind(verdict, bytes))
 }

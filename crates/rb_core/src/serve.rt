@@ -15,9 +15,9 @@ ghost use Rattle.rb_core.specs.Calls.{reply_in, success, longest_reply};
 ghost use Rattle.rb_core.specs.Ending.{told_failed, told_at};
 ghost use Rattle.rb_core.specs.Reading.{HasArgsIn};
 ghost use Rattle.rb_core.specs.Awaits.{kind_of, StayUnlessForwarded};
-ghost use Rattle.rb_core.specs.Listings.{HasRoom, source_in};
+ghost use Rattle.rb_core.specs.Listings.{HasRoom};
 ghost use Rattle.rb_core.specs.Core.{given_in};
-ghost use Rattle.rb_core.specs.Serving.{TellsAnswer, ServesMessage, kind_in, IsWritten, HasList, IsListFor};
+ghost use Rattle.rb_core.specs.Serving.{TellsAnswer, ServesMessage, kind_in, IsWritten, IsStreamedTo, streamed};
 ghost use Rattle.rb_core.specs.AtOnce.{IsLeft, count_at_once, whole_cost};
 ghost use Rattle.rb_core.specs.CallCosts.{put_results_cost, serving_cost};
 ghost use Rattle.rb_core.specs.Slots.{IsDraft};
@@ -28,10 +28,8 @@ use crate::message::Message;
 use crate::types::Outcome;
 use rb_forward::{Ended, Forward, Outcome as End};
 use rb_proto::{
-    Answer, Books, Context, ListReply, Listener, Results, answer, put_forwarded, put_results,
-    refusal,
+    Answer, Books, Context, Listener, Listing, Results, answer, put_forwarded, put_results, refusal,
 };
-use rb_registry::Registry;
 use rb_rpc::{Caller, ReplyHead, ReplyStatus, put_reply};
 use rb_xdr::{Kept, Meter};
 
@@ -43,8 +41,8 @@ pub const LONGEST_REPLY: usize = 9_000;
 pub enum Served {
     /// A reply that is written, or none.
     Told(Outcome),
-    /// A list that is streamed, of which nothing is written yet.
-    Listed(ListReply),
+    /// A list under this xid that is streamed, of which nothing is written yet.
+    Listed(u32, Listing),
 }
 
 /// Writes the head of a reply into an empty buffer.
@@ -120,13 +118,13 @@ fn put_reply_with(
 }
 
 /// The list that results are, as they are given on a connection: None where they are written as a whole.
-fn list_in(results: &Results, xid: u32, caller: Caller, registry: &Registry) -> Option<ListReply>
-    ensures { IsListFor caller results.now xid registry.now result }
+fn list_in(results: &Results, caller: Caller) -> Option<Listing>
+    ensures { result ≡ streamed caller results.now }
 {
     match caller {
         Caller::Udp(_) => None,
         Caller::Tcp(_, _) => match results {
-            Results::Rows(listing) => Some(ListReply::new(xid, *listing, registry)),
+            Results::Rows(listing) => Some(*listing),
             Results::Value(_) | Results::Statistics => None,
         },
     }
@@ -148,8 +146,7 @@ fn put_answer(
     requires room { longest_reply ≤ out.old.cap }
     ensures given { TellsAnswer books.now context.now xid answer.now result out.new.bytes }
     ensures kind { kind_in result ≡ kind_of answer.now }
-    ensures list { HasList context.now.caller
-        (source_in context.now.listener.host books.now) result }
+    ensures list { IsStreamedTo context.now.caller result }
     ensures written { IsWritten result out.new.bytes }
     ensures short { length out.new.bytes ≤ longest_reply }
     ensures out { (out.new.cap ≡ out.old.cap) × (out.new.tie ≡ out.old.tie) }
@@ -157,8 +154,8 @@ fn put_answer(
 {
     match answer {
         Answer::Results(results) => {
-            if let Some(list) = list_in(results, xid, context.caller, &books.registry) {
-                return Served::Listed(list);
+            if let Some(listing) = list_in(results, context.caller) {
+                return Served::Listed(xid, listing);
             }
             put_reply_with(results, xid, books, &context.listener, out, meter);
             Served::Told(Outcome::Reply)
@@ -197,8 +194,7 @@ pub fn serve(
         context.now message.now arguments.now books.old books.new result out.new }
     ensures cursors { GoesOn books.old.registry books.new.registry }
     ensures floor { books.new.registry.floor ≡ books.old.registry.floor }
-    ensures list { HasList context.now.caller
-        (source_in context.now.listener.host books.new) result }
+    ensures list { IsStreamedTo context.now.caller result }
     ensures quiet { StayUnlessForwarded (kind_in result) books.old.forwards books.new.forwards }
     ensures waiting { OnlyCallerWaits context.now.caller books.old books.new }
     ensures frame { SameFrame books.old books.new }

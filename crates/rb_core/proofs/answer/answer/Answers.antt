@@ -19,11 +19,11 @@ use Rattle.rb_core.specs.Core.{context_of}
 use Rattle.rb_core.specs.Slots.{Acts, StaysTable}
 use Rattle.rb_core.specs.Awaits.{has_idle, AreAwaited}
 use Rattle.rb_core.specs.Listings.{Evicts, source_in, AreTold}
-use Rattle.rb_core.specs.Serving.{ServesMessage, Serves, HasList, served_in, is_closed_by, kind_in}
+use Rattle.rb_core.specs.Serving.{ServesMessage, Serves, served_in, is_closed_by, kind_in}
 use Rattle.rb_core.specs.AtOnce.{IsLeft, answered_giving, given_when_answered, count_at_once, with_parts}
 use Rattle.rb_core.proofs.Answering.{joined_frames, told_then, served_by}
 use Rattle.rb_core.proofs.Awaited.{awaited_when_answered}
-use Rattle.rb_core.proofs.AtOnce.{Leaves, leaves, list_left, quiet_left, answer_giving, answer_counts, counts_served}
+use Rattle.rb_core.proofs.AtOnce.{Leaves, leaves, quiet_left, answer_giving, answer_counts, counts_served}
 use Rattle.rb_core.proofs.Steps.{Served as ServedIn}
 use Rattle.rb_core.proofs.Cores.{stays_twice}
 use Rattle.rb_core.proofs.answer.answer.Goals as goal
@@ -60,9 +60,6 @@ module _ (view : Held) (id : ℕ) (peer : Peer) (message : Message) (arguments :
       is ∙ counts_served room source served written.bytes
       ∙ sym (answer_counts room view id peer message arguments roomy books given served_at idle s h)
 
-by_caller : (caller : Caller) (id : ℕ) (peer : Peer) (source : Source) (served : Served) → caller ≡ Tcp id peer → HasList caller source served → HasList (Tcp id peer) source served
-by_caller caller id peer source served is has = subst (λ (x : Caller). HasList x source served) is has
-
 pub serve-served-requires-clause-caller : goal.serve-served-requires-clause-caller
 serve-served-requires-clause-caller c =
     subst (λ (x : Caller). IsNew x (slots_of c.make_room.new.books.forwards)) (sym c.requires.context) (rw c.make_room.ensures.forwards c.requires.caller)
@@ -70,11 +67,6 @@ serve-served-requires-clause-caller c =
 pub go_on-closed-requires-clause-told : goal.go_on-closed-requires-clause-told
 go_on-closed-requires-clause-told c =
     told_then c.args.context.now.listener.host c.make_room.new.connections c.make_room.new.books c.serve-served.new.books c.serve-served.ensures.cursors c.serve-served.ensures.floor c.make_room.ensures.told
-
-pub go_on-closed-requires-clause-list : goal.go_on-closed-requires-clause-list
-go_on-closed-requires-clause-list c =
-    by_caller _ c.args.id c.args.heard.peer _ c.give_at_once-left.result.0 c.requires.context
-    (list_left _ _ c.serve-served.result c.give_at_once-left.result.0 _ _ _ c.give_at_once-left.ensures.left c.serve-served.ensures.list)
 
 abbrev said : goal.After-go_on-closed → Message
 said c = message_with c.args.heard.verdict c.args.arguments.now

@@ -1,4 +1,8 @@
+use Rattle.std.proofs.Common.{subst}
+use Rattle.rb_core.specs.Calls.{Outcome}
 use Rattle.rb_core.specs.StandsFor.{source_for}
+use Rattle.rb_core.specs.Slots.{BecomesFrom, settling}
+use Rattle.rb_core.proofs.Serving.{fresh_is_told, fresh_outcome}
 use Rattle.rb_core.proofs.Settled.{stays_silent}
 use Rattle.rb_core.proofs.connections.Connections.go_on.Goals as goal
 
@@ -11,3 +15,14 @@ pub returns-in-Told-clause-told : goal.returns-in-Told-clause-told
 returns-in-Told-clause-told c =
     let source = source_for c.args.host c.args.registry.now in
     c.settle.ensures.told source c.requires.told
+
+pub list-requires-clause-list : goal.list-requires-clause-list
+list-requires-clause-list c =
+    fresh_is_told c.args.host c.args.registry.now c.in-Listed.xid c.in-Listed.listing c.new-list.result c.new-list.ensures.rest c.new-list.ensures.told
+
+pub returns-in-Listed-clause-stands : goal.returns-in-Listed-clause-stands
+returns-in-Listed-clause-stands c =
+    let source = source_for c.args.host c.args.registry.now in
+    rw c.in-Listed.is
+    (subst (λ (o : Outcome). BecomesFrom source (settling c.args.id c.args.clock o) c.args.self.now c.list.new.self)
+    (fresh_outcome c.args.host c.args.registry.now c.in-Listed.xid c.in-Listed.listing c.new-list.result c.new-list.ensures.rest c.new-list.ensures.stamp) c.list.ensures.stands)
