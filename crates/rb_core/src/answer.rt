@@ -28,12 +28,12 @@ pub fn answer(
     draft: &mut Kept,
     context: &Context,
     id: u64,
-    heard: Heard,
+    heard: &Heard,
     arguments: &[u8],
     room: &mut [u8],
     meter: &mut Meter,
 ) -> (bool, usize)
-    requires context { context.now.caller ≡ Tcp id heard.peer }
+    requires context { context.now.caller ≡ Tcp id heard.now.peer }
     requires limit { books.old.registry.limit ≡ context.now.limit }
     requires forwards { books.old.forwards.cap ≡ context.now.forwards }
     requires tied { AreTied meter.old.tie books.old }
@@ -44,9 +44,9 @@ pub fn answer(
     requires idle { has_idle id connections.old ≡ true }
     requires settled { IsSettled id context.now.clock connections.old }
     requires caller { is_waiting id (slots_of books.old.forwards) ≡ false }
-    ensures acts { AnswersFrom context.now id heard arguments.now connections.old books.old
+    ensures acts { AnswersFrom context.now id heard.now arguments.now connections.old books.old
         connections.new books.new result.0 (take result.1 room.new) }
-    ensures count { GivesFrom (length room.old) context.now id heard arguments.now
+    ensures count { GivesFrom (length room.old) context.now id heard.now arguments.now
         connections.old books.old result.1 }
     ensures within { result.1 ≤ length room.new }
     ensures awaited { KeepsAwaited books.old connections.old books.new connections.new }

@@ -427,6 +427,7 @@ impl Core {
         let Whole { peer, content } = whole;
         let verdict = read_call(content);
         let arguments = kept_arguments(verdict, content);
+        let heard = Heard { peer, verdict };
         let context = self.context(Caller::Tcp(id, peer));
         answer(
             &mut self.connections,
@@ -434,7 +435,7 @@ impl Core {
             &mut self.draft,
             &context,
             id,
-            Heard { peer, verdict },
+            &heard,
             arguments,
             room,
             meter,
@@ -472,7 +473,7 @@ impl Core {
             &mut self.draft,
             &context,
             id,
-            heard,
+            &heard,
             arguments,
             room,
             meter,

@@ -31,6 +31,9 @@ fn is_roomy(registry: &Registry, limit: usize, meter: &mut Meter) -> bool
 
 /// Makes room for the row that a message is to add: where the live rows and those that are kept for lists reach the limit,
 /// the connections become Lost whose lists began before the earliest change that removed a kept row.
+///
+/// It is inlined, since for most calls there is nothing to do.
+#[inline(always)]
 pub fn make_room(
     connections: &mut Connections,
     books: &mut Books,

@@ -61,7 +61,9 @@ impl<'a> Model for LentRpcb<'a> {
 }
 
 impl<'a> LentRpcb<'a> {
-    /// The rpcb in front of the bytes, and how many of them spell it.
+    /// The rpcb in front of the bytes, and how many of them spell it. It is not inlined: so a request without texts has no
+    /// place cleared for them.
+    #[inline(never)]
     #[tactic(auto, unfolding(crate::specs::Types::read_rpcb))]
     pub(crate) fn read(bytes: &'a [u8]) -> Result<(LentRpcb<'a>, usize), XdrFault>
         ensures { result ≡ read_rpcb bytes.now }
@@ -130,7 +132,8 @@ impl<'a> Model for LentNetbuf<'a> {
 }
 
 impl<'a> LentNetbuf<'a> {
-    /// The netbuf in front of the bytes, and how many of them spell it.
+    /// The netbuf in front of the bytes, and how many of them spell it. It is not inlined, as that of an rpcb.
+    #[inline(never)]
     #[tactic(auto, unfolding(crate::specs::Types::read_netbuf))]
     pub(crate) fn read(bytes: &'a [u8]) -> Result<(LentNetbuf<'a>, usize), XdrFault>
         ensures { result ≡ read_netbuf bytes.now }

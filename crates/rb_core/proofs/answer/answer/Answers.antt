@@ -69,11 +69,11 @@ go_on-closed-requires-clause-told c =
     told_then c.args.context.now.listener.host c.make_room.new.connections c.make_room.new.books c.serve-served.new.books c.serve-served.ensures.cursors c.serve-served.ensures.floor c.make_room.ensures.told
 
 abbrev said : goal.After-go_on-closed → Message
-said c = message_with c.args.heard.verdict c.args.arguments.now
+said c = message_with c.args.heard.now.verdict c.args.arguments.now
 
 -- in a core in which a call sees what it saw
-done_in : (c : goal.After-go_on-closed) (held : Held) → c.args.context.now ≡ context_of held (Tcp c.args.id c.args.heard.peer)
-    → Done (context_of held (Tcp c.args.id c.args.heard.peer)) (said c) c.args.connections.now c.args.books.now c.args.id c.args.arguments.now c.make_room.new.books c.serve-served.new.books c.make_room.new.connections c.go_on-closed.new.self c.serve-served.result c.give_at_once-left.result.0 c.serve-served.new.out c.give_at_once-left.new.draft c.go_on-closed.result
+done_in : (c : goal.After-go_on-closed) (held : Held) → c.args.context.now ≡ context_of held (Tcp c.args.id c.args.heard.now.peer)
+    → Done (context_of held (Tcp c.args.id c.args.heard.now.peer)) (said c) c.args.connections.now c.args.books.now c.args.id c.args.arguments.now c.make_room.new.books c.serve-served.new.books c.make_room.new.connections c.go_on-closed.new.self c.serve-served.result c.give_at_once-left.result.0 c.serve-served.new.out c.give_at_once-left.new.draft c.go_on-closed.result
 done_in c held is =
     subst (λ (x : Context). Done x (said c) c.args.connections.now c.args.books.now c.args.id c.args.arguments.now c.make_room.new.books c.serve-served.new.books c.make_room.new.connections c.go_on-closed.new.self c.serve-served.result c.give_at_once-left.result.0 c.serve-served.new.out c.give_at_once-left.new.draft c.go_on-closed.result) is
     (subst (λ (m : Message). Done c.args.context.now m c.args.connections.now c.args.books.now c.args.id c.args.arguments.now c.make_room.new.books c.serve-served.new.books c.make_room.new.connections c.go_on-closed.new.self c.serve-served.result c.give_at_once-left.result.0 c.serve-served.new.out c.give_at_once-left.new.draft c.go_on-closed.result) c.message_with.ensures.message
@@ -81,24 +81,24 @@ done_in c held is =
 
 pub returns-clause-acts : goal.returns-clause-acts
 returns-clause-acts c = λ held is.
-    answers (with_parts held c.args.connections.now c.args.books.now) c.args.id c.args.heard.peer (said c) c.args.arguments.now c.make_room.new.books c.serve-served.new.books c.make_room.new.connections c.go_on-closed.new.self c.serve-served.result c.give_at_once-left.result.0 c.serve-served.new.out c.give_at_once-left.new.draft c.go_on-closed.result
+    answers (with_parts held c.args.connections.now c.args.books.now) c.args.id c.args.heard.now.peer (said c) c.args.arguments.now c.make_room.new.books c.serve-served.new.books c.make_room.new.connections c.go_on-closed.new.self c.serve-served.result c.give_at_once-left.result.0 c.serve-served.new.out c.give_at_once-left.new.draft c.go_on-closed.result
     (take c.give_at_once-left.result.1 c.give_at_once-left.new.room) (done_in c held is) c.serve-served.ensures.cursors c.serve-served.ensures.floor c.make_room.ensures.frame c.serve-served.ensures.frame
     c.make_room.ensures.stays c.go_on-closed.ensures.stays c.give_at_once-left.ensures.left (c.make_room.ensures.idle c.args.id c.requires.idle)
 
 pub returns-clause-count : goal.returns-clause-count
 returns-clause-count c = λ held is.
-    counts (with_parts held c.args.connections.now c.args.books.now) c.args.id c.args.heard.peer (said c) c.args.arguments.now c.make_room.new.books c.serve-served.new.books c.make_room.new.connections c.go_on-closed.new.self c.serve-served.result c.give_at_once-left.result.0 c.serve-served.new.out c.give_at_once-left.new.draft c.go_on-closed.result
+    counts (with_parts held c.args.connections.now c.args.books.now) c.args.id c.args.heard.now.peer (said c) c.args.arguments.now c.make_room.new.books c.serve-served.new.books c.make_room.new.connections c.go_on-closed.new.self c.serve-served.result c.give_at_once-left.result.0 c.serve-served.new.out c.give_at_once-left.new.draft c.go_on-closed.result
     (take c.give_at_once-left.result.1 c.give_at_once-left.new.room) (done_in c held is) c.serve-served.ensures.cursors c.serve-served.ensures.floor c.make_room.ensures.frame c.serve-served.ensures.frame
     c.make_room.ensures.stays c.go_on-closed.ensures.stays c.give_at_once-left.ensures.left (c.make_room.ensures.idle c.args.id c.requires.idle)
     (length c.args.room.now) c.give_at_once-left.result.1 c.give_at_once-left.ensures.count
 
-anew_in : (c : goal.After-go_on-closed) → OnlyWaitsAnew (Tcp c.args.id c.args.heard.peer) (slots_of c.make_room.new.books.forwards) (slots_of c.serve-served.new.books.forwards)
+anew_in : (c : goal.After-go_on-closed) → OnlyWaitsAnew (Tcp c.args.id c.args.heard.now.peer) (slots_of c.make_room.new.books.forwards) (slots_of c.serve-served.new.books.forwards)
 anew_in c = subst (λ (x : Caller). OnlyWaitsAnew x (slots_of c.make_room.new.books.forwards) (slots_of c.serve-served.new.books.forwards)) c.requires.context c.serve-served.ensures.waiting
 
 pub returns-clause-awaited : goal.returns-clause-awaited
 returns-clause-awaited c = λ are.
     let awaited : AreAwaited c.make_room.new.books.forwards c.make_room.new.connections = rw c.make_room.ensures.forwards (λ number waits. c.make_room.ensures.free number (are number waits)) in
-    awaited_when_answered c.make_room.new.books.forwards c.serve-served.new.books.forwards c.args.id c.args.heard.peer c.make_room.new.connections c.go_on-closed.new.self (kind_in c.give_at_once-left.result.0)
+    awaited_when_answered c.make_room.new.books.forwards c.serve-served.new.books.forwards c.args.id c.args.heard.now.peer c.make_room.new.connections c.go_on-closed.new.self (kind_in c.give_at_once-left.result.0)
     awaited (rw c.make_room.ensures.forwards c.requires.caller) (anew_in c) (quiet_left _ _ c.serve-served.result c.give_at_once-left.result.0 _ _ _ c.give_at_once-left.ensures.left c.serve-served.ensures.quiet) c.go_on-closed.ensures.others
     (λ is. c.go_on-closed.ensures.awaits is (c.make_room.ensures.idle c.args.id c.requires.idle))
 
