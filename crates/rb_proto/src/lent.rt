@@ -61,8 +61,8 @@ impl<'a> Model for LentRpcb<'a> {
 }
 
 impl<'a> LentRpcb<'a> {
-    /// The rpcb in front of the bytes, and how many of them spell it. It is not inlined: so a request without texts has no
-    /// place cleared for them.
+    /// The rpcb in front of the bytes, and how many of them spell it. It is not inlined: a call without texts was measured
+    /// to be faster so.
     #[inline(never)]
     #[tactic(auto, unfolding(crate::specs::Types::read_rpcb))]
     pub(crate) fn read(bytes: &'a [u8]) -> Result<(LentRpcb<'a>, usize), XdrFault>
