@@ -5,7 +5,7 @@ ghost use Rattle.rb_feed.specs.Feeds.{arguments_of};
 ghost use Rattle.rb_core.specs.Reading.{HasArgsIn};
 ghost use Rattle.rb_core.specs.Calls.{is_served, request_of, call_of, message_with, message_of};
 
-use rb_proto::{ArgumentFault, Call, Request, read_args};
+use rb_proto::{ArgumentFault, Call, Request, VoidProcedure, read_args};
 use rb_registry::RPCB_PROG;
 use rb_rpc::{CallHead, ReplyHead, ReplyStatus, Verdict, read_call};
 
@@ -49,32 +49,32 @@ fn request_of<'a>(head: &CallHead, request: Result<Request<'a>, ArgumentFault>) 
     }
 }
 
-/// What a call with a readable head says.
-#[tactic(auto, unfolding(crate::specs::Calls::call_of))]
-fn call_of<'a>(head: &CallHead, arguments: &'a [u8]) -> Message<'a>
-    ensures message { result ≡ call_of head.now arguments.now }
+/// What a message says on which this is the verdict, and these are the bytes behind its head.
+///
+/// Each line that decides returns at once: where all of them meet in one place, all their words are moved there. A procedure
+/// without arguments comes before the others, since it has none to be read.
+#[tactic(auto, unfolding(crate::specs::Calls::call_of, crate::specs::Calls::request_of), using(crate::proofs::AskedArgs::message_has))]
+pub fn message_with<'a>(verdict: &Verdict, arguments: &'a [u8]) -> Message<'a>
+    ensures message { result ≡ message_with verdict.now arguments.now }
     ensures args { HasArgsIn result arguments.now }
 {
+    let head = match verdict {
+        Verdict::NoCall => return Message::NoCall,
+        Verdict::RpcMismatch(xid) => return refusal(*xid, ReplyStatus::RpcMismatch(2, 2)),
+        Verdict::AuthError(xid, stat) => return refusal(*xid, ReplyStatus::AuthError(*stat)),
+        Verdict::Call(head, _) => head,
+    };
     if head.prog != RPCB_PROG {
         return refusal(head.xid, ReplyStatus::ProgUnavail);
     }
     if !is_served(head.vers) {
         return refusal(head.xid, ReplyStatus::ProgMismatch(2, 4));
     }
-    request_of(head, read_args(head.vers, head.proc, arguments))
-}
-
-/// What a message says on which this is the verdict, and these are the bytes behind its head.
-pub fn message_with<'a>(verdict: &Verdict, arguments: &'a [u8]) -> Message<'a>
-    ensures message { result ≡ message_with verdict.now arguments.now }
-    ensures args { HasArgsIn result arguments.now }
-{
-    match verdict {
-        Verdict::NoCall => Message::NoCall,
-        Verdict::RpcMismatch(xid) => refusal(*xid, ReplyStatus::RpcMismatch(2, 2)),
-        Verdict::AuthError(xid, stat) => refusal(*xid, ReplyStatus::AuthError(*stat)),
-        Verdict::Call(head, _) => call_of(head, arguments),
+    if let Some(procedure) = VoidProcedure::at(head.vers, head.proc) {
+        let (head, request) = (*head, Request::Void(procedure));
+        return Message::Asked(Call { head, request });
     }
+    request_of(head, read_args(head.vers, head.proc, arguments))
 }
 
 /// The bytes behind the head of a call, none where the data on which this is the verdict is no call that can be read.

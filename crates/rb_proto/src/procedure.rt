@@ -131,6 +131,24 @@ impl Procedure {
     }
 }
 
+impl VoidProcedure {
+    ghost use Rattle.std.specs.Prelude.{◌↔◌, ℕ, List, Some, Ok, IfSome};
+    ghost use Rattle.rb_proto.specs.Arguments.{read_request};
+
+    /// The procedure of this number in this version, where it has no arguments.
+    pub fn at(vers: u32, proc: u32) -> Option<VoidProcedure>
+        ensures exact { (procedure : VoidProcedure) → result ≡ Some procedure
+            ↔ procedure_at vers proc ≡ Some (Procedure.Void procedure) }
+        ensures reads { IfSome result (λ procedure. (bytes : List ℕ)
+            → read_request vers proc bytes ≡ Ok (Request.Void procedure)) }
+    {
+        match Procedure::at(vers, proc) {
+            Some(Procedure::Void(procedure)) => Some(procedure),
+            Some(_) | None => None,
+        }
+    }
+}
+
 // ---- for those who call
 
 #[tactic(auto, unfolding(crate::specs::Numbers::is_void))]

@@ -102,7 +102,10 @@ fn head_of(bytes: &[u8]) -> CallHead
 }
 
 /// The verdict on a message: the first refusal that holds of all its bytes, else the call.
+///
+/// It is inlined, so that its words stay where they are wanted.
 #[tactic(auto, unfolding(crate::specs::Verdict::verdict, crate::specs::Verdict::credential_end, crate::specs::Verdict::verifier_end))]
+#[inline(always)]
 pub fn read_call(bytes: &[u8]) -> Verdict
     ensures verdict { result ≡ verdict bytes.now }
     ensures within { EndsWithin result (length bytes.now) }
