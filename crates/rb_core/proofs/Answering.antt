@@ -1,5 +1,5 @@
 -- What serving a message leaves, from what its parts do.
-use Rattle.std.proofs.Common.{◌≡◌, ◌≤◌, ℕ, List, sym, ap, subst, ◌∙◌}
+use Rattle.std.proofs.Common.{◌≡◌, ◌≤◌, false, ℕ, List, sym, ap, subst, ◌∙◌}
 use Rattle.std.specs.Prelude.{All}
 use Rattle.rb_rpc.specs.declared.peer.Caller.{Caller}
 use Rattle.rb_registry.specs.Cursors.{GoesOn}
@@ -12,8 +12,11 @@ use Rattle.rb_core.specs.StandsFor.{Held, source_of, Table}
 use Rattle.rb_core.specs.Core.{context_of}
 use Rattle.rb_core.specs.Slots.{StaysTable}
 use Rattle.rb_core.specs.Listings.{Evicts, source_in, AreTold, stamps_of}
-use Rattle.rb_core.proofs.Crowding.{told_on, stands_on, stamps_low}
-use Rattle.rb_core.proofs.Steps.{Served}
+use Rattle.rb_core.specs.Losses.{asks_room}
+use Rattle.rb_core.specs.Serving.{ServesInRoom}
+use Rattle.rb_proto.specs.Ledger.{Ledger}
+use Rattle.rb_core.proofs.Crowding.{told_on, stands_on, stamps_low, none_evicted, not_asked}
+use Rattle.rb_core.proofs.Steps.{Served, same_source}
 
 pub joined_frames : (a b c : Books) → SameFrame a b → SameFrame b c → SameFrame a c
 joined_frames a b c first second = record {
@@ -42,21 +45,29 @@ module _ (view : Held) (caller : Caller) (context : Context) (is : context ≡ c
   pub told_for_view : (table : Table) (books : Books) → AreTold (source_in context.listener.host books) table → AreTold (source_in view.setting.listener.host books) table
   told_for_view table books told = subst (λ (x : Context). AreTold (source_in x.listener.host books) table) is told
 
-  module _ (table : Table) (mid books : Books) (cursors : GoesOn mid.registry books.registry) (floor : books.registry.floor ≡ mid.registry.floor) (told : AreTold (source_in context.listener.host mid) table) where
-    low : All (λ n. books.registry.floor ≤ n) (stamps_of table)
-    low = subst (λ (f : ℕ). All (λ n. f ≤ n) (stamps_of table)) (sym floor) (stamps_low (source_in context.listener.host mid) table told)
+  pub served_by : (message : Message) (arguments : List ℕ) (table : Table) (books : Books) (given : Outcome) → ServesInRoom context message arguments view.connections view.books table books given
+      → SameFrame view.books books → StaysTable view.connections table → Served (context_of view caller) view message arguments table books given
+  served_by message arguments table books given acts frame stays =
+      subst (λ (x : Context). Served x view message arguments table books given) is (record { acts = acts; frame = frame; stays = stays })
 
-    pub told_after : AreTold (source_in view.setting.listener.host books) table
-    told_after = told_for_view table books (told_then context.listener.host table mid books cursors floor told)
+module _ (context : Context) (message : Message) (arguments : List ℕ) (before : Table) (old : Books) (given : Outcome) where
+  -- once room was made
+  pub serves_in_room : (table : Table) (mid books : Books) → GoesOn mid.registry books.registry → books.registry.floor ≡ mid.registry.floor → AreTold (source_in context.listener.host mid) table
+      → Evicts context message before old table mid → ActsAs (outcome context message arguments) mid books given → ServesInRoom context message arguments before old table books given
+  serves_in_room table mid books cursors floor told makes acts = record {
+    gives = λ c l z h. acts.gives l (makes c l z h).1;
+    ledger = λ c l z h. acts.stands l (makes c l z h).1;
+    connections = λ c l z h. stands_on context.listener.host mid.registry books.registry cursors table _ low told (makes c l z h).0;
+  }
+    where
+      low : All (λ n. books.registry.floor ≤ n) (stamps_of table)
+      low = subst (λ (f : ℕ). All (λ n. f ≤ n) (stamps_of table)) (sym floor) (stamps_low (source_in context.listener.host mid) table told)
 
-    pub served_by : (message : Message) (arguments : List ℕ) (given : Outcome) → Evicts context message view.connections view.books table mid → ActsAs (outcome context message arguments) mid books given
-        → SameFrame view.books mid → SameFrame mid books → StaysTable view.connections table → Served (context_of view caller) view message arguments table books given
-    served_by message arguments given makes acts first second stays =
-        subst (λ (x : Context). Served x view message arguments table books given) is (record {
-          mid = mid;
-          makes = makes;
-          acts = acts;
-          goes_on = λ c z. stands_on context.listener.host mid.registry books.registry cursors table c low told z;
-          frame = joined_frames view.books mid books first second;
-          stays = stays;
-        })
+  -- where the message adds no row, and no row changes
+  pub serves_without_room : (books : Books) → ((l : Ledger) → asks_room context message l ≡ false) → books.registry ≡ old.registry
+      → ActsAs (outcome context message arguments) old books given → ServesInRoom context message arguments before old before books given
+  serves_without_room books none same acts = record {
+    gives = λ c l z h. acts.gives l h;
+    ledger = λ c l z h. acts.stands l h;
+    connections = λ c l z h. same_source context.listener.host old.registry books.registry before _ same (rw (not_asked context message c.all l (none l), none_evicted c) z);
+  }

@@ -1,5 +1,6 @@
 -- What a call leaves behind, from what its parts do to the books.
-use Rattle.std.proofs.Common.{◌≡◌, List, ℕ, length, Some, refl, sym, ap, ◌∙◌, arith, length-append}
+use Rattle.std.proofs.Common.{◌≡◌, List, ℕ, [], ◌++◌, length, Some, None, refl, sym, ap, ◌∙◌, arith, length-append, append-nil}
+use Rattle.std.proofs.lemmas.Bool.{cond-false, le-ltb}
 use Rattle.rb_rpc.specs.declared.call.CallHead.{CallHead}
 use Rattle.rb_forward.specs.StandsFor.{Table}
 use Rattle.rb_proto.specs.declared.answers.Answer.{Answer}
@@ -10,7 +11,10 @@ use Rattle.rb_proto.specs.declared.call.Call.{Call}
 use Rattle.rb_proto.specs.declared.context.Context.{Context}
 use Rattle.rb_proto.specs.Ledger.{Ledger, StandsForLedger, called, rows_in}
 use Rattle.rb_proto.specs.Answers.{answer}
-use Rattle.rb_proto.specs.Results.{result_bytes, list_bytes, shown_of}
+use Rattle.rb_proto.specs.declared.answers.Value.TheVariants as values
+use Rattle.rb_proto.specs.declared.procedure.VoidProcedure.TheVariants as voids
+use Rattle.rb_proto.specs.declared.request.Request.TheVariants as requests
+use Rattle.rb_proto.specs.Results.{Shown, result_bytes, list_bytes, shown_of}
 use Rattle.rb_rpc.specs.declared.peer.Caller.{Caller}
 use Rattle.rb_rpc.specs.declared.peer.Caller.TheVariants.{Tcp, Udp}
 use Rattle.rb_rpc.specs.declared.reply.ReplyStatus.TheVariants.{Success}
@@ -27,9 +31,10 @@ use Rattle.rb_core.specs.StandsFor.{source_for}
 use Rattle.rb_core.specs.Giving.{IsToldBy}
 use Rattle.rb_core.specs.Listings.{source_in}
 use Rattle.rb_core.specs.Serving.{list_outcome, listing_outcome, IsStreamedTo, streamed}
-use Rattle.rb_core.proofs.Replies.{some_head}
+use Rattle.rb_core.proofs.Replies.{some_head, short_head}
 use Rattle.rb_core.specs.declared.message.Message.TheVariants as says
-use Rattle.rb_core.specs.Calls.{Outcome, told_as, told_results, reply_with, outcome}
+use Rattle.rb_core.specs.Calls.{Outcome, told_as, told_results, reply_with, outcome, fitting, success, longest_reply, null_message}
+use Rattle.rb_core.specs.Calls.Outcome.{Reply}
 use Rattle.rb_core.specs.Awaits.{kind_of, StayUnlessForwarded as StaysUnless}
 
 -- the books stand for the ledger in which the call is noted, with the registry as it was
@@ -53,6 +58,33 @@ module _ (context : Context) (call : Call) (arguments : List ℕ) (old mid new :
     stands = λ l h. rw (left (answer context call arguments (called call.head l))) (acts.stands _ (notes.stands l h));
     kept = λ l h e. acts.kept (called call.head l) (notes.stands l h) (ap (λ (x : Ledger). x.changes) (sym (left (answer context call arguments (called call.head l)))) ∙ e) ∙ notes.registry;
   }
+
+-- ---- NULL
+
+abbrev null_answer : Answer
+null_answer = answers.Results (results.Value values.Void)
+
+null_acts : (context : Context) (head : CallHead) (arguments : List ℕ) (books : Books) → ActsAs (answer context (record { head = head; request = requests.Void voids.Null }) arguments) books books null_answer
+unfolding answer
+null_acts context head arguments books = record { gives = λ l h. refl; stands = λ l h. h; kept = λ l h e. refl }
+
+-- a head is no longer than a reply may be
+null_fits : (xid : ℕ) → success xid [] ≡ reply_head xid Success
+unfolding fitting longest_reply
+null_fits xid =
+    let same : reply_head xid Success ++ [] ≡ reply_head xid Success = append-nil (reply_head xid Success) in
+    rw same (cond-false _ _ _ (le-ltb 9000 (length (reply_head xid Success)) (omega (arith, short_head xid Success))))
+
+null_told : (caller : Caller) (count xid : ℕ) (host : List ℕ) (shown : Shown) → Reply (reply_head xid Success) None ≡ told_as caller count xid (result_bytes host shown) null_answer
+unfolding result_bytes
+null_told (Udp peer) count xid host shown = ap (λ (xs : List ℕ). Reply xs None) (sym (null_fits xid))
+null_told (Tcp id peer) count xid host shown = ap (λ (xs : List ℕ). Reply xs None) (sym (null_fits xid))
+
+-- A call of NULL is noted, and its reply is a head.
+pub null_served : (context : Context) (head : CallHead) (arguments : List ℕ) (old new : Books) → Notes head old new → ActsAs (outcome context (null_message head) arguments) old new (Reply (reply_head head.xid Success) None)
+null_served context head arguments old new notes =
+    asked_acts context (record { head = head; request = requests.Void voids.Null }) arguments old new new null_answer (Reply (reply_head head.xid Success) None) notes (null_acts context head arguments new)
+    (λ l h. null_told context.caller (length l.changes) head.xid context.listener.host (shown_of l))
 
 -- ---- entries of forwarded calls
 

@@ -32,7 +32,8 @@ use Rattle.rb_core.specs.Step.{context_in, with_ledger, with_reply, settled_in, 
 use Rattle.rb_core.specs.CallCosts.{NoRecordEnds, has_ended}
 use Rattle.rb_core.specs.Core.{context_of, answering_heard}
 use Rattle.rb_core.specs.AtOnce.{at_once, at_once_in, owes}
-use Rattle.rb_core.specs.Listings.{Evicts, source_in}
+use Rattle.rb_core.specs.Listings.{source_in}
+use Rattle.rb_core.specs.Serving.{ServesInRoom}
 use Rattle.rb_core.specs.Losses.{began_in, crowding, evicted, evicting, with_room}
 use Rattle.rb_registry.specs.Registry.{Registry}
 use Rattle.rb_core.proofs.Crowds.{begins_changed, evicted_changed, crowding_alike}
@@ -183,12 +184,9 @@ closed_refused old id table f acts = record {
 
 -- ---- a message
 
--- What serving a message did where a call sees this: room was made, and these connections are left.
+-- What serving a message did where a call sees this: these connections and books are left.
 pub record Served (context : Context) (old : Held) (message : Message) (arguments : List ℕ) (table : Table) (books : Books) (given : Outcome) : Type 0 where
-  pub mid : Books
-  pub makes : Evicts context message old.connections old.books table mid
-  pub acts : ActsAs (outcome context message arguments) mid books given
-  pub goes_on : (c : Connections) → StandsForConnections (source_in context.listener.host mid) table c → StandsForConnections (source_in context.listener.host books) table c
+  pub acts : ServesInRoom context message arguments old.connections old.books table books given
   pub frame : SameFrame old.books books
   pub stays : StaysTable old.connections table
 
@@ -200,18 +198,16 @@ module _ (old : Held) (caller : Caller) (message : Message) (arguments : List �
   same_context : context_of old caller ≡ context_in s caller
   same_context = rw (h.setting, h.clock) refl
 
-  made : StandsForConnections (source_in old.setting.listener.host served.mid) table (evicting (crowding (context_of old caller) message s.connections.all s.ledger) s.connections) × StandsForLedger served.mid s.ledger
-  made = served.makes s.connections s.ledger h.connections h.ledger
-
   pub serve_gives : given ≡ (outcome (context_in s caller) message arguments s.ledger).0
-  serve_gives = subst (λ (x : Context). given ≡ (outcome x message arguments s.ledger).0) same_context (served.acts.gives s.ledger made.1)
+  serve_gives = subst (λ (x : Context). given ≡ (outcome x message arguments s.ledger).0) same_context (served.acts.gives s.connections s.ledger h.connections h.ledger)
 
   pub serve_stands : StandsForLedger books (outcome (context_in s caller) message arguments s.ledger).1
-  serve_stands = subst (λ (x : Context). StandsForLedger books (outcome x message arguments s.ledger).1) same_context (served.acts.stands s.ledger made.1)
+  serve_stands = subst (λ (x : Context). StandsForLedger books (outcome x message arguments s.ledger).1) same_context (served.acts.ledger s.connections s.ledger h.connections h.ledger)
 
   pub serve_connections : StandsForConnections (source_in old.setting.listener.host books) table (evicting (crowd_in s caller message) s.connections)
   serve_connections =
-      subst (λ (x : Context). StandsForConnections (source_in old.setting.listener.host books) table (evicting (crowding x message s.connections.all s.ledger) s.connections)) same_context (served.goes_on _ made.0)
+      subst (λ (x : Context). StandsForConnections (source_in old.setting.listener.host books) table (evicting (crowding x message s.connections.all s.ledger) s.connections)) same_context
+      (served.acts.connections s.connections s.ledger h.connections h.ledger)
 
 -- a datagram is answered
 module _ (old : Held) (now clock : ℕ) (peer : Peer) (content : List ℕ) (table : Table) (books : Books) (reply : List ℕ) (tie : ℕ) (is : clock ≡ max old.clock now) (few : length reply ≤ longest_reply) where

@@ -80,10 +80,13 @@ look_cost table = find_cost (slot_count table)
 abbrev pub room_cost_of : Table → Books → ℕ
 room_cost_of table books = make_room_cost (slot_count table) (kept_count books)
 
--- what it costs to answer what a record said, once its arguments are there: to make room, to serve it, and to let its
--- connection go on
+-- what it costs to serve a message once there is room for its row
+abbrev pub message_cost : Table → Books → Books → ℕ
+message_cost table old new = room_cost_of table old + serving_cost old new
+
+-- what it costs to answer what a record said, once its arguments are there: to serve it, and to let its connection go on
 abbrev pub served_cost : Table → Books → Books → ℕ
-served_cost table old new = room_cost_of table old + serving_cost old new + list_cost (slot_count table) new.registry
+served_cost table old new = message_cost table old new + list_cost (slot_count table) new.registry
 
 -- how many forwarded calls there may be
 abbrev pub forwards_cap : Books → ℕ

@@ -1,5 +1,7 @@
 -- What the code answers a message with: a reply that is written, or a list that is streamed.
 use Rattle.std.specs.Prelude.{◌≡◌, ◌<◌, ⊤, ℕ, Bool, List, [], length, Option, Some, None}
+use Rattle.rb_rpc.specs.declared.call.CallHead.{CallHead}
+use Rattle.rb_rpc.specs.declared.call.Verdict.{Verdict}
 use Rattle.rb_rpc.specs.declared.peer.Caller.{Caller}
 use Rattle.rb_rpc.specs.declared.peer.Caller.TheVariants.{Tcp, Udp}
 use Rattle.rb_registry.specs.Registry.{rows_of}
@@ -20,8 +22,10 @@ use Rattle.rb_core.specs.declared.serve.Served.{Served}
 use Rattle.rb_core.specs.declared.serve.Served.TheVariants.{Told, Listed}
 use Rattle.rb_core.specs.declared.types.Outcome.{Outcome as Written}
 use Rattle.rb_core.specs.declared.types.Outcome.TheVariants as outcomes
-use Rattle.rb_core.specs.StandsFor.{Source, Table}
-use Rattle.rb_core.specs.Calls.{Outcome, Outcome as said, is_no_call, told_as, outcome}
+use Rattle.rb_core.specs.StandsFor.{Source, Table, StandsForConnections}
+use Rattle.rb_core.specs.State.{Connections}
+use Rattle.rb_core.specs.Losses.{crowding, evicting}
+use Rattle.rb_core.specs.Calls.{Outcome, Outcome as said, is_no_call, told_as, outcome, message_with, null_message}
 use Rattle.rb_core.specs.Core.{outcome_with}
 use Rattle.rb_core.specs.Slots.{SlotBecomesFrom, BecomesFrom, settling}
 use Rattle.rb_core.specs.declared.message.Message.{Message}
@@ -58,6 +62,27 @@ TellsAnswer books context xid given served reply =
 abbrev pub ServesMessage : Context → Message → List ℕ → Books → Books → Served → Kept → Type 0
 ServesMessage context message arguments old new served out =
     ActsAs (outcome context message arguments) old new (served_in (source_in context.listener.host new) served out.bytes)
+
+-- A message is served as the outcome says, once there is room for its row: from the connections and each ledger that were
+-- stood for before.
+pub record ServesInRoom (context : Context) (message : Message) (arguments : List ℕ) (table : Table) (old : Books) (left : Table) (new : Books) (given : Outcome) : Type 0 where
+  pub gives : (c : Connections) (l : Ledger) → StandsForConnections (source_in context.listener.host old) table c
+      → StandsForLedger old l → given ≡ (outcome context message arguments l).0
+  pub ledger : (c : Connections) (l : Ledger) → StandsForConnections (source_in context.listener.host old) table c
+      → StandsForLedger old l → StandsForLedger new (outcome context message arguments l).1
+  pub connections : (c : Connections) (l : Ledger) → StandsForConnections (source_in context.listener.host old) table c
+      → StandsForLedger old l → StandsForConnections (source_in context.listener.host new) left (evicting (crowding context message c.all l) c)
+
+-- The data on which this is the verdict is served so, behind whose head are these bytes.
+abbrev pub ServesVerdict : Context → Verdict → List ℕ → Table → Books → Table → Books → Served → Kept → Type 0
+ServesVerdict context verdict arguments table old left new served out =
+    ServesInRoom context (message_with verdict arguments) arguments table old left new
+    (served_in (source_in context.listener.host new) served out.bytes)
+
+-- A call of NULL of this head is served so, whatever it sees.
+abbrev pub ServesNull : CallHead → Books → Books → Served → Kept → Type 0
+ServesNull head old new served out =
+    (context : Context) (arguments : List ℕ) → ServesMessage context (null_message head) arguments old new served out
 
 -- The live connection of the number owes a list.
 abbrev pub BeginsList : Source → ℕ → ℕ → ListReply → Table → Table → Type 0

@@ -3,12 +3,11 @@ ghost use Rattle.std.specs.Prelude.{◌≡◌, ◌≤◌, IsTrue};
 ghost use Rattle.rb_core.specs.State.{are_good};
 ghost use Rattle.rb_core.specs.Bounds.{bytes_bound};
 
-use crate::answer::answer;
+use crate::answer::{answer, serve_verdict};
 use crate::connections::{BUFFER_SIZE, Connections, LONGEST_FRAGMENT};
-use crate::message::{arguments_behind, message_with};
+use crate::message::arguments_behind;
 use crate::reading::kept_arguments;
-use crate::rooms::make_room;
-use crate::serve::{LONGEST_REPLY, Served, put_end, serve};
+use crate::serve::{LONGEST_REPLY, Served, put_end};
 use crate::slot::{Heard, Received, Whole};
 use crate::types::{CoreFault, Exchanged, Expired, Limits, Outcome, Taken, Told};
 use rb_forward::{Ended, FwdId, Unsent};
@@ -260,18 +259,11 @@ impl Core {
         self.reply.clear(meter);
         let verdict = read_call(content);
         let arguments = arguments_behind(verdict, content);
-        let message = &message_with(&verdict, arguments);
-        make_room(
+        let served = serve_verdict(
             &mut self.connections,
             &mut self.books,
             &context,
-            message,
-            meter,
-        );
-        let served = serve(
-            &mut self.books,
-            &context,
-            message,
+            &verdict,
             arguments,
             &mut self.reply,
             meter,

@@ -1,9 +1,9 @@
 //! What the data of a record, or a datagram, says: the order of refusals.
-ghost use Rattle.std.specs.Prelude.{◌≡◌, length};
+ghost use Rattle.std.specs.Prelude.{◌≡◌, length, IfSome};
 ghost use Rattle.rb_rpc.specs.Verdict.{verdict as verdict_of, EndsWithin};
 ghost use Rattle.rb_feed.specs.Feeds.{arguments_of};
 ghost use Rattle.rb_core.specs.Reading.{HasArgsIn};
-ghost use Rattle.rb_core.specs.Calls.{is_served, request_of, call_of, message_with, message_of};
+ghost use Rattle.rb_core.specs.Calls.{is_served, request_of, call_of, message_with, message_of, SaysNull};
 
 use rb_proto::{ArgumentFault, Call, Request, VoidProcedure, read_args};
 use rb_registry::RPCB_PROG;
@@ -49,10 +49,27 @@ fn request_of<'a>(head: &CallHead, request: Result<Request<'a>, ArgumentFault>) 
     }
 }
 
+/// The head of a call of NULL. Its head is all that it says: it has no arguments, and no results (RFC 1833 sections 2.2 and
+/// 3.2).
+#[tactic(auto, unfolding(crate::specs::Calls::call_of, crate::specs::Calls::request_of))]
+pub fn null_call(verdict: &Verdict) -> Option<&CallHead>
+    ensures { IfSome result (λ head. SaysNull verdict.now head.now) }
+{
+    let Verdict::Call(head, _) = verdict else {
+        return None;
+    };
+    if head.prog != RPCB_PROG || !is_served(head.vers) {
+        return None;
+    }
+    match VoidProcedure::at(head.vers, head.proc) {
+        Some(VoidProcedure::Null) => Some(head),
+        _ => None,
+    }
+}
+
 /// What a message says on which this is the verdict, and these are the bytes behind its head.
 ///
-/// Each line that decides returns at once: where all of them meet in one place, all their words are moved there. A procedure
-/// without arguments comes before the others, since it has none to be read.
+/// Each line that decides returns at once: where all of them meet in one place, all their words are moved there.
 #[tactic(auto, unfolding(crate::specs::Calls::call_of, crate::specs::Calls::request_of), using(crate::proofs::AskedArgs::message_has))]
 pub fn message_with<'a>(verdict: &Verdict, arguments: &'a [u8]) -> Message<'a>
     ensures message { result ≡ message_with verdict.now arguments.now }
@@ -69,10 +86,6 @@ pub fn message_with<'a>(verdict: &Verdict, arguments: &'a [u8]) -> Message<'a>
     }
     if !is_served(head.vers) {
         return refusal(head.xid, ReplyStatus::ProgMismatch(2, 4));
-    }
-    if let Some(procedure) = VoidProcedure::at(head.vers, head.proc) {
-        let (head, request) = (*head, Request::Void(procedure));
-        return Message::Asked(Call { head, request });
     }
     request_of(head, read_args(head.vers, head.proc, arguments))
 }

@@ -11,13 +11,15 @@ ghost use Rattle.rb_forward.specs.Outcomes.{PassesWithin};
 ghost use Rattle.rb_forward.specs.StandsFor.{slots_of};
 ghost use Rattle.rb_forward.specs.Table.{IsNew};
 ghost use Rattle.rb_proto.specs.Forwarding.{forwarded_bytes};
+ghost use Rattle.rb_core.specs.declared.serve.Served.TheVariants.{Told};
+ghost use Rattle.rb_core.specs.declared.types.Outcome.TheVariants.{Reply};
 ghost use Rattle.rb_core.specs.Calls.{reply_in, success, longest_reply};
 ghost use Rattle.rb_core.specs.Ending.{told_failed, told_at};
 ghost use Rattle.rb_core.specs.Reading.{HasArgsIn};
 ghost use Rattle.rb_core.specs.Awaits.{kind_of, StayUnlessForwarded};
 ghost use Rattle.rb_core.specs.Listings.{HasRoom};
 ghost use Rattle.rb_core.specs.Core.{given_in};
-ghost use Rattle.rb_core.specs.Serving.{TellsAnswer, ServesMessage, kind_in, IsWritten, IsStreamedTo, streamed};
+ghost use Rattle.rb_core.specs.Serving.{TellsAnswer, ServesMessage, ServesNull, kind_in, IsWritten, IsStreamedTo, streamed};
 ghost use Rattle.rb_core.specs.AtOnce.{IsLeft, count_at_once, whole_cost};
 ghost use Rattle.rb_core.specs.CallCosts.{put_results_cost, serving_cost};
 ghost use Rattle.rb_core.specs.Slots.{IsDraft};
@@ -30,7 +32,7 @@ use rb_forward::{Ended, Forward, Outcome as End};
 use rb_proto::{
     Answer, Books, Context, Listener, Listing, Results, answer, put_forwarded, put_results, refusal,
 };
-use rb_rpc::{Caller, ReplyHead, ReplyStatus, put_reply};
+use rb_rpc::{CallHead, Caller, ReplyHead, ReplyStatus, put_reply};
 use rb_xdr::{Kept, Meter};
 
 /// The greatest length of a reply that is no streamed list, in bytes.
@@ -222,6 +224,26 @@ pub fn serve(
             put_answer(&given, xid, books, context, out, meter)
         }
     }
+}
+
+/// Serves a call of NULL: its reply, a head without results, is written into an empty buffer.
+pub fn serve_null(books: &mut Books, head: &CallHead, out: &mut Kept, meter: &mut Meter) -> Served
+    requires tie { meter.old.tie ≡ out.old.tie }
+    requires empty { out.old.bytes ≡ [] }
+    requires room { longest_reply ≤ out.old.cap }
+    ensures acts { ServesNull head.now books.old books.new result out.new }
+    ensures replies { result ≡ Told Reply }
+    ensures registry { books.new.registry ≡ books.old.registry }
+    ensures forwards { books.new.forwards ≡ books.old.forwards }
+    ensures frame { SameFrame books.old books.new }
+    ensures short { length out.new.bytes ≤ 32 }
+    ensures some { 0 < length out.new.bytes }
+    ensures out { (out.new.cap ≡ out.old.cap) × (out.new.tie ≡ out.old.tie) }
+    ensures cost { PaysAtMost meter.old meter.new 33 }
+{
+    books.note_call(head);
+    put_success(head.xid, out, meter);
+    Served::Told(Outcome::Reply)
 }
 
 /// Gives the reply that is written at once, where it is one fragment and there is room for the longest. It says what is left

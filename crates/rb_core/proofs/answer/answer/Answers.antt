@@ -1,6 +1,5 @@
 use Rattle.std.proofs.Common.{◌≡◌, true, Bool, List, ℕ, length, take, refl, sym, subst, ◌∙◌}
 use Rattle.rb_xdr.specs.Kept.{Kept}
-use Rattle.rb_registry.specs.Cursors.{GoesOn}
 use Rattle.rb_rpc.specs.declared.peer.Peer.{Peer}
 use Rattle.rb_rpc.specs.declared.peer.Caller.{Caller}
 use Rattle.rb_rpc.specs.declared.peer.Caller.TheVariants.{Tcp}
@@ -18,28 +17,25 @@ use Rattle.rb_core.specs.Step.{settled_in, serve_message}
 use Rattle.rb_core.specs.Core.{context_of}
 use Rattle.rb_core.specs.Slots.{Acts, StaysTable}
 use Rattle.rb_core.specs.Awaits.{has_idle, AreAwaited}
-use Rattle.rb_core.specs.Listings.{Evicts, source_in, AreTold}
-use Rattle.rb_core.specs.Serving.{ServesMessage, Serves, served_in, is_closed_by, kind_in}
+use Rattle.rb_core.specs.Listings.{source_in}
+use Rattle.rb_core.specs.Serving.{ServesInRoom, Serves, served_in, is_closed_by, kind_in}
 use Rattle.rb_core.specs.AtOnce.{IsLeft, answered_giving, given_when_answered, count_at_once, with_parts}
-use Rattle.rb_core.proofs.Answering.{joined_frames, told_then, served_by}
+use Rattle.rb_core.proofs.Answering.{served_by}
 use Rattle.rb_core.proofs.Awaited.{awaited_when_answered}
 use Rattle.rb_core.proofs.AtOnce.{Leaves, leaves, quiet_left, answer_giving, answer_counts, counts_served}
 use Rattle.rb_core.proofs.Steps.{Served as ServedIn}
 use Rattle.rb_core.proofs.Cores.{stays_twice}
 use Rattle.rb_core.proofs.answer.answer.Goals as goal
 
--- What was done with a message, where a call sees this: room was made, it was served, and its connection went on.
-record Done (context : Context) (message : Message) (before : Table) (old : Books) (id : ℕ) (arguments : List ℕ) (mid books : Books) (roomy table : Table) (served left : Served) (written drafted : Kept) (closed : Bool) : Type 0 where
-  makes : Evicts context message before old roomy mid
-  told : AreTold (source_in context.listener.host mid) roomy
-  acts : ServesMessage context message arguments mid books served written
+-- What was done with a message, where a call sees this: it was served, and its connection went on.
+record Done (context : Context) (message : Message) (before : Table) (old : Books) (id : ℕ) (arguments : List ℕ) (books : Books) (roomy table : Table) (served left : Served) (written drafted : Kept) (closed : Bool) : Type 0 where
+  acts : ServesInRoom context message arguments before old roomy books (served_in (source_in context.listener.host books) served written.bytes)
   goes : Serves (source_in context.listener.host books) id context.clock left drafted roomy table
   closes : closed ≡ is_closed_by (source_in context.listener.host books) left drafted.bytes
 
-module _ (view : Held) (id : ℕ) (peer : Peer) (message : Message) (arguments : List ℕ) (mid books : Books) (roomy table : Table) (served left : Served) (written drafted : Kept) (closed : Bool) (bytes : List ℕ)
-    (done : Done (context_of view (Tcp id peer)) message view.connections view.books id arguments mid books roomy table served left written drafted closed)
-    (cursors : GoesOn mid.registry books.registry) (floor : books.registry.floor ≡ mid.registry.floor) (first : SameFrame view.books mid) (second : SameFrame mid books)
-    (stays : StaysTable view.connections roomy) (later : StaysTable roomy table) (is_left : IsLeft served left written drafted bytes) (idle : has_idle id roomy ≡ true) where
+module _ (view : Held) (id : ℕ) (peer : Peer) (message : Message) (arguments : List ℕ) (books : Books) (roomy table : Table) (served left : Served) (written drafted : Kept) (closed : Bool) (bytes : List ℕ)
+    (done : Done (context_of view (Tcp id peer)) message view.connections view.books id arguments books roomy table served left written drafted closed)
+    (frame : SameFrame view.books books) (stays : StaysTable view.connections roomy) (later : StaysTable roomy table) (is_left : IsLeft served left written drafted bytes) (idle : has_idle id roomy ≡ true) where
   abbrev source : Source
   source = source_in view.setting.listener.host books
 
@@ -47,7 +43,7 @@ module _ (view : Held) (id : ℕ) (peer : Peer) (message : Message) (arguments :
   given = served_in source served written.bytes
 
   served_at : ServedIn (context_of view (Tcp id peer)) view message arguments roomy books given
-  served_at = served_by view (Tcp id peer) (context_of view (Tcp id peer)) refl roomy mid books cursors floor done.told message arguments given done.makes done.acts first second stays
+  served_at = served_by view (Tcp id peer) (context_of view (Tcp id peer)) refl message arguments roomy books given done.acts frame stays
 
   answers : Acts StandsFor (λ s. answered_giving id (length bytes) (settled_in id (serve_message s (Tcp id peer) message arguments))) view (record view { connections = table; books = books }) (closed, bytes)
   answers =
@@ -60,50 +56,42 @@ module _ (view : Held) (id : ℕ) (peer : Peer) (message : Message) (arguments :
       is ∙ counts_served room source served written.bytes
       ∙ sym (answer_counts room view id peer message arguments roomy books given served_at idle s h)
 
-pub serve-served-requires-clause-caller : goal.serve-served-requires-clause-caller
-serve-served-requires-clause-caller c =
-    subst (λ (x : Caller). IsNew x (slots_of c.make_room.new.books.forwards)) (sym c.requires.context) (rw c.make_room.ensures.forwards c.requires.caller)
-
-pub go_on-closed-requires-clause-told : goal.go_on-closed-requires-clause-told
-go_on-closed-requires-clause-told c =
-    told_then c.args.context.now.listener.host c.make_room.new.connections c.make_room.new.books c.serve-served.new.books c.serve-served.ensures.cursors c.serve-served.ensures.floor c.make_room.ensures.told
+pub serve_verdict-served-requires-clause-caller : goal.serve_verdict-served-requires-clause-caller
+serve_verdict-served-requires-clause-caller c =
+    subst (λ (x : Caller). IsNew x (slots_of c.args.books.now.forwards)) (sym c.requires.context) c.requires.caller
 
 abbrev said : goal.After-go_on-closed → Message
 said c = message_with c.args.heard.now.verdict c.args.arguments.now
 
 -- in a core in which a call sees what it saw
 done_in : (c : goal.After-go_on-closed) (held : Held) → c.args.context.now ≡ context_of held (Tcp c.args.id c.args.heard.now.peer)
-    → Done (context_of held (Tcp c.args.id c.args.heard.now.peer)) (said c) c.args.connections.now c.args.books.now c.args.id c.args.arguments.now c.make_room.new.books c.serve-served.new.books c.make_room.new.connections c.go_on-closed.new.self c.serve-served.result c.give_at_once-left.result.0 c.serve-served.new.out c.give_at_once-left.new.draft c.go_on-closed.result
+    → Done (context_of held (Tcp c.args.id c.args.heard.now.peer)) (said c) c.args.connections.now c.args.books.now c.args.id c.args.arguments.now c.serve_verdict-served.new.books c.serve_verdict-served.new.connections c.go_on-closed.new.self c.serve_verdict-served.result c.give_at_once-left.result.0 c.serve_verdict-served.new.out c.give_at_once-left.new.draft c.go_on-closed.result
 done_in c held is =
-    subst (λ (x : Context). Done x (said c) c.args.connections.now c.args.books.now c.args.id c.args.arguments.now c.make_room.new.books c.serve-served.new.books c.make_room.new.connections c.go_on-closed.new.self c.serve-served.result c.give_at_once-left.result.0 c.serve-served.new.out c.give_at_once-left.new.draft c.go_on-closed.result) is
-    (subst (λ (m : Message). Done c.args.context.now m c.args.connections.now c.args.books.now c.args.id c.args.arguments.now c.make_room.new.books c.serve-served.new.books c.make_room.new.connections c.go_on-closed.new.self c.serve-served.result c.give_at_once-left.result.0 c.serve-served.new.out c.give_at_once-left.new.draft c.go_on-closed.result) c.message_with.ensures.message
-    (record { makes = c.make_room.ensures.makes; told = c.make_room.ensures.told; acts = c.serve-served.ensures.acts; goes = c.go_on-closed.ensures.stands; closes = c.go_on-closed.ensures.closed }))
+    subst (λ (x : Context). Done x (said c) c.args.connections.now c.args.books.now c.args.id c.args.arguments.now c.serve_verdict-served.new.books c.serve_verdict-served.new.connections c.go_on-closed.new.self c.serve_verdict-served.result c.give_at_once-left.result.0 c.serve_verdict-served.new.out c.give_at_once-left.new.draft c.go_on-closed.result) is
+    (record { acts = c.serve_verdict-served.ensures.acts; goes = c.go_on-closed.ensures.stands; closes = c.go_on-closed.ensures.closed })
 
 pub returns-clause-acts : goal.returns-clause-acts
 returns-clause-acts c = λ held is.
-    answers (with_parts held c.args.connections.now c.args.books.now) c.args.id c.args.heard.now.peer (said c) c.args.arguments.now c.make_room.new.books c.serve-served.new.books c.make_room.new.connections c.go_on-closed.new.self c.serve-served.result c.give_at_once-left.result.0 c.serve-served.new.out c.give_at_once-left.new.draft c.go_on-closed.result
-    (take c.give_at_once-left.result.1 c.give_at_once-left.new.room) (done_in c held is) c.serve-served.ensures.cursors c.serve-served.ensures.floor c.make_room.ensures.frame c.serve-served.ensures.frame
-    c.make_room.ensures.stays c.go_on-closed.ensures.stays c.give_at_once-left.ensures.left (c.make_room.ensures.idle c.args.id c.requires.idle)
+    answers (with_parts held c.args.connections.now c.args.books.now) c.args.id c.args.heard.now.peer (said c) c.args.arguments.now c.serve_verdict-served.new.books c.serve_verdict-served.new.connections c.go_on-closed.new.self c.serve_verdict-served.result c.give_at_once-left.result.0 c.serve_verdict-served.new.out c.give_at_once-left.new.draft c.go_on-closed.result
+    (take c.give_at_once-left.result.1 c.give_at_once-left.new.room) (done_in c held is) c.serve_verdict-served.ensures.frame
+    c.serve_verdict-served.ensures.stays c.go_on-closed.ensures.stays c.give_at_once-left.ensures.left (c.serve_verdict-served.ensures.idle c.args.id c.requires.idle)
 
 pub returns-clause-count : goal.returns-clause-count
 returns-clause-count c = λ held is.
-    counts (with_parts held c.args.connections.now c.args.books.now) c.args.id c.args.heard.now.peer (said c) c.args.arguments.now c.make_room.new.books c.serve-served.new.books c.make_room.new.connections c.go_on-closed.new.self c.serve-served.result c.give_at_once-left.result.0 c.serve-served.new.out c.give_at_once-left.new.draft c.go_on-closed.result
-    (take c.give_at_once-left.result.1 c.give_at_once-left.new.room) (done_in c held is) c.serve-served.ensures.cursors c.serve-served.ensures.floor c.make_room.ensures.frame c.serve-served.ensures.frame
-    c.make_room.ensures.stays c.go_on-closed.ensures.stays c.give_at_once-left.ensures.left (c.make_room.ensures.idle c.args.id c.requires.idle)
+    counts (with_parts held c.args.connections.now c.args.books.now) c.args.id c.args.heard.now.peer (said c) c.args.arguments.now c.serve_verdict-served.new.books c.serve_verdict-served.new.connections c.go_on-closed.new.self c.serve_verdict-served.result c.give_at_once-left.result.0 c.serve_verdict-served.new.out c.give_at_once-left.new.draft c.go_on-closed.result
+    (take c.give_at_once-left.result.1 c.give_at_once-left.new.room) (done_in c held is) c.serve_verdict-served.ensures.frame
+    c.serve_verdict-served.ensures.stays c.go_on-closed.ensures.stays c.give_at_once-left.ensures.left (c.serve_verdict-served.ensures.idle c.args.id c.requires.idle)
     (length c.args.room.now) c.give_at_once-left.result.1 c.give_at_once-left.ensures.count
 
-anew_in : (c : goal.After-go_on-closed) → OnlyWaitsAnew (Tcp c.args.id c.args.heard.now.peer) (slots_of c.make_room.new.books.forwards) (slots_of c.serve-served.new.books.forwards)
-anew_in c = subst (λ (x : Caller). OnlyWaitsAnew x (slots_of c.make_room.new.books.forwards) (slots_of c.serve-served.new.books.forwards)) c.requires.context c.serve-served.ensures.waiting
+anew_in : (c : goal.After-go_on-closed) → OnlyWaitsAnew (Tcp c.args.id c.args.heard.now.peer) (slots_of c.args.books.now.forwards) (slots_of c.serve_verdict-served.new.books.forwards)
+anew_in c = subst (λ (x : Caller). OnlyWaitsAnew x (slots_of c.args.books.now.forwards) (slots_of c.serve_verdict-served.new.books.forwards)) c.requires.context c.serve_verdict-served.ensures.waiting
 
 pub returns-clause-awaited : goal.returns-clause-awaited
 returns-clause-awaited c = λ are.
-    let awaited : AreAwaited c.make_room.new.books.forwards c.make_room.new.connections = rw c.make_room.ensures.forwards (λ number waits. c.make_room.ensures.free number (are number waits)) in
-    awaited_when_answered c.make_room.new.books.forwards c.serve-served.new.books.forwards c.args.id c.args.heard.now.peer c.make_room.new.connections c.go_on-closed.new.self (kind_in c.give_at_once-left.result.0)
-    awaited (rw c.make_room.ensures.forwards c.requires.caller) (anew_in c) (quiet_left _ _ c.serve-served.result c.give_at_once-left.result.0 _ _ _ c.give_at_once-left.ensures.left c.serve-served.ensures.quiet) c.go_on-closed.ensures.others
-    (λ is. c.go_on-closed.ensures.awaits is (c.make_room.ensures.idle c.args.id c.requires.idle))
-
-pub returns-clause-frame : goal.returns-clause-frame
-returns-clause-frame c = joined_frames _ _ _ c.make_room.ensures.frame c.serve-served.ensures.frame
+    let awaited : AreAwaited c.args.books.now.forwards c.serve_verdict-served.new.connections = λ number waits. c.serve_verdict-served.ensures.free number (are number waits) in
+    awaited_when_answered c.args.books.now.forwards c.serve_verdict-served.new.books.forwards c.args.id c.args.heard.now.peer c.serve_verdict-served.new.connections c.go_on-closed.new.self (kind_in c.give_at_once-left.result.0)
+    awaited c.requires.caller (anew_in c) (quiet_left _ _ c.serve_verdict-served.result c.give_at_once-left.result.0 _ _ _ c.give_at_once-left.ensures.left c.serve_verdict-served.ensures.quiet) c.go_on-closed.ensures.others
+    (λ is. c.go_on-closed.ensures.awaits is (c.serve_verdict-served.ensures.idle c.args.id c.requires.idle))
 
 pub returns-clause-stays : goal.returns-clause-stays
-returns-clause-stays c = stays_twice _ _ _ c.make_room.ensures.stays c.go_on-closed.ensures.stays
+returns-clause-stays c = stays_twice _ _ _ c.serve_verdict-served.ensures.stays c.go_on-closed.ensures.stays
