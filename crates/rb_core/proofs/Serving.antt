@@ -33,8 +33,9 @@ use Rattle.rb_core.specs.Listings.{source_in}
 use Rattle.rb_core.specs.Serving.{list_outcome, listing_outcome, IsStreamedTo, streamed}
 use Rattle.rb_core.proofs.Replies.{some_head, short_head}
 use Rattle.rb_core.specs.declared.message.Message.TheVariants as says
-use Rattle.rb_core.specs.Calls.{Outcome, told_as, told_results, reply_with, outcome, fitting, success, longest_reply, null_message}
+use Rattle.rb_core.specs.Calls.{Outcome, told_as, told_results, reply_with, outcome, fitting, success, longest_reply}
 use Rattle.rb_core.specs.Calls.Outcome.{Reply}
+use Rattle.rb_core.specs.Reading.{null_message}
 use Rattle.rb_core.specs.Awaits.{kind_of, StayUnlessForwarded as StaysUnless}
 
 -- the books stand for the ledger in which the call is noted, with the registry as it was

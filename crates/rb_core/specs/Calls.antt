@@ -1,5 +1,5 @@
 -- What a message says, by the order of refusals, and what it is answered with (RFC 5531 sections 8 and 9).
-use Rattle.std.specs.Prelude.{◌≡◌, ℕ, ◌==◌, nat_lt, not, ◌||◌, Bool, true, false, if◌then◌else◌, List, [], ◌++◌, length, Option, Some, None, Result, Ok, Err}
+use Rattle.std.specs.Prelude.{ℕ, ◌==◌, nat_lt, not, ◌||◌, Bool, true, false, if◌then◌else◌, List, [], ◌++◌, length, Option, Some, None, Result, Ok, Err}
 use Rattle.rb_rpc.specs.declared.call.CallHead.{CallHead}
 use Rattle.rb_rpc.specs.declared.call.Verdict.{Verdict}
 use Rattle.rb_rpc.specs.declared.call.Verdict.TheVariants as verdicts
@@ -13,9 +13,7 @@ use Rattle.rb_feed.specs.Feeds.{arguments_of}
 use Rattle.rb_registry.specs.Rows.{rpcb_prog}
 use Rattle.rb_proto.specs.declared.request.ArgumentFault.{ArgumentFault}
 use Rattle.rb_proto.specs.declared.request.ArgumentFault.TheVariants as faults
-use Rattle.rb_proto.specs.declared.procedure.VoidProcedure.TheVariants as voids
 use Rattle.rb_proto.specs.declared.request.Request.{Request}
-use Rattle.rb_proto.specs.declared.request.Request.TheVariants as requests
 use Rattle.rb_proto.specs.declared.context.Context.{Context}
 use Rattle.rb_proto.specs.Arguments.{read_request}
 use Rattle.rb_proto.specs.Ledger.{Ledger, called}
@@ -57,14 +55,6 @@ message_with verdicts.NoCall arguments = says.NoCall
 message_with (verdicts.RpcMismatch xid) arguments = refusal xid (replies.RpcMismatch 2 2)
 message_with (verdicts.AuthError xid stat) arguments = refusal xid (replies.AuthError stat)
 message_with (verdicts.Call head place) arguments = call_of head arguments
-
--- a call of NULL
-abbrev pub null_message : CallHead → Message
-null_message head = says.Asked (record { head = head; request = requests.Void voids.Null })
-
--- whatever bytes follow it, the head is that of a call of NULL
-abbrev pub SaysNull : Verdict → CallHead → Type 0
-SaysNull verdict head = (arguments : List ℕ) → message_with verdict arguments ≡ null_message head
 
 -- the data of a whole record, or a datagram
 unfoldable pub message_of : List ℕ → Message

@@ -1,12 +1,17 @@
--- How a record is read piece by piece, and that what is kept of it says enough (RFC 5531 section 11).
+-- How a record is read piece by piece, and that what is kept of it says enough (RFC 5531 section 11). What is told of a
+-- message.
 use Rattle.std.specs.Prelude.{◌≡◌, ⊤, ℕ, ◌+◌, ◌-◌, List, ◌++◌, length, take, Option, Some, None}
 use Rattle.rb_xdr.specs.Kept.{Kept}
+use Rattle.rb_rpc.specs.declared.call.CallHead.{CallHead}
+use Rattle.rb_rpc.specs.declared.call.Verdict.{Verdict}
 use Rattle.rb_rpc.specs.declared.marks.Marks.{Marks}
 use Rattle.rb_rpc.specs.Records.{first_record, data_of}
 use Rattle.rb_rpc.specs.Verdict.{verdict}
 use Rattle.rb_rpc.specs.Marks.{StandsForFed}
 use Rattle.rb_feed.specs.Feeds.{StandsForCall, arguments_of}
 use Rattle.rb_proto.specs.declared.context.Context.{Context}
+use Rattle.rb_proto.specs.declared.procedure.VoidProcedure.TheVariants as voids
+use Rattle.rb_proto.specs.declared.request.Request.TheVariants as requests
 use Rattle.rb_proto.specs.Arguments.{HasArgs}
 use Rattle.rb_proto.specs.Ledger.{Ledger}
 use Rattle.rb_core.specs.declared.message.Message.{Message}
@@ -78,6 +83,16 @@ HasArgsIn says.NoCall arguments = ⊤
 HasArgsIn (says.Refused head) arguments = ⊤
 HasArgsIn (says.Garbage head) arguments = ⊤
 HasArgsIn (says.Asked call) arguments = HasArgs call.request arguments
+
+-- ---- NULL
+
+-- a call of NULL
+abbrev pub null_message : CallHead → Message
+null_message head = says.Asked (record { head = head; request = requests.Void voids.Null })
+
+-- a message of this verdict is a call of NULL of this head, whatever bytes follow it
+abbrev pub SaysNull : Verdict → CallHead → Type 0
+SaysNull verdict head = (arguments : List ℕ) → message_with verdict arguments ≡ null_message head
 
 -- ---- what is kept says enough
 

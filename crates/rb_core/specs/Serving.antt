@@ -25,12 +25,13 @@ use Rattle.rb_core.specs.declared.types.Outcome.TheVariants as outcomes
 use Rattle.rb_core.specs.StandsFor.{Source, Table, StandsForConnections}
 use Rattle.rb_core.specs.State.{Connections}
 use Rattle.rb_core.specs.Losses.{crowding, evicting}
-use Rattle.rb_core.specs.Calls.{Outcome, Outcome as said, is_no_call, told_as, outcome, message_with, null_message}
+use Rattle.rb_core.specs.Calls.{Outcome, Outcome as said, is_no_call, told_as, outcome, message_with}
 use Rattle.rb_core.specs.Core.{outcome_with}
 use Rattle.rb_core.specs.Slots.{SlotBecomesFrom, BecomesFrom, settling}
 use Rattle.rb_core.specs.declared.message.Message.{Message}
 use Rattle.rb_core.specs.declared.slot.Slot.{Slot}
 use Rattle.rb_core.specs.Connections.{settled}
+use Rattle.rb_core.specs.Reading.{null_message}
 use Rattle.rb_core.specs.Listings.{source_in}
 
 -- a list of which nothing was given yet

@@ -1,9 +1,10 @@
 //! What the data of a record, or a datagram, says: the order of refusals.
-ghost use Rattle.std.specs.Prelude.{◌≡◌, length, IfSome};
+ghost use Rattle.std.specs.Prelude.{◌≡◌, length, None, IfSome};
+ghost use Rattle.rb_rpc.specs.declared.call.CallHead.{CallHead};
 ghost use Rattle.rb_rpc.specs.Verdict.{verdict as verdict_of, EndsWithin};
 ghost use Rattle.rb_feed.specs.Feeds.{arguments_of};
-ghost use Rattle.rb_core.specs.Reading.{HasArgsIn};
-ghost use Rattle.rb_core.specs.Calls.{is_served, request_of, call_of, message_with, message_of, SaysNull};
+ghost use Rattle.rb_core.specs.Reading.{HasArgsIn, SaysNull};
+ghost use Rattle.rb_core.specs.Calls.{is_served, request_of, call_of, message_with, message_of};
 
 use rb_proto::{ArgumentFault, Call, Request, VoidProcedure, read_args};
 use rb_registry::RPCB_PROG;
@@ -49,11 +50,12 @@ fn request_of<'a>(head: &CallHead, request: Result<Request<'a>, ArgumentFault>) 
     }
 }
 
-/// The head of a call of NULL. Its head is all that it says: it has no arguments, and no results (RFC 1833 sections 2.2 and
-/// 3.2).
+/// The head of a call of NULL, None for all others. Its head is all that it says: it has neither arguments nor results (RFC
+/// 1833 sections 2.2 and 3.2).
 #[tactic(auto, unfolding(crate::specs::Calls::call_of, crate::specs::Calls::request_of))]
 pub fn null_call(verdict: &Verdict) -> Option<&CallHead>
-    ensures { IfSome result (λ head. SaysNull verdict.now head.now) }
+    ensures says { IfSome result (λ head. SaysNull verdict.now head.now) }
+    ensures others { result ≡ None → (head : CallHead) → SaysNull verdict.now head → ⊥ }
 {
     let Verdict::Call(head, _) = verdict else {
         return None;
@@ -61,8 +63,8 @@ pub fn null_call(verdict: &Verdict) -> Option<&CallHead>
     if head.prog != RPCB_PROG || !is_served(head.vers) {
         return None;
     }
-    match VoidProcedure::at(head.vers, head.proc) {
-        Some(VoidProcedure::Null) => Some(head),
+    match VoidProcedure::at(head.vers, head.proc)? {
+        VoidProcedure::Null => Some(head),
         _ => None,
     }
 }

@@ -8,7 +8,7 @@ ghost use Rattle.rb_tests.specs.Ready.{AreReady};
 use rb_forward::{Forward, FwdId, Kind};
 use rb_proto::{
     Answer, ArgumentFault, Books, Call, Context, Entry, ListReply, Listener, Listing, Mapping,
-    Netbuf, RemoteCall, Rpcb, answer, forwards_are_noted_once, forwards_go_to_rows,
+    Netbuf, RemoteCall, Rpcb, VoidProcedure, answer, forwards_are_noted_once, forwards_go_to_rows,
     list_replies_go_on, put_forwarded, put_results, put_row, read_args, refusal,
     requests_are_of_the_grammar, worked_examples, worked_forwards, worked_lists,
 };
@@ -269,6 +269,13 @@ fn arguments_are_refused(rt: HostRuntime) {
         read_args(2, 1, &[0; 12]).err(),
         Some(ArgumentFault::GarbageArgs)
     );
+}
+
+#[test]
+fn procedures_without_arguments_are_found(rt: HostRuntime) {
+    assert_eq!(rt; VoidProcedure::at(4, 12), Some(VoidProcedure::Getstat));
+    assert_eq!(rt; VoidProcedure::at(2, 3), None);
+    assert_eq!(rt; VoidProcedure::at(3, 12), None);
 }
 
 #[test]

@@ -3,7 +3,7 @@ use Rattle.rb_rpc.specs.declared.call.CallHead.{CallHead}
 use Rattle.rb_proto.specs.declared.context.Context.{Context}
 use Rattle.rb_proto.specs.Answers.{adds_row, row_to_set}
 use Rattle.rb_proto.specs.Ledger.{Ledger}
-use Rattle.rb_core.specs.Calls.{null_message}
+use Rattle.rb_core.specs.Reading.{null_message}
 use Rattle.rb_core.specs.Losses.{asks_room}
 use Rattle.rb_core.proofs.Answering.{serves_in_room, serves_without_room, told_then}
 use Rattle.rb_core.proofs.answer.serve_verdict.Goals as goal
@@ -14,7 +14,7 @@ null_asks_none context head l = refl
 
 pub returns-in-Some-clause-acts : goal.returns-in-Some-clause-acts
 returns-in-Some-clause-acts c =
-    rw (c.in-Some.ensures c.args.arguments.now)
+    rw (c.in-Some.ensures.says c.args.arguments.now)
     (serves_without_room c.args.context.now (null_message c.in-Some.head.now) c.args.arguments.now c.args.connections.now c.args.books.now _ c.serve_null.new.books
     (null_asks_none c.args.context.now c.in-Some.head.now) c.serve_null.ensures.registry (c.serve_null.ensures.acts c.args.context.now c.args.arguments.now))
 
