@@ -18,16 +18,6 @@ use Rattle.rb_proto.specs.Ledger.{Ledger}
 use Rattle.rb_core.proofs.Crowding.{told_on, stands_on, stamps_low, none_evicted, not_asked}
 use Rattle.rb_core.proofs.Steps.{Served, same_source}
 
-pub joined_frames : (a b c : Books) → SameFrame a b → SameFrame b c → SameFrame a c
-joined_frames a b c first second = record {
-  limit = second.limit ∙ first.limit;
-  cap = second.cap ∙ first.cap;
-  first_xid = second.first_xid ∙ first.first_xid;
-  registry = second.registry ∙ first.registry;
-  stats = second.stats ∙ first.stats;
-  forwards = second.forwards ∙ first.forwards;
-}
-
 -- what a call sees, of what is held by its other name
 pub sees : (view now : Held) (context : Context) (caller : Caller) → view ≡ now → context ≡ context_of now caller → context ≡ context_of view caller
 sees view now context caller same is = is ∙ ap (λ (h : Held). context_of h caller) (sym same)
