@@ -1,25 +1,43 @@
 -- What a call pays is within the bound on its steps.
-use Rattle.std.proofs.Common.{◌≡◌, ◌≤◌, ℕ, ◌+◌, max, cond, true, false, eqb, List, length, Result, Ok, Err, refl, sym, ap, ◌∙◌, arith}
+use Rattle.std.proofs.Common.{◌≡◌, ◌≤◌, ℕ, ◌+◌, max, cond, true, false, eqb, List, [], length, Option, Some, None, Result, Ok, Err, refl, sym, ap, ◌∙◌, arith}
 use Rattle.rb_xdr.specs.Meter.{Meter, PaysAtMost}
 use Rattle.rb_rpc.specs.declared.peer.Peer.{Peer}
 use Rattle.rb_forward.specs.Costs.{sent_cost, unsent_cost}
 use Rattle.rb_forward.specs.StandsFor.{longest_arguments as longest_args}
 use Rattle.rb_core.specs.Calls.{Outcome, longest_reply}
 use Rattle.rb_core.specs.StandsFor.{longest_arguments, buffer_size, Held, StandsFor}
-use Rattle.rb_core.specs.State.{State, Setting, Connections}
+use Rattle.rb_core.specs.State.{State, Setting, Connection, Connections}
 use Rattle.rb_core.specs.declared.types.CoreFault.{CoreFault}
-use Rattle.rb_core.specs.Connections.{on_live, giving}
+use Rattle.rb_core.specs.Connections.{on_live, giving, live_connection, Taking, taking}
+use Rattle.rb_core.specs.Connections.Taking.{TakesNone, GoesOn, Ends}
+use Rattle.std.specs.Option.{option_map_or}
+use Rattle.std.proofs.lemmas.List.{length-take}
+use Rattle.rb_feed.specs.Feeds.{arguments_of}
 use Rattle.rb_core.specs.AtOnce.{without_front, exchanging}
 use Rattle.rb_core.specs.Step.{Taken, datagram, bytes, gave, moved, show_taken, step, IsReached}
 use Rattle.rb_core.specs.Step.Event.{Bytes, Datagram}
-use Rattle.rb_core.specs.Slots.{Acts}
-use Rattle.rb_core.specs.CallCosts.{look_cost, slot_count, kept_count, gave_cost, closing_cost, ending_cost, datagram_cost}
+use Rattle.rb_core.specs.Slots.{Acts, arguments_after, arguments_heard}
+use Rattle.rb_core.specs.CallCosts.{args_heard, look_cost, slot_count, kept_count, gave_cost, closing_cost, ending_cost, datagram_cost, IsCheapIfQuiet}
+use Rattle.rb_core.specs.WholeRuns.{StaysCheapIfQuiet}
 use Rattle.rb_core.specs.Costs.{pending_cost, take_cost, recount_cost, answer_cost}
 use Rattle.rb_core.specs.Events.{StaysWithinSteps}
 use Rattle.rb_core.proofs.EntriesKept.{step-follows}
 use Rattle.rb_core.proofs.Room.{reached-room}
 use Rattle.rb_core.proofs.RunSteps.{datagram_shown, same_state}
 use Rattle.rb_core.proofs.Spending.{at_most, connections_held, rows_held}
+
+-- no more arguments are kept than a call may have
+heard_few : (id : ℕ) (piece : List ℕ) (s : State) → args_heard id piece s ≤ longest_arguments
+heard_few id piece s = by_there (live_connection id s.connections.all)
+  where
+    by_taking : (t : Taking) → length (arguments_after [] t) ≤ longest_arguments
+    by_taking TakesNone = omega arith
+    by_taking (GoesOn fed) = omega arith
+    by_taking (Ends n content) = omega (arith, length-take longest_arguments (arguments_of content))
+
+    by_there : (m : Option Connection) → length (option_map_or (arguments_heard [] piece) m []) ≤ longest_arguments
+    by_there None = omega arith
+    by_there (Some c) = by_taking (taking c.phase piece)
 
 module _ (core : Held) (a b : Meter) where
   module _ (s : State) (h : StandsFor core s) where
@@ -74,13 +92,13 @@ module _ (core : Held) (a b : Meter) where
       omega (arith, limit, rows_held new t k)
 
   pub datagram_within : (new : Held) (now : ℕ) (peer : Peer) (content : List ℕ) (given : Outcome) → Acts StandsFor (λ s. datagram s now peer content) core new given
-      → PaysAtMost a b (datagram_cost core new) → StaysWithinSteps core (length content) 0 a b
+      → PaysAtMost a b (datagram_cost core new (length content)) → StaysWithinSteps core (length content) 0 a b
   unfolding step longest_reply longest_arguments buffer_size longest_args
   datagram_within new now peer content given acts pays = record {
     within = λ s h reached.
         let shows = datagram_shown core new (λ t. datagram t now peer content) given acts s h in
         let left = rows_left new s _ h shows.1 (step-follows s (Datagram now peer content)).setting in
-        at_most a b (datagram_cost core new) _ (omega (arith, few_connections s h reached, few_rows s h, left)) pays;
+        at_most a b (datagram_cost core new (length content)) _ (omega (arith, few_connections s h reached, few_rows s h, left, shows.1.short)) pays;
   }
 
   pub quiet_within : (taken : ℕ) → PaysAtMost a b (look_cost core.connections + (take_cost taken + recount_cost)) → StaysWithinSteps core taken 0 a b
@@ -96,7 +114,7 @@ module _ (core : Held) (a b : Meter) where
       by_result (Ok u, c) = refl
 
   pub exchange_within : (new : Held) (now id room n more : ℕ) (piece : List ℕ) (taken : Taken) (given : List ℕ) → Acts StandsFor (exchanging now id piece room) core new (Ok taken, given) → more ≤ n + 2
-      → PaysAtMost a b (look_cost core.connections + (take_cost taken.count + recount_cost) + answer_cost (slot_count core.connections) (kept_count core.books) (kept_count new.books) + more)
+      → ((s : State) → StandsFor core s → PaysAtMost a b (look_cost core.connections + (take_cost taken.count + recount_cost) + answer_cost (slot_count core.connections) (kept_count core.books) (kept_count new.books) (args_heard id piece s) + more))
       → StaysWithinSteps core taken.count n a b
   unfolding step longest_reply longest_arguments buffer_size longest_args
   exchange_within new now id room n more piece taken given acts few pays = record {
@@ -105,6 +123,12 @@ module _ (core : Held) (a b : Meter) where
         kept_setting now _ id (bytes s now id piece).1
         ∙ ap (λ (t : State). t.setting) (sym (same_state show_taken (λ t. bytes t now id piece) core new (bytes s now id piece))) ∙ (step-follows s (Bytes now id piece)).setting in
         let left = rows_left new s _ h (acts.stands s h) same in
-        at_most a b (look_cost core.connections + (take_cost taken.count + recount_cost) + answer_cost (slot_count core.connections) (kept_count core.books) (kept_count new.books) + more) _
-        (omega (arith, few, few_connections s h reached, few_rows s h, left)) pays;
+        let args = heard_few id piece s in
+        at_most a b (look_cost core.connections + (take_cost taken.count + recount_cost) + answer_cost (slot_count core.connections) (kept_count core.books) (kept_count new.books) (args_heard id piece s) + more) _
+        (omega (arith, few, few_connections s h reached, few_rows s h, left, args)) (pays s h);
   }
+
+  -- where no record ends, a piece costs a step for each byte that is taken, two for each connection, and 9
+  pub cheap_within : (id : ℕ) (piece : List ℕ) (result : Result Taken CoreFault) → IsCheapIfQuiet core id piece result a b → StaysCheapIfQuiet core id piece result a b
+  cheap_within id piece (Ok taken) cheap = λ s h reached none. at_most a b (look_cost core.connections + (take_cost taken.count + recount_cost)) _ (omega (arith, few_connections s h reached)) (cheap s h none)
+  cheap_within id piece (Err fault) cheap = λ s h reached none. at_most a b (look_cost core.connections + 0) _ (omega (arith, few_connections s h reached)) (cheap s h none)

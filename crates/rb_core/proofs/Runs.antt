@@ -1,14 +1,15 @@
 -- Runs go on by one event.
-use Rattle.std.proofs.Common.{◌≡◌, ◌<◌, ◌≤◌, ◌+◌, ℕ, zero, suc, List, [], ◌∷◌, ◌++◌, length, get_or, take, sym, ap, ◌∙◌, append_assoc, arith}
-use Rattle.std.proofs.lemmas.List.{take-map, map_more}
+use Rattle.std.proofs.Common.{◌≡◌, ◌<◌, ◌≤◌, ◌+◌, ℕ, zero, suc, List, [], ◌∷◌, ◌++◌, length, get_or, take, refl, sym, ap, ◌∙◌, append_assoc, arith}
+use Rattle.std.proofs.lemmas.List.{take-map, map_more, length-append, length-map, length-take}
 use Rattle.rb_core.specs.declared.events.Event as event
+use Rattle.rb_core.specs.declared.events.Output as output
 use Rattle.rb_xdr.specs.Meter.{Meter, PaysAtMost}
 use Rattle.rb_core.specs.Costs.{event_cost, run_cost}
 use Rattle.rb_core.specs.State.{State}
 use Rattle.rb_core.specs.Step.{Event, Output, step, run, after}
 use Rattle.rb_core.proofs.RunLaws.{run-append, after-append}
 use Rattle.rb_core.specs.StandsFor.{Held, StandsFor}
-use Rattle.rb_core.specs.Runs.{event_of, events_of, Happened}
+use Rattle.rb_core.specs.Runs.{event_of, output_of, events_of, outputs_of, answered_events, Happened}
 
 one_further : (events : List event.Event) (i : ℕ) (next : event.Event) → i < length events → next ≡ get_or events i next → take (i + 1) (events_of events) ≡ take i (events_of events) ++ event_of next ∷ []
 one_further events i next lt is =
@@ -50,3 +51,19 @@ run_cost-take s (x ∷ xs) (suc n) = let rest = run_cost-take (step s x).1 xs n 
 -- what the first events cost is within what all of them do
 pub pays_within : (s : State) (events : List Event) (n : ℕ) (a b : Meter) → PaysAtMost a b (run_cost s (take n events)) → PaysAtMost a b (run_cost s events)
 pays_within s events n a b h = let less = run_cost-take s events n in record { steps = omega (arith, h.steps, less); rises = h.rises; tie = h.tie }
+
+-- ---- how many events have happened
+
+run-length : (s : State) (events : List Event) → length (run s events) ≡ length events
+run-length s [] = refl
+run-length s (x ∷ xs) = ap (λ (n : ℕ). suc n) (run-length (step s x).1 xs)
+
+-- where the first i events have happened, theirs are the outputs that were appended
+pub answered_are : (s : State) (events : List event.Event) (i : ℕ) → i ≤ length events → (before now : List output.Output) (core : Held)
+    → Happened s (take i (events_of events)) (outputs_of before) (outputs_of now) core → answered_events events before now ≡ take i (events_of events)
+answered_are s events i within before now core h =
+    let all : length (outputs_of now) ≡ length (outputs_of before) + length (run s (take i (events_of events))) =
+    ap length h.outputs ∙ length-append (outputs_of before) (run s (take i (events_of events))) in
+    let ran : length (run s (take i (events_of events))) ≡ i =
+    run-length s (take i (events_of events)) ∙ length-take i (events_of events) ∙ omega (arith, within, length-map events event_of) in
+    ap (λ (n : ℕ). take n (events_of events)) (omega (arith, all, ran, length-map now output_of, length-map before output_of))

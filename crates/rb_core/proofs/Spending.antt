@@ -8,18 +8,19 @@ use Rattle.rb_core.specs.State.{State, Setting, Connection, at_moment}
 use Rattle.rb_core.specs.Connections.{Taking, taking, live_connection}
 use Rattle.rb_core.specs.Connections.Taking.{TakesNone, GoesOn, Ends}
 use Rattle.rb_core.specs.Step.{Taken, answering, with_count, when_taken, bytes, bytes_to}
+use Rattle.rb_core.specs.Calls.{longest_reply}
 use Rattle.rb_core.specs.Slots.{Acts}
-use Rattle.rb_core.specs.StandsFor.{Held, StandsFor, source_of}
-use Rattle.rb_core.specs.CallCosts.{datagram_cost, gave_cost, IsCheapIfQuiet, heard_cost, NoRecordEnds, taking_cost}
+use Rattle.rb_core.specs.StandsFor.{kept_of, Held, StandsFor, source_of}
+use Rattle.rb_core.specs.CallCosts.{args_heard, datagram_cost, gave_cost, IsCheapIfQuiet, heard_cost, NoRecordEnds, taking_cost}
 use Rattle.rb_core.specs.Costs.{find_cost, exchange_cost, read_cost, make_room_cost, serve_cost, begin_list_cost, given_cost, answer_cost, connection_count, row_limit, take_cost, recount_cost, count_taken, piece_cost, record_cost}
 use Rattle.rb_core.proofs.Slots.{as_many}
 
 -- a record ended, and it was answered, where so much more was paid
-pub answered_cost : (m0 m1 m2 : Meter) (n other rows left count more : ℕ) (h : Option Heard) (x : Heard) → h ≡ Some x → other ≡ n
+pub answered_cost : (m0 m1 m2 : Meter) (n other rows left count args more : ℕ) (h : Option Heard) (x : Heard) → h ≡ Some x → other ≡ n
     → PaysAtMost m0 m1 (find_cost n + (take_cost count + heard_cost h + recount_cost))
-    → PaysAtMost m1 m2 (read_cost + (make_room_cost other rows + serve_cost rows left + begin_list_cost other left) + more)
-    → PaysAtMost m0 m2 (find_cost n + (take_cost count + recount_cost) + answer_cost n rows left + more)
-answered_cost m0 m1 m2 n other rows left count more h x is same first second =
+    → PaysAtMost m1 m2 (read_cost args + (make_room_cost other rows + serve_cost rows left args longest_reply + begin_list_cost other left) + more)
+    → PaysAtMost m0 m2 (find_cost n + (take_cost count + recount_cost) + answer_cost n rows left args + more)
+answered_cost m0 m1 m2 n other rows left count args more h x is same first second =
     let taken : PaysAtMost m0 m1 (find_cost n + (take_cost count + exchange_cost + recount_cost)) = rw is at first in
     record {
       steps = omega (arith, taken.steps, second.steps, same);
@@ -58,13 +59,13 @@ pub at_most : (a b : Meter) (less more : ℕ) → less ≤ more → PaysAtMost a
 at_most a b less more le pays = record { steps = omega (arith, pays.steps, le); rises = pays.rises; tie = pays.tie }
 
 -- a datagram, and the bytes of the reply to it
-pub datagram_paid : (old new : Held) (s t : State) (a b : Meter) (more : ℕ) → StandsFor old s → StandsFor new t → t.setting ≡ s.setting → more ≤ 9001
-    → PaysAtMost a b (datagram_cost old new + more) → PaysAtMost a b (make_room_cost (connection_count s) (row_limit s) + serve_cost (row_limit s) (row_limit s) + 9003)
-datagram_paid old new s t a b more h k same few pays =
+pub datagram_paid : (old new : Held) (s t : State) (a b : Meter) (count more : ℕ) → StandsFor old s → StandsFor new t → t.setting ≡ s.setting → more ≤ 1 + length t.reply
+    → PaysAtMost a b (datagram_cost old new count + more) → PaysAtMost a b (make_room_cost (connection_count s) (row_limit s) + serve_cost (row_limit s) (row_limit s) count (length t.reply) + 2 + (1 + length t.reply))
+datagram_paid old new s t a b count more h k same few pays =
     let rows = rows_held old s h in
     let left = rows_held new t k in
     let limit : row_limit t ≡ row_limit s = ap (λ (x : Setting). x.limits.rows) same in
-    at_most a b (datagram_cost old new + more) _ (omega (arith, rows, left, limit, few, connections_held old s h)) pays
+    at_most a b (datagram_cost old new count + more) _ (omega (arith, rows, left, limit, few, connections_held old s h, ap length k.reply)) pays
 
 -- bytes that are given, after the look at how many are pending
 pub gave_paid : (old : Held) (s : State) (a b : Meter) → StandsFor old s → PaysAtMost a b (find_cost (length old.connections.slots) + 1 + gave_cost old) → PaysAtMost a b (2 * find_cost (connection_count s) + 1 + given_cost (row_limit s) + recount_cost)
@@ -111,25 +112,28 @@ module _ (old new : Held) (s : State) (h : StandsFor old s) (a b : Meter) (now i
   same_taken x y e = cc
 
   pub taken_cost_of : (taken : Taken) → result ≡ Ok taken → (bytes s now id piece).1.setting ≡ s.setting
-      → PaysAtMost a b (find_cost (length old.connections.slots) + (take_cost taken.count + recount_cost) + answer_cost (length old.connections.slots) (length (slots_of old.books.registry)) (length (slots_of new.books.registry)))
+      → PaysAtMost a b (find_cost (length old.connections.slots) + (take_cost taken.count + recount_cost) + answer_cost (length old.connections.slots) (length (slots_of old.books.registry)) (length (slots_of new.books.registry)) (args_heard id piece s))
       → IsPaid (live_connection id s.connections.all)
   unfolding bytes
   taken_cost_of taken is same cost = by_there (live_connection id s.connections.all) refl
     where
-      all_cost : PaysAtMost a b (find_cost (connection_count s) + (take_cost taken.count + recount_cost) + answer_cost (connection_count s) (row_limit s) (row_limit s))
+      all_cost : PaysAtMost a b (find_cost (connection_count s) + (take_cost taken.count + recount_cost) + answer_cost (connection_count s) (row_limit s) (row_limit s) (args_heard id piece s))
       all_cost =
           let rows = rows_held old s h in
           let left = rows_held new (bytes s now id piece).1 (acts.stands s h) in
           let limit : row_limit (bytes s now id piece).1 ≡ row_limit s = ap (λ (x : Setting). x.limits.rows) same in
-          at_most a b (find_cost (length old.connections.slots) + (take_cost taken.count + recount_cost) + answer_cost (length old.connections.slots) (length (slots_of old.books.registry)) (length (slots_of new.books.registry))) _
+          at_most a b (find_cost (length old.connections.slots) + (take_cost taken.count + recount_cost) + answer_cost (length old.connections.slots) (length (slots_of old.books.registry)) (length (slots_of new.books.registry)) (args_heard id piece s)) _
           (omega (arith, rows, left, limit, connections_held old s h)) cost
+
+      heard_is : (c : Connection) (n : ℕ) (content : List ℕ) → live_connection id s.connections.all ≡ Some c → taking c.phase piece ≡ Ends n content → args_heard id piece s ≡ length (kept_of content)
+      heard_is c n content e t = rw (e, t) refl
 
       by_taking : (c : Connection) (t : Taking) → live_connection id s.connections.all ≡ Some c → taking c.phase piece ≡ t → taken.count ≡ count_taken piece t
           → PaysAtMost a b (find_cost (connection_count s) + (take_cost (count_taken piece t) + recount_cost + record_cost s t))
       by_taking c TakesNone e t k = cheaply (take_cost 0 + recount_cost + 0) (rw is (omega (arith, k))) (rw e (rw t refl))
       by_taking c (GoesOn fed) e t k = cheaply (take_cost (length piece) + recount_cost + 0) (rw is (omega (arith, k))) (rw e (rw t refl))
       by_taking c (Ends n content) e t k =
-          at_most a b (find_cost (connection_count s) + (take_cost taken.count + recount_cost) + answer_cost (connection_count s) (row_limit s) (row_limit s)) _ (omega (arith, k)) all_cost
+          at_most a b (find_cost (connection_count s) + (take_cost taken.count + recount_cost) + answer_cost (connection_count s) (row_limit s) (row_limit s) (args_heard id piece s)) _ (omega (arith, k, heard_is c n content e t)) all_cost
 
       by_there : (m : Option Connection) → live_connection id s.connections.all ≡ m → IsPaid m
       by_there None e = absurd (no_one (live_connection id s.connections.all) e taken (sym is ∙ acts.gives s h))

@@ -1,6 +1,8 @@
 -- What an event costs is within the bound on its steps.
 use Rattle.std.proofs.Common.{◌≡◌, ◌≤◌, ◌<◌, ℕ, ◌+◌, ◌^◌, true, false, cond, Option, Some, None, List, [], ◌∷◌, ◌++◌, refl, sym, ap, ◌∙◌, arith}
 use Rattle.rb_forward.specs.StandsFor.{longest_arguments as longest_args}
+use Rattle.std.proofs.lemmas.List.{length-take}
+use Rattle.rb_feed.specs.Feeds.{arguments_of}
 use Rattle.rb_core.specs.Calls.{longest_reply}
 use Rattle.rb_core.specs.StandsFor.{longest_arguments, buffer_size, Held, StandsFor}
 use Rattle.rb_core.specs.State.{Setting, State, Connection, at_moment, opening, are_good}
@@ -18,22 +20,23 @@ use Rattle.rb_xdr.specs.Meter.{Meter, PaysAtMost}
 use Rattle.rb_core.proofs.EntriesKept.{after-setting}
 use Rattle.rb_core.proofs.Bounds.{held_bytes_are_bounded}
 use Rattle.rb_core.proofs.Spending.{at_most, taken-counts}
+use Rattle.rb_core.proofs.RepliesShown.{unsent-shown, datagram-shown, forward-shown, expiry-shown}
 
 -- an event more
-reached-step : (s : State) → IsReached s → (event : Event) → IsReached (step s event).1
+pub reached-step : (s : State) → IsReached s → (event : Event) → IsReached (step s event).1
 reached-step s r event =
     let start : State = opening r.limits r.listener r.first_xid r.now in
     let is : (step s event).1 ≡ after start (r.events ++ event ∷ []) = ap (λ (t : State). (step t event).1) r.is ∙ sym (after-append start r.events (event ∷ [])) in
     record { limits = r.limits; listener = r.listener; first_xid = r.first_xid; now = r.now; events = r.events ++ event ∷ []; is = is }
 
 module _ (s : State) (reached : IsReached s) (good : are_good s.setting.limits ≡ true) where
-  conns_few : connection_count s ≤ s.setting.limits.conns
+  pub conns_few : connection_count s ≤ s.setting.limits.conns
   conns_few = reached-room s reached
 
   -- ---- a piece of bytes
 
   module _ (now id : ℕ) (piece : List ℕ) where
-    shows : (t : Taken) → count_in (show_taken t) ≡ t.count
+    pub shows : (t : Taken) → count_in (show_taken t) ≡ t.count
     shows t = elim t.closed as (λ b. count_in (cond b (Output.TookAndClosed t.count) (Output.Took t.count)) ≡ t.count) [ true ↦ refl | false ↦ refl ]
 
     piece_within : (m : Option Connection) → live_connection id s.connections.all ≡ m
@@ -46,7 +49,7 @@ module _ (s : State) (reached : IsReached s) (good : are_good s.setting.limits �
             → find_cost (connection_count s) + (count_taken piece t + 1 + 4 + record_cost s t) ≤ steps_bound s.setting.limits (count_in (show_taken (when_taken (at_moment now s) id piece c t).0)) 0
         by_taking TakesNone k = omega (arith, conns_few, k)
         by_taking (GoesOn fed) k = omega (arith, conns_few, k)
-        by_taking (Ends n content) k = omega (arith, conns_few, k)
+        by_taking (Ends n content) k = omega (arith, conns_few, k, length-take longest_arguments (arguments_of content))
 
   -- ---- every event
 
@@ -58,11 +61,11 @@ module _ (s : State) (reached : IsReached s) (good : are_good s.setting.limits �
   event_within (Gave now id n) = omega (arith, conns_few)
   event_within (Closed id) = omega (arith, conns_few)
   event_within NextLost = omega (arith, conns_few)
-  event_within (Datagram now peer content) = omega (arith, conns_few)
-  event_within Unsent = omega arith
+  event_within (Datagram now peer content) = let shown = datagram-shown s now peer content in omega (arith, conns_few, shown)
+  event_within Unsent = let lent = unsent-shown s in omega (arith, lent)
   event_within (Sent number) = omega arith
-  event_within (Forward now from message) = omega (arith, conns_few)
-  event_within (Expire now) = omega (arith, conns_few)
+  event_within (Forward now from message) = let shown = forward-shown s now from message in omega (arith, conns_few, shown)
+  event_within (Expire now) = let shown = expiry-shown s now in omega (arith, conns_few, shown)
 
 pub steps_are_bounded : StepsAreBounded
 steps_are_bounded s reached good event = event_within s reached good event

@@ -1,6 +1,7 @@
 -- Replies that are given in the call that takes the end of their record: three events in one.
 use Rattle.std.specs.Prelude.{◌≡◌, ◌<◌, ◌≤◌, ℕ, ◌+◌, ◌==◌, nat_lt, Bool, true, false, not, ◌&&◌, ◌||◌, if◌then◌else◌, List, [], length, take, Option, Some, None, is_none, Result, Ok, Err}
 use Rattle.rb_xdr.specs.Kept.{Kept}
+use Rattle.rb_xdr.specs.Meter.{Meter, PaysAtMost}
 use Rattle.rb_rpc.specs.Records.{fragment_size, marked}
 use Rattle.rb_rpc.specs.declared.peer.Caller.TheVariants.{Tcp}
 use Rattle.rb_proto.specs.declared.books.Books.{Books}
@@ -19,7 +20,7 @@ use Rattle.rb_core.specs.Step.{bytes, pending, gave}
 use Rattle.rb_core.specs.StandsFor.{Table, Held, StandsFor}
 use Rattle.rb_core.specs.Slots.{Acts}
 use Rattle.rb_core.specs.Core.{context_of, answering_heard}
-use Rattle.rb_core.specs.CallCosts.{bytes_cost}
+use Rattle.rb_core.specs.CallCosts.{bytes_cost, args_heard}
 
 -- ---- three events
 
@@ -164,5 +165,15 @@ abbrev pub whole_cost : ℕ → ℕ → ℕ
 whole_cost room n = if room == 0 then 0 else n + 2
 
 -- to take bytes, to answer the record that ends with them, and to give the reply where there is this room
-abbrev pub exchange_cost : Held → Held → ℕ → Result Exchanged CoreFault → ℕ
-exchange_cost old new room result = bytes_cost old new (taken_in result) + whole_cost room (count_given result)
+abbrev pub exchange_cost : Held → Held → ℕ → Result Exchanged CoreFault → ℕ → ℕ
+exchange_cost old new room result args = bytes_cost old new (taken_in result) args + whole_cost room (count_given result)
+
+-- So much is paid for it at most, from whatever state was held.
+abbrev pub PaysForExchange : Held → Held → ℕ → List ℕ → ℕ → Result Exchanged CoreFault → Meter → Meter → Type 0
+PaysForExchange old new id piece room result before now =
+    (s : State) → StandsFor old s → PaysAtMost before now (exchange_cost old new room result (args_heard id piece s))
+
+-- the same where there is no room for a reply
+abbrev pub PaysForBytes : Held → Held → ℕ → List ℕ → Result Taken CoreFault → Meter → Meter → Type 0
+PaysForBytes old new id piece result before now =
+    (s : State) → StandsFor old s → PaysAtMost before now (bytes_cost old new result (args_heard id piece s))

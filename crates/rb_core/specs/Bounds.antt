@@ -50,14 +50,18 @@ bytes_in (Datagram now peer content) output = length content
 bytes_in (Forward now from message) output = length message
 bytes_in event output = count_in output
 
--- the bytes that it lends, or tells that they were given
+-- the bytes that an output has
+abbrev pub bytes_lent : Output → ℕ
+bytes_lent (IsPending bytes) = length bytes
+bytes_lent (Replied reply) = length reply
+bytes_lent (UnsentIs (Some unsent)) = length unsent.call
+bytes_lent (RepliedTo peer reply) = length reply
+bytes_lent other = 0
+
+-- the bytes that an event lends, or tells that they were given
 abbrev pub bytes_out : Event → Output → ℕ
 bytes_out (Gave now id n) Done = n
-bytes_out event (IsPending bytes) = length bytes
-bytes_out event (Replied reply) = length reply
-bytes_out event (UnsentIs (Some unsent)) = length unsent.call
-bytes_out event (RepliedTo peer reply) = length reply
-bytes_out event other = 0
+bytes_out event output = bytes_lent output
 
 -- for an event at these limits that takes so many bytes, and lends so many or tells that so many were given
 abbrev pub steps_bound : Limits → ℕ → ℕ → ℕ

@@ -1,5 +1,5 @@
 -- What calls cost at most, by what is held.
-use Rattle.std.specs.Prelude.{◌≡◌, ℕ, ◌+◌, ◌*◌, Bool, true, false, List, length, Option, Some, None, IfSome, Result, Ok, Err}
+use Rattle.std.specs.Prelude.{◌≡◌, ℕ, ◌+◌, ◌*◌, Bool, true, false, List, [], length, Option, Some, None, IfSome, Result, Ok, Err}
 use Rattle.rb_xdr.specs.Meter.{Meter, PaysAtMost}
 use Rattle.rb_registry.specs.Registry.{Registry, slots_of}
 use Rattle.rb_forward.specs.Costs.{unsent_cost}
@@ -13,6 +13,8 @@ use Rattle.rb_core.specs.Costs.{serve_cost, listed_cost, recount_cost, given_cos
 use Rattle.rb_core.specs.StandsFor.{Table, Held, StandsFor}
 use Rattle.rb_core.specs.Connections.{Taking, taking, live_connection}
 use Rattle.rb_core.specs.Connections.Taking.{TakesNone, GoesOn, Ends}
+use Rattle.rb_core.specs.Calls.{longest_reply}
+use Rattle.rb_core.specs.Slots.{arguments_on}
 use Rattle.rb_core.specs.State.{State}
 
 -- ---- on one connection
@@ -61,13 +63,14 @@ list_cost connections registry = begin_list_cost connections (length (slots_of r
 abbrev pub kept_count : Books → ℕ
 kept_count books = length (slots_of books.registry)
 
--- what it costs to put results: the rows are walked twice, and the reply is written
-abbrev pub put_results_cost : Books → ℕ
-put_results_cost books = 4 * kept_count books + 9038 + statistics_cost
+-- what it costs to put results: the rows are walked twice, and the reply of so many bytes is written
+abbrev pub put_results_cost : Books → ℕ → ℕ
+put_results_cost books written = 4 * kept_count books + 72 + written + statistics_cost
 
--- what it costs to serve a message on the old books, which become the new ones
-abbrev pub serving_cost : Books → Books → ℕ
-serving_cost old new = serve_cost (kept_count old) (kept_count new)
+-- what it costs to serve a message with so many bytes of arguments on the old books, which become the new ones, where a
+-- reply of so many bytes is written
+abbrev pub serving_cost : Books → Books → ℕ → ℕ → ℕ
+serving_cost old new args written = serve_cost (kept_count old) (kept_count new) args written
 
 -- how many connections are there, and what it costs to look one of them up
 abbrev pub slot_count : Table → ℕ
@@ -80,13 +83,13 @@ look_cost table = find_cost (slot_count table)
 abbrev pub room_cost_of : Table → Books → ℕ
 room_cost_of table books = make_room_cost (slot_count table) (kept_count books)
 
--- what it costs to serve a message once there is room for its row
-abbrev pub message_cost : Table → Books → Books → ℕ
-message_cost table old new = room_cost_of table old + serving_cost old new
+-- what it costs to serve such a message once there is room for its row
+abbrev pub message_cost : Table → Books → Books → ℕ → ℕ → ℕ
+message_cost table old new args written = room_cost_of table old + serving_cost old new args written
 
 -- what it costs to answer what a record said, once its arguments are there: to serve it, and to let its connection go on
-abbrev pub served_cost : Table → Books → Books → ℕ
-served_cost table old new = message_cost table old new + list_cost (slot_count table) new.registry
+abbrev pub served_cost : Table → Books → Books → ℕ → ℕ
+served_cost table old new args = message_cost table old new args longest_reply + list_cost (slot_count table) new.registry
 
 -- how many forwarded calls there may be
 abbrev pub forwards_cap : Books → ℕ
@@ -98,17 +101,17 @@ forwards_cap books = books.forwards.cap
 abbrev pub room_cost : Held → ℕ
 room_cost held = room_cost_of held.connections held.books
 
--- to serve a message, once there is room for the row that it adds
-abbrev pub roomy_cost : Held → Held → ℕ
-roomy_cost old new = room_cost old + serve_cost (kept_count old.books) (kept_count new.books)
+-- to serve a message with so many bytes of arguments, once there is room for the row that it adds
+abbrev pub roomy_cost : Held → Held → ℕ → ℕ → ℕ
+roomy_cost old new args written = room_cost old + serve_cost (kept_count old.books) (kept_count new.books) args written
 
--- to answer what a record said, whose arguments are held
-abbrev pub answering_cost : Held → Held → ℕ
-answering_cost old new = read_cost + served_cost old.connections old.books new.books
+-- to answer what a record said, of whose arguments so many bytes are kept
+abbrev pub answering_cost : Held → Held → ℕ → ℕ
+answering_cost old new args = read_cost args + served_cost old.connections old.books new.books args
 
--- to answer a datagram
-abbrev pub datagram_cost : Held → Held → ℕ
-datagram_cost old new = 2 + roomy_cost old new
+-- to answer a datagram of so many bytes
+abbrev pub datagram_cost : Held → Held → ℕ → ℕ
+datagram_cost old new count = 2 + roomy_cost old new count (length new.reply)
 
 -- to count bytes as given
 abbrev pub gave_cost : Held → ℕ
@@ -118,11 +121,15 @@ gave_cost held = look_cost held.connections + giving_cost held.books.registry
 abbrev pub quiet_cost : Held → Result Taken CoreFault → ℕ
 quiet_cost held result = look_cost held.connections + taking_cost result
 
--- to take bytes, and to answer the record that ends with them
-abbrev pub bytes_cost : Held → Held → Result Taken CoreFault → ℕ
-bytes_cost old new result =
+-- to take bytes, and to answer the record that ends with them, of whose arguments so many bytes are kept
+abbrev pub bytes_cost : Held → Held → Result Taken CoreFault → ℕ → ℕ
+bytes_cost old new result args =
     quiet_cost old result
-    + answer_cost (slot_count old.connections) (kept_count old.books) (kept_count new.books)
+    + answer_cost (slot_count old.connections) (kept_count old.books) (kept_count new.books) args
+
+-- how many bytes of arguments are kept of the record that ends with a piece on the connection, 0 where none does
+abbrev pub args_heard : ℕ → List ℕ → State → ℕ
+args_heard id piece s = length (arguments_on id [] piece s.connections)
 
 -- to close a connection, and to end the call that was forwarded for it
 abbrev pub closing_cost : Held → ℕ

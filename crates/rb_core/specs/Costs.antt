@@ -1,23 +1,24 @@
 -- What events cost at most, in counted steps.
 use Rattle.std.specs.Prelude.{ℕ, ◌+◌, ◌*◌, List, [], ◌∷◌, length, Option, Some, None}
 use Rattle.rb_forward.specs.Costs.{end_cost, sent_cost, unsent_cost}
-use Rattle.rb_forward.specs.StandsFor.{longest_call}
+use Rattle.rb_forward.specs.Forwards.{Unsent as UnsentCall}
 use Rattle.rb_proto.specs.Costs.{note_cost, forward_cost, statistics_cost}
 use Rattle.rb_proto.specs.ListReplies.{part_room}
-use Rattle.rb_core.specs.StandsFor.{buffer_size}
+use Rattle.rb_core.specs.Calls.{longest_reply}
+use Rattle.rb_core.specs.StandsFor.{kept_of}
 use Rattle.rb_core.specs.State.{Connection, State}
 use Rattle.rb_core.specs.Connections.{Taking, taking, live_connection}
 use Rattle.rb_core.specs.Connections.Taking.{TakesNone, GoesOn, Ends}
-use Rattle.rb_core.specs.Step.{Event, step}
+use Rattle.rb_core.specs.Step.{Event, unsent_call, step}
 use Rattle.rb_core.specs.Step.Event.{Open, Bytes, Pending, Gave, Closed, NextLost, Datagram, Unsent, Sent, Forward, Expire}
 
 -- ---- parts of calls
 
 -- what it costs to serve a message over so many rows, where so many are left: the procedure walks the rows, twice for
--- an UNSET, those of a list are walked twice, a reply of 9,000 bytes is written, a look-up is noted, the statistics are
--- shown, and what is forwarded is kept
-abbrev pub serve_cost : ℕ → ℕ → ℕ
-serve_cost rows left = 6 * rows + 4 * left + 9043 + note_cost + statistics_cost + forward_cost
+-- an UNSET, those of a list are walked twice, a reply of so many bytes is written, a look-up is noted, the statistics are
+-- shown, and what is forwarded is kept, of so many bytes of arguments
+abbrev pub serve_cost : ℕ → ℕ → ℕ → ℕ → ℕ
+serve_cost rows left args written = 6 * rows + 4 * left + 76 + written + note_cost + statistics_cost + forward_cost args
 
 -- what it costs to show a fragment: the window is emptied, and a header of 4 bytes and at most 1,024 of data are written
 abbrev pub show_cost : ℕ
@@ -52,9 +53,10 @@ take_cost count = count + 1
 abbrev pub exchange_cost : ℕ
 exchange_cost = 1
 
--- what it costs to read a record that ended: the length of its arguments, they themselves, and the buffer emptied
-abbrev pub read_cost : ℕ
-read_cost = buffer_size + 2
+-- what it costs to read a record that ended with so many bytes of arguments: how many they are, they themselves, and the
+-- buffer emptied
+abbrev pub read_cost : ℕ → ℕ
+read_cost args = args + 2
 
 -- what it costs to begin a reply on a connection that is found among so many
 abbrev pub settle_cost : ℕ → ℕ
@@ -76,22 +78,23 @@ evict_cost connections = 3 * connections + 1
 abbrev pub make_room_cost : ℕ → ℕ → ℕ
 make_room_cost connections rows = 14 * rows + 2 * oldest_cost connections + evict_cost connections + 12
 
--- what it costs to answer the record that ended, among so many connections and rows
-abbrev pub answer_cost : ℕ → ℕ → ℕ → ℕ
-answer_cost connections rows left =
-    exchange_cost + read_cost + make_room_cost connections rows + serve_cost rows left + begin_list_cost connections left
+-- what it costs to answer the record that ended with so many bytes of arguments, among so many connections and rows
+abbrev pub answer_cost : ℕ → ℕ → ℕ → ℕ → ℕ
+answer_cost connections rows left args =
+    exchange_cost + read_cost args + make_room_cost connections rows + serve_cost rows left args longest_reply
+    + begin_list_cost connections left
 
 -- what it costs to end one of so many entries, and to note its outcome
 abbrev pub entry_cost : ℕ → ℕ
 entry_cost forwards = end_cost forwards + 2 + note_cost
 
--- what it costs to write what the caller of an entry is told: a reply of 9,000 bytes, or a shorter one in its place
-abbrev pub put_end_cost : ℕ
-put_end_cost = 9068
+-- what it costs to write what the caller of an entry is told: a reply of so many bytes
+abbrev pub put_end_cost : ℕ → ℕ
+put_end_cost written = 68 + written
 
 -- what it costs to tell it to one of so many connections, or over UDP
 abbrev pub tell_cost : ℕ → ℕ
-tell_cost connections = put_end_cost + settle_cost connections
+tell_cost connections = put_end_cost longest_reply + settle_cost connections
 
 -- what it costs to end one of so many entries and to tell its caller, with the last reply emptied before
 abbrev pub ended_cost : ℕ → ℕ → ℕ
@@ -109,7 +112,7 @@ connection_count s = length s.connections.all
 abbrev pub record_cost : State → Taking → ℕ
 record_cost s TakesNone = 0
 record_cost s (GoesOn fed) = 0
-record_cost s (Ends n content) = answer_cost (connection_count s) (row_limit s) (row_limit s)
+record_cost s (Ends n content) = answer_cost (connection_count s) (row_limit s) (row_limit s) (length (kept_of content))
 
 -- how many bytes of the piece are taken
 abbrev pub count_taken : List ℕ → Taking → ℕ
@@ -123,6 +126,19 @@ piece_cost s piece None = 0
 piece_cost s piece (Some c) =
     take_cost (count_taken piece (taking c.phase piece)) + recount_cost + record_cost s (taking c.phase piece)
 
+-- how many bytes the reply over UDP has that is held after an event
+abbrev pub reply_count : State → Event → ℕ
+reply_count s event = length (step s event).1.reply
+
+-- what it costs to look at it: how long it is, and it itself
+abbrev pub reply_cost : State → Event → ℕ
+reply_cost s event = 1 + reply_count s event
+
+-- how many bytes the forwarded call has that is to be sent next, 0 where there is none
+abbrev pub unsent_count : Option UnsentCall → ℕ
+unsent_count None = 0
+unsent_count (Some unsent) = length unsent.call
+
 -- what an event costs from a state
 abbrev pub event_cost : State → Event → ℕ
 event_cost s (Open now peer) = 4
@@ -133,11 +149,13 @@ event_cost s (Gave now id n) = 2 * find_cost (connection_count s) + 1 + given_co
 event_cost s (Closed id) = find_cost (connection_count s) + 5 + entry_cost s.setting.limits.forwards
 event_cost s NextLost = find_cost (connection_count s)
 event_cost s (Datagram now peer content) =
-    make_room_cost (connection_count s) (row_limit s) + serve_cost (row_limit s) (row_limit s) + 9003
-event_cost s Unsent = unsent_cost s.setting.limits.forwards longest_call
+    make_room_cost (connection_count s) (row_limit s) + serve_cost (row_limit s) (row_limit s) (length content) (reply_count s (Datagram now peer content)) + 2
+    + reply_cost s (Datagram now peer content)
+event_cost s Unsent = unsent_cost s.setting.limits.forwards (unsent_count (unsent_call s))
 event_cost s (Sent number) = sent_cost s.setting.limits.forwards
-event_cost s (Forward now from message) = ended_cost s.setting.limits.forwards (connection_count s) + 9001
-event_cost s (Expire now) = ended_cost s.setting.limits.forwards (connection_count s) + 9001
+event_cost s (Forward now from message) =
+    ended_cost s.setting.limits.forwards (connection_count s) + reply_cost s (Forward now from message)
+event_cost s (Expire now) = ended_cost s.setting.limits.forwards (connection_count s) + reply_cost s (Expire now)
 
 -- the sum of what each event costs from the state that it meets
 abbrev pub run_cost : State → List Event → ℕ

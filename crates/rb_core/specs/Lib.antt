@@ -24,6 +24,7 @@ pub mod Sessions
 pub mod DeadlineLaws
 pub mod ForwardLaws
 pub mod Closings
+pub mod WholeRuns
 pub mod BoundLaws
 pub mod Headline
 pub mod Worked

@@ -1,5 +1,5 @@
 -- What a list of events does to a core, what it costs, and how many bytes are held after it.
-use Rattle.std.specs.Prelude.{◌≡◌, ◌<◌, ◌≤◌, ◌^◌, true, List, ◌++◌, map, option_map}
+use Rattle.std.specs.Prelude.{◌≡◌, ◌<◌, ◌≤◌, ◌-◌, ◌^◌, true, List, ◌++◌, length, map, take, option_map}
 use Rattle.rb_xdr.specs.Meter.{Meter, PaysAtMost}
 use Rattle.rb_forward.specs.Forwards.{Unsent as UnsentPlain}
 use Rattle.rb_core.specs.declared.events.Event as event
@@ -59,6 +59,10 @@ abbrev pub outputs_of : List output.Output → List Output
 outputs_of outputs = map output_of outputs
 
 -- ---- a run
+
+-- the events whose outputs were appended to the earlier ones
+abbrev pub answered_events : List event.Event → List output.Output → List output.Output → List Event
+answered_events events before now = take (length now - length before) (events_of events)
 
 -- From the state the events have happened: their outputs came behind the earlier ones, and what is held stands for
 -- the state after them.

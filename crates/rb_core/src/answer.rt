@@ -62,7 +62,8 @@ pub fn serve_verdict(
     ensures waiting { OnlyCallerWaits context.now.caller books.old books.new }
     ensures frame { SameFrame books.old books.new }
     ensures cost { PaysAtMost meter.old meter.new
-        (message_cost connections.old books.old books.new) }
+        (message_cost connections.old books.old books.new (length arguments.now)
+        (length out.new.bytes)) }
 {
     if let Some(head) = null_call(verdict) {
         return serve_null(books, head, out, meter);
@@ -109,7 +110,8 @@ pub fn answer(
     ensures draft { IsDraft meter.old.tie draft.new }
     ensures empty { draft.new.bytes ≡ [] }
     ensures cost { PaysAtMost meter.old meter.new
-        (served_cost connections.old books.old books.new + whole_cost (length room.old) result.1) }
+        (served_cost connections.old books.old books.new (length arguments.now)
+        + whole_cost (length room.old) result.1) }
 {
     let served = serve_verdict(
         connections,

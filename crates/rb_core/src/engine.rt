@@ -27,7 +27,7 @@ const LONGEST_ADDRESS: u64 = 24;
 const LONGEST_FORWARD: u64 = 8_840;
 
 /// How many keys the statistics may have.
-const MOST_KEYS: u64 = 192;
+pub(crate) const MOST_KEYS: u64 = 192;
 
 /// The daemon's logic, over the pools and buffers that `new` makes.
 pub struct Core {
@@ -168,8 +168,9 @@ impl Core {
     ghost use Rattle.rb_core.specs.Slots.{Acts, Shows, Lends, heard_in, kept_in};
     ghost use Rattle.rb_core.specs.StandsFor.{StandsFor};
     ghost use Rattle.rb_core.specs.Core.{ActsWithReply, TellsCaller, context_of, without_arguments};
-    ghost use Rattle.rb_core.specs.AtOnce.{AnswersGiving, Exchanges, GivesAtOnce, count_given, count_now, exchange_cost, taken_in, whole_cost};
-    ghost use Rattle.rb_core.specs.CallCosts.{answering_cost, datagram_cost, bytes_cost, gave_cost, closing_cost, lending_cost, ending_cost, IsCheapIfQuiet, look_cost, slot_count};
+    ghost use Rattle.rb_core.specs.AtOnce.{AnswersGiving, Exchanges, GivesAtOnce, count_given, count_now, taken_in, whole_cost, PaysForBytes, PaysForExchange};
+    ghost use Rattle.rb_core.specs.WholeRuns.{StaysCheapIfQuiet};
+    ghost use Rattle.rb_core.specs.CallCosts.{answering_cost, datagram_cost, gave_cost, closing_cost, lending_cost, ending_cost, IsCheapIfQuiet, look_cost, slot_count};
     ghost use Rattle.rb_core.specs.Costs.{tell_cost, pending_cost};
 
     /// A core with the daemon's own rows alone, at the moment `now` (milliseconds since the start of 1970).
@@ -250,7 +251,8 @@ impl Core {
         ensures begun { self.new.begun ≡ shown meter.old }
         ensures held { NeverPasses self.new }
         ensures short { length self.new.reply ≤ longest_reply }
-        ensures cost { PaysAtMost meter.old meter.new (datagram_cost self.old self.new) }
+        ensures cost { PaysAtMost meter.old meter.new
+            (datagram_cost self.old self.new (length content.now)) }
         ensures bound { StaysWithinSteps self.old (length content.now) 0 meter.old meter.new }
     {
         self.begun = meter.count();
@@ -327,9 +329,11 @@ impl Core {
         ensures tie { self.new.tie ≡ self.old.tie }
         ensures begun { self.new.begun ≡ shown meter.old }
         ensures held { NeverPasses self.new }
-        ensures cost { PaysAtMost meter.old meter.new (bytes_cost self.old self.new result) }
+        ensures same_meter { meter.new.tie ≡ meter.old.tie }
+        ensures cost { PaysForBytes self.old self.new id piece.now result meter.old meter.new }
         ensures bound { StaysWithinSteps self.old (taken_by result) 0 meter.old meter.new }
         ensures cheap { IsCheapIfQuiet self.old id piece.now result meter.old meter.new }
+        ensures quiet { StaysCheapIfQuiet self.old id piece.now result meter.old meter.new }
     {
         let Exchanged { taken, given: _ } = self.exchange(now, id, piece, &mut [], meter)?;
         Ok(taken)
@@ -357,8 +361,9 @@ impl Core {
         ensures tie { self.new.tie ≡ self.old.tie }
         ensures begun { self.new.begun ≡ shown meter.old }
         ensures held { NeverPasses self.new }
-        ensures cost { PaysAtMost meter.old meter.new
-            (exchange_cost self.old self.new (length room.old) result) }
+        ensures same_meter { meter.new.tie ≡ meter.old.tie }
+        ensures cost { PaysForExchange self.old self.new id piece.now (length room.old) result
+            meter.old meter.new }
         ensures bound { StaysWithinSteps
             self.old (taken_by (taken_in result)) (count_given result) meter.old meter.new }
         ensures cheap { IsCheapIfQuiet
@@ -414,7 +419,8 @@ impl Core {
         ensures tie { self.new.tie ≡ self.old.tie }
         ensures begun { self.new.begun ≡ self.old.begun }
         ensures cost { PaysAtMost meter.old meter.new
-            (answering_cost self.old self.new + whole_cost (length room.old) result.1) }
+            (answering_cost self.old self.new (length (kept_in whole.entry))
+            + whole_cost (length room.old) result.1) }
     {
         let Whole { peer, content } = whole;
         let verdict = read_call(content);
@@ -454,7 +460,8 @@ impl Core {
         ensures tie { self.new.tie ≡ self.old.tie }
         ensures begun { self.new.begun ≡ self.old.begun }
         ensures cost { PaysAtMost meter.old meter.new
-            (answering_cost self.old self.new + whole_cost (length room.old) result.1) }
+            (answering_cost self.old self.new (length self.old.arguments)
+            + whole_cost (length room.old) result.1) }
     {
         let context = self.context(Caller::Tcp(id, heard.peer));
         let len = self.arguments.len(meter);

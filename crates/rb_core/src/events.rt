@@ -264,7 +264,7 @@ fn show_told(core: &mut Core, told: Told, mut reply: Vec<u8>, meter: &mut Meter)
     requires room { longest_reply ≤ vec_capacity reply }
     ensures told { output_of result ≡ show_told core.old.reply told }
     ensures core { OnlyBegins core.old core.new }
-    ensures cost { PaysAtMost meter.old meter.new 9001 }
+    ensures cost { PaysAtMost meter.old meter.new (1 + length core.old.reply) }
 {
     match told {
         Told::TcpReady(id) => Output::Ready(id),

@@ -7,6 +7,7 @@ ghost use Rattle.rb_core.specs.Sessions.{SessionsAreWhole};
 ghost use Rattle.rb_core.specs.DeadlineLaws.{ExpireDoesOneThing, NothingIsDueSoon};
 ghost use Rattle.rb_core.specs.Headline.{RunsAreServedWithinBounds};
 ghost use Rattle.rb_core.specs.BoundLaws.{HeldBytesAreBounded, StepsAreBounded, RunsAreBounded};
+ghost use Rattle.rb_core.specs.WholeRuns.{EventsArePaidAhead, WholeRunsAreBounded};
 ghost use Rattle.rb_core.specs.WorkedConnections.{NoCallCloses, OtherRpcVersionOnTcp, CrumbsInOnePiece, CrumbsInSingleBytes, CrumbsInSevens, BytesBehindArguments, OneRecordAtATime, OneRecordAtATimePasses, NoCallPasses, GivenInParts, TooMuchIsRefused, GoodLimits, NumbersDoNotRecur};
 ghost use Rattle.rb_core.specs.WorkedForwards.{ForwardWithoutRow, RefusedCallsAreCounted, ForwardUntilDeadline, IndirectPasses, CallitPasses, TargetRefuses, DeniedIsSystemErr, CallitIsSilent, GreatestResults, NoPlace, GreatestArguments, SilentOnTcp, ForwardPassesOnTcp, ForwardOnTcpIsWhole, ClosedCallerIsDropped, EachEndsInTurn};
 ghost use Rattle.rb_core.specs.WorkedHeld.{BytesBounds, FreshCoreHolds, StepsBounds};
@@ -234,4 +235,13 @@ pub fn worked_held()
 pub fn steps_are_bounded()
     ensures events { StepsAreBounded }
     ensures runs { RunsAreBounded }
+{}
+
+/// In each state that a run reaches at good limits, a run from there costs at most 16 steps for each byte that it takes or
+/// gives and for each byte of arguments that waits as it begins, and for each event 64 for each connection, row, key of the
+/// statistics and forwarded call that there may be, and 4,096. What the end of a record reads was paid by the events that
+/// brought it.
+pub fn whole_runs_are_bounded()
+    ensures events { EventsArePaidAhead }
+    ensures runs { WholeRunsAreBounded }
 {}

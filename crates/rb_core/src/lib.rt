@@ -14,6 +14,7 @@ mod message;
 mod reading;
 mod rooms;
 mod run;
+mod run_bound;
 mod serve;
 mod slot;
 mod types;
@@ -26,8 +27,8 @@ pub use laws::{
     ledgers_are_well_kept, messages_are_of_the_grammar, next_lost_is_least, nothing_is_due_soon,
     numbers_never_recur, owed_replies_stay, refused_events_change_nothing, replies_are_given_whole,
     runs_append, runs_are_served_within_bounds, sessions_are_whole, steps_are_bounded,
-    worked_connections, worked_deadlines, worked_examples, worked_forwards, worked_held,
-    worked_lists,
+    whole_runs_are_bounded, worked_connections, worked_deadlines, worked_examples, worked_forwards,
+    worked_held, worked_lists,
 };
 pub use message::{Message, read_message};
 pub use rb_forward::{FwdId, Unsent};
@@ -36,4 +37,5 @@ pub use rb_rpc::Peer;
 pub use rb_xdr::NoMemory;
 pub use reading::kept_bytes_say_the_record;
 pub use run::replay;
+pub use run_bound::whole_bound;
 pub use types::{CoreFault, Exchanged, Expired, Limits, Outcome, Taken, Told};

@@ -1,5 +1,5 @@
 //! What the data of a record, or a datagram, says: the order of refusals.
-ghost use Rattle.std.specs.Prelude.{◌≡◌, length, None, IfSome};
+ghost use Rattle.std.specs.Prelude.{◌≡◌, ◌≤◌, length, None, IfSome};
 ghost use Rattle.rb_rpc.specs.declared.call.CallHead.{CallHead};
 ghost use Rattle.rb_rpc.specs.Verdict.{verdict as verdict_of, EndsWithin};
 ghost use Rattle.rb_feed.specs.Feeds.{arguments_of};
@@ -97,7 +97,8 @@ pub fn message_with<'a>(verdict: &Verdict, arguments: &'a [u8]) -> Message<'a>
 pub fn arguments_behind(verdict: Verdict, bytes: &[u8]) -> &[u8]
     requires verdict { verdict ≡ verdict_of bytes.now }
     requires within { EndsWithin verdict (length bytes.now) }
-    ensures { result.now ≡ arguments_of bytes.now }
+    ensures arguments { result.now ≡ arguments_of bytes.now }
+    ensures few { length result.now ≤ length bytes.now }
 {
     match verdict {
         Verdict::Call(_, place) => &bytes[place..],

@@ -2,7 +2,8 @@
 ghost use Rattle.std.specs.Prelude.{◌≡◌, ◌<◌, ℕ, length, take, OnOk, OnErr};
 ghost use Rattle.rb_core.specs.State.{State};
 ghost use Rattle.rb_core.specs.StandsFor.{StandsFor};
-ghost use Rattle.rb_core.specs.Runs.{events_of, outputs_of, Happened, PaysForRun, StaysWithinBound, PaysWithinBound};
+ghost use Rattle.rb_core.specs.WholeRuns.{PaysWithinWhole};
+ghost use Rattle.rb_core.specs.Runs.{events_of, outputs_of, answered_events, Happened, PaysForRun, StaysWithinBound, PaysWithinBound};
 
 use crate::engine::Core;
 use crate::events::{Event, Output, happen};
@@ -26,6 +27,8 @@ pub fn replay(
     ensures tie { core.new.tie ≡ core.old.tie }
     ensures cost { PaysForRun core.old (events_of events.now) meter.old meter.new }
     ensures bound { PaysWithinBound core.old (events_of events.now) meter.old meter.new }
+    ensures whole { PaysWithinWhole core.old
+        (answered_events events.now out.old.items out.new.items) meter.old meter.new }
     ensures held { StaysWithinBound core.old core.new }
     ensures same_meter { meter.new.tie ≡ meter.old.tie }
 {

@@ -111,7 +111,8 @@ fn put_reply_with(
         → shown_in books.now ≡ shown_of l }
     ensures short { length out.new.bytes ≤ longest_reply }
     ensures some { 0 < length out.new.bytes }
-    ensures cost { PaysAtMost meter.old meter.new (put_results_cost books.now) }
+    ensures cost { PaysAtMost meter.old meter.new
+        (put_results_cost books.now (length out.new.bytes)) }
 {
     put_success(xid, out, meter);
     if put_results(results, books, listener, LONGEST_REPLY, out, meter).is_err() {
@@ -152,7 +153,8 @@ fn put_answer(
     ensures written { IsWritten result out.new.bytes }
     ensures short { length out.new.bytes ≤ longest_reply }
     ensures out { (out.new.cap ≡ out.old.cap) × (out.new.tie ≡ out.old.tie) }
-    ensures cost { PaysAtMost meter.old meter.new (put_results_cost books.now) }
+    ensures cost { PaysAtMost meter.old meter.new
+        (put_results_cost books.now (length out.new.bytes)) }
 {
     match answer {
         Answer::Results(results) => {
@@ -203,7 +205,8 @@ pub fn serve(
     ensures short { length out.new.bytes ≤ longest_reply }
     ensures written { IsWritten result out.new.bytes }
     ensures out { (out.new.cap ≡ out.old.cap) × (out.new.tie ≡ out.old.tie) }
-    ensures cost { PaysAtMost meter.old meter.new (serving_cost books.old books.new) }
+    ensures cost { PaysAtMost meter.old meter.new
+        (serving_cost books.old books.new (length arguments.now) (length out.new.bytes)) }
 {
     match message {
         Message::NoCall => Served::Told(Outcome::NoCall),
@@ -283,7 +286,7 @@ fn put_passed(forward: &Forward, results: &[u8], out: &mut Kept, meter: &mut Met
     ensures out { (out.new.cap ≡ out.old.cap) × (out.new.tie ≡ out.old.tie) }
     ensures short { length out.new.bytes ≤ longest_reply }
     ensures some { 0 < length out.new.bytes }
-    ensures cost { PaysAtMost meter.old meter.new put_end_cost }
+    ensures cost { PaysAtMost meter.old meter.new (put_end_cost (length out.new.bytes)) }
 {
     put_success(forward.xid, out, meter);
     if put_forwarded(forward, results, LONGEST_REPLY, out, meter).is_err() {
@@ -302,7 +305,7 @@ fn put_failed(forward: &Forward, status: ReplyStatus, out: &mut Kept, meter: &mu
     ensures some { result ≡ Outcome.Reply → 0 < length out.new.bytes }
     ensures short { length out.new.bytes ≤ longest_reply }
     ensures out { (out.new.cap ≡ out.old.cap) × (out.new.tie ≡ out.old.tie) }
-    ensures cost { PaysAtMost meter.old meter.new put_end_cost }
+    ensures cost { PaysAtMost meter.old meter.new (put_end_cost (length out.new.bytes)) }
 {
     let xid = forward.xid;
     match refusal(forward.kind, status) {
@@ -325,7 +328,7 @@ pub fn put_end(ended: &Ended, message: &[u8], out: &mut Kept, meter: &mut Meter)
     ensures some { result ≡ Outcome.Reply → 0 < length out.new.bytes }
     ensures short { length out.new.bytes ≤ longest_reply }
     ensures out { (out.new.cap ≡ out.old.cap) × (out.new.tie ≡ out.old.tie) }
-    ensures cost { PaysAtMost meter.old meter.new put_end_cost }
+    ensures cost { PaysAtMost meter.old meter.new (put_end_cost (length out.new.bytes)) }
 {
     let forward = &ended.forward;
     match ended.outcome {

@@ -1,5 +1,5 @@
 -- What is printed.
-use Rattle.std.specs.Prelude.{ℕ, List, [], ◌∷◌, ◌++◌, Option, Some, None, codes}
+use Rattle.std.specs.Prelude.{ℕ, Bool, true, false, List, [], ◌∷◌, ◌++◌, Option, Some, None, codes}
 use Rattle.std.specs.List.{flat_map}
 use Rattle.std.specs.Fmt.{decimal}
 use Rattle.std.specs.Io.KnownBytes.{Appends}
@@ -59,6 +59,15 @@ text_of Nothing = codes "nothing\n"
 text_of (ConnectionClosed id) = codes "closed " ++ (decimal id ++ codes "\n")
 text_of (Ready id) = codes "ready " ++ (decimal id ++ codes "\n")
 text_of (RepliedTo peer bytes) = peer_line (codes "datagram ") peer bytes
+
+-- how many steps a run took, and how many it may
+abbrev pub steps_line : ℕ → ℕ → List ℕ
+steps_line taken bound = codes "steps " ++ (decimal taken ++ (codes " bound " ++ (decimal bound ++ codes "\n")))
+
+-- the last line, where it is asked for
+abbrev pub ending : Bool → ℕ → ℕ → List ℕ
+ending false taken bound = []
+ending true taken bound = steps_line taken bound
 
 unfoldable pub report_of : List Output → List ℕ
 report_of outputs = flat_map text_of outputs

@@ -1,18 +1,21 @@
 -- What `rpcbind replay` does with its input.
-use Rattle.std.specs.Prelude.{◌≡◌, ℕ, ◌+◌, not, IsTrue, List, take, Option, IfSome, Result, Ok, Err}
+use Rattle.std.specs.Prelude.{◌≡◌, ◌≤◌, ℕ, ◌+◌, ◌++◌, min, not, true, IsTrue, List, [], take, Option, IfSome, Result, Ok, Err}
 use Rattle.std.specs.Io.Buffered.{writer_contents}
-use Rattle.std.specs.declared.io.buffered.BufWriter.{BufWriter}
+use Rattle.std.specs.declared.io.buffer_bytes.BufWriter.{BufWriter}
 use Rattle.rb_core.specs.State.{State, are_good, opening}
-use Rattle.rb_core.specs.Step.{Event, Output, run}
+use Rattle.rb_core.specs.declared.types.Limits.{Limits}
+use Rattle.rb_core.specs.Step.{Event, Output, run, IsReached}
 use Rattle.rb_core.specs.declared.events.Event as event_type
+use Rattle.rb_core.specs.Events.{greatest_count}
 use Rattle.rb_core.specs.Runs.{events_of}
+use Rattle.rb_core.specs.WholeRuns.{whole_bound}
 use Rattle.rb_lines.specs.declared.lines.ReadFault.{ReadFault}
 use Rattle.rb_lines.specs.declared.lines.ReadFault.TheVariants as reading
 use Rattle.rb_lines.specs.declared.running.Beginning.{Beginning}
 use Rattle.rb_lines.specs.declared.running.Fault.{Fault}
 use Rattle.rb_lines.specs.declared.running.Fault.TheVariants.{NotText, Lines, NoMemory, BadLimits, SocketFailed, ReadFailed, WriteFailed}
 use Rattle.rb_lines.specs.Lines.{longest_input, read, Fails}
-use Rattle.rb_lines.specs.Printing.{report_of, Writes}
+use Rattle.rb_lines.specs.Printing.{report_of, ending, Writes}
 
 -- the core with which a replay begins
 abbrev pub first : Beginning → State
@@ -22,6 +25,13 @@ first beginning =
 -- what the events of a replay give
 abbrev pub run_of : Beginning → List event_type.Event → List Output
 run_of beginning events = run (first beginning) (events_of events)
+
+-- A run reaches the state, it is of these limits, which are in their ranges, and no connection is there.
+pub record IsFresh (limits : Limits) (s : State) : Type 0 where
+  pub reached : IsReached s
+  pub good : are_good s.setting.limits ≡ true
+  pub limits_are : s.setting.limits ≡ limits
+  pub none : s.connections.all ≡ []
 
 -- the exit status
 abbrev pub status_of : Fault → ℕ
@@ -67,11 +77,17 @@ abbrev pub BufWrites : {W A : Type 0} → (W → Option (List ℕ)) → BufWrite
     → List ℕ → Type 0
 BufWrites contents old new text = Writes (writer_contents contents) old new text
 
--- The printed outputs of the run of these events were written, and nothing else.
+-- how many steps the run of these events may take, or 2^128 - 1 where they are more
+abbrev pub bound_of : Beginning → List Event → ℕ
+bound_of beginning events = min (whole_bound beginning.limits 0 events (run (first beginning) events)) greatest_count
+
+-- The printed outputs of the run of these events were written, and where it is asked for, how many steps were taken, which are
+-- no more than they may be; and nothing else.
 abbrev pub Prints : {W A : Type 0} → Beginning → (W → Option (List ℕ))
     → BufWriter W A → BufWriter W A → Result (List Event) ReadFault → Type 0
 Prints beginning contents old new (Ok events) =
-    BufWrites contents old new (report_of (run (first beginning) events))
+    (taken : ℕ) × (taken ≤ bound_of beginning events)
+    × BufWrites contents old new (report_of (run (first beginning) events) ++ ending beginning.steps taken (bound_of beginning events))
 Prints beginning contents old new (Err fault) = ⊥
 
 -- Where the bytes that a reader has left are known, this holds of what they read as.

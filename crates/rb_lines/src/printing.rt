@@ -3,7 +3,7 @@ ghost use Rattle.std.specs.Prelude.{OnOk};
 ghost use Rattle.hex.specs.Hex.{encode_lower};
 ghost use Rattle.rb_core.specs.Runs.{output_of, unsent_of};
 ghost use Rattle.rb_rpc.specs.Peers.{peer_text};
-ghost use Rattle.rb_lines.specs.Printing.{hex_text, bytes_line, peer_line, unsent_line, refusal_text, text_of, report, Writes};
+ghost use Rattle.rb_lines.specs.Printing.{hex_text, bytes_line, peer_line, unsent_line, refusal_text, text_of, steps_line, report, Writes};
 
 use rb_core::{CoreFault, Output, Peer, UnsentCall};
 use std::io;
@@ -117,6 +117,20 @@ pub fn print_output<W: Write>(output: &Output, writer: &mut W) -> Result<(), Wri
     ensures { OnOk result (Writes W.contents writer.old writer.new (text_of (output_of output.now))) }
 {
     match write_output(output, writer) {
+        Ok(()) => Ok(()),
+        Err(_) => Err(WriteFailed),
+    }
+}
+
+/// Writes how many steps a run took, and how many it may.
+pub(crate) fn print_steps<W: Write>(
+    steps: u128,
+    bound: u128,
+    writer: &mut W,
+) -> Result<(), WriteFailed>
+    ensures { OnOk result (Writes W.contents writer.old writer.new (steps_line steps bound)) }
+{
+    match writeln!(writer, "steps {steps} bound {bound}") {
         Ok(()) => Ok(()),
         Err(_) => Err(WriteFailed),
     }

@@ -1,17 +1,19 @@
 //! The command `replay`.
-ghost use Rattle.std.specs.Prelude.{◌≡◌, ◌≤◌, ◌⊎◌, [], IsTrue, IfOk, IfErr, OnOk};
+ghost use Rattle.std.specs.Prelude.{◌≡◌, ◌≤◌, ◌⊎◌, ◌-◌, ◌++◌, [], min, IsTrue, IfOk, IfErr, OnOk};
 ghost use Rattle.std.specs.Io.Buffered.{writer_buffer};
 ghost use Rattle.rb_core.specs.State.{State, are_good};
 ghost use Rattle.rb_core.specs.StandsFor.{StandsFor};
 ghost use Rattle.rb_core.specs.Runs.{events_of, outputs_of};
+ghost use Rattle.rb_core.specs.Events.{greatest_count, shown};
 ghost use Rattle.rb_core.specs.Step.{run};
+ghost use Rattle.rb_core.specs.WholeRuns.{whole_bound};
 ghost use Rattle.rb_lines.specs.Lines.{read};
-ghost use Rattle.rb_lines.specs.Printing.{report};
-ghost use Rattle.rb_lines.specs.Running.{first, run_of, status_of, BufWrites, IsEnoughOf, IsFaultOf, IsCoreFault, IsRefused, Prints, Reads, Replays, Refuses};
+ghost use Rattle.rb_lines.specs.Printing.{report, ending};
+ghost use Rattle.rb_lines.specs.Running.{first, run_of, bound_of, IsFresh, status_of, BufWrites, IsEnoughOf, IsFaultOf, IsCoreFault, IsRefused, Prints, Reads, Replays, Refuses};
 
 use crate::lines::{ReadFault, longest_input, read_events};
-use crate::printing::{WriteFailed, print_outputs};
-use rb_core::{Core, CoreFault, Event, Limits, Listener, Output, replay};
+use crate::printing::{WriteFailed, print_outputs, print_steps};
+use rb_core::{Core, CoreFault, Event, Limits, Listener, Output, replay, whole_bound};
 use rb_xdr::Meter;
 use std::alloc::Global;
 use std::io;
@@ -27,6 +29,8 @@ pub struct Beginning {
     pub first_xid: u32,
     /// The first moment, in milliseconds since the start of 1970.
     pub moment: u64,
+    /// Whether the last line tells how many steps were taken.
+    pub steps: bool,
 }
 
 /// Why the program ends before all is done.
@@ -94,6 +98,7 @@ fn first_core(alloc: Global, beginning: &Beginning, meter: &mut Meter) -> Result
         listener,
         first_xid,
         moment,
+        steps: _,
     } = *beginning;
     match Core::new(alloc, limits, listener, first_xid, moment, meter) {
         Ok(core) => Ok(core),
@@ -102,50 +107,76 @@ fn first_core(alloc: Global, beginning: &Beginning, meter: &mut Meter) -> Result
     }
 }
 
-/// The outputs of the events on a core.
-fn outputs_on(
+/// What a run gave, how many steps it took, and how many it may.
+#[derive(Drop)]
+struct Ran {
+    outputs: Vec<Output>,
+    steps: u128,
+    bound: u128,
+}
+
+/// Runs the events on a core of these limits.
+fn run_on(
     alloc: Global,
     core: &mut Core,
+    limits: &Limits,
     events: &[Event],
     meter: &mut Meter,
-) -> Result<Vec<Output>, Fault>
+) -> Result<Ran, Fault>
     requires { meter.old.tie ≡ core.old.tie }
     ensures ok { (s : State) → StandsFor core.old s → IfOk result
-        (λ outputs. outputs_of outputs.items ≡ run s (events_of events.now)) }
+        (λ ran. outputs_of ran.outputs.items ≡ run s (events_of events.now)) }
+    ensures bound { (s : State) → StandsFor core.old s → IfOk result
+        (λ ran. ran.bound ≡ min (whole_bound limits.now 0 (events_of events.now) (run s (events_of events.now))) greatest_count) }
+    ensures steps { IfOk result (λ ran. ran.steps ≡ shown meter.new - shown meter.old) }
+    ensures within { (s : State) → StandsFor core.old s → IsFresh limits.now s → IfOk result
+        (λ ran. ran.steps ≤ ran.bound) }
     ensures err { IfErr result (λ fault. fault ≡ Fault.NoMemory) }
 {
+    let before = meter.count();
     let mut outputs = Vec::new(alloc);
     match replay(alloc, core, events, &mut outputs, meter) {
-        Ok(()) => Ok(outputs),
+        Ok(()) => {
+            let steps = meter.count().saturating_sub(before);
+            let bound = whole_bound(limits, events, &outputs);
+            Ok(Ran {
+                outputs,
+                steps,
+                bound,
+            })
+        }
         Err(_) => Err(Fault::NoMemory),
     }
 }
 
-/// The outputs of the events, from a new core.
-fn outputs_from(
-    alloc: Global,
-    beginning: &Beginning,
-    events: &[Event],
-) -> Result<Vec<Output>, Fault>
+/// Runs the events, from a new core.
+fn run_from(alloc: Global, beginning: &Beginning, events: &[Event]) -> Result<Ran, Fault>
     ensures ok { IfOk result
-        (λ outputs. outputs_of outputs.items ≡ run_of beginning.now events.now) }
+        (λ ran. outputs_of ran.outputs.items ≡ run_of beginning.now events.now) }
+    ensures bound { IfOk result (λ ran. ran.bound ≡ bound_of beginning.now (events_of events.now)) }
+    ensures within { IfOk result (λ ran. ran.steps ≤ ran.bound) }
     ensures good { OnOk result (IsTrue (are_good beginning.now.limits)) }
     ensures err { IfErr result (IsCoreFault beginning.now) }
 {
     let mut meter = Meter::new();
     let mut core = first_core(alloc, beginning, &mut meter)?;
-    outputs_on(alloc, &mut core, events, &mut meter)
+    run_on(alloc, &mut core, &beginning.limits, events, &mut meter)
 }
 
-/// Writes what the outputs are printed as, to the last byte.
-fn put_outputs<W: Write + Drop>(
-    outputs: &[Output],
+/// Writes what a run is printed as, to the last byte, and its steps where that is asked for.
+fn put_ran<W: Write + Drop>(
+    ran: &Ran,
+    shows_steps: bool,
     out: &mut BufWriter<W>,
 ) -> Result<(), WriteFailed>
-    ensures ok { OnOk result (BufWrites W.contents out.old out.new (report outputs.now)) }
+    ensures ok { OnOk result (BufWrites W.contents out.old out.new
+        (report ran.now.outputs.items ++ ending shows_steps ran.now.steps ran.now.bound)) }
     ensures flushed { OnOk result (writer_buffer out.new ≡ []) }
 {
-    print_outputs(outputs, out)?;
+    print_outputs(&ran.outputs, out)?;
+    if shows_steps {
+        print_steps(ran.steps, ran.bound, out)?;
+    }
     match out.flush() {
         Ok(()) => Ok(()),
         Err(_) => Err(WriteFailed),
@@ -170,8 +201,8 @@ fn replay_text<W: Write + Drop>(
         Ok(events) => events,
         Err(fault) => return Err(Fault::Lines(fault)),
     };
-    let outputs = outputs_from(alloc, beginning, &events)?;
-    match put_outputs(&outputs, out) {
+    let ran = run_from(alloc, beginning, &events)?;
+    match put_ran(&ran, beginning.steps, out) {
         Ok(()) => Ok(()),
         Err(WriteFailed) => Err(Fault::WriteFailed),
     }

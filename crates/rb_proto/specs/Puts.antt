@@ -19,9 +19,13 @@ write_cost kept old new = 2 * length (slots_of kept) + 2 + (length new.bytes - l
 abbrev pub list_cost : Registry → Kept → Kept → ℕ
 list_cost kept old new = 4 * length (slots_of kept) + 4 + put_cost old new
 
--- a walk that changes rows, what notes a look-up, and a new entry
-abbrev pub call_cost : Books → ℕ
-call_cost books = 3 * length (slots_of books.registry) + 4 + note_cost + forward_cost
+-- a walk that looks for a row, and what notes the look-up
+abbrev pub lookup_cost : Books → ℕ
+lookup_cost books = 2 * length (slots_of books.registry) + 3 + note_cost
+
+-- a walk that changes rows, what notes a look-up, and a new entry for so many bytes of arguments
+abbrev pub call_cost : Books → ℕ → ℕ
+call_cost books args = 3 * length (slots_of books.registry) + 4 + note_cost + forward_cost args
 
 -- two walks over the rows, which count the live ones and look for one
 abbrev pub room_cost : Books → ℕ

@@ -1,5 +1,5 @@
 //! A call, and what it is answered (RFC 1833 sections 2.2 and 3.2).
-ghost use Rattle.std.specs.Prelude.{◌≡◌};
+ghost use Rattle.std.specs.Prelude.{◌≡◌, length};
 ghost use Rattle.rb_xdr.specs.Meter.{PaysAtMost};
 ghost use Rattle.rb_forward.specs.StandsFor.{slots_of};
 ghost use Rattle.rb_forward.specs.Table.{IsNew};
@@ -73,7 +73,7 @@ pub fn answer(
     ensures cursors { GoesOn books.old.registry books.new.registry }
     ensures floor { books.new.registry.floor ≡ books.old.registry.floor }
     ensures frame { SameFrame books.old books.new }
-    ensures cost { PaysAtMost meter.old meter.new (call_cost books.old) }
+    ensures cost { PaysAtMost meter.old meter.new (call_cost books.old (length arguments.now)) }
 {
     let head = &call.head;
     match &call.request {

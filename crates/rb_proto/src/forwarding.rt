@@ -203,7 +203,7 @@ pub(crate) fn forward_call(
     ensures waiting { OnlyCallerWaits context.now.caller books.old books.new }
     ensures registry { books.new.registry ≡ books.old.registry }
     ensures frame { SameFrame books.old books.new }
-    ensures cost { PaysAtMost meter.old meter.new (call_cost books.old) }
+    ensures cost { PaysAtMost meter.old meter.new (call_cost books.old (length arguments.now)) }
 {
     let Some(address) = address_to_forward(&books.registry, remote, meter) else {
         return refuse(

@@ -7,7 +7,7 @@ ghost use Rattle.rb_stats.specs.Statistics.Note.{LookedUp};
 ghost use Rattle.rb_stats.specs.Counting.{HasNoted};
 ghost use Rattle.rb_proto.specs.Answers.{shown_text, shown_port, port_found, addr_found, getport, getaddr, getversaddr, target_of, seconds, taddr_of, uaddr_of};
 ghost use Rattle.rb_proto.specs.Costs.{note_cost};
-ghost use Rattle.rb_proto.specs.Puts.{call_cost};
+ghost use Rattle.rb_proto.specs.Puts.{lookup_cost};
 
 use crate::books::{Books, version_of};
 use crate::context::Context;
@@ -92,7 +92,7 @@ pub(crate) fn getport(
     ensures registry { books.new.registry ≡ books.old.registry }
     ensures forwards { books.new.forwards ≡ books.old.forwards }
     ensures frame { SameFrame books.old books.new }
-    ensures cost { PaysAtMost meter.old meter.new (call_cost books.old) }
+    ensures cost { PaysAtMost meter.old meter.new (lookup_cost books.old) }
 {
     let Some(netid) = netid_of_prot(mapping.prot) else {
         return 0;
@@ -125,7 +125,7 @@ pub(crate) fn getaddr(
     ensures registry { books.new.registry ≡ books.old.registry }
     ensures forwards { books.new.forwards ≡ books.old.forwards }
     ensures frame { SameFrame books.old books.new }
-    ensures cost { PaysAtMost meter.old meter.new (call_cost books.old) }
+    ensures cost { PaysAtMost meter.old meter.new (lookup_cost books.old) }
 {
     let found = books
         .registry
@@ -150,7 +150,7 @@ pub(crate) fn getversaddr(
     ensures registry { books.new.registry ≡ books.old.registry }
     ensures forwards { books.new.forwards ≡ books.old.forwards }
     ensures frame { SameFrame books.old books.new }
-    ensures cost { PaysAtMost meter.old meter.new (call_cost books.old) }
+    ensures cost { PaysAtMost meter.old meter.new (lookup_cost books.old) }
 {
     let found = books
         .registry

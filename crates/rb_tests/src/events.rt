@@ -339,3 +339,59 @@ fn replies_are_given_at_once(rt: HostRuntime) -> Result<(), Fail> {
     assert!(rt; waits_without_room(&mut core, &record, &mut meter));
     Ok(())
 }
+
+// Each byte of the record is taken by itself, in at most 328 steps.
+fn bytes_are_cheap(core: &mut Core, front: &[u8], meter: &mut Meter) -> Result<bool, CoreFault>
+    requires { meter.old.tie ≡ core.old.tie }
+    ensures tie { core.new.tie ≡ core.old.tie }
+    ensures same_meter { meter.new.tie ≡ meter.old.tie }
+{
+    for byte in front {
+        let Taken { count, closed } = core.bytes(0, 1, &[*byte], meter)?;
+        if count != 1 || closed || core.steps(meter) > 328 {
+            return Ok(false);
+        }
+    }
+    Ok(true)
+}
+
+// CALLIT with 8,800 bytes of arguments, in one fragment.
+fn greatest_callit(alloc: Global) -> Result<Vec<u8>, AllocError> {
+    let head = [
+        0x8000_2298,
+        18,
+        0,
+        2,
+        100_000,
+        2,
+        5,
+        0,
+        0,
+        0,
+        0,
+        200_001,
+        1,
+        0,
+        8800,
+    ];
+    let mut record = words(alloc, &head)?;
+    record.extend_from_slice(&[7; 8800])?;
+    Ok(record)
+}
+
+/// At limits of 4 connections a byte that ends no record takes at most 8 steps, 64 for each connection, and 64.
+#[test]
+fn single_bytes_are_cheap(rt: HostRuntime) -> Result<(), Fail> {
+    let mut meter = Meter::new();
+    let limits = Limits {
+        conns: 4,
+        rows: 8,
+        forwards: 1,
+    };
+    let record = greatest_callit(rt.alloc())?;
+    let (_, front) = record.split_last().ok_or("empty")?;
+    let mut core = Core::new(rt.alloc(), limits, LISTENER, 1000, 0, &mut meter)?;
+    assert_eq!(rt; core.open(0, LOOPBACK, &mut meter), Ok(1));
+    assert_eq!(rt; bytes_are_cheap(&mut core, front, &mut meter), Ok(true));
+    Ok(())
+}

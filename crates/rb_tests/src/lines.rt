@@ -29,6 +29,7 @@ const BEGINNING: Beginning = Beginning {
     },
     first_xid: 1000,
     moment: 0,
+    steps: false,
 };
 
 /// The status, what is printed and what is said of faults.

@@ -134,6 +134,7 @@ fn beginning_of<'a>(matches: &ArgMatches<'a>) -> Result<Beginning, BadValue<'a>>
         },
         first_xid: xid_of(matches)?,
         moment: number_of(matches, "now")?,
+        steps: matches.get_flag("steps"),
     })
 }
 

@@ -1,5 +1,5 @@
 //! The commands of the program and their options, as `--help` shows them.
-use clap::{Arg, Command};
+use clap::{Arg, ArgAction, Command};
 use std::alloc::{AllocError, Global};
 
 const VERSION: &str = "0.1.0";
@@ -53,7 +53,12 @@ fn replay<'a>(alloc: Global) -> Result<Command<'a>, AllocError> {
             "IPv4 address that answers show for 0.0.0.0; callers from it are local",
         )
         .default_value("192.0.2.1"))?;
+    let steps = Arg::new(alloc, "steps")
+        .long("steps")
+        .help("Tell in a last line how many counted steps the run took, and how many it may")
+        .action(ArgAction::SetTrue);
     limited(alloc, command, ["4", "300", "4"])?
+        .arg(steps)?
         .arg(option(alloc, "xid", "N", "Xid of the first forwarded call").default_value("1000"))?
         .arg(option(
             alloc,

@@ -14,9 +14,9 @@ returns-in-Ok c = record {
   cost = λ s h.
       let same = ap (λ (t : State). t.setting) (sym (same_state show_taken (λ t. bytes t c.args.now c.args.id c.args.piece.now) c.args.core.now c.bytes.new.self (bytes s c.args.now c.args.id c.args.piece.now)))
       ∙ (step-follows s (Bytes c.args.now c.args.id c.args.piece.now)).setting in
-      (taken_cost_of c.args.core.now c.bytes.new.self s h _ _ c.args.now c.args.id c.args.piece.now (Ok c.in-Ok.taken) c.in-Ok.ensures.acts c.in-Ok.ensures.cheap c.in-Ok.taken refl same c.in-Ok.ensures.cost);
+      (taken_cost_of c.args.core.now c.bytes.new.self s h _ _ c.args.now c.args.id c.args.piece.now (Ok c.in-Ok.taken) c.in-Ok.ensures.acts c.in-Ok.ensures.cheap c.in-Ok.taken refl same (c.in-Ok.ensures.cost s h));
   tie = c.in-Ok.ensures.tie;
-  meter = c.in-Ok.ensures.cost.tie;
+  meter = c.in-Ok.ensures.same_meter;
 }
 
 pub returns-in-Err : goal.returns-in-Err
@@ -26,5 +26,5 @@ returns-in-Err c = record {
   cost = λ s h.
       (gone_cost c.args.core.now c.bytes.new.self s h _ _ c.args.now c.args.id c.args.piece.now (Err c.in-Err.fault) c.in-Err.ensures.acts c.in-Err.ensures.cheap c.in-Err.fault refl);
   tie = c.in-Err.ensures.tie;
-  meter = c.in-Err.ensures.cost.tie;
+  meter = c.in-Err.ensures.same_meter;
 }

@@ -2,7 +2,6 @@ use Rattle.std.proofs.Common.{◌≡◌, ◌⊎◌, inl, inr, ◌+◌, ℕ, List
 use Rattle.rb_xdr.specs.Meter.{Meter}
 use Rattle.rb_core.specs.declared.types.Outcome.{Outcome as Written}
 use Rattle.rb_core.specs.declared.types.Outcome.TheVariants as outcomes
-use Rattle.rb_core.specs.Calls.{longest_reply}
 use Rattle.rb_core.specs.Step.{step, datagram}
 use Rattle.rb_core.specs.Step.Event.{Datagram}
 use Rattle.rb_core.specs.Step.Output.{Silent, Replied}
@@ -26,8 +25,8 @@ returns-in-NoCall-clause-ok c = record {
       (is_silent c.datagram.result c.datagram.new.self.reply c.in-NoCall.is ∙ d.0, d.1);
   cost = λ s h.
       let d = datagram_shown c.args.core.now c.datagram.new.self (λ t. datagram t c.args.now c.args.peer c.args.data.now) _ c.datagram.ensures.acts s h in
-      datagram_paid c.args.core.now c.datagram.new.self s _ _ _ 0 h d.1 (step-follows s (Datagram c.args.now c.args.peer c.args.data.now)).setting (omega arith)
-      (at_most _ _ (datagram_cost c.args.core.now c.datagram.new.self) _ (omega arith) c.datagram.ensures.cost);
+      datagram_paid c.args.core.now c.datagram.new.self s _ _ _ (length c.args.data.now) 0 h d.1 (step-follows s (Datagram c.args.now c.args.peer c.args.data.now)).setting (omega arith)
+      (at_most _ _ (datagram_cost c.args.core.now c.datagram.new.self (length c.args.data.now)) _ (omega arith) c.datagram.ensures.cost);
   tie = c.datagram.ensures.tie;
   meter = c.datagram.ensures.cost.tie;
 }
@@ -40,21 +39,21 @@ returns-in-Forwarded-clause-ok c = record {
       (rw c.in-Forwarded.is at d.0, d.1);
   cost = λ s h.
       let d = datagram_shown c.args.core.now c.datagram.new.self (λ t. datagram t c.args.now c.args.peer c.args.data.now) _ c.datagram.ensures.acts s h in
-      datagram_paid c.args.core.now c.datagram.new.self s _ _ _ 0 h d.1 (step-follows s (Datagram c.args.now c.args.peer c.args.data.now)).setting (omega arith)
-      (at_most _ _ (datagram_cost c.args.core.now c.datagram.new.self) _ (omega arith) c.datagram.ensures.cost);
+      datagram_paid c.args.core.now c.datagram.new.self s _ _ _ (length c.args.data.now) 0 h d.1 (step-follows s (Datagram c.args.now c.args.peer c.args.data.now)).setting (omega arith)
+      (at_most _ _ (datagram_cost c.args.core.now c.datagram.new.self (length c.args.data.now)) _ (omega arith) c.datagram.ensures.cost);
   tie = c.datagram.ensures.tie;
   meter = c.datagram.ensures.cost.tie;
 }
 
 pub returns-in-Reply-clause-ok : goal.returns-in-Reply-clause-ok
-unfolding step longest_reply
+unfolding step
 returns-in-Reply-clause-ok c = record {
   step = λ s h.
       let d = datagram_shown c.args.core.now c.datagram.new.self (λ t. datagram t c.args.now c.args.peer c.args.data.now) _ c.datagram.ensures.acts s h in
       (ap Replied (search rules) ∙ (rw c.in-Reply.is at d.0), stands_begun c.datagram.new.self _ _ c.udp_reply.follows.holds-at-none _ d.1);
   cost = λ s h.
       let d = datagram_shown c.args.core.now c.datagram.new.self (λ t. datagram t c.args.now c.args.peer c.args.data.now) _ c.datagram.ensures.acts s h in
-      datagram_paid c.args.core.now c.datagram.new.self s _ _ _ (1 + length c.datagram.new.self.reply) h d.1 (step-follows s (Datagram c.args.now c.args.peer c.args.data.now)).setting (omega (arith, c.datagram.ensures.short))
+      datagram_paid c.args.core.now c.datagram.new.self s _ _ _ (length c.args.data.now) (1 + length c.datagram.new.self.reply) h d.1 (step-follows s (Datagram c.args.now c.args.peer c.args.data.now)).setting (omega (arith, ap length d.1.reply))
       (one_then_other _ _ _ _ _ c.datagram.ensures.cost (record { steps = omega (arith, ap (λ (m : Meter). m.steps) c.udp_reply.ensures.cost); rises = omega (arith, ap (λ (m : Meter). m.steps) c.udp_reply.ensures.cost); tie = ap (λ (m : Meter). m.tie) c.udp_reply.ensures.cost }));
   tie = same_tie c.datagram.new.self _ _ c.udp_reply.follows.holds-at-none ∙ c.datagram.ensures.tie;
   meter = ap (λ (m : Meter). m.tie) c.udp_reply.ensures.cost ∙ c.datagram.ensures.cost.tie;

@@ -8,4 +8,4 @@ unfolding longest_arguments
 returns c =
     ap (λ (k : ℕ). take k c.arguments_behind-arguments.result.now) c.min.ensures
     ∙ take_min longest_arguments c.arguments_behind-arguments.result.now
-    ∙ ap (λ (xs : List ℕ). take longest_arguments xs) c.arguments_behind-arguments.ensures
+    ∙ ap (λ (xs : List ℕ). take longest_arguments xs) c.arguments_behind-arguments.ensures.arguments

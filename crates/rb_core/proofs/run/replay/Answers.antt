@@ -1,8 +1,17 @@
-use Rattle.std.proofs.Common.{take, ◌≡◌, ◌∷◌, [], ◌++◌, refl, ap, ◌∙◌}
+use Rattle.std.proofs.Common.{◌≡◌, ◌≤◌, ℕ, true, List, ◌∷◌, [], ◌++◌, length, take, refl, ap, ◌∙◌, arith}
 use Rattle.std.proofs.lemmas.List.{map_push}
-use Rattle.rb_core.specs.Runs.{events_of, output_of, outputs_of}
-use Rattle.rb_core.proofs.Runs.{one_more, pays_more, pays_within}
+use Rattle.rb_xdr.specs.Meter.{Meter, PaysAtMost}
+use Rattle.rb_core.specs.declared.events.Event as event
+use Rattle.rb_core.specs.declared.events.Output as output
+use Rattle.rb_core.specs.Costs.{run_cost}
+use Rattle.rb_core.specs.Runs.{events_of, output_of, outputs_of, answered_events, Happened}
+use Rattle.rb_core.specs.StandsFor.{Held, StandsFor}
+use Rattle.rb_core.specs.State.{State, are_good}
+use Rattle.rb_core.specs.Step.{run, IsReached}
+use Rattle.rb_core.specs.WholeRuns.{buffer_bytes, whole_bound}
+use Rattle.rb_core.proofs.Runs.{one_more, pays_more, pays_within, answered_are}
 use Rattle.rb_core.proofs.StepBounds.{paid_within, held_within_after}
+use Rattle.rb_core.proofs.WholeRuns.{paid_within_whole}
 use Rattle.rb_core.proofs.run.replay.Goals as goal
 
 pub loop-event-preserved : goal.loop-event-preserved
@@ -27,6 +36,30 @@ returns-in_err-output-clause-cost c s h = rw c.in_err-output.ensures.free (pays_
 
 pub returns-clause-bound : goal.returns-clause-bound
 returns-clause-bound c s h reached good = paid_within s (events_of c.args.events.now) _ _ reached good (pays_within s (events_of c.args.events.now) c.loop-event.event-index _ _ (c.loop-event.invariant.cost s h))
+
+-- the bound of the events whose outputs were appended
+whole_of : (core : Held) (s : State) (events : List event.Event) (i : ℕ) → i ≤ length events → (before now : List output.Output) (new : Held) (a b : Meter)
+    → StandsFor core s → IsReached s → are_good s.setting.limits ≡ true
+    → Happened s (take i (events_of events)) (outputs_of before) (outputs_of now) new → PaysAtMost a b (run_cost s (take i (events_of events)))
+    → PaysAtMost a b (whole_bound s.setting.limits (buffer_bytes core) (answered_events events before now) (run s (answered_events events before now)))
+whole_of core s events i within before now new a b h reached good happened pays =
+    rw (answered_are s events i within before now new happened) (paid_within_whole core s (take i (events_of events)) a b h reached good pays)
+
+pub returns-clause-whole : goal.returns-clause-whole
+returns-clause-whole c s h reached good =
+    whole_of _ s c.args.events.now c.loop-event.event-index (omega arith) _ _ _ _ _ h reached good (c.loop-event.invariant.happened s h) (c.loop-event.invariant.cost s h)
+
+pub returns-in_default-clause-whole : goal.returns-in_default-clause-whole
+returns-in_default-clause-whole c s h reached good =
+    let kept : c.reserve.new.self.items ≡ c.loop-event.out.items = c.reserve.ensures.items in
+    rw kept
+    (whole_of _ s c.args.events.now c.loop-event.event-index (omega arith) _ _ _ _ _ h reached good (c.loop-event.invariant.happened s h) (c.loop-event.invariant.cost s h))
+
+pub returns-in_err-output-clause-whole : goal.returns-in_err-output-clause-whole
+returns-in_err-output-clause-whole c s h reached good =
+    let kept : c.reserve.new.self.items ≡ c.loop-event.out.items = c.reserve.ensures.items in
+    rw (kept, c.in_err-output.ensures.free)
+    (whole_of _ s c.args.events.now c.loop-event.event-index (omega arith) _ _ _ _ _ h reached good (c.loop-event.invariant.happened s h) (c.loop-event.invariant.cost s h))
 
 pub returns-clause-held : goal.returns-clause-held
 returns-clause-held c s h reached port = held_within_after _ s (take c.loop-event.event-index (events_of c.args.events.now)) (c.loop-event.invariant.happened s h).state reached port

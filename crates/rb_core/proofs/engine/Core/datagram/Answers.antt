@@ -52,7 +52,7 @@ returns-clause-acts c =
     let old : Held = record (began (the_view c.self.inside) c.count-self-inside.result) { clock = c.max-self-inside.result } in
     let v = c.read_call-verdict.result in
     let arguments = c.arguments_behind-arguments.result.now in
-    let says = says_so v arguments content c.read_call-verdict.ensures.verdict c.arguments_behind-arguments.ensures in
+    let says = says_so v arguments content c.read_call-verdict.ensures.verdict c.arguments_behind-arguments.ensures.arguments in
     let table = c.serve_verdict-served.new.connections in
     let books = c.serve_verdict-served.new.books in
     let reply = c.serve_verdict-served.new.out.bytes in
@@ -62,7 +62,7 @@ returns-clause-acts c =
     (datagram_acts (began (the_view c.self.inside) c.count-self-inside.result) c.args.now c.max-self-inside.result c.args.peer content table books reply c.serve_verdict-served.new.out.tie c.max-self-inside.ensures c.serve_verdict-served.ensures.short
     given
     (served_by old (Udp c.args.peer) c.context-context.result c.context-context.ensures (message_of content) (arguments_of content) table books given
-    (of_content c.context-context.result (message_with v arguments) arguments content old.connections table old.books books given says c.arguments_behind-arguments.ensures acts)
+    (of_content c.context-context.result (message_with v arguments) arguments content old.connections table old.books books given says c.arguments_behind-arguments.ensures.arguments acts)
     c.serve_verdict-served.ensures.frame c.serve_verdict-served.ensures.stays)
     (written_is c.in-Told.outcome reply (rw c.in-Told.is at c.serve_verdict-served.ensures.written)))
 

@@ -1,13 +1,14 @@
-use Rattle.std.proofs.Common.{arith, rules, ◌≡◌, ℕ, List, take, ◌+◌, Ok, Some, None, length, refl, sym, ap, subst, ◌∙◌}
+use Rattle.std.proofs.Common.{arith, rules, ◌≡◌, ℕ, List, [], take, ◌+◌, Ok, Some, None, length, refl, sym, ap, subst, ◌∙◌}
 use Rattle.std.proofs.lemmas.Result.{err_from_is_err_and}
 use Rattle.rb_core.specs.contracts.engine.Core.{the_view}
 use Rattle.rb_xdr.specs.Meter.{PaysAtMost}
 use Rattle.rb_registry.specs.Registry.{slots_of}
-use Rattle.rb_core.specs.CallCosts.{look_cost, slot_count, kept_count}
+use Rattle.rb_core.specs.CallCosts.{args_heard, look_cost, slot_count, kept_count}
 use Rattle.rb_core.specs.Costs.{take_cost, recount_cost, answer_cost}
 use Rattle.rb_core.specs.StandsFor.{Held, StandsFor, StandsForConnections, Table, source_of}
 use Rattle.rb_core.proofs.Spending.{answered_cost, looked_first, at_most}
-use Rattle.rb_core.specs.Slots.{Acts, feeding, heard_in, kept_in}
+use Rattle.rb_core.specs.Slots.{Acts, feeding, heard_in, kept_in, arguments_on}
+use Rattle.rb_core.specs.State.{State}
 use Rattle.rb_core.specs.Connections.{on_live}
 use Rattle.rb_core.proofs.Steps.{bytes_refused, quiet_acts, quiet_gives_none, nothing_heard, with_heard}
 use Rattle.rb_core.proofs.AtOnce.{plainly, counted, none_refused, by_count, exchange_heard, counted_heard, exchange_whole, counted_whole, whole_few}
@@ -49,13 +50,18 @@ returns-in-Some-clause-count c =
     (counted_whole view c.args.now c.max-clock.result c.args.id c.args.piece.now c.max-clock.ensures c.hear.new.self c.hear.ensures.stays (kept_in c.in-Some.whole) (c.in-Some.ensures.arguments (the_view c.self.inside).arguments (source_of (the_view c.self.inside))) (4 + length c.in-Some.whole.content.now) (length c.args.room.now) c.answer_whole-closed.result.1 (heard_in c.in-Some.whole)
     (c.in-Some.ensures.acts (source_of (the_view c.self.inside))) c.answer_whole-closed.ensures.count)
 
-paid_whole : (c : goal.After-slice_known-in-Some-1) → PaysAtMost c.args.meter.now c.answer_whole-closed.new.meter (look_cost c.args.self.now.connections + (take_cost (4 + length c.in-Some.whole.content.now) + recount_cost) + answer_cost (slot_count c.args.self.now.connections) (kept_count c.args.self.now.books) (kept_count c.answer_whole-closed.new.self.books) + whole_cost (length c.args.room.now) c.answer_whole-closed.result.1)
-paid_whole c =
-    subst (λ (held : Held). PaysAtMost c.args.meter.now c.answer_whole-closed.new.meter
-    (look_cost held.connections + (take_cost (4 + length c.in-Some.whole.content.now) + recount_cost) + answer_cost (slot_count held.connections) (kept_count held.books) (kept_count c.answer_whole-closed.new.self.books) + whole_cost (length c.args.room.now) c.answer_whole-closed.result.1))
+paid_whole : (c : goal.After-slice_known-in-Some-1) (s : State) → StandsFor c.args.self.now s → PaysAtMost c.args.meter.now c.answer_whole-closed.new.meter (look_cost c.args.self.now.connections + (take_cost (4 + length c.in-Some.whole.content.now) + recount_cost) + answer_cost (slot_count c.args.self.now.connections) (kept_count c.args.self.now.books) (kept_count c.answer_whole-closed.new.self.books) (args_heard c.args.id c.args.piece.now s) + whole_cost (length c.args.room.now) c.answer_whole-closed.result.1)
+paid_whole c s h =
+    let z = subst (λ held. StandsFor held s) (sym c.self.view_is) h in
+    let kept_is : kept_in c.in-Some.whole ≡ arguments_on c.args.id [] c.args.piece.now s.connections = c.in-Some.ensures.arguments [] (source_of (the_view c.self.inside)) s.connections z.connections in
+    subst (λ (xs : List ℕ). PaysAtMost c.args.meter.now c.answer_whole-closed.new.meter
+    (look_cost c.args.self.now.connections + (take_cost (4 + length c.in-Some.whole.content.now) + recount_cost) + answer_cost (slot_count c.args.self.now.connections) (kept_count c.args.self.now.books) (kept_count c.answer_whole-closed.new.self.books) (length xs) + whole_cost (length c.args.room.now) c.answer_whole-closed.result.1))
+    kept_is
+    (subst (λ (held : Held). PaysAtMost c.args.meter.now c.answer_whole-closed.new.meter
+    (look_cost held.connections + (take_cost (4 + length c.in-Some.whole.content.now) + recount_cost) + answer_cost (slot_count held.connections) (kept_count held.books) (kept_count c.answer_whole-closed.new.self.books) (length (kept_in c.in-Some.whole)) + whole_cost (length c.args.room.now) c.answer_whole-closed.result.1))
     c.self.view_is
-    (answered_cost c.args.meter.now c.hear.new.meter c.answer_whole-closed.new.meter (length c.self.inside.connections.slots) (length c.hear.new.self.slots) (length (slots_of c.self.inside.books.registry)) (length (slots_of c.answer_whole-closed.new.self.books.registry)) (4 + length c.in-Some.whole.content.now) (whole_cost (length c.args.room.now) c.answer_whole-closed.result.1) (Some (heard_in c.in-Some.whole)) (heard_in c.in-Some.whole) refl c.hear.ensures.as_many
-    (at_most _ _ 1 _ (omega arith) c.hear.ensures.cost) c.answer_whole-closed.ensures.cost)
+    (answered_cost c.args.meter.now c.hear.new.meter c.answer_whole-closed.new.meter (length c.self.inside.connections.slots) (length c.hear.new.self.slots) (length (slots_of c.self.inside.books.registry)) (length (slots_of c.answer_whole-closed.new.self.books.registry)) (4 + length c.in-Some.whole.content.now) (length (kept_in c.in-Some.whole)) (whole_cost (length c.args.room.now) c.answer_whole-closed.result.1) (Some (heard_in c.in-Some.whole)) (heard_in c.in-Some.whole) refl c.hear.ensures.as_many
+    (at_most _ _ 1 _ (omega arith) c.hear.ensures.cost) c.answer_whole-closed.ensures.cost))
 
 pub returns-in-Some-clause-cost : goal.returns-in-Some-clause-cost
 returns-in-Some-clause-cost c = paid_whole c
@@ -137,13 +143,21 @@ returns-clause-count c =
 abbrev more : (c : goal.After-slice_known-2-1) → ℕ
 more c = whole_cost (length c.args.room.now) c.answer_held-closed.result.1
 
-paid : (c : goal.After-slice_known-2-1) → PaysAtMost c.args.meter.now c.answer_held-closed.new.meter (look_cost c.args.self.now.connections + (take_cost c.in_ok-count.field-0.count + recount_cost) + answer_cost (slot_count c.args.self.now.connections) (kept_count c.args.self.now.books) (kept_count c.answer_held-closed.new.self.books) + more c)
-paid c =
-    subst (λ (held : Held). PaysAtMost c.args.meter.now c.answer_held-closed.new.meter
-    (look_cost held.connections + (take_cost c.in_ok-count.field-0.count + recount_cost) + answer_cost (slot_count held.connections) (kept_count held.books) (kept_count c.answer_held-closed.new.self.books) + more c))
-    (looked_is (the_view c.self.inside) c.args.self.now c.hear.new.self c.in_default.ensures.refused c.self.view_is)
-    (answered_cost c.args.meter.now c.take.new.meter c.answer_held-closed.new.meter (length c.hear.new.self.slots) (length c.take.new.self.slots) (length (slots_of c.self.inside.books.registry)) (length (slots_of c.answer_held-closed.new.self.books.registry)) c.in_ok-count.field-0.count (more c) c.in_ok-count.field-0.heard c.in-Some-heard.heard c.in-Some-heard.is c.in_ok-count.ensures.as_many
-    (looked_first c.args.meter.now c.hear.new.meter c.take.new.meter _ _ c.hear.ensures.cost c.in_ok-count.ensures.cost) c.answer_held-closed.ensures.cost)
+paid : (c : goal.After-slice_known-2-1) (s : State) → StandsFor c.args.self.now s → PaysAtMost c.args.meter.now c.answer_held-closed.new.meter (look_cost c.args.self.now.connections + (take_cost c.in_ok-count.field-0.count + recount_cost) + answer_cost (slot_count c.args.self.now.connections) (kept_count c.args.self.now.books) (kept_count c.answer_held-closed.new.self.books) (args_heard c.args.id c.args.piece.now s) + more c)
+paid c s h =
+    let view : Held = looked (the_view c.self.inside) c.hear.new.self in
+    let is : view ≡ c.args.self.now = looked_is (the_view c.self.inside) c.args.self.now c.hear.new.self c.in_default.ensures.refused c.self.view_is in
+    let z = subst (λ held. StandsFor held s) (sym is) h in
+    let kept_is : c.take.new.arguments.bytes ≡ arguments_on c.args.id [] c.args.piece.now s.connections =
+    c.in_ok-count.ensures.arguments (source_of view) s.connections z.connections ∙ ap (λ (xs : List ℕ). arguments_on c.args.id xs c.args.piece.now s.connections) z.arguments in
+    subst (λ (xs : List ℕ). PaysAtMost c.args.meter.now c.answer_held-closed.new.meter
+    (look_cost c.args.self.now.connections + (take_cost c.in_ok-count.field-0.count + recount_cost) + answer_cost (slot_count c.args.self.now.connections) (kept_count c.args.self.now.books) (kept_count c.answer_held-closed.new.self.books) (length xs) + more c))
+    kept_is
+    (subst (λ (held : Held). PaysAtMost c.args.meter.now c.answer_held-closed.new.meter
+    (look_cost held.connections + (take_cost c.in_ok-count.field-0.count + recount_cost) + answer_cost (slot_count held.connections) (kept_count held.books) (kept_count c.answer_held-closed.new.self.books) (length c.take.new.arguments.bytes) + more c))
+    is
+    (answered_cost c.args.meter.now c.take.new.meter c.answer_held-closed.new.meter (length c.hear.new.self.slots) (length c.take.new.self.slots) (length (slots_of c.self.inside.books.registry)) (length (slots_of c.answer_held-closed.new.self.books.registry)) c.in_ok-count.field-0.count (length c.take.new.arguments.bytes) (more c) c.in_ok-count.field-0.heard c.in-Some-heard.heard c.in-Some-heard.is c.in_ok-count.ensures.as_many
+    (looked_first c.args.meter.now c.hear.new.meter c.take.new.meter _ _ c.hear.ensures.cost c.in_ok-count.ensures.cost) c.answer_held-closed.ensures.cost))
 
 pub returns-clause-cost : goal.returns-clause-cost
 returns-clause-cost c = paid c
