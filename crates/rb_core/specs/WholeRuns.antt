@@ -1,6 +1,6 @@
 -- What a whole run takes at most, in counted steps: by the bytes that it takes and gives, the bytes in the connections'
 -- buffers as it begins, and the number of its events. No greatest length of a call stands in it.
-use Rattle.std.specs.Prelude.{◌≡◌, ◌≤◌, ℕ, ◌+◌, ◌*◌, true, List, [], ◌∷◌, length, Result}
+use Rattle.std.specs.Prelude.{◌≡◌, ◌≤◌, ℕ, ◌+◌, ◌*◌, true, List, [], ◌∷◌, length, min, Result}
 use Rattle.std.specs.List.{sum_by}
 use Rattle.std.specs.Map.{values_of}
 use Rattle.rb_xdr.specs.Meter.{Meter, PaysAtMost}
@@ -16,7 +16,7 @@ use Rattle.rb_core.specs.StandsFor.{kept_of, Held, StandsFor}
 use Rattle.rb_core.specs.Bounds.{bytes_in, bytes_out}
 use Rattle.rb_core.specs.CallCosts.{NoRecordEnds}
 use Rattle.rb_core.specs.Costs.{event_cost, run_cost}
-use Rattle.rb_core.specs.Events.{taken_by}
+use Rattle.rb_core.specs.Events.{greatest_count, taken_by}
 use Rattle.rb_core.specs.Step.{Event, Output, step, run, IsReached}
 use Rattle.rb_core.specs.Step.Event.{Gave}
 use Rattle.rb_core.specs.Step.Output.{Refused}
@@ -71,6 +71,10 @@ event_allowance limits = 64 * (limits.conns + limits.rows + most_keys + limits.f
 abbrev pub whole_bound : Limits → ℕ → List Event → List Output → ℕ
 whole_bound limits buffered events outputs =
     16 * (total_in events outputs + total_out events outputs + buffered) + length events * event_allowance limits
+
+-- the bound as it is told: where the buffers are empty, and as far as a number of 128 bits goes
+abbrev pub bound_told : Limits → List Event → List Output → ℕ
+bound_told limits events outputs = min (whole_bound limits 0 events outputs) greatest_count
 
 -- ---- laws
 

@@ -1,8 +1,7 @@
 //! The bound of a whole run, in counted steps.
-ghost use Rattle.std.specs.Prelude.{◌≡◌, ◌≤◌, min};
-ghost use Rattle.rb_core.specs.Bounds.{bytes_in, bytes_lent, bytes_out};
-ghost use Rattle.rb_core.specs.Events.{greatest_count};
-ghost use Rattle.rb_core.specs.WholeRuns.{bytes_told, event_allowance, whole_bound};
+ghost use Rattle.std.specs.Prelude.{◌≡◌};
+ghost use Rattle.rb_core.specs.Bounds.{bytes_in, bytes_lent};
+ghost use Rattle.rb_core.specs.WholeRuns.{bytes_told, event_allowance, bound_told};
 ghost use Rattle.rb_core.specs.Runs.{event_of, output_of, events_of, outputs_of};
 
 use crate::engine::MOST_KEYS;
@@ -60,8 +59,8 @@ fn event_allowance(limits: &Limits) -> u128
 /// empty as it began: 16 for each byte that was taken or given, and for each event 64 for each connection, row, key of the
 /// statistics and forwarded call that there may be, and 4,096. Where that is more than 2^128 - 1, it is 2^128 - 1.
 pub fn whole_bound(limits: &Limits, events: &[Event], outputs: &[Output]) -> u128
-    ensures { result ≡ min
-        (whole_bound limits.now 0 (events_of events.now) (outputs_of outputs.now)) greatest_count }
+    ensures { result
+        ≡ bound_told limits.now (events_of events.now) (outputs_of outputs.now) }
 {
     let mut bytes: u128 = 0;
     let count = events.len().min(outputs.len());

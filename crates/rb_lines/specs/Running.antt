@@ -1,18 +1,17 @@
 -- What `rpcbind replay` does with its input.
 use Rattle.std.specs.Prelude.{◌≡◌, ◌≤◌, ℕ, ◌+◌, ◌++◌, min, not, true, IsTrue, List, [], take, Option, IfSome, Result, Ok, Err}
 use Rattle.std.specs.Io.Buffered.{writer_contents}
-use Rattle.std.specs.declared.io.buffer_bytes.BufWriter.{BufWriter}
+use Rattle.std.specs.declared.io.buffered.BufWriter.{BufWriter}
 use Rattle.rb_core.specs.State.{State, are_good, opening}
 use Rattle.rb_core.specs.declared.types.Limits.{Limits}
 use Rattle.rb_core.specs.Step.{Event, Output, run, IsReached}
-use Rattle.rb_core.specs.declared.events.Event as event_type
-use Rattle.rb_core.specs.Events.{greatest_count}
-use Rattle.rb_core.specs.Runs.{events_of}
-use Rattle.rb_core.specs.WholeRuns.{whole_bound}
+use Rattle.rb_core.specs.Runs.{outputs_of}
+use Rattle.rb_core.specs.WholeRuns.{bound_told}
 use Rattle.rb_lines.specs.declared.lines.ReadFault.{ReadFault}
 use Rattle.rb_lines.specs.declared.lines.ReadFault.TheVariants as reading
 use Rattle.rb_lines.specs.declared.running.Beginning.{Beginning}
 use Rattle.rb_lines.specs.declared.running.Fault.{Fault}
+use Rattle.rb_lines.specs.declared.running.Ran.{Ran}
 use Rattle.rb_lines.specs.declared.running.Fault.TheVariants.{NotText, Lines, NoMemory, BadLimits, SocketFailed, ReadFailed, WriteFailed}
 use Rattle.rb_lines.specs.Lines.{longest_input, read, Fails}
 use Rattle.rb_lines.specs.Printing.{report_of, ending, Writes}
@@ -22,11 +21,7 @@ abbrev pub first : Beginning → State
 first beginning =
     opening beginning.limits beginning.listener beginning.first_xid beginning.moment
 
--- what the events of a replay give
-abbrev pub run_of : Beginning → List event_type.Event → List Output
-run_of beginning events = run (first beginning) (events_of events)
-
--- A run reaches the state, it is of these limits, which are in their ranges, and no connection is there.
+-- A state that a run reaches at these limits, which are in their ranges, and at which no connection is there.
 pub record IsFresh (limits : Limits) (s : State) : Type 0 where
   pub reached : IsReached s
   pub good : are_good s.setting.limits ≡ true
@@ -79,7 +74,15 @@ BufWrites contents old new text = Writes (writer_contents contents) old new text
 
 -- how many steps the run of these events may take, or 2^128 - 1 where they are more
 abbrev pub bound_of : Beginning → List Event → ℕ
-bound_of beginning events = min (whole_bound beginning.limits 0 events (run (first beginning) events)) greatest_count
+bound_of beginning events = bound_told beginning.limits events (run (first beginning) events)
+
+-- What came of a run from a state: its outputs, and the bound of its steps at these limits.
+pub record IsRunFrom (limits : Limits) (events : List Event) (s : State) (ran : Ran) : Type 0 where
+  pub outputs : outputs_of ran.outputs.items ≡ run s events
+  pub bound : ran.bound ≡ bound_told limits events (run s events)
+
+abbrev pub KeepsBound : Ran → Type 0
+KeepsBound ran = ran.steps ≤ ran.bound
 
 -- The printed outputs of the run of these events were written, and where it is asked for, how many steps were taken, which are
 -- no more than they may be; and nothing else.

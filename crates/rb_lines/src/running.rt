@@ -1,15 +1,13 @@
 //! The command `replay`.
-ghost use Rattle.std.specs.Prelude.{◌≡◌, ◌≤◌, ◌⊎◌, ◌-◌, ◌++◌, [], min, IsTrue, IfOk, IfErr, OnOk};
+ghost use Rattle.std.specs.Prelude.{◌≡◌, ◌≤◌, ◌⊎◌, ◌-◌, ◌++◌, [], IsTrue, IfOk, IfErr, OnOk};
 ghost use Rattle.std.specs.Io.Buffered.{writer_buffer};
 ghost use Rattle.rb_core.specs.State.{State, are_good};
 ghost use Rattle.rb_core.specs.StandsFor.{StandsFor};
-ghost use Rattle.rb_core.specs.Runs.{events_of, outputs_of};
-ghost use Rattle.rb_core.specs.Events.{greatest_count, shown};
-ghost use Rattle.rb_core.specs.Step.{run};
-ghost use Rattle.rb_core.specs.WholeRuns.{whole_bound};
+ghost use Rattle.rb_core.specs.Runs.{events_of};
+ghost use Rattle.rb_core.specs.Events.{shown};
 ghost use Rattle.rb_lines.specs.Lines.{read};
 ghost use Rattle.rb_lines.specs.Printing.{report, ending};
-ghost use Rattle.rb_lines.specs.Running.{first, run_of, bound_of, IsFresh, status_of, BufWrites, IsEnoughOf, IsFaultOf, IsCoreFault, IsRefused, Prints, Reads, Replays, Refuses};
+ghost use Rattle.rb_lines.specs.Running.{first, IsFresh, IsRunFrom, KeepsBound, status_of, BufWrites, IsEnoughOf, IsFaultOf, IsCoreFault, IsRefused, Prints, Reads, Replays, Refuses};
 
 use crate::lines::{ReadFault, longest_input, read_events};
 use crate::printing::{WriteFailed, print_outputs, print_steps};
@@ -124,13 +122,11 @@ fn run_on(
     meter: &mut Meter,
 ) -> Result<Ran, Fault>
     requires { meter.old.tie ≡ core.old.tie }
-    ensures ok { (s : State) → StandsFor core.old s → IfOk result
-        (λ ran. outputs_of ran.outputs.items ≡ run s (events_of events.now)) }
-    ensures bound { (s : State) → StandsFor core.old s → IfOk result
-        (λ ran. ran.bound ≡ min (whole_bound limits.now 0 (events_of events.now) (run s (events_of events.now))) greatest_count) }
+    ensures ok { (s : State) → StandsFor core.old s
+        → IfOk result (IsRunFrom limits.now (events_of events.now) s) }
     ensures steps { IfOk result (λ ran. ran.steps ≡ shown meter.new - shown meter.old) }
-    ensures within { (s : State) → StandsFor core.old s → IsFresh limits.now s → IfOk result
-        (λ ran. ran.steps ≤ ran.bound) }
+    ensures within { (s : State) → StandsFor core.old s → IsFresh limits.now s
+        → IfOk result KeepsBound }
     ensures err { IfErr result (λ fault. fault ≡ Fault.NoMemory) }
 {
     let before = meter.count();
@@ -151,10 +147,9 @@ fn run_on(
 
 /// Runs the events, from a new core.
 fn run_from(alloc: Global, beginning: &Beginning, events: &[Event]) -> Result<Ran, Fault>
-    ensures ok { IfOk result
-        (λ ran. outputs_of ran.outputs.items ≡ run_of beginning.now events.now) }
-    ensures bound { IfOk result (λ ran. ran.bound ≡ bound_of beginning.now (events_of events.now)) }
-    ensures within { IfOk result (λ ran. ran.steps ≤ ran.bound) }
+    ensures ok { IfOk result (IsRunFrom
+        beginning.now.limits (events_of events.now) (first beginning.now)) }
+    ensures within { IfOk result KeepsBound }
     ensures good { OnOk result (IsTrue (are_good beginning.now.limits)) }
     ensures err { IfErr result (IsCoreFault beginning.now) }
 {
