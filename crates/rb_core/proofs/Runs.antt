@@ -1,5 +1,6 @@
 -- Runs go on by one event.
-use Rattle.std.proofs.Common.{◌≡◌, ◌<◌, ◌≤◌, ◌+◌, ℕ, zero, suc, List, [], ◌∷◌, ◌++◌, length, get_or, take, refl, sym, ap, ◌∙◌, append_assoc, arith}
+use Rattle.std.proofs.Common.{◌≡◌, ◌<◌, ◌≤◌, ◌+◌, ℕ, zero, suc, List, [], ◌∷◌, ◌++◌, length, get_or, take, refl, sym, ap, subst, ◌∙◌, append_assoc, arith}
+use Rattle.std.proofs.Math.Seq.{take-length}
 use Rattle.std.proofs.lemmas.List.{take-map, map_more, length-append, length-map, length-take}
 use Rattle.rb_core.specs.declared.events.Event as event
 use Rattle.rb_core.specs.declared.events.Output as output
@@ -67,3 +68,11 @@ answered_are s events i within before now core h =
     let ran : length (run s (take i (events_of events))) ≡ i =
     run-length s (take i (events_of events)) ∙ length-take i (events_of events) ∙ omega (arith, within, length-map events event_of) in
     ap (λ (n : ℕ). take n (events_of events)) (omega (arith, all, ran, length-map now output_of, length-map before output_of))
+
+-- where all of them have happened, all outputs were appended
+pub all_answered : (s : State) (events : List event.Event) (before now : List output.Output) (core : Held)
+    → Happened s (events_of events) (outputs_of before) (outputs_of now) core → answered_events events before now ≡ events_of events
+all_answered s events before now core h =
+    let all : take (length events) (events_of events) ≡ events_of events =
+    ap (λ (n : ℕ). take n (events_of events)) (sym (length-map events event_of)) ∙ take-length (events_of events) in
+    answered_are s events (length events) (omega arith) before now core (subst (λ (xs : List Event). Happened s xs (outputs_of before) (outputs_of now) core) (sym all) h) ∙ all

@@ -6,6 +6,7 @@ use Rattle.rb_core.specs.Events.{greatest_count}
 use Rattle.rb_core.specs.Runs.{events_of, outputs_of}
 use Rattle.rb_core.specs.Step.{Output, run}
 use Rattle.rb_core.specs.WholeRuns.{buffer_bytes, bound_told, whole_bound}
+use Rattle.rb_core.proofs.Runs.{all_answered}
 use Rattle.rb_core.proofs.WholeRuns.{no_buffer_bytes, shown_within}
 use Rattle.rb_lines.proofs.running.run_on.Goals as goal
 
@@ -21,5 +22,6 @@ returns-in-Ok-clause-within c s h fresh =
     c.whole_bound-bound.ensures ∙ ap (λ (xs : List Output). min (whole_bound c.args.limits.now 0 events xs) greatest_count) outputs
     ∙ ap (λ (limits : Limits). min (whole_bound limits 0 events all) greatest_count) (sym fresh.limits_are)
     ∙ ap (λ (n : ℕ). min (whole_bound s.setting.limits n events all) greatest_count) (sym none) in
-    let taken = shown_within _ _ _ (c.in-Ok.ensures.whole s h fresh.reached fresh.good) in
+    let answered = all_answered s c.args.events.now _ _ _ (c.in-Ok.ensures.all s h) in
+    let taken = shown_within _ _ _ (rw answered at (c.in-Ok.ensures.whole s h fresh.reached fresh.good)) in
     omega (arith, taken, bound, c.saturating_sub-steps.ensures, c.count-before.ensures, c.count.ensures)
