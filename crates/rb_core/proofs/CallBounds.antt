@@ -18,9 +18,8 @@ use Rattle.rb_core.specs.Step.{Taken, datagram, bytes, gave, moved, show_taken, 
 use Rattle.rb_core.specs.Step.Event.{Bytes, Datagram}
 use Rattle.rb_core.specs.Slots.{Acts, arguments_after, arguments_heard}
 use Rattle.rb_core.specs.CallCosts.{args_heard, look_cost, slot_count, kept_count, gave_cost, closing_cost, ending_cost, datagram_cost, IsCheapIfQuiet}
-use Rattle.rb_core.specs.WholeRuns.{StaysCheapIfQuiet}
 use Rattle.rb_core.specs.Costs.{pending_cost, take_cost, recount_cost, answer_cost}
-use Rattle.rb_core.specs.Events.{StaysWithinSteps}
+use Rattle.rb_core.specs.Events.{StaysCheapIfQuiet, StaysWithinSteps}
 use Rattle.rb_core.proofs.EntriesKept.{step-follows}
 use Rattle.rb_core.proofs.Room.{reached-room}
 use Rattle.rb_core.proofs.RunSteps.{datagram_shown, same_state}

@@ -1,5 +1,5 @@
 -- What one event does to a core, and what is told of its steps.
-use Rattle.std.specs.Prelude.{◌≡◌, ◌<◌, ◌≤◌, ℕ, ◌+◌, ◌-◌, ◌^◌, min, List, length, Result, Ok, Err, IfOk}
+use Rattle.std.specs.Prelude.{◌≡◌, ◌<◌, ◌≤◌, ℕ, ◌+◌, ◌-◌, ◌*◌, ◌^◌, min, List, length, Result, Ok, Err, IfOk}
 use Rattle.std.specs.Borrow.{Fml, Bor, MutBor}
 use Rattle.std.specs.Io.BufRead.{Rests}
 use Rattle.rb_xdr.specs.declared.memory.NoMemory.{NoMemory}
@@ -8,12 +8,15 @@ use Rattle.rb_core.specs.declared.events.Output as output
 use Rattle.rb_core.specs.declared.types.CoreFault.{CoreFault}
 use Rattle.rb_core.specs.declared.types.Taken.{Taken}
 use Rattle.rb_core.specs.State.{State}
-use Rattle.rb_core.specs.Step.{Event, step, IsReached}
+use Rattle.rb_core.specs.Step.{Event, Output, step, IsReached}
 use Rattle.rb_core.specs.StandsFor.{Held, StandsFor}
 use Rattle.rb_core.specs.Runs.{output_of}
 use Rattle.rb_core.specs.Costs.{event_cost}
 use Rattle.rb_core.specs.contracts.engine.Core.{the_row}
 use Rattle.rb_core.specs.Bounds.{steps_bound}
+use Rattle.rb_core.specs.CallCosts.{NoRecordEnds}
+use Rattle.rb_core.specs.WholeRuns.{whole_bound}
+use Rattle.rb_core.specs.declared.types.Limits.{Limits}
 
 -- ---- what it does
 
@@ -82,3 +85,16 @@ given_by (Err fault) n = 0
 pub record StaysWithinSteps (core : Held) (taken given : ℕ) (before now : Meter) : Type 0 where
   pub within : (s : State) → StandsFor core s → IsReached s
       → PaysAtMost before now (steps_bound core.setting.limits taken given)
+
+-- From each state that a run reaches and that the core stood for: where no record ends in a piece on a connection, no more
+-- is paid than 8 steps for each byte that is taken, 64 for each connection that there may be, and 64.
+abbrev pub StaysCheapIfQuiet : Held → ℕ → List ℕ → Result Taken CoreFault → Meter → Meter → Type 0
+StaysCheapIfQuiet core id piece result before now =
+    (s : State) → StandsFor core s → IsReached s → NoRecordEnds s id piece
+    → PaysAtMost before now (8 * taken_by result + 64 * core.setting.limits.conns + 64)
+
+-- ---- what is told of a run's steps
+
+-- the bound as it is told: where the buffers are empty, and as far as a number of 128 bits goes
+abbrev pub bound_told : Limits → List Event → List Output → ℕ
+bound_told limits events outputs = min (whole_bound limits 0 events outputs) greatest_count

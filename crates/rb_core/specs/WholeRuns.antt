@@ -1,22 +1,18 @@
 -- What a whole run takes at most, in counted steps: by the bytes that it takes and gives, the bytes in the connections'
 -- buffers as it begins, and the number of its events. No greatest length of a call stands in it.
-use Rattle.std.specs.Prelude.{◌≡◌, ◌≤◌, ℕ, ◌+◌, ◌*◌, true, List, [], ◌∷◌, length, min, Result}
+use Rattle.std.specs.Prelude.{◌≡◌, ◌≤◌, ℕ, ◌+◌, ◌*◌, true, List, [], ◌∷◌, length}
 use Rattle.std.specs.List.{sum_by}
 use Rattle.std.specs.Map.{values_of}
 use Rattle.rb_xdr.specs.Meter.{Meter, PaysAtMost}
 use Rattle.rb_rpc.specs.Records.{data_of}
 use Rattle.rb_stats.specs.Stats.{most_keys}
 use Rattle.rb_core.specs.declared.slot.Slot.{Slot}
-use Rattle.rb_core.specs.declared.types.CoreFault.{CoreFault}
 use Rattle.rb_core.specs.declared.types.Limits.{Limits}
-use Rattle.rb_core.specs.declared.types.Taken.{Taken}
 use Rattle.rb_core.specs.State.{Phase, Connection, State, are_good}
 use Rattle.rb_core.specs.State.Phase.{Idle, Reading, Owing, Awaiting, Lost}
 use Rattle.rb_core.specs.StandsFor.{kept_of, Held, StandsFor}
 use Rattle.rb_core.specs.Bounds.{bytes_in, bytes_out}
-use Rattle.rb_core.specs.CallCosts.{NoRecordEnds}
 use Rattle.rb_core.specs.Costs.{event_cost, run_cost}
-use Rattle.rb_core.specs.Events.{greatest_count, taken_by}
 use Rattle.rb_core.specs.Step.{Event, Output, step, run, IsReached}
 use Rattle.rb_core.specs.Step.Event.{Gave}
 use Rattle.rb_core.specs.Step.Output.{Refused}
@@ -72,10 +68,6 @@ abbrev pub whole_bound : Limits → ℕ → List Event → List Output → ℕ
 whole_bound limits buffered events outputs =
     16 * (total_in events outputs + total_out events outputs + buffered) + length events * event_allowance limits
 
--- the bound as it is told: where the buffers are empty, and as far as a number of 128 bits goes
-abbrev pub bound_told : Limits → List Event → List Output → ℕ
-bound_told limits events outputs = min (whole_bound limits 0 events outputs) greatest_count
-
 -- ---- laws
 
 -- An event costs at most 16 steps for each of its bytes, and its allowance. Arguments that wait are paid ahead, two steps
@@ -102,10 +94,3 @@ abbrev pub PaysWithinWhole : Held → List Event → Meter → Meter → Type 0
 PaysWithinWhole core events before now =
     (s : State) → StandsFor core s → IsReached s → are_good s.setting.limits ≡ true
     → PaysAtMost before now (whole_bound s.setting.limits (buffer_bytes core) events (run s events))
-
--- From each state that a run reaches and that the core stood for: where no record ends in a piece on a connection, no more
--- is paid than 8 steps for each byte that is taken, 64 for each connection that there may be, and 64.
-abbrev pub StaysCheapIfQuiet : Held → ℕ → List ℕ → Result Taken CoreFault → Meter → Meter → Type 0
-StaysCheapIfQuiet core id piece result before now =
-    (s : State) → StandsFor core s → IsReached s → NoRecordEnds s id piece
-    → PaysAtMost before now (8 * taken_by result + 64 * core.setting.limits.conns + 64)

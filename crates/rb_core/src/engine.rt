@@ -164,12 +164,11 @@ impl Core {
     ghost use Rattle.rb_core.specs.Awaits.{has_idle, IsSettled};
     ghost use Rattle.rb_core.specs.Bounds.{held, bytes_bound};
     ghost use Rattle.rb_core.specs.BoundLaws.{NeverPasses};
-    ghost use Rattle.rb_core.specs.Events.{shown, OnlyBegins, BeginsAt, LendsFrom, TellsSteps, taken_by, lent_by, given_by, StaysWithinSteps};
+    ghost use Rattle.rb_core.specs.Events.{shown, OnlyBegins, BeginsAt, LendsFrom, TellsSteps, taken_by, lent_by, given_by, StaysWithinSteps, StaysCheapIfQuiet};
     ghost use Rattle.rb_core.specs.Slots.{Acts, Shows, Lends, heard_in, kept_in};
     ghost use Rattle.rb_core.specs.StandsFor.{StandsFor};
     ghost use Rattle.rb_core.specs.Core.{ActsWithReply, TellsCaller, context_of, without_arguments};
     ghost use Rattle.rb_core.specs.AtOnce.{AnswersGiving, Exchanges, GivesAtOnce, count_given, count_now, taken_in, whole_cost, PaysForBytes, PaysForExchange};
-    ghost use Rattle.rb_core.specs.WholeRuns.{StaysCheapIfQuiet};
     ghost use Rattle.rb_core.specs.CallCosts.{answering_cost, datagram_cost, gave_cost, closing_cost, lending_cost, ending_cost, IsCheapIfQuiet, look_cost, slot_count};
     ghost use Rattle.rb_core.specs.Costs.{tell_cost, pending_cost};
 

@@ -1,7 +1,8 @@
 //! The bound of a whole run, in counted steps.
 ghost use Rattle.std.specs.Prelude.{◌≡◌};
 ghost use Rattle.rb_core.specs.Bounds.{bytes_in, bytes_lent};
-ghost use Rattle.rb_core.specs.WholeRuns.{bytes_told, event_allowance, bound_told};
+ghost use Rattle.rb_core.specs.Events.{bound_told};
+ghost use Rattle.rb_core.specs.WholeRuns.{bytes_told, event_allowance};
 ghost use Rattle.rb_core.specs.Runs.{event_of, output_of, events_of, outputs_of};
 
 use crate::engine::MOST_KEYS;

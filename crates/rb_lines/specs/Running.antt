@@ -6,7 +6,7 @@ use Rattle.rb_core.specs.State.{State, are_good, opening}
 use Rattle.rb_core.specs.declared.types.Limits.{Limits}
 use Rattle.rb_core.specs.Step.{Event, Output, run, IsReached}
 use Rattle.rb_core.specs.Runs.{outputs_of}
-use Rattle.rb_core.specs.WholeRuns.{bound_told}
+use Rattle.rb_core.specs.Events.{bound_told}
 use Rattle.rb_lines.specs.declared.lines.ReadFault.{ReadFault}
 use Rattle.rb_lines.specs.declared.lines.ReadFault.TheVariants as reading
 use Rattle.rb_lines.specs.declared.running.Beginning.{Beginning}

@@ -5,7 +5,7 @@ use Rattle.rb_core.specs.declared.types.Limits.{Limits}
 use Rattle.rb_core.specs.Events.{greatest_count}
 use Rattle.rb_core.specs.Runs.{events_of, outputs_of}
 use Rattle.rb_core.specs.Step.{Output, run}
-use Rattle.rb_core.specs.WholeRuns.{buffer_bytes, bound_told, whole_bound}
+use Rattle.rb_core.specs.WholeRuns.{buffer_bytes, whole_bound}
 use Rattle.rb_core.proofs.Runs.{all_answered}
 use Rattle.rb_core.proofs.WholeRuns.{no_buffer_bytes, shown_within}
 use Rattle.rb_lines.proofs.running.run_on.Goals as goal
