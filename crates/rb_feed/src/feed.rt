@@ -4,8 +4,8 @@ use crate::saved::{stage_saved_as, stage_words};
 use crate::stage::Stage;
 use rb_rpc::{Verdict, read_call};
 
-/// Reads a call piece by piece (RFC 5531 section 9). It keeps what decides of the head, and no bytes
-/// of bodies and arguments.
+/// Reads the head of a call piece by piece (RFC 5531 section 9). It keeps sixteen words on which the verdict depends,
+/// and no bytes of credentials, verifiers or arguments.
 #[derive(Clone, Copy, PartialEq, Eq, Debug)]
 pub struct CallFeed {
     /// So many bytes of the next word have come, and they spell this number as far as they go.
@@ -61,8 +61,8 @@ impl CallFeed {
         }
     }
 
-    /// Takes bytes up to the first of the call's arguments, or all, and says how many. Arguments
-    /// need not be fed: a feed that has read a call's head stands for all that follows.
+    /// Takes bytes up to the first of the call's arguments, or all of them, and returns how many. Arguments need not
+    /// be fed: once the head is whole, nothing that follows changes the verdict.
     pub fn feed(&mut self, bytes: &[u8]) -> usize
         ensures within { result ≤ length bytes.now }
         ensures after { StandsForMore self.old bytes.now self.new }
@@ -86,8 +86,8 @@ impl CallFeed {
         count
     }
 
-    /// What the bytes so far are worth, as `read_call` says of them. The head of a call has at
-    /// most 840 bytes.
+    /// The verdict on the bytes that were fed so far, the one that `read_call` gives on them. The head of a call has
+    /// at most 840 bytes.
     pub fn end(&self) -> Verdict
         ensures verdict { (fed : List ℕ) → StandsForCall self.now fed → result ≡ verdict fed }
         ensures within { (fed : List ℕ) → StandsForCall self.now fed
@@ -97,7 +97,7 @@ impl CallFeed {
         self.stage.verdict()
     }
 
-    /// All that it keeps, as words: `load` of them is this feed.
+    /// The feed as sixteen words, from which `load` makes the same feed again.
     pub fn save(&self) -> [u32; 16]
         ensures same { loaded result ≡ self.now }
         ensures stands { (fed : List ℕ) → StandsForCall self.now fed
@@ -141,7 +141,8 @@ impl CallFeed {
         ]
     }
 
-    /// The feed that was saved as these words; of other words some feed.
+    /// The feed for which `save` gave these words. Words that `save` never gave make some feed, and it is not said
+    /// which.
     #[tactic(auto, unfolding(crate::specs::Saved::loaded))]
     pub fn load(words: [u32; 16]) -> CallFeed
         ensures { result ≡ loaded words }

@@ -89,7 +89,8 @@ impl Forwards {
     ghost use Rattle.rb_forward.specs.StandsFor.{StandsForForwards, slots_of, longest_arguments, longest_call, held_in};
     ghost use Rattle.rb_forward.specs.Table.{Whatever, Becomes, GivenBy, LeftBy, end_of, IsNew, NoneWaitsAnew, OnlyWaitsAnew, is_waiting, AreOfDistinctCallers, is_wanted_slot, seen, count_lent};
 
-    /// No entries yet, of at most `cap`, the first of which will have this xid. All of their memory is taken.
+    /// An empty table for at most `cap` entries; the first one will have the xid `first_xid`. It takes the memory for
+    /// all of them, or answers `NoMemory` where an allocation is refused.
     pub fn new(
         alloc: Global,
         cap: u32,
@@ -114,8 +115,8 @@ impl Forwards {
         })
     }
 
-    /// Begins an entry at this moment, and gives its number. It waits for 5,000 ms. The content of the arguments has at
-    /// most 8,800 bytes.
+    /// Adds an entry at the moment `clock`, in milliseconds, and returns its number. Its deadline is 5,000 ms later.
+    /// `args` are the arguments for the target, at most 8,800 bytes.
     ///
     /// `Full` where there are as many entries as there may be, or no number is left: then nothing changes. A
     /// connection may have one entry at a time.
@@ -211,8 +212,9 @@ impl Forwards {
         Ok(())
     }
 
-    /// Takes a datagram that came from there at this moment. The sent entry of least number ends to which it is a reply: its
-    /// host, port and xid are right, and the entry's deadline is later. Every other datagram changes nothing.
+    /// Takes a datagram that came from the peer `from` at the moment `clock`. It ends the first entry that was sent
+    /// to this host and port, whose xid it has, and whose deadline is later than `clock`; that entry is returned with
+    /// its outcome. Any other datagram changes nothing, and the answer is `None`.
     pub fn reply(
         &mut self,
         clock: u64,

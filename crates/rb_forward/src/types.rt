@@ -86,7 +86,7 @@ pub struct Ended {
     pub outcome: Outcome,
 }
 
-/// No call of this number is there to be sent.
+/// There is no forwarded call of this number, or it was sent before.
 #[derive(Clone, Copy, PartialEq, Eq, Debug, Error)]
 #[error("no such call is there to be sent")]
 pub struct Gone;

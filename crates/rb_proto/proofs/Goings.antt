@@ -5,12 +5,13 @@ use Rattle.std.proofs.lemmas.Bool.{eqb-true}
 use Rattle.std.proofs.lemmas.Option.{none-some, same_Some}
 use Rattle.rb_rpc.specs.declared.reply.ReplyStatus.{ReplyStatus}
 use Rattle.rb_rpc.specs.declared.reply.ReplyStatus.TheVariants as replies
+use Rattle.rb_rpc.specs.declared.peer.Peer.{Peer}
 use Rattle.rb_uaddr.specs.declared.address.Uaddr.{Uaddr}
-use Rattle.rb_uaddr.specs.declared.address.Uaddr.TheVariants.{V4}
-use Rattle.rb_uaddr.specs.Uaddr.{parse, merged}
+use Rattle.rb_uaddr.specs.declared.address.Uaddr.TheVariants.{V4, V6}
+use Rattle.rb_uaddr.specs.Uaddr.{parse, parse_ipv4, merged, merged_host}
 use Rattle.rb_uaddr.proofs.GrammarLaws.{merges_any_host}
 use Rattle.rb_registry.specs.declared.row.Netid.{Netid}
-use Rattle.rb_registry.specs.declared.row.Netid.TheVariants.{Tcp, Udp}
+use Rattle.rb_registry.specs.declared.row.Netid.TheVariants.{Tcp, Udp, Tcp6, Udp6, Local}
 use Rattle.rb_registry.specs.declared.row.Row.{Row}
 use Rattle.rb_registry.specs.Rows.{rpcb_prog, is_netid, is_on, is_row, find_exact}
 use Rattle.rb_forward.specs.declared.types.Forward.{Forward}
@@ -23,7 +24,8 @@ use Rattle.rb_proto.specs.declared.context.Context.{Context}
 use Rattle.rb_proto.specs.declared.remote.RemoteCall.{RemoteCall}
 use Rattle.rb_proto.specs.Remote.{args_of}
 use Rattle.rb_proto.specs.Ledger.{Ledger, rows_in}
-use Rattle.rb_proto.specs.Forwarding.{peer_at, refusal, refuse, address_to_forward, forward_of, forward_to, forward_call}
+use Rattle.rb_proto.specs.Netids.{address_in}
+use Rattle.rb_proto.specs.Forwarding.{peer_at, peer_of_row, refusal, refuse, peer_to_forward, forward_of, forward_to, forward_call}
 use Rattle.rb_proto.specs.ForwardLaws.{IsRegisteredAt, StandsInForAny, AsksRegistered, ForwardsGoToRows}
 
 -- ---- the row
@@ -46,6 +48,9 @@ udp_is : (netid : Netid) → is_netid netid Udp ≡ true → netid ≡ Udp
 unfolding is_netid
 udp_is Tcp h = absurd cc
 udp_is Udp h = refl
+udp_is Tcp6 h = absurd cc
+udp_is Udp6 h = absurd cc
+udp_is Local h = absurd cc
 
 -- program, version and netid of a row that is_row finds
 row_is : (prog vers : ℕ) (row : Row) → is_row prog vers Udp row ≡ true → (row.prog ≡ prog) × (row.vers ≡ vers) × (row.netid ≡ Udp)
@@ -55,39 +60,52 @@ row_is prog vers row h =
     let front = both (eqb row.prog prog) (is_netid row.netid Udp) whole.0 in
     (eqb-true row.prog prog front.0, eqb-true row.vers vers whole.1, udp_is row.netid front.1)
 
-module _ (remote : RemoteCall) (rows : List Row) (host : List ℕ) (port : ℕ) where
+-- a row of udp is at the IPv4 address that its text spells
+spelled_at : (peer : Peer) (o : Option Uaddr) → option_and_then peer_at o ≡ Some peer → o ≡ Some (V4 peer.host peer.port)
+spelled_at peer None is = absurd (none-some peer is)
+spelled_at peer (Some (V4 host port)) is = ap (λ (p : Peer). Some (V4 p.host p.port)) (same_Some _ peer is)
+spelled_at peer (Some (V6 host port)) is = absurd (none-some peer is)
+
+udp_spells : (row : Row) (peer : Peer) → row.netid ≡ Udp → peer_of_row row ≡ Some peer → parse row.addr ≡ Some (V4 peer.host peer.port)
+unfolding parse address_in
+udp_spells row peer udp is =
+    let spelled : parse_ipv4 row.addr ≡ Some (V4 peer.host peer.port) = spelled_at peer (parse_ipv4 row.addr) (rw udp at is) in
+    rw spelled refl
+
+module _ (remote : RemoteCall) (rows : List Row) (peer : Peer) where
   by_row : remote.prog ≢ rpcb_prog → (o : Option Row) → find_exact remote.prog remote.vers Udp rows ≡ o
-      → option_and_then (λ (row : Row). parse row.addr) o ≡ Some (V4 host port) → IsRegisteredAt rows remote host port
+      → option_and_then peer_of_row o ≡ Some peer → IsRegisteredAt rows remote peer.host peer.port
   unfolding find_exact
-  by_row other None found is = absurd (none-some (V4 host port) is)
+  by_row other None found is = absurd (none-some peer is)
   by_row other (Some row) found is =
       let here = found_here (is_row remote.prog remote.vers Udp) rows row found in
       let has = row_is remote.prog remote.vers row here.1 in
-      record { row = row; is_there = here.0; prog = has.0; vers = has.1; netid = has.2; addr = is; is_other = other }
+      record { row = row; is_there = here.0; prog = has.0; vers = has.1; netid = has.2; addr = udp_spells row peer has.2 is; is_other = other }
 
-  registered : address_to_forward remote.prog remote.vers rows ≡ Some (V4 host port) → IsRegisteredAt rows remote host port
-  unfolding address_to_forward
+  registered : peer_to_forward remote.prog remote.vers rows ≡ Some peer → IsRegisteredAt rows remote peer.host peer.port
+  unfolding peer_to_forward
   registered is = by_prog (eqb remote.prog rpcb_prog) refl is
     where
       by_prog : (b : Bool) → eqb remote.prog rpcb_prog ≡ b
-          → cond b None (option_and_then (λ (row : Row). parse row.addr) (find_exact remote.prog remote.vers Udp rows)) ≡ Some (V4 host port)
-          → IsRegisteredAt rows remote host port
-      by_prog true own is = absurd (none-some (V4 host port) is)
+          → cond b None (option_and_then peer_of_row (find_exact remote.prog remote.vers Udp rows)) ≡ Some peer
+          → IsRegisteredAt rows remote peer.host peer.port
+      by_prog true own is = absurd (none-some peer is)
       by_prog false own is =
           by_row (λ same. let clash : true ≡ false = sym (eq-eqb remote.prog rpcb_prog same) ∙ own in absurd cc)
           (find_exact remote.prog remote.vers Udp rows) refl is
 
 -- ---- the hosts
 
-stands_in : (other host : List ℕ) (port : ℕ) → StandsInForAny other host (peer_at (merged other (V4 host port))).host
-stands_in other host port = (
-  λ any. ap (λ (own : List ℕ). (peer_at (merged other (V4 own port))).host) any ∙ ap (λ (u : Uaddr). (peer_at u).host) (merges_any_host.replaced other port),
-  λ set. ap (λ (u : Uaddr). (peer_at u).host) (merges_any_host.kept other host port set),
-)
+host_of : Uaddr → List ℕ
+host_of (V4 host port) = host
+host_of (V6 host port) = host
 
-port_stays : (other host : List ℕ) (port : ℕ) → (peer_at (merged other (V4 host port))).port ≡ port
-unfolding merged
-port_stays other host port = refl
+stands_in : (other host : List ℕ) → StandsInForAny other host (merged_host other host)
+unfolding host_of merged
+stands_in other host = (
+  λ any. ap (merged_host other) any ∙ ap host_of (merges_any_host.replaced other 0),
+  λ set. ap host_of (merges_any_host.kept other host 0 set),
+)
 
 -- ---- the law
 
@@ -98,17 +116,17 @@ refusal_is_none Bcast status e = absurd cc
 refusal_is_none Indirect status e = absurd cc
 
 module _ (context : Context) (xid : ℕ) (kind : Kind) (remote : RemoteCall) (l : Ledger) where
-  asks : (host : List ℕ) (port : ℕ) → address_to_forward remote.prog remote.vers (rows_in l) ≡ Some (V4 host port)
-      → AsksRegistered context (rows_in l) remote (forward_of context xid kind remote (V4 host port))
+  asks : (peer : Peer) → peer_to_forward remote.prog remote.vers (rows_in l) ≡ Some peer
+      → AsksRegistered context (rows_in l) remote (forward_of context xid kind remote peer)
   unfolding forward_of
-  asks host port is = record {
-    host = host;
-    port = port;
-    is_registered = registered remote (rows_in l) host port is;
-    target_host = stands_in _ host port;
-    target_port = port_stays _ host port;
-    shown_host = stands_in context.listener.host host port;
-    shown_port = port_stays context.listener.host host port;
+  asks peer is = record {
+    host = peer.host;
+    port = peer.port;
+    is_registered = registered remote (rows_in l) peer is;
+    target_host = stands_in _ peer.host;
+    target_port = refl;
+    shown_host = stands_in context.listener.host peer.host;
+    shown_port = refl;
     prog = refl;
     vers = refl;
     proc = refl;
@@ -121,20 +139,20 @@ module _ (context : Context) (xid : ℕ) (kind : Kind) (remote : RemoteCall) (l 
       given.0 ≡ answers.Forwarded
       → (forward : Forward) × AsksRegistered context (rows_in l) remote forward × (given.1 ≡ record l { forwards = started context.clock forward args l.forwards })
 
-  by_address : (args : List ℕ) (address : Option Uaddr) → address_to_forward remote.prog remote.vers (rows_in l) ≡ address
-      → Goes args (forward_to context xid kind remote args address l)
-  by_address args None is told = absurd (refusal_is_none kind replies.ProgUnavail told)
-  by_address args (Some (V4 host port)) is told = by_room (can_start context.forwards l.forwards) told
+  by_peer : (args : List ℕ) (found : Option Peer) → peer_to_forward remote.prog remote.vers (rows_in l) ≡ found
+      → Goes args (forward_to context xid kind remote args found l)
+  by_peer args None is told = absurd (refusal_is_none kind replies.ProgUnavail told)
+  by_peer args (Some peer) is told = by_room (can_start context.forwards l.forwards) told
     where
       begun : Answer × Ledger
-      begun = (answers.Forwarded, record l { forwards = started context.clock (forward_of context xid kind remote (V4 host port)) args l.forwards })
+      begun = (answers.Forwarded, record l { forwards = started context.clock (forward_of context xid kind remote peer) args l.forwards })
 
       by_room : (b : Bool) → Goes args (cond b begun (refuse context kind remote replies.SystemErr l))
-      by_room true told = (forward_of context xid kind remote (V4 host port), asks host port is, refl)
+      by_room true told = (forward_of context xid kind remote peer, asks peer is, refl)
       by_room false told = absurd (refusal_is_none kind replies.SystemErr told)
 
 pub forwards_go_to_rows : ForwardsGoToRows
 unfolding forward_call
 forwards_go_to_rows context xid kind remote arguments l told =
-    let goes = by_address context xid kind remote l (args_of remote arguments) (address_to_forward remote.prog remote.vers (rows_in l)) refl told in
+    let goes = by_peer context xid kind remote l (args_of remote arguments) (peer_to_forward remote.prog remote.vers (rows_in l)) refl told in
     record { forward = goes.0; asks = goes.1; left = goes.2 }

@@ -1,3 +1,4 @@
+pub mod Addresses
 pub mod Readings
 pub mod Remotes
 pub mod Requests

@@ -15,7 +15,7 @@ use Rattle.rb_proto.specs.declared.request.Request.TheVariants.{Void, Mapping, R
 use Rattle.rb_proto.specs.Arguments.{Request, HasArgs}
 use Rattle.rb_proto.specs.Remote.{read_remote, args_of, HasContent}
 use Rattle.rb_proto.specs.Ledger.{Ledger, rows_in}
-use Rattle.rb_proto.specs.Forwarding.{address_to_forward, forward_to, forward_call}
+use Rattle.rb_proto.specs.Forwarding.{peer_to_forward, forward_to, forward_call}
 use Rattle.rb_proto.specs.Answers.{Context, Call, answer_to, answer}
 
 -- ---- what was read is there
@@ -104,7 +104,7 @@ answer_to_front context head (Rpcb rpcbs.Getaddrlist r) n bytes l has = refl
 answer_to_front context head (Uaddr2taddr text) n bytes l has = refl
 answer_to_front context head (Taddr2uaddr netbuf) n bytes l has = refl
 answer_to_front context head (Forward kind remote) n bytes l has =
-    ap (λ (args : List ℕ). forward_to context head.xid kind remote args (address_to_forward remote.prog remote.vers (rows_in l)) l) (args_of_front remote n bytes has)
+    ap (λ (args : List ℕ). forward_to context head.xid kind remote args (peer_to_forward remote.prog remote.vers (rows_in l)) l) (args_of_front remote n bytes has)
 
 pub answer_of_front : (context : Context) (call : Call) (n : ℕ) (bytes : List ℕ) (l : Ledger)
     → HasArgs call.request (take n bytes) → answer context call (take n bytes) l ≡ answer context call bytes l

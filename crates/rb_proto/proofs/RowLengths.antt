@@ -4,7 +4,7 @@ use Rattle.std.proofs.lemmas.List.{length-append}
 use Rattle.rb_xdr.specs.Xdr.{boolean, IsContent}
 use Rattle.rb_xdr.proofs.Types.{length-boolean}
 use Rattle.rb_registry.specs.declared.row.Netid.{Netid}
-use Rattle.rb_registry.specs.declared.row.Netid.TheVariants.{Tcp, Udp}
+use Rattle.rb_registry.specs.declared.row.Netid.TheVariants.{Tcp, Udp, Tcp6, Udp6, Local}
 use Rattle.rb_registry.specs.Rows.{netid_text}
 use Rattle.rb_proto.specs.declared.rpcb.Rpcb.{Rpcb}
 use Rattle.rb_proto.specs.declared.entry.Entry.{Entry}
@@ -21,3 +21,6 @@ entry_is_short e is = omega (arith, length-append (boolean true) (entry_spelling
 pub netid_is_content : (netid : Netid) → IsContent 32 (netid_text netid)
 netid_is_content Tcp = search rules
 netid_is_content Udp = search rules
+netid_is_content Tcp6 = search rules
+netid_is_content Udp6 = search rules
+netid_is_content Local = search rules

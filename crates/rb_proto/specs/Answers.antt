@@ -1,15 +1,17 @@
 -- What each procedure is answered, and the ledger after it (RFC 1833 sections 2.2 and 3.2).
-use Rattle.std.specs.Prelude.{ℕ, ◌-◌, ◌/◌, ◌^◌, ◌==◌, nat_le, min, Bool, false, not, ◌&&◌, if◌then◌else◌, List, [], ◌∷◌, ◌++◌, length, is_some, Option, Some, None, option_map}
+use Rattle.std.specs.Prelude.{ℕ, ◌-◌, ◌/◌, ◌^◌, ◌==◌, nat_le, min, Bool, false, not, ◌&&◌, if◌then◌else◌, List, [], ◌∷◌, ◌++◌, length, is_some, Option, Some, None, option_map, option_and_then}
 use Rattle.std.specs.Option.{option_map_or}
 use Rattle.rb_rpc.specs.declared.call.CallHead.{CallHead}
-use Rattle.rb_uaddr.specs.declared.address.Uaddr.TheVariants.{V4}
+use Rattle.rb_uaddr.specs.declared.address.Uaddr.{Uaddr}
+use Rattle.rb_uaddr.specs.declared.address.Uaddr.TheVariants.{V4, V6}
 use Rattle.rb_uaddr.specs.Uaddr.{port_of, any_host, text_of, parse, merged, transport_of, from_transport}
 use Rattle.rb_registry.specs.declared.row.Netid.{Netid}
+use Rattle.rb_registry.specs.declared.row.Transport.{Transport}
 use Rattle.rb_registry.specs.declared.row.Owner.{Owner}
 use Rattle.rb_registry.specs.declared.row.Row.{Row}
 use Rattle.rb_registry.specs.declared.row.Which.{Which}
 use Rattle.rb_registry.specs.declared.row.Which.TheVariants.{Inet}
-use Rattle.rb_registry.specs.Rows.{Change, rpcb_prog, has_place, removes_some, find_exact, find_row}
+use Rattle.rb_registry.specs.Rows.{Change, netid_of, rpcb_prog, has_place, removes_some, find_exact, find_row}
 use Rattle.rb_registry.specs.Rows.Change.{Added, Removed}
 use Rattle.rb_stats.specs.declared.key.Target.{Target}
 use Rattle.rb_stats.specs.Statistics.{Note}
@@ -29,9 +31,9 @@ use Rattle.rb_proto.specs.declared.procedure.VoidProcedure.{VoidProcedure}
 use Rattle.rb_proto.specs.declared.procedure.VoidProcedure.TheVariants as voids
 use Rattle.rb_proto.specs.declared.answers.Listing.TheVariants.{Mappings, Rpcbs, Entries}
 use Rattle.rb_proto.specs.declared.answers.Value.TheVariants as values
-use Rattle.rb_proto.specs.Callers.{is_local, peer_of, netid_of, owner_of}
+use Rattle.rb_proto.specs.Callers.{is_local, peer_of, transport_of_caller, owner_of}
 use Rattle.rb_proto.specs.Ledger.{Ledger, rows_in, version_of, noted}
-use Rattle.rb_proto.specs.Netids.{netid_named, which_of, netid_of_prot}
+use Rattle.rb_proto.specs.Netids.{netid_named, which_of, transport_of_prot, address_in, is_address}
 use Rattle.rb_proto.specs.Forwarding.{forward_call}
 pub use Rattle.rb_proto.specs.declared.answers.Answer.{Answer}
 pub use Rattle.rb_proto.specs.declared.answers.Results.{Results}
@@ -59,22 +61,21 @@ change_if accepted change note l = (
 -- version 2 names a transport by its protocol and an address by its port, at every host
 unfoldable pub row_of_mapping : Owner → Mapping → Option Row
 row_of_mapping owner m =
-    if nat_le m.port 65535 then option_map at (netid_of_prot m.prot) else None
+    if nat_le m.port 65535 then option_map on (transport_of_prot m.prot) else None
   where
-    at : Netid → Row
-    at netid = record { prog = m.prog; vers = m.vers; netid = netid; addr = text_of (V4 any_host m.port); owner = owner }
+    on : Transport → Row
+    on transport = record { prog = m.prog; vers = m.vers; netid = netid_of transport; owner = owner; addr = text_of (V4 any_host m.port) }
 
--- the address is kept as it is given, where it is one, and r_owner is ignored
+-- the address is kept as it is given, and r_owner is ignored
 unfoldable pub row_of_rpcb : Owner → Rpcb → Option Row
-row_of_rpcb owner r =
-    if is_some (parse r.addr) then option_map at (netid_named r.netid) else None
+row_of_rpcb owner r = option_map on (netid_named r.netid)
   where
-    at : Netid → Row
-    at netid = record { prog = r.prog; vers = r.vers; netid = netid; addr = r.addr; owner = owner }
+    on : Netid → Row
+    on netid = record { prog = r.prog; vers = r.vers; netid = netid; owner = owner; addr = r.addr }
 
--- another program than the portmapper's own, at a universal address that has a port
+-- another program than the portmapper's own, at an address that may be set on its netid
 unfoldable pub can_be_set : Row → Bool
-can_be_set row = not (row.prog == rpcb_prog) && option_map_or (λ u. not (port_of u == 0)) (parse row.addr) false
+can_be_set row = not (row.prog == rpcb_prog) && is_address row.netid row.addr
 
 -- a caller on this machine may set the row, and there is a place for it beside these live rows, after so many changes
 abbrev pub accepts : Context → List Row → ℕ → Row → Bool
@@ -131,21 +132,30 @@ unset_rows context head prog vers (Some which) l =
 
 -- ---- rows that are asked for
 
--- the listener's host stands in for 0.0.0.0; any other text stays as it was set
-unfoldable pub shown_text : List ℕ → List ℕ → List ℕ
-shown_text host addr = option_map_or (λ u. text_of (merged host u)) (parse addr) addr
+-- the row's universal address as callers are told it: the listener's host stands in for 0.0.0.0
+unfoldable pub shown_address : List ℕ → Row → Option Uaddr
+shown_address host row = option_map (merged host) (address_in row.netid row.addr)
+
+-- an IPv4 address is told so; an IPv6 address and the name of a local socket stay as they were set
+abbrev pub told_text : Row → Option Uaddr → List ℕ
+told_text row (Some (V4 host port)) = text_of (V4 host port)
+told_text row (Some (V6 host port)) = row.addr
+told_text row None = row.addr
+
+unfoldable pub shown_text : List ℕ → Row → List ℕ
+shown_text host row = told_text row (shown_address host row)
 
 -- 0 where there is no port
-unfoldable pub shown_port : List ℕ → ℕ
-shown_port addr = option_map_or port_of (parse addr) 0
+unfoldable pub shown_port : Row → ℕ
+shown_port row = option_map_or port_of (address_in row.netid row.addr) 0
 
 -- 0 where there is no row
 abbrev pub port_found : Option Row → ℕ
-port_found found = option_map_or (λ (row : Row). shown_port row.addr) found 0
+port_found found = option_map_or shown_port found 0
 
 -- empty where there is no row
 abbrev pub addr_found : List ℕ → Option Row → List ℕ
-addr_found host found = option_map_or (λ (row : Row). shown_text host row.addr) found []
+addr_found host found = option_map_or text_of (option_and_then (shown_address host) found) []
 
 -- a look-up of the target, in a call of this head, is noted with whether it found a row
 abbrev pub looked_up : CallHead → Target → Option Row → Ledger → Ledger
@@ -155,18 +165,22 @@ looked_up head target found l = noted (LookedUp (version_of head.vers) target (i
 abbrev pub port_told : CallHead → Target → Option Row → Ledger → ℕ × Ledger
 port_told head target found l = (port_found found, looked_up head target found l)
 
-abbrev pub port_on : CallHead → Mapping → Option Netid → Ledger → ℕ × Ledger
+abbrev pub port_on : CallHead → Mapping → Option Transport → Ledger → ℕ × Ledger
 port_on head m None l = (0, l)
-port_on head m (Some netid) l =
-    port_told head (record { prog = m.prog; vers = m.vers; netid = netid }) (find_row m.prog m.vers netid (rows_in l)) l
+port_on head m (Some transport) l =
+    port_told head (record { prog = m.prog; vers = m.vers; transport = transport }) (find_row m.prog m.vers (netid_of transport) (rows_in l)) l
 
--- PMAPPROC_GETPORT: by the netid of prot; port is ignored. Where prot has no netid, nothing is looked up.
+-- PMAPPROC_GETPORT: by the transport of prot; port is ignored. Where prot is of none, nothing is looked up.
 unfoldable pub getport : CallHead → Mapping → Ledger → ℕ × Ledger
-getport head m l = port_on head m (netid_of_prot m.prot) l
+getport head m l = port_on head m (transport_of_prot m.prot) l
 
 -- what is asked for, on the transport on which the call came; r_netid, r_addr and r_owner are ignored
 abbrev pub target_of : Context → Rpcb → Target
-target_of context r = record { prog = r.prog; vers = r.vers; netid = netid_of context.caller }
+target_of context r = record { prog = r.prog; vers = r.vers; transport = transport_of_caller context.caller }
+
+-- the netid of that transport
+abbrev pub netid_asked : Context → Netid
+netid_asked context = netid_of (transport_of_caller context.caller)
 
 -- the address of the row that was looked up
 abbrev pub addr_told : Context → CallHead → Rpcb → Option Row → Ledger → List ℕ × Ledger
@@ -175,11 +189,11 @@ addr_told context head r found l =
 
 -- RPCBPROC_GETADDR
 unfoldable pub getaddr : Context → CallHead → Rpcb → Ledger → List ℕ × Ledger
-getaddr context head r l = addr_told context head r (find_row r.prog r.vers (netid_of context.caller) (rows_in l)) l
+getaddr context head r l = addr_told context head r (find_row r.prog r.vers (netid_asked context) (rows_in l)) l
 
 -- RPCBPROC_GETVERSADDR: the same, of the exact version alone
 unfoldable pub getversaddr : Context → CallHead → Rpcb → Ledger → List ℕ × Ledger
-getversaddr context head r l = addr_told context head r (find_exact r.prog r.vers (netid_of context.caller) (rows_in l)) l
+getversaddr context head r l = addr_told context head r (find_exact r.prog r.vers (netid_asked context) (rows_in l)) l
 
 -- ---- the rest
 

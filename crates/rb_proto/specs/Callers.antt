@@ -7,6 +7,8 @@ use Rattle.rb_rpc.specs.declared.peer.Caller.{Caller}
 use Rattle.rb_rpc.specs.declared.peer.Caller.TheVariants as callers
 use Rattle.rb_uaddr.specs.declared.address.Uaddr.TheVariants.{V4}
 use Rattle.rb_uaddr.specs.Uaddr.{any_host, text_of}
+use Rattle.rb_registry.specs.declared.row.Transport.{Transport}
+use Rattle.rb_registry.specs.declared.row.Transport.TheVariants as transports
 use Rattle.rb_registry.specs.declared.row.Netid.{Netid}
 use Rattle.rb_registry.specs.declared.row.Netid.TheVariants.{Tcp, Udp}
 use Rattle.rb_registry.specs.declared.row.Owner.{Owner}
@@ -34,9 +36,9 @@ peer_of (callers.Tcp id peer) = peer
 peer_of (callers.Udp peer) = peer
 
 -- the transport on which the call came
-abbrev pub netid_of : Caller → Netid
-netid_of (callers.Tcp id peer) = Tcp
-netid_of (callers.Udp peer) = Udp
+abbrev pub transport_of_caller : Caller → Transport
+transport_of_caller (callers.Tcp id peer) = transports.Tcp
+transport_of_caller (callers.Udp peer) = transports.Udp
 
 -- as far as the credential says
 abbrev pub owner_of : Credential → Owner

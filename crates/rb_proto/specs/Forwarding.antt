@@ -6,8 +6,8 @@ use Rattle.rb_rpc.specs.declared.peer.Peer.{Peer}
 use Rattle.rb_rpc.specs.declared.reply.ReplyStatus.{ReplyStatus}
 use Rattle.rb_rpc.specs.declared.reply.ReplyStatus.TheVariants as replies
 use Rattle.rb_uaddr.specs.declared.address.Uaddr.{Uaddr}
-use Rattle.rb_uaddr.specs.declared.address.Uaddr.TheVariants.{V4}
-use Rattle.rb_uaddr.specs.Uaddr.{text_of, parse, merged}
+use Rattle.rb_uaddr.specs.declared.address.Uaddr.TheVariants.{V4, V6}
+use Rattle.rb_uaddr.specs.Uaddr.{text_of, merged_host}
 use Rattle.rb_registry.specs.declared.row.Netid.TheVariants as netids
 use Rattle.rb_registry.specs.declared.row.Row.{Row}
 use Rattle.rb_registry.specs.Rows.{rpcb_prog, find_exact}
@@ -26,7 +26,8 @@ use Rattle.rb_proto.specs.declared.context.Context.{Context}
 use Rattle.rb_proto.specs.declared.remote.RemoteCall.{RemoteCall}
 use Rattle.rb_proto.specs.declared.answers.Answer.{Answer}
 use Rattle.rb_proto.specs.declared.answers.Answer.TheVariants as answers
-use Rattle.rb_proto.specs.Callers.{netid_of}
+use Rattle.rb_proto.specs.Callers.{transport_of_caller}
+use Rattle.rb_proto.specs.Netids.{address_in}
 use Rattle.rb_proto.specs.Ledger.{Ledger, rows_in, noted}
 use Rattle.rb_proto.specs.Remote.{args_of}
 
@@ -48,30 +49,40 @@ is_indirect Indirect = true
 -- a call of this kind at its outcome, by what it calls and on which transport it came
 unfoldable pub outcome_note : Kind → Caller → ℕ → ℕ → ℕ → Bool → Note
 outcome_note kind caller prog vers proc passed =
-    Forwarded (version_of_kind kind) (record { prog = prog; vers = vers; netid = netid_of caller }) proc passed (is_indirect kind)
+    Forwarded (version_of_kind kind) (record { prog = prog; vers = vers; transport = transport_of_caller caller }) proc passed (is_indirect kind)
 
 -- ---- where a call is forwarded
 
-abbrev pub peer_at : Uaddr → Peer
-peer_at (V4 host port) = record { host = host; port = port }
+-- calls are forwarded over IPv4 alone
+abbrev pub peer_at : Uaddr → Option Peer
+peer_at (V4 host port) = Some (record { host = host; port = port })
+peer_at (V6 host port) = None
 
--- The address of the program's exact version on udp. The portmapper itself is not called.
-unfoldable pub address_to_forward : ℕ → ℕ → List Row → Option Uaddr
-address_to_forward prog vers rows =
-    if prog == rpcb_prog then None else option_and_then (λ (row : Row). parse row.addr) (find_exact prog vers netids.Udp rows)
+abbrev pub peer_of_row : Row → Option Peer
+peer_of_row row = option_and_then peer_at (address_in row.netid row.addr)
+
+-- Where the program's exact version is on udp. The portmapper itself is not called.
+unfoldable pub peer_to_forward : ℕ → ℕ → List Row → Option Peer
+peer_to_forward prog vers rows =
+    if prog == rpcb_prog then None else option_and_then peer_of_row (find_exact prog vers netids.Udp rows)
 
 -- every host of the listener is called on this machine
 abbrev pub loopback : List ℕ
 loopback = 127 ∷ 0 ∷ 0 ∷ 1 ∷ []
 
--- What is asked at the address. In place of 0.0.0.0 the call goes to 127.0.0.1, and the listener's host is shown.
-unfoldable pub forward_of : Context → ℕ → Kind → RemoteCall → Uaddr → Forward
-forward_of context xid kind remote address = record {
+-- another host in place of 0.0.0.0
+abbrev pub merged_peer : List ℕ → Peer → Peer
+merged_peer host peer = record { host = merged_host host peer.host; port = peer.port }
+
+-- What is asked at the registered host and port. In place of 0.0.0.0 the call goes to 127.0.0.1, and the listener's host
+-- is shown.
+unfoldable pub forward_of : Context → ℕ → Kind → RemoteCall → Peer → Forward
+forward_of context xid kind remote registered = record {
   caller = context.caller;
   xid = xid;
   kind = kind;
-  target = peer_at (merged loopback address);
-  shown = peer_at (merged context.listener.host address);
+  target = merged_peer loopback registered;
+  shown = merged_peer context.listener.host registered;
   prog = remote.prog;
   vers = remote.vers;
   proc = remote.proc;
@@ -91,18 +102,18 @@ abbrev pub refuse : Context → Kind → RemoteCall → ReplyStatus → Ledger �
 refuse context kind remote status l =
     (refusal kind status, noted (outcome_note kind context.caller remote.prog remote.vers remote.proc false) l)
 
--- a call of these arguments, to the address if there is one
-abbrev pub forward_to : Context → ℕ → Kind → RemoteCall → List ℕ → Option Uaddr → Ledger → Answer × Ledger
+-- a call of these arguments, to the registered host and port if there is one
+abbrev pub forward_to : Context → ℕ → Kind → RemoteCall → List ℕ → Option Peer → Ledger → Answer × Ledger
 forward_to context xid kind remote args None l = refuse context kind remote replies.ProgUnavail l
-forward_to context xid kind remote args (Some address) l =
+forward_to context xid kind remote args (Some registered) l =
     if can_start context.forwards l.forwards
-    then (answers.Forwarded, record l { forwards = started context.clock (forward_of context xid kind remote address) args l.forwards })
+    then (answers.Forwarded, record l { forwards = started context.clock (forward_of context xid kind remote registered) args l.forwards })
     else refuse context kind remote replies.SystemErr l
 
 -- A call of this xid asks to have another one made: CALLIT, BCAST and INDIRECT.
 unfoldable pub forward_call : Context → ℕ → Kind → RemoteCall → List ℕ → Ledger → Answer × Ledger
 forward_call context xid kind remote arguments l =
-    forward_to context xid kind remote (args_of remote arguments) (address_to_forward remote.prog remote.vers (rows_in l)) l
+    forward_to context xid kind remote (args_of remote arguments) (peer_to_forward remote.prog remote.vers (rows_in l)) l
 
 -- ---- how it ends
 

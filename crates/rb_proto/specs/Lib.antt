@@ -17,4 +17,5 @@ pub mod Costs
 pub mod Puts
 pub mod Worked
 pub mod WorkedForwards
+pub mod WorkedNetids
 pub mod WorkedLists

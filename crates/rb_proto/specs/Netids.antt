@@ -1,42 +1,96 @@
 -- What is known of each netid (RFC 5665 section 5.1, RFC 1833 section 2.1).
-use Rattle.std.specs.Prelude.{ℕ, ◌==◌, List, [], ◌∷◌, Option, Some, option_map, find, codes, bytes_eq}
+use Rattle.std.specs.Prelude.{ℕ, ◌==◌, Bool, false, not, List, [], ◌∷◌, Option, Some, None, option_map, find, codes, bytes_eq}
+use Rattle.std.specs.Option.{option_map_or}
+use Rattle.rb_uaddr.specs.declared.address.Uaddr.{Uaddr}
+use Rattle.rb_uaddr.specs.Uaddr.{port_of, parse_ipv4, parse_ipv6, is_local_text}
+use Rattle.rb_registry.specs.declared.row.Transport.{Transport}
+use Rattle.rb_registry.specs.declared.row.Transport.TheVariants as transports
 use Rattle.rb_registry.specs.declared.row.Netid.{Netid}
-use Rattle.rb_registry.specs.declared.row.Netid.TheVariants.{Tcp, Udp}
+use Rattle.rb_registry.specs.declared.row.Netid.TheVariants.{Tcp, Udp, Tcp6, Udp6, Local}
 use Rattle.rb_registry.specs.declared.row.Which.{Which}
 use Rattle.rb_registry.specs.declared.row.Which.TheVariants.{All, One}
 use Rattle.rb_registry.specs.Rows.{netid_text}
 
 abbrev pub netids : List Netid
-netids = Tcp ∷ Udp ∷ []
+netids = Tcp ∷ Udp ∷ Tcp6 ∷ Udp6 ∷ Local ∷ []
+
+abbrev pub first_named : List Netid → List ℕ → Option Netid
+first_named among text = find (λ netid. bytes_eq (netid_text netid) text) among
 
 -- the netid of this name
 unfoldable pub netid_named : List ℕ → Option Netid
-netid_named text = find (λ netid. bytes_eq (netid_text netid) text) netids
+netid_named text = first_named netids text
 
 -- the netids that UNSET means: every one where the name is empty
 unfoldable pub which_of : List ℕ → Option Which
 which_of [] = Some All
 which_of (c ∷ text) = option_map One (netid_named (c ∷ text))
 
--- the protocol that version 2 has for it
-abbrev pub prot_of : Netid → ℕ
-prot_of Tcp = 6
-prot_of Udp = 17
+-- ---- version 2
 
-unfoldable pub netid_of_prot : ℕ → Option Netid
-netid_of_prot prot = find (λ netid. prot_of netid == prot) netids
+abbrev pub all_transports : List Transport
+all_transports = transports.Tcp ∷ transports.Udp ∷ []
+
+-- the protocol that version 2 has for it
+abbrev pub prot_of : Transport → ℕ
+prot_of transports.Tcp = 6
+prot_of transports.Udp = 17
+
+unfoldable pub transport_of_prot : ℕ → Option Transport
+transport_of_prot prot = find (λ transport. prot_of transport == prot) all_transports
+
+-- The protocol of a row of tcp or udp. Version 2 shows no row of another netid.
+abbrev pub prot_on : Netid → ℕ
+prot_on Tcp = prot_of transports.Tcp
+prot_on Udp = prot_of transports.Udp
+prot_on Tcp6 = 0
+prot_on Udp6 = 0
+prot_on Local = 0
+
+-- ---- versions 3 and 4
 
 -- nc_semantics: connectionless, or connection oriented with orderly release
 abbrev pub semantics_of : Netid → ℕ
 semantics_of Tcp = 3
 semantics_of Udp = 1
+semantics_of Tcp6 = 3
+semantics_of Udp6 = 1
+semantics_of Local = 3
 
 -- nc_protofmly
 abbrev pub family_text : Netid → List ℕ
 family_text Tcp = codes "inet"
 family_text Udp = codes "inet"
+family_text Tcp6 = codes "inet6"
+family_text Udp6 = codes "inet6"
+family_text Local = codes "loopback"
 
 -- nc_proto
 abbrev pub proto_text : Netid → List ℕ
 proto_text Tcp = codes "tcp"
 proto_text Udp = codes "udp"
+proto_text Tcp6 = codes "tcp"
+proto_text Udp6 = codes "udp"
+proto_text Local = codes "-"
+
+-- ---- addresses
+
+-- The universal address of the netid's family that the text spells: of tcp and udp an IPv4 address, of tcp6 and udp6 an
+-- IPv6 address (RFC 5665 section 5.2.3). The address of a local socket is none.
+unfoldable pub address_in : Netid → List ℕ → Option Uaddr
+address_in Tcp text = parse_ipv4 text
+address_in Udp text = parse_ipv4 text
+address_in Tcp6 text = parse_ipv6 text
+address_in Udp6 text = parse_ipv6 text
+address_in Local text = None
+
+abbrev pub has_port : Option Uaddr → Bool
+has_port address = option_map_or (λ u. not (port_of u == 0)) address false
+
+-- What may be set on the netid: a universal address of its family that has a port, or the name of a local socket.
+unfoldable pub is_address : Netid → List ℕ → Bool
+is_address Tcp text = has_port (address_in Tcp text)
+is_address Udp text = has_port (address_in Udp text)
+is_address Tcp6 text = has_port (address_in Tcp6 text)
+is_address Udp6 text = has_port (address_in Udp6 text)
+is_address Local text = is_local_text text

@@ -1,7 +1,8 @@
 -- The bytes of an answer's results (RFC 1833 sections 2.2 and 3.2).
-use Rattle.std.specs.Prelude.{ℕ, ◌==◌, Bool, true, false, ◌&&◌, if◌then◌else◌, List, [], ◌++◌, map, filter}
+use Rattle.std.specs.Prelude.{ℕ, ◌==◌, Bool, true, false, ◌&&◌, if◌then◌else◌, List, [], ◌++◌, map, filter, take, drop}
 use Rattle.std.specs.List.{flat_map}
 use Rattle.rb_xdr.specs.Xdr.{number, boolean, opaque, listed}
+use Rattle.rb_registry.specs.declared.row.Netid.{Netid}
 use Rattle.rb_registry.specs.declared.row.Row.{Row}
 use Rattle.rb_registry.specs.declared.row.Which.TheVariants.{Inet}
 use Rattle.rb_registry.specs.Registry.{rows_of}
@@ -19,7 +20,7 @@ use Rattle.rb_proto.specs.declared.answers.Value.{Value}
 use Rattle.rb_proto.specs.declared.answers.Value.TheVariants as values
 use Rattle.rb_proto.specs.Types.{mapping_spelling, rpcb_spelling, netbuf_spelling, entry_spelling}
 use Rattle.rb_proto.specs.Callers.{owner_text}
-use Rattle.rb_proto.specs.Netids.{prot_of, semantics_of, family_text, proto_text}
+use Rattle.rb_proto.specs.Netids.{prot_on, semantics_of, family_text, proto_text}
 use Rattle.rb_proto.specs.Ledger.{Ledger, rows_in, Books}
 use Rattle.rb_proto.specs.Answers.{shown_text, shown_port, Results}
 
@@ -42,7 +43,7 @@ abbrev pub is_version : ℕ → ℕ → Row → Bool
 is_version prog vers row = row.prog == prog && row.vers == vers
 
 abbrev pub mapping_of : Row → Mapping
-mapping_of row = record { prog = row.prog; vers = row.vers; prot = prot_of row.netid; port = shown_port row.addr }
+mapping_of row = record { prog = row.prog; vers = row.vers; prot = prot_on row.netid; port = shown_port row }
 
 -- DUMP shows addresses as they were set
 abbrev pub rpcb_of : Row → Rpcb
@@ -50,7 +51,7 @@ rpcb_of row = record { prog = row.prog; vers = row.vers; netid = netid_text row.
 
 abbrev pub entry_of : List ℕ → Row → Entry
 entry_of host row = record {
-  maddr = shown_text host row.addr;
+  maddr = shown_text host row;
   netid = netid_text row.netid;
   semantics = semantics_of row.netid;
   protofmly = family_text row.netid;
@@ -112,9 +113,16 @@ rows_bytes host rows list = flat_map (row_bytes host list) rows ++ boolean false
 abbrev pub mapping_item : Row → List ℕ
 mapping_item row = boolean true ++ mapping_spelling (mapping_of row)
 
--- TRUE and an rpcb up to its netid
-abbrev pub rpcb_head : Rpcb → List ℕ
-rpcb_head r = boolean true ++ number r.prog ++ number r.vers ++ opaque r.netid
+-- the first eight bytes of the netid's spelling, and those behind them
+abbrev pub netid_front : Netid → List ℕ
+netid_front netid = take 8 (opaque (netid_text netid))
+
+abbrev pub netid_rest : Netid → List ℕ
+netid_rest netid = drop 8 (opaque (netid_text netid))
+
+-- TRUE and the rpcb of a row up to the first eight bytes of its netid's spelling
+abbrev pub rpcb_head : Row → List ℕ
+rpcb_head row = boolean true ++ number row.prog ++ number row.vers ++ netid_front row.netid
 
 abbrev pub rpcb_item : Row → List ℕ
 rpcb_item row = boolean true ++ rpcb_spelling (rpcb_of row)

@@ -298,7 +298,7 @@ LongDump = map size (results_behind 166 (sets 166 200001 ++ call 3 4 [] ∷ []))
 -- so many rows on tcp, of programs from this one on
 abbrev pub more_rows : ℕ → ℕ → List Row
 more_rows zero prog = []
-more_rows (suc k) prog = record { prog = prog; vers = 1; netid = netids.Tcp; addr = codes "0.0.0.0.8.1"; owner = owners.Uid 0 } ∷ more_rows k (prog + 1)
+more_rows (suc k) prog = record { prog = prog; vers = 1; netid = netids.Tcp; owner = owners.Uid 0; addr = codes "0.0.0.0.8.1" } ∷ more_rows k (prog + 1)
 
 -- DUMP of version 2 with 448 rows in all: with the reply's head 8,988 bytes
 abbrev pub LongPmapDump : Type 0

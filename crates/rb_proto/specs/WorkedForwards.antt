@@ -6,7 +6,7 @@ use Rattle.rb_rpc.specs.declared.peer.Caller.{Caller}
 use Rattle.rb_rpc.specs.declared.peer.Caller.TheVariants.{Tcp, Udp}
 use Rattle.rb_rpc.specs.declared.call.Credential.TheVariants as credentials
 use Rattle.rb_rpc.specs.declared.reply.ReplyStatus.TheVariants as replies
-use Rattle.rb_registry.specs.declared.row.Netid.TheVariants as netids
+use Rattle.rb_registry.specs.declared.row.Transport.TheVariants as transports
 use Rattle.rb_registry.specs.Rows.{rpcb_prog}
 use Rattle.rb_stats.specs.declared.key.Version.TheVariants as versions
 use Rattle.rb_stats.specs.Statistics.{Note}
@@ -62,10 +62,10 @@ registered = left_by fresh (call 2 1 (200001 ∷ 1 ∷ 17 ∷ 2049 ∷ []) ∷ [
 
 -- the notes of an INDIRECT and of a CALLIT that fail
 abbrev pub indirect_failed : ℕ → ℕ → Note
-indirect_failed prog vers = Forwarded versions.Four (record { prog = prog; vers = vers; netid = netids.Udp }) 0 false true
+indirect_failed prog vers = Forwarded versions.Four (record { prog = prog; vers = vers; transport = transports.Udp }) 0 false true
 
 abbrev pub callit_failed : ℕ → ℕ → Note
-callit_failed prog vers = Forwarded versions.Two (record { prog = prog; vers = vers; netid = netids.Udp }) 0 false false
+callit_failed prog vers = Forwarded versions.Two (record { prog = prog; vers = vers; transport = transports.Udp }) 0 false false
 
 -- where so many calls may be forwarded, the INDIRECT is refused so, and the CALLIT is silent
 abbrev pub IsRefused : ℕ → ℕ → ℕ → Answer → Ledger → Type 0
@@ -196,17 +196,17 @@ target_said numbers l = replied 1000 2000 (at_host loopback) (words (1000 ∷ 1 
 abbrev pub EndsAreNoted : Type 0
 EndsAreNoted =
     EndsWithNote Indirect by_datagram (outcomes.Passed 24)
-    (Forwarded versions.Four (record { prog = 200001; vers = 1; netid = netids.Udp }) 0 true true)
+    (Forwarded versions.Four (record { prog = 200001; vers = 1; transport = transports.Udp }) 0 true true)
     (target_said (0 ∷ []) (waiting Indirect by_datagram))
     × EndsWithNote Callit3 by_connection (outcomes.Passed 24)
-    (Forwarded versions.Three (record { prog = 200001; vers = 1; netid = netids.Tcp }) 0 true false)
+    (Forwarded versions.Three (record { prog = 200001; vers = 1; transport = transports.Tcp }) 0 true false)
     (target_said (0 ∷ []) (waiting Callit3 by_connection))
     × EndsWithNote Bcast by_datagram (outcomes.Refused replies.ProcUnavail)
-    (Forwarded versions.Four (record { prog = 200001; vers = 1; netid = netids.Udp }) 0 false false)
+    (Forwarded versions.Four (record { prog = 200001; vers = 1; transport = transports.Udp }) 0 false false)
     (target_said (3 ∷ []) (waiting Bcast by_datagram))
     × EndsWithNote Callit2 by_datagram outcomes.Failed (callit_failed 200001 1) (fell_due 6000 (waiting Callit2 by_datagram))
     × EndsWithNote Callit2 by_connection outcomes.Dropped
-    (Forwarded versions.Two (record { prog = 200001; vers = 1; netid = netids.Tcp }) 0 false false)
+    (Forwarded versions.Two (record { prog = 200001; vers = 1; transport = transports.Tcp }) 0 false false)
     (caller_dropped 3 (waiting Callit2 by_connection))
 
 -- what does not end a call is not noted

@@ -12,7 +12,7 @@ pub enum Answer {
     Refused(ReplyStatus),
     /// Nothing yet: the call was forwarded, and is answered at its outcome.
     Forwarded,
-    /// Nothing ever: a call could not be forwarded whose failures have no answer.
+    /// No reply at all: a CALLIT or BCAST that could not be forwarded.
     Silent,
 }
 

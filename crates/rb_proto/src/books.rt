@@ -77,9 +77,9 @@ impl Books {
     ghost use Rattle.rb_proto.specs.Callers.{own_rows};
     ghost use Rattle.rb_proto.specs.Ledger.{Ledger, StandsForLedger, fresh_ledger, called};
 
-    /// Nothing was called: the listener's own rows are there, of at most `limit`. At most so many calls will be forwarded
-    /// at a time, the first under this xid. BadLimits where the own rows are more, else NoMemory where an allocation is
-    /// refused.
+    /// Books with the listener's own six rows alone, for at most `limit` rows and at most `forwards` forwarded calls
+    /// at a time, the first with the xid `first_xid`. `BadLimits` where `limit` is below 6, else `NoMemory` where an
+    /// allocation is refused.
     pub fn new(
         alloc: Global,
         limit: usize,
@@ -135,7 +135,8 @@ impl Books {
         }
     }
 
-    /// Drops the removed rows that no list needs which began after so many changes or later: all where none is named.
+    /// Drops the retained rows that no list needs which began after `oldest` changes or later; all of them where it
+    /// is `None`.
     pub fn trim(&mut self, oldest: Option<u64>, meter: &mut Meter)
         requires { AreTied meter.old.tie self.old }
         ensures stands { Becomes (λ l. l) self.old self.new }

@@ -49,8 +49,9 @@ fn told(value: Value) -> Answer
     Answer::Results(Results::Value(value))
 }
 
-/// Does what a call asks for, and answers it. What the statistics count of it is noted, but that it was called at all,
-/// which `Books::note_call` does before, and the outcome of what is forwarded, which comes later.
+/// Does what a call asks for and returns its answer. Look-ups, accepted SETs and UNSETs and refused forwards are
+/// noted in the statistics. That the procedure was called is noted before, by `Books::note_call`; how a forwarded
+/// call ends is noted at its end.
 ///
 /// `arguments` are the bytes that the request was read from. A caller on a connection has no other forwarded call.
 #[tactic(auto, using(crate::proofs::ListReplies::goes_on_same), unfolding(crate::specs::Answers::answer, crate::specs::Answers::adds_row, crate::specs::Answers::row_to_set))]

@@ -1,13 +1,13 @@
 //! What a call sees.
 ghost use Rattle.std.specs.Prelude.{◌≡◌};
-ghost use Rattle.rb_proto.specs.Callers.{peer_of, netid_of};
+ghost use Rattle.rb_proto.specs.Callers.{peer_of, transport_of_caller};
 ghost use Rattle.rb_proto.specs.Answers.{comes_from_here};
 
 use crate::listener::{Listener, is_local};
-use rb_registry::Netid;
+use rb_registry::Transport;
 use rb_rpc::{Caller, Peer};
 
-/// What a call sees beside what is remembered: where it came to, and from whom.
+/// What the answer to a call depends on beside the books: the listener, the limits, the moment and the caller.
 #[derive(Clone, Copy, PartialEq, Eq, Debug)]
 pub struct Context {
     pub listener: Listener,
@@ -29,12 +29,12 @@ fn peer_of(caller: &Caller) -> Peer
 }
 
 /// The transport on which a call of this caller came.
-pub(crate) fn netid_of(caller: &Caller) -> Netid
-    ensures { result ≡ netid_of caller.now }
+pub(crate) fn transport_of_caller(caller: &Caller) -> Transport
+    ensures { result ≡ transport_of_caller caller.now }
 {
     match caller {
-        Caller::Tcp(..) => Netid::Tcp,
-        Caller::Udp(_) => Netid::Udp,
+        Caller::Tcp(..) => Transport::Tcp,
+        Caller::Udp(_) => Transport::Udp,
     }
 }
 
@@ -48,9 +48,9 @@ impl Context {
     }
 
     /// The transport on which the call came.
-    pub(crate) fn netid(&self) -> Netid
-        ensures { result ≡ netid_of self.now.caller }
+    pub(crate) fn transport(&self) -> Transport
+        ensures { result ≡ transport_of_caller self.now.caller }
     {
-        netid_of(&self.caller)
+        transport_of_caller(&self.caller)
     }
 }

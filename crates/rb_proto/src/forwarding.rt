@@ -5,22 +5,22 @@ ghost use Rattle.rb_registry.specs.Registry.{rows_of, slots_of as row_slots};
 ghost use Rattle.rb_stats.specs.Counting.{HasNoted};
 ghost use Rattle.rb_forward.specs.StandsFor.{slots_of};
 ghost use Rattle.rb_forward.specs.Table.{IsNew};
-ghost use Rattle.rb_proto.specs.Callers.{netid_of};
 ghost use Rattle.rb_proto.specs.Books.{ActsAs, AreTied, OnlyCallerWaits, SameFrame, StayUnlessForwarded, note_asked};
 ghost use Rattle.rb_proto.specs.Remote.{HasContent};
-ghost use Rattle.rb_proto.specs.Forwarding.{version_of_kind, is_indirect, is_pass, peer_at, address_to_forward, forward_of, refusal, refuse, forward_call, end_note};
+ghost use Rattle.rb_proto.specs.Forwarding.{version_of_kind, is_indirect, is_pass, peer_at, peer_of_row, peer_to_forward, merged_peer, forward_of, refusal, refuse, forward_call, end_note};
 ghost use Rattle.rb_proto.specs.Costs.{note_cost};
 ghost use Rattle.rb_proto.specs.Puts.{call_cost};
 
 use crate::answers::Answer;
 use crate::books::Books;
-use crate::context::{Context, netid_of};
+use crate::context::{Context, transport_of_caller};
+use crate::netids::address_in;
 use crate::remote::RemoteCall;
 use rb_forward::{Ended, Forward, Kind, Outcome};
-use rb_registry::{Netid, RPCB_PROG, Registry};
+use rb_registry::{Netid, RPCB_PROG, Registry, Row};
 use rb_rpc::{Caller, Peer, ReplyStatus};
 use rb_stats::{Stats, Target, Version};
-use rb_uaddr::Uaddr;
+use rb_uaddr::{Uaddr, merge_host};
 use rb_xdr::Meter;
 
 /// Where a call to every host of the listener goes.
@@ -57,7 +57,7 @@ fn note_outcome(stats: &mut Stats, asked: Asked, passed: bool, meter: &mut Meter
     let target = Target {
         prog: asked.prog,
         vers: asked.vers,
-        netid: netid_of(&asked.caller),
+        transport: transport_of_caller(&asked.caller),
     };
     let indirect = matches!(asked.kind, Kind::Indirect);
     stats.note_remote(
@@ -97,47 +97,66 @@ pub(crate) fn note_end(stats: &mut Stats, ended: &Ended, meter: &mut Meter)
     note_outcome(stats, asked, passed, meter);
 }
 
-fn peer_at(address: Uaddr) -> Peer
+/// The host and the port of an IPv4 address.
+fn peer_at(address: Uaddr) -> Option<Peer>
     ensures { result ≡ peer_at address }
 {
-    let Uaddr::V4(host, port) = address;
-    Peer { host, port }
+    match address {
+        Uaddr::V4(host, port) => Some(Peer { host, port }),
+        Uaddr::V6(..) => None,
+    }
 }
 
-/// The address of the program's exact version on udp. The portmapper itself is not called.
-#[tactic(auto, unfolding(crate::specs::Forwarding::address_to_forward))]
-fn address_to_forward(registry: &Registry, remote: &RemoteCall, meter: &mut Meter) -> Option<Uaddr>
+fn peer_of_row(row: &Row) -> Option<Peer>
+    ensures { result ≡ peer_of_row row.now }
+{
+    peer_at(address_in(row.netid, &row.addr)?)
+}
+
+/// Where the program's exact version is on udp. The portmapper itself is not called.
+#[tactic(auto, unfolding(crate::specs::Forwarding::peer_to_forward))]
+fn peer_to_forward(registry: &Registry, remote: &RemoteCall, meter: &mut Meter) -> Option<Peer>
     requires { meter.old.tie ≡ registry.now.tie }
-    ensures address { result
-        ≡ address_to_forward remote.now.prog remote.now.vers (rows_of registry.now) }
+    ensures peer { result
+        ≡ peer_to_forward remote.now.prog remote.now.vers (rows_of registry.now) }
     ensures cost { PaysAtMost meter.old meter.new (2 * length (row_slots registry.now) + 1) }
 {
     if remote.prog == RPCB_PROG {
         return None;
     }
     let row = registry.find_exact(remote.prog, remote.vers, Netid::Udp, meter)?;
-    Some(row.addr.address())
+    peer_of_row(row)
 }
 
-/// What is asked at the address, for a call of this xid. In place of 0.0.0.0 the call goes to 127.0.0.1, and the
-/// listener's host is shown.
+/// The same port, of another host in place of 0.0.0.0.
+fn merged_peer(host: [u8; 4], peer: Peer) -> Peer
+    ensures { result ≡ merged_peer host peer }
+{
+    Peer {
+        host: merge_host(host, peer.host),
+        port: peer.port,
+    }
+}
+
+/// What is asked at the registered host and port, for a call of this xid. In place of 0.0.0.0 the call goes to 127.0.0.1,
+/// and the listener's host is shown.
 #[tactic(auto, unfolding(crate::specs::Forwarding::forward_of))]
 fn forward_of(
     context: &Context,
     xid: u32,
     kind: Kind,
     remote: &RemoteCall,
-    address: Uaddr,
+    registered: Peer,
 ) -> Forward
-    ensures forward { result ≡ forward_of context.now xid kind remote.now address }
+    ensures forward { result ≡ forward_of context.now xid kind remote.now registered }
     ensures caller { result.caller ≡ context.now.caller }
 {
     Forward {
         caller: context.caller,
         xid,
         kind,
-        target: peer_at(address.merge(LOOPBACK)),
-        shown: peer_at(address.merge(context.listener.host)),
+        target: merged_peer(LOOPBACK, registered),
+        shown: merged_peer(context.listener.host, registered),
         prog: remote.prog,
         vers: remote.vers,
         proc: remote.proc,
@@ -205,7 +224,7 @@ pub(crate) fn forward_call(
     ensures frame { SameFrame books.old books.new }
     ensures cost { PaysAtMost meter.old meter.new (call_cost books.old (length arguments.now)) }
 {
-    let Some(address) = address_to_forward(&books.registry, remote, meter) else {
+    let Some(registered) = peer_to_forward(&books.registry, remote, meter) else {
         return refuse(
             books,
             context,
@@ -215,7 +234,7 @@ pub(crate) fn forward_call(
             meter,
         );
     };
-    let forward = forward_of(context, xid, kind, remote, address);
+    let forward = forward_of(context, xid, kind, remote, registered);
     let args = remote.args(arguments);
     match books.forwards.start(context.clock, &forward, args, meter) {
         Ok(_) => Answer::Forwarded,

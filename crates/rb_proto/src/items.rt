@@ -7,7 +7,7 @@ ghost use Rattle.rb_proto.specs.Results.{mapping_of, rpcb_of, entry_of};
 use crate::entry::Entry;
 use crate::lookups::{shown_port, shown_text};
 use crate::mapping::Mapping;
-use crate::netids::{family_text, prot_of, proto_text, semantics_of};
+use crate::netids::{family_text, prot_on, proto_text, semantics_of};
 use crate::rpcb::Rpcb;
 use itoa::Buffer;
 use rb_registry::{Owner, Row};
@@ -33,8 +33,8 @@ pub(crate) fn mapping_of(row: &Row) -> Mapping
     Mapping {
         prog: row.prog,
         vers: row.vers,
-        prot: prot_of(row.netid),
-        port: shown_port(&row.addr),
+        prot: prot_on(row.netid),
+        port: shown_port(row),
     }
 }
 
@@ -56,7 +56,7 @@ pub(crate) fn entry_of(host: [u8; 4], row: &Row) -> Entry
     ensures { result ≡ entry_of host row.now }
 {
     Entry {
-        maddr: Text::new(shown_text(host, &row.addr).as_slice()),
+        maddr: shown_text(host, row),
         netid: Text::new(row.netid.text()),
         semantics: semantics_of(row.netid),
         protofmly: Text::new(family_text(row.netid)),

@@ -17,8 +17,8 @@ use rb_xdr::{Kept, Meter, Xdr};
 /// A part has as many bytes, but the last one, which may have fewer.
 const LONGEST_PART: usize = 1_024;
 
-/// A reply that lists the rows as they were at its call, and how far it was given: up to a cursor, and so many bytes of
-/// what stands there, the head before the first row included.
+/// A reply that lists the rows as they were at its call, and how much of it was given. It holds no rows: each part
+/// reads them from the registry again.
 #[derive(Clone, Copy, PartialEq, Eq, Debug)]
 pub struct ListReply {
     xid: u32,

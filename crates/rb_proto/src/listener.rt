@@ -29,8 +29,8 @@ fn own_row(listener: &Listener, vers: u32, netid: Netid) -> Row
         prog: RPCB_PROG,
         vers,
         netid,
-        addr: Uaddr::any(listener.port).text(),
         owner: Owner::SUPERUSER,
+        addr: Uaddr::any(listener.port).text(),
     }
 }
 

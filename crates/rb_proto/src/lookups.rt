@@ -5,7 +5,7 @@ ghost use Rattle.rb_proto.specs.Books.{ActsAs, AreTied, SameFrame};
 ghost use Rattle.rb_proto.specs.Ledger.{version_of};
 ghost use Rattle.rb_stats.specs.Statistics.Note.{LookedUp};
 ghost use Rattle.rb_stats.specs.Counting.{HasNoted};
-ghost use Rattle.rb_proto.specs.Answers.{shown_text, shown_port, port_found, addr_found, getport, getaddr, getversaddr, target_of, seconds, taddr_of, uaddr_of};
+ghost use Rattle.rb_proto.specs.Answers.{shown_address, shown_text, shown_port, port_found, addr_found, getport, getaddr, getversaddr, target_of, seconds, taddr_of, uaddr_of};
 ghost use Rattle.rb_proto.specs.Costs.{note_cost};
 ghost use Rattle.rb_proto.specs.Puts.{lookup_cost};
 
@@ -14,27 +14,39 @@ use crate::context::Context;
 use crate::lent::{LentNetbuf, LentRpcb, LentText};
 use crate::mapping::Mapping;
 use crate::netbuf::AddressBuf;
-use crate::netids::netid_of_prot;
+use crate::netids::{address_in, transport_of_prot};
 use rb_registry::Row;
 use rb_rpc::CallHead;
 use rb_stats::{Stats, Target};
-use rb_uaddr::{MAX_TEXT, Uaddr, UaddrText};
+use rb_uaddr::{MAX_KEPT, MAX_TEXT, Uaddr};
 use rb_xdr::{Meter, Text};
 
-/// The address as a caller is told it: the listener's host stands in for 0.0.0.0.
-#[tactic(auto, unfolding(crate::specs::Answers::shown_text))]
-pub(crate) fn shown_text(host: [u8; 4], addr: &UaddrText) -> UaddrText
-    ensures { result ≡ shown_text host addr.now }
+/// The row's universal address as a caller is told it: the listener's host stands in for 0.0.0.0.
+#[tactic(auto, unfolding(crate::specs::Answers::shown_address))]
+fn shown_address(host: [u8; 4], row: &Row) -> Option<Uaddr>
+    ensures { result ≡ shown_address host row.now }
 {
-    addr.address().merge(host).text()
+    Some(address_in(row.netid, &row.addr)?.merge(host))
 }
 
-/// The port of the address.
-#[tactic(auto, unfolding(crate::specs::Answers::shown_port))]
-pub(crate) fn shown_port(addr: &UaddrText) -> u32
-    ensures { result ≡ shown_port addr.now }
+/// The text of the row's address as a list of addresses has it: the listener's host stands in for 0.0.0.0, and any text
+/// that is no IPv4 address stays as it was set.
+#[tactic(auto, unfolding(crate::specs::Answers::shown_text))]
+pub(crate) fn shown_text(host: [u8; 4], row: &Row) -> Text<MAX_KEPT>
+    ensures { result ≡ shown_text host row.now }
 {
-    u32::from(addr.address().port())
+    match shown_address(host, row) {
+        Some(Uaddr::V4(own, port)) => Text::new(Uaddr::V4(own, port).text().as_slice()),
+        Some(Uaddr::V6(..)) | None => Text::new(row.addr.as_slice()),
+    }
+}
+
+/// The port of the row's address, 0 where it has none.
+#[tactic(auto, unfolding(crate::specs::Answers::shown_port))]
+pub(crate) fn shown_port(row: &Row) -> u32
+    ensures { result ≡ shown_port row.now }
+{
+    address_in(row.netid, &row.addr).map_or(0, |address| u32::from(address.port()))
 }
 
 /// The port of a row that was looked up, 0 where there is none.
@@ -42,7 +54,7 @@ fn port_found(found: Option<&Row>) -> u32
     ensures { result ≡ port_found (option_copied found.entry) }
 {
     match found {
-        Some(row) => shown_port(&row.addr),
+        Some(row) => shown_port(row),
         None => 0,
     }
 }
@@ -51,8 +63,8 @@ fn port_found(found: Option<&Row>) -> u32
 fn addr_found(host: [u8; 4], found: Option<&Row>) -> Text<MAX_TEXT>
     ensures { result ≡ addr_found host (option_copied found.entry) }
 {
-    match found {
-        Some(row) => Text::new(shown_text(host, &row.addr).as_slice()),
+    match found.and_then(|row| shown_address(host, row)) {
+        Some(address) => Text::new(address.text().as_slice()),
         None => Text::new(&[]),
     }
 }
@@ -64,7 +76,7 @@ fn target_of(context: &Context, rpcb: &LentRpcb) -> Target
     Target {
         prog: rpcb.prog(),
         vers: rpcb.vers(),
-        netid: context.netid(),
+        transport: context.transport(),
     }
 }
 
@@ -78,8 +90,8 @@ fn note_lookup(stats: &mut Stats, head: &CallHead, target: Target, found: bool, 
     stats.note_addr(version_of(head.vers), target, found, meter);
 }
 
-/// PMAPPROC_GETPORT (RFC 1833 section 3.2): the port is ignored, and 0 says that there is no row. A look-up by a protocol
-/// that has a netid is noted.
+/// PMAPPROC_GETPORT (RFC 1833 section 3.2): the port is ignored, and 0 says that there is no row. A look-up by the
+/// protocol of a transport is noted.
 #[tactic(auto, unfolding(crate::specs::Answers::getport))]
 pub(crate) fn getport(
     books: &mut Books,
@@ -94,17 +106,17 @@ pub(crate) fn getport(
     ensures frame { SameFrame books.old books.new }
     ensures cost { PaysAtMost meter.old meter.new (lookup_cost books.old) }
 {
-    let Some(netid) = netid_of_prot(mapping.prot) else {
+    let Some(transport) = transport_of_prot(mapping.prot) else {
         return 0;
     };
     let target = Target {
         prog: mapping.prog,
         vers: mapping.vers,
-        netid,
+        transport,
     };
     let found = books
         .registry
-        .find(mapping.prog, mapping.vers, netid, meter);
+        .find(mapping.prog, mapping.vers, transport.netid(), meter);
     let port = port_found(found);
     note_lookup(&mut books.stats, head, target, found.is_some(), meter);
     port
@@ -127,9 +139,7 @@ pub(crate) fn getaddr(
     ensures frame { SameFrame books.old books.new }
     ensures cost { PaysAtMost meter.old meter.new (lookup_cost books.old) }
 {
-    let found = books
-        .registry
-        .find(rpcb.prog(), rpcb.vers(), context.netid(), meter);
+    let found = books.registry.find(rpcb.prog(), rpcb.vers(), context.transport().netid(), meter);
     let addr = addr_found(context.listener.host, found);
     let target = target_of(context, rpcb);
     note_lookup(&mut books.stats, head, target, found.is_some(), meter);
@@ -152,9 +162,12 @@ pub(crate) fn getversaddr(
     ensures frame { SameFrame books.old books.new }
     ensures cost { PaysAtMost meter.old meter.new (lookup_cost books.old) }
 {
-    let found = books
-        .registry
-        .find_exact(rpcb.prog(), rpcb.vers(), context.netid(), meter);
+    let found = books.registry.find_exact(
+        rpcb.prog(),
+        rpcb.vers(),
+        context.transport().netid(),
+        meter,
+    );
     let addr = addr_found(context.listener.host, found);
     let target = target_of(context, rpcb);
     note_lookup(&mut books.stats, head, target, found.is_some(), meter);

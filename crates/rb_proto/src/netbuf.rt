@@ -32,7 +32,7 @@ impl Model for AddressBuf {
 impl AddressBuf {
     ghost use Rattle.std.specs.Prelude.{◌≡◌, ◌≤◌, length};
 
-    /// The netbuf of these bytes, of which there are at most 16.
+    /// The netbuf of these bytes, of which there are at most 28.
     pub(crate) fn new(form: &[u8]) -> AddressBuf
         requires { length form.now ≤ MAX_TRANSPORT }
         ensures maxlen { result.maxlen ≡ length form.now }

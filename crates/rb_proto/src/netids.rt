@@ -1,17 +1,38 @@
 //! What is known of each netid.
 ghost use Rattle.std.specs.Prelude.{◌≡◌};
-ghost use Rattle.rb_proto.specs.Netids.{netid_named, which_of, prot_of, netid_of_prot, semantics_of, family_text, proto_text};
+ghost use Rattle.rb_proto.specs.Netids.{first_named, netid_named, which_of, prot_of, prot_on, transport_of_prot, semantics_of, family_text, proto_text, address_in, is_address};
 
-use rb_registry::{Netid, Which};
+use rb_registry::{Netid, Transport, Which};
+use rb_uaddr::{AddressText, Uaddr};
 
-const NETIDS: [Netid; 2] = [Netid::Tcp, Netid::Udp];
+const NETIDS: [Netid; 5] = [
+    Netid::Tcp,
+    Netid::Udp,
+    Netid::Tcp6,
+    Netid::Udp6,
+    Netid::Local,
+];
+
+const TRANSPORTS: [Transport; 2] = [Transport::Tcp, Transport::Udp];
+
+/// The first of these netids that has this name.
+fn first_named(netids: &[Netid], text: &[u8]) -> Option<Netid>
+    ensures { result ≡ first_named netids.now text.now }
+{
+    for netid in netids {
+        if netid.text() == text {
+            return Some(*netid);
+        }
+    }
+    None
+}
 
 /// The netid of this name.
 #[tactic(auto, unfolding(crate::specs::Netids::netid_named))]
 pub(crate) fn netid_named(text: &[u8]) -> Option<Netid>
     ensures { result ≡ netid_named text.now }
 {
-    NETIDS.iter().find(|netid| netid.text() == text).copied()
+    first_named(&NETIDS, text)
 }
 
 /// The netids that an UNSET of this name means: all where it is empty.
@@ -25,25 +46,36 @@ pub(crate) fn which_of(text: &[u8]) -> Option<Which>
     Some(Which::One(netid_named(text)?))
 }
 
-/// The protocol that version 2 has for a netid.
-pub(crate) fn prot_of(netid: Netid) -> u32
-    ensures { result ≡ prot_of netid }
+/// The protocol that version 2 has for a transport.
+pub(crate) fn prot_of(transport: Transport) -> u32
+    ensures { result ≡ prot_of transport }
 {
-    match netid {
-        Netid::Tcp => 6,
-        Netid::Udp => 17,
+    match transport {
+        Transport::Tcp => 6,
+        Transport::Udp => 17,
     }
 }
 
-/// The netid of a protocol of version 2.
-#[tactic(auto, unfolding(crate::specs::Netids::netid_of_prot))]
-pub(crate) fn netid_of_prot(prot: u32) -> Option<Netid>
-    ensures { result ≡ netid_of_prot prot }
+/// The transport of a protocol of version 2.
+#[tactic(auto, unfolding(crate::specs::Netids::transport_of_prot))]
+pub(crate) fn transport_of_prot(prot: u32) -> Option<Transport>
+    ensures { result ≡ transport_of_prot prot }
 {
-    NETIDS
+    TRANSPORTS
         .iter()
-        .find(|netid| prot_of(**netid) == prot)
+        .find(|transport| prot_of(**transport) == prot)
         .copied()
+}
+
+/// The protocol of a row of tcp or udp; 0 for another netid, whose rows version 2 does not show.
+pub(crate) fn prot_on(netid: Netid) -> u32
+    ensures { result ≡ prot_on netid }
+{
+    match netid {
+        Netid::Tcp => prot_of(Transport::Tcp),
+        Netid::Udp => prot_of(Transport::Udp),
+        Netid::Tcp6 | Netid::Udp6 | Netid::Local => 0,
+    }
 }
 
 /// Whether calls come in datagrams, 1, or on connections that end in order, 3.
@@ -51,8 +83,8 @@ pub(crate) fn semantics_of(netid: Netid) -> u32
     ensures { result ≡ semantics_of netid }
 {
     match netid {
-        Netid::Tcp => 3,
-        Netid::Udp => 1,
+        Netid::Tcp | Netid::Tcp6 | Netid::Local => 3,
+        Netid::Udp | Netid::Udp6 => 1,
     }
 }
 
@@ -62,6 +94,8 @@ pub(crate) fn family_text(netid: Netid) -> &'static [u8]
 {
     match netid {
         Netid::Tcp | Netid::Udp => b"inet",
+        Netid::Tcp6 | Netid::Udp6 => b"inet6",
+        Netid::Local => b"loopback",
     }
 }
 
@@ -70,7 +104,34 @@ pub(crate) fn proto_text(netid: Netid) -> &'static [u8]
     ensures { result.now ≡ proto_text netid }
 {
     match netid {
-        Netid::Tcp => b"tcp",
-        Netid::Udp => b"udp",
+        Netid::Tcp | Netid::Tcp6 => b"tcp",
+        Netid::Udp | Netid::Udp6 => b"udp",
+        Netid::Local => b"-",
+    }
+}
+
+/// The universal address of the netid's family that the text spells (RFC 5665 section 5.2.3), if it spells one.
+#[tactic(auto, unfolding(crate::specs::Netids::address_in))]
+pub(crate) fn address_in(netid: Netid, text: &AddressText) -> Option<Uaddr>
+    ensures { result ≡ address_in netid text.now }
+{
+    match netid {
+        Netid::Tcp | Netid::Udp => text.ipv4(),
+        Netid::Tcp6 | Netid::Udp6 => text.ipv6(),
+        Netid::Local => None,
+    }
+}
+
+/// Whether the text may be set on the netid: a universal address of its family that has a port, or the name of a local
+/// socket.
+#[tactic(auto, unfolding(crate::specs::Netids::is_address))]
+pub(crate) fn is_address(netid: Netid, text: &AddressText) -> bool
+    ensures { result ≡ is_address netid text.now }
+{
+    match netid {
+        Netid::Local => text.is_local(),
+        Netid::Tcp | Netid::Udp | Netid::Tcp6 | Netid::Udp6 => {
+            address_in(netid, text).is_some_and(|address| address.port() != 0)
+        }
     }
 }

@@ -10,14 +10,14 @@ ghost use Rattle.rb_proto.specs.Puts.{put_cost, list_cost, results_cost};
 ghost use Rattle.rb_proto.specs.Costs.{statistics_cost};
 ghost use Rattle.rb_forward.specs.Forwards.{longest_results};
 ghost use Rattle.rb_proto.specs.Forwarding.{forwarded_bytes};
-ghost use Rattle.rb_proto.specs.Results.{value_bytes, results_at, row_bytes, rows_bytes, shown_in, shown_of};
+ghost use Rattle.rb_proto.specs.Results.{value_bytes, results_at, rows_bytes, shown_in, shown_of};
 
 use crate::answers::{Listing, Results, Value};
 use crate::books::Books;
 use crate::listener::Listener;
-use crate::rows::{room_after_row, room_after_rows, write_row, write_rows};
+use crate::rows::{room_after_rows, write_rows};
 use rb_forward::{Forward, Kind};
-use rb_registry::{Registry, Row};
+use rb_registry::Registry;
 use rb_stats::Stats;
 use rb_uaddr::Uaddr;
 use rb_xdr::{Full, Kept, Meter, Opaque, Text, Xdr};
@@ -44,32 +44,6 @@ fn put_within<T: Xdr>(
         return Err(Full { value: () });
     }
     value.write(out, meter);
-    Ok(())
-}
-
-/// Puts what a row adds to a list: TRUE and the item, or nothing where the list doesn't show the row.
-///
-/// The row is refused where the buffer would then have more than `limit` bytes, and nothing is put.
-pub fn put_row(
-    list: Listing,
-    row: &Row,
-    listener: &Listener,
-    limit: usize,
-    out: &mut Kept,
-    meter: &mut Meter,
-) -> Result<(), Full>
-    requires tie { meter.old.tie ≡ out.old.tie }
-    requires limit { limit ≤ out.old.cap }
-    ensures puts { Puts (row_bytes listener.now.host list row.now) limit out.old out.new result }
-    ensures cost { PaysAtMost meter.old meter.new (put_cost out.old out.new) }
-{
-    let Some(room) = limit.checked_sub(out.len(meter)) else {
-        return Err(Full { value: () });
-    };
-    if room_after_row(list, row, listener.host, room).is_none() {
-        return Err(Full { value: () });
-    }
-    write_row(list, row, listener.host, out, meter);
     Ok(())
 }
 
@@ -136,8 +110,8 @@ fn put_statistics(
 
 /// Puts the results of a procedure behind what the buffer has, its head: rows and statistics are those of the books.
 ///
-/// They are refused where the buffer would then have more than `limit` bytes, and nothing is put. So the rows are walked
-/// twice: for the room that they want, and to be written.
+/// `Full`, and nothing is written, where the buffer would then have more than `limit` bytes. A list walks the rows
+/// twice: to count its bytes, and to write them.
 #[tactic(auto, using(crate::proofs::Shown::shown_where_standing), unfolding(crate::specs::Results::result_bytes))]
 pub fn put_results(
     results: &Results,

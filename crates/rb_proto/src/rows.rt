@@ -8,18 +8,18 @@ ghost use Rattle.rb_proto.specs.ListParts.{IsShort, FitsIfShort};
 ghost use Rattle.rb_proto.specs.Puts.{write_cost};
 ghost use Rattle.rb_proto.specs.Callers.{owner_text};
 ghost use Rattle.rb_proto.specs.Types.{IsRpcb};
-ghost use Rattle.rb_proto.specs.Results.{mapping_item, rpcb_head, rpcb_item, entry_item, is_shown, row_bytes, rows_bytes, rpcb_of};
+ghost use Rattle.rb_proto.specs.Results.{mapping_item, netid_front, netid_rest, rpcb_head, rpcb_item, entry_item, is_shown, row_bytes, rows_bytes, rpcb_of};
 
 use crate::answers::Listing;
 use crate::items::{entry_of, mapping_of, owner_text, rpcb_of};
 use itoa::Buffer;
-use rb_registry::{Cursor, Registry, Row, Which};
+use rb_registry::{Cursor, Netid, Registry, Row, Which};
 use rb_xdr::{Kept, Meter, Xdr, write_opaque};
 
 /// TRUE and a mapping, in bytes.
 const MAPPING_ITEM: usize = 20;
 
-/// TRUE and an rpcb up to its netid, in bytes.
+/// TRUE and an rpcb up to the first eight bytes that spell its netid, in bytes.
 const RPCB_HEAD: usize = 20;
 
 /// Whether the list shows the row.
@@ -35,7 +35,7 @@ fn is_shown(list: Listing, row: &Row) -> bool
 
 /// The room that is left of so much behind what a row adds to a list, if that fits.
 #[tactic(auto, unfolding(crate::specs::Results::row_bytes))]
-pub(crate) fn room_after_row(list: Listing, row: &Row, host: [u8; 4], room: usize) -> Option<usize>
+fn room_after_row(list: Listing, row: &Row, host: [u8; 4], room: usize) -> Option<usize>
     ensures { Leaves (row_bytes host list row.now) room result }
 {
     if !is_shown(list, row) {
@@ -63,24 +63,52 @@ fn mapping_item(row: &Row) -> [u8; MAPPING_ITEM]
     item
 }
 
-/// TRUE and the rpcb of a row up to its netid, which are written at once.
-#[tactic(auto, unfolding(rb_xdr::specs::Xdr::number, rb_xdr::specs::Xdr::boolean, rb_xdr::specs::Xdr::opaque))]
-fn rpcb_head(row: &Row) -> [u8; RPCB_HEAD]
-    ensures { result ≡ rpcb_head (rpcb_of row.now) }
+/// The first eight bytes of the netid as XDR spells it.
+#[tactic(auto, unfolding(rb_xdr::specs::Xdr::number, rb_xdr::specs::Xdr::opaque))]
+fn netid_front(netid: Netid) -> [u8; 8]
+    ensures { result ≡ netid_front netid }
 {
-    let netid = row.netid.text();
+    match netid {
+        Netid::Tcp => *b"\0\0\0\x03tcp\0",
+        Netid::Udp => *b"\0\0\0\x03udp\0",
+        Netid::Tcp6 => *b"\0\0\0\x04tcp6",
+        Netid::Udp6 => *b"\0\0\0\x04udp6",
+        Netid::Local => *b"\0\0\0\x05loca",
+    }
+}
+
+/// Writes those behind them, which local alone has.
+#[tactic(auto, unfolding(rb_xdr::specs::Xdr::number, rb_xdr::specs::Xdr::opaque))]
+fn write_netid_rest(netid: Netid, out: &mut Kept, meter: &mut Meter)
+    requires tie { meter.old.tie ≡ out.old.tie }
+    requires room { HasRoom (netid_rest netid) out.old }
+    ensures written { Appends (netid_rest netid) out.old out.new }
+    ensures cost { Pays meter.old meter.new (length (netid_rest netid)) }
+{
+    match netid {
+        Netid::Tcp | Netid::Udp | Netid::Tcp6 | Netid::Udp6 => {}
+        Netid::Local => {
+            let _ = out.extend(b"l\0\0\0", meter);
+        }
+    }
+}
+
+/// TRUE and the rpcb of a row up to the first eight bytes that spell its netid, which are written at once.
+#[tactic(auto, unfolding(rb_xdr::specs::Xdr::number, rb_xdr::specs::Xdr::boolean))]
+fn rpcb_head(row: &Row) -> [u8; RPCB_HEAD]
+    ensures { result ≡ rpcb_head row.now }
+{
     let mut head = [0; RPCB_HEAD];
     head[..4].copy_from_slice(&u32::from(true).to_be_bytes());
     head[4..8].copy_from_slice(&row.prog.to_be_bytes());
     head[8..12].copy_from_slice(&row.vers.to_be_bytes());
-    head[12..16].copy_from_slice(&(netid.len() as u32).to_be_bytes());
-    head[16..19].copy_from_slice(netid);
+    head[12..].copy_from_slice(&netid_front(row.netid));
     head
 }
 
 /// The text of an address is within the limit of an rpcb's. This does nothing.
 fn within_limit(addr: &[u8])
-    requires { length addr.now ≤ 24 }
+    requires { length addr.now ≤ 128 }
     ensures { IsContent 128 addr.now }
 {}
 
@@ -104,6 +132,7 @@ fn write_texts(row: &Row, owner: &[u8], out: &mut Kept, meter: &mut Meter)
     ensures cost { Pays meter.old meter.new (length (rpcb_item row.now)) }
 {
     let _ = out.extend(&rpcb_head(row), meter);
+    write_netid_rest(row.netid, out, meter);
     write_opaque(row.addr.as_slice(), out, meter);
     write_opaque(owner, out, meter);
 }

@@ -11,12 +11,12 @@ use crate::call::Call;
 use crate::context::Context;
 use crate::lent::LentRpcb;
 use crate::mapping::Mapping;
-use crate::netids::{netid_named, netid_of_prot};
+use crate::netids::{is_address, netid_named, transport_of_prot};
 use crate::procedure::{MappingProcedure, RpcbProcedure};
 use crate::request::Request;
 use rb_registry::{Owner, RPCB_PROG, Registry, Row, Which};
 use rb_rpc::CallHead;
-use rb_uaddr::{Uaddr, UaddrText};
+use rb_uaddr::{AddressText, Uaddr};
 use rb_xdr::Meter;
 
 /// The row that a SET of version 2 asks for, at every host.
@@ -25,17 +25,17 @@ pub(crate) fn row_of_mapping(owner: Owner, mapping: &Mapping) -> Option<Row>
     ensures { result ≡ row_of_mapping owner mapping.now }
 {
     let port = u16::try_from(mapping.port).ok()?;
-    let netid = netid_of_prot(mapping.prot)?;
+    let transport = transport_of_prot(mapping.prot)?;
     Some(Row {
         prog: mapping.prog,
         vers: mapping.vers,
-        netid,
-        addr: Uaddr::any(port).text(),
+        netid: transport.netid(),
         owner,
+        addr: Uaddr::any(port).text(),
     })
 }
 
-/// The row that a SET asks for, where its address is one, with the text as it was given.
+/// The row that a SET asks for, with the text of its address as it was given.
 #[tactic(auto, unfolding(crate::specs::Answers::row_of_rpcb))]
 pub(crate) fn row_of_rpcb(owner: Owner, rpcb: &LentRpcb) -> Option<Row>
     ensures { result ≡ row_of_rpcb owner rpcb.now }
@@ -45,8 +45,8 @@ pub(crate) fn row_of_rpcb(owner: Owner, rpcb: &LentRpcb) -> Option<Row>
         prog: rpcb.prog(),
         vers: rpcb.vers(),
         netid,
-        addr: UaddrText::read(rpcb.addr()).ok()?,
         owner,
+        addr: AddressText::new(rpcb.addr()),
     })
 }
 
@@ -63,12 +63,12 @@ pub(crate) fn row_to_set(call: &Call) -> Option<Row>
     }
 }
 
-/// Whether the row is of another program than the portmapper's own, at an address that has a port.
+/// Whether the row is of another program than the portmapper's own, at an address that may be set on its netid.
 #[tactic(auto, unfolding(crate::specs::Answers::can_be_set))]
 fn can_be_set(row: &Row) -> bool
     ensures { result ≡ can_be_set row.now }
 {
-    row.prog != RPCB_PROG && row.addr.address().port() != 0
+    row.prog != RPCB_PROG && is_address(row.netid, &row.addr)
 }
 
 /// Whether a SET of the row is accepted.

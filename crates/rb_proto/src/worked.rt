@@ -1,5 +1,6 @@
 ghost use Rattle.rb_proto.specs.Worked.{DumpOwnRows, SetGetportSetAgain, GetportGreatestVersion, SetAtRowLimit, VersionTwoRefuses, OwnersRemove, UnsetByOwner, OtherAddressesRefused, GetaddrByTransport, Getaddrlist, AddressTransportForm, LocalityAndGettime, RefusalsOfAcceptedCalls, GetstatFirstCall, GetstatAfterCalls, GetstatOfOtherCalls, GetstatFirstKeys, LongDump, LongPmapDump};
 ghost use Rattle.rb_proto.specs.WorkedForwards.{ProceduresAreKnown, GreatestArguments, WithoutRow, WithOtherRows, PortmapperIsNotCalled, TableIsFull, FailuresAreCounted, AnyHostIsThisMachine, OtherHostsStay, EndsAreNoted, OthersAreNotNoted, PlacesAreShown};
+ghost use Rattle.rb_proto.specs.WorkedNetids.{AddressesGoByNetid, TextsStay, OthersAreNotSeen, VersionTwoListsNone, Ipv6TransportForm};
 ghost use Rattle.rb_proto.specs.WorkedLists.{SetsWantRoom, FullTableWantsNone, PartsCrossRows, ListsAreAsOfTheirCall};
 
 /// The definitions give what the worked examples say.
@@ -39,6 +40,15 @@ pub fn worked_forwards()
     ensures ends_are_noted { EndsAreNoted }
     ensures others_are_not_noted { OthersAreNotNoted }
     ensures places_are_shown { PlacesAreShown }
+{}
+
+/// And of the netids tcp6, udp6 and local.
+pub fn worked_netids()
+    ensures addresses_go_by_netid { AddressesGoByNetid }
+    ensures texts_stay { TextsStay }
+    ensures others_are_not_seen { OthersAreNotSeen }
+    ensures version_two_lists_none { VersionTwoListsNone }
+    ensures ipv6_transport_form { Ipv6TransportForm }
 {}
 
 /// And of SETs that want room, and of lists in parts.

@@ -19,8 +19,8 @@ const TOO_MANY: usize = 1 << 56;
 
 /// The rows in the order in which they were set, the own rows first, and the number of changes that were accepted.
 ///
-/// A row that was removed is kept as a dead one until a `trim` drops it, so that the rows can be told as they were after
-/// a number of changes that is not below the floor.
+/// A removed row is retained until `trim` drops it, so that the rows can be listed as they were after any number of
+/// changes from the floor on.
 #[derive(Drop)]
 pub struct Registry {
     slots: Pool<Slot>,
@@ -138,7 +138,7 @@ impl Registry {
     /// row of its program, version and netid is there, the live and the dead rows reach the limit, or
     /// 2^64 - 1 changes were accepted: then nothing changes.
     ///
-    /// Who may set it, and whether its address is one of its netid, is not looked at.
+    /// It checks neither who sets the row nor whether the address fits the netid.
     pub fn set(&mut self, row: Row, meter: &mut Meter) -> bool
         requires { meter.old.tie ≡ self.old.tie }
         ensures taken { result ≡ takes self.old row }
@@ -261,8 +261,8 @@ impl Registry {
         self.changes
     }
 
-    /// How many dead rows are still there, and the least change that removed one of them, 0 where
-    /// there is none: then no row is looked at.
+    /// How many removed rows are retained, and the number of the earliest change that removed one of them, or 0 where
+    /// there is none. It costs at most 2 steps for each row and 1, and nothing where no row is retained.
     pub fn kept(&self, meter: &mut Meter) -> (usize, u64)
         requires { meter.old.tie ≡ self.now.tie }
         ensures count { result.0 ≡ dead_count self.now }
@@ -276,11 +276,11 @@ impl Registry {
         (self.dead, least_removal(&self.slots, meter))
     }
 
-    /// Drops the dead rows that were removed by that change or one before it, all where none is named.
-    /// Where no row is dead, none is looked at.
+    /// Drops the retained rows that were removed by the change of number `oldest` or an earlier one; all of them
+    /// where it is `None`. It costs at most 3 steps for each row and 1, and nothing where no row is retained.
     ///
-    /// The floor rises to it, or to the number of changes that were accepted where that is less or none
-    /// is named. It never falls.
+    /// The floor is the least stamp for which rows can be listed. It rises to `oldest`, or to the present stamp where
+    /// that is less or `oldest` is `None`, and never falls.
     pub fn trim(&mut self, oldest: Option<u64>, meter: &mut Meter)
         requires { meter.old.tie ≡ self.old.tie }
         ensures dropped { removals_of self.new ≡ later_than oldest (removals_of self.old) }
@@ -313,9 +313,10 @@ impl Registry {
 
     /// The row behind the cursor, of those that were live after `stamp` changes, and the cursor behind it.
     ///
-    /// From [`Cursor::start`] on, each of them comes once, in order, and then None, whatever is called
-    /// in between while the floor isn't above the stamp. The stamp is from the floor to the registry's
-    /// own, as [`Registry::stamp`] tells it. Dead rows that are passed cost as live ones.
+    /// From [`Cursor::start`] on each of these rows comes once, in order, and then `None`, whatever is set and
+    /// removed meanwhile, as long as no `trim` raises the floor above `stamp`. `stamp` is at least the floor and at
+    /// most [`Registry::stamp`]. It costs at most 2 steps for each row behind the cursor, retained ones among them,
+    /// and 1.
     pub fn next_row(&self, stamp: u64, cursor: Cursor, meter: &mut Meter) -> Option<(Cursor, &Row)>
         requires tie { meter.old.tie ≡ self.now.tie }
         requires place { StandsIn self.now stamp cursor }

@@ -12,7 +12,7 @@ use crate::opaque_auth::{AUTH_NONE, AUTH_SYS, auth_end, body_length, is_broken, 
 use crate::sys::uid_of;
 use rb_xdr::{Full, Kept, Meter};
 
-/// Who calls, as the credential says. It proves nothing.
+/// Who calls, as the credential says (RFC 5531 section 8.2). Nothing authenticates it.
 #[derive(Clone, Copy, PartialEq, Eq, Debug)]
 pub enum Credential {
     /// AUTH_NONE (section 10.1)
@@ -21,7 +21,7 @@ pub enum Credential {
     Sys(u32),
 }
 
-/// What the head of a call says.
+/// The head of a call (RFC 5531 section 9). Of the credential the uid of AUTH_SYS is kept, of the verifier nothing.
 #[derive(Clone, Copy, PartialEq, Eq, Debug)]
 pub struct CallHead {
     pub xid: u32,
@@ -53,13 +53,13 @@ fn layout(head: &CallHead) {
 /// What a message is, before its program is looked at: the data of a record, or a datagram.
 #[derive(Clone, Copy, PartialEq, Eq, Debug)]
 pub enum Verdict {
-    /// Nothing that can be answered.
+    /// No call. It gets no reply.
     NoCall,
     /// A call of another RPC version than 2, by its xid.
     RpcMismatch(u32),
     /// A call whose credential or verifier is refused, by its xid.
     AuthError(u32, AuthStat),
-    /// A call, and the place where its arguments begin.
+    /// A call, and how many bytes stand before its arguments.
     Call(CallHead, usize),
 }
 
@@ -143,8 +143,9 @@ pub fn read_call(bytes: &[u8]) -> Verdict
     Verdict::Call(head_of(bytes), auth_end(bytes, verifier))
 }
 
-/// Puts the head of a call, or nothing: these words, AUTH_NONE or AUTH_SYS with stamp 0, an empty
-/// name, gid 0 and no gids, and the null verifier.
+/// Writes the head of a call at the end of a buffer: 40 bytes with AUTH_NONE; 60 with AUTH_SYS, whose stamp is 0, its
+/// name empty, its gid 0 and its gids none. The verifier is AUTH_NONE, empty. `Full`, with the buffer as it was,
+/// where the head does not fit.
 #[tactic(auto, unfolding(crate::specs::CallBytes::call_bytes, rb_xdr::specs::Xdr::number, rb_xdr::specs::Xdr::opaque))]
 pub fn put_call(head: &CallHead, out: &mut Kept, meter: &mut Meter) -> Result<(), Full>
     requires { meter.old.tie ≡ out.old.tie }

@@ -2,7 +2,7 @@ ghost use Rattle.rb_rpc.specs.RecordLaws.{FirstRecordIsLeast, NoneWhereNoFrontIs
 ghost use Rattle.rb_rpc.specs.Streams.{NoRecordEnded};
 ghost use Rattle.rb_rpc.specs.Grammar.{VerdictIsOfTheGrammar, MismatchesAreOfTheGrammar, AuthErrorsAreOfTheGrammar, TheRestIsNoCall, RepliesAreOfTheGrammar, WrittenRepliesAreRead, WrittenCallsAreRead};
 
-/// The first record is the least front that is a marked record; there is none where no front is one.
+/// The first record of bytes is their shortest prefix that is a marked record; there is none where no prefix is one.
 pub fn first_record_is_least()
     ensures least { FirstRecordIsLeast }
     ensures none { NoneWhereNoFrontIsOne }
@@ -21,7 +21,7 @@ pub fn records_are_unique()
     ensures unique { RecordsAreUnique }
 {}
 
-/// Among the bytes fed since a record's end no record ended.
+/// No record ends within the bytes that were fed since the last end of a record.
 pub fn fed_bytes_have_no_record()
     ensures { NoRecordEnded }
 {}

@@ -112,9 +112,9 @@ impl Marks {
         }
     }
 
-    /// Takes the bytes in front that are data of the fragment that was begun: as many as it still
-    /// has, or the whole piece. It says how many, and whether the record ends with the last of
-    /// them. None are where a header begins or goes on.
+    /// Takes from the front of the piece what is data of the current fragment: the rest of the fragment, or the whole
+    /// piece. Returns how many bytes that were, and whether the record ends with them. 0 where the next byte belongs
+    /// to a header.
     pub fn feed_data(&mut self, piece: &[u8]) -> (usize, bool)
         ensures count { result.0 ≡ min (length piece.now) (data_left self.old.place) }
         ensures ends { RecordEnds self.old (take result.0 piece.now) result.1 }
@@ -134,8 +134,8 @@ impl Marks {
     }
 }
 
-/// The data of the record in front of the bytes, where that is one fragment and whole (RFC 5531 section 11): so most calls
-/// come. `None` where the first fragment is cut short, or is not the last of its record.
+/// The data of the record at the front of the bytes, where it is a single fragment and whole (RFC 5531 section 11),
+/// as most calls are. `None` where the first fragment is cut short, or is not the last of its record.
 pub fn one_fragment(bytes: &[u8]) -> Option<&[u8]>
     ensures exact { option_map (λ lent. lent.now) result ≡ one_fragment bytes.now }
     ensures content { IfSome result (λ lent. BeginsWithRecord lent.now bytes.now) }

@@ -13,7 +13,7 @@ use crate::opaque_auth::{AUTH_NONE, auth_end, is_broken, is_over_long};
 use rb_xdr::{Full, Kept, Meter};
 use thiserror::Error;
 
-/// What a reply says before its results.
+/// Whether a reply has results, or else why the call was refused (RFC 5531 section 9, accept_stat and reject_stat).
 #[derive(Clone, Copy, PartialEq, Eq, Debug)]
 pub enum ReplyStatus {
     /// The results follow.
@@ -105,7 +105,8 @@ fn put_accepted(xid: u32, stat: u32, out: &mut Kept, meter: &mut Meter) -> Resul
     out.extend(&head, meter)
 }
 
-/// Puts the head of a reply, or nothing. The verifier of an accepted one is AUTH_NONE, empty.
+/// Writes the head of a reply at the end of a buffer; the verifier of an accepted one is AUTH_NONE, empty. `Full`,
+/// with the buffer as it was, where it does not fit.
 #[tactic(auto, unfolding(crate::specs::Replies::reply_head, rb_xdr::specs::Xdr::number, rb_xdr::specs::Xdr::opaque))]
 pub fn put_reply(head: &ReplyHead, out: &mut Kept, meter: &mut Meter) -> Result<(), Full>
     requires { meter.old.tie ≡ out.old.tie }

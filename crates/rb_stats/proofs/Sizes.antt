@@ -6,9 +6,9 @@ use Rattle.std.proofs.lemmas.List.{take-append-drop, length-map, length-take}
 use Rattle.std.proofs.lemmas.List.Folds.{list_all-append, list_all-map}
 use Rattle.rb_xdr.specs.Xdr.{number, words, boolean, opaque, listed}
 use Rattle.rb_xdr.proofs.Words.{length-number}
-use Rattle.rb_registry.specs.declared.row.Netid.{Netid}
-use Rattle.rb_registry.specs.declared.row.Netid.TheVariants.{Tcp, Udp}
-use Rattle.rb_registry.specs.Rows.{netid_text}
+use Rattle.rb_registry.specs.declared.row.Transport.{Transport}
+use Rattle.rb_registry.specs.declared.row.Transport.TheVariants.{Tcp, Udp}
+use Rattle.rb_registry.specs.Rows.{netid_of, netid_text}
 use Rattle.rb_stats.specs.declared.key.Version.{Version}
 use Rattle.rb_stats.specs.declared.key.Version.TheVariants.{Two, Three, Four}
 use Rattle.rb_stats.specs.declared.key.Info.{Info}
@@ -31,20 +31,20 @@ length-words (n ∷ numbers) = omega (arith, length-append (number n) (words num
 
 length-lookup : (item : Item) → length (lookup_spelling item) ≡ 24
 unfolding number opaque
-length-lookup item = by_netid item.key.target.netid
+length-lookup item = by_transport item.key.target.transport
   where
-    by_netid : (netid : Netid) → length (number item.key.target.prog ++ (number item.key.target.vers ++ (number item.success ++ (number item.failure ++ opaque (netid_text netid))))) ≡ 24
-    by_netid Tcp = refl
-    by_netid Udp = refl
+    by_transport : (transport : Transport) → length (number item.key.target.prog ++ (number item.key.target.vers ++ (number item.success ++ (number item.failure ++ opaque (netid_text (netid_of transport)))))) ≡ 24
+    by_transport Tcp = refl
+    by_transport Udp = refl
 
 length-forward : (proc : ℕ) (item : Item) → length (forward_spelling proc item) ≡ 32
 unfolding number opaque
-length-forward proc item = by_netid item.key.target.netid
+length-forward proc item = by_transport item.key.target.transport
   where
-    by_netid : (netid : Netid)
-        → length (number item.key.target.prog ++ (number item.key.target.vers ++ (number proc ++ (number item.success ++ (number item.failure ++ (number item.indirect ++ opaque (netid_text netid))))))) ≡ 32
-    by_netid Tcp = refl
-    by_netid Udp = refl
+    by_transport : (transport : Transport)
+        → length (number item.key.target.prog ++ (number item.key.target.vers ++ (number proc ++ (number item.success ++ (number item.failure ++ (number item.indirect ++ opaque (netid_text (netid_of transport)))))))) ≡ 32
+    by_transport Tcp = refl
+    by_transport Udp = refl
 
 length-true : length (boolean true) ≡ 4
 unfolding boolean number

@@ -1,7 +1,9 @@
 -- Statistics over the history of completed calls (RFC 1833 section 2.1, rpcb_stat_byvers).
 use Rattle.std.specs.Prelude.{ℕ, ◌+◌, ◌-◌, ◌^◌, ◌==◌, min, Bool, true, false, not, ◌&&◌, List, [], ◌∷◌, ◌++◌, map, filter, filter_map, count_by, take, Option, Some, None, is_some, is_none}
 use Rattle.rb_xdr.specs.Xdr.{number, words, opaque, listed}
-use Rattle.rb_registry.specs.Rows.{netid_text, is_netid}
+use Rattle.rb_registry.specs.declared.row.Transport.{Transport}
+use Rattle.rb_registry.specs.declared.row.Transport.TheVariants.{Tcp, Udp}
+use Rattle.rb_registry.specs.Rows.{netid_of, netid_text}
 use Rattle.rb_stats.specs.declared.key.Version.{Version}
 use Rattle.rb_stats.specs.declared.key.Version.TheVariants.{Two, Three, Four}
 use Rattle.rb_stats.specs.declared.key.Info.{Info}
@@ -50,8 +52,13 @@ is_unset version _ = false
 
 -- ---- keys
 
+abbrev pub is_transport : Transport → Transport → Bool
+is_transport Tcp Tcp = true
+is_transport Udp Udp = true
+is_transport _ _ = false
+
 abbrev pub is_target : Target → Target → Bool
-is_target a b = a.prog == b.prog && a.vers == b.vers && is_netid a.netid b.netid
+is_target a b = a.prog == b.prog && a.vers == b.vers && is_transport a.transport b.transport
 
 abbrev pub is_proc : Option ℕ → Option ℕ → Bool
 is_proc None None = true
@@ -137,15 +144,19 @@ stat version notes = record {
 
 -- ---- spelling
 
+-- the transport's netid
+abbrev pub transport_text : Target → List ℕ
+transport_text target = netid_text (netid_of target.transport)
+
 -- rpcbs_addrlist: prog, vers, success, failure, netid
 abbrev pub lookup_spelling : Item → List ℕ
 lookup_spelling item =
-    number item.key.target.prog ++ (number item.key.target.vers ++ (number item.success ++ (number item.failure ++ opaque (netid_text item.key.target.netid))))
+    number item.key.target.prog ++ (number item.key.target.vers ++ (number item.success ++ (number item.failure ++ opaque (transport_text item.key.target))))
 
 -- rpcbs_rmtcalllist: prog, vers, proc, success, failure, indirect, netid
 abbrev pub forward_spelling : ℕ → Item → List ℕ
 forward_spelling proc item =
-    number item.key.target.prog ++ (number item.key.target.vers ++ (number proc ++ (number item.success ++ (number item.failure ++ (number item.indirect ++ opaque (netid_text item.key.target.netid))))))
+    number item.key.target.prog ++ (number item.key.target.vers ++ (number proc ++ (number item.success ++ (number item.failure ++ (number item.indirect ++ opaque (transport_text item.key.target))))))
 
 abbrev pub spelling_by : Option ℕ → Item → List ℕ
 spelling_by None item = lookup_spelling item

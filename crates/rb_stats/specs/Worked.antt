@@ -1,16 +1,16 @@
 -- Worked rows of the definitions.
 use Rattle.std.specs.Prelude.{◌≡◌, ℕ, zero, suc, ◌+◌, Bool, true, false, List, [], ◌∷◌, ◌++◌, length, map, take, drop, replicate}
 use Rattle.rb_xdr.specs.Xdr.{words, number_at}
-use Rattle.rb_registry.specs.declared.row.Netid.{Netid}
-use Rattle.rb_registry.specs.declared.row.Netid.TheVariants.{Tcp, Udp}
+use Rattle.rb_registry.specs.declared.row.Transport.{Transport}
+use Rattle.rb_registry.specs.declared.row.Transport.TheVariants.{Tcp, Udp}
 use Rattle.rb_stats.specs.declared.key.Version.TheVariants.{Two, Three, Four}
 use Rattle.rb_stats.specs.declared.key.Target.{Target}
 use Rattle.rb_stats.specs.declared.item.Item.{Item}
 use Rattle.rb_stats.specs.Statistics.{Note, stat, statistics}
 use Rattle.rb_stats.specs.Statistics.Note.{Called, WasSet, LookedUp, Forwarded}
 
-abbrev pub target : ℕ → Netid → Target
-target prog netid = record { prog = prog; vers = 1; netid = netid }
+abbrev pub target : ℕ → Transport → Target
+target prog transport = record { prog = prog; vers = 1; transport = transport }
 
 -- GETSTAT as the first call: info[12] of version 4 is 1
 abbrev pub FirstCall : Type 0
@@ -57,10 +57,10 @@ ForwardsAreCounted =
         Called Four 10 ∷ Forwarded Four (target 0x30d43 Udp) 0 false true ∷ Called Two 5 ∷ Forwarded Two (target 0x30d43 Udp) 0 false false
         ∷ Called Four 12 ∷ []
 
--- the same program and version on the other netid is another key
-abbrev pub NetidsAreApart : Type 0
-NetidsAreApart =
+-- the same program and version on the other transport is another key
+abbrev pub TransportsAreApart : Type 0
+TransportsAreApart =
     map (λ (item : Item). item.failure) (stat Three (looked Udp true ∷ looked Tcp false ∷ looked Udp false ∷ looked Tcp false ∷ [])).addrinfo ≡ 1 ∷ 2 ∷ []
   where
-    looked : Netid → Bool → Note
-    looked netid found = LookedUp Three (target 200001 netid) found
+    looked : Transport → Bool → Note
+    looked transport found = LookedUp Three (target 200001 transport) found

@@ -6,7 +6,7 @@ ghost use Rattle.rb_stats.specs.Statistics.{one_more, item_spelling};
 ghost use Rattle.rb_stats.specs.Table.{new_item, counted};
 
 use crate::key::{Key, Target, Version};
-use rb_registry::Netid;
+use rb_registry::Transport;
 use rb_xdr::{Kept, Meter, Text, Xdr};
 
 /// The greatest number of type int (RFC 4506 section 4.1), at which counts stop.
@@ -76,8 +76,12 @@ impl Item {
         ensures written { Appends (item_spelling self.now) out.old out.new }
         ensures cost { Pays meter.old meter.new (length (item_spelling self.now)) }
     {
-        let Target { prog, vers, netid } = self.key.target;
-        let netid: Text<3> = Text::new(netid.text());
+        let Target {
+            prog,
+            vers,
+            transport,
+        } = self.key.target;
+        let netid: Text<3> = Text::new(transport.netid().text());
         match self.key.proc {
             None => {
                 (prog, (vers, (self.success, (self.failure, netid)))).write(out, meter);
@@ -96,7 +100,7 @@ impl Default for Item {
         let target = Target {
             prog: 0,
             vers: 0,
-            netid: Netid::Tcp,
+            transport: Transport::Tcp,
         };
         Item::new(Key {
             version: Version::Two,

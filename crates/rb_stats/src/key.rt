@@ -2,7 +2,7 @@
 ghost use Rattle.std.specs.Prelude.{◌≡◌};
 ghost use Rattle.rb_stats.specs.Statistics.{is_version, is_target, is_proc, is_key, is_in, info_of};
 
-use rb_registry::Netid;
+use rb_registry::Transport;
 
 /// A version of the protocol, which has an rpcb_stat of its own (RFC 1833 section 2.1,
 /// rpcb_stat_byvers).
@@ -28,20 +28,19 @@ pub(crate) enum Info {
     Rmt,
 }
 
-/// A version of a program on a netid.
+/// A version of a program on a transport.
 #[derive(Clone, Copy, PartialEq, Eq, Debug)]
 pub struct Target {
     pub prog: u32,
     pub vers: u32,
-    pub netid: Netid,
+    pub transport: Transport,
 }
 
 impl Target {
-    #[tactic(auto, unfolding(rb_registry::specs::Rows::is_netid))]
     fn is(self, other: Target) -> bool
         ensures { result ≡ is_target self other }
     {
-        self.prog == other.prog && self.vers == other.vers && self.netid == other.netid
+        self.prog == other.prog && self.vers == other.vers && self.transport == other.transport
     }
 }
 
@@ -76,8 +75,15 @@ fn layout(key: &Key) {
     match version {
         Version::Two | Version::Three | Version::Four => {}
     }
-    let Target { prog, vers, netid } = target;
-    let _: (u32, u32, Netid) = (prog, vers, netid);
+    let Target {
+        prog,
+        vers,
+        transport,
+    } = target;
+    let _: (u32, u32) = (prog, vers);
+    match transport {
+        Transport::Tcp | Transport::Udp => {}
+    }
     let _: Option<u32> = proc;
 }
 

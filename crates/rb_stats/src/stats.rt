@@ -11,8 +11,8 @@ use std::marker::Model;
 /// how many SETs and UNSETs answered TRUE, which addresses were looked up, and where calls were
 /// forwarded to.
 ///
-/// Each count stops at 2^31 - 1. Each of the two lists of a version has the first 32 keys; later ones
-/// are in no count. `new` takes the memory for all 192.
+/// Each count stops at 2^31 - 1. Each of the two lists of a version has the first 32 keys that were noted; calls with
+/// any other key are not counted in it. `new` takes the memory for all 192 keys.
 #[derive(Drop)]
 pub struct Stats {
     two: Counts,
@@ -137,8 +137,8 @@ impl Stats {
         self.items.count(key, found, false, meter);
     }
 
-    /// Notes a forwarding call of the version at its outcome: the procedure that it called there,
-    /// whether it passed, and whether it came by INDIRECT.
+    /// Notes a CALLIT, BCAST or INDIRECT of the version when it ends: the target and its procedure, whether the
+    /// target's results came back, and whether it was INDIRECT.
     ///
     /// It costs at most 2 steps for each key and 2.
     pub fn note_remote(

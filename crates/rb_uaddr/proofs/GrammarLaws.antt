@@ -1,19 +1,21 @@
--- What is read of a text is what it spells, and what is printed is a spelling.
-use Rattle.std.proofs.Common.{◌≡◌, ◌<◌, ◌^◌, ◌+◌, ◌*◌, ◌/◌, ◌%◌, ℕ, false, List, [], ◌∷◌, ◌++◌, length, map, get_or, Option, Some, None, refl, sym, ap, subst, ◌∙◌, arith}
-use Rattle.std.specs.Prelude.{decimal, bytes_eq, All, ◌==◌}
-use Rattle.std.specs.List.{join_with_byte, slice_split}
-use Rattle.std.proofs.lemmas.Bool.{ne_eqb, false_from_ne_true}
-use Rattle.std.proofs.lemmas.Fmt.{digits_decimal}
-use Rattle.std.proofs.lemmas.List.Elements.{All-nil, All-cons, All-head, All-tail, All-from_get_or}
-use Rattle.std.proofs.lemmas.List.Splits.{slice_split_none, slice_split_at, join_with_byte-slice_split}
+-- What is read of a text is what it spells, and what is printed is a spelling: IPv4, and both together.
+use Rattle.std.proofs.Common.{◌≡◌, ◌<◌, ◌^◌, ◌+◌, ◌*◌, ◌/◌, ◌%◌, ℕ, List, [], ◌∷◌, ◌++◌, length, map, get_or, Option, Some, None, refl, sym, ap, subst, ◌∙◌, arith}
+use Rattle.std.specs.Prelude.{decimal, bytes_eq}
+use Rattle.std.specs.List.{join_with_byte}
+use Rattle.std.specs.Option.{option_or}
+use Rattle.std.proofs.lemmas.Bool.{false_from_ne_true}
+use Rattle.std.proofs.lemmas.List.Elements.{All-nil, All-cons, All-from_get_or}
+use Rattle.std.proofs.lemmas.List.Splits.{join_with_byte-slice_split}
 use Rattle.std.proofs.lemmas.Option.{none-some, same_Some}
 use Rattle.std.proofs.lemmas.Slice.Eq.{bytes_eq-Decides}
-use Rattle.std.proofs.lemmas.Str.Parse.{not_in_digits}
 use Rattle.rb_uaddr.specs.declared.address.Uaddr.{Uaddr}
-use Rattle.rb_uaddr.specs.declared.address.Uaddr.TheVariants.{V4}
-use Rattle.rb_uaddr.specs.Uaddr.{IsBytes, any_host, port_bytes, dot, text_of, octet, ◌>>=◌, of_parts, parts_of, parse, merged}
+use Rattle.rb_uaddr.specs.declared.address.Uaddr.TheVariants.{V4, V6}
+use Rattle.rb_uaddr.specs.Uaddr.{IsBytes, any_host, port_bytes, dot, text_of, ipv6_host_text, octet, ipv4_of_parts, parts_of, parse_ipv4, parse_ipv6, parse, merged, merged_host}
 use Rattle.rb_uaddr.specs.Grammar.{SpellsV4, Spells, ReadIsSpelled, PrintedIsSpelled, PrintedIsRead, OneSpelling, ReadIsAddress, MergesAnyHost}
-use Rattle.rb_uaddr.proofs.Octets.{own, wide, octet_is, octet_decimal}
+use Rattle.rb_uaddr.proofs.Octets.{octet_is, octet_decimal}
+use Rattle.rb_uaddr.proofs.Splits.{bound, split_joined}
+use Rattle.rb_uaddr.proofs.Groups.{spelled_host_fits}
+use Rattle.rb_uaddr.proofs.Ipv6Laws.{printed_host_spells, read_spells_v6, spelled_reads_v6, not_ipv4}
 
 -- ---- four bytes and two
 
@@ -22,8 +24,8 @@ four_bytes a b c d sa sb sc sd =
     let P : ℕ → Type 0 = λ n. n < 256 in
     record { count = refl; small = All-cons P a (b ∷ c ∷ d ∷ []) sa (All-cons P b (c ∷ d ∷ []) sb (All-cons P c (d ∷ []) sc (All-cons P d [] sd (All-nil P)))) }
 
-pub four_fit : (host : List ℕ) → length host ≡ 4 → ((i : ℕ) → get_or host i 0 < 256) → IsBytes 4 host
-four_fit host four small = record { count = four; small = All-from_get_or (λ b. b < 256) host 0 (λ i within. small i) }
+pub bytes_fit : (n : ℕ) (host : List ℕ) → length host ≡ n → ((i : ℕ) → get_or host i 0 < 256) → IsBytes n host
+bytes_fit n host count small = record { count = count; small = All-from_get_or (λ b. b < 256) host 0 (λ i within. small i) }
 
 pub four_reads : (host : List ℕ) → length host ≡ 4 → get_or host 0 0 ∷ get_or host 1 0 ∷ get_or host 2 0 ∷ get_or host 3 0 ∷ [] ≡ host
 four_reads [] four = absurd (omega (arith, four))
@@ -35,12 +37,13 @@ four_reads (a ∷ b ∷ c ∷ d ∷ e ∷ more) four = absurd (omega (arith, fou
 
 -- ---- what is read is spelled
 
-bound : {A B : Type 0} (o : Option A) (f : A → Option B) (y : B) → (o >>= f) ≡ Some y → (x : A) × (o ≡ Some x) × (f x ≡ Some y)
-bound (Some x) f y h = (x, refl, h)
-bound None f y h = absurd (none-some y h)
+-- the address is IPv4, and the text spells it
+abbrev pub SpellsAsV4 : Uaddr → List ℕ → Type 0
+SpellsAsV4 (V4 host port) text = SpellsV4 host port text
+SpellsAsV4 (V6 host port) text = ⊥
 
-parts_spell : (parts : List (List ℕ)) (u : Uaddr) → of_parts parts ≡ Some u → Spells u (join_with_byte dot parts)
-unfolding of_parts
+parts_spell : (parts : List (List ℕ)) (u : Uaddr) → ipv4_of_parts parts ≡ Some u → SpellsAsV4 u (join_with_byte dot parts)
+unfolding ipv4_of_parts
 parts_spell [] u h = absurd (none-some u h)
 parts_spell (a ∷ []) u h = absurd (none-some u h)
 parts_spell (a ∷ b ∷ []) u h = absurd (none-some u h)
@@ -61,7 +64,7 @@ parts_spell (a ∷ b ∷ c ∷ d ∷ e ∷ f ∷ []) u h =
     let (small5, text5) = octet_is e p1 is5 in
     let (small6, text6) = octet_is f p2 is6 in
     let host = h1 ∷ h2 ∷ h3 ∷ h4 ∷ [] in
-    let P : Uaddr → Type 0 = λ v. Spells v (join_with_byte dot (a ∷ b ∷ c ∷ d ∷ e ∷ f ∷ [])) in
+    let P : Uaddr → Type 0 = λ v. SpellsAsV4 v (join_with_byte dot (a ∷ b ∷ c ∷ d ∷ e ∷ f ∷ [])) in
     let texts : a ∷ b ∷ c ∷ d ∷ e ∷ f ∷ [] ≡ map decimal (host ++ p1 ∷ p2 ∷ []) = cc in
     let spelled : SpellsV4 host (256 * p1 + p2) (join_with_byte dot (a ∷ b ∷ c ∷ d ∷ e ∷ f ∷ [])) = record {
       p1 = p1;
@@ -75,37 +78,25 @@ parts_spell (a ∷ b ∷ c ∷ d ∷ e ∷ f ∷ []) u h =
     subst P (same_Some _ _ rest6) spelled
 parts_spell (a ∷ b ∷ c ∷ d ∷ e ∷ f ∷ g ∷ more) u h = absurd (none-some u h)
 
-pub read_spells : (text : List ℕ) (u : Uaddr) → parse text ≡ Some u → Spells u text
-unfolding parse parts_of
-read_spells text u h = subst (Spells u) (join_with_byte-slice_split dot text) (parts_spell (parts_of text) u h)
+pub read_spells : (text : List ℕ) (u : Uaddr) → parse_ipv4 text ≡ Some u → SpellsAsV4 u text
+unfolding parse_ipv4 parts_of
+read_spells text u h = subst (SpellsAsV4 u) (join_with_byte-slice_split dot text) (parts_spell (parts_of text) u h)
 
 -- ---- what is spelled is read
 
-pub no_dot : (n : ℕ) → n < 256 → All (λ b. (b == dot) ≡ false) (decimal n)
-no_dot n small =
-    let P : ℕ → Type 0 = λ b. (b == dot) ≡ false in
-    All-from_get_or P (decimal n) 0 (λ i within. ne_eqb _ _ (not_in_digits own (decimal n) dot (digits_decimal own n (wide n small)) (λ r. omega (arith, r)) i within))
-
-split_joined : (n : ℕ) (ns : List ℕ) → All (λ n. n < 256) (n ∷ ns) → slice_split (λ b. b == dot) (join_with_byte dot (map decimal (n ∷ ns))) ≡ map decimal (n ∷ ns)
-split_joined n [] small = slice_split_none (λ b. b == dot) (decimal n) (no_dot n (All-head (λ n. n < 256) n [] small))
-split_joined n (m ∷ ns) small =
-    let P : ℕ → Type 0 = λ n. n < 256 in
-    slice_split_at (λ b. b == dot) (decimal n) dot (join_with_byte dot (map decimal (m ∷ ns))) (no_dot n (All-head P n (m ∷ ns) small)) refl
-    ∙ ap (λ (rest : List (List ℕ)). decimal n ∷ rest) (split_joined m ns (All-tail P n (m ∷ ns) small))
-
 six_read : (a b c d p1 p2 : ℕ) → a < 256 → b < 256 → c < 256 → d < 256 → p1 < 256 → p2 < 256
-    → parse (join_with_byte dot (map decimal (a ∷ b ∷ c ∷ d ∷ p1 ∷ p2 ∷ []))) ≡ Some (V4 (a ∷ b ∷ c ∷ d ∷ []) (256 * p1 + p2))
-unfolding parse parts_of of_parts
+    → parse_ipv4 (join_with_byte dot (map decimal (a ∷ b ∷ c ∷ d ∷ p1 ∷ p2 ∷ []))) ≡ Some (V4 (a ∷ b ∷ c ∷ d ∷ []) (256 * p1 + p2))
+unfolding parse_ipv4 parts_of ipv4_of_parts
 six_read a b c d p1 p2 sa sb sc sd s1 s2 =
     let P : ℕ → Type 0 = λ n. n < 256 in
     let small =
     All-cons P a (b ∷ c ∷ d ∷ p1 ∷ p2 ∷ []) sa (All-cons P b (c ∷ d ∷ p1 ∷ p2 ∷ []) sb (All-cons P c (d ∷ p1 ∷ p2 ∷ []) sc
     (All-cons P d (p1 ∷ p2 ∷ []) sd (All-cons P p1 (p2 ∷ []) s1 (All-cons P p2 [] s2 (All-nil P)))))) in
-    ap of_parts (split_joined a (b ∷ c ∷ d ∷ p1 ∷ p2 ∷ []) small)
+    ap ipv4_of_parts (split_joined a (b ∷ c ∷ d ∷ p1 ∷ p2 ∷ []) small)
     ∙ rw (octet_decimal a sa, octet_decimal b sb, octet_decimal c sc, octet_decimal d sd, octet_decimal p1 s1, octet_decimal p2 s2) refl
 
 pub numbers_read : (host : List ℕ) (p1 p2 : ℕ) → IsBytes 4 host → p1 < 256 → p2 < 256
-    → parse (join_with_byte dot (map decimal (host ++ p1 ∷ p2 ∷ []))) ≡ Some (V4 host (256 * p1 + p2))
+    → parse_ipv4 (join_with_byte dot (map decimal (host ++ p1 ∷ p2 ∷ []))) ≡ Some (V4 host (256 * p1 + p2))
 numbers_read [] p1 p2 fits s1 s2 = absurd (omega (arith, fits.count))
 numbers_read (a ∷ []) p1 p2 fits s1 s2 = absurd (omega (arith, fits.count))
 numbers_read (a ∷ b ∷ []) p1 p2 fits s1 s2 = absurd (omega (arith, fits.count))
@@ -114,19 +105,41 @@ numbers_read (a ∷ b ∷ c ∷ d ∷ []) p1 p2 fits s1 s2 =
     six_read a b c d p1 p2 (fits.small 0 0 (omega arith)) (fits.small 1 0 (omega arith)) (fits.small 2 0 (omega arith)) (fits.small 3 0 (omega arith)) s1 s2
 numbers_read (a ∷ b ∷ c ∷ d ∷ e ∷ more) p1 p2 fits s1 s2 = absurd (omega (arith, fits.count))
 
-spelled_reads : (text : List ℕ) (u : Uaddr) → Spells u text → parse text ≡ Some u
-spelled_reads text (V4 host port) s =
-    ap parse s.text_is ∙ numbers_read host s.p1 s.p2 s.host_fits s.p1_fits s.p2_fits ∙ ap (λ (p : ℕ). Some (V4 host p)) (sym s.port_is)
+spelled_reads4 : (text host : List ℕ) (port : ℕ) → SpellsV4 host port text → parse_ipv4 text ≡ Some (V4 host port)
+spelled_reads4 text host port s =
+    ap parse_ipv4 s.text_is ∙ numbers_read host s.p1 s.p2 s.host_fits s.p1_fits s.p2_fits ∙ ap (λ (p : ℕ). Some (V4 host p)) (sym s.port_is)
+
+-- ---- both together
+
+as_spelled : (u : Uaddr) (text : List ℕ) → SpellsAsV4 u text → Spells u text
+as_spelled (V4 host port) text s = s
+as_spelled (V6 host port) text s = absurd s
+
+read_either : (text : List ℕ) (u : Uaddr) (o : Option Uaddr) → parse_ipv4 text ≡ o → option_or o (parse_ipv6 text) ≡ Some u → Spells u text
+read_either text u None none is = read_spells_v6 text u is
+read_either text u (Some v) some is = subst (λ w. Spells w text) (same_Some v u is) (as_spelled v text (read_spells text v some))
+
+any_read_spells : (text : List ℕ) (u : Uaddr) → parse text ≡ Some u → Spells u text
+unfolding parse
+any_read_spells text u is = read_either text u (parse_ipv4 text) refl is
+
+pub spelled_reads : (text : List ℕ) (u : Uaddr) → Spells u text → parse text ≡ Some u
+unfolding parse
+spelled_reads text (V4 host port) s = rw (spelled_reads4 text host port s) refl
+spelled_reads text (V6 host port) s = rw (not_ipv4 text host port s, spelled_reads_v6 text host port s) refl
 
 pub read_is_spelled : ReadIsSpelled
-read_is_spelled text u = (read_spells text u, spelled_reads text u)
+read_is_spelled text u = (any_read_spells text u, spelled_reads text u)
 
 -- ---- what is printed
 
 pub read_is_address : ReadIsAddress
 read_is_address text (V4 host port) h =
-    let s = read_spells text (V4 host port) h in
+    let s = any_read_spells text (V4 host port) h in
     (s.host_fits, omega (arith, s.port_is, s.p1_fits, s.p2_fits))
+read_is_address text (V6 host port) h =
+    let s = any_read_spells text (V6 host port) h in
+    (spelled_host_fits host s.host_text s.host_spelled, omega (arith, s.port_is, s.p1_fits, s.p2_fits))
 
 pub high_byte_fits : (port : ℕ) → port < 2 ^ 16 → port / 256 < 256
 high_byte_fits port h = omega (arith, h)
@@ -148,6 +161,16 @@ printed_is_spelled (V4 host port) (host_fits, port_fits) = record {
   port_is = port_is_its_bytes port;
   text_is = refl;
 }
+printed_is_spelled (V6 host port) (host_fits, port_fits) = record {
+  host_text = ipv6_host_text host;
+  p1 = port / 256;
+  p2 = port % 256;
+  host_spelled = printed_host_spells host host_fits;
+  p1_fits = high_byte_fits port port_fits;
+  p2_fits = low_byte_fits port;
+  port_is = port_is_its_bytes port;
+  text_is = refl;
+}
 
 pub printed_is_read : PrintedIsRead
 printed_is_read u fits = spelled_reads (text_of u) u (printed_is_spelled u fits)
@@ -160,7 +183,7 @@ dotted_is_read host bytes port four small port_fits is =
     let joined : List ℕ → List ℕ → List ℕ = λ front back. join_with_byte dot (map decimal (front ++ get_or back 0 0 ∷ get_or back 1 0 ∷ [])) in
     ap (λ (front : List ℕ). parse (joined front bytes)) (four_reads host four)
     ∙ ap (λ (back : List ℕ). parse (joined host back)) is
-    ∙ printed_is_read (V4 host port) (four_fit host four small, port_fits)
+    ∙ printed_is_read (V4 host port) (bytes_fit 4 host four small, port_fits)
 
 high_byte : (p1 p2 : ℕ) → p2 < 256 → (256 * p1 + p2) / 256 ≡ p1
 high_byte p1 p2 h = omega (arith, h)
@@ -171,7 +194,7 @@ low_byte p1 p2 h = omega (arith, h)
 pub one_spelling : OneSpelling
 unfolding text_of port_bytes
 one_spelling text host port h =
-    let s = read_spells text (V4 host port) h in
+    let s = any_read_spells text (V4 host port) h in
     let high : port / 256 ≡ s.p1 = ap (λ (p : ℕ). p / 256) s.port_is ∙ high_byte s.p1 s.p2 s.p2_fits in
     let low : port % 256 ≡ s.p2 = ap (λ (p : ℕ). p % 256) s.port_is ∙ low_byte s.p1 s.p2 s.p2_fits in
     rw (high, low) (sym s.text_is)
@@ -179,8 +202,9 @@ one_spelling text host port h =
 -- ---- merged
 
 pub merges_any_host : MergesAnyHost
-unfolding merged
+unfolding merged merged_host
 merges_any_host = record {
   replaced = λ host port. refl;
+  kept_ipv6 = λ host own_host port. refl;
   kept = λ host own_host port other. rw (false_from_ne_true (bytes_eq own_host any_host) (λ same. other ((bytes_eq-Decides own_host any_host).0 same))) refl;
 }

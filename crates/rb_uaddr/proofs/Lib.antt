@@ -1,7 +1,15 @@
 pub mod Octets
+pub mod Splits
+pub mod Groups
+pub mod Ipv6Laws
+pub mod Ipv6Parts
+pub mod HexGroups
+pub mod Printed
+pub mod LocalTexts
 pub mod Parts
 pub mod Spellings
 pub mod GrammarLaws
+pub mod Families
 pub mod ShortTexts
 pub mod Fronts
 pub mod TransportLaws

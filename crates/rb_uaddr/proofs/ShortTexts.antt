@@ -1,15 +1,17 @@
--- The text of an address has at most 24 bytes.
-use Rattle.std.proofs.Common.{◌≡◌, ℕ, ◌*◌, ◌^◌, ◌≤◌, ◌<◌, Some, List, [], ◌∷◌, ◌++◌, length, map, arith}
+-- The text of an address has at most 47 bytes.
+use Rattle.std.proofs.Common.{◌≡◌, ℕ, ◌*◌, ◌/◌, ◌%◌, ◌^◌, ◌≤◌, ◌<◌, Some, List, [], ◌∷◌, ◌++◌, length, map, refl, arith}
 use Rattle.std.specs.Prelude.{All, decimal}
 use Rattle.std.specs.List.{join_with_byte}
 use Rattle.std.proofs.lemmas.Fmt.{length-decimal-le}
 use Rattle.std.proofs.lemmas.List.{length-append}
 use Rattle.std.proofs.lemmas.List.Elements.{All-nil, All-cons, All-head, All-tail}
 use Rattle.rb_uaddr.specs.declared.address.Uaddr.{Uaddr}
-use Rattle.rb_uaddr.specs.declared.address.Uaddr.TheVariants.{V4}
-use Rattle.rb_uaddr.specs.Uaddr.{any_host, dot, parse, text_of}
+use Rattle.rb_uaddr.specs.declared.address.Uaddr.TheVariants.{V4, V6}
+use Rattle.rb_uaddr.specs.Uaddr.{any_host, dot, port_bytes, parse, parse_ipv4, parse_ipv6, text_of}
 use Rattle.rb_uaddr.specs.Grammar.{Spells}
-use Rattle.rb_uaddr.proofs.GrammarLaws.{read_is_spelled, printed_is_spelled, four_bytes}
+use Rattle.rb_uaddr.proofs.GrammarLaws.{read_is_spelled, four_bytes, high_byte_fits, low_byte_fits}
+use Rattle.rb_uaddr.proofs.Ipv6Laws.{read_spells_v6}
+use Rattle.rb_uaddr.proofs.Groups.{host_short}
 
 decimal_short : (n : ℕ) → n < 256 → length (decimal n) ≤ 3
 decimal_short n small = length-decimal-le 3 n (omega arith) (omega (arith, small)) (omega (arith, small))
@@ -35,13 +37,30 @@ six_short (a ∷ host) p1 p2 four small s1 s2 =
     All-push2 (z ∷ xs) x y small sx sy =
         All-cons (λ b. b < 256) z (xs ++ x ∷ y ∷ []) (All-head (λ b. b < 256) z xs small) (All-push2 xs x y (All-tail (λ b. b < 256) z xs small) sx sy)
 
-spelled_short : (u : Uaddr) (text : List ℕ) → Spells u text → length text ≤ 24
-spelled_short (V4 host port) text spells = rw spells.text_is (six_short host spells.p1 spells.p2 spells.host_fits.count spells.host_fits.small spells.p1_fits spells.p2_fits)
+spelled_short : (u : Uaddr) (text : List ℕ) → Spells u text → length text ≤ 47
+spelled_short (V4 host port) text spells =
+    let few = six_short host spells.p1 spells.p2 spells.host_fits.count spells.host_fits.small spells.p1_fits spells.p2_fits in
+    rw spells.text_is (omega (arith, few))
+spelled_short (V6 host port) text spells =
+    let host_few = host_short host spells.host_text spells.host_spelled in
+    let few1 = decimal_short spells.p1 spells.p1_fits in
+    let few2 = decimal_short spells.p2 spells.p2_fits in
+    let whole = length-append spells.host_text (dot ∷ (decimal spells.p1 ++ dot ∷ decimal spells.p2)) in
+    let rest = length-append (decimal spells.p1) (dot ∷ decimal spells.p2) in
+    rw spells.text_is (omega (arith, host_few, few1, few2, whole, rest))
 
-pub read_short : (text : List ℕ) (u : Uaddr) → parse text ≡ Some u → length text ≤ 24
+pub read_short : (text : List ℕ) (u : Uaddr) → parse text ≡ Some u → length text ≤ 47
 read_short text u is = spelled_short u text ((read_is_spelled text u).0 is)
+
+pub ipv4_short : (text : List ℕ) (u : Uaddr) → parse_ipv4 text ≡ Some u → length text ≤ 47
+unfolding parse
+ipv4_short text u is = read_short text u (rw is refl)
+
+pub ipv6_short : (text : List ℕ) (u : Uaddr) → parse_ipv6 text ≡ Some u → length text ≤ 47
+ipv6_short text u is = spelled_short u text (read_spells_v6 text u is)
 
 pub own_short : (port : ℕ) → port < 2 ^ 16 → length (text_of (V4 any_host port)) ≤ 24
 own_short port fits =
-    spelled_short (V4 any_host port) (text_of (V4 any_host port))
-    (printed_is_spelled (V4 any_host port) (four_bytes 0 0 0 0 (omega arith) (omega arith) (omega arith) (omega arith), fits))
+    let high = high_byte_fits port fits in
+    let low = low_byte_fits port in
+    unfold text_of in unfold port_bytes in six_short any_host (port / 256) (port % 256) refl (four_bytes 0 0 0 0 (omega arith) (omega arith) (omega arith) (omega arith)).small high low

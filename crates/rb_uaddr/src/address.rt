@@ -1,5 +1,5 @@
 ghost use Rattle.std.specs.Prelude.{◌≡◌, ◌+◌, ◌*◌, slice_index};
-ghost use Rattle.rb_uaddr.specs.Uaddr.{any_host, port_bytes, port_of, merged};
+ghost use Rattle.rb_uaddr.specs.Uaddr.{any_host, port_bytes, port_of, merged, merged_host};
 
 use thiserror::Error;
 
@@ -15,10 +15,12 @@ pub struct NotAnAddress;
 pub enum Uaddr {
     /// An IPv4 host, its most significant byte first, and a port.
     V4([u8; 4], u16),
+    /// An IPv6 host, its most significant byte first, and a port.
+    V6([u8; 16], u16),
 }
 
 impl Uaddr {
-    /// The port on every host of the listener.
+    /// The address 0.0.0.0 with this port, which stands for every IPv4 address of the listener.
     pub const fn any(port: u16) -> Uaddr
         ensures { result ≡ Uaddr.V4 any_host port }
     {
@@ -31,19 +33,29 @@ impl Uaddr {
         ensures { result ≡ port_of self.now }
     {
         match self {
-            Uaddr::V4(_, port) => *port,
+            Uaddr::V4(_, port) | Uaddr::V6(_, port) => *port,
         }
     }
 
-    /// The address with this host in place of 0.0.0.0. Any other host stays.
+    /// The address with this host in place of 0.0.0.0. Any other host stays, and so does each IPv6
+    /// host, `::` among them.
     #[tactic(auto, unfolding(crate::specs::Uaddr::merged))]
     pub fn merge(self, host: [u8; 4]) -> Uaddr
         ensures { result ≡ merged host self }
     {
         match self {
-            Uaddr::V4(own, port) => Uaddr::V4(if own == ANY_HOST { host } else { own }, port),
+            Uaddr::V4(own, port) => Uaddr::V4(merge_host(host, own), port),
+            Uaddr::V6(_, _) => self,
         }
     }
+}
+
+/// `own`, or `host` where `own` is 0.0.0.0.
+#[tactic(auto, unfolding(crate::specs::Uaddr::merged_host))]
+pub fn merge_host(host: [u8; 4], own: [u8; 4]) -> [u8; 4]
+    ensures { result ≡ merged_host host own }
+{
+    if own == ANY_HOST { host } else { own }
 }
 
 /// The port's high byte and low byte.

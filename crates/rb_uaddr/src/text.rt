@@ -1,93 +1,137 @@
-ghost use Rattle.std.specs.Prelude.{◌≡◌, ◌≤◌, ◌+◌, ◌∷◌, ◌++◌, length, map, decimal, Some, option_map};
-ghost use Rattle.std.specs.List.{join_with_byte};
-ghost use Rattle.std.specs.Result.{result_ok};
-ghost use Rattle.rb_uaddr.specs.Uaddr.{dot, text_of, parse};
+ghost use Rattle.std.specs.Prelude.{◌≡◌, ◌≤◌, length};
+ghost use Rattle.rb_uaddr.specs.Uaddr.{parse, parse_ipv4, parse_ipv6, is_local_text, ipv4_alone, ipv6_alone};
 
-use crate::address::{NotAnAddress, Uaddr, port_bytes};
-use arrayvec::ArrayString;
-use itoa::Buffer;
+use crate::address::Uaddr;
 use std::alloc::AllocError;
 use std::fmt;
 use std::marker::Model;
 
-/// The most bytes that the text of an address has.
-pub const MAX_TEXT: usize = 24;
+/// The most bytes that the text of an address has: 39 of an IPv6 host and 8 of the port.
+pub const MAX_TEXT: usize = 47;
 
-/// The text of an address, in ASCII, beside the address that it spells.
+/// The most bytes of a text that is kept as it was given.
+pub const MAX_KEPT: usize = 128;
+
+/// A text as it was given, of at most 128 bytes, beside the universal address that it spells, if it
+/// spells one.
 #[derive(Drop)]
-pub struct UaddrText {
-    bytes: [u8; MAX_TEXT],
+pub struct AddressText {
+    address: Option<Uaddr>,
     len: u8,
-    address: Uaddr,
+    bytes: [u8; MAX_KEPT],
 }
 
-impl Model for UaddrText {
-    ghost use Rattle.std.specs.Prelude.{◌≡◌, ◌≤◌, List, ℕ, Some, take};
+impl Model for AddressText {
+    ghost use Rattle.std.specs.Prelude.{◌≡◌, ◌≤◌, List, ℕ, take};
     ghost use Rattle.rb_uaddr.specs.Uaddr.{parse};
 
     ghost Value = { List ℕ };
 
     ghost view = { λ t. take t.len t.bytes };
 
-    ghost invariant = { λ t. (t.len ≤ 24) × (parse (take t.len t.bytes) ≡ Some t.address) };
+    ghost invariant = { λ t. (t.len ≤ 128) × (t.address ≡ parse (take t.len t.bytes)) };
 }
 
 /// A core keeps its bytes in pools and buffers alone. A further field would not compile here: it
 /// belongs in the table of charges of docs/RULES.md first.
-fn layout(text: &UaddrText) {
-    let UaddrText {
-        bytes,
-        len,
+fn layout(text: &AddressText) {
+    let AddressText {
         address,
+        len,
+        bytes,
     } = text;
-    let _: &[u8; MAX_TEXT] = bytes;
     let _: u8 = *len;
-    let Uaddr::V4(host, port) = *address;
-    let _: ([u8; 4], u16) = (host, port);
+    let _: &[u8; MAX_KEPT] = bytes;
+    match *address {
+        Some(Uaddr::V4(host, port)) => {
+            let _: ([u8; 4], u16) = (host, port);
+        }
+        Some(Uaddr::V6(host, port)) => {
+            let _: ([u8; 16], u16) = (host, port);
+        }
+        None => {}
+    }
 }
 
-impl UaddrText {
-    /// The text of this address, which has at most 24 bytes.
-    #[tactic(auto, using(crate::proofs::ShortTexts::read_short))]
-    fn of(bytes: &[u8], address: Uaddr) -> UaddrText
-        requires { parse bytes.now ≡ Some address }
+impl AddressText {
+    /// The text as it is given, of at most 128 bytes.
+    pub fn new(bytes: &[u8]) -> AddressText
+        requires { length bytes.now ≤ MAX_KEPT }
         ensures { result ≡ bytes.now }
     {
-        let mut kept = [0; MAX_TEXT];
-        kept[..bytes.len()].copy_from_slice(bytes);
-        UaddrText {
-            bytes: kept,
-            len: bytes.len() as u8,
-            address,
-        }
+        AddressText::of(bytes, Uaddr::parse(bytes).ok())
     }
 
-    /// The text as it was given, where it is that of an address (RFC 5665 section 5.2.3.3). Any
-    /// other text is `NotAnAddress`.
-    pub fn read(bytes: &[u8]) -> Result<UaddrText, NotAnAddress>
-        ensures { result_ok result ≡ option_map (λ _. bytes.now) (parse bytes.now) }
+    pub(crate) fn of(bytes: &[u8], address: Option<Uaddr>) -> AddressText
+        requires fits { length bytes.now ≤ MAX_KEPT }
+        requires address { address ≡ parse bytes.now }
+        ensures { result ≡ bytes.now }
     {
-        let address = Uaddr::parse(bytes)?;
-        Ok(UaddrText::of(bytes, address))
+        let mut kept = [0; MAX_KEPT];
+        kept[..bytes.len()].copy_from_slice(bytes);
+        AddressText {
+            address,
+            len: bytes.len() as u8,
+            bytes: kept,
+        }
     }
 
     /// The bytes of the text.
     pub fn as_slice(&self) -> &[u8]
         ensures value { result.now ≡ self.now }
-        ensures short { length result.now ≤ MAX_TEXT }
+        ensures short { length result.now ≤ MAX_KEPT }
     {
         &self.bytes[..usize::from(self.len)]
     }
 
-    /// The address that the text spells. It was read once, and is not read again.
-    pub fn address(&self) -> Uaddr
-        ensures { parse self.now ≡ Some result }
+    /// The IPv4 address that the text spells, if it spells one (RFC 5665 section 5.2.3.3). It was read once, and is not
+    /// read again.
+    #[tactic(auto, using(crate::proofs::Families::ipv4_alone_is_read))]
+    pub fn ipv4(&self) -> Option<Uaddr>
+        ensures { result ≡ parse_ipv4 self.now }
     {
-        self.address
+        ipv4_alone(self.address)
+    }
+
+    /// The IPv6 address that the text spells, if it spells one (RFC 5665 section 5.2.3.4). It was read once, and is not
+    /// read again.
+    #[tactic(auto, using(crate::proofs::Families::ipv6_alone_is_read))]
+    pub fn ipv6(&self) -> Option<Uaddr>
+        ensures { result ≡ parse_ipv6 self.now }
+    {
+        ipv6_alone(self.address)
+    }
+
+    /// Whether the text may be the address of a local socket: it has 1 to 128 bytes, and none of them is zero.
+    #[tactic(auto, unfolding(crate::specs::Uaddr::is_local_text))]
+    pub fn is_local(&self) -> bool
+        ensures { result ≡ is_local_text self.now }
+    {
+        self.len > 0 && !self.as_slice().contains(&0)
     }
 }
 
-impl PartialEq for UaddrText {
+/// The address, if it is of IPv4.
+fn ipv4_alone(address: Option<Uaddr>) -> Option<Uaddr>
+    ensures { result ≡ ipv4_alone address }
+{
+    match address? {
+        Uaddr::V4(host, port) => Some(Uaddr::V4(host, port)),
+        Uaddr::V6(..) => None,
+    }
+}
+
+/// The address, if it is of IPv6.
+fn ipv6_alone(address: Option<Uaddr>) -> Option<Uaddr>
+    ensures { result ≡ ipv6_alone address }
+{
+    match address? {
+        Uaddr::V6(host, port) => Some(Uaddr::V6(host, port)),
+        Uaddr::V4(..) => None,
+    }
+}
+
+impl PartialEq for AddressText {
     ghost use Rattle.std.specs.Str.{bytes_eq};
     ghost use Rattle.std.proofs.Common.{rules};
     ghost use Rattle.std.specs.Cmp.Rules.{comparing};
@@ -96,89 +140,32 @@ impl PartialEq for UaddrText {
 
     ghost laws = { Prim.search (comparing, rules) };
 
-    fn eq(&self, other: &UaddrText) -> bool {
+    fn eq(&self, other: &AddressText) -> bool {
         self.as_slice() == other.as_slice()
     }
 }
 
-impl Eq for UaddrText {
+impl Eq for AddressText {
     ghost use Rattle.std.proofs.Common.{rules};
     ghost use Rattle.std.specs.Cmp.Rules.{comparing};
 
     ghost laws = { Prim.search (comparing, rules) };
 }
 
-impl Clone for UaddrText {
+impl Clone for AddressText {
     ghost use Rattle.std.specs.Prelude.{⊤, ◌≡◌};
 
     ghost is_clone = { λ x y. y ≡ x };
 
     ghost is_infallible = { λ _. ⊤ };
 
-    fn clone(&self) -> Result<UaddrText, AllocError> {
-        Ok(UaddrText::of(self.as_slice(), self.address()))
+    fn clone(&self) -> Result<AddressText, AllocError> {
+        Ok(AddressText::of(self.as_slice(), self.address))
     }
 }
 
-impl fmt::Debug for UaddrText {
+impl fmt::Debug for AddressText {
     fn fmt<W: fmt::Write>(&self, f: &mut fmt::Formatter<W>) -> fmt::Result {
         write!(f, "\"{}\"", self.as_slice().escape_ascii())
     }
-}
-
-impl Uaddr {
-    /// The text of the address, `h1.h2.h3.h4.p1.p2` (RFC 5665 section 5.2.3.3).
-    pub fn text(&self) -> UaddrText
-        ensures text { result ≡ text_of self.now }
-        ensures read { parse result ≡ Some self.now }
-        ensures short { length result ≤ MAX_TEXT }
-    {
-        match self {
-            Uaddr::V4(host, port) => {
-                UaddrText::of(ipv4_text(host, *port).as_str().as_bytes(), *self)
-            }
-        }
-    }
-}
-
-/// `h1.h2.h3.h4.p1.p2`
-#[tactic(auto, unfolding(crate::specs::Uaddr::text_of, crate::specs::Uaddr::port_bytes))]
-fn ipv4_text(host: &[u8; 4], port: u16) -> ArrayString<MAX_TEXT>
-    ensures text { result.bytes ≡ text_of (Uaddr.V4 host.now port) }
-    ensures read { parse result.bytes ≡ Some (Uaddr.V4 host.now port) }
-    ensures short { length result.bytes ≤ MAX_TEXT }
-{
-    let [h1, h2, h3, h4] = *host;
-    let [p1, p2] = port_bytes(port);
-    dotted(h1, &[h2, h3, h4, p1, p2])
-}
-
-/// The numbers in decimal, with a dot between each two.
-fn dotted(first: u8, others: &[u8; 5]) -> ArrayString<MAX_TEXT>
-    ensures text { result.bytes ≡ join_with_byte dot (map decimal (first ∷ others.now)) }
-    ensures short { length result.bytes ≤ MAX_TEXT }
-{
-    let mut text = ArrayString::new();
-    push_number(&mut text, first);
-    for n in others {
-        push_dotted(&mut text, *n);
-    }
-    text
-}
-
-fn push_number(text: &mut ArrayString<MAX_TEXT>, n: u8)
-    requires { length text.old.bytes + 3 ≤ MAX_TEXT }
-    ensures bytes { text.new.bytes ≡ text.old.bytes ++ decimal n }
-    ensures len { length text.new.bytes ≤ length text.old.bytes + 3 }
-{
-    text.push_str(Buffer::new().format(n));
-}
-
-fn push_dotted(text: &mut ArrayString<MAX_TEXT>, n: u8)
-    requires { length text.old.bytes + 4 ≤ MAX_TEXT }
-    ensures bytes { text.new.bytes ≡ text.old.bytes ++ dot ∷ decimal n }
-    ensures len { length text.new.bytes ≤ length text.old.bytes + 4 }
-{
-    text.push_str(".");
-    push_number(text, n);
 }

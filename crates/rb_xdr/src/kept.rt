@@ -11,9 +11,9 @@ use std::marker::Model;
 use std::ops::Range;
 use std::snapshot::Snapshot;
 
-/// Bytes in memory for `cap` of them, which `new` took and wrote to. No call changes `cap`, so none takes memory.
+/// A buffer of at most `cap` bytes. `new` takes and writes all of its memory; no later call takes any.
 ///
-/// Each call raises the meter by its cost, and wants the meter that the buffer was made with.
+/// Each call adds its cost in steps to the meter, which has to be the one that the buffer was made with.
 #[derive(Drop)]
 pub struct Kept {
     /// All of the memory, of which the first `len` bytes count.
@@ -50,7 +50,8 @@ fn zeros(alloc: Global, len: usize) -> Result<Vec<u8>, NoMemory>
 }
 
 impl Kept {
-    /// An empty buffer for at most `cap` bytes, whose calls this meter counts. It costs nothing.
+    /// An empty buffer for at most `cap` bytes, whose calls this meter counts, or `NoMemory` where the allocation is
+    /// refused. It costs nothing.
     pub fn new(alloc: Global, cap: usize, meter: &mut Meter) -> Result<Kept, NoMemory>
         ensures empty { IfOk result (λ k. k.bytes ≡ []) }
         ensures cap { IfOk result (λ k. k.cap ≡ cap) }
@@ -79,8 +80,8 @@ impl Kept {
         Ok(())
     }
 
-    /// Adds these bytes at the end, all or none. It costs as many steps as they are, also where they
-    /// do not fit.
+    /// Adds these bytes at the end, or none of them: `Full` where they do not fit. It costs a step for each byte, in
+    /// both cases.
     pub fn extend(&mut self, bytes: &[u8], meter: &mut Meter) -> Result<(), Full>
         requires { meter.old.tie ≡ self.old.tie }
         ensures puts { Puts bytes.now self.old.cap self.old self.new result }
@@ -96,7 +97,8 @@ impl Kept {
         Ok(())
     }
 
-    /// The bytes from `range.start` up to `range.end`, in as many steps as they are.
+    /// The bytes from `range.start` up to, and without, `range.end`, which is at most the number of bytes. A step for
+    /// each.
     pub fn lend(&self, range: Range<usize>, meter: &mut Meter) -> &[u8]
         requires tie { meter.old.tie ≡ self.now.tie }
         requires start { range.start ≤ range.end }

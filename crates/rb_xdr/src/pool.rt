@@ -16,8 +16,8 @@ use std::alloc::Global;
 use std::marker::Model;
 use std::snapshot::Snapshot;
 
-/// At most `cap` values, each under a key, in memory that `new` or `written` took. No call changes `memory`,
-/// so none takes more.
+/// A table of at most `cap` values, each under a key of its own, in order of insertion. `new` or `written` takes all
+/// of its memory; no later call takes any.
 ///
 /// Each call costs 1 step, but for `entry_after` and `find_key`, and wants the meter that the table was made with.
 #[derive(Drop)]
@@ -62,8 +62,9 @@ impl<T> Pool<T> {
         Pool::around(alloc, Slab::with_capacity(alloc, cap)?, cap, meter)
     }
 
-    /// The same as `new`, in memory that values which are made so were written to and taken out of again: so all of its
-    /// pages are the process's from the start, and no later call is the first to touch one.
+    /// As `new`, but each place is written once, with a value that `blank` makes and that is removed again, so that
+    /// all pages of the memory are resident from the start. `NoMemory` where an allocation or `blank` is refused
+    /// memory.
     pub fn written<F: Fn() -> Result<T, NoMemory>>(
         alloc: Global,
         cap: usize,
@@ -111,8 +112,8 @@ impl<T> Pool<T> {
         })
     }
 
-    /// Adds a value at the end of the order, under a key that was free. Where the table is full, the
-    /// value comes back.
+    /// Adds a value at the end of the order and returns its key, which was free. `Full`, with the value, where there
+    /// are `cap` values.
     pub fn insert(&mut self, value: T, meter: &mut Meter) -> Result<usize, Full<T>>
         requires { meter.old.tie ≡ self.old.tie }
         ensures room { IsOk result ↔ (length self.old.entries < self.old.cap) }
@@ -180,7 +181,7 @@ impl<T> Pool<T> {
         &self.values[key]
     }
 
-    /// Takes the value under `key` out.
+    /// Removes the value under `key` and returns it, or `None` where there is none.
     pub fn remove(&mut self, key: usize, meter: &mut Meter) -> Option<T>
         requires { meter.old.tie ≡ self.old.tie }
         ensures value { result ≡ value_at self.old.entries key }
@@ -204,8 +205,8 @@ impl<T> Pool<T> {
         self.keys.first()
     }
 
-    /// The value inserted next after that of `place`, of those that are there, or the first at None,
-    /// with its key, in 2 steps; or None in 1 step.
+    /// The key and the value that follow the key `place` in order of insertion, or the first where `place` is `None`:
+    /// 2 steps. `None` where there is no more, or no value under `place`: 1 step.
     pub fn entry_after(&self, place: Option<usize>, meter: &mut Meter) -> Option<(usize, &T)>
         requires { meter.old.tie ≡ self.now.tie }
         ensures next { IsNextEntry self.now.entries place result }

@@ -11,7 +11,8 @@ use crate::full::Full;
 use crate::kept::Kept;
 use crate::meter::Meter;
 
-/// A type whose values each have one spelling in bytes, none a proper prefix of another.
+/// A type with an XDR encoding (RFC 4506), here called spelling: each value has exactly one, and none is a proper
+/// prefix of another.
 ///
 /// An impl gives `laws`, `room_after`, `write` and `read`; callers use `take` and `put`.
 pub trait Xdr: Drop {
@@ -42,7 +43,7 @@ pub trait Xdr: Drop {
         ensures bounded { IsBounded is_value spelling max_spelling }
         ensures faults { HasForm form reads };
 
-    /// The room that is left of so much once the value is spelled, if its spelling fits.
+    /// How many of `room` bytes are left behind the value's spelling, or `None` where it has more than `room` bytes.
     fn room_after(&self, room: usize) -> Option<usize>
         ensures { Leaves (spelling self.now) room result };
 
@@ -74,7 +75,8 @@ pub trait Xdr: Drop {
         Self::read(bytes)
     }
 
-    /// Adds the spelling at the end of a buffer, or nothing where it does not fit.
+    /// Writes the spelling at the end of a buffer: 1 step, and one for each byte. `Full`, with the buffer as it was,
+    /// where it does not fit: 1 step.
     final fn put(&self, out: &mut Kept, meter: &mut Meter) -> Result<(), Full>
         requires { meter.old.tie ≡ out.old.tie }
         ensures puts { Puts (spelling self.now) out.old.cap out.old out.new result }
