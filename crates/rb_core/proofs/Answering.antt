@@ -6,16 +6,17 @@ use Rattle.rb_registry.specs.Cursors.{GoesOn}
 use Rattle.rb_proto.specs.declared.books.Books.{Books}
 use Rattle.rb_proto.specs.declared.context.Context.{Context}
 use Rattle.rb_proto.specs.Books.{ActsAs, SameFrame}
-use Rattle.rb_core.specs.declared.message.Message.{Message}
-use Rattle.rb_core.specs.Calls.{Outcome, outcome}
+use Rattle.rb_model.specs.declared.message.Message.{Message}
+use Rattle.rb_model.specs.Calls.{Outcome, outcome}
 use Rattle.rb_core.specs.StandsFor.{Held, source_of, Table}
 use Rattle.rb_core.specs.Core.{context_of}
 use Rattle.rb_core.specs.Slots.{StaysTable}
 use Rattle.rb_core.specs.Listings.{Evicts, source_in, AreTold, stamps_of}
-use Rattle.rb_core.specs.Losses.{asks_room}
+use Rattle.rb_model.specs.Losses.{asks_room}
 use Rattle.rb_core.specs.Serving.{ServesInRoom}
 use Rattle.rb_proto.specs.Ledger.{Ledger}
-use Rattle.rb_core.proofs.Crowding.{told_on, stands_on, stamps_low, none_evicted, not_asked}
+use Rattle.rb_core.proofs.Crowding.{told_on, stands_on, stamps_low}
+use Rattle.rb_model.proofs.Crowding.{none_evicted, not_asked}
 use Rattle.rb_core.proofs.Steps.{Served, same_source}
 
 -- what a call sees, of what is held by its other name

@@ -1,7 +1,7 @@
 -- A state does not know when the last event of a core began.
 use Rattle.std.proofs.Common.{◌≡◌, ℕ, sym, ap, subst, ◌∙◌}
 use Rattle.rb_xdr.specs.Meter.{Meter}
-use Rattle.rb_core.specs.State.{State}
+use Rattle.rb_model.specs.State.{State}
 use Rattle.rb_core.specs.Slots.{Acts}
 use Rattle.rb_core.specs.StandsFor.{Held, StandsFor}
 use Rattle.rb_core.specs.Events.{shown, BeginsAt}

@@ -4,24 +4,26 @@ use Rattle.rb_xdr.specs.Meter.{Meter, PaysAtMost}
 use Rattle.rb_rpc.specs.declared.peer.Peer.{Peer}
 use Rattle.rb_forward.specs.Costs.{sent_cost, unsent_cost}
 use Rattle.rb_forward.specs.StandsFor.{longest_arguments as longest_args}
-use Rattle.rb_core.specs.Calls.{Outcome, longest_reply}
-use Rattle.rb_core.specs.StandsFor.{longest_arguments, buffer_size, Held, StandsFor}
-use Rattle.rb_core.specs.State.{State, Setting, Connection, Connections}
-use Rattle.rb_core.specs.declared.types.CoreFault.{CoreFault}
-use Rattle.rb_core.specs.Connections.{on_live, giving, live_connection, Taking, taking}
-use Rattle.rb_core.specs.Connections.Taking.{TakesNone, GoesOn, Ends}
+use Rattle.rb_model.specs.Calls.{Outcome, longest_reply}
+use Rattle.rb_model.specs.Calls.{longest_arguments}
+use Rattle.rb_core.specs.StandsFor.{buffer_size, Held, StandsFor}
+use Rattle.rb_model.specs.State.{State, Setting, Connection, Connections}
+use Rattle.rb_model.specs.declared.types.CoreFault.{CoreFault}
+use Rattle.rb_model.specs.Connections.{on_live, giving, live_connection, Taking, taking}
+use Rattle.rb_model.specs.Connections.Taking.{TakesNone, GoesOn, Ends}
 use Rattle.std.specs.Option.{option_map_or}
 use Rattle.std.proofs.lemmas.List.{length-take}
 use Rattle.rb_feed.specs.Feeds.{arguments_of}
 use Rattle.rb_core.specs.AtOnce.{without_front, exchanging}
-use Rattle.rb_core.specs.Step.{Taken, datagram, bytes, gave, moved, show_taken, step, IsReached}
-use Rattle.rb_core.specs.Step.Event.{Bytes, Datagram}
+use Rattle.rb_model.specs.Step.{datagram, bytes, gave, moved, show_taken, step, IsReached}
+use Rattle.rb_model.specs.declared.types.Taken.{Taken}
+use Rattle.rb_model.specs.Step.Event.{Bytes, Datagram}
 use Rattle.rb_core.specs.Slots.{Acts, arguments_after, arguments_heard}
 use Rattle.rb_core.specs.CallCosts.{args_heard, look_cost, slot_count, kept_count, gave_cost, closing_cost, ending_cost, datagram_cost, IsCheapIfQuiet}
-use Rattle.rb_core.specs.Costs.{pending_cost, take_cost, recount_cost, answer_cost}
+use Rattle.rb_model.specs.Costs.{pending_cost, take_cost, recount_cost, answer_cost}
 use Rattle.rb_core.specs.Events.{StaysCheapIfQuiet, StaysWithinSteps}
-use Rattle.rb_core.proofs.EntriesKept.{step-follows}
-use Rattle.rb_core.proofs.Room.{reached-room}
+use Rattle.rb_model.proofs.EntriesKept.{step-follows}
+use Rattle.rb_model.proofs.Room.{reached-room}
 use Rattle.rb_core.proofs.RunSteps.{datagram_shown, same_state}
 use Rattle.rb_core.proofs.Spending.{at_most, connections_held, rows_held}
 

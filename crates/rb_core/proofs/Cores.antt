@@ -3,8 +3,8 @@ use Rattle.std.proofs.Common.{◌≡◌, ◌≤◌, ℕ, [], length, refl, sym, 
 use Rattle.rb_xdr.specs.Kept.{Kept}
 use Rattle.rb_proto.specs.declared.books.Books.{Books}
 use Rattle.rb_proto.specs.Books.{SameFrame}
-use Rattle.rb_core.specs.State.{Setting}
-use Rattle.rb_core.specs.Calls.{longest_reply}
+use Rattle.rb_model.specs.State.{Setting}
+use Rattle.rb_model.specs.Calls.{longest_reply}
 use Rattle.rb_core.specs.StandsFor.{Table}
 use Rattle.rb_core.specs.Slots.{StaysTable, IsDraft}
 use Rattle.rb_core.specs.Awaits.{AreAwaited}

@@ -4,9 +4,9 @@ use Rattle.rb_xdr.specs.Kept.{Kept}
 use Rattle.rb_core.specs.declared.slot.Slot.{Slot}
 use Rattle.rb_core.specs.declared.slot.Stage.{Stage}
 use Rattle.rb_core.specs.declared.slot.Stage.TheVariants as stages
-use Rattle.rb_core.specs.State.{Phase, Connection}
-use Rattle.rb_core.specs.State.Phase.{Idle, Reading, Owing, Awaiting, Lost}
-use Rattle.rb_core.specs.Losses.{time_in, is_due}
+use Rattle.rb_model.specs.State.{Phase, Connection}
+use Rattle.rb_model.specs.State.Phase.{Idle, Reading, Owing, Awaiting, Lost}
+use Rattle.rb_model.specs.Losses.{time_in, is_due}
 use Rattle.rb_core.specs.Slots.{is_due_slot, phase_like}
 use Rattle.rb_core.specs.StandsFor.{Source, StandsForConnection, StandsForPhase}
 

@@ -12,9 +12,9 @@ use Rattle.rb_core.specs.declared.slot.Slot.{Slot}
 use Rattle.rb_core.specs.declared.slot.Buffers.{Buffers}
 use Rattle.rb_core.specs.declared.slot.Stage.{Stage}
 use Rattle.rb_core.specs.declared.slot.Stage.TheVariants as stages
-use Rattle.rb_core.specs.State.{Phase, Connection, Connections}
-use Rattle.rb_core.specs.State.Phase.{Idle, Reading, Owing, Awaiting, Lost}
-use Rattle.rb_core.specs.Losses.{began_in, began_before, evicted, evicting}
+use Rattle.rb_model.specs.State.{Phase, Connection, Connections}
+use Rattle.rb_model.specs.State.Phase.{Idle, Reading, Owing, Awaiting, Lost}
+use Rattle.rb_model.specs.Losses.{began_in, began_before, evicted, evicting}
 use Rattle.rb_core.specs.StandsFor.{Source, Table, StandsForPhase, StandsForConnection, StandsForConnections, charge, held_in, IsWithin}
 use Rattle.rb_core.specs.Slots.{IsTable, StaysTable, HasBuffers, AreNumbered, is_numbered, is_idle_stage}
 use Rattle.rb_core.specs.Awaits.{is_free_slot, is_free, is_idle_slot, has_idle, NoneIsFreed}

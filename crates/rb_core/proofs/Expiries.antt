@@ -1,10 +1,10 @@
 -- A core that stands for a state stands for it once the due connection is Lost.
 use Rattle.std.proofs.Common.{◌≡◌, ℕ, Option, Some, None, refl, ap, ◌∙◌}
-use Rattle.rb_core.specs.declared.types.Expired.{Expired}
-use Rattle.rb_core.specs.declared.types.Told.{Told}
-use Rattle.rb_core.specs.State.{State}
-use Rattle.rb_core.specs.Losses.{expiring}
-use Rattle.rb_core.specs.Ending.{closed_as, expire_connection, expired_as}
+use Rattle.rb_model.specs.declared.types.Expired.{Expired}
+use Rattle.rb_model.specs.declared.types.Told.{Told}
+use Rattle.rb_model.specs.State.{State}
+use Rattle.rb_model.specs.Losses.{expiring}
+use Rattle.rb_model.specs.Ending.{closed_as, expire_connection, expired_as}
 use Rattle.rb_core.specs.Slots.{Acts, StaysTable}
 use Rattle.rb_core.specs.StandsFor.{Table, StandsForConnections, Held, StandsFor, source_of}
 

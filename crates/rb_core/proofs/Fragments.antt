@@ -1,84 +1,17 @@
 -- The fragments of a marked reply, and where the giving of it stands.
-use Rattle.std.proofs.Common.{Option, ◌≡◌, ◌<◌, ◌≤◌, ◌+◌, ◌-◌, ◌*◌, ◌/◌, ◌%◌, ◌^◌, Some, None, ℕ, zero, suc, Bool, true, false, cond, ltb, leb, List, [], ◌∷◌, ◌++◌, length, take, drop, min, refl, sym, ap, subst, ◌∙◌, append-nil, arith, inl, inr, ◌⊎◌, length-append}
+use Rattle.std.proofs.Common.{Option, ◌≡◌, ◌<◌, ◌≤◌, ◌+◌, ◌-◌, ◌*◌, ◌/◌, ◌%◌, ◌^◌, Some, None, ℕ, zero, suc, Bool, true, false, cond, ltb, leb, List, [], ◌++◌, length, take, drop, min, refl, sym, ap, subst, ◌∙◌, arith, inl, inr, ◌⊎◌, length-append}
 use Rattle.std.specs.Prelude.{slice_range}
 use Rattle.std.proofs.lemmas.Slice.{take-put_mid}
 use borrow.Rule.Slice.PartMut.{put_mid}
 use Rattle.std.proofs.lemmas.List.{length-take, length-drop, take_at, drop_at, take_all, take_min, drop-drop, drop-take}
 use Rattle.std.proofs.lemmas.Bool.{le-ltb, lt-ltb, cond-true, cond-false, cases_lt, le-leb, lt-leb}
 use Rattle.rb_xdr.specs.Kept.{Kept}
-use Rattle.rb_rpc.specs.Records.{Fragment, fragment_header, markings, fragment_size, cut_up, reply_fragments, marked}
+use Rattle.rb_rpc.specs.Records.{fragment_header, fragment_size, marked}
 use Rattle.rb_rpc.proofs.Markings.{length-header}
-use Rattle.rb_core.specs.State.{Owed}
-use Rattle.rb_core.specs.Connections.{longest_fragment, pending_of, owed_of}
+use Rattle.rb_model.specs.State.{Owed}
+use Rattle.rb_model.specs.Connections.{longest_fragment, pending_of, owed_of}
 use Rattle.rb_core.specs.StandsFor.{window, IsGiving}
-
-longest_is : longest_fragment ≡ 1028
-unfolding longest_fragment
-longest_is = refl
-
--- ---- a marked reply, unrolled
-
-abbrev only : List ℕ → List Fragment
-only reply = record { last = true; content = reply } ∷ []
-
-abbrev front_of : List ℕ → Fragment
-front_of reply = record { last = false; content = take fragment_size reply }
-
-cut_short : (k : ℕ) (reply : List ℕ) → length reply ≤ fragment_size → cut_up k reply ≡ only reply
-cut_short zero reply few = refl
-cut_short (suc k) reply few = cond-false _ _ _ (le-ltb fragment_size (length reply) few)
-
--- fuel of the reply's length is enough
-cut_enough : (j k : ℕ) (reply : List ℕ) → length reply ≤ j → length reply ≤ k → cut_up j reply ≡ cut_up k reply
-cut_enough zero k reply a b = sym (cut_short k reply (omega (arith, a)))
-cut_enough (suc j) zero reply a b = cut_short (suc j) reply (omega (arith, b))
-cut_enough (suc j) (suc k) reply a b =
-    elim (cases_lt fragment_size (length reply)) [
-      | inl long ↦
-          let test = lt-ltb fragment_size (length reply) long in
-          cond-true _ _ _ test
-          ∙ ap (λ (more : List Fragment). front_of reply ∷ more) (cut_enough j k (drop fragment_size reply) (omega (arith, a, long, length-drop fragment_size reply)) (omega (arith, b, long, length-drop fragment_size reply)))
-          ∙ sym (cond-true _ _ _ test)
-      | inr few ↦ cut_short (suc j) reply few ∙ sym (cut_short (suc k) reply few)
-    ]
-
-cut_long : (k : ℕ) (reply : List ℕ) → fragment_size < length reply → length reply ≤ k
-    → cut_up k reply ≡ front_of reply ∷ cut_up (length (drop fragment_size reply)) (drop fragment_size reply)
-cut_long zero reply long enough = absurd (omega (arith, long, enough))
-cut_long (suc k) reply long enough =
-    cond-true _ _ _ (lt-ltb fragment_size (length reply) long)
-    ∙ ap (λ (more : List Fragment). front_of reply ∷ more) (cut_enough k (length (drop fragment_size reply)) (drop fragment_size reply) (omega (arith, enough, long, length-drop fragment_size reply)) (omega arith))
-
-marked-short : (reply : List ℕ) → length reply ≤ fragment_size → marked reply ≡ fragment_header (length reply) true ++ reply
-unfolding marked reply_fragments
-marked-short reply few = ap (λ (f : List Fragment). markings f) (cut_short (length reply) reply few) ∙ append-nil _
-
-marked-long : (reply : List ℕ) → fragment_size < length reply
-    → marked reply ≡ (fragment_header fragment_size false ++ take fragment_size reply) ++ marked (drop fragment_size reply)
-unfolding marked reply_fragments
-marked-long reply long =
-    let size : length (take fragment_size reply) ≡ fragment_size = omega (arith, long, length-take fragment_size reply) in
-    ap (λ (f : List Fragment). markings f) (cut_long (length reply) reply long (omega arith))
-    ∙ ap (λ (n : ℕ). (fragment_header n false ++ take fragment_size reply) ++ marked (drop fragment_size reply)) size
-
-pub length-short : (reply : List ℕ) → length reply ≤ fragment_size → length (marked reply) ≡ 4 + length reply
-length-short reply few =
-    omega (arith, ap (λ (xs : List ℕ). length xs) (marked-short reply few), length-append (fragment_header (length reply) true) reply, length-header (length reply) true)
-
-length-front : (reply : List ℕ) → fragment_size < length reply → length (fragment_header fragment_size false ++ take fragment_size reply) ≡ 1028
-length-front reply long =
-    omega (arith, long, length-append (fragment_header fragment_size false) (take fragment_size reply), length-header fragment_size false, length-take fragment_size reply)
-
-pub length-long : (reply : List ℕ) → fragment_size < length reply → length (marked reply) ≡ 1028 + length (marked (drop fragment_size reply))
-length-long reply long =
-    omega (arith, ap (λ (xs : List ℕ). length xs) (marked-long reply long), length-append (fragment_header fragment_size false ++ take fragment_size reply) (marked (drop fragment_size reply)), length-front reply long)
-
-pub some-marked : (reply : List ℕ) → 4 ≤ length (marked reply)
-some-marked reply =
-    elim (cases_lt fragment_size (length reply)) [
-      | inl long ↦ omega (arith, length-long reply long, long)
-      | inr few ↦ omega (arith, length-short reply few)
-    ]
+use Rattle.rb_model.proofs.Fragments.{length-front, length-long, length-short, longest_is, marked-long, marked-short, some-marked}
 
 -- ---- its fragments
 

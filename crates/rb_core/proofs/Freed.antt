@@ -13,11 +13,12 @@ use Rattle.rb_core.specs.declared.slot.Stage.TheVariants as stages
 use Rattle.rb_core.specs.declared.slot.Wanted.TheVariants as wanted
 use Rattle.rb_core.specs.declared.slot.Heard.{Heard}
 use Rattle.rb_core.specs.declared.slot.Received.{Received}
-use Rattle.rb_core.specs.declared.types.CoreFault.{CoreFault}
+use Rattle.rb_model.specs.declared.types.CoreFault.{CoreFault}
 use Rattle.rb_core.specs.StandsFor.{Table}
 use Rattle.rb_core.specs.Slots.{AreNumbered, is_numbered, is_idle_stage, is_lost_stage, is_wanted_slot, wanted_slot}
 use Rattle.rb_core.specs.Awaits.{is_awaiting_stage, is_free_slot, is_free, is_idle_slot, has_idle, is_unsettled_slot, IsSettled, NoneIsFreed, OnlyIsFreed, HearsSlot, HeardFrom, HearsFree}
-use Rattle.rb_core.proofs.Slots.{any-without, none_any}
+use Rattle.rb_core.proofs.Slots.{any-without}
+use Rattle.rb_model.proofs.Found.{none_any}
 
 -- ---- whether any slot is so
 

@@ -3,17 +3,19 @@ use Rattle.std.proofs.Common.{◌≡◌, ◌≤◌, [], refl, subst}
 use Rattle.rb_rpc.specs.declared.peer.Caller.TheVariants.{Udp}
 use Rattle.rb_feed.specs.Feeds.{arguments_of}
 use Rattle.rb_proto.specs.Ledger.{Ledger}
-use Rattle.rb_core.specs.Calls.{Outcome, message_of, outcome}
-use Rattle.rb_core.specs.Calls.Outcome.{NoCall, Reply, Forwarded, Silent}
-use Rattle.rb_core.specs.State.{Setting, State, at_moment, opening}
-use Rattle.rb_core.specs.Step.{context_in, with_ledger, with_reply, serve, datagram, show_outcome, step, after, IsReached}
-use Rattle.rb_core.specs.Losses.{with_room}
-use Rattle.rb_core.specs.Costs.{event_cost}
-use Rattle.rb_core.specs.Bounds.{steps_bound, bytes_in, bytes_out}
+use Rattle.rb_model.specs.Calls.{Outcome, message_of, outcome}
+use Rattle.rb_model.specs.Calls.Outcome.{NoCall, Reply, Forwarded, Silent}
+use Rattle.rb_model.specs.State.{Setting, State, at_moment, opening}
+use Rattle.rb_model.specs.Step.{context_in, with_ledger, with_reply, serve, datagram, show_outcome, step, after, IsReached}
+use Rattle.rb_model.specs.Losses.{with_room}
+use Rattle.rb_model.specs.Costs.{event_cost}
+use Rattle.rb_model.specs.Bounds.{steps_bound, bytes_in, bytes_out}
 use Rattle.rb_core.specs.Headline.{shown_as, AnswersDatagrams, RunsAreServedWithinBounds}
-use Rattle.rb_core.proofs.EntriesKept.{after-setting}
-use Rattle.rb_core.proofs.WholeSessions.{sessions_are_whole}
-use Rattle.rb_core.proofs.StepBounds.{held_within_after, steps_are_bounded}
+use Rattle.rb_model.proofs.EntriesKept.{after-setting}
+use Rattle.rb_model.proofs.LaterReplies.{udp_callers_are_told}
+use Rattle.rb_model.proofs.WholeSessions.{sessions_are_whole}
+use Rattle.rb_core.proofs.StepBounds.{held_within_after}
+use Rattle.rb_model.proofs.StepBounds.{steps_are_bounded}
 
 answers_datagrams : (s : State) → AnswersDatagrams s
 unfolding step datagram serve
@@ -38,6 +40,7 @@ runs_are_served_within_bounds limits listener first_xid now good port events =
     record {
       sessions = λ id. sessions_are_whole limits listener first_xid now events id;
       datagrams = answers_datagrams s;
+      later = udp_callers_are_told s;
       bytes = λ core stands. held_within_after core start events stands at_start port;
       steps = λ event.
           let one = steps_are_bounded s reached (rw same good) event in

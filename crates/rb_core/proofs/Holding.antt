@@ -12,9 +12,10 @@ use Rattle.rb_xdr.proofs.PoolLemmas.{All-value_at, All-with_value}
 use Rattle.rb_core.specs.declared.slot.Slot.{Slot}
 use Rattle.rb_core.specs.declared.slot.Buffers.{Buffers}
 use Rattle.rb_forward.specs.StandsFor.{longest_arguments as args, longest_call}
-use Rattle.rb_core.specs.Calls.{longest_reply}
-use Rattle.rb_core.specs.Connections.{longest_fragment}
-use Rattle.rb_core.specs.StandsFor.{longest_arguments, buffer_size, Table, charge, held_in, most_charge, IsWithin}
+use Rattle.rb_model.specs.Calls.{longest_reply}
+use Rattle.rb_model.specs.Connections.{longest_fragment}
+use Rattle.rb_model.specs.Calls.{longest_arguments}
+use Rattle.rb_core.specs.StandsFor.{buffer_size, Table, charge, held_in, most_charge, IsWithin}
 use Rattle.rb_core.specs.Slots.{StaysTable, IsTable, HasBuffers}
 
 module _ (slots : Pool Slot) (spare : Pool Buffers) (given conns held : ℕ) (t : IsTable slots spare given conns held) where

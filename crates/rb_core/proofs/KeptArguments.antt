@@ -5,7 +5,8 @@ use Rattle.std.proofs.lemmas.Bool.{cases_lt}
 use Rattle.std.proofs.lemmas.List.{take_all, length-take-le}
 use Rattle.rb_xdr.specs.Kept.{Kept}
 use Rattle.rb_xdr.specs.Puts.{Puts, Appends}
-use Rattle.rb_core.specs.StandsFor.{longest_arguments, buffer_size}
+use Rattle.rb_model.specs.Calls.{longest_arguments}
+use Rattle.rb_core.specs.StandsFor.{buffer_size}
 use Rattle.rb_core.specs.Reading.{AreKept}
 
 -- what fits is there behind the others

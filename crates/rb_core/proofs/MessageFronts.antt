@@ -18,14 +18,15 @@ use Rattle.rb_proto.specs.Types.{read_mapping, read_rpcb, read_netbuf}
 use Rattle.rb_proto.specs.Arguments.{procedure_at, is_known, value_of, front, arguments, request, or_garbage, read_request, HasArgs}
 use Rattle.rb_proto.specs.declared.answers.Answer.{Answer}
 use Rattle.rb_proto.proofs.Remotes.{answer_of_front}
-use Rattle.rb_core.proofs.AskedArgs.{message_has}
+use Rattle.rb_model.proofs.AskedArgs.{message_has}
 use Rattle.rb_proto.specs.declared.context.Context.{Context}
 use Rattle.rb_proto.specs.Ledger.{Ledger, called}
-use Rattle.rb_core.specs.declared.message.Message.{Message}
-use Rattle.rb_core.specs.declared.message.Message.TheVariants as says
-use Rattle.rb_core.specs.Calls.{call_of, message_with, message_of, reply_with, outcome}
-use Rattle.rb_core.specs.StandsFor.{longest_arguments, kept_of}
-use Rattle.rb_core.specs.Reading.{HasArgsIn, KeptSaysTheRecord}
+use Rattle.rb_model.specs.declared.message.Message.{Message}
+use Rattle.rb_model.specs.declared.message.Message.TheVariants as says
+use Rattle.rb_model.specs.Calls.{call_of, message_with, message_of, reply_with, outcome}
+use Rattle.rb_model.specs.Calls.{longest_arguments, kept_of}
+use Rattle.rb_model.specs.Grammar.{HasArgsIn}
+use Rattle.rb_core.specs.Reading.{KeptSaysTheRecord}
 use Rattle.rb_core.proofs.ReaderFronts.{LooksAt, give_looks, bind_looks, number_looks, opaque_looks}
 
 -- ---- the types of arguments

@@ -14,9 +14,9 @@ use Rattle.rb_proto.specs.declared.request.ArgumentFault.TheVariants as faults
 use Rattle.rb_proto.specs.declared.request.Request.{Request}
 use Rattle.rb_proto.specs.declared.request.Request.TheVariants.{Void, Mapping, Rpcb, Uaddr2taddr, Taddr2uaddr, Forward}
 use Rattle.rb_proto.specs.Arguments.{procedure_at, is_known, arguments, request, or_garbage, read_request}
-use Rattle.rb_core.specs.declared.message.Message.{Message}
-use Rattle.rb_core.specs.declared.message.Message.TheVariants as says
-use Rattle.rb_core.specs.Calls.{is_served, refusal, request_of, call_of}
+use Rattle.rb_model.specs.declared.message.Message.{Message}
+use Rattle.rb_model.specs.declared.message.Message.TheVariants as says
+use Rattle.rb_model.specs.Calls.{is_served, refusal, request_of, call_of}
 use Rattle.rb_core.specs.Reading.{null_message, SaysNull}
 
 -- no request with arguments is one of NULL

@@ -12,10 +12,10 @@ use Rattle.rb_core.specs.declared.slot.Slot.{Slot}
 use Rattle.rb_core.specs.declared.slot.Stage.{Stage}
 use Rattle.rb_core.specs.declared.slot.Stage.TheVariants as stages
 use Rattle.rb_core.specs.declared.slot.Received.{Received}
-use Rattle.rb_core.specs.State.{Owed, Phase, Connection}
-use Rattle.rb_core.specs.State.Phase.{Idle, Reading, Owing, Awaiting, Lost}
-use Rattle.rb_core.specs.Connections.{Taking, taking, taking_on, taking_up_to, mark_when_fed, fed_in, pending_in, phase_when_given, when_given, giving, pending_of}
-use Rattle.rb_core.specs.Connections.Taking.{TakesNone, Ends}
+use Rattle.rb_model.specs.State.{Owed, Phase, Connection}
+use Rattle.rb_model.specs.State.Phase.{Idle, Reading, Owing, Awaiting, Lost}
+use Rattle.rb_model.specs.Connections.{Taking, taking, taking_on, taking_up_to, mark_when_fed, fed_in, pending_in, phase_when_given, when_given, giving, pending_of}
+use Rattle.rb_model.specs.Connections.Taking.{TakesNone, Ends}
 use Rattle.rb_core.specs.StandsFor.{IsGiving, IsReading, Source, IsStreaming, StandsForPhase, StandsForConnection}
 use Rattle.rb_core.specs.Reading.{Fed, Reader, fed_until}
 use Rattle.rb_core.specs.declared.giving.Stream.{Stream}

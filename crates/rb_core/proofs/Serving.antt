@@ -26,15 +26,15 @@ use Rattle.rb_proto.specs.declared.answers.Results.{Results}
 use Rattle.rb_proto.specs.declared.answers.Results.TheVariants as results
 use Rattle.rb_proto.specs.declared.list_reply.ListReply.{ListReply}
 use Rattle.rb_proto.specs.ListParts.{list_reply, ListsRows, IsTold}
-use Rattle.rb_core.specs.declared.serve.Served.TheVariants.{Listed}
+use Rattle.rb_core.specs.declared.replies.Served.TheVariants.{Listed}
 use Rattle.rb_core.specs.StandsFor.{source_for}
 use Rattle.rb_core.specs.Giving.{IsToldBy}
 use Rattle.rb_core.specs.Listings.{source_in}
 use Rattle.rb_core.specs.Serving.{list_outcome, listing_outcome, IsStreamedTo, streamed}
-use Rattle.rb_core.proofs.Replies.{some_head, short_head}
-use Rattle.rb_core.specs.declared.message.Message.TheVariants as says
-use Rattle.rb_core.specs.Calls.{Outcome, told_as, told_results, reply_with, outcome, fitting, success, longest_reply}
-use Rattle.rb_core.specs.Calls.Outcome.{Reply}
+use Rattle.rb_core.proofs.ReplyHeads.{some_head, short_head}
+use Rattle.rb_model.specs.declared.message.Message.TheVariants as says
+use Rattle.rb_model.specs.Calls.{Outcome, told_as, told_results, reply_with, outcome, fitting, success, longest_reply}
+use Rattle.rb_model.specs.Calls.Outcome.{Reply}
 use Rattle.rb_core.specs.Reading.{null_message}
 use Rattle.rb_core.specs.Awaits.{kind_of, StayUnlessForwarded as StaysUnless}
 

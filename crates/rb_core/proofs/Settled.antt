@@ -12,16 +12,17 @@ use Rattle.rb_core.specs.declared.slot.Slot.{Slot}
 use Rattle.rb_core.specs.declared.slot.Stage.{Stage}
 use Rattle.rb_core.specs.declared.slot.Stage.TheVariants as stages
 use Rattle.rb_core.specs.declared.slot.Wanted.TheVariants as wanted
-use Rattle.rb_core.specs.declared.serve.Served.{Served}
-use Rattle.rb_core.specs.declared.serve.Served.TheVariants.{Told}
+use Rattle.rb_core.specs.declared.replies.Served.{Served}
+use Rattle.rb_core.specs.declared.replies.Served.TheVariants.{Told}
 use Rattle.rb_core.specs.declared.types.Outcome.{Outcome as Written}
 use Rattle.rb_core.specs.declared.types.Outcome.TheVariants as outcomes
-use Rattle.rb_core.specs.State.{Phase, Connection, Connections}
-use Rattle.rb_core.specs.State.Phase.{Idle}
-use Rattle.rb_core.specs.Calls.Outcome.{Silent}
-use Rattle.rb_core.specs.Connections.{taking, fed_in, is_lost, is_live, settled, change_first, changed_at}
-use Rattle.rb_core.specs.Connections.Taking.{Ends}
-use Rattle.rb_core.specs.StandsFor.{Source, Table, StandsForConnection, StandsForConnections, kept_of}
+use Rattle.rb_model.specs.State.{Phase, Connection, Connections}
+use Rattle.rb_model.specs.State.Phase.{Idle}
+use Rattle.rb_model.specs.Calls.Outcome.{Silent}
+use Rattle.rb_model.specs.Connections.{taking, fed_in, is_lost, is_live, settled, change_first, changed_at}
+use Rattle.rb_model.specs.Connections.Taking.{Ends}
+use Rattle.rb_core.specs.StandsFor.{Source, Table, StandsForConnection, StandsForConnections}
+use Rattle.rb_model.specs.Calls.{kept_of}
 use Rattle.rb_core.specs.Serving.{served_in}
 use Rattle.rb_core.specs.Slots.{Acts, Shows, settling, AreNumbered, HearsWhole, feeding, arguments_heard, heard_whole, is_idle_stage, is_wanted_slot, wanted_slot}
 use Rattle.rb_core.specs.Awaits.{is_unsettled_slot, IsSettled, HeardFrom}

@@ -3,17 +3,17 @@ use Rattle.std.proofs.Common.{◌≡◌, ℕ, suc, ◌+◌, ◌≤◌, Bool, tru
 use Rattle.std.specs.Prelude.{find, filter, option_map}
 use Rattle.std.specs.List.{AllZip, list_any}
 use Rattle.std.specs.Map.{values_of}
-use Rattle.std.proofs.lemmas.Bool.{eqb-true}
+use Rattle.std.proofs.lemmas.Bool.{eqb-true, le-ltb}
 use Rattle.std.proofs.lemmas.Bool.Decides.{nat_tests}
-use Rattle.std.proofs.lemmas.Bool.{le-ltb}
 use Rattle.rb_xdr.specs.Kept.{Kept}
 use Rattle.rb_rpc.specs.Marks.{StandsForFed}
 use Rattle.rb_rpc.specs.Records.{data_of}
 use Rattle.rb_rpc.specs.Verdict.{verdict}
 use Rattle.rb_feed.specs.Feeds.{StandsForCall, arguments_of}
-use Rattle.rb_core.specs.declared.types.CoreFault.TheVariants.{Full, Spent, Gone}
+use Rattle.rb_model.specs.declared.types.CoreFault.TheVariants.{Full, Spent, Gone}
 use Rattle.rb_core.specs.Reading.{Reader}
-use Rattle.rb_core.specs.StandsFor.{longest_arguments, buffer_size, kept_of, IsReading, Source, StandsForConnection, StandsForPhase, StandsForConnections, Table, charge, IsWithin}
+use Rattle.rb_model.specs.Calls.{longest_arguments, kept_of}
+use Rattle.rb_core.specs.StandsFor.{buffer_size, IsReading, Source, StandsForConnection, StandsForPhase, StandsForConnections, Table, charge, IsWithin}
 use Rattle.std.proofs.lemmas.Map.Entries.{length-values_of, sum_by-set_value}
 use Rattle.rb_xdr.specs.Search.{key_of}
 use Rattle.rb_xdr.proofs.PoolLemmas.{All-with_value, distinct-with, length-with}
@@ -22,20 +22,18 @@ use Rattle.rb_xdr.specs.Pool.{Pool, value_at, without, with_value, HasDistinctKe
 use Rattle.rb_core.specs.declared.slot.Slot.{Slot}
 use Rattle.rb_core.specs.declared.slot.Wanted.{Wanted}
 use Rattle.rb_core.specs.declared.slot.Wanted.TheVariants as wanted
-use Rattle.rb_core.specs.State.{Phase, Connection, Connections, greatest_number}
-use Rattle.rb_core.specs.State.Phase.{Idle, Reading, Owing, Awaiting, Lost}
-use Rattle.rb_core.specs.Connections.{change_first, changed_at, is_lost, is_live, live_connection, on_live, has_number, number_for, opening_of, is_there, without_number, closing_of}
+use Rattle.rb_model.specs.State.{Phase, Connection, Connections, greatest_number}
+use Rattle.rb_model.specs.State.Phase.{Idle, Reading, Owing, Awaiting, Lost}
+use Rattle.rb_model.specs.Connections.{change_first, changed_at, is_lost, is_live, live_connection, on_live, has_number, number_for, opening_of, is_there, without_number, closing_of}
 use Rattle.rb_core.specs.Slots.{Acts, Shows, is_lost_stage, is_wanted_slot, is_wanted, wanted_slot, IsFound, is_numbered, AreNumbered, IsTable, HasBuffers, arguments_heard, arguments_on}
 use Rattle.rb_core.specs.declared.slot.Stage.{Stage}
 use Rattle.rb_core.specs.declared.slot.Stage.TheVariants as stages
 use Rattle.rb_core.proofs.DueSlots.{due_alike}
 use Rattle.rb_rpc.specs.declared.peer.Peer.{Peer}
+use Rattle.rb_model.proofs.Found.{all_kept, none_any, none_some, some_any}
 
 some_is : {X : Type 0} (x y : X) → Some x ≡ Some y → x ≡ y
 some_is x y h = cc
-
-none_some : {X : Type 0} (x : X) → None ≡ Some x → ⊥
-none_some x h = absurd cc
 
 module _ {A : Type 0} (p : A → Bool) where
   pub has_key : (es : List (ℕ × A)) (k : ℕ) → key_of p es ≡ Some k → value_at es k ≡ None → ⊥
@@ -323,33 +321,6 @@ numbered-more given (first ∷ slots) slot n is =
   where
     differ : (a b : ℕ) → a ≡ given + 1 → b ≤ given → eqb a b ≡ false
     differ a b is le = grind (arith, nat_tests)
-
--- ---- a slot less
-
-module _ {X : Type 0} (test : X → Bool) where
-  pub none_any : (xs : List X) → find test xs ≡ None → list_any test xs ≡ false
-  none_any [] h = refl
-  none_any (x ∷ xs) h = by_cases (test x) refl (none_any xs)
-    where
-      by_cases : (b : Bool) → test x ≡ b → (find test xs ≡ None → list_any test xs ≡ false) → list_any test (x ∷ xs) ≡ false
-      by_cases true t further = absurd (none_some x (sym (rw t at h)))
-      by_cases false t further = rw t (further (rw t at h))
-
-  pub some_any : (xs : List X) (y : X) → find test xs ≡ Some y → list_any test xs ≡ true
-  some_any [] y h = absurd (none_some y h)
-  some_any (x ∷ xs) y h = by_cases (test x) refl (some_any xs y)
-    where
-      by_cases : (b : Bool) → test x ≡ b → (find test xs ≡ Some y → list_any test xs ≡ true) → list_any test (x ∷ xs) ≡ true
-      by_cases true t further = rw t refl
-      by_cases false t further = rw t (further (rw t at h))
-
-  pub all_kept : (xs : List X) → list_any test xs ≡ false → filter (λ x. not (test x)) xs ≡ xs
-  all_kept [] h = refl
-  all_kept (x ∷ xs) h = by_cases (test x) refl (all_kept xs)
-    where
-      by_cases : (b : Bool) → test x ≡ b → (list_any test xs ≡ false → filter (λ x. not (test x)) xs ≡ xs) → filter (λ x. not (test x)) (x ∷ xs) ≡ x ∷ xs
-      by_cases true t further = let clash : true ≡ false = rw t at h in absurd cc
-      by_cases false t further = rw t (ap (λ (ys : List X). x ∷ ys) (further (rw t at h)))
 
 pub any_alike : (source : Source) (id : ℕ) (slots : List Slot) (all : List Connection) → AllZip (StandsForConnection source) slots all → list_any (is_numbered id) slots ≡ list_any (has_number id) all
 any_alike source id [] [] z = refl

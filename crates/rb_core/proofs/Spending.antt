@@ -1,19 +1,21 @@
 -- What calls pay, added up.
-use Rattle.std.proofs.Common.{◌≡◌, ◌≤◌, ℕ, ◌+◌, ◌*◌, Bool, List, length, Option, Some, None, Result, Ok, Err, refl, sym, ap, subst, ◌∙◌, arith}
+use Rattle.std.proofs.Common.{◌≡◌, ◌≤◌, ℕ, ◌+◌, ◌*◌, List, length, Option, Some, None, Result, Ok, Err, refl, sym, ap, subst, ◌∙◌, arith}
 use Rattle.rb_xdr.specs.Meter.{Meter, PaysAtMost}
 use Rattle.rb_core.specs.declared.slot.Heard.{Heard}
 use Rattle.rb_registry.specs.Registry.{slots_of}
-use Rattle.rb_core.specs.declared.types.CoreFault.{CoreFault}
-use Rattle.rb_core.specs.State.{State, Setting, Connection, at_moment}
-use Rattle.rb_core.specs.Connections.{Taking, taking, live_connection}
-use Rattle.rb_core.specs.Connections.Taking.{TakesNone, GoesOn, Ends}
-use Rattle.rb_core.specs.Step.{Taken, answering, with_count, when_taken, bytes, bytes_to}
-use Rattle.rb_core.specs.Calls.{longest_reply}
+use Rattle.rb_model.specs.declared.types.CoreFault.{CoreFault}
+use Rattle.rb_model.specs.State.{State, Setting, Connection, at_moment}
+use Rattle.rb_model.specs.Connections.{Taking, taking, live_connection}
+use Rattle.rb_model.specs.Connections.Taking.{TakesNone, GoesOn, Ends}
+use Rattle.rb_model.specs.Step.{when_taken, bytes, bytes_to}
+use Rattle.rb_model.specs.declared.types.Taken.{Taken}
+use Rattle.rb_model.specs.Calls.{longest_reply, kept_of}
 use Rattle.rb_core.specs.Slots.{Acts}
-use Rattle.rb_core.specs.StandsFor.{kept_of, Held, StandsFor, source_of}
+use Rattle.rb_core.specs.StandsFor.{Held, StandsFor, source_of}
 use Rattle.rb_core.specs.CallCosts.{args_heard, datagram_cost, gave_cost, IsCheapIfQuiet, heard_cost, NoRecordEnds, taking_cost}
-use Rattle.rb_core.specs.Costs.{find_cost, exchange_cost, read_cost, make_room_cost, serve_cost, begin_list_cost, given_cost, answer_cost, connection_count, row_limit, take_cost, recount_cost, count_taken, piece_cost, record_cost}
+use Rattle.rb_model.specs.Costs.{find_cost, exchange_cost, read_cost, make_room_cost, serve_cost, begin_list_cost, given_cost, answer_cost, connection_count, row_limit, take_cost, recount_cost, count_taken, piece_cost, record_cost}
 use Rattle.rb_core.proofs.Slots.{as_many}
+use Rattle.rb_model.proofs.StepBounds.{taken-counts}
 
 -- a record ended, and it was answered, where so much more was paid
 pub answered_cost : (m0 m1 m2 : Meter) (n other rows left count args more : ℕ) (h : Option Heard) (x : Heard) → h ≡ Some x → other ≡ n
@@ -72,17 +74,6 @@ pub gave_paid : (old : Held) (s : State) (a b : Meter) → StandsFor old s → P
 gave_paid old s a b h pays =
     let rows = rows_held old s h in
     at_most a b (find_cost (length old.connections.slots) + 1 + gave_cost old) _ (omega (arith, rows, connections_held old s h)) pays
-
--- ---- a piece of bytes
-
-with_count-counts : (n : ℕ) (r : Bool × State) → (with_count n r).0.count ≡ n
-with_count-counts n (closed, s) = refl
-
--- so many of its bytes are taken
-pub taken-counts : (s : State) (id : ℕ) (piece : List ℕ) (c : Connection) (t : Taking) → (when_taken s id piece c t).0.count ≡ count_taken piece t
-taken-counts s id piece c TakesNone = refl
-taken-counts s id piece c (GoesOn fed) = refl
-taken-counts s id piece c (Ends n content) = with_count-counts n (answering s id c.peer content)
 
 module _ (old new : Held) (s : State) (h : StandsFor old s) (a b : Meter) (now id : ℕ) (piece : List ℕ) (result : Result Taken CoreFault)
     (acts : Acts StandsFor (λ t. bytes t now id piece) old new result)

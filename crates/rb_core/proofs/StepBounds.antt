@@ -1,90 +1,19 @@
 -- What an event costs is within the bound on its steps.
-use Rattle.std.proofs.Common.{◌≡◌, ◌≤◌, ◌<◌, ℕ, ◌+◌, ◌^◌, true, false, cond, Option, Some, None, List, [], ◌∷◌, ◌++◌, refl, sym, ap, ◌∙◌, arith}
-use Rattle.rb_forward.specs.StandsFor.{longest_arguments as longest_args}
-use Rattle.std.proofs.lemmas.List.{length-take}
-use Rattle.rb_feed.specs.Feeds.{arguments_of}
-use Rattle.rb_core.specs.Calls.{longest_reply}
-use Rattle.rb_core.specs.StandsFor.{longest_arguments, buffer_size, Held, StandsFor}
-use Rattle.rb_core.specs.State.{Setting, State, Connection, at_moment, opening, are_good}
-use Rattle.rb_core.specs.Connections.{Taking, taking, live_connection}
-use Rattle.rb_core.specs.Connections.Taking.{TakesNone, GoesOn, Ends}
-use Rattle.rb_core.specs.Step.{Event, Output, Taken, when_taken, bytes_to, bytes, output_or, show_taken, step, after, IsReached}
-use Rattle.rb_core.specs.Step.Event.{Open, Bytes, Pending, Gave, Closed, NextLost, Datagram, Unsent, Sent, Forward, Expire}
-use Rattle.rb_core.specs.Bounds.{count_in, steps_bound, bound_at, run_bound, held, bytes_bound}
-use Rattle.rb_core.specs.Costs.{connection_count, count_taken, piece_cost, record_cost, find_cost, event_cost, run_cost}
-use Rattle.rb_core.specs.BoundLaws.{StepsAreBounded, RunsAreBounded}
-use Rattle.rb_core.proofs.Ledgers.{step-setting}
-use Rattle.rb_core.proofs.Room.{reached-room}
-use Rattle.rb_core.proofs.RunLaws.{after-append}
+use Rattle.std.proofs.Common.{◌≡◌, ◌≤◌, ◌<◌, ◌^◌, true, List, ap, arith}
+use Rattle.rb_core.specs.StandsFor.{Held, StandsFor}
+use Rattle.rb_model.specs.State.{Setting, State, are_good}
+use Rattle.rb_model.specs.Step.{Event, after, IsReached}
+use Rattle.rb_model.specs.Bounds.{run_bound, bytes_bound}
+use Rattle.rb_core.specs.HeldBytes.{held}
+use Rattle.rb_model.specs.Costs.{run_cost}
 use Rattle.rb_xdr.specs.Meter.{Meter, PaysAtMost}
-use Rattle.rb_core.proofs.EntriesKept.{after-setting}
-use Rattle.rb_core.proofs.Bounds.{held_bytes_are_bounded}
-use Rattle.rb_core.proofs.Spending.{at_most, taken-counts}
-use Rattle.rb_core.proofs.RepliesShown.{unsent-shown, datagram-shown, forward-shown, expiry-shown}
-
--- an event more
-pub reached-step : (s : State) → IsReached s → (event : Event) → IsReached (step s event).1
-reached-step s r event =
-    let start : State = opening r.limits r.listener r.first_xid r.now in
-    let is : (step s event).1 ≡ after start (r.events ++ event ∷ []) = ap (λ (t : State). (step t event).1) r.is ∙ sym (after-append start r.events (event ∷ [])) in
-    record { limits = r.limits; listener = r.listener; first_xid = r.first_xid; now = r.now; events = r.events ++ event ∷ []; is = is }
-
-module _ (s : State) (reached : IsReached s) (good : are_good s.setting.limits ≡ true) where
-  pub conns_few : connection_count s ≤ s.setting.limits.conns
-  conns_few = reached-room s reached
-
-  -- ---- a piece of bytes
-
-  module _ (now id : ℕ) (piece : List ℕ) where
-    pub shows : (t : Taken) → count_in (show_taken t) ≡ t.count
-    shows t = elim t.closed as (λ b. count_in (cond b (Output.TookAndClosed t.count) (Output.Took t.count)) ≡ t.count) [ true ↦ refl | false ↦ refl ]
-
-    piece_within : (m : Option Connection) → live_connection id s.connections.all ≡ m
-        → find_cost (connection_count s) + piece_cost s piece m ≤ steps_bound s.setting.limits (count_in (output_or show_taken (bytes_to s now id piece m)).0) 0
-    unfolding longest_reply longest_arguments buffer_size longest_args
-    piece_within None e = omega (arith, conns_few)
-    piece_within (Some c) e = by_taking (taking c.phase piece) (shows (when_taken (at_moment now s) id piece c (taking c.phase piece)).0 ∙ taken-counts (at_moment now s) id piece c (taking c.phase piece))
-      where
-        by_taking : (t : Taking) → count_in (show_taken (when_taken (at_moment now s) id piece c t).0) ≡ count_taken piece t
-            → find_cost (connection_count s) + (count_taken piece t + 1 + 4 + record_cost s t) ≤ steps_bound s.setting.limits (count_in (show_taken (when_taken (at_moment now s) id piece c t).0)) 0
-        by_taking TakesNone k = omega (arith, conns_few, k)
-        by_taking (GoesOn fed) k = omega (arith, conns_few, k)
-        by_taking (Ends n content) k = omega (arith, conns_few, k, length-take longest_arguments (arguments_of content))
-
-  -- ---- every event
-
-  event_within : (event : Event) → event_cost s event ≤ bound_at s event
-  unfolding longest_reply longest_arguments buffer_size longest_args step bytes
-  event_within (Open now peer) = omega arith
-  event_within (Bytes now id piece) = let few = piece_within now id piece (live_connection id s.connections.all) refl in omega (arith, few)
-  event_within (Pending id) = omega (arith, conns_few)
-  event_within (Gave now id n) = omega (arith, conns_few)
-  event_within (Closed id) = omega (arith, conns_few)
-  event_within NextLost = omega (arith, conns_few)
-  event_within (Datagram now peer content) = let shown = datagram-shown s now peer content in omega (arith, conns_few, shown)
-  event_within Unsent = let lent = unsent-shown s in omega (arith, lent)
-  event_within (Sent number) = omega arith
-  event_within (Forward now from message) = let shown = forward-shown s now from message in omega (arith, conns_few, shown)
-  event_within (Expire now) = let shown = expiry-shown s now in omega (arith, conns_few, shown)
-
-pub steps_are_bounded : StepsAreBounded
-steps_are_bounded s reached good event = event_within s reached good event
-
-pub runs_are_bounded : RunsAreBounded
-runs_are_bounded s reached good [] = omega arith
-runs_are_bounded s reached good (event ∷ events) =
-    let one = steps_are_bounded s reached good event in
-    let rest = runs_are_bounded (step s event).1 (reached-step s reached event) (rw (step-setting s event) good) events in
-    omega (arith, one, rest)
+use Rattle.rb_model.proofs.EntriesKept.{after-setting}
+use Rattle.rb_core.proofs.HeldBytes.{held_bytes_are_bounded}
+use Rattle.rb_core.proofs.Spending.{at_most}
+use Rattle.rb_model.proofs.StepBounds.{reached-after, runs_are_bounded}
 
 pub paid_within : (s : State) (events : List Event) (a b : Meter) → IsReached s → are_good s.setting.limits ≡ true → PaysAtMost a b (run_cost s events) → PaysAtMost a b (run_bound s events)
 paid_within s events a b reached good pays = at_most a b (run_cost s events) (run_bound s events) (runs_are_bounded s reached good events) pays
-
--- ---- what is held after a run
-
-reached-after : (s : State) (events : List Event) → IsReached s → IsReached (after s events)
-reached-after s [] reached = reached
-reached-after s (event ∷ events) reached = reached-after (step s event).1 events (reached-step s reached event)
 
 pub held_within_after : (core : Held) (s : State) (events : List Event) → StandsFor core (after s events) → IsReached s → s.setting.listener.port < 2 ^ 16 → held core ≤ bytes_bound s.setting.limits
 held_within_after core s events stands reached port =

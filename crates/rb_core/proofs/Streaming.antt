@@ -8,8 +8,8 @@ use Rattle.rb_rpc.specs.Records.{marked}
 use Rattle.rb_proto.specs.ListReplies.{longest_part}
 use Rattle.rb_proto.specs.ListParts.{IsTold}
 use Rattle.rb_core.specs.declared.giving.Stream.{Stream}
-use Rattle.rb_core.specs.State.{Owed}
-use Rattle.rb_core.specs.Connections.{longest_fragment, owed_of, pending_of}
+use Rattle.rb_model.specs.State.{Owed}
+use Rattle.rb_model.specs.Connections.{longest_fragment, owed_of, pending_of}
 use Rattle.rb_core.specs.StandsFor.{Source, IsStreaming, rest_behind}
 use Rattle.rb_core.specs.Giving.{GoesOnBy}
 use Rattle.rb_core.proofs.Fragments.{pending_shown, pending_count, place_inside, giving_begins, giving_stays, giving_moves, giving_ends, fragment_few, fragment_full}

@@ -6,17 +6,17 @@ use Rattle.rb_rpc.specs.Records.{fragment_size, marked}
 use Rattle.rb_rpc.specs.declared.peer.Caller.TheVariants.{Tcp}
 use Rattle.rb_proto.specs.declared.books.Books.{Books}
 use Rattle.rb_proto.specs.declared.context.Context.{Context}
-use Rattle.rb_core.specs.declared.serve.Served.{Served}
-use Rattle.rb_core.specs.declared.serve.Served.TheVariants.{Told, Listed}
+use Rattle.rb_core.specs.declared.replies.Served.{Served}
+use Rattle.rb_core.specs.declared.replies.Served.TheVariants.{Told, Listed}
 use Rattle.rb_core.specs.declared.slot.Heard.{Heard}
-use Rattle.rb_core.specs.declared.types.CoreFault.{CoreFault}
+use Rattle.rb_model.specs.declared.types.CoreFault.{CoreFault}
 use Rattle.rb_core.specs.declared.types.Exchanged.{Exchanged}
 use Rattle.rb_core.specs.declared.types.Outcome.TheVariants as outcomes
-use Rattle.rb_core.specs.declared.types.Taken.{Taken}
-use Rattle.rb_core.specs.State.{Owed, Phase, Connection, State}
-use Rattle.rb_core.specs.State.Phase.{Idle, Reading, Owing, Awaiting, Lost}
-use Rattle.rb_core.specs.Connections.{longest_fragment, when_given, live_connection, on_connection}
-use Rattle.rb_core.specs.Step.{bytes, pending, gave}
+use Rattle.rb_model.specs.declared.types.Taken.{Taken}
+use Rattle.rb_model.specs.State.{Owed, Phase, Connection, State}
+use Rattle.rb_model.specs.State.Phase.{Idle, Reading, Owing, Awaiting, Lost}
+use Rattle.rb_model.specs.Connections.{longest_fragment, when_given, live_connection, on_connection}
+use Rattle.rb_model.specs.Step.{bytes, pending, gave}
 use Rattle.rb_core.specs.StandsFor.{Table, Held, StandsFor}
 use Rattle.rb_core.specs.Slots.{Acts}
 use Rattle.rb_core.specs.Core.{context_of, answering_heard}

@@ -7,15 +7,15 @@ use Rattle.rb_proto.specs.declared.books.Books.{Books}
 use Rattle.rb_proto.specs.Costs.{statistics_cost}
 use Rattle.rb_core.specs.declared.slot.Heard.{Heard}
 use Rattle.rb_core.specs.declared.slot.Received.{Received}
-use Rattle.rb_core.specs.declared.types.CoreFault.{CoreFault}
-use Rattle.rb_core.specs.declared.types.Taken.{Taken}
-use Rattle.rb_core.specs.Costs.{serve_cost, listed_cost, recount_cost, given_cost, find_cost, take_cost, exchange_cost, read_cost, begin_list_cost, make_room_cost, answer_cost, entry_cost, ended_cost}
+use Rattle.rb_model.specs.declared.types.CoreFault.{CoreFault}
+use Rattle.rb_model.specs.declared.types.Taken.{Taken}
+use Rattle.rb_model.specs.Costs.{serve_cost, listed_cost, recount_cost, given_cost, find_cost, take_cost, exchange_cost, read_cost, begin_list_cost, make_room_cost, answer_cost, entry_cost, ended_cost}
 use Rattle.rb_core.specs.StandsFor.{Table, Held, StandsFor}
-use Rattle.rb_core.specs.Connections.{Taking, taking, live_connection}
-use Rattle.rb_core.specs.Connections.Taking.{TakesNone, GoesOn, Ends}
-use Rattle.rb_core.specs.Calls.{longest_reply}
+use Rattle.rb_model.specs.Connections.{Taking, taking, live_connection}
+use Rattle.rb_model.specs.Connections.Taking.{TakesNone, GoesOn, Ends}
+use Rattle.rb_model.specs.Calls.{longest_reply}
 use Rattle.rb_core.specs.Slots.{arguments_on}
-use Rattle.rb_core.specs.State.{State}
+use Rattle.rb_model.specs.State.{State}
 
 -- ---- on one connection
 

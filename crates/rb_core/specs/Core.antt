@@ -10,17 +10,15 @@ use Rattle.rb_proto.specs.Books.{AreTied}
 use Rattle.rb_core.specs.declared.types.Outcome as outcome
 use Rattle.rb_core.specs.declared.types.Outcome.TheVariants as outcomes
 use Rattle.rb_core.specs.declared.slot.Heard.{Heard}
-use Rattle.rb_core.specs.declared.types.CoreFault.{CoreFault}
-use Rattle.rb_core.specs.declared.types.CoreFault.TheVariants.{NoMemory, Full, BadLimits, Gone, Spent}
-use Rattle.rb_core.specs.State.{Setting, State}
-use Rattle.rb_core.specs.Calls.{message_with, Outcome, Outcome as said, longest_reply}
+use Rattle.rb_model.specs.State.{Setting, State}
+use Rattle.rb_model.specs.Calls.{message_with, Outcome, Outcome as said, longest_reply}
 use Rattle.rb_core.specs.StandsFor.{Table, Held, StandsFor}
 use Rattle.rb_core.specs.Slots.{Acts, IsDraft}
 use Rattle.rb_core.specs.Awaits.{AreAwaited}
 use Rattle.rb_core.specs.Listings.{AreTold, source_in}
-use Rattle.rb_core.specs.declared.types.Told.{Told}
-use Rattle.rb_core.specs.Ending.{told_at, tell}
-use Rattle.rb_core.specs.Step.{serve_message, settled_in}
+use Rattle.rb_model.specs.declared.types.Told.{Told}
+use Rattle.rb_model.specs.Ending.{told_at, tell}
+use Rattle.rb_model.specs.Step.{serve_message, settled_in}
 
 -- What is true of all that a core holds: it has one meter, its draft is empty between two events, each connection for which
 -- a call is forwarded awaits it, the registry can tell the lists that are given, and the reply has so many bytes.
@@ -82,11 +80,3 @@ TellsCaller message ended old new given = Acts StandsFor (tell ended.forward.cal
 -- An act that answers something, with the reply that is held after it.
 abbrev pub ActsWithReply : (State → Outcome × State) → Held → Held → outcome.Outcome → Type 0
 ActsWithReply act old new given = Acts StandsFor act old new (outcome_with given new.reply)
-
--- the number of a refusal
-abbrev pub fault_number : CoreFault → ℕ
-fault_number NoMemory = 1
-fault_number BadLimits = 2
-fault_number Full = 3
-fault_number Spent = 4
-fault_number Gone = 5

@@ -4,19 +4,19 @@ use Rattle.std.specs.Borrow.{Fml, Bor, MutBor}
 use Rattle.std.specs.Io.BufRead.{Rests}
 use Rattle.rb_xdr.specs.declared.memory.NoMemory.{NoMemory}
 use Rattle.rb_xdr.specs.Meter.{Meter, PaysAtMost}
-use Rattle.rb_core.specs.declared.events.Output as output
-use Rattle.rb_core.specs.declared.types.CoreFault.{CoreFault}
-use Rattle.rb_core.specs.declared.types.Taken.{Taken}
-use Rattle.rb_core.specs.State.{State}
-use Rattle.rb_core.specs.Step.{Event, Output, step, IsReached}
+use Rattle.rb_model.specs.declared.events.Output as output
+use Rattle.rb_model.specs.declared.types.CoreFault.{CoreFault}
+use Rattle.rb_model.specs.declared.types.Taken.{Taken}
+use Rattle.rb_model.specs.State.{State}
+use Rattle.rb_model.specs.Step.{Event, Output, step, IsReached}
 use Rattle.rb_core.specs.StandsFor.{Held, StandsFor}
-use Rattle.rb_core.specs.Runs.{output_of}
-use Rattle.rb_core.specs.Costs.{event_cost}
+use Rattle.rb_model.specs.Plain.{output_of}
+use Rattle.rb_model.specs.Costs.{event_cost}
 use Rattle.rb_core.specs.contracts.engine.Core.{the_row}
-use Rattle.rb_core.specs.Bounds.{steps_bound}
+use Rattle.rb_model.specs.Bounds.{steps_bound}
 use Rattle.rb_core.specs.CallCosts.{NoRecordEnds}
-use Rattle.rb_core.specs.WholeRuns.{whole_bound}
-use Rattle.rb_core.specs.declared.types.Limits.{Limits}
+use Rattle.rb_model.specs.WholeRuns.{whole_bound}
+use Rattle.rb_model.specs.declared.types.Limits.{Limits}
 
 -- ---- what it does
 

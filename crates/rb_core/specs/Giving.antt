@@ -5,10 +5,10 @@ use Rattle.rb_rpc.specs.Records.{marked}
 use Rattle.rb_proto.specs.declared.list_reply.ListReply.{ListReply}
 use Rattle.rb_proto.specs.ListReplies.{rest_of}
 use Rattle.rb_proto.specs.ListParts.{IsTold}
-use Rattle.rb_core.specs.declared.types.CoreFault.{CoreFault}
+use Rattle.rb_model.specs.declared.types.CoreFault.{CoreFault}
 use Rattle.rb_core.specs.declared.giving.Stream.{Stream}
-use Rattle.rb_core.specs.Connections.{longest_fragment, pending_of}
-use Rattle.rb_core.specs.State.{Owed}
+use Rattle.rb_model.specs.Connections.{longest_fragment, pending_of}
+use Rattle.rb_model.specs.State.{Owed}
 use Rattle.rb_core.specs.StandsFor.{IsGiving, Source, rest_behind}
 
 -- ---- a window

@@ -4,16 +4,18 @@ use Rattle.rb_rpc.specs.declared.peer.Peer.{Peer}
 use Rattle.rb_rpc.specs.declared.peer.Caller.TheVariants.{Udp}
 use Rattle.rb_feed.specs.Feeds.{arguments_of}
 use Rattle.rb_proto.specs.declared.listener.Listener.{Listener}
-use Rattle.rb_core.specs.declared.types.Limits.{Limits}
-use Rattle.rb_core.specs.Calls.{message_of, Outcome, outcome}
-use Rattle.rb_core.specs.Calls.Outcome.{NoCall, Reply, Forwarded, Silent}
-use Rattle.rb_core.specs.State.{State, are_good, opening, at_moment}
-use Rattle.rb_core.specs.Step.{context_in, Event, Output, Output as outputs, step, after}
-use Rattle.rb_core.specs.Step.Event.{Datagram}
-use Rattle.rb_core.specs.Sessions.{session, IsWholeSession}
-use Rattle.rb_core.specs.Costs.{event_cost}
+use Rattle.rb_model.specs.declared.types.Limits.{Limits}
+use Rattle.rb_model.specs.Calls.{message_of, Outcome, outcome}
+use Rattle.rb_model.specs.Calls.Outcome.{NoCall, Reply, Forwarded, Silent}
+use Rattle.rb_model.specs.State.{State, are_good, opening, at_moment}
+use Rattle.rb_model.specs.Step.{context_in, Event, Output, Output as outputs, step, after}
+use Rattle.rb_model.specs.Step.Event.{Datagram}
+use Rattle.rb_model.specs.ForwardLaws.{UdpCallersAreTold}
+use Rattle.rb_model.specs.Sessions.{session, IsWholeSession}
+use Rattle.rb_model.specs.Costs.{event_cost}
 use Rattle.rb_core.specs.StandsFor.{Held, StandsFor}
-use Rattle.rb_core.specs.Bounds.{held, bytes_bound, bytes_in, bytes_out, steps_bound}
+use Rattle.rb_core.specs.HeldBytes.{held}
+use Rattle.rb_model.specs.Bounds.{bytes_bound, bytes_in, bytes_out, steps_bound}
 
 -- what the sender of a datagram gets
 abbrev pub shown_as : Outcome → Output
@@ -34,6 +36,8 @@ pub record IsServedWithin (limits : Limits) (start : State) (events : List Event
   -- each completed call on a connection has exactly its reply, and on UDP too;
   pub sessions : (id : ℕ) → IsWholeSession id (after start events) (session start id events)
   pub datagrams : AnswersDatagrams (after start events)
+  -- a call that was forwarded over UDP gets at its end what its target said, or what the deadline says;
+  pub later : UdpCallersAreTold (after start events)
   -- what is held has not passed its bound;
   pub bytes : (core : Held) → StandsFor core (after start events) → held core ≤ bytes_bound limits
   -- and whatever event is next, its steps stay within theirs.

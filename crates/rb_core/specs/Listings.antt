@@ -9,13 +9,13 @@ use Rattle.rb_proto.specs.Ledger.{Ledger, StandsForLedger}
 use Rattle.rb_core.specs.declared.slot.Stage.{Stage}
 use Rattle.rb_core.specs.declared.slot.Stage.TheVariants as stages
 use Rattle.rb_core.specs.declared.slot.Slot.{Slot}
-use Rattle.rb_core.specs.declared.message.Message.{Message}
-use Rattle.rb_core.specs.declared.message.Message.TheVariants as says
+use Rattle.rb_model.specs.declared.message.Message.{Message}
+use Rattle.rb_model.specs.declared.message.Message.TheVariants as says
 use Rattle.rb_core.specs.StandsFor.{Source, source_for, Table, StandsForConnections}
 use Rattle.rb_core.specs.Giving.{GoesOnBy}
-use Rattle.rb_core.specs.Losses.{crowding, evicting}
+use Rattle.rb_model.specs.Losses.{crowding, evicting}
 use Rattle.rb_core.specs.Slots.{TableBecomes}
-use Rattle.rb_core.specs.State.{Connections}
+use Rattle.rb_model.specs.State.{Connections}
 
 -- ---- one slot
 

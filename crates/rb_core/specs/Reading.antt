@@ -1,6 +1,6 @@
 -- How a record is read piece by piece, and that what is kept of it says enough (RFC 5531 section 11). What is told of a
 -- message.
-use Rattle.std.specs.Prelude.{◌≡◌, ⊤, ℕ, ◌+◌, ◌-◌, List, ◌++◌, length, take, Option, Some, None}
+use Rattle.std.specs.Prelude.{◌≡◌, ℕ, ◌+◌, ◌-◌, List, ◌++◌, length, take, Option, Some, None}
 use Rattle.rb_xdr.specs.Kept.{Kept}
 use Rattle.rb_rpc.specs.declared.call.CallHead.{CallHead}
 use Rattle.rb_rpc.specs.declared.call.Verdict.{Verdict}
@@ -12,12 +12,11 @@ use Rattle.rb_feed.specs.Feeds.{StandsForCall, arguments_of}
 use Rattle.rb_proto.specs.declared.context.Context.{Context}
 use Rattle.rb_proto.specs.declared.procedure.VoidProcedure.TheVariants as voids
 use Rattle.rb_proto.specs.declared.request.Request.TheVariants as requests
-use Rattle.rb_proto.specs.Arguments.{HasArgs}
 use Rattle.rb_proto.specs.Ledger.{Ledger}
-use Rattle.rb_core.specs.declared.message.Message.{Message}
-use Rattle.rb_core.specs.declared.message.Message.TheVariants as says
-use Rattle.rb_core.specs.StandsFor.{longest_arguments, buffer_size, kept_of, IsReading}
-use Rattle.rb_core.specs.Calls.{message_with, message_of, outcome}
+use Rattle.rb_model.specs.declared.message.Message.{Message}
+use Rattle.rb_model.specs.declared.message.Message.TheVariants as says
+use Rattle.rb_model.specs.Calls.{longest_arguments, kept_of, message_with, message_of, outcome}
+use Rattle.rb_core.specs.StandsFor.{buffer_size, IsReading}
 pub use Rattle.rb_core.specs.declared.reading.Fed.{Fed}
 pub use Rattle.rb_core.specs.declared.reading.Intake.{Intake}
 pub use Rattle.rb_core.specs.declared.reading.Reader.{Reader}
@@ -74,15 +73,6 @@ pub record IsInside (marks : Marks) (intake : Intake) (kept : Kept) (fed : List 
 abbrev pub HasMore : Marks → Intake → Kept → List ℕ → Intake → Kept → Type 0
 HasMore marks intake kept run new now =
     (fed : List ℕ) → IsInside marks intake kept fed → HasData new now (data_of (fed ++ run))
-
--- ---- the arguments of what was read
-
--- the arguments of a call that is asked for are these bytes, as far as its answer reads them
-abbrev pub HasArgsIn : Message → List ℕ → Type 0
-HasArgsIn says.NoCall arguments = ⊤
-HasArgsIn (says.Refused head) arguments = ⊤
-HasArgsIn (says.Garbage head) arguments = ⊤
-HasArgsIn (says.Asked call) arguments = HasArgs call.request arguments
 
 -- ---- NULL
 

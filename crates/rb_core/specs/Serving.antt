@@ -18,19 +18,19 @@ use Rattle.rb_proto.specs.Ledger.{Ledger, StandsForLedger}
 use Rattle.rb_proto.specs.Books.{ActsAs}
 use Rattle.rb_proto.specs.Results.{shown_of, result_bytes}
 use Rattle.rb_xdr.specs.Kept.{Kept}
-use Rattle.rb_core.specs.declared.serve.Served.{Served}
-use Rattle.rb_core.specs.declared.serve.Served.TheVariants.{Told, Listed}
+use Rattle.rb_core.specs.declared.replies.Served.{Served}
+use Rattle.rb_core.specs.declared.replies.Served.TheVariants.{Told, Listed}
 use Rattle.rb_core.specs.declared.types.Outcome.{Outcome as Written}
 use Rattle.rb_core.specs.declared.types.Outcome.TheVariants as outcomes
 use Rattle.rb_core.specs.StandsFor.{Source, Table, StandsForConnections}
-use Rattle.rb_core.specs.State.{Connections}
-use Rattle.rb_core.specs.Losses.{crowding, evicting}
-use Rattle.rb_core.specs.Calls.{Outcome, Outcome as said, is_no_call, told_as, outcome, message_with}
+use Rattle.rb_model.specs.State.{Connections}
+use Rattle.rb_model.specs.Losses.{crowding, evicting}
+use Rattle.rb_model.specs.Calls.{Outcome, Outcome as said, is_no_call, told_as, outcome, message_with}
 use Rattle.rb_core.specs.Core.{outcome_with}
 use Rattle.rb_core.specs.Slots.{SlotBecomesFrom, BecomesFrom, settling}
-use Rattle.rb_core.specs.declared.message.Message.{Message}
+use Rattle.rb_model.specs.declared.message.Message.{Message}
 use Rattle.rb_core.specs.declared.slot.Slot.{Slot}
-use Rattle.rb_core.specs.Connections.{settled}
+use Rattle.rb_model.specs.Connections.{settled}
 use Rattle.rb_core.specs.Reading.{null_message}
 use Rattle.rb_core.specs.Listings.{source_in}
 

@@ -6,7 +6,7 @@ use Rattle.rb_xdr.specs.Kept.{Kept}
 use Rattle.rb_rpc.specs.Marks.{StandsForFed}
 use Rattle.rb_rpc.specs.Records.{data_of, marked}
 use Rattle.rb_feed.specs.declared.feed.CallFeed.{CallFeed}
-use Rattle.rb_feed.specs.Feeds.{StandsForCall, arguments_of}
+use Rattle.rb_feed.specs.Feeds.{StandsForCall}
 use Rattle.rb_registry.specs.Registry.{Registry}
 use Rattle.rb_proto.specs.declared.books.Books.{Books}
 use Rattle.rb_proto.specs.ListReplies.{longest_part, rest_of}
@@ -16,24 +16,14 @@ use Rattle.rb_core.specs.declared.giving.Stream.{Stream}
 use Rattle.rb_core.specs.declared.slot.Stage.{Stage}
 use Rattle.rb_core.specs.declared.slot.Stage.TheVariants as stages
 use Rattle.rb_core.specs.declared.slot.Slot.{Slot}
-use Rattle.rb_core.specs.Calls.{longest_reply}
-use Rattle.rb_core.specs.State.{Setting, Owed, Phase, Connection, Connections, State}
-use Rattle.rb_core.specs.Connections.{longest_fragment}
-use Rattle.rb_core.specs.State.Phase.{Idle, Reading, Owing, Awaiting, Lost}
-
--- ---- a record that is read, and the bytes of it that are kept meanwhile (RFC 5531 section 11)
-
--- the greatest length of arguments that are served
-unfoldable pub longest_arguments : ℕ
-longest_arguments = 8816
+use Rattle.rb_model.specs.Calls.{longest_reply, kept_of, longest_arguments}
+use Rattle.rb_model.specs.State.{Setting, Owed, Phase, Connection, Connections, State}
+use Rattle.rb_model.specs.Connections.{longest_fragment}
+use Rattle.rb_model.specs.State.Phase.{Idle, Reading, Owing, Awaiting, Lost}
 
 -- a connection's buffer has the arguments of the call that is read, and later the reply to it
 unfoldable pub buffer_size : ℕ
 buffer_size = max longest_arguments longest_reply
-
--- What is kept of a record with this data: the first bytes behind the head of its call, and of no call nothing.
-abbrev pub kept_of : List ℕ → List ℕ
-kept_of content = take longest_arguments (arguments_of content)
 
 -- The head and the buffer stand for this data of a record.
 pub record IsHeld (head : CallFeed) (kept : Kept) (content : List ℕ) : Type 0 where

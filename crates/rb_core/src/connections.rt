@@ -7,13 +7,14 @@ ghost use Rattle.rb_xdr.specs.Pool.{HasDistinctKeys};
 ghost use Rattle.rb_core.specs.Slots.{wanted_slot, AreBuffers, AreSpare, HasBuffers, HasDistinctNumbers};
 ghost use Rattle.rb_core.specs.StandsFor.{charge, most_charge, IsWithin};
 ghost use Rattle.rb_core.specs.Listings.{earlier, began_early, with_evicted, stamps_in, IsOldest};
-ghost use Rattle.rb_core.specs.Costs.{oldest_cost, evict_cost};
+ghost use Rattle.rb_model.specs.Costs.{oldest_cost, evict_cost};
 
 use crate::hints::Hints;
 use crate::reading::LONGEST_ARGUMENTS;
-use crate::serve::{LONGEST_REPLY, Served};
+use crate::replies::{LONGEST_REPLY, Served};
 use crate::slot::{Buffers, CHARGE, Received, Slot, Stage, Wanted, Whole};
-use crate::types::{CoreFault, Outcome};
+use crate::types::Outcome;
+use rb_model::CoreFault;
 use rb_proto::ListReply;
 use rb_registry::Registry;
 use rb_rpc::{Peer, one_fragment};
@@ -21,14 +22,14 @@ use rb_xdr::{Kept, Meter, NoMemory, Pool};
 use std::alloc::Global;
 use std::marker::Model;
 
-/// A buffer has the arguments of the call that is read, and later the reply to it.
+/// The size of a buffer: it has the arguments of the call that is read, and later the reply to it.
 pub const BUFFER_SIZE: usize = if LONGEST_ARGUMENTS < LONGEST_REPLY {
     LONGEST_REPLY
 } else {
     LONGEST_ARGUMENTS
 };
 
-/// A whole marked fragment of a reply.
+/// The length of a whole marked fragment of a reply.
 pub const LONGEST_FRAGMENT: usize = 1028;
 
 /// The connections that are open, in the order of their openings, and the buffers of those that are not.
@@ -131,7 +132,7 @@ fn put_slot(slots: &mut Pool<Slot>, slot: Slot, meter: &mut Meter) -> usize
     key
 }
 
-/// The lesser of two numbers, as far as they are there.
+/// The smaller of two optional numbers.
 fn earlier(a: Option<u64>, b: Option<u64>) -> Option<u64>
     ensures { result ≡ earlier a b }
 {
@@ -187,7 +188,7 @@ fn evict_slots(slots: &mut Pool<Slot>, earliest: u64, meter: &mut Meter)
 }
 
 /// As many buffers as there may be connections.
-#[tactic(auto, unfolding(crate::specs::StandsFor::longest_arguments, crate::specs::StandsFor::buffer_size, crate::specs::Calls::longest_reply, crate::specs::Connections::longest_fragment))]
+#[tactic(auto, unfolding(rb_model::specs::Calls::longest_arguments, crate::specs::StandsFor::buffer_size, rb_model::specs::Calls::longest_reply, rb_model::specs::Connections::longest_fragment))]
 fn make_spare(alloc: Global, conns: usize, meter: &mut Meter) -> Result<Pool<Buffers>, NoMemory>
     ensures distinct { IfOk result (λ spare. HasDistinctKeys spare.entries) }
     ensures all { IfOk result (λ spare. length spare.entries ≡ conns) }
@@ -208,7 +209,8 @@ fn make_spare(alloc: Global, conns: usize, meter: &mut Meter) -> Result<Pool<Buf
 
 /// The key of the first slot that is wanted. One that is wanted by its number is looked for under the hint first.
 ///
-/// It is inlined, since each caller knows what kind is wanted, and a call over TCP looks its connection up four times.
+/// It is inlined, since each caller knows what kind is wanted, and each call over TCP looks its connection up more than
+/// once.
 #[tactic(auto, unfolding(crate::specs::Slots::wanted_slot))]
 #[inline(always)]
 fn wanted_key(slots: &Pool<Slot>, hints: &Hints, wanted: Wanted, meter: &mut Meter) -> Option<usize>
@@ -224,8 +226,8 @@ fn wanted_key(slots: &Pool<Slot>, hints: &Hints, wanted: Wanted, meter: &mut Met
     }
 }
 
-/// How many bytes are held of all connections, of which this one counted as so many before.
-#[tactic(auto, unfolding(crate::specs::Calls::longest_reply, crate::specs::StandsFor::longest_arguments, crate::specs::StandsFor::buffer_size, crate::specs::Connections::longest_fragment))]
+/// The bytes that all connections hold after a change of one, which counted as `before` until then.
+#[tactic(auto, unfolding(rb_model::specs::Calls::longest_reply, rb_model::specs::Calls::longest_arguments, crate::specs::StandsFor::buffer_size, rb_model::specs::Connections::longest_fragment))]
 fn recounted(held: u64, before: u64, slot: &Slot, meter: &mut Meter) -> u64
     requires buffers { HasBuffers meter.old.tie slot.now }
     requires before { before ≤ held }
@@ -239,21 +241,21 @@ fn recounted(held: u64, before: u64, slot: &Slot, meter: &mut Meter) -> u64
 
 impl Connections {
     ghost use Rattle.std.specs.Prelude.{◌≡◌, ◌≤◌, ◌<◌, ◌+◌, ◌*◌, [], true, false, ℕ, length, Some, OnErr, IfOk, IfSome, IfNone, All};
-    ghost use Rattle.rb_core.specs.Connections.{on_live, opening_of, closing_of, first_lost, longest_fragment};
+    ghost use Rattle.rb_model.specs.Connections.{on_live, opening_of, closing_of, first_lost, longest_fragment};
     ghost use Rattle.rb_core.specs.Giving.{IsToldBy, pending_count};
     ghost use Rattle.rb_core.specs.Serving.{BeginsList, Serves, is_closed_by, kind_in, IsWritten};
     ghost use Rattle.rb_core.specs.Listings.{AreTold, KeepsTold, EvictsBefore, stamps_of, IsOldest};
-    ghost use Rattle.rb_core.specs.Losses.{expiring};
+    ghost use Rattle.rb_model.specs.Losses.{expiring};
     ghost use Rattle.rb_core.specs.Core.{given_in};
     ghost use Rattle.rb_core.specs.Slots.{settling, Finds, TableActs, TableBecomes, TableGives, TableHears, TableLends, TableShows, TakesWhole, KeepsWhole, HearsWhole, StaysTable, IsDraft, empty_table, feeding, HasBuffers};
-    ghost use Rattle.rb_core.specs.Step.{pending_at};
+    ghost use Rattle.rb_model.specs.Step.{pending_at};
     ghost use Rattle.rb_core.specs.CallCosts.{slot_count, look_cost, received_cost, taken_cost, list_cost, giving_cost};
-    ghost use Rattle.rb_core.specs.Costs.{settle_cost, pending_cost, oldest_cost, evict_cost};
+    ghost use Rattle.rb_model.specs.Costs.{settle_cost, pending_cost, oldest_cost, evict_cost};
     ghost use Rattle.rb_core.specs.Awaits.{has_idle, AwaitsIfForwarded, NoneIsFreed, OnlyIsFreed, HeardFrom, HearsFree, IsSettled, KeepsSettled};
     ghost use Rattle.rb_core.specs.StandsFor.{held_in, most_charge, source_for};
     ghost use Rattle.std.specs.Map.{values_of};
 
-    /// No connections yet, of at most so many. All of their memory is taken.
+    /// An empty table of at most `conns` connections, whose memory is all allocated here.
     pub fn new(alloc: Global, conns: usize, meter: &mut Meter) -> Result<Connections, NoMemory>
         requires { conns ≤ 256 }
         ensures empty { IfOk result (λ c. c ≡ empty_table conns meter.old.tie) }
@@ -325,8 +327,8 @@ impl Connections {
         Ok(())
     }
 
-    /// The connection of the number hears a record whole, where it is Idle and under its hint: it says who sends it, and stays
-    /// Idle until it is settled. `None` where it is not so, and nothing changed.
+    /// Takes a whole record on the connection of the number, where that is Idle and under its hint. Returns who sent it. The
+    /// connection stays Idle until it is settled. `None` where it is not so, and then nothing changed.
     fn hear_at_hint(&mut self, id: u64, clock: u64, meter: &mut Meter) -> Option<Peer>
         requires { meter.old.tie ≡ self.old.tie }
         ensures hears { IfSome result (λ peer. HearsWhole id clock peer self.old self.new) }
@@ -342,9 +344,9 @@ impl Connections {
         slot.hear_whole(id, clock)
     }
 
-    /// Takes a record that is one fragment and comes whole on the live connection of the number, where that is Idle and under
-    /// its hint: so come most of those that come together. The connection is Idle until it is settled. `None` where it is not
-    /// so, and nothing changed.
+    /// Takes a record that is one fragment and lies whole in the piece, as most do, where the live connection of the number is
+    /// Idle and under its hint. The connection is Idle until it is settled. `None` where it is not so, and then nothing
+    /// changed.
     pub fn hear<'a>(
         &mut self,
         id: u64,

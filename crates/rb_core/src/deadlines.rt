@@ -1,6 +1,6 @@
 //! How long a connection may stay in a phase.
 ghost use Rattle.std.specs.Prelude.{◌≡◌};
-ghost use Rattle.rb_core.specs.Losses.{time_in};
+ghost use Rattle.rb_model.specs.Losses.{time_in};
 ghost use Rattle.rb_core.specs.Slots.{phase_like};
 
 use crate::slot::Stage;

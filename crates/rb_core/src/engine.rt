@@ -1,16 +1,17 @@
 //! The core: what it holds, and its calls.
 ghost use Rattle.std.specs.Prelude.{◌≡◌, ◌≤◌, IsTrue};
-ghost use Rattle.rb_core.specs.State.{are_good};
-ghost use Rattle.rb_core.specs.Bounds.{bytes_bound};
+ghost use Rattle.rb_model.specs.State.{are_good};
+ghost use Rattle.rb_model.specs.Bounds.{bytes_bound};
 
-use crate::answer::{answer, serve_verdict};
+use crate::calls::{answer, serve_verdict};
 use crate::connections::{BUFFER_SIZE, Connections, LONGEST_FRAGMENT};
 use crate::message::arguments_behind;
 use crate::reading::kept_arguments;
-use crate::serve::{LONGEST_REPLY, Served, put_end};
+use crate::replies::{LONGEST_REPLY, Served, put_end};
 use crate::slot::{Heard, Received, Whole};
-use crate::types::{CoreFault, Exchanged, Expired, Limits, Outcome, Taken, Told};
+use crate::types::{Exchanged, Outcome};
 use rb_forward::{Ended, FwdId, Unsent};
+use rb_model::{CoreFault, Expired, Limits, Taken, Told};
 use rb_proto::{Books, Context, Listener};
 use rb_rpc::{Caller, FRAGMENT_HEADER, Peer, read_call};
 use rb_xdr::{Kept, Meter};
@@ -21,7 +22,7 @@ use std::marker::Model;
 const GREATEST_CALL: u64 = 9_656;
 
 /// The longest address text of a row.
-const LONGEST_ADDRESS: u64 = 24;
+const LONGEST_ADDRESS: u64 = 128;
 
 /// The longest forwarded call: a head of 40 bytes, and arguments.
 const LONGEST_FORWARD: u64 = 8_840;
@@ -119,8 +120,8 @@ impl Drop for Core {
 }
 
 /// How many bytes a core of these limits may hold: of each connection, beside its fixed part, a whole call and a whole
-/// fragment; of each row an address text of 24 bytes; of each forwarded call itself; the keys of the statistics; and a reply.
-#[tactic(auto, unfolding(crate::specs::Calls::longest_reply, crate::specs::Connections::longest_fragment, rb_forward::specs::StandsFor::longest_arguments))]
+/// fragment; of each row an address text of 128 bytes; of each forwarded call itself; the keys of the statistics; and a reply.
+#[tactic(auto, unfolding(rb_model::specs::Calls::longest_reply, rb_model::specs::Connections::longest_fragment, rb_forward::specs::StandsFor::longest_arguments))]
 fn bytes_bound(limits: &Limits) -> u64
     requires conns { limits.now.conns ≤ 256 }
     requires rows { limits.now.rows ≤ 4096 }
@@ -151,31 +152,32 @@ impl Core {
     ghost use Rattle.std.specs.Prelude.{◌≡◌, ◌+◌, ◌*◌, ◌≤◌, ◌↔◌, [], true, false, length, take, IsTrue, IfOk, IfErr, IfSome, IsErrOf, OnErr, not};
     ghost use Rattle.std.specs.Borrow.{sem};
     ghost use Rattle.rb_xdr.specs.Meter.{Pays, PaysAtMost};
-    ghost use Rattle.rb_core.specs.State.{are_good, opening};
-    ghost use Rattle.rb_core.specs.Calls.{longest_reply};
-    ghost use Rattle.rb_core.specs.Connections.{longest_fragment};
+    ghost use Rattle.rb_model.specs.State.{are_good, opening};
+    ghost use Rattle.rb_model.specs.Calls.{longest_reply};
+    ghost use Rattle.rb_model.specs.Connections.{longest_fragment};
     ghost use Rattle.rb_forward.specs.Costs.{sent_cost};
     ghost use Rattle.rb_forward.specs.Outcomes.{PassesWithin};
     ghost use Rattle.rb_forward.specs.StandsFor.{slots_of, longest_call};
     ghost use Rattle.rb_forward.specs.Table.{seen, count_lent, is_waiting, IsNew};
-    ghost use Rattle.rb_core.specs.Step.{datagram, open_connection, bytes, pending, gave, close_connection, next_lost, unsent_call, sent_call};
+    ghost use Rattle.rb_model.specs.Step.{datagram, open_connection, bytes, pending, gave, close_connection, next_lost, unsent_call, sent_call};
     ghost use Rattle.rb_core.specs.Giving.{pending_count};
-    ghost use Rattle.rb_core.specs.Ending.{forward_reply, expire_connection, expire};
+    ghost use Rattle.rb_model.specs.Ending.{forward_reply, expire_connection, expire};
     ghost use Rattle.rb_core.specs.Awaits.{has_idle, IsSettled};
-    ghost use Rattle.rb_core.specs.Bounds.{held, bytes_bound};
-    ghost use Rattle.rb_core.specs.BoundLaws.{NeverPasses};
+    ghost use Rattle.rb_core.specs.HeldBytes.{held};
+    ghost use Rattle.rb_model.specs.Bounds.{bytes_bound};
+    ghost use Rattle.rb_core.specs.HeldBytes.{NeverPasses};
     ghost use Rattle.rb_core.specs.Events.{shown, OnlyBegins, BeginsAt, LendsFrom, TellsSteps, taken_by, lent_by, given_by, StaysWithinSteps, StaysCheapIfQuiet};
     ghost use Rattle.rb_core.specs.Slots.{Acts, Shows, Lends, heard_in, kept_in};
     ghost use Rattle.rb_core.specs.StandsFor.{StandsFor};
     ghost use Rattle.rb_core.specs.Core.{ActsWithReply, TellsCaller, context_of, without_arguments};
     ghost use Rattle.rb_core.specs.AtOnce.{AnswersGiving, Exchanges, GivesAtOnce, count_given, count_now, taken_in, whole_cost, PaysForBytes, PaysForExchange};
     ghost use Rattle.rb_core.specs.CallCosts.{answering_cost, datagram_cost, gave_cost, closing_cost, lending_cost, ending_cost, IsCheapIfQuiet, look_cost, slot_count};
-    ghost use Rattle.rb_core.specs.Costs.{tell_cost, pending_cost};
+    ghost use Rattle.rb_model.specs.Costs.{tell_cost, pending_cost};
 
     /// A core with the daemon's own rows alone, at the moment `now` (milliseconds since the start of 1970).
     /// `first_xid` is the number of the first call that it forwards. `BadLimits` where a limit is out of its
     /// range, else `NoMemory` where an allocation is refused.
-    #[tactic(auto, unfolding(crate::specs::Calls::longest_reply, crate::specs::StandsFor::longest_arguments, crate::specs::StandsFor::buffer_size))]
+    #[tactic(auto, unfolding(rb_model::specs::Calls::longest_reply, rb_model::specs::Calls::longest_arguments, crate::specs::StandsFor::buffer_size))]
     pub fn new(
         alloc: Global,
         limits: Limits,
@@ -227,7 +229,7 @@ impl Core {
         })
     }
 
-    /// What a call from a caller sees.
+    /// What the answer to a call of this caller depends on beside the books.
     fn context(&self, caller: Caller) -> Context
         ensures { result ≡ context_of self.now caller }
     {
@@ -240,9 +242,9 @@ impl Core {
         }
     }
 
-    /// Takes a datagram in. The reply is that of `udp_reply`. `Forwarded` where it is a call that is forwarded: its reply
-    /// comes with `forward_reply` or `expire`.
-    #[tactic(auto, using(crate::proofs::Bounds::never_passes))]
+    /// Takes a datagram and answers it: `udp_reply` has the reply. `Forwarded` where the call is forwarded; its reply comes with
+    /// `forward_reply` or `expire`.
+    #[tactic(auto, using(crate::proofs::HeldBytes::never_passes))]
     pub fn datagram(&mut self, now: u64, peer: Peer, content: &[u8], meter: &mut Meter) -> Outcome
         requires { meter.old.tie ≡ self.old.tie }
         ensures acts { ActsWithReply (λ s. datagram s now peer content.now) self.old self.new result }
@@ -276,7 +278,7 @@ impl Core {
         }
     }
 
-    /// The reply that the last `datagram`, `forward_reply` or `expire` gave over UDP: no bytes where there is none.
+    /// The reply over UDP of the last `datagram`, `forward_reply` or `expire`; empty where there was none.
     pub fn udp_reply(&mut self, meter: &mut Meter) -> &[u8]
         requires { meter.old.tie ≡ self.old.tie }
         ensures* begun { sem 𝓛 (LendsFrom self.entry meter.old) }
@@ -290,9 +292,9 @@ impl Core {
         self.reply.lend(0..len, meter)
     }
 
-    /// Opens a connection, and gives its number, from 1 upwards. `Full` where there are as many connections as there
-    /// may be, lost ones among them, else `Spent` where no number is left.
-    #[tactic(auto, using(crate::proofs::Bounds::never_passes, crate::proofs::CallBounds::open_within))]
+    /// Opens a connection and returns its number; the first is 1. `Full` where there are as many connections as there may
+    /// be, Lost ones among them, else `Spent` where no number is left.
+    #[tactic(auto, using(crate::proofs::HeldBytes::never_passes, crate::proofs::CallBounds::open_within))]
     pub fn open(&mut self, now: u64, peer: Peer, meter: &mut Meter) -> Result<u64, CoreFault>
         requires { meter.old.tie ≡ self.old.tie }
         ensures acts { Acts StandsFor (λ s. open_connection s now peer)
@@ -311,9 +313,9 @@ impl Core {
         Ok(number)
     }
 
-    /// Takes bytes that arrive on a connection, up to the one that ends a record, and none while a reply is owed or awaited.
-    /// `Gone` where there is no such connection, or it is Lost.
-    #[tactic(auto, using(crate::proofs::Bounds::never_passes))]
+    /// Takes bytes that arrive on a connection, at most up to the end of a record, which is answered. Takes none while a reply
+    /// is owed or awaited. `Gone` where there is no such connection, or it is Lost (RFC 5531 section 11).
+    #[tactic(auto, using(crate::proofs::HeldBytes::never_passes))]
     pub fn bytes(
         &mut self,
         now: u64,
@@ -338,10 +340,10 @@ impl Core {
         Ok(taken)
     }
 
-    /// Takes bytes as `bytes` does. Where the record that ends is answered by a reply of one fragment, and there is room for the
-    /// longest, 1,028 bytes, the reply is written there and given at once: it is pending no more. So one call is three
-    /// events, `bytes`, `pending` and `gave`, and its steps are those of all.
-    #[tactic(auto, using(crate::proofs::Bounds::never_passes))]
+    /// Takes bytes as `bytes` does. Where a record ends and its reply is one fragment and no list, and `room` has place for the
+    /// longest fragment, 1,028 bytes, the reply is written there and counts as given. So one call is up to two events, `bytes`
+    /// and `gave`, and it is priced as both.
+    #[tactic(auto, using(crate::proofs::HeldBytes::never_passes))]
     pub fn exchange(
         &mut self,
         now: u64,
@@ -397,8 +399,8 @@ impl Core {
         })
     }
 
-    /// Answers a record that came whole on a connection, and lets the connection go on. It says whether that is Lost now, and
-    /// how many bytes of the reply were given at once.
+    /// Answers a record that came whole on a connection, and settles the connection. Returns whether it is Lost now, and how
+    /// many bytes of the reply were given at once.
     fn answer_whole(
         &mut self,
         id: u64,
@@ -439,7 +441,7 @@ impl Core {
         )
     }
 
-    /// The same of a record of which this was heard, whose arguments are held. They are out after it.
+    /// Does the same for a record that came in pieces, whose arguments the core holds. It lets them go.
     fn answer_held(
         &mut self,
         id: u64,
@@ -480,7 +482,7 @@ impl Core {
         done
     }
 
-    /// How many bytes are pending on a connection. `Gone` where there is no such connection, or it is Lost.
+    /// The number of bytes that are pending on a connection. `Gone` where there is no such connection, or it is Lost.
     pub(crate) fn pending_len(&self, id: u64, meter: &mut Meter) -> Result<usize, CoreFault>
         requires { meter.old.tie ≡ self.now.tie }
         ensures len { Shows StandsFor (λ s. pending_count (pending s id)) self.now result }
@@ -504,9 +506,9 @@ impl Core {
         self.connections.pending(id, meter)
     }
 
-    /// n of the pending bytes of a connection were given, or as many as are pending. `Gone` where there is no such
-    /// connection, or it is Lost.
-    #[tactic(auto, using(crate::proofs::Bounds::never_passes, crate::proofs::CallBounds::gave_within))]
+    /// Records that `n` pending bytes were sent, or all if fewer are pending. `Gone` where there is no such connection, or it
+    /// is Lost.
+    #[tactic(auto, using(crate::proofs::HeldBytes::never_passes, crate::proofs::CallBounds::gave_within))]
     pub fn gave(&mut self, now: u64, id: u64, n: usize, meter: &mut Meter) -> Result<(), CoreFault>
         requires { meter.old.tie ≡ self.old.tie }
         ensures acts { Acts StandsFor (λ s. gave s now id n) self.old self.new result }
@@ -532,9 +534,9 @@ impl Core {
         Ok(())
     }
 
-    /// A connection was closed: it is there no longer, live or Lost, and its forwarded call is dropped. `Gone` where there
-    /// is none of that number.
-    #[tactic(auto, using(crate::proofs::Bounds::never_passes, crate::proofs::CallBounds::closed_within))]
+    /// Removes a connection that was closed, live or Lost, and drops its forwarded call. `Gone` where there is none of that
+    /// number.
+    #[tactic(auto, using(crate::proofs::HeldBytes::never_passes, crate::proofs::CallBounds::closed_within))]
     pub fn closed(&mut self, id: u64, meter: &mut Meter) -> Result<(), CoreFault>
         requires { meter.old.tie ≡ self.old.tie }
         ensures acts { Acts StandsFor (λ s. close_connection s id) self.old self.new result }
@@ -551,7 +553,7 @@ impl Core {
         Ok(())
     }
 
-    /// The least number of the connections that are Lost. They are to be closed.
+    /// The least number of a Lost connection, which the caller has to close; `None` where none is Lost.
     #[tactic(auto, using(crate::proofs::CallBounds::look_within))]
     pub fn next_lost(&mut self, meter: &mut Meter) -> Option<u64>
         requires { meter.old.tie ≡ self.old.tie }
@@ -564,8 +566,8 @@ impl Core {
         self.connections.next_lost(meter)
     }
 
-    /// The forwarded call that is to be sent next: the unsent one of least number, whether or not its deadline has come. It
-    /// has at most 8,840 bytes.
+    /// The forwarded call to be sent next: the unsent one of least number, whether or not its deadline has come. It has at most
+    /// 8,840 bytes.
     #[tactic(auto, using(crate::proofs::CallBounds::unsent_within))]
     pub fn unsent(&mut self, meter: &mut Meter) -> Option<Unsent<'_>>
         requires { meter.old.tie ≡ self.old.tie }
@@ -579,9 +581,9 @@ impl Core {
         self.books.unsent(meter)
     }
 
-    /// The forwarded call of this number was sent: from now on a reply to it counts. `Gone` where there is no such call, or
-    /// it was sent before.
-    #[tactic(auto, using(crate::proofs::Bounds::never_passes, crate::proofs::CallBounds::sent_within))]
+    /// Records that the forwarded call of this number was sent: from now on a reply to it counts. `Gone` where there is no such
+    /// call, or it was sent before.
+    #[tactic(auto, using(crate::proofs::HeldBytes::never_passes, crate::proofs::CallBounds::sent_within))]
     pub fn sent(&mut self, id: FwdId, meter: &mut Meter) -> Result<(), CoreFault>
         requires { meter.old.tie ≡ self.old.tie }
         ensures acts { Acts StandsFor (λ s. sent_call s id.number) self.old self.new result }
@@ -599,10 +601,9 @@ impl Core {
         Ok(())
     }
 
-    /// Takes a datagram that came in where forwarded calls are sent from: the host and port that it came from, and its
-    /// bytes. Where it is the reply to a forwarded call whose deadline is later than `now`, that call has ended, and its
-    /// caller is told so. `None` where it is no such reply: it is ignored.
-    #[tactic(auto, using(crate::proofs::Bounds::never_passes, crate::proofs::CallBounds::ending_within))]
+    /// Takes a datagram from `from` on the socket that sends forwarded calls. A reply to a call that was sent there and whose
+    /// deadline is later than `now` ends that call, and its caller is told. `None` where it is no such reply; it is ignored.
+    #[tactic(auto, using(crate::proofs::HeldBytes::never_passes, crate::proofs::CallBounds::ending_within))]
     pub fn forward_reply(
         &mut self,
         now: u64,
@@ -629,9 +630,9 @@ impl Core {
         Some(self.tell(&ended, bytes, meter))
     }
 
-    /// Does one thing that is due at this moment: the forwarded call of least number whose deadline has come ends; where
-    /// there is none, the connection of least number whose deadline has come is Lost. `Nothing` where nothing is due.
-    #[tactic(auto, using(crate::proofs::Bounds::never_passes, crate::proofs::CallBounds::ending_within))]
+    /// Does one thing that is due at this moment: ends the due forwarded call of least number, or where there is none, makes
+    /// the due connection of least number Lost. `Nothing` where nothing is due.
+    #[tactic(auto, using(crate::proofs::HeldBytes::never_passes, crate::proofs::CallBounds::ending_within))]
     pub fn expire(&mut self, now: u64, meter: &mut Meter) -> Expired
         requires { meter.old.tie ≡ self.old.tie }
         ensures acts { Acts StandsFor (λ s. expire s now) self.old self.new result }
@@ -652,7 +653,7 @@ impl Core {
         Expired::Ended(self.tell(&ended, &[], meter))
     }
 
-    /// The connection of least number whose deadline has come becomes Lost, if there is one.
+    /// Makes the due connection of least number Lost, if there is one.
     fn expire_connection(&mut self, meter: &mut Meter) -> Expired
         requires { meter.old.tie ≡ self.old.tie }
         ensures acts { Acts StandsFor expire_connection self.old self.new result }
@@ -689,15 +690,15 @@ impl Core {
         meter.count().saturating_sub(self.begun)
     }
 
-    /// What `held` never passes.
+    /// The bound that `held` never passes, in bytes.
     pub fn bytes_bound(&self) -> u64
         ensures { result ≡ bytes_bound self.now.setting.limits }
     {
         bytes_bound(&self.limits)
     }
 
-    /// Tells the caller of a forwarded call how it ended, where it ended by this datagram.
-    #[tactic(auto, unfolding(crate::specs::Calls::longest_reply, crate::specs::StandsFor::longest_arguments, crate::specs::StandsFor::buffer_size))]
+    /// Tells the caller of a forwarded call how it ended; `message` is the datagram that ended it.
+    #[tactic(auto, unfolding(rb_model::specs::Calls::longest_reply, rb_model::specs::Calls::longest_arguments, crate::specs::StandsFor::buffer_size))]
     fn tell(&mut self, ended: &Ended, message: &[u8], meter: &mut Meter) -> Told
         requires tie { meter.old.tie ≡ self.old.tie }
         requires empty { self.old.reply ≡ [] }

@@ -1,10 +1,10 @@
 //! Single events: a call on a core, with the look at its reply where there is one.
 ghost use Rattle.std.specs.Prelude.{◌≡◌, ◌≤◌, ◌+◌, [], length, vec_capacity, OnErr};
-ghost use Rattle.rb_core.specs.Calls.{longest_reply};
-ghost use Rattle.rb_core.specs.Step.{show_taken, show_told, pending, is_too_much};
-ghost use Rattle.rb_core.specs.Step.Event.{Open, Bytes, Pending, Gave, Closed, NextLost, Datagram, Unsent, Sent, Forward, Expire};
+ghost use Rattle.rb_model.specs.Calls.{longest_reply};
+ghost use Rattle.rb_model.specs.Step.{show_taken, show_told, pending, is_too_much};
+ghost use Rattle.rb_model.specs.Step.Event.{Open, Bytes, Pending, Gave, Closed, NextLost, Datagram, Unsent, Sent, Forward, Expire};
 ghost use Rattle.rb_core.specs.StandsFor.{StandsFor};
-ghost use Rattle.rb_core.specs.Runs.{event_of, output_of};
+ghost use Rattle.rb_model.specs.Plain.{event_of, output_of};
 ghost use Rattle.rb_core.specs.Events.{HasHappened, MayHappen, OnlyBegins};
 ghost use Rattle.rb_xdr.specs.Meter.{PaysAtMost};
 ghost use Rattle.rb_core.specs.Slots.{Shows};
@@ -12,9 +12,10 @@ ghost use Rattle.rb_core.specs.CallCosts.{look_cost};
 
 use crate::connections::LONGEST_FRAGMENT;
 use crate::engine::Core;
-use crate::serve::LONGEST_REPLY;
-use crate::types::{CoreFault, Expired, Outcome, Taken, Told};
+use crate::replies::LONGEST_REPLY;
+use crate::types::Outcome;
 use rb_forward::FwdId;
+use rb_model::{Event, Expired, Output, Taken, Told, UnsentCall};
 use rb_rpc::Peer;
 use rb_xdr::{Meter, NoMemory};
 use std::alloc::Global;
@@ -22,82 +23,7 @@ use std::alloc::Global;
 /// The longest forwarded call: a head of 40 bytes and 8,800 of arguments.
 const LONGEST_CALL: usize = 8_840;
 
-/// An event of a run: a call on a core, and the look at its reply where there is one. Moments are milliseconds
-/// since the start of 1970.
-#[derive(Debug, Drop)]
-pub enum Event {
-    /// A connection is opened: the moment, and where it came from.
-    Open(u64, Peer),
-    /// Bytes arrive on a connection: the moment, its number, and the bytes.
-    Bytes(u64, u64, Vec<u8>),
-    /// The look at what is pending on the connection of the number.
-    Pending(u64),
-    /// Bytes were given on a connection: the moment, its number, and how many.
-    Gave(u64, u64, u64),
-    /// The connection of the number was closed.
-    Closed(u64),
-    /// The look for a connection that is Lost.
-    NextLost,
-    /// A datagram: the moment, where it came from, and its bytes.
-    Datagram(u64, Peer, Vec<u8>),
-    /// The look for a forwarded call that is to be sent.
-    Unsent,
-    /// The forwarded call of the number was sent.
-    Sent(u64),
-    /// A datagram where forwarded calls are sent from: the moment, where it came from, and its bytes.
-    Forward(u64, Peer, Vec<u8>),
-    /// One thing that is due is done: the moment.
-    Expire(u64),
-}
-
-/// A forwarded call that is to be sent: its number, where it is sent, and the datagram.
-#[derive(Debug, Drop)]
-pub struct UnsentCall {
-    pub number: u64,
-    pub target: Peer,
-    pub call: Vec<u8>,
-}
-
-/// What an event gave.
-#[derive(Debug, Drop)]
-pub enum Output {
-    /// The number of the new connection.
-    Opened(u64),
-    /// The call was refused.
-    Refused(CoreFault),
-    /// More bytes were given than are pending, so nothing was called.
-    TooMuch,
-    /// So many bytes were taken.
-    Took(usize),
-    /// So many bytes were taken, and the connection is Lost now.
-    TookAndClosed(usize),
-    /// The rest of the current fragment.
-    Pending(Vec<u8>),
-    /// The call was done.
-    Done,
-    /// The number of a connection that is Lost.
-    Lost(Option<u64>),
-    /// The reply to a datagram.
-    Replied(Vec<u8>),
-    /// A datagram is a call that is forwarded.
-    Forwarded,
-    /// A datagram was not answered, or the caller of a forwarded call is not told its end.
-    Silent,
-    /// The forwarded call that is to be sent.
-    Unsent(Option<UnsentCall>),
-    /// The datagram is no reply to a forwarded call.
-    Ignored,
-    /// Nothing was due.
-    Nothing,
-    /// The deadline of the connection of the number has come, and it is Lost now.
-    ConnectionClosed(u64),
-    /// A forwarded call has ended, and the connection of the number goes on.
-    Ready(u64),
-    /// A forwarded call has ended, and this is the reply to the peer.
-    RepliedTo(Peer, Vec<u8>),
-}
-
-#[tactic(auto, unfolding(crate::specs::Step::step))]
+#[tactic(auto, unfolding(rb_model::specs::Step::step))]
 fn open(core: &mut Core, now: u64, peer: Peer, meter: &mut Meter) -> Output
     requires { meter.old.tie ≡ core.old.tie }
     ensures { HasHappened (Open now peer) core.old core.new meter.old meter.new result }
@@ -108,7 +34,7 @@ fn open(core: &mut Core, now: u64, peer: Peer, meter: &mut Meter) -> Output
     }
 }
 
-#[tactic(auto, unfolding(crate::specs::Step::step))]
+#[tactic(auto, unfolding(rb_model::specs::Step::step))]
 fn bytes(core: &mut Core, now: u64, id: u64, piece: &[u8], meter: &mut Meter) -> Output
     requires { meter.old.tie ≡ core.old.tie }
     ensures { HasHappened (Bytes now id piece.now) core.old core.new meter.old meter.new result }
@@ -130,7 +56,7 @@ fn show_taken(taken: Taken) -> Output
 }
 
 /// Looks at what is pending.
-#[tactic(auto, unfolding(crate::specs::Step::step, crate::specs::Connections::longest_fragment))]
+#[tactic(auto, unfolding(rb_model::specs::Step::step, rb_model::specs::Connections::longest_fragment))]
 fn pending(alloc: Global, core: &mut Core, id: u64, meter: &mut Meter) -> Result<Output, NoMemory>
     requires { meter.old.tie ≡ core.old.tie }
     ensures ok { MayHappen (Pending id) core.old core.new meter.old meter.new result }
@@ -160,7 +86,7 @@ fn is_too_much(core: &Core, id: u64, n: u64, meter: &mut Meter) -> bool
     }
 }
 
-#[tactic(auto, unfolding(crate::specs::Step::step))]
+#[tactic(auto, unfolding(rb_model::specs::Step::step))]
 fn gave(core: &mut Core, now: u64, id: u64, n: u64, meter: &mut Meter) -> Output
     requires { meter.old.tie ≡ core.old.tie }
     ensures { HasHappened (Gave now id n) core.old core.new meter.old meter.new result }
@@ -174,7 +100,7 @@ fn gave(core: &mut Core, now: u64, id: u64, n: u64, meter: &mut Meter) -> Output
     }
 }
 
-#[tactic(auto, unfolding(crate::specs::Step::step))]
+#[tactic(auto, unfolding(rb_model::specs::Step::step))]
 fn closed(core: &mut Core, id: u64, meter: &mut Meter) -> Output
     requires { meter.old.tie ≡ core.old.tie }
     ensures { HasHappened (Closed id) core.old core.new meter.old meter.new result }
@@ -185,7 +111,7 @@ fn closed(core: &mut Core, id: u64, meter: &mut Meter) -> Output
     }
 }
 
-#[tactic(auto, unfolding(crate::specs::Step::step))]
+#[tactic(auto, unfolding(rb_model::specs::Step::step))]
 fn next_lost(core: &mut Core, meter: &mut Meter) -> Output
     requires { meter.old.tie ≡ core.old.tie }
     ensures { HasHappened NextLost core.old core.new meter.old meter.new result }
@@ -193,7 +119,7 @@ fn next_lost(core: &mut Core, meter: &mut Meter) -> Output
     Output::Lost(core.next_lost(meter))
 }
 
-#[tactic(auto, unfolding(crate::specs::Step::step, crate::specs::Calls::longest_reply))]
+#[tactic(auto, unfolding(rb_model::specs::Step::step, rb_model::specs::Calls::longest_reply))]
 fn datagram(
     alloc: Global,
     core: &mut Core,
@@ -222,7 +148,7 @@ fn datagram(
 }
 
 /// Looks for the forwarded call that is to be sent.
-#[tactic(auto, unfolding(crate::specs::Step::step, rb_forward::specs::StandsFor::longest_arguments))]
+#[tactic(auto, unfolding(rb_model::specs::Step::step, rb_forward::specs::StandsFor::longest_arguments))]
 fn unsent(alloc: Global, core: &mut Core, meter: &mut Meter) -> Result<Output, NoMemory>
     requires { meter.old.tie ≡ core.old.tie }
     ensures ok { MayHappen Unsent core.old core.new meter.old meter.new result }
@@ -244,7 +170,7 @@ fn unsent(alloc: Global, core: &mut Core, meter: &mut Meter) -> Result<Output, N
     })))
 }
 
-#[tactic(auto, unfolding(crate::specs::Step::step))]
+#[tactic(auto, unfolding(rb_model::specs::Step::step))]
 fn sent(core: &mut Core, number: u64, meter: &mut Meter) -> Output
     requires { meter.old.tie ≡ core.old.tie }
     ensures { HasHappened (Sent number) core.old core.new meter.old meter.new result }
@@ -256,7 +182,7 @@ fn sent(core: &mut Core, number: u64, meter: &mut Meter) -> Output
 }
 
 /// What is told of a forwarded call that ended, with the reply over UDP where there is one.
-#[tactic(auto, unfolding(crate::specs::Calls::longest_reply))]
+#[tactic(auto, unfolding(rb_model::specs::Calls::longest_reply))]
 fn show_told(core: &mut Core, told: Told, mut reply: Vec<u8>, meter: &mut Meter) -> Output
     requires tie { meter.old.tie ≡ core.old.tie }
     requires short { length core.old.reply ≤ longest_reply }
@@ -277,7 +203,7 @@ fn show_told(core: &mut Core, told: Told, mut reply: Vec<u8>, meter: &mut Meter)
     }
 }
 
-#[tactic(auto, unfolding(crate::specs::Step::step, crate::specs::Calls::longest_reply))]
+#[tactic(auto, unfolding(rb_model::specs::Step::step, rb_model::specs::Calls::longest_reply))]
 fn forward(
     alloc: Global,
     core: &mut Core,
@@ -300,7 +226,7 @@ fn forward(
     }
 }
 
-#[tactic(auto, unfolding(crate::specs::Step::step, crate::specs::Calls::longest_reply))]
+#[tactic(auto, unfolding(rb_model::specs::Step::step, rb_model::specs::Calls::longest_reply))]
 fn expire(alloc: Global, core: &mut Core, now: u64, meter: &mut Meter) -> Result<Output, NoMemory>
     requires { meter.old.tie ≡ core.old.tie }
     ensures ok { MayHappen (Expire now) core.old core.new meter.old meter.new result }

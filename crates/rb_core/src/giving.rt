@@ -6,14 +6,14 @@
 ghost use Rattle.std.specs.Prelude.{◌≡◌, ◌-◌, ◌%◌, ◌<◌, ◌≤◌, ◌^◌, [], None, length, take, drop, nat_le};
 ghost use Rattle.rb_xdr.specs.Meter.{Pays, PaysAtMost};
 ghost use Rattle.rb_xdr.specs.Puts.{Appends, HasRoom};
-ghost use Rattle.rb_core.specs.Connections.{longest_fragment, owed_of};
+ghost use Rattle.rb_model.specs.Connections.{longest_fragment, owed_of};
 ghost use Rattle.rb_core.specs.StandsFor.{IsGiving};
 ghost use Rattle.rb_core.specs.Giving.{showing, OfPending, CountsOn, ShowsOn};
 ghost use Rattle.rb_rpc.specs.Records.{marked};
 ghost use Rattle.rb_proto.specs.ListReplies.{longest_part, rest_of};
 ghost use Rattle.rb_proto.specs.ListParts.{IsBehindPart, IsTold};
 ghost use Rattle.rb_core.specs.Slots.{IsDraft};
-ghost use Rattle.rb_core.specs.Costs.{show_cost, pending_cost};
+ghost use Rattle.rb_model.specs.Costs.{show_cost, pending_cost};
 ghost use Rattle.rb_core.specs.CallCosts.{advance_cost, show_list_cost};
 ghost use Rattle.rb_core.specs.AtOnce.{IsGivenWhole, whole_cost, whole_length};
 
@@ -63,7 +63,7 @@ fn put(window: &mut Kept, bytes: &[u8], meter: &mut Meter)
 }
 
 /// Shows the fragment that begins at a place of the reply.
-#[tactic(auto, unfolding(crate::specs::Connections::longest_fragment))]
+#[tactic(auto, unfolding(rb_model::specs::Connections::longest_fragment))]
 fn show(reply: &Kept, start: usize, window: &mut Kept, meter: &mut Meter)
     requires reply_tie { meter.old.tie ≡ reply.now.tie }
     requires window_tie { meter.old.tie ≡ window.old.tie }
@@ -95,7 +95,7 @@ pub fn begin(reply: &Kept, window: &mut Kept, meter: &mut Meter)
 
 /// Gives a reply of one fragment whole, marked, where there is room for the longest: its buffer is empty then. It says how
 /// many bytes were given, 0 where none were.
-#[tactic(auto, unfolding(crate::specs::Connections::longest_fragment))]
+#[tactic(auto, unfolding(rb_model::specs::Connections::longest_fragment))]
 pub fn give_whole(reply: &mut Kept, room: &mut [u8], meter: &mut Meter) -> usize
     requires tie { meter.old.tie ≡ reply.old.tie }
     requires some { 0 < length reply.old.bytes }
@@ -120,7 +120,7 @@ pub fn give_whole(reply: &mut Kept, room: &mut [u8], meter: &mut Meter) -> usize
 }
 
 /// How many bytes are left of the fragment that the window shows, where `given` of all were given.
-#[tactic(auto, unfolding(crate::specs::Connections::longest_fragment), using(crate::proofs::Fragments::pending_count))]
+#[tactic(auto, unfolding(rb_model::specs::Connections::longest_fragment), using(crate::proofs::Fragments::pending_count))]
 pub fn pending_len(window: &Kept, given: usize, meter: &mut Meter) -> usize
     requires tie { meter.old.tie ≡ window.now.tie }
     ensures left { result ≡ length window.now.bytes - given % longest_fragment }
@@ -131,7 +131,7 @@ pub fn pending_len(window: &Kept, given: usize, meter: &mut Meter) -> usize
 }
 
 /// What is left of the fragment that the window shows, where `given` of all bytes were given.
-#[tactic(auto, unfolding(crate::specs::Connections::longest_fragment))]
+#[tactic(auto, unfolding(rb_model::specs::Connections::longest_fragment))]
 pub fn pending<'a>(window: &'a Kept, given: usize, meter: &mut Meter) -> &'a [u8]
     requires tie { meter.old.tie ≡ window.now.tie }
     requires cap { window.now.cap ≡ longest_fragment }
@@ -147,7 +147,7 @@ pub fn pending<'a>(window: &'a Kept, given: usize, meter: &mut Meter) -> &'a [u8
 
 /// Counts `more` of the pending bytes as given, and shows the next fragment where this one is used
 /// up. It says how many were given in all, or `None` where the reply was given to its end.
-#[tactic(auto, unfolding(crate::specs::Connections::longest_fragment))]
+#[tactic(auto, unfolding(rb_model::specs::Connections::longest_fragment))]
 pub fn advance(
     reply: &Kept,
     window: &mut Kept,
@@ -181,7 +181,7 @@ pub fn advance(
 }
 
 /// Shows the next fragment of a list, made in a buffer that is empty before and after. It says what is behind it.
-#[tactic(auto, unfolding(crate::specs::Connections::longest_fragment, crate::specs::StandsFor::longest_arguments, crate::specs::StandsFor::buffer_size, crate::specs::Calls::longest_reply))]
+#[tactic(auto, unfolding(rb_model::specs::Connections::longest_fragment, rb_model::specs::Calls::longest_arguments, crate::specs::StandsFor::buffer_size, rb_model::specs::Calls::longest_reply))]
 pub fn show_list(
     list: ListReply,
     registry: &Registry,

@@ -1,12 +1,12 @@
-//! Where a look for a connection begins.
+//! Where to start searching for a connection.
 ghost use Rattle.std.specs.Prelude.{◌≡◌, ◌%◌};
 ghost use Rattle.std.specs.List.{slice_index};
 ghost use Rattle.rb_core.specs.Slots.{number_wanted};
 
 use crate::slot::Wanted;
 
-/// Under which key a connection was opened or found last, by the last byte of its number. A hint may be wrong: who takes
-/// one looks there first, and then at all.
+/// The key under which a connection was opened or found last, by the last byte of its number. A hint may be wrong: a
+/// look-up tries it, and then walks the table.
 #[derive(Clone, Copy, Debug, PartialEq, Eq)]
 pub struct Hints {
     keys: [u8; 256],
@@ -24,7 +24,7 @@ impl Hints {
         Hints { keys: [0; 256] }
     }
 
-    /// Where to look first for the one that is wanted, which a number says or nothing.
+    /// The key to try first for the wanted connection, which is wanted by a number or by something else.
     pub fn key(&self, wanted: Wanted) -> usize
         ensures { result ≡ slice_index self.now.keys (number_wanted wanted % 256) }
     {
@@ -35,7 +35,7 @@ impl Hints {
         usize::from(self.keys[(number % 256) as usize])
     }
 
-    /// The connection of the number is under the key.
+    /// Records that the connection of this number is under this key.
     pub fn note(&mut self, id: u64, key: usize)
         ensures { slice_index self.new.keys (id % 256) ≡ key % 256 }
     {

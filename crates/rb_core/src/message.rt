@@ -3,27 +3,16 @@ ghost use Rattle.std.specs.Prelude.{◌≡◌, ◌≤◌, length, None, IfSome};
 ghost use Rattle.rb_rpc.specs.declared.call.CallHead.{CallHead};
 ghost use Rattle.rb_rpc.specs.Verdict.{verdict as verdict_of, EndsWithin};
 ghost use Rattle.rb_feed.specs.Feeds.{arguments_of};
-ghost use Rattle.rb_core.specs.Reading.{HasArgsIn, SaysNull};
-ghost use Rattle.rb_core.specs.Calls.{is_served, request_of, call_of, message_with, message_of};
+ghost use Rattle.rb_model.specs.Grammar.{HasArgsIn};
+ghost use Rattle.rb_core.specs.Reading.{SaysNull};
+ghost use Rattle.rb_model.specs.Calls.{is_served, request_of, call_of, message_with};
 
+use rb_model::Message;
 use rb_proto::{ArgumentFault, Call, Request, VoidProcedure, read_args};
 use rb_registry::RPCB_PROG;
-use rb_rpc::{CallHead, ReplyHead, ReplyStatus, Verdict, read_call};
+use rb_rpc::{CallHead, ReplyHead, ReplyStatus, Verdict};
 
-/// What the data of a record, or a datagram, says.
-#[derive(Drop)]
-pub enum Message<'a> {
-    /// Nothing that can be answered.
-    NoCall,
-    /// A call that gets this reply, whatever the daemon holds.
-    Refused(ReplyHead),
-    /// A call of a procedure that is served, whose arguments can't be read.
-    Garbage(CallHead),
-    /// A call of a procedure that is served, with its arguments.
-    Asked(Call<'a>),
-}
-
-#[tactic(auto, unfolding(crate::specs::Calls::is_served))]
+#[tactic(auto, unfolding(rb_model::specs::Calls::is_served))]
 fn is_served(vers: u32) -> bool
     ensures { result ≡ is_served vers }
 {
@@ -36,7 +25,7 @@ fn refusal(xid: u32, status: ReplyStatus) -> Message<'static>
     Message::Refused(ReplyHead { xid, status })
 }
 
-#[tactic(auto, unfolding(crate::specs::Calls::request_of))]
+#[tactic(auto, unfolding(rb_model::specs::Calls::request_of))]
 fn request_of<'a>(head: &CallHead, request: Result<Request<'a>, ArgumentFault>) -> Message<'a>
     ensures { result ≡ request_of head.now request.entry }
 {
@@ -50,9 +39,9 @@ fn request_of<'a>(head: &CallHead, request: Result<Request<'a>, ArgumentFault>) 
     }
 }
 
-/// The head of a call of NULL, None for all others. Its head is all that it says: it has neither arguments nor results (RFC
+/// The head of a call of NULL, `None` for all others. NULL has neither arguments nor results, so its head says all of it (RFC
 /// 1833 sections 2.2 and 3.2).
-#[tactic(auto, unfolding(crate::specs::Calls::call_of, crate::specs::Calls::request_of))]
+#[tactic(auto, unfolding(rb_model::specs::Calls::call_of, rb_model::specs::Calls::request_of))]
 pub fn null_call(verdict: &Verdict) -> Option<&CallHead>
     ensures says { IfSome result (λ head. SaysNull verdict.now head.now) }
     ensures others { result ≡ None → (head : CallHead) → SaysNull verdict.now head → ⊥ }
@@ -72,7 +61,7 @@ pub fn null_call(verdict: &Verdict) -> Option<&CallHead>
 /// What a message says on which this is the verdict, and these are the bytes behind its head.
 ///
 /// Each line that decides returns at once: where all of them meet in one place, all their words are moved there.
-#[tactic(auto, unfolding(crate::specs::Calls::call_of, crate::specs::Calls::request_of), using(crate::proofs::AskedArgs::message_has))]
+#[tactic(auto, unfolding(rb_model::specs::Calls::call_of, rb_model::specs::Calls::request_of), using(rb_model::proofs::AskedArgs::message_has))]
 pub fn message_with<'a>(verdict: &Verdict, arguments: &'a [u8]) -> Message<'a>
     ensures message { result ≡ message_with verdict.now arguments.now }
     ensures args { HasArgsIn result arguments.now }
@@ -104,13 +93,4 @@ pub fn arguments_behind(verdict: Verdict, bytes: &[u8]) -> &[u8]
         Verdict::Call(_, place) => &bytes[place..],
         Verdict::NoCall | Verdict::RpcMismatch(_) | Verdict::AuthError(_, _) => &[],
     }
-}
-
-/// What the data of a record, or a datagram, says: the first line of the order of refusals that holds decides.
-#[tactic(auto, unfolding(crate::specs::Calls::message_of, rb_feed::specs::Feeds::arguments_of))]
-pub fn read_message(bytes: &[u8]) -> Message<'_>
-    ensures { result ≡ message_of bytes.now }
-{
-    let verdict = read_call(bytes);
-    message_with(&verdict, arguments_behind(verdict, bytes))
 }

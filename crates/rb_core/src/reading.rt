@@ -4,7 +4,8 @@ ghost use Rattle.rb_xdr.specs.Meter.{Pays, PaysAtMost};
 ghost use Rattle.rb_rpc.specs.Marks.{StandsForFed};
 ghost use Rattle.rb_rpc.specs.Streams.{RecordEnds, ArePart, StandsForMore};
 ghost use Rattle.rb_feed.specs.Feeds.{StandsForCall};
-ghost use Rattle.rb_core.specs.StandsFor.{IsHeld, kept_of};
+ghost use Rattle.rb_core.specs.StandsFor.{IsHeld};
+ghost use Rattle.rb_model.specs.Calls.{kept_of};
 ghost use Rattle.rb_rpc.specs.Verdict.{verdict as verdict_of, EndsWithin};
 ghost use Rattle.rb_core.specs.Reading.{HasData, HasMore, KeepsMore, TakesData, TellsOfPiece, ReadsPiece, KeptSaysTheRecord};
 
@@ -197,7 +198,7 @@ impl Reader {
 }
 
 /// What is kept of a record that came whole, on whose data this is the verdict: the first 8,816 bytes of its call's arguments.
-#[tactic(auto, unfolding(crate::specs::StandsFor::longest_arguments))]
+#[tactic(auto, unfolding(rb_model::specs::Calls::longest_arguments))]
 pub fn kept_arguments(verdict: Verdict, content: &[u8]) -> &[u8]
     requires verdict { verdict ≡ verdict_of content.now }
     requires within { EndsWithin verdict (length content.now) }

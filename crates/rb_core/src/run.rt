@@ -1,12 +1,14 @@
 //! Runs: lists of events.
 ghost use Rattle.std.specs.Prelude.{◌≡◌, ◌<◌, ℕ, length, take, OnOk, OnErr};
-ghost use Rattle.rb_core.specs.State.{State};
+ghost use Rattle.rb_model.specs.State.{State};
 ghost use Rattle.rb_core.specs.StandsFor.{StandsFor};
-ghost use Rattle.rb_core.specs.WholeRuns.{PaysWithinWhole};
-ghost use Rattle.rb_core.specs.Runs.{events_of, outputs_of, answered_events, Happened, PaysForRun, StaysWithinBound, PaysWithinBound};
+ghost use Rattle.rb_core.specs.Runs.{PaysWithinWhole};
+ghost use Rattle.rb_model.specs.Plain.{events_of, outputs_of};
+ghost use Rattle.rb_core.specs.Runs.{answered_events, Happened, PaysForRun, StaysWithinBound, PaysWithinBound};
 
 use crate::engine::Core;
-use crate::events::{Event, Output, happen};
+use crate::events::happen;
+use rb_model::{Event, Output};
 use rb_xdr::{Meter, NoMemory};
 use std::alloc::Global;
 

@@ -1,13 +1,12 @@
 //! The bound of a whole run, in counted steps.
 ghost use Rattle.std.specs.Prelude.{◌≡◌};
-ghost use Rattle.rb_core.specs.Bounds.{bytes_in, bytes_lent};
+ghost use Rattle.rb_model.specs.Bounds.{bytes_in, bytes_lent};
 ghost use Rattle.rb_core.specs.Events.{bound_told};
-ghost use Rattle.rb_core.specs.WholeRuns.{bytes_told, event_allowance};
-ghost use Rattle.rb_core.specs.Runs.{event_of, output_of, events_of, outputs_of};
+ghost use Rattle.rb_model.specs.WholeRuns.{bytes_told, event_allowance};
+ghost use Rattle.rb_model.specs.Plain.{event_of, output_of, events_of, outputs_of};
 
 use crate::engine::MOST_KEYS;
-use crate::events::{Event, Output};
-use crate::types::Limits;
+use rb_model::{Event, Limits, Output};
 
 /// How many bytes an event takes, by its output. A datagram counts whole; what is refused takes none.
 fn bytes_in(event: &Event, output: &Output) -> usize

@@ -158,17 +158,18 @@ impl Slot {
     }
 
     ghost use Rattle.std.specs.Prelude.{◌≡◌, ◌≤◌, ◌<◌, ◌+◌, ℕ, List, [], true, false, length, Some, IfSome, IfNone};
-    ghost use Rattle.rb_core.specs.State.{Connection};
-    ghost use Rattle.rb_core.specs.Connections.{settled, giving, pending_in, longest_fragment};
+    ghost use Rattle.rb_model.specs.State.{Connection};
+    ghost use Rattle.rb_model.specs.Connections.{settled, giving, pending_in, longest_fragment};
     ghost use Rattle.rb_core.specs.Slots.{is_due_slot, SlotActs, SlotBecomes, SlotGives, SlotHears, SlotShows, emptied_slot, ReceivesPiece, StandsBehindPiece, HearsPiece, HasBuffers, IsDraft, StaysSlot, feeding, heard_whole, is_lost_stage, is_idle_stage, is_wanted_slot};
-    ghost use Rattle.rb_core.specs.StandsFor.{StandsForConnection, charge, most_charge, source_for, kept_of};
+    ghost use Rattle.rb_core.specs.StandsFor.{StandsForConnection, charge, most_charge, source_for};
+    ghost use Rattle.rb_model.specs.Calls.{kept_of};
     ghost use Rattle.rb_core.specs.Listings.{slot_began, IsNoList, IsToldSlot, KeepsToldSlot};
     ghost use Rattle.rb_core.specs.Giving.{IsToldBy, GoesOnBy};
     ghost use Rattle.rb_core.specs.Serving.{SlotBeginsList};
     ghost use Rattle.rb_core.specs.Awaits.{is_awaiting_stage, sender_on, HearsSlot};
     ghost use Rattle.rb_core.specs.Core.{given_in};
     ghost use Rattle.rb_core.specs.CallCosts.{received_cost, give_cost, show_list_cost};
-    ghost use Rattle.rb_core.specs.Costs.{show_cost, pending_cost};
+    ghost use Rattle.rb_model.specs.Costs.{show_cost, pending_cost};
 
     #[tactic(auto, unfolding(crate::specs::Slots::is_wanted_slot))]
     pub fn is_wanted(&self, wanted: Wanted) -> bool
@@ -482,7 +483,7 @@ impl Slot {
     }
 
     /// How many bytes are held of it: those of its buffer and its window, and 128 for the rest.
-    #[tactic(auto, unfolding(crate::specs::Calls::longest_reply, crate::specs::StandsFor::longest_arguments, crate::specs::StandsFor::buffer_size, crate::specs::Connections::longest_fragment))]
+    #[tactic(auto, unfolding(rb_model::specs::Calls::longest_reply, rb_model::specs::Calls::longest_arguments, crate::specs::StandsFor::buffer_size, rb_model::specs::Connections::longest_fragment))]
     pub fn charge(&self, meter: &mut Meter) -> u64
         requires { HasBuffers meter.old.tie self.now }
         ensures charge { result ≡ charge self.now }

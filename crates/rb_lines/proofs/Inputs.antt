@@ -2,7 +2,7 @@
 use Rattle.std.proofs.Common.{◌≡◌, ◌+◌, List, ℕ, take, Option, Some, None, Result, Ok, Err, ap, subst, ◌∙◌}
 use Rattle.std.specs.Prelude.{OnOk, IfErr}
 use Rattle.std.specs.Option.{IfSome}
-use Rattle.rb_core.specs.Step.{Event}
+use Rattle.rb_model.specs.Step.{Event}
 use Rattle.rb_lines.specs.declared.lines.ReadFault.{ReadFault}
 use Rattle.rb_lines.specs.declared.running.Fault.{Fault}
 use Rattle.rb_lines.specs.Lines.{read, longest_input}

@@ -7,8 +7,8 @@ use Rattle.std.proofs.lemmas.Bool.{eqb-true}
 use Rattle.std.proofs.lemmas.List.{map_more, nil_from_length}
 use Rattle.std.proofs.lemmas.List.Concat.{flat_map-append}
 use Rattle.hex.specs.Hex.{encode_with, encode_lower}
-use Rattle.rb_core.specs.declared.events.Output as output
-use Rattle.rb_core.specs.Runs.{output_of, outputs_of}
+use Rattle.rb_model.specs.declared.events.Output as output
+use Rattle.rb_model.specs.Plain.{output_of, outputs_of}
 use Rattle.rb_lines.specs.Printing.{text_of, report_of}
 
 encode_with-append : (digits xs ys : List ℕ) → encode_with digits (xs ++ ys) ≡ encode_with digits xs ++ encode_with digits ys

@@ -5,7 +5,7 @@ use Rattle.std.proofs.lemmas.List.FromFn.{length-enumerate_from, get_or-enumerat
 use Rattle.std.specs.List.{enumerate_from}
 use Rattle.std.specs.Borrow.{Bor}
 use Rattle.std.proofs.lemmas.Bool.{cases_lt, lt-ltb}
-use Rattle.rb_core.specs.Step.{Event}
+use Rattle.rb_model.specs.Step.{Event}
 use Rattle.rb_lines.specs.declared.lines.ReadFault.{ReadFault}
 use Rattle.rb_lines.specs.declared.lines.ReadFault.TheVariants.{BadLine, TooLong, NoMemory}
 use Rattle.rb_lines.specs.Lines.{read, Line, line, onto, events_from, with_front, Fails, IsFaultOf, longest_input}

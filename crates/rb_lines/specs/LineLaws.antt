@@ -1,7 +1,7 @@
 -- What a text says, by what each of its lines says.
 use Rattle.std.specs.Prelude.{◌≡◌, ◌↔◌, ℕ, ◌+◌, ◌<◌, ◌≤◌, Bool, true, false, List, [], ◌∷◌, ◌++◌, length, map, Ok, Err}
 use Rattle.std.specs.List.{list_any, flat_map}
-use Rattle.rb_core.specs.Step.{Event}
+use Rattle.rb_model.specs.Step.{Event}
 use Rattle.rb_lines.specs.declared.lines.ReadFault.TheVariants.{BadLine, TooLong}
 use Rattle.rb_lines.specs.Lines.{Line, line, lines_of, longest_input, read}
 use Rattle.rb_lines.specs.Lines.Line.{Skipped, Happens, Bad}

@@ -4,10 +4,10 @@ use Rattle.std.specs.List.{slice_split}
 use Rattle.std.specs.Option.{option_map}
 use Rattle.std.specs.Str.{bytes_eq}
 use Rattle.rb_rpc.specs.declared.peer.Peer.{Peer}
-use Rattle.rb_core.specs.Step.{Event}
-use Rattle.rb_core.specs.Step.Event.{Open, Bytes, Pending, Gave, Closed, NextLost, Datagram, Unsent, Sent, Forward, Expire}
-use Rattle.rb_core.specs.declared.events.Event as event_type
-use Rattle.rb_core.specs.Runs.{event_of, events_of}
+use Rattle.rb_model.specs.Step.{Event}
+use Rattle.rb_model.specs.Step.Event.{Open, Bytes, Pending, Gave, Closed, NextLost, Datagram, Unsent, Sent, Forward, Expire}
+use Rattle.rb_model.specs.declared.events.Event as event_type
+use Rattle.rb_model.specs.Plain.{event_of, events_of}
 use Rattle.rb_lines.specs.declared.lines.DatagramFields as fields_type
 use Rattle.rb_lines.specs.declared.lines.Line as line_type
 use Rattle.rb_lines.specs.declared.lines.Line.TheVariants as lines

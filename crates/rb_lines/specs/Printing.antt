@@ -7,12 +7,12 @@ use Rattle.hex.specs.Hex.{encode_lower}
 use Rattle.rb_rpc.specs.declared.peer.Peer.{Peer}
 use Rattle.rb_rpc.specs.Peers.{peer_text}
 use Rattle.rb_forward.specs.Forwards.{Unsent}
-use Rattle.rb_core.specs.declared.types.CoreFault.{CoreFault}
-use Rattle.rb_core.specs.declared.types.CoreFault.TheVariants.{NoMemory, BadLimits, Full, Spent, Gone}
-use Rattle.rb_core.specs.declared.events.Output as output_type
-use Rattle.rb_core.specs.Runs.{outputs_of}
-use Rattle.rb_core.specs.Step.{Output}
-use Rattle.rb_core.specs.Step.Output.{Opened, Refused, TooMuch, Took, TookAndClosed, IsPending, Done, LostIs, Replied, Forwarded, Silent, UnsentIs, Ignored, Nothing, ConnectionClosed, Ready, RepliedTo}
+use Rattle.rb_model.specs.declared.types.CoreFault.{CoreFault}
+use Rattle.rb_model.specs.declared.types.CoreFault.TheVariants.{NoMemory, BadLimits, Full, Spent, Gone}
+use Rattle.rb_model.specs.declared.events.Output as output_type
+use Rattle.rb_model.specs.Plain.{outputs_of}
+use Rattle.rb_model.specs.Step.{Output}
+use Rattle.rb_model.specs.Step.Output.{Opened, Refused, TooMuch, Took, TookAndClosed, IsPending, Done, LostIs, Replied, Forwarded, Silent, UnsentIs, Ignored, Nothing, ConnectionClosed, Ready, RepliedTo}
 
 -- two hexadecimal digits for each byte, in lower case, or `-` for no bytes
 abbrev pub hex_text : List ℕ → List ℕ

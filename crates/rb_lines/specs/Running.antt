@@ -2,10 +2,10 @@
 use Rattle.std.specs.Prelude.{◌≡◌, ◌≤◌, ℕ, ◌+◌, ◌++◌, min, not, true, IsTrue, List, [], take, Option, IfSome, Result, Ok, Err}
 use Rattle.std.specs.Io.Buffered.{writer_contents}
 use Rattle.std.specs.declared.io.buffered.BufWriter.{BufWriter}
-use Rattle.rb_core.specs.State.{State, are_good, opening}
-use Rattle.rb_core.specs.declared.types.Limits.{Limits}
-use Rattle.rb_core.specs.Step.{Event, Output, run, IsReached}
-use Rattle.rb_core.specs.Runs.{outputs_of}
+use Rattle.rb_model.specs.State.{State, are_good, opening}
+use Rattle.rb_model.specs.declared.types.Limits.{Limits}
+use Rattle.rb_model.specs.Step.{Event, Output, run, IsReached}
+use Rattle.rb_model.specs.Plain.{outputs_of}
 use Rattle.rb_core.specs.Events.{bound_told}
 use Rattle.rb_lines.specs.declared.lines.ReadFault.{ReadFault}
 use Rattle.rb_lines.specs.declared.lines.ReadFault.TheVariants as reading

@@ -3,9 +3,9 @@ use Rattle.std.specs.Prelude.{◌≡◌, ◌^◌, ◌-◌, List, ℕ, [], ◌∷
 use Rattle.std.specs.List.{flat_map}
 use Rattle.std.specs.Int.{w32, to_be_bytes}
 use Rattle.rb_rpc.specs.declared.peer.Peer.{Peer}
-use Rattle.rb_core.specs.Step.Event.{Datagram, Open, Bytes, Pending, Gave, Closed, NextLost, Unsent, Sent, Forward, Expire}
-use Rattle.rb_core.specs.declared.types.CoreFault.TheVariants.{Full, Spent, Gone}
-use Rattle.rb_core.specs.Step.Output.{Replied, Silent, Opened, Refused, Took, TookAndClosed, IsPending, Done, TooMuch, LostIs, Forwarded, UnsentIs, Ignored, Nothing, Ready, RepliedTo}
+use Rattle.rb_model.specs.Step.Event.{Datagram, Open, Bytes, Pending, Gave, Closed, NextLost, Unsent, Sent, Forward, Expire}
+use Rattle.rb_model.specs.declared.types.CoreFault.TheVariants.{Full, Spent, Gone}
+use Rattle.rb_model.specs.Step.Output.{Replied, Silent, Opened, Refused, Took, TookAndClosed, IsPending, Done, TooMuch, LostIs, Forwarded, UnsentIs, Ignored, Nothing, Ready, RepliedTo}
 use Rattle.rb_lines.specs.declared.lines.ReadFault.TheVariants.{BadLine}
 use Rattle.rb_lines.specs.Fields.{decimal, peer}
 use Rattle.rb_lines.specs.Lines.{read}

@@ -1,7 +1,7 @@
 //! Event lines, one event in each.
 ghost use Rattle.std.specs.Prelude.{◌≡◌, ◌≤◌, IfOk, IfErr, OnOk};
 ghost use Rattle.std.specs.Option.{option_map};
-ghost use Rattle.rb_core.specs.Runs.{event_of, events_of};
+ghost use Rattle.rb_model.specs.Plain.{event_of, events_of};
 ghost use Rattle.rb_lines.specs.Lines.{Adds, AreFieldsOf, events_from, lines_of, IsFaultOf, datagram_line, open_line, bytes_line, gave_line, event, lone_event, line, line_of, longest_input, Gives, read};
 
 use crate::fields::{cut, decimal, hex_bytes, peer};

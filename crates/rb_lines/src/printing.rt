@@ -1,7 +1,7 @@
 //! The lines that outputs are printed as.
 ghost use Rattle.std.specs.Prelude.{OnOk};
 ghost use Rattle.hex.specs.Hex.{encode_lower};
-ghost use Rattle.rb_core.specs.Runs.{output_of, unsent_of};
+ghost use Rattle.rb_model.specs.Plain.{output_of, unsent_of};
 ghost use Rattle.rb_rpc.specs.Peers.{peer_text};
 ghost use Rattle.rb_lines.specs.Printing.{hex_text, bytes_line, peer_line, unsent_line, refusal_text, text_of, steps_line, report, Writes};
 

@@ -1,9 +1,9 @@
 //! The command `replay`.
 ghost use Rattle.std.specs.Prelude.{◌≡◌, ◌≤◌, ◌⊎◌, ◌-◌, ◌++◌, [], IsTrue, IfOk, IfErr, OnOk};
 ghost use Rattle.std.specs.Io.Buffered.{writer_buffer};
-ghost use Rattle.rb_core.specs.State.{State, are_good};
+ghost use Rattle.rb_model.specs.State.{State, are_good};
 ghost use Rattle.rb_core.specs.StandsFor.{StandsFor};
-ghost use Rattle.rb_core.specs.Runs.{events_of};
+ghost use Rattle.rb_model.specs.Plain.{events_of};
 ghost use Rattle.rb_core.specs.Events.{shown};
 ghost use Rattle.rb_lines.specs.Lines.{read};
 ghost use Rattle.rb_lines.specs.Printing.{report, ending};

@@ -9,10 +9,10 @@ use rb_forward::{Forward, FwdId, Kind};
 use rb_proto::{
     Answer, ArgumentFault, Books, Call, Context, Entry, ListReply, Listener, Listing, Mapping,
     Netbuf, RemoteCall, Rpcb, VoidProcedure, answer, forwards_are_noted_once, forwards_go_to_rows,
-    list_replies_go_on, put_forwarded, put_results, put_row, read_args, refusal,
+    list_replies_go_on, put_forwarded, put_results, read_args, refusal,
     requests_are_of_the_grammar, worked_examples, worked_forwards, worked_lists,
 };
-use rb_registry::{Cursor, Registry, RegistryFault};
+use rb_registry::RegistryFault;
 use rb_rpc::{CallHead, Caller, Credential, Peer, ReplyStatus};
 use rb_xdr::{Kept, Meter, Xdr};
 use std::alloc::Global;
@@ -334,34 +334,6 @@ fn forwarded_results_are_put(rt: HostRuntime) -> Result<(), Fail> {
     put_forwarded(&forward, ARGS, 100, &mut out, &mut meter)?;
     let results = b"\0\0\x08\x01\0\0\0\x04\0\0\0\x07";
     assert_eq!(rt; all_bytes(&out, &mut meter), results.as_slice());
-    Ok(())
-}
-
-// Whether the first row is put once within 39 bytes, and not a second time.
-fn is_put_once(registry: &Registry, out: &mut Kept, meter: &mut Meter) -> bool
-    requires registry { meter.old.tie ≡ registry.now.tie }
-    requires out { meter.old.tie ≡ out.old.tie }
-    requires room { out.old.cap ≡ 40 }
-    ensures out { out.new.tie ≡ out.old.tie }
-    ensures meter { meter.new.tie ≡ meter.old.tie }
-{
-    let first = registry.next_row(registry.stamp(), Cursor::start(), meter);
-    let Some((_, row)) = first else {
-        return false;
-    };
-    let is_put = put_row(Listing::Mappings, row, &LISTENER, 39, out, meter).is_ok();
-    let refused = put_row(Listing::Mappings, row, &LISTENER, 39, out, meter);
-    is_put && refused.is_err()
-}
-
-#[test]
-fn rows_are_put_within_the_limit(rt: HostRuntime) -> Result<(), Fail> {
-    let mut meter = Meter::new();
-    let mut out = Kept::new(rt.alloc(), 40, &mut meter)?;
-    let books = new_books(rt.alloc(), &mut meter)?;
-    assert!(rt; is_put_once(&books.registry, &mut out, &mut meter));
-    let (first_row, _) = OWN_ROWS.split_at(20);
-    assert_eq!(rt; all_bytes(&out, &mut meter), first_row);
     Ok(())
 }
 

@@ -1,7 +1,7 @@
 ghost use Rattle.std.specs.Prelude.{◌≡◌};
 ghost use Rattle.rb_registry.specs.Registry.{AreOwn};
 
-use rb_registry::{Cursor, Netid, Owner, Registry, RegistryFault, Row, Which};
+use rb_registry::{Cursor, Netid, Owner, Registry, RegistryFault, Row, Transport, Which};
 use rb_uaddr::Uaddr;
 use rb_xdr::Meter;
 use std::process::Abort;
@@ -15,8 +15,8 @@ fn row(prog: u32, vers: u32, netid: Netid, owner: Owner) -> Row
         prog,
         vers,
         netid,
-        addr: Uaddr::any(111).text(),
         owner,
+        addr: Uaddr::any(111).text(),
     }
 }
 
@@ -89,7 +89,7 @@ fn two_are_found(rt: &impl Abort, registry: &Registry, meter: &mut Meter) -> Res
 
 #[test]
 fn rows_are_set_and_found(rt: HostRuntime) -> Result<(), Fail> {
-    assert_eq!(rt; Netid::Udp.text(), b"udp".as_slice());
+    assert_eq!(rt; Transport::Udp.netid().text(), b"udp".as_slice());
     let mut meter = Meter::new();
     let mut registry = Registry::new(rt.alloc(), 300, own_rows(), &mut meter)?;
     two_are_set(&rt, &mut registry, &mut meter);

@@ -1,6 +1,6 @@
 ghost use Rattle.std.specs.Prelude.{◌≡◌, ◌≤◌};
 
-use rb_registry::Netid;
+use rb_registry::Transport;
 use rb_stats::{Stats, Target, Version};
 use rb_xdr::{Kept, Meter};
 use std::process::Abort;
@@ -9,7 +9,7 @@ use std::test::Fail;
 const TARGET: Target = Target {
     prog: 200_001,
     vers: 1,
-    netid: Netid::Tcp,
+    transport: Transport::Tcp,
 };
 
 // A call of procedure 1 and a SET in version 2, an UNSET in version 4, a look-up that found its row

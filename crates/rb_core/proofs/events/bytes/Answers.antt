@@ -1,8 +1,8 @@
 use Rattle.std.proofs.Common.{Ok, Err, refl, sym, ap, ◌∙◌}
-use Rattle.rb_core.specs.State.{State}
-use Rattle.rb_core.specs.Step.Event.{Bytes}
-use Rattle.rb_core.proofs.EntriesKept.{step-follows}
-use Rattle.rb_core.specs.Step.{step, show_taken, bytes}
+use Rattle.rb_model.specs.State.{State}
+use Rattle.rb_model.specs.Step.Event.{Bytes}
+use Rattle.rb_model.proofs.EntriesKept.{step-follows}
+use Rattle.rb_model.specs.Step.{step, show_taken, bytes}
 use Rattle.rb_core.proofs.RunSteps.{done, refused, same_state}
 use Rattle.rb_core.proofs.Spending.{gone_cost, taken_cost_of}
 use Rattle.rb_core.proofs.events.bytes.Goals as goal

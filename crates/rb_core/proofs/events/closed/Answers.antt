@@ -1,6 +1,6 @@
 use Rattle.std.proofs.Common.{◌+◌}
-use Rattle.rb_core.specs.Costs.{find_cost, entry_cost}
-use Rattle.rb_core.specs.Step.{step, show_done, close_connection}
+use Rattle.rb_model.specs.Costs.{find_cost, entry_cost}
+use Rattle.rb_model.specs.Step.{step, show_done, close_connection}
 use Rattle.rb_core.proofs.RunSteps.{done, refused}
 use Rattle.rb_core.proofs.Spending.{by_both}
 use Rattle.rb_core.proofs.events.closed.Goals as goal

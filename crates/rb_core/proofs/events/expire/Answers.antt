@@ -1,7 +1,7 @@
 use Rattle.std.proofs.Common.{ℕ, ◌+◌, length, ap, ◌∙◌, arith}
-use Rattle.rb_core.specs.Costs.{ended_cost, connection_count}
-use Rattle.rb_core.specs.Step.{step}
-use Rattle.rb_core.specs.Ending.{expire}
+use Rattle.rb_model.specs.Costs.{ended_cost, connection_count}
+use Rattle.rb_model.specs.Step.{step}
+use Rattle.rb_model.specs.Ending.{expire}
 use Rattle.rb_core.proofs.RunSteps.{expired_shown, nothing_shown, closed_shown, one_then_other}
 use Rattle.rb_core.proofs.Spending.{by_both, at_most}
 use Rattle.rb_core.proofs.Begun.{stands_begun, same_tie}

@@ -1,6 +1,6 @@
 use Rattle.std.proofs.Common.{◌+◌, refl, sym, ◌∙◌, arith}
-use Rattle.rb_core.specs.Costs.{find_cost, connection_count}
-use Rattle.rb_core.specs.Step.{step, show_done, gave}
+use Rattle.rb_model.specs.Costs.{find_cost, connection_count}
+use Rattle.rb_model.specs.Step.{step, show_done, gave}
 use Rattle.rb_core.proofs.RunSteps.{done, refused, one_then_other}
 use Rattle.rb_core.proofs.Spending.{by_count, at_most, gave_paid}
 use Rattle.rb_core.proofs.events.gave.Goals as goal

@@ -1,7 +1,7 @@
 use Rattle.std.proofs.Common.{ap}
-use Rattle.rb_core.specs.Costs.{find_cost}
-use Rattle.rb_core.specs.Step.{step}
-use Rattle.rb_core.specs.Step.Output.{LostIs}
+use Rattle.rb_model.specs.Costs.{find_cost}
+use Rattle.rb_model.specs.Step.{step}
+use Rattle.rb_model.specs.Step.Output.{LostIs}
 use Rattle.rb_core.proofs.Spending.{by_count}
 use Rattle.rb_core.proofs.Begun.{stands_begun, same_tie}
 use Rattle.rb_core.proofs.events.next_lost.Goals as goal

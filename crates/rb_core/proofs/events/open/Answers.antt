@@ -1,5 +1,5 @@
-use Rattle.rb_core.specs.Step.{step, open_connection}
-use Rattle.rb_core.specs.Step.Output.{Opened}
+use Rattle.rb_model.specs.Step.{step, open_connection}
+use Rattle.rb_model.specs.Step.Output.{Opened}
 use Rattle.rb_core.proofs.RunSteps.{refused}
 use Rattle.rb_core.proofs.events.open.Goals as goal
 

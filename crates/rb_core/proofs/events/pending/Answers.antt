@@ -1,7 +1,7 @@
 use Rattle.std.proofs.Common.{◌≡◌, ◌+◌, rules, refl, ap}
-use Rattle.rb_core.specs.Step.Output.{IsPending}
-use Rattle.rb_core.specs.Costs.{find_cost, pending_cost}
-use Rattle.rb_core.specs.Step.{step}
+use Rattle.rb_model.specs.Step.Output.{IsPending}
+use Rattle.rb_model.specs.Costs.{find_cost, pending_cost}
+use Rattle.rb_model.specs.Step.{step}
 use Rattle.rb_core.proofs.Spending.{by_count}
 use Rattle.rb_core.proofs.Begun.{stands_begun, same_tie}
 use Rattle.rb_core.proofs.events.pending.Goals as goal

@@ -1,6 +1,6 @@
 use Rattle.std.proofs.Common.{◌≡◌, ◌∙◌, ◌+◌, ℕ, ap, sym, subst, arith}
 use Rattle.rb_xdr.specs.Kept.{Kept}
-use Rattle.rb_core.specs.Connections.{longest_fragment}
+use Rattle.rb_model.specs.Connections.{longest_fragment}
 use Rattle.rb_core.specs.StandsFor.{IsGiving}
 use Rattle.rb_core.proofs.Fragments.{giving_fits, giving_stays, giving_moves, some_given, none_given, place_inside}
 use Rattle.rb_core.proofs.giving.advance.Goals as goal

@@ -1,6 +1,6 @@
 use Rattle.std.proofs.Common.{◌≡◌, ◌∙◌, ◌%◌, ◌-◌, ℕ, ap, sym, drop, take, arith}
 use Rattle.std.proofs.lemmas.List.{take_rest}
-use Rattle.rb_core.specs.Connections.{longest_fragment}
+use Rattle.rb_model.specs.Connections.{longest_fragment}
 use Rattle.rb_core.proofs.Fragments.{pending_shown, place_inside}
 use Rattle.rb_core.proofs.giving.pending.Goals as goal
 

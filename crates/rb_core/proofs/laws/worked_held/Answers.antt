@@ -4,14 +4,12 @@ use Rattle.std.specs.Map.{values_of}
 use Rattle.rb_registry.specs.Registry.{slots_of as rows_of}
 use Rattle.rb_registry.specs.Slots.{is_dropped, held_in as held_of_rows}
 use Rattle.rb_stats.specs.Statistics.{stat, items_of, keys_of}
-use Rattle.rb_forward.specs.StandsFor.{slots_of as calls_of, held_in as held_of_calls, longest_arguments}
+use Rattle.rb_forward.specs.StandsFor.{slots_of as calls_of, held_in as held_of_calls}
 use Rattle.rb_forward.specs.Forwards.{no_forwards}
 use Rattle.rb_forward.proofs.Stands.{held_alike}
 use Rattle.rb_uaddr.specs.Uaddr.{text_of, port_bytes}
 use Rattle.rb_proto.specs.Callers.{own_rows}
 use Rattle.rb_core.specs.declared.slot.Slot.{Slot}
-use Rattle.rb_core.specs.Calls.{longest_reply}
-use Rattle.rb_core.specs.Connections.{longest_fragment}
 use Rattle.rb_core.specs.StandsFor.{StandsForConnection, held_in, source_of, Source}
 use Rattle.std.specs.Fmt.{digits}
 use Rattle.rb_core.proofs.laws.worked_held.Goals as goal
@@ -20,13 +18,9 @@ no_slots : (source : Source) (slots : List Slot) → AllZip (StandsForConnection
 no_slots source [] z = refl
 no_slots source (slot ∷ slots) z = absurd z
 
-pub returns-clause-bytes_bounds : goal.returns-clause-bytes_bounds
-unfolding longest_reply longest_fragment longest_arguments
-returns-clause-bytes_bounds c = refl
-
-pub returns-clause-fresh_core : goal.returns-clause-fresh_core
+pub returns : goal.returns
 unfolding own_rows text_of port_bytes is_dropped stat items_of keys_of digits
-returns-clause-fresh_core c core h =
+returns c core h =
     let connections = no_slots (source_of core) (values_of core.connections.slots) h.connections.all in
     let rows : held_of_rows (rows_of core.books.registry) ≡ 270 = ap held_of_rows h.ledger.registry.slots in
     let two : length core.books.stats.two.addrinfo + length core.books.stats.two.rmtinfo ≡ 0 = rw h.ledger.stats.two refl in

@@ -1,6 +1,6 @@
 use Rattle.std.proofs.Common.{List, ℕ, take, ap, ◌∙◌}
 use Rattle.std.proofs.lemmas.List.{take_min}
-use Rattle.rb_core.specs.StandsFor.{longest_arguments}
+use Rattle.rb_model.specs.Calls.{longest_arguments}
 use Rattle.rb_core.proofs.reading.kept_arguments.Goals as goal
 
 pub returns : goal.returns

@@ -1,14 +1,15 @@
 use Rattle.std.proofs.Common.{◌≡◌, ◌≤◌, ℕ, true, List, ◌∷◌, [], ◌++◌, length, take, refl, ap, ◌∙◌, arith}
 use Rattle.std.proofs.lemmas.List.{map_push}
 use Rattle.rb_xdr.specs.Meter.{Meter, PaysAtMost}
-use Rattle.rb_core.specs.declared.events.Event as event
-use Rattle.rb_core.specs.declared.events.Output as output
-use Rattle.rb_core.specs.Costs.{run_cost}
-use Rattle.rb_core.specs.Runs.{events_of, output_of, outputs_of, answered_events, Happened}
+use Rattle.rb_model.specs.declared.events.Event as event
+use Rattle.rb_model.specs.declared.events.Output as output
+use Rattle.rb_model.specs.Costs.{run_cost}
+use Rattle.rb_model.specs.Plain.{events_of, output_of, outputs_of}
+use Rattle.rb_core.specs.Runs.{answered_events, Happened, buffer_bytes}
 use Rattle.rb_core.specs.StandsFor.{Held, StandsFor}
-use Rattle.rb_core.specs.State.{State, are_good}
-use Rattle.rb_core.specs.Step.{run, IsReached}
-use Rattle.rb_core.specs.WholeRuns.{buffer_bytes, whole_bound}
+use Rattle.rb_model.specs.State.{State, are_good}
+use Rattle.rb_model.specs.Step.{run, IsReached}
+use Rattle.rb_model.specs.WholeRuns.{whole_bound}
 use Rattle.rb_core.proofs.Runs.{one_more, pays_more, pays_within, answered_are}
 use Rattle.rb_core.proofs.StepBounds.{paid_within, held_within_after}
 use Rattle.rb_core.proofs.WholeRuns.{paid_within_whole}

@@ -2,7 +2,7 @@ use Rattle.std.proofs.Common.{rules, ◌==◌, arith, length}
 use Rattle.std.proofs.lemmas.List.FromFn.{length-enumerate_from}
 use Rattle.std.proofs.lemmas.Iterator.Consumers.{YieldsList-turn, YieldsList-end, YieldsList-at, YieldsList-from_enumerate}
 use Rattle.std.proofs.lemmas.Iterator.Splits.{YieldsList-from_slice_split}
-use Rattle.rb_core.specs.Runs.{events_of}
+use Rattle.rb_model.specs.Plain.{events_of}
 use Rattle.rb_lines.specs.Lines.{lines_of}
 use Rattle.rb_lines.proofs.Reading.{IsAt-from_enumerate, turn, fault_at, ends}
 use Rattle.rb_lines.proofs.lines.read_lines.Goals as goal

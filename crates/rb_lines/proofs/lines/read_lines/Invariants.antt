@@ -1,5 +1,5 @@
 use Rattle.std.proofs.Common.{◌≡◌, ◌+◌, drop, length}
-use Rattle.rb_core.specs.Runs.{events_of}
+use Rattle.rb_model.specs.Plain.{events_of}
 use Rattle.rb_lines.specs.Lines.{events_from, lines_of, with_front}
 use Rattle.rb_lines.proofs.lines.read_lines.Given as goal
 

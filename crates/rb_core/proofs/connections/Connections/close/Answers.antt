@@ -4,8 +4,8 @@ use Rattle.std.specs.Map.{values_of}
 use Rattle.rb_xdr.proofs.PoolLemmas.{All-value_at, All-without}
 use Rattle.rb_xdr.specs.Meter.{Meter}
 use Rattle.rb_core.specs.contracts.connections.Connections.{the_view}
-use Rattle.rb_core.specs.declared.types.CoreFault.TheVariants.{Gone}
-use Rattle.rb_core.specs.Connections.{closing_of}
+use Rattle.rb_model.specs.declared.types.CoreFault.TheVariants.{Gone}
+use Rattle.rb_model.specs.Connections.{closing_of}
 use Rattle.rb_core.specs.Slots.{Acts, HasBuffers, AreSpare}
 use Rattle.rb_core.specs.StandsFor.{StandsForConnections, IsWithin}
 use Rattle.rb_core.proofs.Holding.{its_buffers, charge_fits, held_without}

@@ -2,7 +2,7 @@ use Rattle.std.proofs.Common.{◌≡◌, [], None, refl, sym, subst}
 use Rattle.rb_xdr.proofs.PoolLemmas.{All-value_at}
 use Rattle.rb_core.specs.declared.slot.Stage.TheVariants as stages
 use Rattle.rb_core.specs.contracts.connections.Connections.{the_view}
-use Rattle.rb_core.specs.Losses.{expiring}
+use Rattle.rb_model.specs.Losses.{expiring}
 use Rattle.rb_core.specs.Slots.{Acts, HasBuffers}
 use Rattle.rb_core.specs.StandsFor.{Table, StandsForConnections, IsWithin}
 use Rattle.rb_core.proofs.Holding.{stays_changed}

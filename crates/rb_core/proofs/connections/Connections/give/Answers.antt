@@ -2,8 +2,8 @@ use Rattle.std.proofs.Common.{◌+◌, ◌*◌, [], length, Err, ap, sym, subst,
 use Rattle.rb_core.specs.CallCosts.{give_cost}
 use Rattle.rb_xdr.specs.Meter.{Meter}
 use Rattle.rb_core.specs.contracts.connections.Connections.{the_view}
-use Rattle.rb_core.specs.declared.types.CoreFault.TheVariants.{Gone}
-use Rattle.rb_core.specs.Connections.{on_live, giving}
+use Rattle.rb_model.specs.declared.types.CoreFault.TheVariants.{Gone}
+use Rattle.rb_model.specs.Connections.{on_live, giving}
 use Rattle.rb_core.specs.Slots.{Acts, HasBuffers}
 use Rattle.rb_core.specs.StandsFor.{StandsForConnections, source_for}
 use Rattle.rb_xdr.proofs.PoolLemmas.{All-value_at}

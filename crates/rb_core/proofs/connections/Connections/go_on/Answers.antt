@@ -1,5 +1,5 @@
 use Rattle.std.proofs.Common.{subst}
-use Rattle.rb_core.specs.Calls.{Outcome}
+use Rattle.rb_model.specs.Calls.{Outcome}
 use Rattle.rb_core.specs.StandsFor.{source_for}
 use Rattle.rb_core.specs.Slots.{BecomesFrom, settling}
 use Rattle.rb_core.proofs.Serving.{fresh_is_told, fresh_outcome}

@@ -2,8 +2,8 @@ use Rattle.std.proofs.Common.{◌+◌, ◌*◌, [], length, Some, ap, sym, subst
 use Rattle.rb_xdr.specs.Meter.{Meter}
 use Rattle.rb_proto.specs.ListReplies.{rest_of}
 use Rattle.rb_core.specs.contracts.connections.Connections.{the_view}
-use Rattle.rb_core.specs.Calls.{Outcome, Outcome as said}
-use Rattle.rb_core.specs.Connections.{changed_at, settled}
+use Rattle.rb_model.specs.Calls.{Outcome, Outcome as said}
+use Rattle.rb_model.specs.Connections.{changed_at, settled}
 use Rattle.rb_core.specs.StandsFor.{StandsForConnections, source_for}
 use Rattle.rb_core.specs.Slots.{HasBuffers}
 use Rattle.rb_core.specs.CallCosts.{show_list_cost}

@@ -1,7 +1,7 @@
 use Rattle.std.proofs.Common.{◌≡◌, ℕ, Some, None, sym, ap, ◌∙◌}
 use Rattle.std.specs.Prelude.{option_map}
-use Rattle.rb_core.specs.State.{Connection}
-use Rattle.rb_core.specs.Connections.{first_lost}
+use Rattle.rb_model.specs.State.{Connection}
+use Rattle.rb_model.specs.Connections.{first_lost}
 use Rattle.rb_core.specs.Slots.{is_wanted}
 use Rattle.rb_core.proofs.connections.Connections.next_lost.Goals as goal
 

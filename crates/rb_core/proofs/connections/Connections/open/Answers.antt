@@ -3,8 +3,8 @@ use Rattle.std.specs.Prelude.{All}
 use Rattle.std.specs.Map.{values_of}
 use Rattle.std.proofs.lemmas.List.Elements.{All-push}
 use Rattle.rb_core.specs.contracts.connections.Connections.{the_view}
-use Rattle.rb_core.specs.declared.types.CoreFault.TheVariants.{Full, Spent}
-use Rattle.rb_core.specs.Connections.{opening_of}
+use Rattle.rb_model.specs.declared.types.CoreFault.TheVariants.{Full, Spent}
+use Rattle.rb_model.specs.Connections.{opening_of}
 use Rattle.rb_core.specs.Slots.{Acts, HasBuffers, AreBuffers, AreSpare}
 use Rattle.rb_core.specs.StandsFor.{StandsForConnections}
 use Rattle.rb_core.proofs.Holding.{room_for_one, within_pushed, held_pushed}

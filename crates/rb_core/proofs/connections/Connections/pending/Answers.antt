@@ -1,6 +1,6 @@
 use Rattle.std.proofs.Common.{Ok, ap, sym, ◌∙◌}
-use Rattle.rb_core.specs.Connections.{live_connection}
-use Rattle.rb_core.specs.Step.{pending_on}
+use Rattle.rb_model.specs.Connections.{live_connection}
+use Rattle.rb_model.specs.Step.{pending_on}
 use Rattle.rb_core.specs.Slots.{is_wanted}
 use Rattle.rb_core.proofs.connections.Connections.pending.Goals as goal
 

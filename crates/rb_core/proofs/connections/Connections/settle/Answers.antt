@@ -1,8 +1,8 @@
 use Rattle.std.proofs.Common.{◌+◌, ◌*◌, [], length, ap, sym, subst, ◌∙◌, arith}
 use Rattle.rb_xdr.specs.Meter.{Meter}
 use Rattle.rb_core.specs.contracts.connections.Connections.{the_view}
-use Rattle.rb_core.specs.Connections.{changed_at, settled}
-use Rattle.rb_core.specs.Costs.{show_cost}
+use Rattle.rb_model.specs.Connections.{changed_at, settled}
+use Rattle.rb_model.specs.Costs.{show_cost}
 use Rattle.rb_core.specs.Core.{outcome_with}
 use Rattle.rb_core.specs.StandsFor.{StandsForConnections}
 use Rattle.rb_core.specs.Slots.{HasBuffers}

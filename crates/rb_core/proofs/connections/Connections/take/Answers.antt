@@ -1,8 +1,8 @@
 use Rattle.std.proofs.Common.{◌+◌, ◌*◌, [], length, Ok, Err, ap, sym, subst, ◌∙◌, arith}
 use Rattle.rb_xdr.specs.Meter.{Meter}
 use Rattle.rb_core.specs.contracts.connections.Connections.{the_view}
-use Rattle.rb_core.specs.declared.types.CoreFault.TheVariants.{Gone}
-use Rattle.rb_core.specs.Connections.{on_live}
+use Rattle.rb_model.specs.declared.types.CoreFault.TheVariants.{Gone}
+use Rattle.rb_model.specs.Connections.{on_live}
 use Rattle.rb_core.specs.CallCosts.{received_cost}
 use Rattle.rb_core.specs.Slots.{Acts, Shows, HasBuffers, feeding, arguments_on}
 use Rattle.rb_core.specs.StandsFor.{StandsForConnections}

@@ -4,7 +4,8 @@ use Rattle.rb_rpc.specs.declared.peer.Caller.TheVariants.{Tcp}
 use Rattle.rb_rpc.specs.declared.call.Verdict.{Verdict}
 use Rattle.rb_rpc.specs.Verdict.{verdict}
 use Rattle.rb_core.specs.contracts.engine.Core.{the_view}
-use Rattle.rb_core.specs.StandsFor.{Held, kept_of}
+use Rattle.rb_core.specs.StandsFor.{Held}
+use Rattle.rb_model.specs.Calls.{kept_of}
 use Rattle.rb_core.specs.Core.{context_of}
 use Rattle.rb_core.specs.Slots.{heard_of}
 use Rattle.rb_core.specs.AtOnce.{AnswersGiving, GivesAtOnce}

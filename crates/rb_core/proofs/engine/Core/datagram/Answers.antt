@@ -9,12 +9,12 @@ use Rattle.rb_feed.specs.Feeds.{arguments_of}
 use Rattle.rb_proto.specs.declared.books.Books.{Books}
 use Rattle.rb_proto.specs.declared.context.Context.{Context}
 use Rattle.rb_core.specs.contracts.engine.Core.{the_view}
-use Rattle.rb_core.specs.declared.message.Message.{Message}
-use Rattle.rb_core.specs.Calls.{Outcome, message_with, message_of, reply_in}
+use Rattle.rb_model.specs.declared.message.Message.{Message}
+use Rattle.rb_model.specs.Calls.{Outcome, message_with, message_of, reply_in}
 use Rattle.rb_core.specs.Core.{outcome_with}
 use Rattle.rb_rpc.specs.declared.peer.Caller.TheVariants.{Udp}
 use Rattle.rb_core.specs.StandsFor.{Held, Table}
-use Rattle.rb_core.specs.declared.serve.Served.TheVariants.{Told}
+use Rattle.rb_core.specs.declared.replies.Served.TheVariants.{Told}
 use Rattle.rb_core.specs.declared.types.Outcome.{Outcome as Written}
 use Rattle.rb_core.specs.declared.types.Outcome.TheVariants as outcomes
 use Rattle.rb_core.specs.Serving.{IsWritten, ServesInRoom}

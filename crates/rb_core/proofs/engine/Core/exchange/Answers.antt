@@ -4,12 +4,12 @@ use Rattle.rb_core.specs.contracts.engine.Core.{the_view}
 use Rattle.rb_xdr.specs.Meter.{PaysAtMost}
 use Rattle.rb_registry.specs.Registry.{slots_of}
 use Rattle.rb_core.specs.CallCosts.{args_heard, look_cost, slot_count, kept_count}
-use Rattle.rb_core.specs.Costs.{take_cost, recount_cost, answer_cost}
+use Rattle.rb_model.specs.Costs.{take_cost, recount_cost, answer_cost}
 use Rattle.rb_core.specs.StandsFor.{Held, StandsFor, StandsForConnections, Table, source_of}
 use Rattle.rb_core.proofs.Spending.{answered_cost, looked_first, at_most}
 use Rattle.rb_core.specs.Slots.{Acts, feeding, heard_in, kept_in, arguments_on}
-use Rattle.rb_core.specs.State.{State}
-use Rattle.rb_core.specs.Connections.{on_live}
+use Rattle.rb_model.specs.State.{State}
+use Rattle.rb_model.specs.Connections.{on_live}
 use Rattle.rb_core.proofs.Steps.{bytes_refused, quiet_acts, quiet_gives_none, nothing_heard, with_heard}
 use Rattle.rb_core.proofs.AtOnce.{plainly, counted, none_refused, by_count, exchange_heard, counted_heard, exchange_whole, counted_whole, whole_few}
 use Rattle.rb_core.specs.AtOnce.{whole_cost}

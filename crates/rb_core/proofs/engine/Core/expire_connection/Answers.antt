@@ -1,6 +1,6 @@
 use Rattle.std.proofs.Common.{◌≡◌, sym, ap, ◌∙◌}
 use Rattle.rb_core.specs.contracts.engine.Core.{the_view}
-use Rattle.rb_core.specs.Ending.{closed_as, expire_connection}
+use Rattle.rb_model.specs.Ending.{closed_as, expire_connection}
 use Rattle.rb_core.proofs.Steps.{acts_from}
 use Rattle.rb_core.proofs.Expiries.{due_closed}
 use Rattle.rb_core.specs.StandsFor.{source_of}

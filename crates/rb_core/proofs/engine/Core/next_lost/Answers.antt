@@ -1,5 +1,5 @@
 use Rattle.std.proofs.Common.{sym, subst}
-use Rattle.rb_core.specs.Step.{next_lost}
+use Rattle.rb_model.specs.Step.{next_lost}
 use Rattle.rb_core.specs.StandsFor.{StandsFor, source_of}
 use Rattle.rb_core.specs.contracts.engine.Core.{the_view}
 use Rattle.rb_core.proofs.engine.Core.next_lost.Goals as goal

@@ -1,5 +1,5 @@
 use Rattle.std.proofs.Common.{sym, subst}
-use Rattle.rb_core.specs.Step.{pending}
+use Rattle.rb_model.specs.Step.{pending}
 use Rattle.rb_core.specs.StandsFor.{StandsFor, source_of}
 use Rattle.rb_core.specs.contracts.engine.Core.{the_view}
 use Rattle.rb_core.proofs.engine.Core.pending_len.Goals as goal

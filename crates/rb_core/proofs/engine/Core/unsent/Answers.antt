@@ -5,7 +5,7 @@ use Rattle.rb_forward.specs.Table.{seen, count_lent}
 use Rattle.rb_core.specs.contracts.engine.Core.{the_view}
 use Rattle.rb_core.specs.Slots.{Shows}
 use Rattle.rb_core.specs.StandsFor.{Held, StandsFor}
-use Rattle.rb_core.specs.Step.{unsent_call}
+use Rattle.rb_model.specs.Step.{unsent_call}
 use Rattle.rb_core.proofs.Begun.{begins_at}
 use Rattle.rb_core.proofs.CallBounds.{unsent_within}
 use Rattle.rb_core.proofs.Steps.{unsent_shown}

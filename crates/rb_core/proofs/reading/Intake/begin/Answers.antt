@@ -1,7 +1,7 @@
 use Rattle.std.proofs.Common.{arith, ◌≤◌, length, ap}
 use Rattle.std.proofs.lemmas.List.{length-take}
 use Rattle.rb_feed.specs.Feeds.{arguments_of}
-use Rattle.rb_core.specs.StandsFor.{longest_arguments}
+use Rattle.rb_model.specs.Calls.{longest_arguments}
 use Rattle.rb_core.proofs.reading.Intake.begin.Goals as goal
 
 pub returns-clause-data : goal.returns-clause-data

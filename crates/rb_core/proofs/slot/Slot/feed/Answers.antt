@@ -1,6 +1,6 @@
 use Rattle.std.proofs.Common.{◌++◌, refl, subst}
 use Rattle.rb_rpc.specs.Records.{first_record}
-use Rattle.rb_core.specs.Connections.{reading}
+use Rattle.rb_model.specs.Connections.{reading}
 use Rattle.rb_core.specs.Reading.{StandsBehind}
 use Rattle.rb_core.proofs.OneSlot.{heard_then, not_ended, has_ended, counts_to}
 use Rattle.rb_core.proofs.slot.Slot.feed.Goals as goal

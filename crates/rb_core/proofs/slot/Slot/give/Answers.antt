@@ -1,8 +1,9 @@
 use Rattle.std.proofs.Common.{◌≡◌, ℕ, Some, None, refl, sym, ap, ◌∙◌, arith}
 use Rattle.std.specs.Prelude.{min}
 use Rattle.rb_xdr.specs.Kept.{Kept}
-use Rattle.rb_core.specs.Calls.{longest_reply}
-use Rattle.rb_core.specs.StandsFor.{longest_arguments, buffer_size}
+use Rattle.rb_model.specs.Calls.{longest_reply}
+use Rattle.rb_model.specs.Calls.{longest_arguments}
+use Rattle.rb_core.specs.StandsFor.{buffer_size}
 use Rattle.rb_core.proofs.OneSlot.{none_given, some_given, nothing_pending, owing_phase}
 use Rattle.rb_core.proofs.slot.Slot.give.Goals as goal
 

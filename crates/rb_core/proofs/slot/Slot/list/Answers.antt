@@ -1,6 +1,6 @@
 use Rattle.std.proofs.Common.{refl, ◌∙◌}
 use Rattle.rb_proto.specs.ListReplies.{rest_of}
-use Rattle.rb_core.specs.Connections.{settled}
+use Rattle.rb_model.specs.Connections.{settled}
 use Rattle.rb_core.specs.StandsFor.{source_for}
 use Rattle.rb_core.proofs.Streaming.{list_begins, goes_on_shown}
 use Rattle.rb_core.proofs.slot.Slot.list.Goals as goal

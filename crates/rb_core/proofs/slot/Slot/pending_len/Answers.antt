@@ -1,5 +1,5 @@
 use Rattle.std.proofs.Common.{arith}
-use Rattle.rb_core.specs.Connections.{longest_fragment}
+use Rattle.rb_model.specs.Connections.{longest_fragment}
 use Rattle.rb_core.proofs.OneSlot.{streaming_phase}
 use Rattle.rb_core.proofs.Streaming.{pending_of_list_count}
 use Rattle.rb_core.proofs.slot.Slot.pending_len.Goals as goal

@@ -1,6 +1,6 @@
 use Rattle.std.proofs.Common.{None, refl, subst}
 use Rattle.rb_xdr.specs.Kept.{Kept}
-use Rattle.rb_core.specs.Connections.{settled, owed_of}
+use Rattle.rb_model.specs.Connections.{settled, owed_of}
 use Rattle.rb_core.specs.StandsFor.{IsGiving}
 use Rattle.rb_core.proofs.slot.Slot.settle.Goals as goal
 

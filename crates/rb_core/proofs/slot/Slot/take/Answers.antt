@@ -3,9 +3,9 @@ use Rattle.std.proofs.lemmas.Bool.Decides.{nat_tests}
 use Rattle.rb_xdr.specs.Kept.{Kept}
 use Rattle.rb_core.specs.declared.slot.Stage.{Stage}
 use Rattle.rb_core.specs.declared.slot.Stage.TheVariants as stages
-use Rattle.rb_core.specs.State.{Phase}
-use Rattle.rb_core.specs.Connections.{taking, taking_on, fed_in}
-use Rattle.rb_core.specs.Connections.Taking.{TakesNone}
+use Rattle.rb_model.specs.State.{Phase}
+use Rattle.rb_model.specs.Connections.{taking, taking_on, fed_in}
+use Rattle.rb_model.specs.Connections.Taking.{TakesNone}
 use Rattle.rb_core.specs.declared.giving.Stream.{Stream}
 use Rattle.rb_core.specs.StandsFor.{Source, StandsForPhase}
 use Rattle.rb_core.specs.Slots.{IsBeforePiece}

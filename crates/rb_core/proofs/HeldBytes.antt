@@ -1,0 +1,172 @@
+-- What a core holds that stands for a state that a run reaches is within the bound.
+use Rattle.std.proofs.Common.{◌≡◌, ℕ, ◌+◌, ◌*◌, ◌^◌, ◌≤◌, ◌<◌, Bool, true, false, cond, not, get_or, Some, List, [], ◌∷◌, length, map, refl, ap, sym, subst, arith}
+use Rattle.std.specs.Prelude.{All, count_by}
+use Rattle.std.specs.List.{AllZip}
+use Rattle.std.specs.Map.{values_of}
+use Rattle.std.proofs.Math.Nat.{mul-le-mul_right}
+use Rattle.std.proofs.lemmas.List.{length-append, length-take}
+use Rattle.std.proofs.lemmas.List.Sums.{sum_by-le, sum_by-cons}
+use Rattle.std.proofs.lemmas.List.Elements.{All-nil, All-cons, All-head, All-tail, All-append, All-filter, All-map}
+use Rattle.rb_xdr.specs.Kept.{Kept}
+use Rattle.rb_rpc.specs.Records.{data_of}
+use Rattle.rb_rpc.specs.CallBytes.{call_bytes}
+use Rattle.rb_feed.specs.Feeds.{arguments_of}
+use Rattle.rb_registry.specs.declared.row.Row.{Row}
+use Rattle.rb_registry.specs.declared.slot.Slot.{Slot as RowSlot}
+use Rattle.rb_registry.specs.Rows.{Change}
+use Rattle.rb_registry.specs.Rows.Change.{Added, Removed}
+use Rattle.rb_registry.specs.Registry.{Registry, StandsForChanges, slots_of as rows_of}
+use Rattle.rb_registry.specs.Slots.{slot_of, is_dropped, slots_by, all_slots, slots_from, held_in as held_of_rows}
+use Rattle.rb_stats.proofs.Sizes.{few_keys}
+use Rattle.rb_forward.specs.Forwards.{Entry, Forwards, held_call, question, head_of}
+use Rattle.rb_forward.specs.StandsFor.{Table as Entries, StandsForForwards, slots_of as calls_of, held_in as held_of_calls, longest_call}
+use Rattle.rb_forward.proofs.Heads.{length-head}
+use Rattle.rb_forward.proofs.Stands.{held_alike}
+use Rattle.rb_proto.specs.declared.listener.Listener.{Listener}
+use Rattle.rb_proto.specs.Callers.{own_rows}
+use Rattle.rb_core.specs.declared.slot.Slot.{Slot}
+use Rattle.rb_core.specs.declared.slot.Stage.{Stage}
+use Rattle.rb_core.specs.declared.slot.Stage.TheVariants as stages
+use Rattle.rb_model.specs.Calls.{longest_reply}
+use Rattle.rb_model.specs.Connections.{longest_fragment}
+use Rattle.rb_model.specs.Calls.{longest_arguments, kept_of}
+use Rattle.rb_core.specs.StandsFor.{buffer_size, StandsForPhase, StandsForConnection, charge, held_in, IsWithin, Held, source_of, Source}
+use Rattle.rb_model.specs.State.{Phase, Connection}
+use Rattle.rb_model.specs.State.Phase.{Idle, Reading, Owing, Awaiting, Lost}
+use Rattle.rb_model.specs.Bounds.{greatest_call}
+use Rattle.rb_core.specs.HeldBytes.{takes_bytes, HoldsArguments, unheld_share, HeldBytesAreBounded, NeverPasses}
+use Rattle.rb_model.proofs.EntriesKept.{HasShortArgs, reached-kept}
+use Rattle.rb_model.proofs.Ledgers.{IsShortChange, reached-short}
+use Rattle.rb_model.proofs.Room.{reached-room}
+use Rattle.rb_uaddr.specs.declared.address.Uaddr.TheVariants.{V4}
+use Rattle.rb_uaddr.specs.Uaddr.{any_host, text_of}
+use Rattle.rb_uaddr.proofs.ShortTexts.{own_short}
+
+-- ---- connections
+
+empty_charge : (buffer window : Kept) → buffer.bytes ≡ [] → window.bytes ≡ [] → 128 + length buffer.bytes + length window.bytes ≡ 128
+empty_charge buffer window b w = rw (b, w) refl
+
+phase_holds : (source : Source) (stage : Stage) (buffer window : Kept) (phase : Phase) (c : Connection) → c.phase ≡ phase → StandsForPhase source stage buffer window phase → takes_bytes c ≡ true
+    → 128 + length buffer.bytes + length window.bytes ≤ 128 + longest_arguments
+phase_holds source stages.Idle buffer window Idle c is h takes = let e = empty_charge buffer window h.0 h.1 in omega (arith, e)
+phase_holds source (stages.Reading reader) buffer window (Reading fed) c is h takes =
+    let kept : length buffer.bytes ≡ length (kept_of (data_of fed)) = ap (λ (xs : List ℕ). length xs) h.0.data_is.kept_is in
+    let few = length-take longest_arguments (arguments_of (data_of fed)) in
+    let none : length window.bytes ≡ 0 = ap (λ (xs : List ℕ). length xs) h.1 in
+    omega (arith, kept, few, none)
+phase_holds source stage buffer window (Owing o) c is h takes = let clash : false ≡ true = rw is at takes in absurd cc
+phase_holds source stage buffer window Awaiting c is h takes = let clash : false ≡ true = rw is at takes in absurd cc
+phase_holds source stage buffer window Lost c is h takes = let clash : false ≡ true = rw is at takes in absurd cc
+phase_holds source stage buffer window phase c is h takes = absurd h
+
+holds_arguments : (source : Source) (slot : Slot) (c : Connection) → StandsForConnection source slot c → HoldsArguments slot c
+holds_arguments source slot c z takes = phase_holds source slot.stage slot.buffer slot.window c.phase c refl z.phase takes
+
+abbrev share : ℕ
+share = 128 + greatest_call + longest_fragment
+
+one_share : (source : Source) (slot : Slot) (c : Connection) → StandsForConnection source slot c → IsWithin slot → charge slot + unheld_share * cond (takes_bytes c) 1 0 ≤ share
+unfolding longest_reply longest_arguments buffer_size longest_fragment
+one_share source slot c z within = by_test (takes_bytes c) refl
+  where
+    by_test : (b : Bool) → takes_bytes c ≡ b → charge slot + unheld_share * cond b 1 0 ≤ share
+    by_test true e = let few = holds_arguments source slot c z e in omega (arith, few)
+    by_test false e = omega (arith, within)
+
+each_holds : (source : Source) (slots : List Slot) (all : List Connection) → AllZip (StandsForConnection source) slots all → AllZip HoldsArguments slots all
+each_holds source [] [] z = tt
+each_holds source [] (c ∷ all) z = absurd z
+each_holds source (slot ∷ slots) [] z = absurd z
+each_holds source (slot ∷ slots) (c ∷ all) z = (holds_arguments source slot c z.0, each_holds source slots all z.1)
+
+connections_within : (source : Source) (slots : List Slot) (all : List Connection) → AllZip (StandsForConnection source) slots all → All IsWithin slots
+    → held_in slots + unheld_share * count_by takes_bytes all ≤ length all * share
+connections_within source [] [] z w = omega arith
+connections_within source [] (c ∷ all) z w = absurd z
+connections_within source (slot ∷ slots) [] z w = absurd z
+connections_within source (slot ∷ slots) (c ∷ all) z w =
+    let one = one_share source slot c z.0 (All-head IsWithin slot slots w) in
+    let rest = connections_within source slots all z.1 (All-tail IsWithin slot slots w) in
+    let held = sum_by-cons charge slot slots in
+    let counted = sum_by-cons (λ x. cond (takes_bytes x) 1 0) c all in
+    omega (arith, one, rest, held, counted)
+
+-- ---- rows
+
+abbrev IsShortRow : Row → Type 0
+IsShortRow row = length row.addr ≤ 128
+
+abbrev HasShortRow : RowSlot → Type 0
+HasShortRow slot = length slot.row.addr ≤ 128
+
+by_short : (count : ℕ) (changes : List Change) → All IsShortChange changes → All HasShortRow (slots_by count changes)
+by_short count [] s = All-nil HasShortRow
+by_short count (Added row ∷ later) s = All-cons HasShortRow _ (slots_by (count + 1) later) (All-head IsShortChange (Added row) later s) (by_short (count + 1) later (All-tail IsShortChange (Added row) later s))
+by_short count (Removed prog vers which owner ∷ later) s = by_short (count + 1) later (All-tail IsShortChange (Removed prog vers which owner) later s)
+
+six_short : (a b c d e f : Row) → IsShortRow a → IsShortRow b → IsShortRow c → IsShortRow d → IsShortRow e → IsShortRow f → All IsShortRow (a ∷ b ∷ c ∷ d ∷ e ∷ f ∷ [])
+six_short a b c d e f sa sb sc sd se sf =
+    All-cons IsShortRow a (b ∷ c ∷ d ∷ e ∷ f ∷ []) sa (All-cons IsShortRow b (c ∷ d ∷ e ∷ f ∷ []) sb (All-cons IsShortRow c (d ∷ e ∷ f ∷ []) sc
+    (All-cons IsShortRow d (e ∷ f ∷ []) sd (All-cons IsShortRow e (f ∷ []) se (All-cons IsShortRow f [] sf (All-nil IsShortRow))))))
+
+own_are_short : (listener : Listener) → listener.port < 2 ^ 16 → All IsShortRow (own_rows listener)
+unfolding own_rows
+own_are_short listener fits =
+    let short = own_short listener.port fits in
+    let s : length (text_of (V4 any_host listener.port)) ≤ 128 = omega (arith, short) in
+    six_short _ _ _ _ _ _ s s s s s s
+
+rows_within : (kept : Registry) (own : List Row) (changes : List Change) → StandsForChanges kept own changes → All IsShortRow own → All IsShortChange changes
+    → held_of_rows (rows_of kept) ≤ kept.limit * (32 + 128)
+rows_within kept own changes stands owned changed =
+    let all : All HasShortRow (all_slots own changes) =
+    All-append HasShortRow (map (slot_of 0) own) (slots_by 0 changes) (All-map HasShortRow (slot_of 0) own owned) (by_short 0 changes changed) in
+    let kept_short : All HasShortRow (slots_from kept.floor own changes) = All-filter (λ (slot : RowSlot). not (is_dropped (Some kept.floor) slot)) HasShortRow (all_slots own changes) all in
+    let here : All HasShortRow (rows_of kept) = subst (All HasShortRow) (sym stands.slots) kept_short in
+    let sum = sum_by-le (λ (slot : RowSlot). 32 + length slot.row.addr) (32 + 128) (rows_of kept) (λ k slot lt. let few = here k slot lt in omega (arith, few)) in
+    let more = mul-le-mul_right (32 + 128) stands.within in
+    omega (arith, sum, more)
+
+-- ---- forwarded calls
+
+call_short : (first_xid : ℕ) (e : Entry) → HasShortArgs e → length (held_call first_xid e) ≤ longest_call
+unfolding held_call question
+call_short first_xid e short = by_sent e.sent
+  where
+    by_sent : (b : Bool) → length (cond b [] (question first_xid e)) ≤ longest_call
+    by_sent true = omega arith
+    by_sent false =
+        let whole = length-append (call_bytes (head_of first_xid e.number e.forward)) e.args in
+        let head = length-head (head_of first_xid e.number e.forward) refl in
+        omega (arith, whole, head, short)
+
+calls_within : (table : Entries) (f : Forwards) (most : ℕ) → StandsForForwards table f → All HasShortArgs f.all → length f.all ≤ most
+    → held_of_calls (calls_of table) ≤ most * (128 + longest_call)
+calls_within table f most stands short few =
+    let alike = held_alike table.first_xid (calls_of table) f stands.all in
+    let sum = sum_by-le (λ (e : Entry). 128 + length (held_call table.first_xid e)) (128 + longest_call) f.all
+    (λ k e lt. let one = call_short table.first_xid (get_or f.all k e) (short k e lt) in omega (arith, one)) in
+    let more = mul-le-mul_right (128 + longest_call) few in
+    omega (arith, alike, sum, more)
+
+-- ---- all of it
+
+pub held_bytes_are_bounded : HeldBytesAreBounded
+held_bytes_are_bounded core s h reached port =
+    let kept = reached-kept s reached in
+    let rows = reached-short s reached in
+    let own : All IsShortRow s.ledger.own = subst (All IsShortRow) (sym rows.0) (own_are_short s.setting.listener port) in
+    let connections = connections_within (source_of core) (values_of core.connections.slots) s.connections.all h.connections.all h.within in
+    let room = mul-le-mul_right share (reached-room s reached) in
+    let in_rows : held_of_rows (rows_of core.books.registry) ≤ s.setting.limits.rows * (32 + 128) =
+    subst (λ n. held_of_rows (rows_of core.books.registry) ≤ n * (32 + 128)) h.limit (rows_within core.books.registry s.ledger.own s.ledger.changes h.ledger.registry own rows.1) in
+    let keys = few_keys core.books.stats s.ledger.history h.ledger.stats in
+    let calls = calls_within core.books.forwards s.ledger.forwards s.setting.limits.forwards h.ledger.forwards kept.short kept.few in
+    record {
+      each = each_holds (source_of core) (values_of core.connections.slots) s.connections.all h.connections.all;
+      whole = omega (arith, connections, room, in_rows, keys, calls, h.short);
+    }
+
+pub never_passes : (core : Held) → NeverPasses core
+never_passes core = record { within = λ s stands reached port. let whole = (held_bytes_are_bounded core s stands reached port).whole in omega (arith, whole) }

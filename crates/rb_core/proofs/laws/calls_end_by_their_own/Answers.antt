@@ -1,8 +1,0 @@
-use Rattle.rb_core.proofs.ForwardEnds.{replies_end_their_own, deadlines_end_one}
-use Rattle.rb_core.proofs.laws.calls_end_by_their_own.Goals as goal
-
-pub returns-clause-replies : goal.returns-clause-replies
-returns-clause-replies c = replies_end_their_own
-
-pub returns-clause-deadlines : goal.returns-clause-deadlines
-returns-clause-deadlines c = deadlines_end_one

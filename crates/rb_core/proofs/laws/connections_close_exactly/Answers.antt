@@ -1,5 +1,0 @@
-use Rattle.rb_core.proofs.Closings.{connections_close_exactly}
-use Rattle.rb_core.proofs.laws.connections_close_exactly.Goals as goal
-
-pub returns : goal.returns
-returns c = connections_close_exactly

@@ -1,0 +1,53 @@
+-- The bytes that a core holds, and that they never pass their bound.
+use Rattle.std.specs.Prelude.{ℕ, ◌+◌, ◌*◌, length, ◌≡◌, ◌<◌, ◌≤◌, ◌^◌, Bool, true, count_by, is_some}
+use Rattle.std.specs.Map.{values_of}
+use Rattle.rb_registry.specs.Registry.{slots_of as rows_of}
+use Rattle.rb_registry.specs.Slots.{held_in as held_of_rows}
+use Rattle.rb_stats.specs.Stats.{key_count}
+use Rattle.rb_forward.specs.StandsFor.{slots_of as calls_of, held_in as held_of_calls}
+use Rattle.rb_core.specs.StandsFor.{held_in as held_of_connections, Held, charge, StandsFor}
+use Rattle.std.specs.List.{AllZip}
+use Rattle.rb_core.specs.declared.slot.Slot.{Slot}
+use Rattle.rb_model.specs.State.{Connection, State}
+use Rattle.rb_model.specs.Connections.{fed_in}
+use Rattle.rb_model.specs.Calls.{longest_arguments}
+use Rattle.rb_model.specs.Bounds.{bytes_bound}
+use Rattle.rb_model.specs.Step.{IsReached}
+
+-- ---- held bytes
+
+-- what the connections hold, the rows, live or kept, the keys of the statistics, the forwarded calls, and the last reply
+-- over UDP
+abbrev pub held : Held → ℕ
+held core =
+    held_of_connections (values_of core.connections.slots) + held_of_rows (rows_of core.books.registry) + 48 * key_count core.books.stats
+    + held_of_calls (calls_of core.books.forwards) + length core.reply
+
+-- ---- held bytes: a connection that takes bytes holds less than its share
+
+-- it is Idle or Reading
+abbrev pub takes_bytes : Connection → Bool
+takes_bytes c = is_some (fed_in c.phase)
+
+-- It holds the arguments of one call at most, beside its fixed part.
+abbrev pub HoldsArguments : Slot → Connection → Type 0
+HoldsArguments slot c = takes_bytes c ≡ true → charge slot ≤ 128 + longest_arguments
+
+-- what such a connection never holds of its share of the bound: the head of a call, and a fragment of a reply
+abbrev pub unheld_share : ℕ
+unheld_share = 840 + 1028
+
+-- What is held is within the bound, by so much for each connection that is Idle or Reading.
+pub record IsBounded (core : Held) (s : State) : Type 0 where
+  pub each : AllZip HoldsArguments (values_of core.connections.slots) s.connections.all
+  pub whole : held core + unheld_share * count_by takes_bytes s.connections.all ≤ bytes_bound s.setting.limits
+
+-- Whatever a core holds that stands for a state that a run reaches, with a listener on a port of 16 bits.
+abbrev pub HeldBytesAreBounded : Type 0
+HeldBytesAreBounded =
+    (core : Held) (s : State) → StandsFor core s → IsReached s → s.setting.listener.port < 2 ^ 16 → IsBounded core s
+
+-- Whatever such state a core stands for, it holds no more than the bound.
+pub record NeverPasses (core : Held) : Type 0 where
+  pub within : (s : State) → StandsFor core s → IsReached s → s.setting.listener.port < 2 ^ 16
+      → held core ≤ bytes_bound s.setting.limits

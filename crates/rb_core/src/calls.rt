@@ -1,0 +1,130 @@
+//! Answers what a record on a connection, or a datagram, says.
+ghost use Rattle.std.specs.Prelude.{◌≡◌, ◌≤◌, ◌+◌, ℕ, true, false, [], length, take};
+ghost use Rattle.rb_xdr.specs.Meter.{PaysAtMost};
+ghost use Rattle.rb_rpc.specs.declared.peer.Caller.TheVariants.{Tcp};
+ghost use Rattle.rb_forward.specs.StandsFor.{slots_of};
+ghost use Rattle.rb_forward.specs.Table.{IsNew, is_waiting};
+ghost use Rattle.rb_proto.specs.Books.{AreTied, OnlyCallerWaits, SameFrame};
+ghost use Rattle.rb_core.specs.AtOnce.{AnswersFrom, GivesFrom, whole_cost};
+ghost use Rattle.rb_core.specs.Awaits.{has_idle, IsSettled, KeepsAwaited, KeepsSettled, NoneIsFreed, StayUnlessForwarded};
+ghost use Rattle.rb_core.specs.CallCosts.{message_cost, served_cost};
+ghost use Rattle.rb_model.specs.Calls.{longest_reply};
+ghost use Rattle.rb_core.specs.Serving.{IsStreamedTo, IsWritten, ServesVerdict, kind_in};
+ghost use Rattle.rb_core.specs.Listings.{AreTold, source_in};
+ghost use Rattle.rb_core.specs.Slots.{IsDraft, StaysTable};
+
+use crate::connections::Connections;
+use crate::eviction::make_room;
+use crate::message::{message_with, null_call};
+use crate::replies::{Served, give_at_once, serve, serve_null};
+use crate::slot::Heard;
+use rb_proto::{Books, Context};
+use rb_rpc::Verdict;
+use rb_xdr::{Kept, Meter};
+
+/// Serves what the data on which this is the verdict says, behind whose head are these bytes, once there is room for the row
+/// that it adds. The reply is written into an empty buffer, unless it is a list that is streamed.
+///
+/// A call of NULL is told from the others first, since all that it wants is a head.
+#[tactic(auto, unfolding(rb_model::specs::Calls::longest_reply))]
+pub fn serve_verdict(
+    connections: &mut Connections,
+    books: &mut Books,
+    context: &Context,
+    verdict: &Verdict,
+    arguments: &[u8],
+    out: &mut Kept,
+    meter: &mut Meter,
+) -> Served
+    requires tied { AreTied meter.old.tie books.old }
+    requires tie { meter.old.tie ≡ connections.old.tie }
+    requires out { meter.old.tie ≡ out.old.tie }
+    requires limit { books.old.registry.limit ≡ context.now.limit }
+    requires forwards { books.old.forwards.cap ≡ context.now.forwards }
+    requires caller { IsNew context.now.caller (slots_of books.old.forwards) }
+    requires told { AreTold (source_in context.now.listener.host books.old) connections.old }
+    requires empty { out.old.bytes ≡ [] }
+    requires room { longest_reply ≤ out.old.cap }
+    ensures acts { ServesVerdict context.now verdict.now arguments.now connections.old books.old
+        connections.new books.new result out.new }
+    ensures list { IsStreamedTo context.now.caller result }
+    ensures written { IsWritten result out.new.bytes }
+    ensures short { length out.new.bytes ≤ longest_reply }
+    ensures out { (out.new.cap ≡ out.old.cap) × (out.new.tie ≡ out.old.tie) }
+    ensures told { AreTold (source_in context.now.listener.host books.new) connections.new }
+    ensures idle { (id : ℕ) → has_idle id connections.old ≡ true
+        → has_idle id connections.new ≡ true }
+    ensures settled { KeepsSettled connections.old connections.new }
+    ensures free { NoneIsFreed connections.old connections.new }
+    ensures as_many { length connections.new.slots ≡ length connections.old.slots }
+    ensures stays { StaysTable connections.old connections.new }
+    ensures quiet { StayUnlessForwarded (kind_in result) books.old.forwards books.new.forwards }
+    ensures waiting { OnlyCallerWaits context.now.caller books.old books.new }
+    ensures frame { SameFrame books.old books.new }
+    ensures cost { PaysAtMost meter.old meter.new
+        (message_cost connections.old books.old books.new (length arguments.now)
+        (length out.new.bytes)) }
+{
+    if let Some(head) = null_call(verdict) {
+        return serve_null(books, head, out, meter);
+    }
+    let message = &message_with(verdict, arguments);
+    make_room(connections, books, context, message, meter);
+    serve(books, context, message, arguments, out, meter)
+}
+
+/// Answers what a record on the connection of the number says, which has these arguments, and lets the connection go on. It
+/// says whether it is Lost now, and how many bytes of the reply were given at once. The draft is empty before and after.
+#[tactic(auto, unfolding(rb_model::specs::Calls::longest_reply, rb_model::specs::Calls::longest_arguments, crate::specs::StandsFor::buffer_size))]
+pub fn answer(
+    connections: &mut Connections,
+    books: &mut Books,
+    draft: &mut Kept,
+    context: &Context,
+    id: u64,
+    heard: &Heard,
+    arguments: &[u8],
+    room: &mut [u8],
+    meter: &mut Meter,
+) -> (bool, usize)
+    requires context { context.now.caller ≡ Tcp id heard.now.peer }
+    requires limit { books.old.registry.limit ≡ context.now.limit }
+    requires forwards { books.old.forwards.cap ≡ context.now.forwards }
+    requires tied { AreTied meter.old.tie books.old }
+    requires tie { meter.old.tie ≡ connections.old.tie }
+    requires draft { IsDraft meter.old.tie draft.old }
+    requires empty { draft.old.bytes ≡ [] }
+    requires told { AreTold (source_in context.now.listener.host books.old) connections.old }
+    requires idle { has_idle id connections.old ≡ true }
+    requires settled { IsSettled id context.now.clock connections.old }
+    requires caller { is_waiting id (slots_of books.old.forwards) ≡ false }
+    ensures acts { AnswersFrom context.now id heard.now arguments.now connections.old books.old
+        connections.new books.new result.0 (take result.1 room.new) }
+    ensures count { GivesFrom (length room.old) context.now id heard.now arguments.now
+        connections.old books.old result.1 }
+    ensures within { result.1 ≤ length room.new }
+    ensures awaited { KeepsAwaited books.old connections.old books.new connections.new }
+    ensures told { AreTold (source_in context.now.listener.host books.new) connections.new }
+    ensures frame { SameFrame books.old books.new }
+    ensures stays { StaysTable connections.old connections.new }
+    ensures draft { IsDraft meter.old.tie draft.new }
+    ensures empty { draft.new.bytes ≡ [] }
+    ensures cost { PaysAtMost meter.old meter.new
+        (served_cost connections.old books.old books.new (length arguments.now)
+        + whole_cost (length room.old) result.1) }
+{
+    let served = serve_verdict(
+        connections,
+        books,
+        context,
+        &heard.verdict,
+        arguments,
+        draft,
+        meter,
+    );
+    let (left, given) = give_at_once(served, draft, room, meter);
+    let host = context.listener.host;
+    let clock = context.clock;
+    let closed = connections.go_on(id, left, clock, host, &books.registry, draft, meter);
+    (closed, given)
+}

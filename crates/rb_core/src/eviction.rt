@@ -1,0 +1,80 @@
+//! Room for a row among the live rows and those that were removed, but are kept for lists that are being given.
+ghost use Rattle.std.specs.Prelude.{◌≡◌, ◌≤◌, true, ℕ, length, IsTrue};
+ghost use Rattle.rb_xdr.specs.Meter.{PaysAtMost};
+ghost use Rattle.rb_proto.specs.Books.{AreTied, HasPlaceLeft, SameFrame};
+ghost use Rattle.rb_core.specs.Awaits.{has_idle, NoneIsFreed, KeepsSettled};
+ghost use Rattle.rb_core.specs.Slots.{StaysTable};
+ghost use Rattle.rb_core.specs.Listings.{AreTold, HasRoom, Evicts, source_in};
+ghost use Rattle.rb_core.specs.CallCosts.{kept_count, room_cost_of};
+
+use crate::connections::Connections;
+use rb_model::Message;
+use rb_proto::{Books, Context};
+use rb_registry::Registry;
+use rb_xdr::Meter;
+
+/// From this number of removed rows on, a SET looks for those that can go, though there is room beside them. Fewer stay, so
+/// that not each SET walks the rows.
+const MANY_DEAD: usize = 16;
+
+/// Returns whether there is room for a row beside the live and the removed ones, and few are removed.
+fn is_roomy(registry: &Registry, limit: usize, meter: &mut Meter) -> bool
+    requires tie { meter.old.tie ≡ registry.now.tie }
+    requires limit { registry.now.limit ≡ limit }
+    ensures room { IsTrue result → HasPlaceLeft registry.now }
+    ensures cost { PaysAtMost meter.old meter.new 1 }
+{
+    let live = registry.len(meter);
+    let dead = registry.dead();
+    dead < MANY_DEAD && dead < limit - live
+}
+
+/// Makes room for the row that a message is to add: where the live rows and those that are kept for lists reach the limit,
+/// the connections become Lost whose lists began before the earliest change that removed a kept row.
+///
+/// It is inlined, since for most calls there is nothing to do.
+#[inline(always)]
+pub fn make_room(
+    connections: &mut Connections,
+    books: &mut Books,
+    context: &Context,
+    message: &Message,
+    meter: &mut Meter,
+)
+    requires tied { AreTied meter.old.tie books.old }
+    requires tie { meter.old.tie ≡ connections.old.tie }
+    requires limit { books.old.registry.limit ≡ context.now.limit }
+    requires told { AreTold (source_in context.now.listener.host books.old) connections.old }
+    ensures makes { Evicts context.now message.now
+        connections.old books.old connections.new books.new }
+    ensures room { HasRoom context.now message.now books.new }
+    ensures told { AreTold (source_in context.now.listener.host books.new) connections.new }
+    ensures idle { (id : ℕ) → has_idle id connections.old ≡ true
+        → has_idle id connections.new ≡ true }
+    ensures settled { KeepsSettled connections.old connections.new }
+    ensures free { NoneIsFreed connections.old connections.new }
+    ensures forwards { books.new.forwards ≡ books.old.forwards }
+    ensures frame { SameFrame books.old books.new }
+    ensures stays { StaysTable connections.old connections.new }
+    ensures as_many { length connections.new.slots ≡ length connections.old.slots }
+    ensures fewer { kept_count books.new ≤ kept_count books.old }
+    ensures cost { PaysAtMost meter.old meter.new (room_cost_of connections.old books.old) }
+{
+    let Message::Asked(call) = message else {
+        return;
+    };
+    if is_roomy(&books.registry, context.limit, meter) {
+        return;
+    }
+    if !books.wants_room(context, call, meter) {
+        return;
+    }
+    books.trim(connections.oldest(meter), meter);
+    let live = books.registry.len(meter);
+    let (dead, earliest) = books.registry.kept(meter);
+    if dead < context.limit - live {
+        return;
+    }
+    connections.evict(earliest, meter);
+    books.trim(connections.oldest(meter), meter);
+}

@@ -1,0 +1,344 @@
+//! Serves a message: what it is answered with, and what is remembered of it.
+ghost use Rattle.std.specs.Prelude.{◌≡◌, ◌<◌, ◌≤◌, [], false, length, take};
+ghost use Rattle.rb_rpc.specs.Replies.{reply_head};
+ghost use Rattle.rb_xdr.specs.Meter.{PaysAtMost};
+ghost use Rattle.rb_registry.specs.Cursors.{GoesOn};
+ghost use Rattle.rb_proto.specs.Books.{AreTied, OnlyCallerWaits, SameFrame};
+ghost use Rattle.rb_proto.specs.Ledger.{Ledger, StandsForLedger};
+ghost use Rattle.rb_proto.specs.Results.{result_bytes, results_at, shown_in, shown_of};
+ghost use Rattle.rb_forward.specs.Forwards.{longest_results};
+ghost use Rattle.rb_forward.specs.Outcomes.{PassesWithin};
+ghost use Rattle.rb_forward.specs.StandsFor.{slots_of};
+ghost use Rattle.rb_forward.specs.Table.{IsNew};
+ghost use Rattle.rb_proto.specs.Forwarding.{forwarded_bytes};
+ghost use Rattle.rb_core.specs.declared.replies.Served.TheVariants.{Told};
+ghost use Rattle.rb_core.specs.declared.types.Outcome.TheVariants.{Reply};
+ghost use Rattle.rb_model.specs.Calls.{reply_in, success, longest_reply};
+ghost use Rattle.rb_model.specs.Ending.{told_failed, told_at};
+ghost use Rattle.rb_model.specs.Grammar.{HasArgsIn};
+ghost use Rattle.rb_core.specs.Awaits.{kind_of, StayUnlessForwarded};
+ghost use Rattle.rb_core.specs.Listings.{HasRoom};
+ghost use Rattle.rb_core.specs.Core.{given_in};
+ghost use Rattle.rb_core.specs.Serving.{TellsAnswer, ServesMessage, ServesNull, kind_in, IsWritten, IsStreamedTo, streamed};
+ghost use Rattle.rb_core.specs.AtOnce.{IsLeft, count_at_once, whole_cost};
+ghost use Rattle.rb_core.specs.CallCosts.{put_results_cost, serving_cost};
+ghost use Rattle.rb_core.specs.Slots.{IsDraft};
+ghost use Rattle.rb_model.specs.Costs.{put_end_cost};
+
+use crate::giving::give_whole;
+use crate::types::Outcome;
+use rb_forward::{Ended, Forward, Outcome as End};
+use rb_model::Message;
+use rb_proto::{
+    Answer, Books, Context, Listener, Listing, Results, answer, put_forwarded, put_results, refusal,
+};
+use rb_rpc::{CallHead, Caller, ReplyHead, ReplyStatus, put_reply};
+use rb_xdr::{Kept, Meter};
+
+/// The greatest length of a reply that is no streamed list, in bytes.
+pub const LONGEST_REPLY: usize = 9_000;
+
+/// What a message is answered with.
+#[derive(Clone, Copy, Debug, PartialEq, Eq)]
+pub enum Served {
+    /// A reply that is written, or none.
+    Told(Outcome),
+    /// A list under this xid that is streamed, of which nothing is written yet.
+    Listed(u32, Listing),
+}
+
+/// Writes the head of a reply into an empty buffer.
+#[tactic(auto, using(crate::proofs::ReplyHeads::short_head, crate::proofs::ReplyHeads::some_head), unfolding(rb_model::specs::Calls::longest_reply))]
+fn put_head(out: &mut Kept, head: ReplyHead, meter: &mut Meter)
+    requires tie { meter.old.tie ≡ out.old.tie }
+    requires empty { out.old.bytes ≡ [] }
+    requires room { longest_reply ≤ out.old.cap }
+    ensures written { out.new ≡ record out.old { bytes = reply_head head.xid head.status } }
+    ensures short { length out.new.bytes ≤ 32 }
+    ensures some { 0 < length out.new.bytes }
+    ensures cost { PaysAtMost meter.old meter.new 33 }
+{
+    let Ok(()) = put_reply(&head, out, meter) else {
+        unreachable!()
+    };
+}
+
+/// Writes the head of a reply with results into an empty buffer.
+fn put_success(xid: u32, out: &mut Kept, meter: &mut Meter)
+    requires tie { meter.old.tie ≡ out.old.tie }
+    requires empty { out.old.bytes ≡ [] }
+    requires room { longest_reply ≤ out.old.cap }
+    ensures written { out.new ≡ record out.old { bytes = reply_head xid ReplyStatus.Success } }
+    ensures short { length out.new.bytes ≤ 32 }
+    ensures some { 0 < length out.new.bytes }
+    ensures cost { PaysAtMost meter.old meter.new 33 }
+{
+    let status = ReplyStatus::Success;
+    put_head(out, ReplyHead { xid, status }, meter);
+}
+
+/// Writes SYSTEM_ERR into the buffer, in place of a reply that does not fit.
+fn put_system_err(xid: u32, out: &mut Kept, meter: &mut Meter)
+    requires tie { meter.old.tie ≡ out.old.tie }
+    requires room { longest_reply ≤ out.old.cap }
+    ensures written { out.new ≡ record out.old { bytes = reply_head xid ReplyStatus.SystemErr } }
+    ensures short { length out.new.bytes ≤ 32 }
+    ensures some { 0 < length out.new.bytes }
+    ensures cost { PaysAtMost meter.old meter.new 34 }
+{
+    out.clear(meter);
+    let status = ReplyStatus::SystemErr;
+    put_head(out, ReplyHead { xid, status }, meter);
+}
+
+/// Writes a whole reply into an empty buffer, or SYSTEM_ERR where it does not fit.
+#[tactic(auto, using(crate::proofs::ReplyHeads::some_fitting), unfolding(rb_model::specs::Calls::fitting, rb_model::specs::Calls::longest_reply))]
+fn put_reply_with(
+    results: &Results,
+    xid: u32,
+    books: &Books,
+    listener: &Listener,
+    out: &mut Kept,
+    meter: &mut Meter,
+)
+    requires tied { AreTied meter.old.tie books.now }
+    requires tie { meter.old.tie ≡ out.old.tie }
+    requires empty { out.old.bytes ≡ [] }
+    requires room { longest_reply ≤ out.old.cap }
+    ensures written { out.new.bytes ≡ success xid (results_at listener.now books.now results.now) }
+    ensures out { (out.new.cap ≡ out.old.cap) × (out.new.tie ≡ out.old.tie) }
+    ensures shows { (l : Ledger) → StandsForLedger books.now l
+        → shown_in books.now ≡ shown_of l }
+    ensures short { length out.new.bytes ≤ longest_reply }
+    ensures some { 0 < length out.new.bytes }
+    ensures cost { PaysAtMost meter.old meter.new
+        (put_results_cost books.now (length out.new.bytes)) }
+{
+    put_success(xid, out, meter);
+    if put_results(results, books, listener, LONGEST_REPLY, out, meter).is_err() {
+        put_system_err(xid, out, meter);
+    }
+}
+
+/// The list that results are, as they are given on a connection: None where they are written as a whole.
+fn list_in(results: &Results, caller: Caller) -> Option<Listing>
+    ensures { result ≡ streamed caller results.now }
+{
+    match caller {
+        Caller::Udp(_) => None,
+        Caller::Tcp(_, _) => match results {
+            Results::Rows(listing) => Some(*listing),
+            Results::Value(_) | Results::Statistics => None,
+        },
+    }
+}
+
+/// Writes an answer into an empty buffer, unless it is a list that is streamed.
+#[tactic(auto, unfolding(rb_model::specs::Calls::longest_reply))]
+fn put_answer(
+    answer: &Answer,
+    xid: u32,
+    books: &Books,
+    context: &Context,
+    out: &mut Kept,
+    meter: &mut Meter,
+) -> Served
+    requires tied { AreTied meter.old.tie books.now }
+    requires tie { meter.old.tie ≡ out.old.tie }
+    requires empty { out.old.bytes ≡ [] }
+    requires room { longest_reply ≤ out.old.cap }
+    ensures given { TellsAnswer books.now context.now xid answer.now result out.new.bytes }
+    ensures kind { kind_in result ≡ kind_of answer.now }
+    ensures list { IsStreamedTo context.now.caller result }
+    ensures written { IsWritten result out.new.bytes }
+    ensures short { length out.new.bytes ≤ longest_reply }
+    ensures out { (out.new.cap ≡ out.old.cap) × (out.new.tie ≡ out.old.tie) }
+    ensures cost { PaysAtMost meter.old meter.new
+        (put_results_cost books.now (length out.new.bytes)) }
+{
+    match answer {
+        Answer::Results(results) => {
+            if let Some(listing) = list_in(results, context.caller) {
+                return Served::Listed(xid, listing);
+            }
+            put_reply_with(results, xid, books, &context.listener, out, meter);
+            Served::Told(Outcome::Reply)
+        }
+        Answer::Refused(status) => {
+            let status = *status;
+            put_head(out, ReplyHead { xid, status }, meter);
+            Served::Told(Outcome::Reply)
+        }
+        Answer::Forwarded => Served::Told(Outcome::Forwarded),
+        Answer::Silent => Served::Told(Outcome::Silent),
+    }
+}
+
+/// Serves a message, behind whose head are these bytes, and writes its reply into an empty buffer, unless it is a list that
+/// is streamed.
+#[tactic(auto, unfolding(rb_model::specs::Calls::outcome, rb_model::specs::Calls::longest_reply))]
+pub fn serve(
+    books: &mut Books,
+    context: &Context,
+    message: &Message,
+    arguments: &[u8],
+    out: &mut Kept,
+    meter: &mut Meter,
+) -> Served
+    requires tied { AreTied meter.old.tie books.old }
+    requires limit { books.old.registry.limit ≡ context.now.limit }
+    requires forwards { books.old.forwards.cap ≡ context.now.forwards }
+    requires caller { IsNew context.now.caller (slots_of books.old.forwards) }
+    requires args { HasArgsIn message.now arguments.now }
+    requires row_room { HasRoom context.now message.now books.old }
+    requires tie { meter.old.tie ≡ out.old.tie }
+    requires empty { out.old.bytes ≡ [] }
+    requires room { longest_reply ≤ out.old.cap }
+    ensures acts { ServesMessage
+        context.now message.now arguments.now books.old books.new result out.new }
+    ensures cursors { GoesOn books.old.registry books.new.registry }
+    ensures floor { books.new.registry.floor ≡ books.old.registry.floor }
+    ensures list { IsStreamedTo context.now.caller result }
+    ensures quiet { StayUnlessForwarded (kind_in result) books.old.forwards books.new.forwards }
+    ensures waiting { OnlyCallerWaits context.now.caller books.old books.new }
+    ensures frame { SameFrame books.old books.new }
+    ensures short { length out.new.bytes ≤ longest_reply }
+    ensures written { IsWritten result out.new.bytes }
+    ensures out { (out.new.cap ≡ out.old.cap) × (out.new.tie ≡ out.old.tie) }
+    ensures cost { PaysAtMost meter.old meter.new
+        (serving_cost books.old books.new (length arguments.now) (length out.new.bytes)) }
+{
+    match message {
+        Message::NoCall => Served::Told(Outcome::NoCall),
+        Message::Refused(head) => {
+            put_head(out, *head, meter);
+            Served::Told(Outcome::Reply)
+        }
+        Message::Garbage(head) => {
+            let (xid, status) = (head.xid, ReplyStatus::GarbageArgs);
+            books.note_call(head);
+            put_head(out, ReplyHead { xid, status }, meter);
+            Served::Told(Outcome::Reply)
+        }
+        Message::Asked(call) => {
+            let xid = call.head.xid;
+            books.note_call(&call.head);
+            let given = answer(books, context, call, arguments, meter);
+            put_answer(&given, xid, books, context, out, meter)
+        }
+    }
+}
+
+/// Serves a call of NULL: its reply, a head without results, is written into an empty buffer.
+pub fn serve_null(books: &mut Books, head: &CallHead, out: &mut Kept, meter: &mut Meter) -> Served
+    requires tie { meter.old.tie ≡ out.old.tie }
+    requires empty { out.old.bytes ≡ [] }
+    requires room { longest_reply ≤ out.old.cap }
+    ensures acts { ServesNull head.now books.old books.new result out.new }
+    ensures replies { result ≡ Told Reply }
+    ensures registry { books.new.registry ≡ books.old.registry }
+    ensures forwards { books.new.forwards ≡ books.old.forwards }
+    ensures frame { SameFrame books.old books.new }
+    ensures short { length out.new.bytes ≤ 32 }
+    ensures some { 0 < length out.new.bytes }
+    ensures out { (out.new.cap ≡ out.old.cap) × (out.new.tie ≡ out.old.tie) }
+    ensures cost { PaysAtMost meter.old meter.new 33 }
+{
+    books.note_call(head);
+    put_success(head.xid, out, meter);
+    Served::Told(Outcome::Reply)
+}
+
+/// Writes the reply into `room` where it is one fragment and `room` has place for the longest. Returns what is left to do
+/// then, and the number of bytes written, 0 where nothing was.
+pub fn give_at_once(
+    served: Served,
+    draft: &mut Kept,
+    room: &mut [u8],
+    meter: &mut Meter,
+) -> (Served, usize)
+    requires draft { IsDraft meter.old.tie draft.old }
+    requires written { IsWritten served draft.old.bytes }
+    ensures count { result.1 ≡ count_at_once (length room.old) served draft.old.bytes }
+    ensures left { IsLeft served result.0 draft.old draft.new (take result.1 room.new) }
+    ensures written { IsWritten result.0 draft.new.bytes }
+    ensures draft { IsDraft meter.old.tie draft.new }
+    ensures within { result.1 ≤ length room.new }
+    ensures cost { PaysAtMost meter.old meter.new (whole_cost (length room.old) result.1) }
+{
+    if !matches!(served, Served::Told(Outcome::Reply)) {
+        return (served, 0);
+    }
+    match give_whole(draft, room, meter) {
+        0 => (served, 0),
+        given => (Served::Told(Outcome::Silent), given),
+    }
+}
+
+/// Writes the results that a target gave into an empty buffer, or SYSTEM_ERR where they do not fit.
+#[tactic(auto, using(crate::proofs::ReplyHeads::some_fitting), unfolding(rb_model::specs::Calls::fitting, rb_model::specs::Calls::longest_reply, rb_forward::specs::StandsFor::longest_arguments, rb_forward::specs::Forwards::longest_results))]
+fn put_passed(forward: &Forward, results: &[u8], out: &mut Kept, meter: &mut Meter)
+    requires results { length results.now ≤ longest_results }
+    requires tie { meter.old.tie ≡ out.old.tie }
+    requires empty { out.old.bytes ≡ [] }
+    requires room { longest_reply ≤ out.old.cap }
+    ensures writes { out.new.bytes ≡ success forward.now.xid (forwarded_bytes forward.now results.now) }
+    ensures out { (out.new.cap ≡ out.old.cap) × (out.new.tie ≡ out.old.tie) }
+    ensures short { length out.new.bytes ≤ longest_reply }
+    ensures some { 0 < length out.new.bytes }
+    ensures cost { PaysAtMost meter.old meter.new (put_end_cost (length out.new.bytes)) }
+{
+    put_success(forward.xid, out, meter);
+    if put_forwarded(forward, results, LONGEST_REPLY, out, meter).is_err() {
+        put_system_err(forward.xid, out, meter);
+    }
+}
+
+/// Writes what the caller of a failed call is told into an empty buffer.
+#[tactic(auto, unfolding(rb_model::specs::Calls::longest_reply))]
+fn put_failed(forward: &Forward, status: ReplyStatus, out: &mut Kept, meter: &mut Meter) -> Outcome
+    requires tie { meter.old.tie ≡ out.old.tie }
+    requires empty { out.old.bytes ≡ [] }
+    requires room { longest_reply ≤ out.old.cap }
+    ensures told { given_in result out.new ≡ told_failed forward.now status }
+    ensures held { out.new.bytes ≡ reply_in (given_in result out.new) }
+    ensures some { result ≡ Outcome.Reply → 0 < length out.new.bytes }
+    ensures short { length out.new.bytes ≤ longest_reply }
+    ensures out { (out.new.cap ≡ out.old.cap) × (out.new.tie ≡ out.old.tie) }
+    ensures cost { PaysAtMost meter.old meter.new (put_end_cost (length out.new.bytes)) }
+{
+    let xid = forward.xid;
+    match refusal(forward.kind, status) {
+        Answer::Refused(status) => {
+            put_head(out, ReplyHead { xid, status }, meter);
+            Outcome::Reply
+        }
+        Answer::Results(_) | Answer::Forwarded | Answer::Silent => Outcome::Silent,
+    }
+}
+
+/// Writes what the caller of a forwarded call is told at its end into an empty buffer; `message` is the datagram that ended
+/// it.
+pub fn put_end(ended: &Ended, message: &[u8], out: &mut Kept, meter: &mut Meter) -> Outcome
+    requires within { PassesWithin ended.now.outcome (length message.now) }
+    requires tie { meter.old.tie ≡ out.old.tie }
+    requires empty { out.old.bytes ≡ [] }
+    requires room { longest_reply ≤ out.old.cap }
+    ensures told { given_in result out.new ≡ told_at message.now ended.now }
+    ensures held { out.new.bytes ≡ reply_in (given_in result out.new) }
+    ensures some { result ≡ Outcome.Reply → 0 < length out.new.bytes }
+    ensures short { length out.new.bytes ≤ longest_reply }
+    ensures out { (out.new.cap ≡ out.old.cap) × (out.new.tie ≡ out.old.tie) }
+    ensures cost { PaysAtMost meter.old meter.new (put_end_cost (length out.new.bytes)) }
+{
+    let forward = &ended.forward;
+    match ended.outcome {
+        End::Passed(place) => {
+            put_passed(forward, &message[place..], out, meter);
+            Outcome::Reply
+        }
+        End::Refused(status) => put_failed(forward, status, out, meter),
+        End::Failed => put_failed(forward, ReplyStatus::SystemErr, out, meter),
+        End::Dropped => Outcome::Silent,
+    }
+}

@@ -1,0 +1,65 @@
+-- Who is in the way of a row, and which rows have room.
+use Rattle.std.proofs.Common.{◌≡◌, ◌≤◌, ◌<◌, ℕ, ◌+◌, true, false, cond, nat_lt, ◌&&◌, List, [], ◌∷◌, length, map, Option, Some, None, refl, ap}
+use Rattle.std.proofs.lemmas.Bool.{lt-ltb, le-ltb, ltb-true, and_parts}
+use Rattle.rb_registry.specs.declared.row.Row.{Row}
+use Rattle.rb_registry.specs.Rows.{has_place, is_change_left}
+use Rattle.rb_proto.specs.declared.context.Context.{Context}
+use Rattle.rb_proto.specs.declared.call.Call.{Call}
+use Rattle.rb_proto.specs.Answers.{adds, adds_row, row_to_set}
+use Rattle.rb_proto.specs.Ledger.{Ledger, rows_in}
+use Rattle.rb_model.specs.declared.message.Message.{Message}
+use Rattle.rb_model.specs.declared.message.Message.TheVariants as says
+use Rattle.rb_model.specs.State.{Connection, Connections}
+use Rattle.rb_model.specs.Losses.{kept_removals, asks_room, crowding, evicted, evicting}
+
+-- ---- who is in the way
+
+none_goes : (x : Connection) → evicted [] x ≡ x
+unfolding evicted
+none_goes x = refl
+
+pub none_evicted : (c : Connections) → evicting [] c ≡ c
+none_evicted c = ap (λ (all : List Connection). record c { all = all }) (same c.all)
+  where
+    same : (all : List Connection) → map (evicted []) all ≡ all
+    same [] = refl
+    same (x ∷ all) = rw (none_goes x, same all) refl
+
+pub not_asked : (context : Context) (message : Message) (all : List Connection) (l : Ledger) → asks_room context message l ≡ false → crowding context message all l ≡ []
+unfolding crowding
+not_asked context message all l none = rw none refl
+
+pub not_crowded : (context : Context) (message : Message) (all : List Connection) (l : Ledger) → length (rows_in l) + length (kept_removals all l) < context.limit → crowding context message all l ≡ []
+unfolding crowding
+not_crowded context message all l room =
+    let fits : nat_lt (length (rows_in l) + length (kept_removals all l)) context.limit ≡ true = lt-ltb _ _ room in
+    rw fits (elim (asks_room context message l) as (λ b. cond (b && false) (kept_removals all l) [] ≡ []) [ true ↦ refl | false ↦ refl ])
+
+pub crowded : (context : Context) (message : Message) (all : List Connection) (l : Ledger) → asks_room context message l ≡ true → context.limit ≤ length (rows_in l) + length (kept_removals all l)
+    → crowding context message all l ≡ kept_removals all l
+unfolding crowding
+crowded context message all l asks full =
+    let fits : nat_lt (length (rows_in l) + length (kept_removals all l)) context.limit ≡ false = le-ltb _ _ full in
+    rw (asks, fits) refl
+
+pub no_call_asks : (context : Context) (message : Message) (l : Ledger) → ((call : Call) → message ≡ says.Asked call → ⊥) → asks_room context message l ≡ false
+no_call_asks context says.NoCall l other = refl
+no_call_asks context (says.Refused head) l other = refl
+no_call_asks context (says.Garbage head) l other = refl
+no_call_asks context (says.Asked call) l other = absurd (other call refl)
+
+place_within : (limit : ℕ) (rows : List Row) (count : ℕ) (row : Row) → has_place limit rows count row ≡ true → length rows < limit
+unfolding has_place
+place_within limit rows count row is =
+    let parts = and_parts _ (is_change_left count) is in
+    let room = and_parts _ (nat_lt (length rows) limit) parts.0 in
+    ltb-true (length rows) limit room.1
+
+accepted_within : (context : Context) (rows : List Row) (count : ℕ) (row : Option Row) → adds context rows count row ≡ true → length rows < context.limit
+accepted_within context rows count None e = absurd cc
+accepted_within context rows count (Some row) e = place_within context.limit rows count row (and_parts _ (has_place context.limit rows count row) e).1
+
+-- a row that is accepted has room among the live ones
+pub row_within : (context : Context) (call : Call) (rows : List Row) (count : ℕ) → adds_row context call rows count ≡ true → length rows < context.limit
+unfolding adds_row
+row_within context call rows count is = accepted_within context rows count (row_to_set call) is

@@ -1,0 +1,137 @@
+-- What a message says, by the order of refusals, and what it is answered with (RFC 5531 sections 8 and 9).
+use Rattle.std.specs.Prelude.{ℕ, ◌==◌, nat_lt, not, ◌||◌, Bool, true, false, if◌then◌else◌, List, [], ◌++◌, length, Option, Some, None, Result, Ok, Err, take}
+use Rattle.rb_rpc.specs.declared.call.CallHead.{CallHead}
+use Rattle.rb_rpc.specs.declared.call.Verdict.{Verdict}
+use Rattle.rb_rpc.specs.declared.call.Verdict.TheVariants as verdicts
+use Rattle.rb_rpc.specs.Verdict.{verdict}
+use Rattle.rb_rpc.specs.declared.reply.ReplyStatus.{ReplyStatus}
+use Rattle.rb_rpc.specs.declared.reply.ReplyStatus.TheVariants as replies
+use Rattle.rb_rpc.specs.Replies.{reply_head}
+use Rattle.rb_rpc.specs.declared.peer.Caller.{Caller}
+use Rattle.rb_rpc.specs.declared.peer.Caller.TheVariants.{Tcp, Udp}
+use Rattle.rb_feed.specs.Feeds.{arguments_of}
+use Rattle.rb_registry.specs.Rows.{rpcb_prog}
+use Rattle.rb_proto.specs.declared.request.ArgumentFault.{ArgumentFault}
+use Rattle.rb_proto.specs.declared.request.ArgumentFault.TheVariants as faults
+use Rattle.rb_proto.specs.declared.request.Request.{Request}
+use Rattle.rb_proto.specs.declared.context.Context.{Context}
+use Rattle.rb_proto.specs.Arguments.{read_request}
+use Rattle.rb_proto.specs.Ledger.{Ledger, called}
+use Rattle.rb_proto.specs.declared.answers.Answer.{Answer}
+use Rattle.rb_proto.specs.declared.answers.Results.{Results}
+use Rattle.rb_proto.specs.declared.answers.Results.TheVariants as results
+use Rattle.rb_proto.specs.declared.answers.Answer.TheVariants as answers
+use Rattle.rb_proto.specs.Answers.{answer}
+use Rattle.rb_proto.specs.Results.{result_bytes, shown_of}
+use Rattle.rb_model.specs.declared.message.Message.{Message}
+use Rattle.rb_model.specs.declared.message.Message.TheVariants as says
+
+-- ---- what a message says
+
+-- the versions of program 100000
+unfoldable pub is_served : ℕ → Bool
+is_served vers = vers == 2 || vers == 3 || vers == 4
+
+-- a reply without results
+abbrev pub refusal : ℕ → ReplyStatus → Message
+refusal xid status = says.Refused (record { xid = xid; status = status })
+
+-- a call of a version that is served, with its arguments, or why they can't be read
+unfoldable pub request_of : CallHead → Result Request ArgumentFault → Message
+request_of head (Err faults.ProcUnavail) = refusal head.xid replies.ProcUnavail
+request_of head (Err faults.GarbageArgs) = says.Garbage head
+request_of head (Ok request) = says.Asked (record { head = head; request = request })
+
+-- A call with a readable head, and the bytes behind its verifier: the first line that holds decides.
+unfoldable pub call_of : CallHead → List ℕ → Message
+call_of head arguments =
+    if not (head.prog == rpcb_prog) then refusal head.xid replies.ProgUnavail
+    else if not (is_served head.vers) then refusal head.xid (replies.ProgMismatch 2 4)
+    else request_of head (read_request head.vers head.proc arguments)
+
+-- a message of this verdict, with the bytes behind its head
+abbrev pub message_with : Verdict → List ℕ → Message
+message_with verdicts.NoCall arguments = says.NoCall
+message_with (verdicts.RpcMismatch xid) arguments = refusal xid (replies.RpcMismatch 2 2)
+message_with (verdicts.AuthError xid stat) arguments = refusal xid (replies.AuthError stat)
+message_with (verdicts.Call head place) arguments = call_of head arguments
+
+-- the data of a whole record, or a datagram
+unfoldable pub message_of : List ℕ → Message
+message_of bytes = message_with (verdict bytes) (arguments_of bytes)
+
+-- ---- what it is answered with
+
+-- What is no call has no reply, and a call has one, or is forwarded, or stays without one. A reply that is a streamed list
+-- has the number of changes after which it began.
+pub data Outcome : Type 0 where
+  NoCall : Outcome
+  Reply : List ℕ → Option ℕ → Outcome
+  Forwarded : Outcome
+  Silent : Outcome
+
+abbrev pub is_no_call : Outcome → Bool
+is_no_call NoCall = true
+is_no_call (Reply bytes began) = false
+is_no_call Forwarded = false
+is_no_call Silent = false
+
+-- no bytes where there is no reply
+abbrev pub reply_in : Outcome → List ℕ
+reply_in NoCall = []
+reply_in (Reply bytes began) = bytes
+reply_in Forwarded = []
+reply_in Silent = []
+
+-- the greatest length of a reply, but for a list that is streamed
+unfoldable pub longest_reply : ℕ
+longest_reply = 9000
+
+-- a reply that does not fit is SYSTEM_ERR
+unfoldable pub fitting : ℕ → List ℕ → List ℕ
+fitting xid reply = if nat_lt longest_reply (length reply) then reply_head xid replies.SystemErr else reply
+
+-- the reply with results
+abbrev pub success : ℕ → List ℕ → List ℕ
+success xid results = fitting xid (reply_head xid replies.Success ++ results)
+
+-- Results of these bytes, after so many changes: a list of rows is streamed on a connection, of any length.
+abbrev pub told_results : Caller → ℕ → ℕ → List ℕ → Results → Outcome
+told_results (Tcp id peer) count xid bytes (results.Rows list) = Reply (reply_head xid replies.Success ++ bytes) (Some count)
+told_results (Udp peer) count xid bytes (results.Rows list) = Reply (success xid bytes) None
+told_results caller count xid bytes (results.Value value) = Reply (success xid bytes) None
+told_results caller count xid bytes results.Statistics = Reply (success xid bytes) None
+
+-- what an answer to a caller comes to after so many changes, where these are the bytes of results
+abbrev pub told_as : Caller → ℕ → ℕ → (Results → List ℕ) → Answer → Outcome
+told_as caller count xid bytes_of (answers.Results results) = told_results caller count xid (bytes_of results) results
+told_as caller count xid bytes_of (answers.Refused status) = Reply (reply_head xid status) None
+told_as caller count xid bytes_of answers.Forwarded = Forwarded
+told_as caller count xid bytes_of answers.Silent = Silent
+
+-- the outcome with an answer, where this is remembered after it
+abbrev pub reply_with : Context → ℕ → Answer × Ledger → Outcome × Ledger
+reply_with context xid (given, ledger) = (
+  told_as context.caller (length ledger.changes) xid (result_bytes context.listener.host (shown_of ledger)) given,
+  ledger,
+)
+
+-- What a message is answered with where a call sees this, and the ledger after it; these are the bytes behind its head. A
+-- call of a procedure that is served is noted before it is answered, and one that is refused before that is not.
+unfoldable pub outcome : Context → Message → List ℕ → Ledger → Outcome × Ledger
+outcome context says.NoCall arguments ledger = (NoCall, ledger)
+outcome context (says.Refused head) arguments ledger = (Reply (reply_head head.xid head.status) None, ledger)
+outcome context (says.Garbage head) arguments ledger =
+    (Reply (reply_head head.xid replies.GarbageArgs) None, called head ledger)
+outcome context (says.Asked call) arguments ledger =
+    reply_with context call.head.xid (answer context call arguments (called call.head ledger))
+
+-- ---- the arguments that are kept of a record while it is read (RFC 5531 section 11)
+
+-- the greatest length of arguments that are served
+unfoldable pub longest_arguments : ℕ
+longest_arguments = 8816
+
+-- What is kept of a record with this data: the first bytes behind the head of its call, and of no call nothing.
+abbrev pub kept_of : List ℕ → List ℕ
+kept_of content = take longest_arguments (arguments_of content)

@@ -1,0 +1,184 @@
+-- Connections: what bytes that arrive and bytes that are given do to one, and how they come and go.
+use Rattle.std.specs.Prelude.{ℕ, ◌+◌, ◌-◌, ◌*◌, ◌/◌, ◌==◌, nat_lt, min, Bool, true, false, not, ◌&&◌, if◌then◌else◌, List, [], ◌∷◌, ◌++◌, length, take, drop, find, filter, Option, Some, None, Result, Ok, Err}
+use Rattle.std.specs.Option.{option_map}
+use Rattle.std.specs.List.{list_any}
+use Rattle.rb_rpc.specs.declared.peer.Peer.{Peer}
+use Rattle.rb_rpc.specs.Records.{first_record, data_of, marked}
+use Rattle.rb_model.specs.declared.types.CoreFault.{CoreFault}
+use Rattle.rb_model.specs.declared.types.CoreFault.TheVariants.{Full, Gone, Spent}
+use Rattle.rb_model.specs.State.{Owed, Phase, Connection, Connections, State, greatest_number}
+use Rattle.rb_model.specs.State.Phase.{Idle, Reading, Owing, Awaiting, Lost}
+use Rattle.rb_model.specs.Calls.{Outcome}
+use Rattle.rb_model.specs.Calls.Outcome.{NoCall, Reply, Forwarded, Silent}
+
+-- ---- a reply that is given piece by piece (RFC 5531 section 11)
+
+-- a whole marked fragment of a reply: four bytes of header and 1,024 of data
+unfoldable pub longest_fragment : ℕ
+longest_fragment = 1028
+
+-- of what is still to be given, what is left of the fragment in which the giving stands
+unfoldable pub pending_of : Owed → List ℕ
+pending_of o = drop o.given (take (longest_fragment * (o.given / longest_fragment + 1)) o.marked)
+
+-- a reply of which so many marked bytes were given
+abbrev pub owed_of : List ℕ → Option ℕ → ℕ → Owed
+owed_of reply began given = record { marked = marked reply; given = given; began = began }
+
+-- ---- bytes that arrive on one (RFC 5531 section 11)
+
+-- What a connection takes of a piece of bytes: none of it; or all, no record ends in it, and all these bytes are fed
+-- since the last record's end; or so many bytes, with which the first record ends, and its data.
+pub data Taking : Type 0 where
+  TakesNone : Taking
+  GoesOn : List ℕ → Taking
+  Ends : ℕ → List ℕ → Taking
+
+-- the bytes fed since the last record's end, where the connection takes any now
+abbrev pub fed_in : Phase → Option (List ℕ)
+fed_in Idle = Some []
+fed_in (Reading fed) = Some fed
+fed_in (Owing owed) = None
+fed_in Awaiting = None
+fed_in Lost = None
+
+abbrev pub taking_up_to : List ℕ → List ℕ → Option ℕ → Taking
+taking_up_to fed piece None = GoesOn (fed ++ piece)
+taking_up_to fed piece (Some n) = Ends (n - length fed) (data_of (take n (fed ++ piece)))
+
+-- the first record that ends in these bytes decides
+abbrev pub taking_on : List ℕ → List ℕ → Taking
+taking_on fed piece = taking_up_to fed piece (first_record (fed ++ piece))
+
+abbrev pub taking_behind : Option (List ℕ) → List ℕ → Taking
+taking_behind None piece = TakesNone
+taking_behind (Some fed) [] = TakesNone
+taking_behind (Some fed) (byte ∷ piece) = taking_on fed (byte ∷ piece)
+
+-- in this phase
+unfoldable pub taking : Phase → List ℕ → Taking
+taking phase piece = taking_behind (fed_in phase) piece
+
+-- the mark while a record is read is that of its first byte
+abbrev pub mark_when_fed : ℕ → ℕ → Phase → ℕ
+mark_when_fed clock mark Idle = clock
+mark_when_fed clock mark (Reading fed) = mark
+mark_when_fed clock mark (Owing owed) = mark
+mark_when_fed clock mark Awaiting = mark
+mark_when_fed clock mark Lost = mark
+
+-- no record ended yet
+unfoldable pub reading : ℕ → List ℕ → Connection → Connection
+reading clock fed c = record c { phase = Reading fed; mark = mark_when_fed clock c.mark c.phase }
+
+abbrev pub phase_after : Outcome → Phase
+phase_after NoCall = Lost
+phase_after (Reply bytes began) = Owing (owed_of bytes began 0)
+phase_after Forwarded = Awaiting
+phase_after Silent = Idle
+
+-- once the record that ended is answered, or the call that was forwarded
+unfoldable pub settled : ℕ → Outcome → Connection → Connection
+settled clock given c = record c { phase = phase_after given; mark = clock }
+
+-- ---- bytes that are given on one
+
+abbrev pub pending_in : Phase → List ℕ
+pending_in (Owing o) = pending_of o
+pending_in Idle = []
+pending_in (Reading fed) = []
+pending_in Awaiting = []
+pending_in Lost = []
+
+-- with its last byte given, the connection is Idle again
+abbrev pub phase_when_given : ℕ → Phase → Phase
+phase_when_given n (Owing o) =
+    if nat_lt (o.given + n) (length o.marked) then Owing (record o { given = o.given + n }) else Idle
+phase_when_given n Idle = Idle
+phase_when_given n (Reading fed) = Reading fed
+phase_when_given n Awaiting = Awaiting
+phase_when_given n Lost = Lost
+
+-- so many of the pending bytes were given; none leaves it as it was
+unfoldable pub when_given : ℕ → ℕ → Connection → Connection
+when_given clock n c = if n == 0 then c else record c { phase = phase_when_given n c.phase; mark = clock }
+
+-- n bytes were given, or as many as are pending
+unfoldable pub giving : ℕ → ℕ → Connection → Unit {0} × Connection
+giving clock n c = (tt, when_given clock (min n (length (pending_in c.phase))) c)
+
+-- ---- all connections
+
+abbrev pub is_lost : Phase → Bool
+is_lost Lost = true
+is_lost Idle = false
+is_lost (Reading fed) = false
+is_lost (Owing owed) = false
+is_lost Awaiting = false
+
+abbrev pub has_number : ℕ → Connection → Bool
+has_number id c = c.number == id
+
+-- it has this number and is not Lost
+unfoldable pub is_live : ℕ → Connection → Bool
+is_live id c = c.number == id && not (is_lost c.phase)
+
+unfoldable pub live_connection : ℕ → List Connection → Option Connection
+live_connection id all = find (is_live id) all
+
+-- the values, with the first changed that passes a test
+abbrev pub change_first : {A : Type 0} → (A → Bool) → (A → A) → List A → List A
+change_first test change [] = []
+change_first test change (x ∷ xs) = if test x then change x ∷ xs else x ∷ change_first test change xs
+
+-- the connections, with the live one of the number changed
+abbrev pub changed_at : ℕ → (Connection → Connection) → Connections → Connections
+changed_at id change c = record c { all = change_first (is_live id) change c.all }
+
+abbrev pub on_connection : ℕ → (Connection → Connection) → State → State
+on_connection id change s = record s { connections = changed_at id change s.connections }
+
+-- Something is done with the live connection of the number. It is refused where there is none, and nothing changes.
+abbrev pub on_found : {A : Type 0} → ℕ → (Connection → A × Connection) → Connections → Option Connection → Result A CoreFault × Connections
+on_found id act connections None = (Err Gone, connections)
+on_found id act connections (Some c) = (Ok (act c).0, changed_at id (λ x. (act x).1) connections)
+
+abbrev pub on_live : {A : Type 0} → ℕ → (Connection → A × Connection) → Connections → Result A CoreFault × Connections
+on_live id act connections = on_found id act connections (live_connection id connections.all)
+
+-- ---- how they come and go
+
+-- Lost connections count until they are closed
+unfoldable pub number_for : ℕ → Connections → Result ℕ CoreFault
+number_for conns c =
+    if not (nat_lt (length c.all) conns) then Err Full
+    else if nat_lt greatest_number c.next then Err Spent
+    else Ok c.next
+
+-- a new connection among them, Idle from its opening
+abbrev pub with_new : Peer → ℕ → Connections → Connections
+with_new peer clock c =
+    let new : Connection = record { number = c.next; peer = peer; phase = Idle; mark = clock } in
+    record { next = c.next + 1; all = c.all ++ new ∷ [] }
+
+abbrev pub opening_as : Peer → ℕ → Connections → Result ℕ CoreFault → Result ℕ CoreFault × Connections
+opening_as peer clock c (Err fault) = (Err fault, c)
+opening_as peer clock c (Ok number) = (Ok number, with_new peer clock c)
+
+-- a connection is opened where there may be one more
+unfoldable pub opening_of : ℕ → Peer → ℕ → Connections → Result ℕ CoreFault × Connections
+opening_of conns peer clock c = opening_as peer clock c (number_for conns c)
+
+-- The connections are in the order of their numbers, so the first is that of least number.
+unfoldable pub first_lost : Connections → Option ℕ
+first_lost c = option_map (λ (x : Connection). x.number) (find (λ (x : Connection). is_lost x.phase) c.all)
+
+unfoldable pub is_there : ℕ → Connections → Bool
+is_there id c = list_any (has_number id) c.all
+
+unfoldable pub without_number : ℕ → Connections → Connections
+without_number id c = record c { all = filter (λ (x : Connection). not (x.number == id)) c.all }
+
+-- live or Lost, it is there no longer
+unfoldable pub closing_of : ℕ → Connections → Result (Unit {0}) CoreFault × Connections
+closing_of id c = if is_there id c then (Ok tt, without_number id c) else (Err Gone, c)

@@ -1,0 +1,96 @@
+-- How forwarded calls end, and what their callers are told (RFC 1833 sections 2.2.1 and 3.2).
+use Rattle.std.specs.Prelude.{ℕ, max, List, [], drop, Option, Some, None}
+use Rattle.rb_rpc.specs.declared.peer.Peer.{Peer}
+use Rattle.rb_rpc.specs.declared.peer.Caller.{Caller}
+use Rattle.rb_rpc.specs.declared.peer.Caller.TheVariants.{Tcp, Udp}
+use Rattle.rb_rpc.specs.declared.reply.ReplyStatus.{ReplyStatus}
+use Rattle.rb_rpc.specs.declared.reply.ReplyStatus.TheVariants as replies
+use Rattle.rb_rpc.specs.Replies.{reply_head}
+use Rattle.rb_forward.specs.declared.types.Forward.{Forward}
+use Rattle.rb_forward.specs.declared.types.Outcome as target
+use Rattle.rb_forward.specs.declared.types.Outcome.TheVariants.{Passed, Refused, Failed, Dropped}
+use Rattle.rb_forward.specs.declared.types.Ended as entry
+use Rattle.rb_proto.specs.declared.answers.Answer.{Answer}
+use Rattle.rb_proto.specs.declared.answers.Answer.TheVariants as answers
+use Rattle.rb_proto.specs.Ledger.{Ledger}
+use Rattle.rb_proto.specs.Forwarding.{refusal, replied, fell_due, forwarded_bytes}
+use Rattle.rb_model.specs.declared.types.Told.TheVariants.{TcpReady, Datagram}
+use Rattle.rb_model.specs.declared.types.Told.TheVariants as told
+use Rattle.rb_model.specs.declared.types.Expired.TheVariants.{Nothing, Ended, ConnectionClosed}
+use Rattle.rb_model.specs.State.{Connections, State, at_moment}
+use Rattle.rb_model.specs.Calls.{Outcome, reply_in, success}
+use Rattle.rb_model.specs.Calls.Outcome.{NoCall, Reply, Forwarded, Silent}
+use Rattle.rb_model.specs.Connections.{settled, on_connection}
+use Rattle.rb_model.specs.Losses.{expiring}
+pub use Rattle.rb_model.specs.declared.types.Told.{Told}
+pub use Rattle.rb_model.specs.declared.types.Expired.{Expired}
+
+-- ---- what a caller is told
+
+-- a refusal is a reply without results, and what is silent has none
+abbrev pub refused_by : ℕ → Answer → Outcome
+refused_by xid (answers.Refused status) = Reply (reply_head xid status) None
+refused_by xid (answers.Results results) = Silent
+refused_by xid answers.Forwarded = Silent
+refused_by xid answers.Silent = Silent
+
+-- what the caller of a call is told that failed so
+abbrev pub told_failed : Forward → ReplyStatus → Outcome
+told_failed forward status = refused_by forward.xid (refusal forward.kind status)
+
+-- what the caller of a call is told that ended so, by this datagram of its target: the results are its last bytes
+abbrev pub told_of : Forward → List ℕ → target.Outcome → Outcome
+told_of forward message (Passed place) = Reply (success forward.xid (forwarded_bytes forward (drop place message))) None
+told_of forward message (Refused status) = told_failed forward status
+told_of forward message Failed = told_failed forward replies.SystemErr
+told_of forward message Dropped = Silent
+
+abbrev pub told_at : List ℕ → entry.Ended → Outcome
+told_at message ended = told_of ended.forward message ended.outcome
+
+abbrev pub told_over_udp : Peer → Outcome → Told
+told_over_udp peer (Reply reply began) = Datagram peer
+told_over_udp peer NoCall = told.Silent
+told_over_udp peer Forwarded = told.Silent
+told_over_udp peer Silent = told.Silent
+
+-- ---- the end of an entry
+
+-- A caller is told this at the end of its call. A connection goes on with it; over UDP it is the last reply.
+abbrev pub tell : Caller → Outcome → State → Told × State
+tell (Tcp id peer) said s = (TcpReady id, on_connection id (settled s.clock said) s)
+tell (Udp peer) said s = (told_over_udp peer said, record s { reply = reply_in said })
+
+-- An entry ends, if there is one, with this left behind, and its caller is told how, where it ended by this datagram.
+abbrev pub tell_end : List ℕ → State → Option entry.Ended × Ledger → Option Told × State
+tell_end message s (None, ledger) = (None, record s { ledger = ledger })
+tell_end message s (Some ended, ledger) =
+    let after : Told × State = tell ended.forward.caller (told_at message ended) (record s { ledger = ledger }) in
+    (Some after.0, after.1)
+
+-- the state at a moment at which the last reply over UDP is taken back
+abbrev pub at_fresh_moment : ℕ → State → State
+at_fresh_moment now s = record (at_moment now s) { reply = [] }
+
+-- A datagram of a target comes in: None where it is no reply to an entry.
+unfoldable pub forward_reply : State → ℕ → Peer → List ℕ → Option Told × State
+forward_reply s now from message =
+    tell_end message (at_fresh_moment now s) (replied s.setting.first_xid (max s.clock now) from message s.ledger)
+
+abbrev pub closed_as : Option ℕ → Expired
+closed_as None = Nothing
+closed_as (Some id) = ConnectionClosed id
+
+-- The due connection of least number becomes Lost, if there is one.
+unfoldable pub expire_connection : State → Expired × State
+expire_connection s =
+    let after : Option ℕ × Connections = expiring s.clock s.connections in
+    (closed_as after.0, record s { connections = after.1 })
+
+abbrev pub expired_as : Option Told × State → Expired × State
+expired_as (None, s) = expire_connection s
+expired_as (Some told, s) = (Ended told, s)
+
+-- One thing that is due is done: the due entry of least number ends, or where there is none, a connection becomes Lost.
+unfoldable pub expire : State → ℕ → Expired × State
+expire s now = expired_as (tell_end [] (at_fresh_moment now s) (fell_due (max s.clock now) s.ledger))

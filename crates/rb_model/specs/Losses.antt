@@ -1,0 +1,130 @@
+-- When a connection becomes Lost: at its deadline, or where the rows that are kept for its list are in the way. Moments are
+-- in milliseconds.
+use Rattle.std.specs.Prelude.{ℕ, ◌+◌, nat_le, nat_lt, Bool, false, not, ◌&&◌, if◌then◌else◌, List, [], ◌∷◌, length, map, find, filter, filter_map, Option, Some, None}
+use Rattle.std.specs.Option.{option_map}
+use Rattle.std.specs.List.{list_any, list_all}
+use Rattle.rb_registry.specs.declared.slot.Slot.{Slot}
+use Rattle.rb_registry.specs.Slots.{all_slots}
+use Rattle.rb_forward.specs.Forwards.{later}
+use Rattle.rb_proto.specs.declared.context.Context.{Context}
+use Rattle.rb_proto.specs.Ledger.{Ledger, rows_in}
+use Rattle.rb_proto.specs.Answers.{wants_room}
+use Rattle.rb_model.specs.declared.message.Message.{Message}
+use Rattle.rb_model.specs.declared.message.Message.TheVariants as says
+use Rattle.rb_model.specs.State.{Phase, Connection, Connections, State}
+use Rattle.rb_model.specs.State.Phase.{Idle, Reading, Owing, Awaiting, Lost}
+use Rattle.rb_model.specs.Connections.{changed_at}
+
+-- ---- how long it may take
+
+-- from the opening, the last byte of a reply given, or the end of a silent call to the first byte of the next record
+abbrev pub idle_time : ℕ
+idle_time = 300000
+
+-- from the first byte of a record to its end
+abbrev pub reading_time : ℕ
+reading_time = 30000
+
+-- from the end of a call, or a byte of its reply given, to the next byte of the reply given
+abbrev pub owing_time : ℕ
+owing_time = 30000
+
+-- In this phase, from the mark on. A call that is awaited has a deadline of its own.
+abbrev pub time_in : Phase → Option ℕ
+time_in Idle = Some idle_time
+time_in (Reading fed) = Some reading_time
+time_in (Owing owed) = Some owing_time
+time_in Awaiting = None
+time_in Lost = None
+
+-- ---- what is due
+
+-- the moment from which a connection of this mark and phase is due; a sum ends at the greatest moment
+abbrev pub deadline : ℕ → Phase → Option ℕ
+deadline mark phase = option_map (later mark) (time_in phase)
+
+abbrev pub has_come : ℕ → Option ℕ → Bool
+has_come clock None = false
+has_come clock (Some moment) = nat_le moment clock
+
+unfoldable pub is_due : ℕ → Connection → Bool
+is_due clock c = has_come clock (deadline c.mark c.phase)
+
+-- The connections are in the order of their numbers, so the first is that of least number.
+unfoldable pub first_due : ℕ → Connections → Option ℕ
+first_due clock c = option_map (λ (x : Connection). x.number) (find (is_due clock) c.all)
+
+-- ---- what becomes of it
+
+-- nothing else of it changes
+abbrev pub lost : Connection → Connection
+lost c = record c { phase = Lost }
+
+abbrev pub with_lost : Option ℕ → Connections → Connections
+with_lost None c = c
+with_lost (Some id) c = changed_at id lost c
+
+-- The due connection of least number, if there is one, becomes Lost.
+unfoldable pub expiring : ℕ → Connections → Option ℕ × Connections
+expiring clock c = (first_due clock c, with_lost (first_due clock c) c)
+
+-- ---- rows that are kept
+
+-- the number of changes after which a streamed list began that is unfinished
+abbrev pub began_in : Phase → Option ℕ
+began_in (Owing o) = o.began
+began_in Idle = None
+began_in (Reading fed) = None
+began_in Awaiting = None
+began_in Lost = None
+
+unfoldable pub begins : List Connection → List ℕ
+begins all = filter_map (λ (c : Connection). began_in c.phase) all
+
+-- some of these lists began before the change
+abbrev pub is_kept_for : List ℕ → ℕ → Bool
+is_kept_for begins change = list_any (λ n. nat_lt n change) begins
+
+-- the changes that removed rows, one for each row that was removed
+abbrev pub removals_by : Ledger → List ℕ
+removals_by l = filter_map (λ (slot : Slot). slot.removed) (all_slots l.own l.changes)
+
+-- A removed row is kept where some unfinished list began before the change that removed it.
+unfoldable pub kept_removals : List Connection → Ledger → List ℕ
+kept_removals all l = filter (is_kept_for (begins all)) (removals_by l)
+
+-- ---- room for a row
+
+-- the message is a SET that is accepted
+abbrev pub asks_room : Context → Message → Ledger → Bool
+asks_room context (says.Asked call) l = wants_room context call l
+asks_room context says.NoCall l = false
+asks_room context (says.Refused head) l = false
+asks_room context (says.Garbage head) l = false
+
+-- the live and the kept rows reach the limit
+abbrev pub is_crowded : ℕ → List Connection → Ledger → Bool
+is_crowded limit all l = not (nat_lt (length (rows_in l) + length (kept_removals all l)) limit)
+
+-- the changes that removed the rows of which one has to go, where a message wants room and there is none
+unfoldable pub crowding : Context → Message → List Connection → Ledger → List ℕ
+crowding context message all l =
+    if asks_room context message l && is_crowded context.limit all l then kept_removals all l else []
+
+-- a list that began before the earliest of these changes, if there is one
+abbrev pub began_before : List ℕ → Option ℕ → Bool
+began_before [] began = false
+began_before (change ∷ changes) None = false
+began_before (change ∷ changes) (Some n) = list_all (λ later. nat_lt n later) (change ∷ changes)
+
+unfoldable pub evicted : List ℕ → Connection → Connection
+evicted changes c = if began_before changes (began_in c.phase) then lost c else c
+
+abbrev pub evicting : List ℕ → Connections → Connections
+evicting changes c = record c { all = map (evicted changes) c.all }
+
+-- Before a message is answered that wants room, the connections become Lost whose lists began before the earliest change
+-- that removed a kept row, where the live and the kept rows reach the limit.
+abbrev pub with_room : Context → Message → State → State
+with_room context message s =
+    record s { connections = evicting (crowding context message s.connections.all s.ledger) s.connections }

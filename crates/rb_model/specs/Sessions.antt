@@ -1,0 +1,220 @@
+-- What passes on one connection in a whole run (RFC 5531 section 11).
+use Rattle.std.specs.Prelude.{◌≡◌, ◌≢◌, ◌⊎◌, ⊤, ℕ, ◌==◌, max, Bool, true, false, if◌then◌else◌, List, [], ◌∷◌, ◌++◌, take, map, All, Option, Some, None, Result, Ok, Err}
+use Rattle.std.specs.List.{flat_map}
+use Rattle.rb_xdr.specs.Xdr.{AreBytes}
+use Rattle.rb_rpc.specs.declared.peer.Caller.{Caller}
+use Rattle.rb_rpc.specs.declared.peer.Caller.TheVariants.{Tcp}
+use Rattle.rb_rpc.specs.Records.{first_record, data_of, marked}
+use Rattle.rb_rpc.specs.RecordLaws.{Records}
+use Rattle.rb_forward.specs.declared.types.Ended.{Ended}
+use Rattle.rb_forward.specs.Forwards.{is_connection}
+use Rattle.rb_proto.specs.declared.listener.Listener.{Listener}
+use Rattle.rb_proto.specs.Forwarding.{replied, fell_due}
+use Rattle.rb_model.specs.declared.types.CoreFault.{CoreFault}
+use Rattle.rb_model.specs.declared.types.Limits.{Limits}
+use Rattle.rb_model.specs.Calls.{Outcome}
+use Rattle.rb_model.specs.Step.{serve, pending, Event, Output, step, after}
+use Rattle.rb_model.specs.Step.Event.{Bytes, Gave, Forward, Expire}
+use Rattle.rb_model.specs.Bounds.{count_in}
+use Rattle.rb_model.specs.State.{Connection, State, opening, at_moment}
+use Rattle.rb_model.specs.Step.Output.{Done}
+use Rattle.rb_model.specs.Connections.{live_connection}
+use Rattle.rb_model.specs.Ending.{told_at}
+use Rattle.rb_model.specs.Calls.Outcome.{NoCall, Reply, Forwarded, Silent}
+use Rattle.rb_model.specs.Laws.{IsLive, owed_in, is_awaiting}
+
+-- the data of a record, and what was said to it: at the moment that the record ended, or at the end of the call that was
+-- forwarded for it
+pub record Exchange : Type 0 where
+  pub content : List ℕ
+  pub said : Outcome
+
+-- What passed on a connection so far: the bytes that were taken, joined, and those that were given, joined;
+-- of the former, those behind the last record; and the calls in the records.
+pub record Session : Type 0 where
+  pub taken : List ℕ
+  pub given : List ℕ
+  pub unfinished : List ℕ
+  pub calls : List Exchange
+
+-- ---- what one event takes and gives, as its line and its output say
+
+abbrev pub piece_to : ℕ → Event → List ℕ
+piece_to id (Bytes now other piece) = if other == id then piece else []
+piece_to id other = []
+
+-- of the piece that an event brings to a connection, as many bytes as its output says
+abbrev pub taken_by : ℕ → Event → Output → List ℕ
+taken_by id event output = take (count_in output) (piece_to id event)
+
+abbrev pub gave_to : ℕ → Event → ℕ
+gave_to id (Gave now other n) = if other == id then n else 0
+gave_to id other = 0
+
+abbrev pub shown : Result (List ℕ) CoreFault → List ℕ
+shown (Ok bytes) = bytes
+shown (Err fault) = []
+
+-- of what was pending on a connection, as many bytes as an event says, where it is not refused
+abbrev pub given_by : State → ℕ → Event → Output → List ℕ
+given_by s id event Done = take (gave_to id event) (shown (pending s id))
+given_by s id event other = []
+
+-- ---- the calls
+
+-- the state at the moment of a piece
+abbrev pub at_event : Event → State → State
+at_event (Bytes now id piece) s = at_moment now s
+at_event other s = s
+
+-- the call in a record's bytes, and what is said to it where it comes from this caller
+abbrev pub exchange_in : State → Caller → List ℕ → Exchange
+exchange_in s caller content = record { content = content; said = (serve s caller content).0 }
+
+-- the call of a live connection in a record's bytes
+abbrev pub call_in : State → ℕ → List ℕ → Option Connection → List Exchange
+call_in s id record_bytes None = []
+call_in s id record_bytes (Some c) = exchange_in s (Tcp id c.peer) (data_of record_bytes) ∷ []
+
+-- where the bytes since the last record are a record
+abbrev pub calls_ended : State → ℕ → List ℕ → Option ℕ → List Exchange
+calls_ended s id bytes None = []
+calls_ended s id bytes (Some n) = call_in s id bytes (live_connection id s.connections.all)
+
+abbrev pub left_behind : List ℕ → Option ℕ → List ℕ
+left_behind bytes None = bytes
+left_behind bytes (Some n) = []
+
+-- what the end of an entry tells a connection
+abbrev pub told_ended : ℕ → List ℕ → Option Ended → Option Outcome
+told_ended id message None = None
+told_ended id message (Some ended) = if is_connection id ended.forward.caller then Some (told_at message ended) else None
+
+-- what a connection is told by an event at which a forwarded call ends
+abbrev pub told_by : State → ℕ → Event → Option Outcome
+told_by s id (Forward now from message) =
+    told_ended id message (replied s.setting.first_xid (max s.clock now) from message s.ledger).0
+told_by s id (Expire now) = told_ended id [] (fell_due (max s.clock now) s.ledger).0
+told_by s id other = None
+
+-- the last call is told so
+abbrev pub with_last_told : Outcome → List Exchange → List Exchange
+with_last_told said [] = []
+with_last_told said (call ∷ []) = record call { said = said } ∷ []
+with_last_told said (call ∷ next ∷ calls) = call ∷ with_last_told said (next ∷ calls)
+
+abbrev pub with_told : Option Outcome → List Exchange → List Exchange
+with_told None calls = calls
+with_told (Some said) calls = with_last_told said calls
+
+-- ---- whole runs
+
+abbrev pub nothing_passed : Session
+nothing_passed = record { taken = []; given = []; unfinished = []; calls = [] }
+
+-- `more` is taken and `gave` is given
+abbrev pub passed : State → ℕ → List ℕ → List ℕ → Session → Session
+passed s id more gave t = record {
+  taken = t.taken ++ more;
+  given = t.given ++ gave;
+  unfinished = left_behind (t.unfinished ++ more) (first_record (t.unfinished ++ more));
+  calls = t.calls ++ calls_ended s id (t.unfinished ++ more) (first_record (t.unfinished ++ more));
+}
+
+abbrev pub passed_by : State → ℕ → Event → Session → Session
+passed_by s id event t =
+    let output : Output = (step s event).0 in
+    let after : Session = passed (at_event event s) id (taken_by id event output) (given_by s id event output) t in
+    record after { calls = with_told (told_by s id event) after.calls }
+
+abbrev pub session_from : State → ℕ → Session → List Event → Session
+session_from s id t [] = t
+session_from s id t (event ∷ events) =
+    session_from (step s event).1 id (passed_by s id event t) events
+
+-- what passes on the connection of a number
+abbrev pub session : State → ℕ → List Event → Session
+session s id events = session_from s id nothing_passed events
+
+-- ---- the law
+
+abbrev pub marked_reply : Outcome → List ℕ
+marked_reply (Reply reply began) = marked reply
+marked_reply NoCall = []
+marked_reply Forwarded = []
+marked_reply Silent = []
+
+-- the replies to calls, each marked, joined
+abbrev pub replies_to : List Exchange → List ℕ
+replies_to calls = flat_map (λ call. marked_reply call.said) calls
+
+-- the data of the records, in order
+abbrev pub contents_of : List Exchange → List (List ℕ)
+contents_of calls = map (λ call. call.content) calls
+
+-- nothing more will be said: it has a reply, or is silent
+abbrev pub IsFinal : Outcome → Type 0
+IsFinal (Reply reply began) = ⊤
+IsFinal Silent = ⊤
+IsFinal NoCall = ⊥
+IsFinal Forwarded = ⊥
+
+abbrev pub is_answered : Exchange → Type 0
+is_answered call = IsFinal call.said
+
+-- Each call before the last is answered, and the last is forwarded.
+pub record AwaitsLast (calls : List Exchange) : Type 0 where
+  pub before : List Exchange
+  pub last : Exchange
+  pub whole : calls ≡ before ++ last ∷ []
+  pub answered : All is_answered before
+  pub forwarded : last.said ≡ Forwarded
+
+-- Each call is answered; while one is awaited, it is the last.
+abbrev pub AreAnswered : Bool → List Exchange → Type 0
+AreAnswered false calls = All is_answered calls
+AreAnswered true calls = AwaitsLast calls
+
+-- `given` is a front of `all`
+pub record IsFront (given all : List ℕ) : Type 0 where
+  pub rest : List ℕ
+  pub whole : given ++ rest ≡ all
+
+-- each call is answered, and all replies are given
+pub record AllGiven (t : Session) : Type 0 where
+  pub answered : All is_answered t.calls
+  pub given : t.given ≡ replies_to t.calls
+
+-- The piece is taken whole, or as many of its bytes as make the unfinished ones a record.
+abbrev pub IsWholeOrEnds : List ℕ → List ℕ → List ℕ → Type 0
+IsWholeOrEnds unfinished piece more =
+    (more ≡ piece) ⊎ ((n : ℕ) × (first_record (unfinished ++ more) ≡ Some n))
+
+-- while a connection is live
+pub record IsLiveSession (id : ℕ) (s : State) (c : Connection) (t : Session) : Type 0 where
+  -- Each call has a reply or is silent, but for one that is awaited, which is the last,
+  pub answered : AreAnswered (is_awaiting c.phase) t.calls
+  -- and the bytes given, and then those that are still owed, are the marked replies, joined.
+  pub replies : t.given ++ owed_in c.phase ≡ replies_to t.calls
+  -- Where none are owed and none is awaited, a piece is taken whole, or up to a record's end.
+  pub takes : owed_in c.phase ≡ [] → is_awaiting c.phase ≡ false → (now : ℕ) (piece : List ℕ)
+      → IsWholeOrEnds t.unfinished piece (taken_by id (Bytes now id piece) (step s (Bytes now id piece)).0)
+
+pub record IsWholeSession (id : ℕ) (s : State) (t : Session) : Type 0 where
+  -- The bytes taken are the marked records of the calls, joined, and then those of no whole record.
+  pub records : AreBytes t.taken → Records t.taken (contents_of t.calls) t.unfinished
+  -- They are so in no other way.
+  pub only : (contents : List (List ℕ)) (rest : List ℕ) → AreBytes t.taken
+      → Records t.taken contents rest → (contents ≡ contents_of t.calls) × (rest ≡ t.unfinished)
+  -- The bytes given are a front of the marked replies, joined.
+  pub front : IsFront t.given (replies_to t.calls)
+  pub live : (c : Connection) → IsLive s id c → IsLiveSession id s c t
+  -- Bytes are taken only where nothing is owed or awaited.
+  pub in_turn : (event : Event) → taken_by id event (step s event).0 ≢ [] → AllGiven t
+
+-- for each connection, in each run
+abbrev pub SessionsAreWhole : Type 0
+SessionsAreWhole =
+    (limits : Limits) (listener : Listener) (first_xid now : ℕ) (events : List Event) (id : ℕ)
+    → let start : State = opening limits listener first_xid now in
+    IsWholeSession id (after start events) (session start id events)

@@ -1,0 +1,85 @@
+-- What the daemon knows between two events, as plain data.
+use Rattle.std.specs.Prelude.{ℕ, ◌-◌, ◌^◌, nat_le, max, Bool, ◌&&◌, List, [], Option}
+use Rattle.rb_rpc.specs.declared.peer.Peer.{Peer}
+use Rattle.rb_proto.specs.declared.listener.Listener.{Listener}
+use Rattle.rb_proto.specs.Callers.{own_rows}
+use Rattle.rb_proto.specs.Ledger.{Ledger, fresh_ledger}
+use Rattle.rb_model.specs.declared.types.Limits.{Limits}
+use Rattle.rb_model.specs.declared.types.CoreFault.{CoreFault}
+use Rattle.rb_model.specs.declared.types.CoreFault.TheVariants.{NoMemory, Full, BadLimits, Gone, Spent}
+
+-- what no event changes: the first call that is forwarded has the first xid
+pub record Setting : Type 0 where
+  pub limits : Limits
+  pub listener : Listener
+  pub first_xid : ℕ
+
+-- ---- connections
+
+-- A reply that is being given: its marked bytes, how many of them were given, and where it is a list that is streamed, the
+-- number of changes after which it began.
+pub record Owed : Type 0 where
+  pub marked : List ℕ
+  pub given : ℕ
+  pub began : Option ℕ
+
+-- what a connection is about: `Reading` has the bytes that were fed since the last record's end, and while it is
+-- `Awaiting` its call is forwarded
+pub data Phase : Type 0 where
+  Idle : Phase
+  Reading : List ℕ → Phase
+  Owing : Owed → Phase
+  Awaiting : Phase
+  Lost : Phase
+
+-- the mark is the moment from which its deadline counts
+pub record Connection : Type 0 where
+  pub number : ℕ
+  pub peer : Peer
+  pub phase : Phase
+  pub mark : ℕ
+
+-- the connections in the order of their openings, lost ones among them, and the number of the next one
+pub record Connections : Type 0 where
+  pub next : ℕ
+  pub all : List Connection
+
+-- ---- the whole
+
+-- The ledger has what is remembered of the calls. `reply` is the last reply over UDP.
+pub record State : Type 0 where
+  pub setting : Setting
+  pub clock : ℕ
+  pub connections : Connections
+  pub ledger : Ledger
+  pub reply : List ℕ
+
+abbrev pub are_good : Limits → Bool
+are_good limits =
+    nat_le 1 limits.conns && nat_le limits.conns 256
+    && nat_le 8 limits.rows && nat_le limits.rows 4096 && nat_le limits.forwards 64
+
+abbrev pub opening : Limits → Listener → ℕ → ℕ → State
+opening limits listener first_xid now = record {
+  setting = record { limits = limits; listener = listener; first_xid = first_xid };
+  clock = now;
+  connections = record { next = 1; all = [] };
+  ledger = fresh_ledger (own_rows listener);
+  reply = [];
+}
+
+-- the greatest moment, and the greatest number of a connection or of changes
+abbrev pub greatest_number : ℕ
+greatest_number = 2 ^ 64 - 1
+
+-- a moment earlier than the last one counts as the last one
+abbrev pub at_moment : ℕ → State → State
+at_moment now s = record s { clock = max s.clock now }
+
+-- the number of a refusal
+abbrev pub fault_number : CoreFault → ℕ
+fault_number NoMemory = 1
+fault_number BadLimits = 2
+fault_number Full = 3
+fault_number Spent = 4
+fault_number Gone = 5

@@ -1,0 +1,248 @@
+-- The step of each event, and runs of events.
+use Rattle.std.specs.Prelude.{◌≡◌, ℕ, nat_lt, max, Bool, false, if◌then◌else◌, List, [], ◌∷◌, length, Option, Some, None, Result, Ok, Err}
+use Rattle.rb_rpc.specs.declared.peer.Caller.{Caller}
+use Rattle.rb_rpc.specs.declared.peer.Peer.{Peer}
+use Rattle.rb_rpc.specs.declared.peer.Caller.TheVariants.{Tcp, Udp}
+use Rattle.rb_feed.specs.Feeds.{arguments_of}
+use Rattle.rb_forward.specs.Forwards.{Unsent as UnsentCall, unsent, can_be_sent}
+use Rattle.rb_proto.specs.declared.context.Context.{Context}
+use Rattle.rb_proto.specs.declared.listener.Listener.{Listener}
+use Rattle.rb_proto.specs.Ledger.{Ledger}
+use Rattle.rb_proto.specs.Forwarding.{caller_dropped, call_sent}
+use Rattle.rb_model.specs.declared.message.Message.{Message}
+use Rattle.rb_model.specs.declared.types.CoreFault.{CoreFault}
+use Rattle.rb_model.specs.declared.types.CoreFault.TheVariants.{Gone}
+use Rattle.rb_model.specs.declared.types.Told.TheVariants.{TcpReady}
+use Rattle.rb_model.specs.declared.types.Told.TheVariants as ends
+use Rattle.rb_model.specs.declared.types.Expired.TheVariants.{Ended}
+use Rattle.rb_model.specs.declared.types.Expired.TheVariants as expiries
+use Rattle.rb_model.specs.declared.types.Limits.{Limits}
+use Rattle.rb_model.specs.State.{Connection, Connections, State, opening, at_moment}
+use Rattle.rb_model.specs.Calls.{message_of, Outcome, Outcome as outcomes, is_no_call, reply_in, outcome}
+use Rattle.rb_model.specs.Losses.{with_room}
+use Rattle.rb_model.specs.Connections.{Taking, taking, reading, settled, pending_in, giving, live_connection, on_live, opening_of, first_lost, closing_of}
+use Rattle.rb_model.specs.Connections.Taking.{TakesNone, GoesOn, Ends}
+pub use Rattle.rb_model.specs.declared.types.Taken.{Taken}
+pub use Rattle.rb_model.specs.Connections.{on_connection}
+pub use Rattle.rb_model.specs.Ending.{Told, Expired, forward_reply, expire}
+
+-- ---- calls
+
+-- what a call from a caller sees
+abbrev pub context_in : State → Caller → Context
+context_in s caller = record {
+  listener = s.setting.listener;
+  limit = s.setting.limits.rows;
+  forwards = s.setting.limits.forwards;
+  clock = s.clock;
+  caller = caller;
+}
+
+abbrev pub with_ledger : State → Outcome × Ledger → Outcome × State
+with_ledger s (given, ledger) = (given, record s { ledger = ledger })
+
+-- a message from a caller is answered, behind whose head are these bytes, once there is room for what it adds
+abbrev pub serve_message : State → Caller → Message → List ℕ → Outcome × State
+serve_message s caller message arguments =
+    with_ledger (with_room (context_in s caller) message s) (outcome (context_in s caller) message arguments s.ledger)
+
+-- so is what the data of a record, or a datagram, says
+unfoldable pub serve : State → Caller → List ℕ → Outcome × State
+serve s caller content = serve_message s caller (message_of content) (arguments_of content)
+
+-- ---- connections
+
+-- A call on the connections at a moment: where it is refused the state stays, its clock too.
+abbrev pub moved : {A : Type 0} → ℕ → State → Result A CoreFault × Connections → Result A CoreFault × State
+moved now s (Err fault, connections) = (Err fault, s)
+moved now s (Ok x, connections) = (Ok x, record (at_moment now s) { connections = connections })
+
+-- ---- bytes that arrive on a connection
+
+-- the connection goes on as its record is answered: whether it is Lost now
+abbrev pub settled_in : ℕ → Outcome × State → Bool × State
+settled_in id (given, s) = (is_no_call given, on_connection id (settled s.clock given) s)
+
+-- what the data of a record on a connection says is answered
+unfoldable pub answering : State → ℕ → Peer → List ℕ → Bool × State
+answering s id peer content = settled_in id (serve s (Tcp id peer) content)
+
+abbrev pub with_count : ℕ → Bool × State → Taken × State
+with_count n (closed, s) = (record { count = n; closed = closed }, s)
+
+-- Nothing is taken; or all, and no record ends; or all up to the end of a record, which is answered.
+abbrev pub when_taken : State → ℕ → List ℕ → Connection → Taking → Taken × State
+when_taken s id piece c TakesNone = (record { count = 0; closed = false }, s)
+when_taken s id piece c (GoesOn fed) = (record { count = length piece; closed = false }, on_connection id (reading s.clock fed) s)
+when_taken s id piece c (Ends n content) = with_count n (answering s id c.peer content)
+
+abbrev pub bytes_to : State → ℕ → ℕ → List ℕ → Option Connection → Result Taken CoreFault × State
+bytes_to s now id piece None = (Err Gone, s)
+bytes_to s now id piece (Some c) =
+    let after : Taken × State = when_taken (at_moment now s) id piece c (taking c.phase piece) in (Ok after.0, after.1)
+
+unfoldable pub bytes : State → ℕ → ℕ → List ℕ → Result Taken CoreFault × State
+bytes s now id piece = bytes_to s now id piece (live_connection id s.connections.all)
+
+-- ---- bytes that are given on a connection
+
+abbrev pub pending_on : Option Connection → Result (List ℕ) CoreFault
+pending_on None = Err Gone
+pending_on (Some c) = Ok (pending_in c.phase)
+
+-- on the live connection of the number
+abbrev pub pending_at : ℕ → Connections → Result (List ℕ) CoreFault
+pending_at id c = pending_on (live_connection id c.all)
+
+-- the rest of the current fragment
+unfoldable pub pending : State → ℕ → Result (List ℕ) CoreFault
+pending s id = pending_at id s.connections
+
+-- n bytes of it were given, or as many as there are
+unfoldable pub gave : State → ℕ → ℕ → ℕ → Result (Unit {0}) CoreFault × State
+gave s now id n = moved now s (on_live id (giving (max s.clock now) n) s.connections)
+
+-- more than is pending
+abbrev pub is_too_much : ℕ → Result (List ℕ) CoreFault → Bool
+is_too_much n (Err fault) = false
+is_too_much n (Ok bytes) = nat_lt (length bytes) n
+
+-- ---- connections that come and go
+
+unfoldable pub open_connection : State → ℕ → Peer → Result ℕ CoreFault × State
+open_connection s now peer = moved now s (opening_of s.setting.limits.conns peer (max s.clock now) s.connections)
+
+-- with a connection the call ends that was forwarded for it
+abbrev pub dropped_with : State → ℕ → Result (Unit {0}) CoreFault × Connections → Result (Unit {0}) CoreFault × State
+dropped_with s id (Err fault, connections) = (Err fault, s)
+dropped_with s id (Ok u, connections) =
+    (Ok u, record s { connections = connections; ledger = (caller_dropped id s.ledger).1 })
+
+-- (closing takes no moment)
+unfoldable pub close_connection : State → ℕ → Result (Unit {0}) CoreFault × State
+close_connection s id = dropped_with s id (closing_of id s.connections)
+
+-- the Lost connection of least number
+unfoldable pub next_lost : State → Option ℕ
+next_lost s = first_lost s.connections
+
+-- ---- datagrams
+
+-- the last reply is taken back, and this is held, if there is one
+abbrev pub with_reply : Outcome × State → Outcome × State
+with_reply (given, s) = (given, record s { reply = reply_in given })
+
+unfoldable pub datagram : State → ℕ → Peer → List ℕ → Outcome × State
+datagram s now peer content = with_reply (serve (at_moment now s) (Udp peer) content)
+
+-- ---- calls that are forwarded
+
+-- the one that is to be sent next: the unsent entry of least number
+unfoldable pub unsent_call : State → Option UnsentCall
+unsent_call s = unsent s.setting.first_xid s.ledger.forwards
+
+-- the call of the entry of a number was sent, if it was not before
+unfoldable pub sent_call : State → ℕ → Result (Unit {0}) CoreFault × State
+sent_call s number =
+    if can_be_sent number s.ledger.forwards then (Ok tt, record s { ledger = call_sent number s.ledger }) else (Err Gone, s)
+
+-- ---- events, one for each line of a script
+
+pub data Event : Type 0 where
+  Open : ℕ → Peer → Event
+  Bytes : ℕ → ℕ → List ℕ → Event
+  Pending : ℕ → Event
+  Gave : ℕ → ℕ → ℕ → Event
+  Closed : ℕ → Event
+  NextLost : Event
+  Datagram : ℕ → Peer → List ℕ → Event
+  Unsent : Event
+  Sent : ℕ → Event
+  Forward : ℕ → Peer → List ℕ → Event
+  Expire : ℕ → Event
+
+-- what the line is answered with
+pub data Output : Type 0 where
+  Opened : ℕ → Output
+  Refused : CoreFault → Output
+  TooMuch : Output
+  Took : ℕ → Output
+  TookAndClosed : ℕ → Output
+  IsPending : List ℕ → Output
+  Done : Output
+  LostIs : Option ℕ → Output
+  Replied : List ℕ → Output
+  Forwarded : Output
+  Silent : Output
+  UnsentIs : Option UnsentCall → Output
+  Ignored : Output
+  Nothing : Output
+  ConnectionClosed : ℕ → Output
+  Ready : ℕ → Output
+  RepliedTo : Peer → List ℕ → Output
+
+abbrev pub output_or : {A : Type 0} → (A → Output) → Result A CoreFault × State → Output × State
+output_or show (Ok x, s) = (show x, s)
+output_or show (Err fault, s) = (Refused fault, s)
+
+abbrev pub show_taken : Taken → Output
+show_taken t = if t.closed then TookAndClosed t.count else Took t.count
+
+abbrev pub show_done : Unit {0} → Output
+show_done u = Done
+
+-- where there is a reply, the event is the datagram and the look at the reply after it
+abbrev pub show_outcome : Outcome × State → Output × State
+show_outcome (outcomes.NoCall, s) = (Silent, s)
+show_outcome (outcomes.Reply reply began, s) = (Replied reply, s)
+show_outcome (outcomes.Forwarded, s) = (Forwarded, s)
+show_outcome (outcomes.Silent, s) = (Silent, s)
+
+-- whom a caller is told something, with the last reply over UDP
+abbrev pub show_told : List ℕ → Told → Output
+show_told reply (TcpReady id) = Ready id
+show_told reply (ends.Datagram peer) = RepliedTo peer reply
+show_told reply ends.Silent = Silent
+
+abbrev pub show_end : Option Told × State → Output × State
+show_end (None, s) = (Ignored, s)
+show_end (Some told, s) = (show_told s.reply told, s)
+
+abbrev pub show_expired : Expired × State → Output × State
+show_expired (expiries.Nothing, s) = (Nothing, s)
+show_expired (Ended told, s) = (show_told s.reply told, s)
+show_expired (expiries.ConnectionClosed id, s) = (ConnectionClosed id, s)
+
+unfoldable pub step : State → Event → Output × State
+step s (Open now peer) = output_or Opened (open_connection s now peer)
+step s (Bytes now id piece) = output_or show_taken (bytes s now id piece)
+step s (Pending id) = output_or IsPending (pending s id, s)
+step s (Gave now id n) = if is_too_much n (pending s id) then (TooMuch, s) else output_or show_done (gave s now id n)
+step s (Closed id) = output_or show_done (close_connection s id)
+step s NextLost = (LostIs (next_lost s), s)
+step s (Datagram now peer content) = show_outcome (datagram s now peer content)
+step s Unsent = (UnsentIs (unsent_call s), s)
+step s (Sent number) = output_or show_done (sent_call s number)
+step s (Forward now from message) = show_end (forward_reply s now from message)
+step s (Expire now) = show_expired (expire s now)
+
+-- ---- runs
+
+-- the outputs of a list of events
+abbrev pub run : State → List Event → List Output
+run s [] = []
+run s (event ∷ events) = (step s event).0 ∷ run (step s event).1 events
+
+-- the state after the events
+abbrev pub after : State → List Event → State
+after s [] = s
+after s (event ∷ events) = after (step s event).1 events
+
+-- the state after some events, from an opening
+pub record IsReached (s : State) : Type 0 where
+  pub limits : Limits
+  pub listener : Listener
+  pub first_xid : ℕ
+  pub now : ℕ
+  pub events : List Event
+  pub is : s ≡ after (opening limits listener first_xid now) events

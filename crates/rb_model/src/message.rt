@@ -1,0 +1,16 @@
+//! What a message says.
+use rb_proto::Call;
+use rb_rpc::{CallHead, ReplyHead};
+
+/// What the data of a record, or a datagram, says.
+#[derive(Drop)]
+pub enum Message<'a> {
+    /// Nothing that can be answered.
+    NoCall,
+    /// A call that gets this reply, whatever the daemon holds.
+    Refused(ReplyHead),
+    /// A call of a procedure that is served, whose arguments can't be read.
+    Garbage(CallHead),
+    /// A call of a procedure that is served, with its arguments.
+    Asked(Call<'a>),
+}
