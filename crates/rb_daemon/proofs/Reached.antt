@@ -5,23 +5,23 @@ use Rattle.std.proofs.lemmas.Bool.{le-ltb, cond-false, ne_eqb}
 use Rattle.std.proofs.lemmas.List.{length-take}
 use Rattle.rb_rpc.specs.declared.peer.Peer.{Peer}
 use Rattle.rb_proto.specs.declared.listener.Listener.{Listener}
-use Rattle.rb_core.specs.declared.types.CoreFault.{CoreFault}
-use Rattle.rb_core.specs.declared.types.Limits.{Limits}
-use Rattle.rb_core.specs.declared.types.Taken.{Taken}
-use Rattle.rb_core.specs.State.{State, opening}
-use Rattle.rb_core.specs.Calls.{Outcome, Outcome as outcomes}
-use Rattle.rb_core.specs.Step.{Event, Output, step, open_connection, bytes, pending, gave, close_connection, datagram, sent_call, output_or, show_taken, show_done, show_outcome, show_end, show_expired, is_too_much, IsReached}
+use Rattle.rb_model.specs.declared.types.CoreFault.{CoreFault}
+use Rattle.rb_model.specs.declared.types.Limits.{Limits}
+use Rattle.rb_model.specs.declared.types.Taken.{Taken}
+use Rattle.rb_model.specs.State.{State, opening}
+use Rattle.rb_model.specs.Calls.{Outcome, Outcome as outcomes}
+use Rattle.rb_model.specs.Step.{Event, Output, step, open_connection, bytes, pending, gave, close_connection, datagram, sent_call, output_or, show_taken, show_done, show_outcome, show_end, show_expired, is_too_much, IsReached}
 use Rattle.rb_core.specs.AtOnce.{pending_bytes, count_now, without_front, exchanging}
-use Rattle.rb_core.specs.declared.types.Told.{Told}
-use Rattle.rb_core.specs.declared.types.Expired.{Expired}
-use Rattle.rb_core.specs.Ending.{forward_reply, expire}
-use Rattle.rb_core.specs.Step.Event.{Open, Bytes, Gave, Closed, Datagram, Sent, Forward, Expire}
-use Rattle.rb_core.specs.Step.Output.{Opened, TooMuch}
-use Rattle.rb_core.specs.declared.types.Expired.TheVariants as expiries
+use Rattle.rb_model.specs.declared.types.Told.{Told}
+use Rattle.rb_model.specs.declared.types.Expired.{Expired}
+use Rattle.rb_model.specs.Ending.{forward_reply, expire}
+use Rattle.rb_model.specs.Step.Event.{Open, Bytes, Gave, Closed, Datagram, Sent, Forward, Expire}
+use Rattle.rb_model.specs.Step.Output.{Opened, TooMuch}
+use Rattle.rb_model.specs.declared.types.Expired.TheVariants as expiries
 use Rattle.rb_core.specs.Slots.{Acts, Shows}
 use Rattle.rb_core.specs.StandsFor.{Held, StandsFor}
 use Rattle.rb_core.proofs.Begun.{began, stands_begun}
-use Rattle.rb_core.proofs.RunLaws.{after-append}
+use Rattle.rb_model.proofs.RunLaws.{after-append}
 use Rattle.rb_daemon.specs.Served.{IsServed}
 
 pub opening_reached : (l : Limits) (h : Listener) (xid now : ℕ) → IsReached (opening l h xid now)

@@ -1,11 +1,11 @@
 -- What a call of the engine does, at the engine's moment.
 use Rattle.std.specs.Prelude.{◌≡◌, ℕ, ◌%◌, ◌^◌, List, ◌++◌, Option, Result}
 use Rattle.rb_proto.specs.declared.listener.Listener.{Listener}
-use Rattle.rb_core.specs.declared.types.Limits.{Limits}
-use Rattle.rb_core.specs.State.{State, opening}
-use Rattle.rb_core.specs.declared.types.CoreFault.{CoreFault}
+use Rattle.rb_model.specs.declared.types.Limits.{Limits}
+use Rattle.rb_model.specs.State.{State, opening}
+use Rattle.rb_model.specs.declared.types.CoreFault.{CoreFault}
 use Rattle.rb_core.specs.declared.types.Exchanged.{Exchanged}
-use Rattle.rb_core.specs.Step.{pending}
+use Rattle.rb_model.specs.Step.{pending}
 use Rattle.rb_core.specs.AtOnce.{exchanging, taken_in}
 use Rattle.rb_core.specs.Slots.{Acts}
 use Rattle.rb_core.specs.StandsFor.{StandsFor}

@@ -1,16 +1,18 @@
 -- What holds of the daemon's core between two events, and what it gives to a writer.
 use Rattle.std.specs.Prelude.{◌≡◌, ◌≤◌, ⊤, ℕ, Bool, true, false, List, [], length, take, Option, Some, None, Result, Ok, Err}
 use Rattle.std.specs.Io.KnownBytes.{Appends, Keeps}
-use Rattle.rb_core.specs.declared.types.CoreFault.{CoreFault}
+use Rattle.rb_model.specs.declared.types.CoreFault.{CoreFault}
 use Rattle.rb_rpc.specs.declared.peer.Peer.{Peer}
-use Rattle.rb_core.specs.State.{State}
+use Rattle.rb_model.specs.State.{State}
 use Rattle.rb_forward.specs.Forwards.{Unsent}
-use Rattle.rb_core.specs.declared.types.Told.TheVariants.{TcpReady, Datagram, Silent}
-use Rattle.rb_core.specs.declared.types.Expired.TheVariants.{Nothing as NothingDue, Ended, ConnectionClosed}
-use Rattle.rb_core.specs.declared.types.Told.{Told}
-use Rattle.rb_core.specs.declared.types.Expired.{Expired}
-use Rattle.rb_core.specs.Ending.{forward_reply, expire}
-use Rattle.rb_core.specs.Step.{gave, unsent_call, sent_call, IsReached}
+use Rattle.rb_model.specs.declared.types.Told.TheVariants.{TcpReady, Datagram, Silent}
+use Rattle.rb_model.specs.declared.types.Expired.TheVariants.{Nothing as NothingDue, Ended, ConnectionClosed}
+use Rattle.rb_model.specs.declared.types.Told.{Told}
+use Rattle.rb_model.specs.declared.types.Expired.{Expired}
+use Rattle.rb_model.specs.Ending.{forward_reply, expire}
+use Rattle.rb_model.specs.Calls.{Outcome}
+use Rattle.rb_model.specs.Calls.Outcome.{NoCall, Reply, Forwarded, Silent as SilentCall}
+use Rattle.rb_model.specs.Step.{datagram, gave, unsent_call, sent_call, IsReached}
 use Rattle.rb_core.specs.StandsFor.{Held, StandsFor}
 use Rattle.rb_daemon.specs.declared.engine.Given.{Given}
 use Rattle.rb_daemon.specs.declared.engine.Given.TheVariants.{Nothing, Bytes, Failed, Over}
@@ -36,6 +38,22 @@ WasGiven owed old new Over = ⊤
 abbrev pub after_giving : State → ℕ → ℕ → Given → State
 after_giving s now id (Bytes n) = (gave s now id n).1
 after_giving s now id other = s
+
+-- ---- datagrams
+
+-- whether the call of a message is forwarded
+abbrev pub is_forwarded : Outcome → Bool
+is_forwarded NoCall = false
+is_forwarded (Reply bytes began) = false
+is_forwarded Forwarded = true
+is_forwarded SilentCall = false
+
+abbrev pub forwarded_after : Outcome × State → Bool × State
+forwarded_after (outcome, s) = (is_forwarded outcome, s)
+
+-- a datagram came from a peer
+abbrev pub answering : Peer → List ℕ → State → ℕ → Bool × State
+answering peer content s now = forwarded_after (datagram s now peer content)
 
 -- ---- forwarded calls
 

@@ -1,16 +1,19 @@
 //! The daemon and its turns.
 ghost use Rattle.std.specs.Prelude.{◌↔◌, IsTrue, IsErrOf, OnOk, not};
-ghost use Rattle.rb_core.specs.State.{are_good};
+ghost use Rattle.rb_model.specs.State.{are_good};
 
 use crate::engine::Engine;
-use crate::faults::DaemonFault;
-use crate::serving::{Serving, Sockets};
+use crate::faults::{BindFault, DaemonFault, Step};
+use crate::serving::Serving;
+use crate::settings::Settings;
+use crate::sockets::Sockets;
 use mio::{Events, Poll};
 use rb_core::{CoreFault, Limits, Listener};
+use rb_policy::{Moments, wait_of};
 use std::alloc::{AllocError, Global};
+use std::fs::Files;
 use std::io;
-use std::io::ErrorKind;
-use std::net::{Ipv4Addr, Net};
+use std::net::Net;
 use std::rt::Clock;
 use std::time::Duration;
 
@@ -21,103 +24,138 @@ const EVENTS: usize = 64;
 #[derive(Drop)]
 pub struct Daemon<'a, R: Clock> {
     clock: &'a R,
+    moments: Moments,
     poll: Poll,
     events: Events,
     serving: Serving,
 }
 
 impl<'a, R: Clock> Daemon<'a, R> {
-    /// A daemon that listens on the address `bind` and the port, over TCP and UDP, and has a UDP socket of that address
-    /// with a port of the system's choice besides, for forwarded calls. Answers show the host `announce` where a
-    /// program listens on every address, and callers from it count as local. `Limits` where a limit is out of its
-    /// range, else `Memory` or `Socket`, whichever occurs first.
-    pub fn new(
+    /// A daemon that listens where the settings say: over TCP and UDP on each of their addresses, and besides on [::1]
+    /// over TCP and on a local socket where they are asked for. `Limits` where a limit is out of its range, else `Memory` or
+    /// `Socket`, whichever occurs first.
+    pub fn new<H: Files + Net>(
         alloc: Global,
-        rt: &'a R,
-        bind: Ipv4Addr,
-        announce: Ipv4Addr,
-        port: u16,
-        limits: Limits,
+        host: &H,
+        clock: &'a R,
+        settings: &Settings<'_>,
     ) -> Result<Daemon<'a, R>, DaemonFault>
-    where
-        R: Net,
-        ensures bad { IsErrOf result DaemonFault.Limits ↔ IsTrue (not (are_good limits)) }
-        ensures good { OnOk result (IsTrue (are_good limits)) }
+        ensures bad { IsErrOf result DaemonFault.Limits
+            ↔ IsTrue (not (are_good settings.now.limits)) }
+        ensures good { OnOk result (IsTrue (are_good settings.now.limits)) }
     {
-        let host = announce.octets();
-        let engine = engine_of(alloc, limits, Listener { host, port }, moment(rt))?;
-        let poll = Poll::new(rt).map_err(DaemonFault::Socket)?;
-        let sockets = Sockets::bind(rt, bind, port).map_err(DaemonFault::Socket)?;
+        let limits = settings.limits;
+        let listener = Listener {
+            host: settings.announce.octets(),
+            port: settings.port,
+        };
+        let (engine, moments) = engine_of(alloc, limits, listener, read_clocks(clock))?;
+        let poll = match Poll::new(host) {
+            Ok(poll) => poll,
+            Err(error) => return Err(DaemonFault::Socket(Step::Prepare.failed(error))),
+        };
+        let sockets = match Sockets::bind(alloc, host, settings) {
+            Ok(sockets) => sockets,
+            Err(BindFault::Memory(error)) => return Err(DaemonFault::Memory(error)),
+            Err(BindFault::Socket(fault)) => return Err(DaemonFault::Socket(fault)),
+        };
         sockets.write_stack();
         let events = Events::with_capacity(alloc, EVENTS).map_err(DaemonFault::Memory)?;
         let mut serving = Serving::new(alloc, engine, sockets, limits.conns).map_err(
             DaemonFault::Memory,
         )?;
         if let Err(error) = serving.register(poll.registry()) {
-            return Err(DaemonFault::Socket(error));
+            return Err(DaemonFault::Socket(Step::Prepare.failed(error)));
         }
         Ok(Daemon {
-            clock: rt,
+            clock,
+            moments,
             poll,
             events,
             serving,
         })
     }
 
-    /// Waits for events once, at most `wait_ms` milliseconds, and not at all where a socket is left from the last turn,
-    /// and serves all that it showed. After a fault, `Socket` of the listener, the wait or the clock, what was handed to
-    /// the core stands, and the daemon can do no more.
+    /// Waits for events once, at most `wait_ms` milliseconds, and not at all where something is left from the last turn,
+    /// and serves all that it showed, in this order: datagrams, what comes back for forwarded calls, connections, what is
+    /// due, and at last connections that are to be accepted, for which places are free by then. After a fault, `Socket` of a
+    /// listener, the wait or the clock, what was handed to the core stands, and the daemon can do no more.
     pub fn turn(&mut self, wait_ms: u64) -> Result<(), DaemonFault> {
-        let wait = if self.serving.is_something_left() {
-            0
-        } else {
-            wait_ms
-        };
-        self.wait(Duration::from_millis(wait))?;
-        self.serving.begin_turn(moment(self.clock)?);
-        self.serving.serve_left(self.poll.registry())?;
+        self.wait(wait_ms)?;
+        let now = self.moment()?;
+        self.serving.begin_turn(now);
         for event in &self.events {
-            self.serving.serve(self.poll.registry(), event)?;
+            self.serving.show(event);
         }
-        self.serving.end_turn();
-        Ok(())
+        self.serving.answer_calls();
+        self.serving.take_forward_replies();
+        self.serving.serve_left();
+        for event in &self.events {
+            self.serving.serve(event);
+        }
+        self.serving.expire();
+        self.serving.close_lost();
+        self.serving.accept_all(self.poll.registry())
     }
 
-    /// A wait that a signal ends shows nothing.
-    fn wait(&mut self, longest: Duration) -> io::Result<()> {
-        match self.poll.poll(&mut self.events, Some(longest)) {
-            Err(error) if error.kind() == ErrorKind::Interrupted => Ok(()),
-            result => result,
+    fn wait(&mut self, longest: u64) -> Result<(), DaemonFault> {
+        let wait = Duration::from_millis(wait_of(self.serving.is_something_left(), longest));
+        match self.poll.poll(&mut self.events, Some(wait)) {
+            Ok(()) => Ok(()),
+            Err(error) => Err(DaemonFault::Socket(Step::Wait.failed(error))),
+        }
+    }
+
+    fn moment(&mut self) -> Result<u64, DaemonFault> {
+        match read_clocks(self.clock) {
+            Ok(Times { wall, monotonic }) => {
+                let follows_wall = !self.serving.is_somebody_there();
+                Ok(self.moments.next(wall, monotonic, follows_wall))
+            }
+            Err(error) => Err(DaemonFault::Socket(Step::Clock.failed(error))),
         }
     }
 }
 
-/// An engine, at the moment that the clock gave. The limits are looked at before the moment is.
+/// What two clocks give, in milliseconds.
+#[derive(Clone, Copy)]
+struct Times {
+    /// Since the start of 1970.
+    wall: u64,
+    monotonic: u64,
+}
+
+fn read_clocks(clock: &impl Clock) -> io::Result<Times> {
+    Ok(Times {
+        wall: millis(clock.since_1970()?),
+        monotonic: millis(clock.monotonic()?),
+    })
+}
+
+fn millis(time: Duration) -> u64 {
+    u64::try_from(time.as_millis()).unwrap_or(u64::MAX)
+}
+
+/// An engine, at the moment that the clock gave, and the moments that follow. The limits are looked at before the clock is.
 fn engine_of(
     alloc: Global,
     limits: Limits,
     listener: Listener,
-    first: io::Result<u64>,
-) -> Result<Engine, DaemonFault>
+    first: io::Result<Times>,
+) -> Result<(Engine, Moments), DaemonFault>
     ensures bad { IsErrOf result DaemonFault.Limits ↔ IsTrue (not (are_good limits)) }
     ensures good { OnOk result (IsTrue (are_good limits)) }
 {
-    let moment = match &first {
-        Ok(moment) => *moment,
-        Err(_) => 0,
+    let (wall, monotonic) = match &first {
+        Ok(Times { wall, monotonic }) => (*wall, *monotonic),
+        Err(_) => (0, 0),
     };
-    match Engine::new(alloc, limits, listener, moment) {
+    match Engine::new(alloc, limits, listener, wall) {
         Ok(engine) => match first {
-            Ok(_) => Ok(engine),
-            Err(error) => Err(DaemonFault::Socket(error)),
+            Ok(_) => Ok((engine, Moments::new(wall, monotonic))),
+            Err(error) => Err(DaemonFault::Socket(Step::Clock.failed(error))),
         },
         Err(CoreFault::BadLimits) => Err(DaemonFault::Limits),
         Err(_) => Err(DaemonFault::Memory(AllocError)),
     }
-}
-
-/// Milliseconds since the start of 1970.
-fn moment(clock: &impl Clock) -> io::Result<u64> {
-    let millis = clock.since_1970()?.as_millis();
-    Ok(u64::try_from(millis).unwrap_or(u64::MAX))
 }

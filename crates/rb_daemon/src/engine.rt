@@ -2,12 +2,11 @@
 ghost use Rattle.std.specs.Prelude.{◌≡◌};
 ghost use Rattle.rb_daemon.specs.Served.{IsServed};
 
-use mio::net::UdpSocket;
+use crate::sockets::{CallSocket, CallSockets, ForwardSocket};
 use rb_core::{Core, CoreFault, Exchanged, Expired, Limits, Listener, Outcome, Peer, Told};
 use rb_xdr::Meter;
 use std::alloc::Global;
 use std::io::{ErrorKind, Write};
-use std::net::{Ipv4Addr, SocketAddr};
 
 /// The core, the meter that it was made with, and the moment of the turn, in milliseconds since the start of 1970.
 /// Nothing else calls the core, so what is called here, line by line, are the events of a run, `exchange` as the bytes
@@ -46,12 +45,12 @@ pub(crate) enum Due {
 
 impl Engine {
     ghost use Rattle.std.specs.Prelude.{◌≡◌, ◌≤◌, ◌↔◌, IsTrue, IsErrOf, length, not, IfOk};
-    ghost use Rattle.rb_core.specs.State.{State, are_good};
-    ghost use Rattle.rb_core.specs.Step.{open_connection, close_connection, next_lost, datagram};
+    ghost use Rattle.rb_model.specs.State.{State, are_good};
+    ghost use Rattle.rb_model.specs.Step.{open_connection, close_connection, next_lost};
     ghost use Rattle.rb_core.specs.StandsFor.{StandsFor};
     ghost use Rattle.rb_core.specs.Slots.{Shows};
     ghost use Rattle.rb_core.specs.AtOnce.{Exchanges, count_given, count_now};
-    ghost use Rattle.rb_daemon.specs.Served.{after_giving, ready_of, replying, expiring, sending};
+    ghost use Rattle.rb_daemon.specs.Served.{after_giving, answering, ready_of, replying, expiring, sending};
     ghost use Rattle.rb_daemon.specs.Moves.{BeginsAt, Moves, ActsNow, Gives};
 
     /// A new core at this moment, which is the first. The first forwarded call has the low 32 bits of it for its number.
@@ -147,23 +146,28 @@ impl Engine {
         self.core.next_lost(&mut self.meter)
     }
 
-    /// Answers a datagram over the socket on which it came. A reply that the socket does not take is lost.
-    pub(crate) fn answer(&mut self, peer: Peer, content: &[u8], socket: &UdpSocket)
-        ensures acts { Moves (λ s now. (datagram s now peer content.now).1) self.old self.new }
+    /// Answers a datagram over the socket on which it came. A reply that the socket does not take is lost. It says whether
+    /// the call is forwarded, and so is to be sent.
+    pub(crate) fn answer(&mut self, peer: Peer, content: &[u8], socket: &CallSocket) -> bool
+        ensures acts { ActsNow (answering peer content.now) self.old self.new result }
         ensures moment { self.new.moment ≡ self.old.moment }
     {
-        if self
+        match self
             .core
             .datagram(self.moment, peer, content, &mut self.meter)
-            == Outcome::Reply
         {
-            let _ = socket.send_to(self.core.udp_reply(&mut self.meter), address_of(peer));
+            Outcome::Reply => {
+                socket.reply(self.core.udp_reply(&mut self.meter), peer);
+                false
+            }
+            Outcome::Forwarded => true,
+            Outcome::NoCall | Outcome::Silent => false,
         }
     }
 
     /// Whom the end of a forwarded call is told: a caller over UDP gets the last reply from the socket that it called.
     /// The answer is the connection that goes on.
-    fn tell(&mut self, told: Told, calls: &UdpSocket) -> Option<u64>
+    fn tell(&mut self, told: Told, calls: &CallSockets) -> Option<u64>
         ensures ready { result ≡ ready_of told }
         ensures stays { Moves (λ s now. s) self.old self.new }
         ensures moment { self.new.moment ≡ self.old.moment }
@@ -171,7 +175,7 @@ impl Engine {
         match told {
             Told::TcpReady(id) => Some(id),
             Told::Datagram(peer) => {
-                let _ = calls.send_to(self.core.udp_reply(&mut self.meter), address_of(peer));
+                calls.reply_where_asked(self.core.udp_reply(&mut self.meter), peer);
                 None
             }
             Told::Silent => None,
@@ -183,7 +187,7 @@ impl Engine {
         &mut self,
         from: Peer,
         content: &[u8],
-        calls: &UdpSocket,
+        calls: &CallSockets,
     ) -> Option<u64>
         ensures acts { ActsNow (replying from content.now) self.old self.new result }
         ensures moment { self.new.moment ≡ self.old.moment }
@@ -195,7 +199,7 @@ impl Engine {
     }
 
     /// Ends what is due first.
-    pub(crate) fn expire(&mut self, calls: &UdpSocket) -> Due
+    pub(crate) fn expire(&mut self, calls: &CallSockets) -> Due
         ensures acts { ActsNow expiring self.old self.new result }
         ensures moment { self.new.moment ≡ self.old.moment }
     {
@@ -212,7 +216,7 @@ impl Engine {
 
     /// Sends the first forwarded call that is to be sent. It counts as sent though the socket does not take it. It says
     /// whether there was one.
-    pub(crate) fn send_forward(&mut self, socket: &UdpSocket) -> bool
+    pub(crate) fn send_forward(&mut self, socket: &ForwardSocket) -> bool
         ensures acts { ActsNow sending self.old self.new result }
         ensures moment { self.new.moment ≡ self.old.moment }
     {
@@ -220,12 +224,8 @@ impl Engine {
             return false;
         };
         let id = unsent.id;
-        let _ = socket.send_to(unsent.call, address_of(unsent.target));
+        socket.call(unsent.call, unsent.target);
         let _ = self.core.sent(id, &mut self.meter);
         true
     }
-}
-
-fn address_of(peer: Peer) -> SocketAddr {
-    SocketAddr::from((Ipv4Addr::from_octets(peer.host), peer.port))
 }

@@ -1,7 +1,8 @@
-//! Why the daemon ends, and which faults of sockets do not end it.
+//! Why the daemon ends.
 use std::alloc::AllocError;
-use std::io;
-use std::io::ErrorKind;
+use std::fmt::{Display, Formatter};
+use std::net::SocketAddr;
+use std::{fmt, io};
 use thiserror::Error;
 
 /// Why the daemon ends.
@@ -13,62 +14,71 @@ pub enum DaemonFault {
     /// A limit is out of its range.
     #[error("bad limits")]
     Limits,
-    /// A socket could not be bound, or the listener, the wait for events or the clock failed.
+    /// A step with a socket, the wait for events or the clock failed.
     #[error("socket failed")]
-    Socket(#[from] io::Error),
+    Socket(SocketFault),
 }
 
-/// What a failed accept means.
+/// A step that failed, and the system's word for it. It is written as `bind TCP 127.0.0.1:111: Permission denied (os
+/// error 13)`.
+#[derive(Debug, Drop)]
+pub struct SocketFault {
+    pub step: Step,
+    pub error: io::Error,
+}
+
+/// Why sockets could not be bound.
+#[derive(Debug, Drop, Error)]
+pub(crate) enum BindFault {
+    #[error("no memory")]
+    Memory(#[from] AllocError),
+    #[error("{0}")]
+    Socket(SocketFault),
+}
+
+/// What a daemon does with sockets.
 #[derive(Clone, Copy, Debug, PartialEq, Eq)]
-pub(crate) enum AcceptFault {
-    /// No connection waits.
-    NoneWaits,
-    /// One connection was lost before it was accepted.
-    OneLost,
-    /// No descriptor or no memory of the system is left for it. It waits.
-    NoRoom,
-    /// The listener itself failed.
-    Listener,
+pub enum Step {
+    /// It binds a TCP socket to the address, and listens.
+    BindTcp(SocketAddr),
+    /// It binds a UDP socket to the address.
+    BindUdp(SocketAddr),
+    /// It looks at the file of the local socket, binds it, listens and sets its mode.
+    BindLocal,
+    /// It prepares to wait for events (epoll).
+    Prepare,
+    /// It waits for events.
+    Wait,
+    /// It accepts a connection.
+    Accept,
+    /// It reads a clock.
+    Clock,
 }
 
-/// Numbers of `accept(2)` that std has no kind for.
-const ENFILE: i32 = 23;
-
-const EMFILE: i32 = 24;
-
-const ENONET: i32 = 64;
-
-const EPROTO: i32 = 71;
-
-const ENOPROTOOPT: i32 = 92;
-
-const EOPNOTSUPP: i32 = 95;
-
-const ENOBUFS: i32 = 105;
-
-const EHOSTDOWN: i32 = 112;
-
-/// Errors of the network that are pending on a connection are told by its accept, and count as that connection's.
-pub(crate) fn accept_fault(error: &io::Error) -> AcceptFault {
-    match error.kind() {
-        ErrorKind::WouldBlock => AcceptFault::NoneWaits,
-        ErrorKind::OutOfMemory => AcceptFault::NoRoom,
-        ErrorKind::ConnectionAborted
-        | ErrorKind::ConnectionReset
-        | ErrorKind::Interrupted
-        | ErrorKind::TimedOut
-        | ErrorKind::NetworkDown
-        | ErrorKind::NetworkUnreachable
-        | ErrorKind::HostUnreachable
-        | ErrorKind::PermissionDenied => AcceptFault::OneLost,
-        _ => accept_fault_of_number(error.raw_os_error()),
+impl Step {
+    /// The fault of this step.
+    pub(crate) fn failed(self, error: io::Error) -> SocketFault {
+        SocketFault { step: self, error }
     }
 }
 
-fn accept_fault_of_number(number: Option<i32>) -> AcceptFault {
-    match number {
-        Some(EMFILE | ENFILE | ENOBUFS) => AcceptFault::NoRoom,
-        Some(ENONET | EPROTO | ENOPROTOOPT | EOPNOTSUPP | EHOSTDOWN) => AcceptFault::OneLost,
-        _ => AcceptFault::Listener,
+impl Display for Step {
+    fn fmt<W: fmt::Write>(&self, f: &mut Formatter<W>) -> fmt::Result {
+        match self {
+            Step::BindTcp(address) => write!(f, "bind TCP {address}"),
+            Step::BindUdp(address) => write!(f, "bind UDP {address}"),
+            Step::BindLocal => write!(f, "bind the local socket"),
+            Step::Prepare => write!(f, "prepare for events"),
+            Step::Wait => write!(f, "wait for events"),
+            Step::Accept => write!(f, "accept a connection"),
+            Step::Clock => write!(f, "read the clock"),
+        }
+    }
+}
+
+impl Display for SocketFault {
+    fn fmt<W: fmt::Write>(&self, f: &mut Formatter<W>) -> fmt::Result {
+        let SocketFault { step, error } = self;
+        write!(f, "{step}: {error}")
     }
 }

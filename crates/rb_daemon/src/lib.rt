@@ -5,9 +5,14 @@ mod daemon;
 mod engine;
 mod faults;
 mod link;
+mod local;
 mod outbox;
 mod serving;
+mod settings;
+mod sockets;
+mod stream;
 
 pub use daemon::Daemon;
-pub use faults::DaemonFault;
+pub use faults::{DaemonFault, SocketFault, Step};
 pub use rb_core::Limits;
+pub use settings::{LocalSocket, Settings};

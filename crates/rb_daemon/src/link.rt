@@ -3,14 +3,12 @@ ghost use Rattle.std.specs.Prelude.{◌≤◌};
 
 use crate::engine::{Engine, Given};
 use crate::outbox::{LONG_ROOM, OWN_ROOM, Outbox};
-use mio::net::TcpStream;
+use crate::sockets::ForwardSocket;
+use crate::stream::Stream;
 use rb_core::Exchanged;
+use rb_policy::{Next, SOCKET_CALLS, after_read, after_write, outcome_of_count, reads_on};
 use std::alloc::{AllocError, Global};
-use std::io;
-use std::io::{ErrorKind, Read};
-
-/// The most socket calls for one socket in a turn.
-pub(crate) const SOCKET_CALLS: usize = 64;
+use std::io::Read;
 
 /// How many bytes of a connection are read ahead of the core.
 const READ_AHEAD: usize = 1024;
@@ -27,7 +25,7 @@ pub(crate) struct Link {
     /// The core's number of the connection.
     id: u64,
     /// None where no connection has the place.
-    stream: Option<TcpStream>,
+    stream: Option<Stream>,
     /// The bytes of `held[start..end]` were read and not yet taken.
     held: [u8; READ_AHEAD],
     start: usize,
@@ -38,8 +36,10 @@ pub(crate) struct Link {
     outbox: Outbox,
     /// How many bytes were written in the last turn that served it.
     written: usize,
-    /// Whether the last read got less than it had room for, so that an event comes with what arrives next.
+    /// Whether the last read is not followed by another in this turn.
     is_dry: bool,
+    /// Whether its call is forwarded and has not ended.
+    is_awaiting: bool,
     /// The last turn that served it.
     served_in: u64,
     /// Whether it is to be served though no event shows it.
@@ -59,14 +59,6 @@ pub(crate) enum Progress {
     Over,
 }
 
-/// What came of one socket call, or of none.
-#[derive(Clone, Copy, Debug, PartialEq, Eq)]
-enum Step {
-    GoesOn,
-    Blocks,
-    Ends,
-}
-
 impl Link {
     /// A place that no connection has.
     pub(crate) fn new(alloc: Global) -> Result<Link, AllocError> {
@@ -80,6 +72,7 @@ impl Link {
             outbox: Outbox::new(alloc, OWN_ROOM)?,
             written: 0,
             is_dry: false,
+            is_awaiting: false,
             served_in: 0,
             is_waiting: false,
         })
@@ -95,7 +88,7 @@ impl Link {
     }
 
     /// The connection gets the place.
-    pub(crate) fn open(&mut self, id: u64, stream: TcpStream) {
+    pub(crate) fn open(&mut self, id: u64, stream: Stream) {
         self.id = id;
         self.stream = Some(stream);
         self.start = 0;
@@ -103,6 +96,7 @@ impl Link {
         self.may_owe = false;
         self.outbox.clear();
         self.is_dry = false;
+        self.is_awaiting = false;
         self.served_in = 0;
         self.is_waiting = false;
     }
@@ -124,6 +118,7 @@ impl Link {
     /// It is to be served though no event shows it, since the core waited for something else, and that has come.
     pub(crate) fn wake(&mut self) {
         self.is_waiting = true;
+        self.is_awaiting = false;
         self.may_owe = true;
     }
 
@@ -137,6 +132,7 @@ impl Link {
     pub(crate) fn serve(
         &mut self,
         engine: &mut Engine,
+        forwards: &ForwardSocket,
         spare: &mut Outbox,
         turn: u64,
         may_end: bool,
@@ -146,21 +142,26 @@ impl Link {
         self.is_dry = false;
         self.written = 0;
         self.outbox.take_longer(spare);
-        let progress = self.serve_calls(engine, may_end);
+        let progress = self.serve_calls(engine, forwards, may_end);
         spare.take_longer(&mut self.outbox);
         progress
     }
 
     /// Makes socket calls until they are enough for a turn, or none is left to make.
-    fn serve_calls(&mut self, engine: &mut Engine, may_end: bool) -> Progress {
+    fn serve_calls(
+        &mut self,
+        engine: &mut Engine,
+        forwards: &ForwardSocket,
+        may_end: bool,
+    ) -> Progress {
         for _ in 0..SOCKET_CALLS {
             if self.written >= ENOUGH {
                 break;
             }
-            match self.step(engine, may_end) {
-                Step::GoesOn => {}
-                Step::Blocks => return Progress::Blocked,
-                Step::Ends => return Progress::Over,
+            match self.step(engine, forwards, may_end) {
+                Next::GoOn => {}
+                Next::AwaitEvent | Next::AwaitTurn => return Progress::Blocked,
+                Next::Close | Next::EndProgram => return Progress::Over,
             }
         }
         self.is_waiting = true;
@@ -170,25 +171,25 @@ impl Link {
     /// Makes at most one socket call: a write where replies wait, else a read. Replies are taken over only where the
     /// socket has taken all that were before. Where bytes are left that the core does not take while no reply is owed,
     /// it waits for something else.
-    fn step(&mut self, engine: &mut Engine, may_end: bool) -> Step {
-        if self.outbox.is_empty() && !self.exchange(engine) {
+    fn step(&mut self, engine: &mut Engine, forwards: &ForwardSocket, may_end: bool) -> Next {
+        if self.outbox.is_empty() && !self.exchange(engine, forwards) {
             let _ = self.write();
-            return Step::Ends;
+            return Next::Close;
         }
         if !self.outbox.is_empty() {
             return self.write();
         }
-        if self.start < self.end || self.is_dry && !may_end {
-            return Step::Blocks;
+        if self.start < self.end || self.is_dry {
+            return Next::AwaitEvent;
         }
-        self.read()
+        self.read(may_end)
     }
 
     /// Hands in what was read, record by record, and takes over the replies, until nothing more is taken and none is
     /// pending, or the outbox has no room. It says whether the connection goes on.
-    fn exchange(&mut self, engine: &mut Engine) -> bool {
+    fn exchange(&mut self, engine: &mut Engine, forwards: &ForwardSocket) -> bool {
         for _ in 0..EXCHANGES {
-            let Some(taken) = self.hand_in(engine) else {
+            let Some(taken) = self.hand_in(engine, forwards) else {
                 return false;
             };
             if !self.outbox.has_room() {
@@ -205,8 +206,9 @@ impl Link {
     }
 
     /// Hands in the bytes that were read and not yet taken, up to the end of a record, and says how many were taken, or
-    /// `None` where the connection is over. A short reply is in the outbox at once, and then the core owes none.
-    fn hand_in(&mut self, engine: &mut Engine) -> Option<usize> {
+    /// `None` where the connection is over. A short reply is in the outbox at once, and then the core owes none. A call that
+    /// is forwarded is sent at once: no other one is to be sent, since each was when it came.
+    fn hand_in(&mut self, engine: &mut Engine, forwards: &ForwardSocket) -> Option<usize> {
         if self.start == self.end {
             return Some(0);
         }
@@ -219,6 +221,9 @@ impl Link {
         }
         self.start += taken.count;
         self.may_owe = given == 0;
+        if given == 0 && taken.count > 0 {
+            self.is_awaiting = engine.send_forward(forwards);
+        }
         Some(taken.count)
     }
 
@@ -232,42 +237,28 @@ impl Link {
         given
     }
 
-    fn write(&mut self) -> Step {
+    fn write(&mut self) -> Next {
         let Some(stream) = &mut self.stream else {
-            return Step::Ends;
+            return Next::Close;
         };
-        match self.outbox.send(stream) {
-            Ok(0) => Step::Ends,
-            Ok(n) => {
-                self.written = self.written.saturating_add(n);
-                Step::GoesOn
-            }
-            Err(error) => step_after(&error),
+        let came = self.outbox.send(stream);
+        if let Ok(n) = came {
+            self.written = self.written.saturating_add(n);
         }
+        after_write(outcome_of_count(&came))
     }
 
-    fn read(&mut self) -> Step {
+    fn read(&mut self, may_end: bool) -> Next {
         let Some(stream) = &mut self.stream else {
-            return Step::Ends;
+            return Next::Close;
         };
         self.start = 0;
         self.end = 0;
-        match stream.read(&mut self.held) {
-            Ok(0) => Step::Ends,
-            Ok(n) => {
-                self.end = n;
-                self.is_dry = n < READ_AHEAD;
-                Step::GoesOn
-            }
-            Err(error) => step_after(&error),
+        let came = stream.read(&mut self.held);
+        if let Ok(n) = came {
+            self.end = n;
+            self.is_dry = !reads_on(n, READ_AHEAD, may_end);
         }
-    }
-}
-
-fn step_after(error: &io::Error) -> Step {
-    match error.kind() {
-        ErrorKind::WouldBlock => Step::Blocks,
-        ErrorKind::Interrupted => Step::GoesOn,
-        _ => Step::Ends,
+        after_read(outcome_of_count(&came), self.is_awaiting)
     }
 }

@@ -2,17 +2,20 @@
 ghost use Rattle.std.specs.Prelude.{◌≡◌, ◌≤◌, length, vec_len, IfOk};
 
 use crate::engine::{Due, Engine};
-use crate::faults::{AcceptFault, DaemonFault, accept_fault};
-use crate::link::{Link, Progress, SOCKET_CALLS};
+use crate::faults::{DaemonFault, Step};
+use crate::link::{Link, Progress};
 use crate::outbox::{LONG_ROOM, Outbox};
+use crate::sockets::{Shown, Sockets};
+use crate::stream::Stream;
 use mio::event::Event;
-use mio::net::{TcpListener, TcpStream, UdpSocket};
-use mio::{Interest, Registry, Token};
+use mio::{Registry, Token};
 use rb_core::Peer;
+use rb_policy::{
+    Again, Next, SOCKET_CALLS, accepts, after_accept, after_all_receives, after_receive,
+    asks_for_deadlines, outcome_of,
+};
 use std::alloc::{AllocError, Global};
 use std::io;
-use std::io::ErrorKind;
-use std::net::{Ipv4Addr, Net, SocketAddr};
 
 /// The longest datagram.
 const LONGEST_DATAGRAM: usize = 65_536;
@@ -20,64 +23,11 @@ const LONGEST_DATAGRAM: usize = 65_536;
 /// The most datagrams of one socket in a turn: each is a socket call, and a reply to it is another.
 const DATAGRAMS: usize = SOCKET_CALLS / 2;
 
-/// The most calls that are forwarded at a time, so the most that can be to be sent.
-const MOST_FORWARDS: usize = 64;
+/// The most that can be due at one moment: forwarded calls, at most 64, and connections, at most 256.
+const THINGS_DUE: usize = 64 + 256;
 
-/// The most that can be due at one moment: forwarded calls, and connections, of which there are at most 256.
-const THINGS_DUE: usize = MOST_FORWARDS + 256;
-
-/// More bytes than a turn needs of the stack.
-const STACK: usize = 32_768;
-
-const LISTENER: Token = Token(usize::MAX);
-
-const CALLS: Token = Token(usize::MAX - 1);
-
-const FORWARDS: Token = Token(usize::MAX - 2);
-
-/// The sockets of the daemon itself.
-#[derive(Drop)]
-pub(crate) struct Sockets {
-    listener: TcpListener,
-    /// Where calls come in as datagrams.
-    calls: UdpSocket,
-    /// Where forwarded calls go out, and their replies come in.
-    forwards: UdpSocket,
-}
-
-impl Sockets {
-    pub(crate) fn bind(net: &impl Net, host: Ipv4Addr, port: u16) -> io::Result<Sockets> {
-        Ok(Sockets {
-            listener: TcpListener::bind(net, SocketAddr::from((host, port)))?,
-            calls: UdpSocket::bind(net, SocketAddr::from((host, port)))?,
-            forwards: UdpSocket::bind(net, SocketAddr::from((host, 0)))?,
-        })
-    }
-
-    /// Writes to as much of the stack as a turn needs, so that its memory is the process's from here on: an array there is
-    /// handed to a receive. What is received before a call was forwarded is no reply to one. The array goes when this
-    /// returns, so it is not to be inlined.
-    #[inline(never)]
-    pub(crate) fn write_stack(&self) {
-        let _ = self.forwards.recv_from(&mut [0; STACK]);
-    }
-}
-
-/// What is to be served though no event shows it.
-#[derive(Clone, Copy)]
-struct Left {
-    listener: bool,
-    calls: bool,
-    forwards: bool,
-    links: bool,
-}
-
-const NOTHING: Left = Left {
-    listener: false,
-    calls: false,
-    forwards: false,
-    links: false,
-};
+/// A forwarded call has ended after so many milliseconds.
+const FORWARDED: u64 = 5_000;
 
 #[derive(Drop)]
 pub(crate) struct Serving {
@@ -85,6 +35,8 @@ pub(crate) struct Serving {
     sockets: Sockets,
     /// The places of connections, by the keys that their events show.
     links: Vec<Link>,
+    /// How many places have connections.
+    taken: usize,
     /// The long outbox, or that of the connection which has it.
     spare: Outbox,
     datagram: Vec<u8>,
@@ -93,11 +45,10 @@ pub(crate) struct Serving {
     moment: u64,
     /// The last moment at whose end nothing was due any more.
     settled: Option<u64>,
-    left: Left,
-    /// What this turn began with, and served first.
-    begun: Left,
-    /// No descriptor was left for a connection that waits: each turn tries again.
-    is_short: bool,
+    /// The moment by which each call that came over UDP and was forwarded has ended.
+    awaited_until: u64,
+    /// Whether connections are to be served though no event shows them.
+    are_links_left: bool,
 }
 
 /// So many free places. Each is written, so that its memory is the process's from here on.
@@ -124,26 +75,29 @@ impl Serving {
             engine,
             sockets,
             links: free_places(alloc, conns)?,
+            taken: 0,
             spare: Outbox::new(alloc, LONG_ROOM)?,
             datagram,
             turn: 0,
             moment: 0,
             settled: None,
-            left: NOTHING,
-            begun: NOTHING,
-            is_short: false,
+            awaited_until: 0,
+            are_links_left: false,
         })
     }
 
     pub(crate) fn register(&mut self, registry: &Registry) -> io::Result<()> {
-        registry.register(&mut self.sockets.listener, LISTENER, Interest::READABLE)?;
-        registry.register(&mut self.sockets.calls, CALLS, Interest::READABLE)?;
-        registry.register(&mut self.sockets.forwards, FORWARDS, Interest::READABLE)
+        self.sockets.register(registry)
     }
 
     /// Whether the next turn has something to serve at once.
     pub(crate) fn is_something_left(&self) -> bool {
-        self.left.listener || self.left.calls || self.left.forwards || self.left.links
+        self.are_links_left || self.sockets.is_something_left()
+    }
+
+    /// Whether something has a deadline: a connection, or a call that is forwarded.
+    pub(crate) fn is_somebody_there(&self) -> bool {
+        self.taken > 0 || self.moment < self.awaited_until
     }
 
     /// A turn at this moment, in milliseconds since the start of 1970.
@@ -151,104 +105,32 @@ impl Serving {
         self.engine.set_moment(now);
         self.moment = now;
         self.turn = self.turn.wrapping_add(1);
-        self.begun = self.left;
-        self.left = NOTHING;
     }
 
-    /// Serves what the last turn cut off.
-    pub(crate) fn serve_left(&mut self, registry: &Registry) -> Result<(), DaemonFault> {
-        if self.begun.links {
-            for key in 0..self.links.len() {
-                if self.links.get(key).is_some_and(|link| link.is_waiting()) {
-                    self.serve_link(key, true);
-                }
+    /// Notes what an event shows of the daemon's own sockets.
+    pub(crate) fn show(&mut self, event: &Event) {
+        self.sockets.show(event.token());
+    }
+
+    /// Serves the connection that an event shows. One that was left was served after the events came, so nothing is lost
+    /// where it is passed over.
+    pub(crate) fn serve(&mut self, event: &Event) {
+        if let Shown::Connection(key) = Sockets::shown_by(event.token()) {
+            self.serve_link(key, event.is_read_closed());
+        }
+    }
+
+    /// Serves the connections that the last turn cut off, and those whose forwarded calls have ended.
+    pub(crate) fn serve_left(&mut self) {
+        if !self.are_links_left {
+            return;
+        }
+        self.are_links_left = false;
+        for key in 0..self.links.len() {
+            if self.links.get(key).is_some_and(|link| link.is_waiting()) {
+                self.serve_link(key, true);
             }
         }
-        if self.begun.calls {
-            self.answer_calls();
-        }
-        if self.begun.forwards {
-            self.take_forward_replies();
-        }
-        if self.begun.listener || self.is_short {
-            self.accept_all(registry)?;
-        }
-        Ok(())
-    }
-
-    /// Serves what an event shows. What this turn began with was served after the events came, so nothing is lost where
-    /// it is passed over.
-    pub(crate) fn serve(&mut self, registry: &Registry, event: &Event) -> Result<(), DaemonFault> {
-        match event.token() {
-            LISTENER if !self.begun.listener => self.accept_all(registry)?,
-            CALLS if !self.begun.calls => self.answer_calls(),
-            FORWARDS if !self.begun.forwards => self.take_forward_replies(),
-            LISTENER | CALLS | FORWARDS => {}
-            Token(key) => self.serve_link(key, event.is_read_closed()),
-        }
-        Ok(())
-    }
-
-    /// What the core has to say at the end of a turn: deadlines, connections to close, and calls to forward. What begins at
-    /// a moment is due at a later one, or at once at the greatest; so turns of one moment ask for deadlines once.
-    pub(crate) fn end_turn(&mut self) {
-        if self.settled != Some(self.moment) || self.moment == u64::MAX {
-            self.expire();
-            self.settled = Some(self.moment);
-        }
-        self.close_lost();
-        self.send_forwards();
-    }
-
-    fn accept_all(&mut self, registry: &Registry) -> Result<(), DaemonFault> {
-        self.is_short = false;
-        for _ in 0..SOCKET_CALLS {
-            match self.sockets.listener.accept() {
-                Ok((stream, from)) => self.open(registry, stream, from),
-                Err(error) => match accept_fault(&error) {
-                    AcceptFault::NoneWaits => return Ok(()),
-                    AcceptFault::OneLost => {}
-                    AcceptFault::NoRoom => {
-                        self.is_short = true;
-                        return Ok(());
-                    }
-                    AcceptFault::Listener => return Err(DaemonFault::Socket(error)),
-                },
-            }
-        }
-        self.left.listener = true;
-        Ok(())
-    }
-
-    /// Opens a connection. One that the core or the table has no place for is closed at once.
-    fn open(&mut self, registry: &Registry, stream: TcpStream, from: SocketAddr) {
-        let Some(peer) = peer_of(from) else {
-            return;
-        };
-        let Ok(id) = self.engine.open(peer) else {
-            return;
-        };
-        if !self.give_place(registry, id, stream) {
-            self.engine.closed(id);
-        }
-    }
-
-    /// Gives a connection a place, under whose key its events are shown, and says whether it has it. Each write to it goes
-    /// out at once (TCP_NODELAY): where replies take two writes, the second may not wait until the first is acknowledged.
-    fn give_place(&mut self, registry: &Registry, id: u64, mut stream: TcpStream) -> bool {
-        let Some(key) = self.links.iter().position(|link| link.is_free()) else {
-            return false;
-        };
-        let interests = Interest::READABLE | Interest::WRITABLE;
-        let is_ready = stream.set_nodelay(true).is_ok()
-            && registry
-                .register(&mut stream, Token(key), interests)
-                .is_ok();
-        match self.links.get_mut(key) {
-            Some(link) if is_ready => link.open(id, stream),
-            Some(_) | None => return false,
-        }
-        true
     }
 
     /// Serves a connection, at most once in a turn, whose peer may have ended what it sends, or has not.
@@ -259,9 +141,15 @@ impl Serving {
         if link.is_free() || link.was_served_in(self.turn) {
             return;
         }
-        match link.serve(&mut self.engine, &mut self.spare, self.turn, may_end) {
+        match link.serve(
+            &mut self.engine,
+            &self.sockets.forwards.socket,
+            &mut self.spare,
+            self.turn,
+            may_end,
+        ) {
             Progress::Blocked => {}
-            Progress::CutOff => self.left.links = true,
+            Progress::CutOff => self.are_links_left = true,
             Progress::Over => self.close(key),
         }
     }
@@ -273,6 +161,7 @@ impl Serving {
         };
         if let Some(id) = link.close(&mut self.spare) {
             self.engine.closed(id);
+            self.taken = self.taken.saturating_sub(1);
         }
     }
 
@@ -280,44 +169,93 @@ impl Serving {
         self.links.iter().position(|link| link.is_of(id))
     }
 
-    fn answer_calls(&mut self) {
-        for _ in 0..DATAGRAMS {
-            match self.sockets.calls.recv_from(&mut self.datagram) {
-                Ok((len, from)) => self.answer(len, from),
-                Err(error) if error.kind() == ErrorKind::WouldBlock => return,
-                Err(_) => {}
+    /// Answers datagrams on each socket where calls come in.
+    pub(crate) fn answer_calls(&mut self) {
+        for i in 0..self.sockets.calls.all.len() {
+            let is_ready = self
+                .sockets
+                .calls
+                .all
+                .get(i)
+                .is_some_and(|calls| calls.is_ready());
+            if is_ready {
+                let again = self.answer_calls_on(i);
+                if let Some(calls) = self.sockets.calls.all.get_mut(i) {
+                    calls.leave(again);
+                }
             }
         }
-        self.left.calls = true;
     }
 
-    /// Answers the datagram of the first `len` bytes.
-    fn answer(&mut self, len: usize, from: SocketAddr)
+    /// Answers datagrams on the socket of this number, and says when it is served again.
+    fn answer_calls_on(&mut self, i: usize) -> Again {
+        let mut got_some = false;
+        for _ in 0..DATAGRAMS {
+            let Some(calls) = self.sockets.calls.all.get(i) else {
+                break;
+            };
+            match calls.socket.receive(&mut self.datagram) {
+                Ok((len, from)) => {
+                    got_some = true;
+                    self.answer(i, len, from);
+                }
+                Err(error) => {
+                    if after_receive(outcome_of(&error)) == Next::AwaitEvent {
+                        return Again::AtEvent;
+                    }
+                }
+            }
+        }
+        after_all_receives(got_some)
+    }
+
+    /// Answers the datagram of the first `len` bytes, which came on the socket of this number. A call that is forwarded is
+    /// sent at once.
+    fn answer(&mut self, i: usize, len: usize, from: Option<Peer>)
         requires { len ≤ length self.old.datagram.items }
     {
-        if let Some(peer) = peer_of(from) {
-            let content = &self.datagram[..len];
-            self.engine.answer(peer, content, &self.sockets.calls);
+        let (Some(peer), Some(calls)) = (from, self.sockets.calls.all.get(i)) else {
+            return;
+        };
+        let content = &self.datagram[..len];
+        if self.engine.answer(peer, content, &calls.socket) {
+            self.awaited_until = self.moment.saturating_add(FORWARDED);
+            self.sockets.calls.note(peer, i);
+            self.engine.send_forward(&self.sockets.forwards.socket);
         }
     }
 
     /// Takes what comes back for forwarded calls.
-    fn take_forward_replies(&mut self) {
+    pub(crate) fn take_forward_replies(&mut self) {
+        if self.sockets.forwards.is_ready() {
+            let again = self.take_forward_replies_now();
+            self.sockets.forwards.leave(again);
+        }
+    }
+
+    fn take_forward_replies_now(&mut self) -> Again {
+        let mut got_some = false;
         for _ in 0..DATAGRAMS {
-            match self.sockets.forwards.recv_from(&mut self.datagram) {
-                Ok((len, from)) => self.take_forward_reply(len, from),
-                Err(error) if error.kind() == ErrorKind::WouldBlock => return,
-                Err(_) => {}
+            match self.sockets.forwards.socket.receive(&mut self.datagram) {
+                Ok((len, from)) => {
+                    got_some = true;
+                    self.take_forward_reply(len, from);
+                }
+                Err(error) => {
+                    if after_receive(outcome_of(&error)) == Next::AwaitEvent {
+                        return Again::AtEvent;
+                    }
+                }
             }
         }
-        self.left.forwards = true;
+        after_all_receives(got_some)
     }
 
     /// Takes the datagram of the first `len` bytes.
-    fn take_forward_reply(&mut self, len: usize, from: SocketAddr)
+    fn take_forward_reply(&mut self, len: usize, from: Option<Peer>)
         requires { len ≤ length self.old.datagram.items }
     {
-        let Some(peer) = peer_of(from) else {
+        let Some(peer) = from else {
             return;
         };
         let content = &self.datagram[..len];
@@ -327,28 +265,23 @@ impl Serving {
         }
     }
 
-    /// The connection of the number goes on: the next turn begins with it, though no event shows it.
+    /// The connection of the number goes on, though no event shows it.
     fn wake(&mut self, id: u64) {
         let Some(key) = self.key_of(id) else {
             return;
         };
         if let Some(link) = self.links.get_mut(key) {
             link.wake();
-            self.left.links = true;
-        }
-    }
-
-    /// Sends the calls that are to be forwarded.
-    fn send_forwards(&mut self) {
-        for _ in 0..MOST_FORWARDS {
-            if !self.engine.send_forward(&self.sockets.forwards) {
-                return;
-            }
+            self.are_links_left = true;
         }
     }
 
     /// Ends what is due.
-    fn expire(&mut self) {
+    pub(crate) fn expire(&mut self) {
+        if !asks_for_deadlines(self.settled, self.moment) {
+            return;
+        }
+        self.settled = Some(self.moment);
         for _ in 0..THINGS_DUE {
             match self.engine.expire(&self.sockets.calls) {
                 Due::Nothing => return,
@@ -359,7 +292,7 @@ impl Serving {
     }
 
     /// Closes the connections that the core has given up.
-    fn close_lost(&mut self) {
+    pub(crate) fn close_lost(&mut self) {
         for _ in 0..self.links.len() {
             let Some(id) = self.engine.next_lost() else {
                 return;
@@ -370,15 +303,81 @@ impl Serving {
             }
         }
     }
-}
 
-/// A socket that is bound to an IPv4 address has peers of that kind alone.
-fn peer_of(from: SocketAddr) -> Option<Peer> {
-    match from {
-        SocketAddr::V4(from) => Some(Peer {
-            host: from.ip().octets(),
-            port: from.port(),
-        }),
-        SocketAddr::V6(_) => None,
+    fn free(&self) -> usize {
+        self.links.len().saturating_sub(self.taken)
+    }
+
+    /// Accepts connections on each listener, beginning with another one in each turn, as long as places are free.
+    pub(crate) fn accept_all(&mut self, registry: &Registry) -> Result<(), DaemonFault> {
+        let free_at_first = self.free();
+        let count = self.sockets.listeners.len();
+        for i in 0..count {
+            let which = self.sockets.nth_listener(self.turn, i);
+            let is_ready = self
+                .sockets
+                .listeners
+                .get(which)
+                .is_some_and(|listener| listener.is_ready());
+            if is_ready {
+                let again = self.accept_on(registry, which, free_at_first)?;
+                if let Some(listener) = self.sockets.listeners.get_mut(which) {
+                    listener.leave(again);
+                }
+            }
+        }
+        Ok(())
+    }
+
+    /// Accepts connections on the listener of this number, and says when it is served again.
+    fn accept_on(
+        &mut self,
+        registry: &Registry,
+        which: usize,
+        free_at_first: usize,
+    ) -> Result<Again, DaemonFault> {
+        for _ in 0..accepts(free_at_first, self.free()) {
+            let Some(listener) = self.sockets.listeners.get(which) else {
+                break;
+            };
+            match listener.socket.accept() {
+                Ok((stream, from)) => self.open(registry, stream, from),
+                Err(error) => match after_accept(outcome_of(&error)) {
+                    Next::GoOn | Next::Close => {}
+                    Next::AwaitEvent => return Ok(Again::AtEvent),
+                    Next::AwaitTurn => return Ok(Again::AfterWait),
+                    Next::EndProgram => return Err(DaemonFault::Socket(Step::Accept.failed(error))),
+                },
+            }
+        }
+        Ok(Again::AtOnce)
+    }
+
+    /// Opens a connection. One that has no peer, or that the core or the table has no place for, is closed at once.
+    fn open(&mut self, registry: &Registry, stream: Stream, from: Option<Peer>) {
+        let Some(peer) = from else {
+            return;
+        };
+        let Ok(id) = self.engine.open(peer) else {
+            return;
+        };
+        if !self.give_place(registry, id, stream) {
+            self.engine.closed(id);
+        }
+    }
+
+    /// Gives a connection a place, under whose key its events are shown, and says whether it has it.
+    fn give_place(&mut self, registry: &Registry, id: u64, mut stream: Stream) -> bool {
+        let Some(key) = self.links.iter().position(|link| link.is_free()) else {
+            return false;
+        };
+        let is_ready = stream.send_at_once().is_ok()
+            && stream.register(registry, Token(key)).is_ok();
+        match self.links.get_mut(key) {
+            Some(link) if is_ready => link.open(id, stream),
+            Some(_) | None => return false,
+        }
+        self.taken = self.taken.saturating_add(1);
+        true
     }
 }

@@ -1,9 +1,12 @@
 //! Sockets of a test. They never wait, since the daemon's turns are taken by the same thread.
 ghost use Rattle.std.specs.Prelude.{◌≤◌};
+ghost use Rattle.std.specs.Io.{ReadsAtMost};
 
-use crate::turns::{Host, address};
+use crate::turns::{Host, LOCAL, address};
+use std::io;
 use std::io::{ErrorKind, Read, Write};
-use std::net::{Ipv4Addr, SocketAddr, TcpStream, UdpSocket};
+use std::net::{Ipv4Addr, Shutdown, SocketAddr, TcpStream, UdpSocket};
+use std::os::unix::net::UnixStream;
 
 /// The most turns that a test takes for one answer.
 const TURNS: u32 = 100;
@@ -14,10 +17,42 @@ const READS: u32 = 4096;
 /// The most bytes that a client keeps.
 const ROOM: usize = 4096;
 
+/// A connection to one of the daemon's listeners.
+#[derive(Drop)]
+enum Stream {
+    Tcp(TcpStream),
+    Local(UnixStream),
+}
+
+impl Stream {
+    fn read(&mut self, room: &mut [u8]) -> io::Result<usize>
+        ensures { ReadsAtMost result room.new }
+    {
+        match self {
+            Stream::Tcp(stream) => stream.read(room),
+            Stream::Local(stream) => stream.read(room),
+        }
+    }
+
+    fn write_all(&mut self, bytes: &[u8]) -> io::Result<()> {
+        match self {
+            Stream::Tcp(stream) => stream.write_all(bytes),
+            Stream::Local(stream) => stream.write_all(bytes),
+        }
+    }
+
+    fn shutdown(&self) -> io::Result<()> {
+        match self {
+            Stream::Tcp(stream) => stream.shutdown(Shutdown::Write),
+            Stream::Local(stream) => stream.shutdown(Shutdown::Write),
+        }
+    }
+}
+
 /// A connection, and what came on it.
 #[derive(Drop)]
 pub(crate) struct Client {
-    stream: TcpStream,
+    stream: Stream,
     got: [u8; ROOM],
     len: usize,
     is_closed: bool,
@@ -26,14 +61,35 @@ pub(crate) struct Client {
 
 impl Client {
     pub(crate) fn new(rt: &HostRuntime) -> Option<Client> {
-        let stream = TcpStream::connect(rt, address()).ok()?;
+        Client::at(rt, address())
+    }
+
+    /// Over TCP to this address.
+    pub(crate) fn at(rt: &HostRuntime, address: SocketAddr) -> Option<Client> {
+        let stream = TcpStream::connect(rt, address).ok()?;
         stream.set_nonblocking(true).ok()?;
-        Some(Client {
+        Some(Client::of(Stream::Tcp(stream)))
+    }
+
+    /// On the local socket.
+    pub(crate) fn local(rt: &HostRuntime) -> Option<Client> {
+        let stream = UnixStream::connect(rt, LOCAL).ok()?;
+        stream.set_nonblocking(true).ok()?;
+        Some(Client::of(Stream::Local(stream)))
+    }
+
+    fn of(stream: Stream) -> Client {
+        Client {
             stream,
             got: [0; ROOM],
             len: 0,
             is_closed: false,
-        })
+        }
+    }
+
+    /// Ends what it sends, and goes on to read. Whether that was done.
+    pub(crate) fn end(&self) -> bool {
+        self.stream.shutdown().is_ok()
     }
 
     /// Whether all of the bytes went out.
@@ -146,7 +202,17 @@ impl Caller {
 
     /// Whether the datagram went out.
     pub(crate) fn send(&self, bytes: &[u8]) -> bool {
-        self.socket.send_to(bytes, address()).is_ok()
+        self.send_to(bytes, address())
+    }
+
+    /// Whether the datagram went out to this address.
+    pub(crate) fn send_to(&self, bytes: &[u8], to: SocketAddr) -> bool {
+        self.socket.send_to(bytes, to).is_ok()
+    }
+
+    /// Whether the last datagram came from this address.
+    pub(crate) fn came_from(&self, from: SocketAddr) -> bool {
+        self.from == from
     }
 
     /// Takes turns until a datagram has come.

@@ -1,5 +1,6 @@
 //! Clients that do nothing for too long.
 use crate::client::{Caller, Client};
+use crate::datagrams::answers;
 use crate::forwards::sets_target;
 use crate::messages::{bytes_of, null_record};
 use crate::records::answers_a_call;
@@ -81,5 +82,46 @@ fn indirect_ends_at_its_deadline(rt: HostRuntime) -> Result<(), Fail> {
     let clock = Stopped::new(&rt);
     let mut host = Host::new(&clock, 1).ok_or("no daemon")?;
     assert_eq!(rt; ends_without_target(&rt, &mut host, &clock), Some(true));
+    Ok(())
+}
+
+/// The wall clock is set forward by a day, and the connection stays; then it is set back by two, and the deadline comes
+/// when so much time has passed.
+fn keeps_time(rt: &HostRuntime, host: &mut Host<'_>, clock: &Stopped) -> Option<bool> {
+    let mut client = Client::new(rt)?;
+    let is_open = client.receive_nothing(host);
+    clock.set_wall(87_400_000);
+    let stays = client.receive_nothing(host);
+    clock.set_wall(0);
+    let is_closed = is_closed_after(&mut client, host, clock, IDLE);
+    Some(is_open && stays && is_closed)
+}
+
+#[test]
+fn clock_is_set_while_a_client_is_idle(rt: HostRuntime) -> Result<(), Fail> {
+    let clock = Stopped::new(&rt);
+    let mut host = Host::new(&clock, 1).ok_or("no daemon")?;
+    assert_eq!(rt; keeps_time(&rt, &mut host, &clock), Some(true));
+    Ok(())
+}
+
+/// GETTIME follows a clock that is set forward while no connection is open, and does not go back.
+fn tells_the_time(rt: &HostRuntime, host: &mut Host<'_>, clock: &Stopped) -> Option<bool> {
+    let mut caller = Caller::new(rt, 0)?;
+    let get_time = [25, 0, 2, 100_000, 3, 6, 0, 0, 0, 0];
+    let is_first = answers(rt, host, &mut caller, &get_time, &[25, 1, 0, 0, 0, 0, 1000])?;
+    clock.set_wall(5_000_000);
+    let is_later = answers(rt, host, &mut caller, &get_time, &[25, 1, 0, 0, 0, 0, 5000])?;
+    clock.set_wall(0);
+    clock.advance(1000);
+    let is_on = answers(rt, host, &mut caller, &get_time, &[25, 1, 0, 0, 0, 0, 5001])?;
+    Some(is_first && is_later && is_on)
+}
+
+#[test]
+fn gettime_is_the_greater_of_both_clocks(rt: HostRuntime) -> Result<(), Fail> {
+    let clock = Stopped::new(&rt);
+    let mut host = Host::new(&clock, 1).ok_or("no daemon")?;
+    assert_eq!(rt; tells_the_time(&rt, &mut host, &clock), Some(true));
     Ok(())
 }

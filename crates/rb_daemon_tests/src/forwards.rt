@@ -1,8 +1,9 @@
 //! Calls that are forwarded to a socket of the test.
 use crate::client::{Caller, Client};
 use crate::datagrams::answers;
-use crate::messages::{MARK_24, bytes_of, null_reply};
-use crate::turns::{Host, Stopped};
+use crate::messages::{MARK_24, bytes_of, null_call, null_reply};
+use crate::turns::{Host, PORT, Stopped, plain, second};
+use std::net::{Ipv4Addr, SocketAddr};
 use std::test::Fail;
 
 /// Where the target of forwarded calls listens: 20,119 is 78 times 256, and 151.
@@ -115,5 +116,55 @@ fn connection_waits_for_indirect(rt: HostRuntime) -> Result<(), Fail> {
     let clock = Stopped::new(&rt);
     let mut host = Host::new(&clock, 1).ok_or("no daemon")?;
     assert_eq!(rt; forwards_over_tcp(&rt, &mut host), Some(true));
+    Ok(())
+}
+
+/// A client that ends what it sends behind an INDIRECT gets the answer, and is closed behind it.
+fn answers_a_client_that_ended(rt: &HostRuntime, host: &mut Host<'_>) -> Option<bool> {
+    let mut caller = Caller::new(rt, 0)?;
+    let mut target = Caller::new(rt, TARGET)?;
+    let mut client = Client::new(rt)?;
+    let is_set = sets_target(rt, host, &mut caller)?;
+    let is_sent = client.send(&bytes_of(rt.alloc(), &TWO_CALLS).ok()?) && client.end();
+    let is_answered = target_answers(rt, host, &mut target)?;
+    client.receive(host, 81);
+    let replies = two_replies(rt)?;
+    let is_over = client.got_just(&replies) && client.is_closed();
+    Some(is_set && is_sent && is_answered && is_over && host.is_well())
+}
+
+#[test]
+fn client_ends_behind_indirect(rt: HostRuntime) -> Result<(), Fail> {
+    let clock = Stopped::new(&rt);
+    let mut host = Host::new(&clock, 1).ok_or("no daemon")?;
+    assert_eq!(rt; answers_a_client_that_ended(&rt, &mut host), Some(true));
+    Ok(())
+}
+
+/// An INDIRECT that was asked on the second address is answered from there, as is each other call.
+fn answers_from_the_second(rt: &HostRuntime, host: &mut Host<'_>) -> Option<bool> {
+    let second = SocketAddr::from((second(), PORT));
+    let mut caller = Caller::new(rt, 0)?;
+    let mut target = Caller::new(rt, TARGET)?;
+    let indirect = [15, 0, 2, 100_000, 4, 10, 0, 0, 0, 0, 200_001, 1, 0, 0];
+    let is_set = sets_target(rt, host, &mut caller)?;
+    let is_sent = caller.send_to(&bytes_of(rt.alloc(), &indirect).ok()?, second);
+    let is_answered = target_answers(rt, host, &mut target)?;
+    caller.receive(host);
+    let is_passed = caller.got_just(&bytes_of(rt.alloc(), &passed_reply()).ok()?);
+    let is_right = is_passed && caller.came_from(second);
+    let is_asked = caller.send_to(&bytes_of(rt.alloc(), &null_call(17)).ok()?, second);
+    caller.receive(host);
+    let is_null = caller.got_just(&bytes_of(rt.alloc(), &null_reply(17)).ok()?);
+    let is_there = is_asked && is_null && caller.came_from(second);
+    Some(is_set && is_sent && is_answered && is_right && is_there && host.is_well())
+}
+
+#[test]
+fn replies_come_from_the_asked_address(rt: HostRuntime) -> Result<(), Fail> {
+    let clock = Stopped::new(&rt);
+    let hosts = [Ipv4Addr::LOCALHOST, second()];
+    let mut host = Host::with(&clock, &plain(&hosts, 1)).map_err(|_| "no daemon")?;
+    assert_eq!(rt; answers_from_the_second(&rt, &mut host), Some(true));
     Ok(())
 }

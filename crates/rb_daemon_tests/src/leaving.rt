@@ -76,3 +76,19 @@ fn client_leaves_in_a_reply(rt: HostRuntime) -> Result<(), Fail> {
     assert_eq!(rt; serves_after_replies(&rt, &mut host), Some(true));
     Ok(())
 }
+
+/// Ten clients come and are gone before a turn, where two connections may be open; one that stays is served.
+fn serves_behind_gone_ones(rt: &HostRuntime, host: &mut Host<'_>) -> Option<bool> {
+    for _ in 0..10 {
+        drop(Client::new(rt)?);
+    }
+    answers_a_call(rt, host, 5)
+}
+
+#[test]
+fn gone_clients_take_no_places(rt: HostRuntime) -> Result<(), Fail> {
+    let clock = Stopped::new(&rt);
+    let mut host = Host::new(&clock, 2).ok_or("no daemon")?;
+    assert_eq!(rt; serves_behind_gone_ones(&rt, &mut host), Some(true));
+    Ok(())
+}

@@ -9,14 +9,20 @@ mod datagrams;
 #[cfg(test)]
 mod deadlines;
 #[cfg(test)]
+mod ends;
+#[cfg(test)]
 mod forwards;
 #[cfg(test)]
 mod leaving;
+#[cfg(test)]
+mod listeners;
 #[cfg(test)]
 mod lists;
 #[cfg(test)]
 mod messages;
 #[cfg(test)]
 mod records;
+#[cfg(test)]
+mod refused;
 #[cfg(test)]
 mod turns;

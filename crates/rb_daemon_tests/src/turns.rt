@@ -1,62 +1,63 @@
-//! The daemon of a test, whose turns the test itself takes, and whose clock it sets.
-use rb_daemon::{Daemon, Limits};
+//! The daemon of a test, whose turns the test itself takes, and whose clocks it sets.
+use rb_daemon::{Daemon, DaemonFault, Limits, LocalSocket, Settings};
 use std::cell::Cell;
 use std::io;
-use std::net::{Ipv4Addr, Net, SocketAddr, TcpListener, TcpStream, UdpSocket};
+use std::net::{Ipv4Addr, Ipv6Addr, SocketAddr};
 use std::rt::Clock;
 use std::time::Duration;
 
 pub(crate) const PORT: u16 = 20_111;
 
+/// Where the local socket of a test is, in the folder that the test runs in.
+pub(crate) const LOCAL: &str = "rb_daemon_tests.sock";
+
+/// A second address of the loopback.
+pub(crate) fn second() -> Ipv4Addr {
+    Ipv4Addr::new(127, 0, 0, 2)
+}
+
 /// Milliseconds: what comes over the loopback is there long before.
 const WAIT: u64 = 20;
 
-/// A clock that stands still until it is moved, and the network of the system.
+/// Clocks that stand still until they are moved, and the system.
 #[derive(Drop)]
 pub(crate) struct Stopped {
     rt: HostRuntime,
     /// Milliseconds since the start of 1970.
-    moment: Cell<u64>,
+    wall: Cell<u64>,
+    /// Milliseconds.
+    monotonic: Cell<u64>,
 }
 
 impl Stopped {
     pub(crate) fn new(rt: &HostRuntime) -> Stopped {
         Stopped {
             rt: *rt,
-            moment: Cell::new(1_000_000),
+            wall: Cell::new(1_000_000),
+            monotonic: Cell::new(5_000),
         }
     }
 
+    /// So much time passes.
     pub(crate) fn advance(&self, millis: u64) {
-        self.moment.set(self.moment.get().saturating_add(millis));
+        self.wall.set(self.wall.get().saturating_add(millis));
+        self.monotonic
+            .set(self.monotonic.get().saturating_add(millis));
+    }
+
+    /// Somebody sets the wall clock.
+    pub(crate) fn set_wall(&self, millis: u64) {
+        self.wall.set(millis);
     }
 }
 
 impl Clock for Stopped {
     fn monotonic(&self) -> io::Result<Duration> {
-        Ok(Duration::from_millis(self.moment.get()))
+        Ok(Duration::from_millis(self.monotonic.get()))
     }
 
     fn since_1970(&self) -> io::Result<Duration> {
-        Ok(Duration::from_millis(self.moment.get()))
-    }
-}
-
-impl Net for Stopped {
-    type Stream = TcpStream;
-
-    type Listener = TcpListener;
-
-    fn bind(&self, addr: SocketAddr) -> io::Result<TcpListener> {
-        self.rt.bind(addr)
-    }
-
-    fn connect(&self, addr: SocketAddr) -> io::Result<TcpStream> {
-        self.rt.connect(addr)
-    }
-
-    fn bind_udp(&self, addr: SocketAddr) -> io::Result<UdpSocket> {
-        self.rt.bind_udp(addr)
+        Ok(Duration::from_millis(self.wall.get()))
     }
 }
 
@@ -71,17 +72,60 @@ pub(crate) fn address() -> SocketAddr {
     SocketAddr::from((Ipv4Addr::LOCALHOST, PORT))
 }
 
-impl<'a> Host<'a> {
-    /// A daemon with room for so many connections.
-    pub(crate) fn new(clock: &'a Stopped, conns: usize) -> Option<Host<'a>> {
-        let host = Ipv4Addr::LOCALHOST;
-        let limits = Limits {
+pub(crate) fn address6() -> SocketAddr {
+    SocketAddr::from((Ipv6Addr::LOCALHOST, PORT))
+}
+
+/// A daemon on 127.0.0.1 alone, with room for so many connections.
+pub(crate) fn plain(hosts: &[Ipv4Addr], conns: usize) -> Settings<'_> {
+    Settings {
+        hosts,
+        loopback6: false,
+        local: None,
+        announce: Ipv4Addr::LOCALHOST,
+        port: PORT,
+        limits: Limits {
             conns,
             rows: 300,
             forwards: 4,
+        },
+    }
+}
+
+/// A daemon that listens on [::1] and on the local socket besides.
+pub(crate) fn everywhere(hosts: &[Ipv4Addr], conns: usize) -> Settings<'_> {
+    Settings {
+        loopback6: true,
+        local: Some(LocalSocket {
+            path: LOCAL,
+            mode: 0o600,
+        }),
+        ..plain(hosts, conns)
+    }
+}
+
+impl<'a> Host<'a> {
+    /// A daemon with room for so many connections.
+    pub(crate) fn new(clock: &'a Stopped, conns: usize) -> Option<Host<'a>> {
+        Host::with(clock, &plain(&[Ipv4Addr::LOCALHOST], conns)).ok()
+    }
+
+    /// One on another port.
+    pub(crate) fn at(clock: &'a Stopped, conns: usize, port: u16) -> Option<Host<'a>> {
+        let hosts = [Ipv4Addr::LOCALHOST];
+        let settings = Settings {
+            port,
+            ..plain(&hosts, conns)
         };
-        let daemon = Daemon::new(clock.rt.alloc(), clock, host, host, PORT, limits).ok()?;
-        Some(Host {
+        Host::with(clock, &settings).ok()
+    }
+
+    pub(crate) fn with(
+        clock: &'a Stopped,
+        settings: &Settings<'_>,
+    ) -> Result<Host<'a>, DaemonFault> {
+        let daemon = Daemon::new(clock.rt.alloc(), &clock.rt, clock, settings)?;
+        Ok(Host {
             daemon,
             is_well: true,
         })

@@ -15,8 +15,11 @@ use std::fmt::{Display, Formatter};
 use std::io::Write;
 use std::net::Ipv4Addr;
 
+/// The most addresses of `--bind`.
+const MOST_HOSTS: usize = 16;
+
 /// What a command line asks for.
-#[derive(Clone, Copy, Debug, PartialEq, Eq)]
+#[derive(Debug, Drop)]
 pub enum Words {
     Serve(Service),
     Replay(Beginning),
@@ -28,6 +31,19 @@ struct BadValue<'a> {
     option: &'static str,
     value: &'a str,
     wanted: &'static str,
+}
+
+/// Why words are not read.
+#[derive(Debug, Drop)]
+enum Unread<'a> {
+    BadValue(BadValue<'a>),
+    NoMemory,
+}
+
+impl<'a> From<BadValue<'a>> for Unread<'a> {
+    fn from(bad: BadValue<'a>) -> Unread<'a> {
+        Unread::BadValue(bad)
+    }
 }
 
 impl Display for BadValue<'_> {
@@ -60,7 +76,7 @@ pub fn read<S: AsStr, O: Write, E: Write>(
         Err(_) => return Err(explain(Fault::NoMemory, faults)),
     };
     match command.try_get_matches_from(words) {
-        Ok(matches) => read_matches(&matches, faults),
+        Ok(matches) => read_matches(alloc, &matches, faults),
         Err(error) => Err(show(&error, output, faults)),
     }
 }
@@ -82,45 +98,98 @@ fn show<O: Write, E: Write>(error: &Error, output: &mut O, faults: &mut E) -> u8
     0
 }
 
-fn read_matches<E: Write>(matches: &ArgMatches<'_>, faults: &mut E) -> Result<Words, u8>
+fn read_matches<E: Write>(
+    alloc: Global,
+    matches: &ArgMatches<'_>,
+    faults: &mut E,
+) -> Result<Words, u8>
     ensures { IfErr result (λ status. status ≤ 2) }
 {
-    match words_of(matches) {
+    match words_of(alloc, matches) {
         Ok(words) => Ok(words),
-        Err(bad) => {
+        Err(Unread::BadValue(bad)) => {
             let _ = writeln!(faults, "{bad}");
             Err(2)
         }
+        Err(Unread::NoMemory) => Err(explain(Fault::NoMemory, faults)),
     }
 }
 
 /// `command` lets no words pass that name none of its commands.
-fn words_of<'a>(matches: &ArgMatches<'a>) -> Result<Words, BadValue<'a>> {
+fn words_of<'a>(alloc: Global, matches: &ArgMatches<'a>) -> Result<Words, Unread<'a>> {
     if let Some(serve) = matches.subcommand_matches("serve") {
-        return Ok(Words::Serve(service_of(serve)?));
+        return Ok(Words::Serve(service_of(alloc, serve)?));
     }
     if let Some(replay) = matches.subcommand_matches("replay") {
         return Ok(Words::Replay(beginning_of(replay)?));
     }
-    Err(BadValue {
+    Err(Unread::BadValue(BadValue {
         option: "help",
         value: "",
         wanted: "a command",
-    })
+    }))
 }
 
-fn service_of<'a>(matches: &ArgMatches<'a>) -> Result<Service, BadValue<'a>> {
-    let bind = host_of(matches, "bind")?;
+fn service_of<'a>(alloc: Global, matches: &ArgMatches<'a>) -> Result<Service, Unread<'a>> {
     let announce = match matches.get_str("announce") {
-        Some(_) => host_of(matches, "announce")?,
-        None => bind,
+        Some(_) => Some(host_of(matches, "announce")?),
+        None => None,
     };
     Ok(Service {
-        bind,
+        hosts: hosts_of(alloc, matches)?,
+        loopback6: matches.get_flag("loopback6"),
+        local: path_of(alloc, matches)?,
+        local_mode: mode_of(matches)?,
         announce,
         port: port_of(matches)?,
         limits: limits_of(matches)?,
         turns: number_of(matches, "turns")?,
+    })
+}
+
+/// The addresses of `--bind`, at least one and at most 16.
+fn hosts_of<'a>(alloc: Global, matches: &ArgMatches<'a>) -> Result<Vec<Ipv4Addr>, Unread<'a>> {
+    let mut hosts = Vec::new(alloc);
+    for value in matches.get_strs("bind").unwrap_or(&[]) {
+        if hosts.len() >= MOST_HOSTS {
+            return Err(Unread::BadValue(BadValue {
+                option: "bind",
+                value,
+                wanted: "no more than 16 addresses",
+            }));
+        }
+        let host = read_host("bind", value)?;
+        if hosts.push(host).is_err() {
+            return Err(Unread::NoMemory);
+        }
+    }
+    Ok(hosts)
+}
+
+/// The path of the local socket, where one is given. A path of no bytes or of more than 107 names no socket.
+fn path_of<'a>(alloc: Global, matches: &ArgMatches<'a>) -> Result<Option<String>, Unread<'a>> {
+    let Some(value) = matches.get_str("local") else {
+        return Ok(None);
+    };
+    if value.is_empty() || value.len() > 107 {
+        return Err(Unread::BadValue(BadValue {
+            option: "local",
+            value,
+            wanted: "a path of at most 107 bytes",
+        }));
+    }
+    match String::from_str(alloc, value) {
+        Ok(path) => Ok(Some(path)),
+        Err(_) => Err(Unread::NoMemory),
+    }
+}
+
+fn mode_of<'a>(matches: &ArgMatches<'a>) -> Result<u32, BadValue<'a>> {
+    let value = text_of(matches, "local-mode");
+    mode(value).ok_or(BadValue {
+        option: "local-mode",
+        value,
+        wanted: "a mode from 0 to 777 in octal digits",
     })
 }
 
@@ -185,12 +254,24 @@ fn port_of<'a>(matches: &ArgMatches<'a>) -> Result<u16, BadValue<'a>> {
 }
 
 fn host_of<'a>(matches: &ArgMatches<'a>, option: &'static str) -> Result<Ipv4Addr, BadValue<'a>> {
-    let value = text_of(matches, option);
+    read_host(option, text_of(matches, option))
+}
+
+fn read_host<'a>(option: &'static str, value: &'a str) -> Result<Ipv4Addr, BadValue<'a>> {
     value.parse::<Ipv4Addr>().map_err(|_| BadValue {
         option,
         value,
         wanted: "an IPv4 address as 192.0.2.1",
     })
+}
+
+/// The bits of a mode for owner, group and others, in octal digits alone.
+fn mode(text: &str) -> Option<u32> {
+    if !text.bytes().all(|b| matches!(b, b'0'..=b'7')) {
+        return None;
+    }
+    let mode = u32::from_str_radix(text, 8).ok()?;
+    if mode <= 0o777 { Some(mode) } else { None }
 }
 
 fn xid(text: &str) -> Option<u32> {

@@ -4,6 +4,7 @@
 ghost use Rattle.std.specs.Prelude.{◌≤◌, IfErr};
 
 mod arguments;
+mod limits;
 mod options;
 mod service;
 

@@ -24,17 +24,23 @@ pub fn command<'a>(alloc: Global) -> Result<Command<'a>, AllocError> {
 }
 
 fn serve<'a>(alloc: Global) -> Result<Command<'a>, AllocError> {
-    let bind = option(alloc, "bind", "HOST", "IPv4 address to listen on").default_value(
-        "127.0.0.1",
-    );
+    let bind = option(
+        alloc,
+        "bind",
+        "HOST",
+        "IPv4 address to listen on over TCP and UDP; may be given up to 16 times",
+    )
+    .action(ArgAction::Append)
+    .default_value("127.0.0.1");
     let command = Command::new(alloc, "serve")
         .version(VERSION)
-        .about("Listens on one TCP and one UDP socket, and serves until it is stopped")
+        .about("Listens over TCP and UDP, and serves until it is stopped")
         .arg(bind)?
         .arg(announce(
             alloc,
-            "IPv4 address that answers show for 0.0.0.0; callers from it are local [default: that of --bind]",
+            "IPv4 address that answers show for 0.0.0.0; callers from it are local [default: the first --bind]",
         ))?;
+    let command = besides(alloc, command)?;
     limited(alloc, command, ["64", "1024", "16"])?.arg(option(
         alloc,
         "turns",
@@ -42,6 +48,29 @@ fn serve<'a>(alloc: Global) -> Result<Command<'a>, AllocError> {
         "End after N turns of at most 100 milliseconds; 0 never ends",
     )
     .default_value("0"))
+}
+
+/// What `serve` listens on besides.
+fn besides<'a>(alloc: Global, command: Command<'a>) -> Result<Command<'a>, AllocError> {
+    let loopback6 = Arg::new(alloc, "loopback6")
+        .long("loopback6")
+        .help("Listen on [::1] over TCP too")
+        .action(ArgAction::SetTrue);
+    command
+        .arg(option(
+            alloc,
+            "local",
+            "PATH",
+            "Listen on a stream socket at PATH too",
+        ))?
+        .arg(option(
+            alloc,
+            "local-mode",
+            "MODE",
+            "Mode of the local socket's file, in octal digits",
+        )
+        .default_value("0666"))?
+        .arg(loopback6)
 }
 
 fn replay<'a>(alloc: Global) -> Result<Command<'a>, AllocError> {

@@ -5,5 +5,8 @@ pub invariant_of-self-clause-reached : goal.invariant_of-self-clause-reached
 invariant_of-self-clause-reached c =
     look_served c.datagram.new.self _ _ c.udp_reply.follows.holds-at-none (datagram_served _ _ c.args.self.now.moment c.args.peer _ _ c.datagram.ensures.acts c.args.self.now.reached)
 
-pub invariant_of-self-else-eq-clause-reached : goal.invariant_of-self-else-eq-clause-reached
-invariant_of-self-else-eq-clause-reached c = datagram_served _ _ c.args.self.now.moment c.args.peer _ _ c.datagram.ensures.acts c.args.self.now.reached
+pub invariant_of-self-in-Forwarded-clause-reached : goal.invariant_of-self-in-Forwarded-clause-reached
+invariant_of-self-in-Forwarded-clause-reached c = datagram_served _ _ c.args.self.now.moment c.args.peer _ _ c.datagram.ensures.acts c.args.self.now.reached
+
+pub invariant_of-self-in-NoCall-clause-reached : goal.invariant_of-self-in-NoCall-clause-reached
+invariant_of-self-in-NoCall-clause-reached c = datagram_served _ _ c.args.self.now.moment c.args.peer _ _ c.datagram.ensures.acts c.args.self.now.reached

@@ -1,0 +1,28 @@
+//! What a daemon is started with.
+use rb_core::Limits;
+use std::net::Ipv4Addr;
+
+/// What a daemon is started with.
+#[derive(Clone, Copy, Debug, PartialEq, Eq)]
+pub struct Settings<'a> {
+    /// The addresses to listen on over TCP and UDP. Forwarded calls go out from the first.
+    pub hosts: &'a [Ipv4Addr],
+    /// Whether to listen on [::1] over TCP besides.
+    pub loopback6: bool,
+    /// The local socket to listen on besides, if any.
+    pub local: Option<LocalSocket<'a>>,
+    /// The host that answers show where a program listens on every address. Callers from it count as local.
+    pub announce: Ipv4Addr,
+    /// The port of TCP and UDP.
+    pub port: u16,
+    pub limits: Limits,
+}
+
+/// A stream socket in the file system.
+#[derive(Clone, Copy, Debug, PartialEq, Eq)]
+pub struct LocalSocket<'a> {
+    /// At most 107 bytes.
+    pub path: &'a str,
+    /// The mode of its file: whoever may write to it may connect.
+    pub mode: u32,
+}

@@ -1,0 +1,153 @@
+//! The listeners besides those of IPv4 addresses: [::1], and the local socket with its file.
+use crate::client::{Caller, Client};
+use crate::datagrams::answers;
+use crate::messages::{bytes_of, null_record, null_reply_record};
+use crate::turns::{Host, LOCAL, PORT, Stopped, address6, everywhere};
+use rb_daemon::{DaemonFault, Settings, Step};
+use std::fs;
+use std::net::Ipv4Addr;
+use std::os::unix::fs::{FileTypeExt, PermissionsExt};
+use std::os::unix::net::UnixListener;
+use std::test::Fail;
+
+const HOSTS: [Ipv4Addr; 1] = [Ipv4Addr::LOCALHOST];
+
+/// A daemon on all listeners, in a new file of the local socket.
+fn new_host<'a>(
+    rt: &HostRuntime,
+    clock: &'a Stopped,
+    conns: usize,
+) -> Result<Host<'a>, &'static str> {
+    let _ = fs::remove_file(rt, LOCAL);
+    Host::with(clock, &everywhere(&HOSTS, conns)).map_err(|_| "no daemon")
+}
+
+/// A SET of version 2 in a record of 56 bytes: the program 200001 version 1 on TCP, at port 2049.
+const SET: [u32; 15] = [
+    0x8000_0038,
+    3,
+    0,
+    2,
+    100_000,
+    2,
+    1,
+    0,
+    0,
+    0,
+    0,
+    200_001,
+    1,
+    6,
+    2049,
+];
+
+/// A client may register as one from 127.0.0.1, and its transport is TCP.
+fn registers(rt: &HostRuntime, host: &mut Host<'_>, client: &mut Client) -> Option<bool> {
+    let reply = bytes_of(rt.alloc(), &[0x8000_001c, 3, 1, 0, 0, 0, 0, 1]).ok()?;
+    let is_sent = client.send(&bytes_of(rt.alloc(), &SET).ok()?);
+    client.receive(host, 32);
+    let get_port = [4, 0, 2, 100_000, 2, 3, 0, 0, 0, 0, 200_001, 1, 6, 0];
+    let found = [4, 1, 0, 0, 0, 0, 2049];
+    let is_found = answers(rt, host, &mut Caller::new(rt, 0)?, &get_port, &found)?;
+    Some(is_sent && client.got_just(&reply) && !client.is_closed() && is_found)
+}
+
+#[test]
+fn local_socket_serves(rt: HostRuntime) -> Result<(), Fail> {
+    let clock = Stopped::new(&rt);
+    let mut host = new_host(&rt, &clock, 1)?;
+    let mut client = Client::local(&rt).ok_or("no connection")?;
+    assert_eq!(rt; registers(&rt, &mut host, &mut client), Some(true));
+    Ok(())
+}
+
+#[test]
+fn loopback6_serves(rt: HostRuntime) -> Result<(), Fail> {
+    let clock = Stopped::new(&rt);
+    let mut host = new_host(&rt, &clock, 1)?;
+    let mut client = Client::at(&rt, address6()).ok_or("no connection")?;
+    assert_eq!(rt; registers(&rt, &mut host, &mut client), Some(true));
+    Ok(())
+}
+
+/// Each of three connections is on another listener. Where two may be open, the third is closed at once.
+fn shares_places(rt: &HostRuntime, host: &mut Host<'_>) -> Option<bool> {
+    let mut first = Client::new(rt)?;
+    let mut second = Client::local(rt)?;
+    host.turn();
+    let mut third = Client::at(rt, address6())?;
+    third.receive(host, 1);
+    let call = null_record(rt.alloc(), 1).ok()?;
+    let reply = null_reply_record(rt.alloc(), 1).ok()?;
+    let is_sent = first.send(&call) && second.send(&call);
+    first.receive(host, 28);
+    second.receive(host, 28);
+    let are_served = first.got_just(&reply) && second.got_just(&reply);
+    Some(third.is_closed() && is_sent && are_served && host.is_well())
+}
+
+#[test]
+fn listeners_share_the_places(rt: HostRuntime) -> Result<(), Fail> {
+    let clock = Stopped::new(&rt);
+    let mut host = new_host(&rt, &clock, 2)?;
+    assert_eq!(rt; shares_places(&rt, &mut host), Some(true));
+    Ok(())
+}
+
+/// Whether the local socket has the mode that was asked for.
+fn has_mode(rt: &HostRuntime) -> Option<bool> {
+    let found = fs::symlink_metadata(rt, LOCAL).ok()?;
+    let mode = found.permissions().mode();
+    Some(found.file_type().is_socket() && mode & 0o777 == 0o600)
+}
+
+/// A socket that nobody listens on any more.
+fn leave_a_stale_file(rt: &HostRuntime) -> Option<()> {
+    let _ = fs::remove_file(rt, LOCAL);
+    drop(UnixListener::bind(rt, LOCAL).ok()?);
+    Some(())
+}
+
+#[test]
+fn stale_file_is_replaced(rt: HostRuntime) -> Result<(), Fail> {
+    let clock = Stopped::new(&rt);
+    leave_a_stale_file(&rt).ok_or("no file")?;
+    let mut host = Host::with(&clock, &everywhere(&HOSTS, 1)).map_err(|_| "no daemon")?;
+    let mut client = Client::local(&rt).ok_or("no connection")?;
+    assert_eq!(rt; has_mode(&rt), Some(true));
+    assert_eq!(rt; registers(&rt, &mut host, &mut client), Some(true));
+    Ok(())
+}
+
+/// Whether a daemon with these settings does not start, since the local socket is not to be had.
+fn is_kept_out(clock: &Stopped, settings: &Settings<'_>) -> bool {
+    match Host::with(clock, settings) {
+        Err(DaemonFault::Socket(fault)) => fault.step == Step::BindLocal,
+        Ok(_) | Err(_) => false,
+    }
+}
+
+#[test]
+fn live_file_stays(rt: HostRuntime) -> Result<(), Fail> {
+    let clock = Stopped::new(&rt);
+    let mut host = new_host(&rt, &clock, 2)?;
+    let beside = Settings {
+        port: PORT + 1,
+        ..everywhere(&HOSTS, 1)
+    };
+    assert_eq!(rt; is_kept_out(&clock, &beside), true);
+    let mut client = Client::local(&rt).ok_or("no connection")?;
+    assert_eq!(rt; registers(&rt, &mut host, &mut client), Some(true));
+    Ok(())
+}
+
+#[test]
+fn foreign_file_stays(rt: HostRuntime) -> Result<(), Fail> {
+    let clock = Stopped::new(&rt);
+    let _ = fs::remove_file(&rt, LOCAL);
+    fs::write(&rt, LOCAL, b"kept")?;
+    assert_eq!(rt; is_kept_out(&clock, &everywhere(&HOSTS, 1)), true);
+    assert_eq!(rt; fs::metadata(&rt, LOCAL)?.len(), 4);
+    fs::remove_file(&rt, LOCAL)?;
+    Ok(())
+}

@@ -1,0 +1,14 @@
+-- On which socket a caller over UDP asked.
+use Rattle.std.specs.Prelude.{ℕ, List, [], ◌∷◌, Bool, ◌&&◌, ◌==◌, if◌then◌else◌}
+use Rattle.std.specs.Prelude.{bytes_eq}
+use Rattle.rb_rpc.specs.declared.peer.Peer.{Peer}
+use Rattle.rb_policy.specs.declared.asked.Ask.{Ask}
+
+abbrev pub is_same_peer : Peer → Peer → Bool
+is_same_peer a b = bytes_eq a.host b.host && a.port == b.port
+
+-- the socket of the first of these asks that is the caller's, or the first socket where none is
+abbrev pub socket_in : List Ask → Peer → ℕ
+socket_in [] peer = 0
+socket_in (ask ∷ older) peer =
+    if is_same_peer ask.peer peer then ask.socket else socket_in older peer

@@ -1,0 +1,90 @@
+//! On which socket a caller over UDP asked.
+ghost use Rattle.std.specs.Prelude.{◌≡◌, ◌<◌, length};
+ghost use Rattle.rb_policy.specs.Asked.{socket_in};
+
+use rb_rpc::Peer;
+use std::alloc::{AllocError, Global};
+use std::marker::Model;
+
+/// As many calls as can wait for their ends at a time.
+const ENTRIES: usize = 64;
+
+/// A caller over UDP, and the number of the socket on which it asked.
+#[derive(Clone, Copy, Debug, PartialEq, Eq)]
+pub struct Ask {
+    pub peer: Peer,
+    pub socket: usize,
+}
+
+/// The last 64 calls over UDP that were forwarded, the newest first: their ends go out on the socket that was asked.
+#[derive(Drop)]
+pub struct Asked {
+    entries: Vec<Ask>,
+}
+
+impl Model for Asked {
+    ghost use Rattle.std.specs.Prelude.{◌≡◌, List, length};
+    ghost use Rattle.rb_policy.specs.declared.asked.Ask.{Ask};
+
+    ghost Value = { List Ask };
+
+    ghost view = { λ asked. asked.entries.items };
+
+    ghost invariant = { λ asked. length asked.entries.items ≡ 64 };
+}
+
+impl Asked {
+    ghost use Rattle.std.specs.Prelude.{◌≡◌, ◌∷◌, IfOk, take, length};
+
+    /// None was forwarded yet: what stands there is nobody's.
+    pub fn new(alloc: Global) -> Result<Asked, AllocError>
+        ensures { IfOk result (λ asked. length asked ≡ 64) }
+    {
+        let mut entries = Vec::with_capacity(alloc, ENTRIES)?;
+        let nobody = Peer {
+            host: [0; 4],
+            port: 0,
+        };
+        entries.resize(
+            ENTRIES,
+            Ask {
+                peer: nobody,
+                socket: 0,
+            },
+        )?;
+        Ok(Asked { entries })
+    }
+
+    /// A call of this caller is forwarded. The oldest is forgotten.
+    pub fn note(&mut self, ask: Ask)
+        ensures { socket_in self.new ask.peer ≡ ask.socket }
+    {
+        put_first(self.entries.as_mut_slice(), ask);
+    }
+
+    /// The socket on which this caller asked last, or the first socket where that is forgotten.
+    pub fn socket_of(&self, peer: Peer) -> usize
+        ensures { result ≡ socket_in self.now peer }
+    {
+        socket_in(&self.entries, peer)
+    }
+}
+
+/// Puts one in front, in place of the last.
+fn put_first(asks: &mut [Ask], ask: Ask)
+    requires { 0 < length asks.old }
+    ensures { socket_in asks.new ask.peer ≡ ask.socket }
+{
+    asks.rotate_right(1);
+    asks[0] = ask;
+}
+
+fn socket_in(asks: &[Ask], peer: Peer) -> usize
+    ensures { result ≡ socket_in asks.now peer }
+{
+    match asks {
+        [] => 0,
+        [ask, ..] if ask.peer == peer => ask.socket,
+        [_, older @ ..] => socket_in(older, peer),
+    }
+}

@@ -1,0 +1,47 @@
+//! The moments that the core is handed, in milliseconds since the start of 1970.
+ghost use Rattle.std.specs.Prelude.{◌≡◌};
+
+/// Moments go by the monotonic clock from the start's wall clock on, so that no step of the wall clock stops or ends a
+/// deadline.
+#[derive(Clone, Copy, Debug, PartialEq, Eq)]
+pub struct Moments {
+    /// The last moment.
+    last: u64,
+    /// What the monotonic clock gave then, in milliseconds.
+    monotonic: u64,
+}
+
+impl Moments {
+    ghost use Rattle.std.specs.Prelude.{◌≡◌, max};
+    ghost use Rattle.rb_policy.specs.Moments.{next_moment};
+
+    /// The first moment is that of the wall clock. Both clocks in milliseconds.
+    pub fn new(wall: u64, monotonic: u64) -> Moments
+        ensures last { result.last ≡ wall }
+        ensures monotonic { result.monotonic ≡ monotonic }
+    {
+        Moments {
+            last: wall,
+            monotonic,
+        }
+    }
+
+    /// The moment of a turn. Where nothing waits for a deadline, it is the wall clock's if that is later: so a clock that is
+    /// set forward ends nobody's connection, and one that is set back stops no deadline.
+    pub fn next(&mut self, wall: u64, monotonic: u64, follows_wall: bool) -> u64
+        ensures moment { result
+            ≡ next_moment self.old.last self.old.monotonic monotonic wall follows_wall }
+        ensures last { self.new.last ≡ result }
+        ensures monotonic { self.new.monotonic ≡ max self.old.monotonic monotonic }
+    {
+        let passed = monotonic.saturating_sub(self.monotonic);
+        let went_on = self.last.saturating_add(passed);
+        self.last = if follows_wall {
+            went_on.max(wall)
+        } else {
+            went_on
+        };
+        self.monotonic = self.monotonic.max(monotonic);
+        self.last
+    }
+}

@@ -1,0 +1,148 @@
+//! What came of a socket call, and what is done next.
+ghost use Rattle.std.specs.Prelude.{◌≡◌};
+ghost use Rattle.std.specs.IoError.{error_kind, raw_os_error};
+ghost use Rattle.rb_policy.specs.Outcomes.{after_accept, after_read, after_write, after_receive, outcome_of, outcome_of_number, outcome_of_count};
+
+use std::io;
+use std::io::ErrorKind;
+
+/// What came of a socket call.
+#[derive(Clone, Copy, Debug, PartialEq, Eq)]
+pub enum Outcome {
+    /// It was done: there is a connection, a datagram, or bytes that were read or written.
+    Done,
+    /// The peer sends no more bytes, or takes no more.
+    Ended,
+    /// It would have to wait.
+    WouldBlock,
+    /// A signal came first.
+    Interrupted,
+    /// One connection was lost before it was accepted.
+    PeerFailed,
+    /// The system has no descriptor or no memory left for it.
+    NoRoom,
+    /// The socket itself failed.
+    Failed,
+}
+
+/// What is done next with a socket.
+#[derive(Clone, Copy, Debug, PartialEq, Eq)]
+pub enum Next {
+    /// It is called again in this turn.
+    GoOn,
+    /// An event shows when it is to be called again.
+    AwaitEvent,
+    /// The next turn calls it again, after that turn's wait.
+    AwaitTurn,
+    /// The connection is closed.
+    Close,
+    /// The program ends.
+    EndProgram,
+}
+
+/// What is done after an accept.
+pub fn after_accept(outcome: Outcome) -> Next
+    ensures { result ≡ after_accept outcome }
+{
+    match outcome {
+        Outcome::WouldBlock => Next::AwaitEvent,
+        Outcome::NoRoom => Next::AwaitTurn,
+        Outcome::Failed => Next::EndProgram,
+        Outcome::Done | Outcome::Ended | Outcome::Interrupted | Outcome::PeerFailed => Next::GoOn,
+    }
+}
+
+/// What is done after a read of a connection. While it waits for a forwarded call, the end of what its peer sends is
+/// not yet its end: the answer can still be sent.
+pub fn after_read(outcome: Outcome, waits: bool) -> Next
+    ensures { result ≡ after_read outcome waits }
+{
+    match outcome {
+        Outcome::Done | Outcome::Interrupted => Next::GoOn,
+        Outcome::WouldBlock => Next::AwaitEvent,
+        Outcome::Ended if waits => Next::AwaitEvent,
+        Outcome::Ended | Outcome::PeerFailed | Outcome::NoRoom | Outcome::Failed => Next::Close,
+    }
+}
+
+/// What is done after a write to a connection.
+pub fn after_write(outcome: Outcome) -> Next
+    ensures { result ≡ after_write outcome }
+{
+    match outcome {
+        Outcome::Done | Outcome::Interrupted => Next::GoOn,
+        Outcome::WouldBlock => Next::AwaitEvent,
+        Outcome::Ended | Outcome::PeerFailed | Outcome::NoRoom | Outcome::Failed => Next::Close,
+    }
+}
+
+/// What is done after a receive. A fault loses one datagram.
+pub fn after_receive(outcome: Outcome) -> Next
+    ensures { result ≡ after_receive outcome }
+{
+    match outcome {
+        Outcome::WouldBlock => Next::AwaitEvent,
+        Outcome::Done
+        | Outcome::Ended
+        | Outcome::Interrupted
+        | Outcome::PeerFailed
+        | Outcome::NoRoom
+        | Outcome::Failed => Next::GoOn,
+    }
+}
+
+/// Numbers of Linux's accept(2) that std has no kind for and `libc` no name: they are those of most architectures, x86-64
+/// and aarch64 among them, and not of MIPS, SPARC and PA-RISC.
+const ENFILE: i32 = 23;
+
+const ENONET: i32 = 64;
+
+const EPROTO: i32 = 71;
+
+const ENOPROTOOPT: i32 = 92;
+
+const ENOBUFS: i32 = 105;
+
+const EHOSTDOWN: i32 = 112;
+
+/// What an error means. Errors of the network that are pending on a connection are told by its accept, and count as
+/// that connection's.
+pub fn outcome_of(error: &io::Error) -> Outcome
+    ensures { result ≡ outcome_of (error_kind error.now) (raw_os_error error.now) }
+{
+    match error.kind() {
+        ErrorKind::WouldBlock => Outcome::WouldBlock,
+        ErrorKind::Interrupted => Outcome::Interrupted,
+        ErrorKind::OutOfMemory => Outcome::NoRoom,
+        ErrorKind::ConnectionAborted
+        | ErrorKind::ConnectionReset
+        | ErrorKind::TimedOut
+        | ErrorKind::NetworkDown
+        | ErrorKind::NetworkUnreachable
+        | ErrorKind::HostUnreachable
+        | ErrorKind::PermissionDenied
+        | ErrorKind::Unsupported => Outcome::PeerFailed,
+        _ => outcome_of_number(error.raw_os_error()),
+    }
+}
+
+fn outcome_of_number(number: Option<i32>) -> Outcome
+    ensures { result ≡ outcome_of_number number }
+{
+    match number {
+        Some(libc::EMFILE | ENFILE | ENOBUFS) => Outcome::NoRoom,
+        Some(ENONET | EPROTO | ENOPROTOOPT | EHOSTDOWN) => Outcome::PeerFailed,
+        Some(_) | None => Outcome::Failed,
+    }
+}
+
+/// What came of a read or a write. A count of 0 is an end.
+pub fn outcome_of_count(came: &io::Result<usize>) -> Outcome
+    ensures { result ≡ outcome_of_count came.now }
+{
+    match came {
+        Ok(0) => Outcome::Ended,
+        Ok(_) => Outcome::Done,
+        Err(error) => outcome_of(error),
+    }
+}

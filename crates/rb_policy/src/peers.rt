@@ -1,0 +1,47 @@
+//! Which peer the core is told for a connection or a datagram that came in.
+ghost use Rattle.std.specs.Prelude.{◌≡◌};
+ghost use Rattle.rb_policy.specs.Peers.{inet_peer, IsLoopback6Peer, loopback_peer};
+
+use rb_rpc::Peer;
+use std::net::SocketAddr;
+
+/// What comes in on a socket of an IPv4 address, over TCP or UDP, is from the peer that it came from. There are no others.
+pub fn inet_peer(from: SocketAddr) -> Option<Peer>
+    ensures { result ≡ inet_peer from }
+{
+    match from {
+        SocketAddr::V4(from) => Some(Peer {
+            host: from.ip().octets(),
+            port: from.port(),
+        }),
+        SocketAddr::V6(_) => None,
+    }
+}
+
+/// A connection to [::1] from ::1 counts as one from 127.0.0.1 with its port. Any other IPv6 peer is nobody, and is to be
+/// closed.
+pub fn loopback6_peer(from: SocketAddr) -> Option<Peer>
+    ensures { IsLoopback6Peer from result }
+{
+    match from {
+        SocketAddr::V4(_) => None,
+        SocketAddr::V6(from) if from.ip().is_loopback() => Some(loopback_peer(from.port())),
+        SocketAddr::V6(_) => None,
+    }
+}
+
+/// A connection to the local socket counts as one from 127.0.0.1 and port 0.
+pub fn local_peer() -> Peer
+    ensures { result ≡ loopback_peer 0 }
+{
+    loopback_peer(0)
+}
+
+fn loopback_peer(port: u16) -> Peer
+    ensures { result ≡ loopback_peer port }
+{
+    Peer {
+        host: [127, 0, 0, 1],
+        port,
+    }
+}
