@@ -21,8 +21,8 @@ fn is_short(fault: XdrFault) -> bool
 
 /// Reads a value from the front of the record's data, and no byte behind it.
 ///
-/// It is `Unreadable` where no front of the data spells a value: at once where no bytes that might follow could mend it,
-/// else at the end of the data.
+/// `Unreadable` where the data does not begin with the spelling of a value: as soon as no further byte could complete
+/// one, else at the end of the data. `Read` and `Memory` as `Record::byte` and the allocator say.
 pub fn take_item<T: Xdr, R: Read>(
     alloc: Global,
     reader: &mut R,

@@ -5,4 +5,8 @@
 #[cfg(test)]
 mod asks;
 #[cfg(test)]
+mod courses;
+#[cfg(test)]
 mod turns;
+#[cfg(test)]
+mod words;

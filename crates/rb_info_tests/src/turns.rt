@@ -1,6 +1,6 @@
 //! A daemon and a client in one process, on port 20113 of 127.0.0.1. The client never waits: the test itself takes the
 //! daemon's turns.
-use rb_daemon::{Daemon, Limits};
+use rb_daemon::{Daemon, Limits, Settings};
 use std::alloc::AllocError;
 use std::io::{Read, Write};
 use std::net::{Ipv4Addr, SocketAddr, TcpStream};
@@ -40,18 +40,26 @@ fn reply(rt: &HostRuntime) -> Result<Vec<u8>, AllocError> {
     Ok(bytes)
 }
 
-fn daemon_of(rt: &HostRuntime) -> Option<Daemon<'_, HostRuntime>> {
+pub fn daemon_of(rt: &HostRuntime, port: u16, conns: usize) -> Option<Daemon<'_, HostRuntime>> {
     let host = Ipv4Addr::LOCALHOST;
     let limits = Limits {
-        conns: 1,
+        conns,
         rows: 8,
         forwards: 0,
     };
-    Daemon::new(rt.alloc(), rt, host, host, PORT, limits).ok()
+    let settings = Settings {
+        hosts: &[host],
+        loopback6: false,
+        local: None,
+        announce: host,
+        port,
+        limits,
+    };
+    Daemon::new(rt.alloc(), rt, rt, &settings).ok()
 }
 
 /// Takes turns until something has come, and says how many bytes.
-fn receive(
+pub fn receive(
     daemon: &mut Daemon<'_, HostRuntime>,
     stream: &mut TcpStream,
     got: &mut [u8; 256],
@@ -81,7 +89,7 @@ fn answers_dump(rt: &HostRuntime, daemon: &mut Daemon<'_, HostRuntime>) -> Optio
 
 #[test]
 fn own_rows_over_tcp(rt: HostRuntime) -> Result<(), Fail> {
-    let mut daemon = daemon_of(&rt).ok_or("no daemon")?;
+    let mut daemon = daemon_of(&rt, PORT, 1).ok_or("no daemon")?;
     assert_eq!(rt; answers_dump(&rt, &mut daemon), Some(true));
     Ok(())
 }

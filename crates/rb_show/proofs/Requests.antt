@@ -1,22 +1,39 @@
 -- Questions are requests of rb_proto.
-use Rattle.std.proofs.Common.{ℕ, [], refl, sym, append-nil, arith}
+use Rattle.std.proofs.Common.{ℕ, zero, suc, ◌<◌, lit<, [], ◌∷◌, List, get_or, Option, Some, None, refl, sym, append-nil, arith}
 use Rattle.rb_xdr.specs.Xdr.{IsNumber, IsContent}
 use Rattle.rb_proto.specs.Arguments.{procedure_at}
 use Rattle.rb_proto.specs.Numbers.{is_void, is_mapping, is_rpcb, is_procedure, number_of}
 use Rattle.rb_proto.specs.Types.{IsMapping, mapping_spelling, IsRpcb, rpcb_spelling}
 use Rattle.rb_proto.specs.Grammar.{BeginsWith}
-use Rattle.rb_show.specs.declared.ask.Question.TheVariants.{Rows, Short, Pmap, Entries, Stats, Port, Null, Unset}
-use Rattle.rb_show.specs.Asks.{rpcb_of, mapping_of}
+use Rattle.rb_show.specs.declared.ask.Question.TheVariants.{Rows, Short, OldRows, OldShort, Pmap, Entries, Stats, Port, Address, Null, Probe, Unset}
+use Rattle.std.specs.List.{AllByRecursion}
+use Rattle.rb_names.specs.Netids.{netid_text}
+use Rattle.rb_names.specs.declared.netid.Netid.{Netid}
+use Rattle.rb_names.specs.declared.netid.Netid.TheVariants.{Tcp, Udp, Tcp6, Udp6, Local}
+use Rattle.rb_show.specs.Asks.{netid_text_of, rpcb_of, mapping_of}
 use Rattle.rb_show.specs.AskLaws.{QuestionsAreRequests}
 
 nothing : (limit : ℕ) → IsContent limit []
 nothing limit = (omega arith, omega arith, λ i. omega arith)
 
-rpcb_fits : (prog vers : ℕ) → IsNumber prog → IsNumber vers → BeginsWith IsRpcb rpcb_spelling (rpcb_of prog vers) (rpcb_spelling (rpcb_of prog vers))
-rpcb_fits prog vers p v = record {
-  fits = record { prog = p; vers = v; netid = nothing 32; addr = nothing 128; owner = nothing 128 };
+small_at : (text : List ℕ) → AllByRecursion (λ b. b < 256) text → (i : ℕ) → get_or text i 0 < 256
+small_at [] all i = omega arith
+small_at (b ∷ text) all zero = all.0
+small_at (b ∷ text) all (suc i) = small_at text all.1 i
+
+netid_fits : (netid : Option Netid) → IsContent 32 (netid_text_of netid)
+netid_fits None = nothing 32
+netid_fits (Some Tcp) = (omega arith, omega arith, λ i. small_at (netid_text Tcp) (lit< tt, (lit< tt, (lit< tt, (tt)))) i)
+netid_fits (Some Udp) = (omega arith, omega arith, λ i. small_at (netid_text Udp) (lit< tt, (lit< tt, (lit< tt, (tt)))) i)
+netid_fits (Some Tcp6) = (omega arith, omega arith, λ i. small_at (netid_text Tcp6) (lit< tt, (lit< tt, (lit< tt, (lit< tt, (tt))))) i)
+netid_fits (Some Udp6) = (omega arith, omega arith, λ i. small_at (netid_text Udp6) (lit< tt, (lit< tt, (lit< tt, (lit< tt, (tt))))) i)
+netid_fits (Some Local) = (omega arith, omega arith, λ i. small_at (netid_text Local) (lit< tt, (lit< tt, (lit< tt, (lit< tt, (lit< tt, (tt)))))) i)
+
+rpcb_fits : (netid : Option Netid) (prog vers : ℕ) → IsNumber prog → IsNumber vers → BeginsWith IsRpcb rpcb_spelling (rpcb_of netid prog vers) (rpcb_spelling (rpcb_of netid prog vers))
+rpcb_fits netid prog vers p v = record {
+  fits = record { prog = p; vers = v; netid = netid_fits netid; addr = nothing 128; owner = nothing 128 };
   rest = [];
-  whole = sym (append-nil (rpcb_spelling (rpcb_of prog vers)));
+  whole = sym (append-nil (rpcb_spelling (rpcb_of netid prog vers)));
 }
 
 mapping_fits : (prot prog vers : ℕ) → IsNumber prot → IsNumber prog → IsNumber vers → BeginsWith IsMapping mapping_spelling (mapping_of prot prog vers) (mapping_spelling (mapping_of prot prog vers))
@@ -30,9 +47,13 @@ pub are_requests : QuestionsAreRequests
 unfolding is_void is_mapping is_rpcb is_procedure number_of procedure_at
 are_requests Rows fit = (refl, tt)
 are_requests Short fit = (refl, tt)
+are_requests OldRows fit = (refl, tt)
+are_requests OldShort fit = (refl, tt)
 are_requests Pmap fit = (refl, tt)
-are_requests (Entries prog vers) fit = (refl, rpcb_fits prog vers fit.0 fit.1)
+are_requests (Entries prog vers) fit = (refl, rpcb_fits None prog vers fit.0 fit.1)
 are_requests Stats fit = (refl, tt)
 are_requests (Port prot prog vers) fit = (refl, mapping_fits prot prog vers fit.0 fit.1 fit.2)
+are_requests (Address netid prog vers) fit = (refl, rpcb_fits (Some netid) prog vers fit.0 fit.1)
 are_requests (Null prog vers) fit = tt
-are_requests (Unset prog vers) fit = (refl, rpcb_fits prog vers fit.0 fit.1)
+are_requests (Probe prog vers) fit = tt
+are_requests (Unset netid prog vers) fit = (refl, rpcb_fits netid prog vers fit.0 fit.1)

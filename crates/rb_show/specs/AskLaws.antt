@@ -8,30 +8,38 @@ use Rattle.rb_proto.specs.declared.procedure.VoidProcedure.TheVariants as voids
 use Rattle.rb_proto.specs.declared.procedure.MappingProcedure.TheVariants as mappings
 use Rattle.rb_proto.specs.declared.procedure.RpcbProcedure.TheVariants as rpcbs
 use Rattle.rb_show.specs.declared.ask.Question.{Question}
-use Rattle.rb_show.specs.declared.ask.Question.TheVariants.{Rows, Short, Pmap, Entries, Stats, Port, Null, Unset}
+use Rattle.rb_show.specs.declared.ask.Question.TheVariants.{Rows, Short, OldRows, OldShort, Pmap, Entries, Stats, Port, Address, Null, Probe, Unset}
 use Rattle.rb_show.specs.Asks.{procedure_of, rpcb_of, mapping_of, arguments_of}
 
 -- its numbers fit in 32 bits
 abbrev pub HasNumbers : Question → Type 0
 HasNumbers Rows = ⊤
 HasNumbers Short = ⊤
+HasNumbers OldRows = ⊤
+HasNumbers OldShort = ⊤
 HasNumbers Pmap = ⊤
 HasNumbers (Entries prog vers) = IsNumber prog × IsNumber vers
 HasNumbers Stats = ⊤
 HasNumbers (Port prot prog vers) = IsNumber prot × IsNumber prog × IsNumber vers
+HasNumbers (Address netid prog vers) = IsNumber prog × IsNumber vers
 HasNumbers (Null prog vers) = IsNumber prog × IsNumber vers
-HasNumbers (Unset prog vers) = IsNumber prog × IsNumber vers
+HasNumbers (Probe prog vers) = IsNumber prog × IsNumber vers
+HasNumbers (Unset netid prog vers) = IsNumber prog × IsNumber vers
 
 -- the request that a question to the portmapper is
 abbrev pub request_of : Question → Option Request
 request_of Rows = Some (Void voids.Dump)
 request_of Short = Some (Void voids.Dump)
+request_of OldRows = Some (Void voids.PmapDump)
+request_of OldShort = Some (Void voids.PmapDump)
 request_of Pmap = Some (Void voids.PmapDump)
-request_of (Entries prog vers) = Some (Rpcb rpcbs.Getaddrlist (rpcb_of prog vers))
+request_of (Entries prog vers) = Some (Rpcb rpcbs.Getaddrlist (rpcb_of None prog vers))
 request_of Stats = Some (Void voids.Getstat)
 request_of (Port prot prog vers) = Some (Mapping mappings.Getport (mapping_of prot prog vers))
+request_of (Address netid prog vers) = Some (Rpcb rpcbs.Getaddr (rpcb_of (Some netid) prog vers))
 request_of (Null prog vers) = None
-request_of (Unset prog vers) = Some (Rpcb rpcbs.Unset (rpcb_of prog vers))
+request_of (Probe prog vers) = None
+request_of (Unset netid prog vers) = Some (Rpcb rpcbs.Unset (rpcb_of netid prog vers))
 
 -- its version and number, and its arguments, ask for that request
 abbrev pub IsRequest : Question → Option Request → Type 0

@@ -15,9 +15,11 @@ use Rattle.rb_proto.specs.declared.mapping.Mapping.{Mapping}
 use Rattle.rb_proto.specs.declared.rpcb.Rpcb.{Rpcb}
 use Rattle.rb_proto.specs.Numbers.{number_of}
 use Rattle.rb_proto.specs.Types.{mapping_spelling, rpcb_spelling}
+use Rattle.rb_names.specs.declared.netid.Netid.{Netid}
+use Rattle.rb_names.specs.Netids.{netid_text}
 use Rattle.rb_show.specs.declared.ask.Ask.{Ask}
 use Rattle.rb_show.specs.declared.ask.Question.{Question}
-use Rattle.rb_show.specs.declared.ask.Question.TheVariants.{Rows, Short, Pmap, Entries, Stats, Port, Null, Unset}
+use Rattle.rb_show.specs.declared.ask.Question.TheVariants.{Rows, Short, OldRows, OldShort, Pmap, Entries, Stats, Port, Address, Null, Probe, Unset}
 
 -- a procedure of the portmapper in a version that has it
 abbrev pub of_portmapper : ℕ → Procedure → ℕ × ℕ × ℕ
@@ -27,16 +29,28 @@ of_portmapper vers procedure = (100000, vers, unwrap_or (number_of vers procedur
 abbrev pub procedure_of : Question → ℕ × ℕ × ℕ
 procedure_of Rows = of_portmapper 3 (Void voids.Dump)
 procedure_of Short = of_portmapper 3 (Void voids.Dump)
+procedure_of OldRows = of_portmapper 2 (Void voids.PmapDump)
+procedure_of OldShort = of_portmapper 2 (Void voids.PmapDump)
 procedure_of Pmap = of_portmapper 2 (Void voids.PmapDump)
 procedure_of (Entries prog vers) = of_portmapper 4 (RpcbOf rpcbs.Getaddrlist)
 procedure_of Stats = of_portmapper 4 (Void voids.Getstat)
 procedure_of (Port prot prog vers) = of_portmapper 2 (MappingOf mappings.Getport)
+procedure_of (Address netid prog vers) = of_portmapper 3 (RpcbOf rpcbs.Getaddr)
 procedure_of (Null prog vers) = (prog, vers, 0)
-procedure_of (Unset prog vers) = of_portmapper 4 (RpcbOf rpcbs.Unset)
+procedure_of (Probe prog vers) = (prog, vers, 0)
+procedure_of (Unset netid prog vers) = of_portmapper 4 (RpcbOf rpcbs.Unset)
 
--- a program's version on any netid
-abbrev pub rpcb_of : ℕ → ℕ → Rpcb
-rpcb_of prog vers = record { prog = prog; vers = vers; netid = []; addr = []; owner = [] }
+-- an empty text stands for every netid
+abbrev pub netid_text_of : Option Netid → List ℕ
+netid_text_of (Some netid) = netid_text netid
+netid_text_of None = []
+
+-- a program's version on a netid, or on every one
+abbrev pub rpcb_of : Option Netid → ℕ → ℕ → Rpcb
+rpcb_of netid prog vers = record { prog = prog; vers = vers; netid = netid_text_of netid; addr = []; owner = [] }
+
+abbrev pub rpcb_arguments : Option Netid → ℕ → ℕ → List ℕ
+rpcb_arguments netid prog vers = rpcb_spelling (rpcb_of netid prog vers)
 
 -- a program's version over a protocol
 abbrev pub mapping_of : ℕ → ℕ → ℕ → Mapping
@@ -45,12 +59,16 @@ mapping_of prot prog vers = record { prog = prog; vers = vers; prot = prot; port
 abbrev pub arguments_of : Question → List ℕ
 arguments_of Rows = []
 arguments_of Short = []
+arguments_of OldRows = []
+arguments_of OldShort = []
 arguments_of Pmap = []
-arguments_of (Entries prog vers) = rpcb_spelling (rpcb_of prog vers)
+arguments_of (Entries prog vers) = rpcb_arguments None prog vers
 arguments_of Stats = []
 arguments_of (Port prot prog vers) = mapping_spelling (mapping_of prot prog vers)
+arguments_of (Address netid prog vers) = rpcb_arguments (Some netid) prog vers
 arguments_of (Null prog vers) = []
-arguments_of (Unset prog vers) = rpcb_spelling (rpcb_of prog vers)
+arguments_of (Probe prog vers) = []
+arguments_of (Unset netid prog vers) = rpcb_arguments netid prog vers
 
 -- AUTH_NONE without a uid
 abbrev pub credential_of : Option ℕ → Credential

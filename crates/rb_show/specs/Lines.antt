@@ -1,5 +1,5 @@
 -- The lines that are printed.
-use Rattle.std.specs.Prelude.{ℕ, ◌==◌, ◌-◌, nat_le, ◌&&◌, if◌then◌else◌, List, [], ◌∷◌, ◌++◌, map, length, replicate, codes}
+use Rattle.std.specs.Prelude.{ℕ, ◌==◌, ◌-◌, ◌/◌, ◌%◌, nat_le, ◌&&◌, if◌then◌else◌, List, [], ◌∷◌, ◌++◌, map, length, replicate, codes}
 use Rattle.std.specs.Fmt.{decimal}
 use Rattle.rb_proto.specs.declared.mapping.Mapping.{Mapping}
 use Rattle.rb_proto.specs.declared.rpcb.Rpcb.{Rpcb}
@@ -43,6 +43,14 @@ row_line r = decimal r.prog ++ (codes " " ++ (decimal r.vers ++ (codes " " ++ (s
 
 abbrev pub short_line : Rpcb → List ℕ
 short_line r = decimal r.prog ++ (codes " " ++ (decimal r.vers ++ (codes " " ++ (shown_text r.netid ++ codes "\n"))))
+
+-- A mapping of version 2 as the row of version 3 that it stands for: it has a port on every host, and no owner is known.
+abbrev pub old_row_line : Mapping → List ℕ
+old_row_line m = decimal m.prog ++ (codes " " ++ (decimal m.vers ++ (codes " " ++ (prot_text m.prot ++ (codes " 0.0.0.0."
+    ++ (decimal (m.port / 256) ++ (codes "." ++ (decimal (m.port % 256) ++ codes " unknown\n"))))))))
+
+abbrev pub old_short_line : Mapping → List ℕ
+old_short_line m = decimal m.prog ++ (codes " " ++ (decimal m.vers ++ (codes " " ++ (prot_text m.prot ++ codes "\n"))))
 
 -- netid, address, semantics, family and protocol
 abbrev pub entry_line : Entry → List ℕ

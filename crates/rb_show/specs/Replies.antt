@@ -1,7 +1,9 @@
 -- What the reply to each question tells (RFC 1833 sections 2.2 and 3.2).
-use Rattle.std.specs.Prelude.{◌≡◌, ℕ, Option, Some, Result, ◌==◌, Bool, true, false, if◌then◌else◌, List, [], ◌∷◌, ◌++◌, codes}
+use Rattle.std.specs.Prelude.{◌≡◌, ℕ, Option, Some, None, option_map, Result, ◌==◌, Bool, true, false, if◌then◌else◌, List, [], ◌∷◌, ◌++◌, codes}
 use Rattle.std.specs.Fmt.{decimal}
-use Rattle.rb_xdr.specs.Xdr.{Reader, read_number, read_bool}
+use Rattle.rb_xdr.specs.Xdr.{Reader, read_number, read_bool, read_opaque}
+use Rattle.rb_uaddr.specs.declared.address.Uaddr.{Uaddr}
+use Rattle.rb_uaddr.specs.Uaddr.{parse}
 use Rattle.rb_rpc.specs.declared.reply.ReplyHead.{ReplyHead}
 use Rattle.rb_rpc.specs.declared.reply.ReplyStatus.{ReplyStatus}
 use Rattle.rb_rpc.specs.declared.reply.ReplyStatus.TheVariants as statuses
@@ -15,11 +17,11 @@ use Rattle.rb_ask.specs.Heads.{take_head}
 use Rattle.rb_ask.specs.Lists.{tell_items, greatest_list}
 use Rattle.rb_show.specs.declared.ask.Ask.{Ask}
 use Rattle.rb_show.specs.declared.ask.Question.{Question}
-use Rattle.rb_show.specs.declared.ask.Question.TheVariants.{Rows, Short, Pmap, Entries, Stats, Port, Null, Unset}
+use Rattle.rb_show.specs.declared.ask.Question.TheVariants.{Rows, Short, OldRows, OldShort, Pmap, Entries, Stats, Port, Address, Null, Probe, Unset}
 use Rattle.rb_show.specs.declared.show.Shown.{Shown}
 use Rattle.rb_show.specs.declared.show.Shown.TheVariants as shown
 use Rattle.rb_show.specs.Counts.{tell_statistics}
-use Rattle.rb_show.specs.Lines.{heading, mapping_line, row_line, short_line, entry_line}
+use Rattle.rb_show.specs.Lines.{heading, mapping_line, row_line, short_line, old_row_line, old_short_line, entry_line}
 
 -- the items of a list, a line each
 unfoldable pub tell_list : {A : Type 0} → Reader A → (A → List ℕ) → Teller Shown
@@ -31,6 +33,18 @@ tell_table = tell (heading ∷ []) >>= λ _. tell_list read_mapping mapping_line
 
 unfoldable pub tell_port : Teller Shown
 tell_port = take_one read_number >>= λ port. give (shown.Port port)
+
+-- The address that a text is. An empty text says that there is none.
+abbrev pub address_in : List ℕ → Option (Option Uaddr)
+address_in [] = Some None
+address_in (b ∷ text) = option_map (λ address. Some address) (parse (b ∷ text))
+
+abbrev pub by_address : Option (Option Uaddr) → Teller Shown
+by_address (Some address) = give (shown.Address address)
+by_address None = stop Unreadable
+
+unfoldable pub tell_address : Teller Shown
+tell_address = take_one (read_opaque 128) >>= λ text. by_address (address_in text)
 
 abbrev pub ready_line : ℕ → ℕ → List ℕ
 ready_line prog vers = codes "program " ++ (decimal prog ++ (codes " version " ++ (decimal vers ++ codes " ready\n")))
@@ -50,12 +64,16 @@ tell_unset = take_one read_bool >>= tell_removed
 abbrev pub tell_results : Question → Teller Shown
 tell_results Rows = tell_list read_rpcb row_line
 tell_results Short = tell_list read_rpcb short_line
+tell_results OldRows = tell_list read_mapping old_row_line
+tell_results OldShort = tell_list read_mapping old_short_line
 tell_results Pmap = tell_table
 tell_results (Entries prog vers) = tell_list read_entry entry_line
 tell_results Stats = tell_statistics
 tell_results (Port prot prog vers) = tell_port
+tell_results (Address netid prog vers) = tell_address
 tell_results (Null prog vers) = tell_ready prog vers
-tell_results (Unset prog vers) = tell_unset
+tell_results (Probe prog vers) = give shown.Null
+tell_results (Unset netid prog vers) = tell_unset
 
 abbrev pub is_success : ReplyStatus → Bool
 is_success statuses.Success = true

@@ -1,9 +1,10 @@
 //! What a portmapper is asked, and the call that asks it.
 ghost use Rattle.std.specs.Prelude.{◌≡◌, ◌⊎◌, OnOk, IfErr};
 ghost use Rattle.rb_xdr.specs.Puts.{Appends as Adds};
-ghost use Rattle.rb_show.specs.Asks.{of_portmapper, procedure_of, head_of, call_of, arguments_of, marked_call, HasWritten};
+ghost use Rattle.rb_show.specs.Asks.{of_portmapper, procedure_of, head_of, call_of, arguments_of, netid_text_of, rpcb_arguments, marked_call, HasWritten};
 
 use rb_ask::InfoFault;
+use rb_names::Netid;
 use rb_proto::{Mapping, MappingProcedure, Procedure, Rpcb, RpcbProcedure, VoidProcedure};
 use rb_rpc::{CallHead, Credential, fragment_header, put_call};
 use rb_xdr::{Full, Kept, Meter, Text, Xdr};
@@ -23,6 +24,10 @@ pub enum Question {
     Rows,
     /// The same, shown without them.
     Short,
+    /// DUMP of version 2, shown as the rows of version 3 are.
+    OldRows,
+    /// The same, shown without addresses and owners.
+    OldShort,
     /// DUMP of version 2, shown as a table.
     Pmap,
     /// GETADDRLIST of a program and a version.
@@ -31,10 +36,14 @@ pub enum Question {
     Stats,
     /// GETPORT of version 2, of a protocol, a program and a version.
     Port(u32, u32, u32),
+    /// GETADDR of version 3, of a netid, a program and a version.
+    Address(Netid, u32, u32),
     /// Procedure 0 of a program and a version.
     Null(u32, u32),
-    /// UNSET of version 4, of a program and a version on all netids.
-    Unset(u32, u32),
+    /// The same, of which nothing is shown.
+    Probe(u32, u32),
+    /// UNSET of version 4, of a program and a version on this netid, or on all.
+    Unset(Option<Netid>, u32, u32),
 }
 
 /// What is asked, and by which user; as nobody without a uid.
@@ -57,12 +66,16 @@ fn procedure_of(question: Question) -> (u32, u32, u32)
 {
     match question {
         Question::Rows | Question::Short => of_portmapper(3, Procedure::Void(VoidProcedure::Dump)),
-        Question::Pmap => of_portmapper(2, Procedure::Void(VoidProcedure::PmapDump)),
+        Question::OldRows | Question::OldShort | Question::Pmap => of_portmapper(
+            2,
+            Procedure::Void(VoidProcedure::PmapDump),
+        ),
         Question::Entries(_, _) => of_portmapper(4, Procedure::Rpcb(RpcbProcedure::Getaddrlist)),
         Question::Stats => of_portmapper(4, Procedure::Void(VoidProcedure::Getstat)),
         Question::Port(_, _, _) => of_portmapper(2, Procedure::Mapping(MappingProcedure::Getport)),
-        Question::Null(prog, vers) => (prog, vers, 0),
-        Question::Unset(_, _) => of_portmapper(4, Procedure::Rpcb(RpcbProcedure::Unset)),
+        Question::Address(_, _, _) => of_portmapper(3, Procedure::Rpcb(RpcbProcedure::Getaddr)),
+        Question::Null(prog, vers) | Question::Probe(prog, vers) => (prog, vers, 0),
+        Question::Unset(_, _, _) => of_portmapper(4, Procedure::Rpcb(RpcbProcedure::Unset)),
     }
 }
 
@@ -85,6 +98,39 @@ impl Ask {
     }
 }
 
+/// The text of a netid, empty for every one.
+fn netid_text(netid: Option<Netid>) -> &'static [u8]
+    ensures { result.now ≡ netid_text_of netid }
+{
+    match netid {
+        Some(netid) => netid.text().as_bytes(),
+        None => b"",
+    }
+}
+
+/// Puts a program's version on a netid, or on every one.
+fn put_rpcb(
+    netid: Option<Netid>,
+    prog: u32,
+    vers: u32,
+    out: &mut Kept,
+    meter: &mut Meter,
+) -> Result<(), Full>
+    requires { meter.old.tie ≡ out.old.tie }
+    ensures ok { OnOk result (Adds (rpcb_arguments netid prog vers) out.old out.new) }
+    ensures tie { OnOk result (meter.new.tie ≡ out.new.tie) }
+{
+    let nothing: &[u8] = &[];
+    let rpcb = Rpcb {
+        prog,
+        vers,
+        netid: Text::new(netid_text(netid)),
+        addr: Text::new(nothing),
+        owner: Text::new(nothing),
+    };
+    rpcb.put(out, meter)
+}
+
 /// Puts the arguments of a question, where there is room.
 fn put_arguments(question: Question, out: &mut Kept, meter: &mut Meter) -> Result<(), Full>
     requires { meter.old.tie ≡ out.old.tie }
@@ -92,17 +138,9 @@ fn put_arguments(question: Question, out: &mut Kept, meter: &mut Meter) -> Resul
     ensures tie { OnOk result (meter.new.tie ≡ out.new.tie) }
 {
     match question {
-        Question::Entries(prog, vers) | Question::Unset(prog, vers) => {
-            let nothing: &[u8] = &[];
-            let rpcb = Rpcb {
-                prog,
-                vers,
-                netid: Text::new(nothing),
-                addr: Text::new(nothing),
-                owner: Text::new(nothing),
-            };
-            rpcb.put(out, meter)
-        }
+        Question::Entries(prog, vers) => put_rpcb(None, prog, vers, out, meter),
+        Question::Address(netid, prog, vers) => put_rpcb(Some(netid), prog, vers, out, meter),
+        Question::Unset(netid, prog, vers) => put_rpcb(netid, prog, vers, out, meter),
         Question::Port(prot, prog, vers) => {
             let mapping = Mapping {
                 prog,
@@ -112,8 +150,14 @@ fn put_arguments(question: Question, out: &mut Kept, meter: &mut Meter) -> Resul
             };
             mapping.put(out, meter)
         }
-        Question::Rows | Question::Short | Question::Pmap | Question::Stats | Question::Null(..) =>
-            Ok(()),
+        Question::Rows
+        | Question::Short
+        | Question::OldRows
+        | Question::OldShort
+        | Question::Pmap
+        | Question::Stats
+        | Question::Null(..)
+        | Question::Probe(..) => Ok(()),
     }
 }
 

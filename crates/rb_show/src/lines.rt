@@ -1,7 +1,7 @@
 //! The lines that are printed.
 ghost use Rattle.std.specs.Prelude.{◌≡◌, IfOk};
 ghost use Rattle.std.specs.String.{string_bytes};
-ghost use Rattle.rb_show.specs.Lines.{shown_byte, shown_text, mapping_line, row_line, short_line, entry_line};
+ghost use Rattle.rb_show.specs.Lines.{shown_byte, prot_text, shown_text, mapping_line, row_line, short_line, old_row_line, old_short_line, entry_line};
 
 use rb_ask::Style;
 use rb_proto::{Entry, Mapping, Rpcb};
@@ -76,6 +76,44 @@ impl Style<Rpcb> for ShortLines {
 
     fn line(alloc: Global, item: &Rpcb) -> Result<String, AllocError> {
         let netid = shown_text(alloc, item.netid.as_slice())?;
+        let (prog, vers) = (item.prog, item.vers);
+        format!(in alloc; "{prog} {vers} {netid}\n")
+    }
+}
+
+/// A protocol as a netid.
+fn prot_text(alloc: Global, prot: u32) -> Result<String, AllocError>
+    ensures { IfOk result (λ text. string_bytes text ≡ prot_text prot) }
+{
+    match prot {
+        6 => String::from_str(alloc, "tcp"),
+        17 => String::from_str(alloc, "udp"),
+        _ => format!(in alloc; "{prot}"),
+    }
+}
+
+/// Mappings of version 2 as the rows of version 3 that they stand for.
+pub struct OldRowLines;
+
+impl Style<Mapping> for OldRowLines {
+    ghost text = { old_row_line };
+
+    fn line(alloc: Global, item: &Mapping) -> Result<String, AllocError> {
+        let netid = prot_text(alloc, item.prot)?;
+        let (prog, vers) = (item.prog, item.vers);
+        let (high, low) = (item.port / 256, item.port % 256);
+        format!(in alloc; "{prog} {vers} {netid} 0.0.0.0.{high}.{low} unknown\n")
+    }
+}
+
+/// The same without addresses and owners.
+pub struct OldShortLines;
+
+impl Style<Mapping> for OldShortLines {
+    ghost text = { old_short_line };
+
+    fn line(alloc: Global, item: &Mapping) -> Result<String, AllocError> {
+        let netid = prot_text(alloc, item.prot)?;
         let (prog, vers) = (item.prog, item.vers);
         format!(in alloc; "{prog} {vers} {netid}\n")
     }

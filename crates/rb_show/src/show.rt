@@ -1,15 +1,16 @@
 //! Shows what a reply tells.
 ghost use Rattle.std.specs.Prelude.{◌≡◌, List, [], ◌∷◌, ℕ};
 ghost use Rattle.rb_ask.specs.Telling.{tell, Shows, Takes, Writes};
-ghost use Rattle.rb_show.specs.Replies.{tell_list, tell_table, tell_port, tell_ready, tell_removed, removed_line, tell_unset, tell_results, is_success, by_head, IsShown};
+ghost use Rattle.rb_show.specs.Replies.{tell_list, tell_table, tell_port, address_in, tell_address, tell_ready, tell_removed, removed_line, tell_unset, tell_results, is_success, by_head, IsShown};
 
 use crate::ask::{Ask, Question};
-use crate::lines::{EntryLines, RowLines, ShortLines, Table};
+use crate::lines::{EntryLines, OldRowLines, OldShortLines, RowLines, ShortLines, Table};
 use crate::statistics::show_statistics;
 use rb_ask::{InfoFault, Record, Style, show_list, take_head, take_item};
 use rb_proto::{Entry, Mapping, Rpcb};
 use rb_rpc::{ReplyHead, ReplyStatus};
-use rb_xdr::Xdr;
+use rb_uaddr::Uaddr;
+use rb_xdr::{Text, Xdr};
 use std::alloc::Global;
 use std::io::{Read, Write};
 
@@ -22,6 +23,8 @@ pub enum Shown {
     Statistics(u64),
     /// The port of GETPORT, of which nothing is printed.
     Port(u32),
+    /// The address of GETADDR, or that there is none. Nothing is printed of it.
+    Address(Option<Uaddr>),
     /// Procedure 0 answered.
     Null,
     /// Whether UNSET removed a row.
@@ -76,6 +79,30 @@ fn take_port<R: Read>(alloc: Global, reader: &mut R, at: &mut Record) -> Result<
 {
     let port: u32 = take_item(alloc, reader, at)?;
     Ok(Shown::Port(port))
+}
+
+/// The address that a text is. An empty text says that there is none, and any other text is `None`.
+fn address_in(text: &[u8]) -> Option<Option<Uaddr>>
+    ensures { result ≡ address_in text.now }
+{
+    if text.is_empty() {
+        return Some(None);
+    }
+    match Uaddr::parse(text) {
+        Ok(address) => Some(Some(address)),
+        Err(_) => None,
+    }
+}
+
+/// Takes the address of GETADDR.
+fn take_address<R: Read>(alloc: Global, reader: &mut R, at: &mut Record) -> Result<Shown, InfoFault>
+    ensures { Takes R.remaining reader.old reader.new at.old at.new tell_address result }
+{
+    let text: Text<128> = take_item(alloc, reader, at)?;
+    match address_in(text.as_slice()) {
+        Some(address) => Ok(Shown::Address(address)),
+        None => Err(InfoFault::Unreadable),
+    }
 }
 
 /// Says that procedure 0 answered.
@@ -140,12 +167,16 @@ fn show_results<R: Read, W: Write>(
     match question {
         Question::Rows => show_items::<Rpcb, RowLines, R, W>(alloc, reader, at, writer),
         Question::Short => show_items::<Rpcb, ShortLines, R, W>(alloc, reader, at, writer),
+        Question::OldRows => show_items::<Mapping, OldRowLines, R, W>(alloc, reader, at, writer),
+        Question::OldShort => show_items::<Mapping, OldShortLines, R, W>(alloc, reader, at, writer),
         Question::Pmap => show_table(alloc, reader, at, writer),
         Question::Entries(_, _) => show_items::<Entry, EntryLines, R, W>(alloc, reader, at, writer),
         Question::Stats => show_statistics(alloc, reader, at, writer),
         Question::Port(_, _, _) => take_port(alloc, reader, at),
+        Question::Address(_, _, _) => take_address(alloc, reader, at),
         Question::Null(prog, vers) => show_ready(alloc, prog, vers, writer),
-        Question::Unset(_, _) => show_unset(alloc, reader, at, writer),
+        Question::Probe(_, _) => Ok(Shown::Null),
+        Question::Unset(_, _, _) => show_unset(alloc, reader, at, writer),
     }
 }
 

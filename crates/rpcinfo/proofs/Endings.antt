@@ -1,16 +1,29 @@
 -- Endings without words that were read.
 use Rattle.std.proofs.Common.{◌≡◌, ℕ, List, Option, Err, arith}
+use Rattle.std.proofs.KnownBytes.{Appends-nil}
 use Rattle.rpcinfo.specs.declared.ending.Ending.{Ending}
 use Rattle.rpcinfo.specs.declared.fault.Fault.{Fault}
-use Rattle.rpcinfo.specs.Ending.{fault_line, Says}
-use Rattle.rpcinfo.specs.Running.{EndsUnread}
+use Rattle.rpcinfo.specs.Ending.{fault_lines, Says}
+use Rattle.rpcinfo.specs.Running.{no_notices, EndsUnread, IsExplained, IsNoticed}
 
 -- a fault that was explained
+pub explained : {E : Type 0} (contents : E → Option (List ℕ)) (faults faults' : E) (ending : Ending) (fault : Fault) → ending.status ≡ 1
+    → Says contents faults faults' ending (fault_lines fault) → IsExplained contents faults faults' ending
+explained contents faults faults' ending fault one said = record { answer = Err fault; notices = no_notices; status = one; said = said }
+
 pub ends_explained : {O E : Type 0} (contents : E → Option (List ℕ)) (output output' : O) (faults faults' : E) (ending : Ending) (fault : Fault) → ending.status ≡ 1
-    → Says contents faults faults' ending (fault_line fault) → EndsUnread contents output output' faults faults' ending
+    → Says contents faults faults' ending (fault_lines fault) → EndsUnread contents output output' faults faults' ending
 ends_explained contents output output' faults faults' ending fault one said = record {
   status = omega (arith, one);
   quiet = λ e. absurd (omega (arith, one, e));
-  failed = λ e. (Err fault, (one, said));
+  failed = λ e. explained contents faults faults' ending fault one said;
   unwritten = λ e. absurd (omega (arith, one, e));
+}
+
+-- nothing was to be noticed
+pub unread_noticed : {E : Type 0} (contents : E → Option (List ℕ)) (faults faults' : E) (ending : Ending) → faults' ≡ faults → IsNoticed contents faults faults' ending
+unread_noticed contents faults faults' ending e = record {
+  notices = no_notices;
+  quiet = λ none. e;
+  said = λ told. rw e (Appends-nil (contents faults));
 }

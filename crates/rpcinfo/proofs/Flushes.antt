@@ -8,13 +8,14 @@ use Rattle.rb_ask.specs.Telling.{Told, AfterFault}
 use Rattle.rb_show.specs.declared.ask.Ask.{Ask}
 use Rattle.rb_show.specs.declared.show.Shown.{Shown}
 use Rattle.rpcinfo.specs.declared.fault.Fault.{Fault}
-use Rattle.rpcinfo.specs.declared.fault.Fault.TheVariants.{Info, NoConnection, NotAvailable}
-use Rattle.rpcinfo.specs.declared.words.Host.TheVariants.{Input, At}
-use Rattle.rpcinfo.specs.declared.words.Plan.{Plan}
-use Rattle.rpcinfo.specs.declared.words.Plan.TheVariants.{Show, Ping}
+use Rattle.rpcinfo.specs.declared.fault.Fault.TheVariants.{Info, NoConnection, NoHost, NotAvailable, NoProgram, SomeLack}
+use Rattle.rb_words.specs.declared.plan.Source.{Source}
+use Rattle.rb_words.specs.declared.plan.Source.TheVariants.{Here, Input, Named}
+use Rattle.rb_show.specs.declared.ask.Question.{Question}
+use Rattle.rpcinfo.specs.Plans.{plan_question}
 use Rattle.rpcinfo.specs.declared.words.Words.{Words}
 use Rattle.rpcinfo.specs.Input.{tell_text, IsTold, ShowsInput}
-use Rattle.rpcinfo.specs.Running.{ask_of, IsToldAs, OfInput, Answers, IsOut, IsFlushed}
+use Rattle.rpcinfo.specs.Running.{ask_of, IsToldAs, OfSource, ShowsAs, Answers, IsOut, IsFlushed}
 
 grown : (a b c : Option (List ℕ)) (text : List ℕ) → Appends a b text → Keeps b c → Appends a c text
 grown None b c text p k = tt
@@ -48,7 +49,10 @@ told_out told a b c (Ok shown) result k (inl e) p = rw e (shown_out told a b c s
 told_out told a b c (Ok shown) result k (inr e) p = rw e (not_out told a b c shown p)
 told_out told a b c (Err (Info fault)) result k e p = rw e (record { bytes = p.bytes; left = p.left; at = p.at; outcome = fault_out told a b c fault k p.outcome })
 told_out told a b c (Err NoConnection) result k e p = absurd p
-told_out told a b c (Err (NotAvailable prog vers)) result k e p = absurd p
+told_out told a b c (Err NoHost) result k e p = absurd p
+told_out told a b c (Err (NotAvailable prog vers why)) result k e p = absurd p
+told_out told a b c (Err (NoProgram prog why)) result k e p = absurd p
+told_out told a b c (Err SomeLack) result k e p = absurd p
 
 known_out : (left : Option (List ℕ)) (ask : Ask) (a b c : Option (List ℕ)) (answer result : Result Shown Fault) → Keeps b c → IsOut answer result
     → IfSome left (λ text. IsToldAs (tell_text ask text) a b answer) → IfSome left (λ text. IsToldAs (tell_text ask text) a c result)
@@ -58,15 +62,16 @@ known_out (Some text) ask a b c answer result k e p = told_out (tell_text ask te
 -- what holds of an answer holds of it once its lines are out
 pub answers_out : {I O : Type 0} (remaining : I → Option (List ℕ)) (contents : O → Option (List ℕ)) (words : Words) (input : I) (output output' output'' : O) (answer result : Result Shown Fault)
     → Answers remaining contents words input output output' answer → IsFlushed contents output' output'' answer result → Answers remaining contents words input output output'' result
-answers_out {I} {O} remaining contents words input output output' output'' answer result p f = by_plan words.plan p
+answers_out {I} {O} remaining contents words input output output' output'' answer result p f = by_source (plan_question words.request.plan) p
   where
-    by_plan : (plan : Plan) → OfInput plan (λ question. IfSome (remaining input) (λ text. IsToldAs (tell_text (ask_of words question) text) (contents output) (contents output') answer))
-        → OfInput plan (λ question. IfSome (remaining input) (λ text. IsToldAs (tell_text (ask_of words question) text) (contents output) (contents output'') result))
-    by_plan (Show Input question) p = known_out (remaining input) (ask_of words question) (contents output) (contents output') (contents output'') answer result f.kept f.same p
-    by_plan (Show (At host) question) p = tt
-    by_plan (Ping transport host prog vers) p = tt
+    by_source : (asked : Option (Source × Question)) → OfSource asked (λ question. ShowsAs remaining contents (ask_of words question) input output output' answer)
+        → OfSource asked (λ question. ShowsAs remaining contents (ask_of words question) input output output'' result)
+    by_source (Some (Input, question)) p = known_out (remaining input) (ask_of words question) (contents output) (contents output') (contents output'') answer result f.kept f.same p
+    by_source (Some (Here, question)) p = tt
+    by_source (Some (Named, question)) p = tt
+    by_source None p = tt
 
 -- what the reply on the input tells is the answer of words that name it
 pub answers_shown : {I O : Type 0} (remaining : I → Option (List ℕ)) (contents : O → Option (List ℕ)) (ask : Ask) (input : I) (output output' : O) (shown : Shown)
-    → ShowsInput remaining contents ask input output output' (Ok shown) → IfSome (remaining input) (λ text. IsToldAs (tell_text ask text) (contents output) (contents output') (Ok shown))
+    → ShowsInput remaining contents ask input output output' (Ok shown) → ShowsAs remaining contents ask input output output' (Ok shown)
 answers_shown remaining contents ask input output output' shown p = p

@@ -1,4 +1,6 @@
 pub mod Input
 pub mod Ending
+pub mod Plans
 pub mod Running
 pub mod InputLaws
+pub mod Waits

@@ -1,43 +1,82 @@
 -- What the command does with words that were read.
-use Rattle.std.specs.Prelude.{◌≡◌, ◌≤◌, ◌⊎◌, ℕ, List, Option, IfSome, Result, Ok, Err, ⊤}
+use Rattle.std.specs.Prelude.{◌≡◌, ◌≤◌, ◌⊎◌, ℕ, false, List, ◌++◌, Option, Some, None, IfSome, Result, Ok, Err, ⊤}
 use Rattle.std.specs.Io.KnownBytes.{Keeps}
 use Rattle.rb_ask.specs.declared.fault.InfoFault.TheVariants.{Write}
 use Rattle.rb_ask.specs.Telling.{Told}
+use Rattle.rb_words.specs.declared.plan.Plan.{Plan}
+use Rattle.rb_words.specs.declared.plan.Source.{Source}
+use Rattle.rb_words.specs.declared.plan.Source.TheVariants.{Here, Input, Named}
+use Rattle.rb_words.specs.declared.plan.Request.{Request}
+use Rattle.rb_words.specs.declared.shape.Shape.{Shape}
+use Rattle.rb_words.specs.declared.refusal.Refusal.{Refusal}
+use Rattle.rb_words.specs.Refusals.{refusal_lines}
+use Rattle.rb_words.specs.Words.{request_of}
 use Rattle.rb_show.specs.declared.ask.Ask.{Ask}
 use Rattle.rb_show.specs.declared.ask.Question.{Question}
 use Rattle.rb_show.specs.declared.show.Shown.{Shown}
 use Rattle.rpcinfo.specs.declared.ending.Ending.{Ending}
+use Rattle.rpcinfo.specs.declared.ending.Notices.{Notices}
 use Rattle.rpcinfo.specs.declared.fault.Fault.{Fault}
-use Rattle.rpcinfo.specs.declared.fault.Fault.TheVariants.{Info, NoConnection, NotAvailable}
-use Rattle.rpcinfo.specs.declared.words.Host.TheVariants.{Input, At}
-use Rattle.rpcinfo.specs.declared.words.Plan.{Plan}
-use Rattle.rpcinfo.specs.declared.words.Plan.TheVariants.{Show, Ping}
+use Rattle.rpcinfo.specs.declared.fault.Fault.TheVariants.{Info, NoConnection, NoHost, NotAvailable, NoProgram, SomeLack}
 use Rattle.rpcinfo.specs.declared.words.Words.{Words}
 use Rattle.rpcinfo.specs.Input.{tell_text, IsTold}
-use Rattle.rpcinfo.specs.Ending.{said_of, Says}
+use Rattle.rpcinfo.specs.Ending.{notice_lines, status_of, said_of, IsNothing, Says}
+use Rattle.rpcinfo.specs.Plans.{plan_question}
 
 -- a question of the user that the words name
 abbrev pub ask_of : Words → Question → Ask
-ask_of words question = record { question = question; uid = words.uid }
+ask_of words question = record { question = question; uid = words.request.uid }
+
+-- ---- words
+
+-- The shape of the words is read as what they ask for, or what can't be read is named.
+abbrev pub ReadsShape : {E : Type 0} → (E → Option (List ℕ)) → Shape → E → E → Result Request Ending → Type 0
+ReadsShape contents shape faults faults' (Ok request) = request_of shape ≡ Ok request
+ReadsShape contents shape faults faults' (Err ending) =
+    (refusal : Refusal) × ((request_of shape ≡ Err refusal) × Says contents faults faults' ending (refusal_lines shape refusal))
+
+-- ---- a reply on standard input
 
 -- the lines were written, as far as the answer says; without a socket there is no other fault
 abbrev pub IsToldAs : Told Shown → Option (List ℕ) → Option (List ℕ) → Result Shown Fault → Type 0
 IsToldAs told old new (Ok shown) = IsTold told old new (Ok shown)
 IsToldAs told old new (Err (Info fault)) = IsTold told old new (Err fault)
 IsToldAs told old new (Err NoConnection) = ⊥
-IsToldAs told old new (Err (NotAvailable prog vers)) = ⊥
+IsToldAs told old new (Err NoHost) = ⊥
+IsToldAs told old new (Err (NotAvailable prog vers why)) = ⊥
+IsToldAs told old new (Err (NoProgram prog why)) = ⊥
+IsToldAs told old new (Err SomeLack) = ⊥
+
+-- where the text that the input has is known, what its reply tells is written
+abbrev pub ShowsAs : {I O : Type 0} → (I → Option (List ℕ)) → (O → Option (List ℕ)) → Ask → I → O → O → Result Shown Fault → Type 0
+ShowsAs remaining contents ask input output output' answer =
+    IfSome (remaining input) (λ text. IsToldAs (tell_text ask text) (contents output) (contents output') answer)
 
 -- what holds of the question of a plan whose reply is on standard input
+abbrev pub OfSource : Option (Source × Question) → (Question → Type 0) → Type 0
+OfSource (Some (Input, question)) Holds = Holds question
+OfSource (Some (Here, question)) Holds = ⊤
+OfSource (Some (Named, question)) Holds = ⊤
+OfSource None Holds = ⊤
+
 abbrev pub OfInput : Plan → (Question → Type 0) → Type 0
-OfInput (Show Input question) Holds = Holds question
-OfInput (Show (At host) question) Holds = ⊤
-OfInput (Ping transport host prog vers) Holds = ⊤
+OfInput plan Holds = OfSource (plan_question plan) Holds
 
 -- Where the words name standard input and its text is known, the answer is what the reply in it tells. Of an answer
 -- over sockets nothing is said.
 abbrev pub Answers : {I O : Type 0} → (I → Option (List ℕ)) → (O → Option (List ℕ)) → Words → I → O → O → Result Shown Fault → Type 0
 Answers remaining contents words input output output' answer =
-    OfInput words.plan (λ question. IfSome (remaining input) (λ text. IsToldAs (tell_text (ask_of words question) text) (contents output) (contents output') answer))
+    OfInput words.request.plan (λ question. ShowsAs remaining contents (ask_of words question) input output output' answer)
+
+-- nothing is to be noticed
+abbrev pub no_notices : Notices
+no_notices = record { answered = None; is_old = false }
+
+-- so it is of a reply on standard input
+abbrev pub IsSilent : Words → Notices → Type 0
+IsSilent words notices = OfInput words.request.plan (λ question. notices ≡ no_notices)
+
+-- ---- the end
 
 -- the same answer, or that the writer failed in place of what was shown
 abbrev pub IsOut : Result Shown Fault → Result Shown Fault → Type 0
@@ -48,10 +87,22 @@ pub record IsFlushed {O : Type 0} (contents : O → Option (List ℕ)) (output o
   pub kept : Keeps (contents output) (contents output')
   pub same : IsOut answer result
 
--- What was said is the line of a fault, or nothing where UNSET removed nothing.
-abbrev pub IsExplained : {E : Type 0} → (E → Option (List ℕ)) → E → E → Ending → Type 0
-IsExplained contents faults faults' ending =
-    (answer : Result Shown Fault) × ((ending.status ≡ 1) × Says contents faults faults' ending (said_of answer))
+-- What was said is the lines of what there was to notice, and of what is wrong.
+pub record IsExplained {E : Type 0} (contents : E → Option (List ℕ)) (faults faults' : E) (ending : Ending) : Type 0 where
+  pub answer : Result Shown Fault
+  pub notices : Notices
+  pub status : ending.status ≡ status_of answer
+  pub said : Says contents faults faults' ending (notice_lines notices ++ said_of answer)
+
+-- what was said is the lines of what there was to notice; without that nothing was
+pub record IsNoticed {E : Type 0} (contents : E → Option (List ℕ)) (faults faults' : E) (ending : Ending) : Type 0 where
+  pub notices : Notices
+  pub quiet : IsNothing notices → faults' ≡ faults
+  pub said : Says contents faults faults' ending (notice_lines notices)
+
+-- a fault was explained, or the words can't be read
+abbrev pub EndsSaying : {E : Type 0} → (E → Option (List ℕ)) → E → E → Ending → Type 0
+EndsSaying contents faults faults' ending = ((ending.status ≡ 1) × IsExplained contents faults faults' ending) ⊎ (ending.status ≡ 2)
 
 -- How it ends without words that were read: by help, by a fault, or by words that can't be read.
 pub record EndsUnread {O E : Type 0} (contents : E → Option (List ℕ)) (output output' : O) (faults faults' : E) (ending : Ending) : Type 0 where

@@ -1,10 +1,17 @@
 //! Why the command ends with status 1.
+use rb_rpc::ReplyStatus;
 use rb_show::InfoFault;
 
 #[derive(Clone, Copy, Debug, Drop, PartialEq, Eq)]
 pub enum Fault {
     Info(InfoFault),
     NoConnection,
-    /// A program and a version.
-    NotAvailable(u32, u32),
+    /// No address of the host is known.
+    NoHost,
+    /// A program and a version, and how its call was refused, where it was called.
+    NotAvailable(u32, u32, Option<ReplyStatus>),
+    /// A program of which no version is known, in the same way.
+    NoProgram(u32, Option<ReplyStatus>),
+    /// Of several versions each has its line, and one is not available.
+    SomeLack,
 }

@@ -1,12 +1,17 @@
 //! `rpcinfo` asks a portmapper and shows what it answers.
 #![tactic(auto)]
 
+mod asking;
 mod ending;
 mod fault;
+mod hosts;
 mod input;
 mod laws;
 mod net;
+mod patient;
+mod plans;
 mod run;
+mod waits;
 mod words;
 
 use ending::{FAILED, UNREADABLE};

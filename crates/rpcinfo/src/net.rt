@@ -1,17 +1,15 @@
-//! Calls over TCP and UDP.
+//! Calls over TCP, UDP and sockets of this machine.
 use crate::fault::Fault;
+use crate::patient::{Patient, Stream};
+use crate::waits::{WAITS, left_of};
 use rb_show::{Ask, InfoFault, Shown, show_reply, write_call};
 use std::alloc::{AllocError, Global};
 use std::io;
-use std::io::{BufReader, Write};
-use std::net::{Ipv4Addr, Net, OpenStream, SocketAddr, SocketAddrV4, TcpStream, UdpSocket};
-use std::time::Duration;
-
-/// A connection attempt and each read over TCP end after so long, as other clients of ONC RPC do.
-const TCP_WAIT_SECONDS: u64 = 25;
-
-/// A reply over UDP is waited for as long.
-const UDP_WAIT_MILLISECONDS: u64 = 5_000;
+use std::io::{BufReader, ErrorKind, Write};
+use std::net::{IpAddr, Ipv4Addr, Ipv6Addr, Net, SocketAddr, TcpStream, UdpSocket};
+use std::os::unix::net::UnixStream;
+use std::rt::Clock;
+use std::time::{Duration, Instant};
 
 /// No datagram has more bytes.
 const LONGEST_DATAGRAM: usize = 65_536;
@@ -22,28 +20,46 @@ const LAST: u32 = 1 << 31;
 /// How many bytes it has.
 const HEADER: usize = 4;
 
-pub fn address(host: Ipv4Addr, port: u16) -> SocketAddr {
-    SocketAddr::V4(SocketAddrV4::new(host, port))
+/// Where a call goes over a connection.
+#[derive(Clone, Copy, Debug)]
+pub enum Peer<'a> {
+    Host(SocketAddr),
+    /// A socket of this machine, by its path.
+    Here(&'a str),
+}
+
+fn connect<N: Net>(net: &N, peer: Peer<'_>) -> io::Result<Stream<N::Stream>> {
+    match peer {
+        Peer::Host(address) => {
+            let wait = Duration::from_millis(WAITS.connection);
+            let stream = TcpStream::connect_timeout(net, &address, wait)?;
+            Ok(Stream::Host(stream))
+        }
+        Peer::Here(path) => {
+            let stream = UnixStream::connect(net, path)?;
+            Ok(Stream::Here(stream))
+        }
+    }
 }
 
 /// Asks over a connection of its own, and shows the reply.
-pub fn ask_tcp<N: Net, W: Write>(
+pub fn ask_stream<N: Net + Clock, W: Write>(
     alloc: Global,
     net: &N,
-    address: SocketAddr,
+    peer: Peer<'_>,
     ask: &Ask,
     xid: u32,
     output: &mut W,
 ) -> Result<Shown, Fault> {
-    let wait = Duration::from_secs(TCP_WAIT_SECONDS);
-    let Ok(mut stream) = TcpStream::connect_timeout(net, &address, wait) else {
-        return Err(Fault::NoConnection);
-    };
-    if stream.set_read_timeout(Some(wait)).is_err() {
-        return Err(Fault::NoConnection);
-    }
     let mut call = Vec::new(alloc);
     write_call(alloc, ask, xid, &mut call).map_err(Fault::Info)?;
+    let Ok(begun) = Instant::now(net) else {
+        return Err(Fault::NoConnection);
+    };
+    let Ok(stream) = connect(net, peer) else {
+        return Err(Fault::NoConnection);
+    };
+    let mut stream = Patient::new(net, stream, begun, WAITS);
     if stream.write_all(&call).is_err() {
         return Err(Fault::Info(InfoFault::Write));
     }
@@ -63,19 +79,51 @@ fn marked(alloc: Global, datagram: &[u8]) -> Result<Vec<u8>, AllocError> {
     Ok(record)
 }
 
-/// A socket that hears one address alone, and for so long.
+/// A socket that hears one address alone.
 fn socket_to<N: Net>(net: &N, address: SocketAddr) -> io::Result<UdpSocket> {
-    let socket = UdpSocket::bind(
-        net,
-        SocketAddr::V4(SocketAddrV4::new(Ipv4Addr::UNSPECIFIED, 0)),
-    )?;
+    let any = match address {
+        SocketAddr::V4(_) => IpAddr::V4(Ipv4Addr::UNSPECIFIED),
+        SocketAddr::V6(_) => IpAddr::V6(Ipv6Addr::UNSPECIFIED),
+    };
+    let socket = UdpSocket::bind(net, SocketAddr::new(any, 0))?;
     socket.connect(address)?;
-    socket.set_read_timeout(Some(Duration::from_millis(UDP_WAIT_MILLISECONDS)))?;
     Ok(socket)
 }
 
+/// The next datagram, waited for until the time for one is over. A signal that is handled meanwhile is no fault.
+fn receive<C: Clock>(clock: &C, socket: &UdpSocket, datagram: &mut [u8]) -> io::Result<usize> {
+    let begun = Instant::now(clock)?;
+    for _ in 0..u64::MAX {
+        let passed = Instant::now(clock)?.duration_since(begun).as_millis();
+        let passed = u64::try_from(passed).unwrap_or(u64::MAX);
+        let Some(wait) = left_of(WAITS.datagram, WAITS.datagram, passed) else {
+            break;
+        };
+        socket.set_read_timeout(Some(Duration::from_millis(wait)))?;
+        match socket.recv(datagram) {
+            Err(error) if error.kind() == ErrorKind::Interrupted => {}
+            outcome => return outcome,
+        }
+    }
+    Err(io::Error::from(ErrorKind::TimedOut))
+}
+
+/// Why no datagram was received: nobody listens there, or none came.
+fn receive_fault(error: io::Error) -> Fault {
+    if error.kind() == ErrorKind::ConnectionRefused {
+        Fault::NoConnection
+    } else {
+        Fault::Info(InfoFault::Read)
+    }
+}
+
 /// The datagram that answers a call.
-fn exchange(alloc: Global, socket: &UdpSocket, call: &[u8]) -> Result<Vec<u8>, Fault> {
+fn exchange<C: Clock>(
+    alloc: Global,
+    clock: &C,
+    socket: &UdpSocket,
+    call: &[u8],
+) -> Result<Vec<u8>, Fault> {
     let mut datagram = Vec::new(alloc);
     if datagram.resize(LONGEST_DATAGRAM, 0).is_err() {
         return Err(Fault::Info(InfoFault::Memory));
@@ -83,17 +131,17 @@ fn exchange(alloc: Global, socket: &UdpSocket, call: &[u8]) -> Result<Vec<u8>, F
     if socket.send(call).is_err() {
         return Err(Fault::NoConnection);
     }
-    match socket.recv(&mut datagram) {
+    match receive(clock, socket, &mut datagram) {
         Ok(len) => {
             datagram.truncate(len);
             Ok(datagram)
         }
-        Err(_) => Err(Fault::Info(InfoFault::Read)),
+        Err(error) => Err(receive_fault(error)),
     }
 }
 
 /// Asks by one datagram, and shows the reply.
-pub fn ask_udp<N: Net, W: Write>(
+pub fn ask_datagram<N: Net + Clock, W: Write>(
     alloc: Global,
     net: &N,
     address: SocketAddr,
@@ -101,15 +149,15 @@ pub fn ask_udp<N: Net, W: Write>(
     xid: u32,
     output: &mut W,
 ) -> Result<Shown, Fault> {
+    let mut call = Vec::new(alloc);
+    write_call(alloc, ask, xid, &mut call).map_err(Fault::Info)?;
     let Ok(socket) = socket_to(net, address) else {
         return Err(Fault::NoConnection);
     };
-    let mut call = Vec::new(alloc);
-    write_call(alloc, ask, xid, &mut call).map_err(Fault::Info)?;
     let Some(message) = call.get(HEADER..) else {
         return Err(Fault::NoConnection);
     };
-    let datagram = exchange(alloc, &socket, message)?;
+    let datagram = exchange(alloc, net, &socket, message)?;
     let Ok(record) = marked(alloc, &datagram) else {
         return Err(Fault::Info(InfoFault::Memory));
     };

@@ -1,165 +1,180 @@
 //! The words of the command line.
 ghost use Rattle.std.specs.Prelude.{◌≡◌, ◌≤◌, IfErr, OnOk};
-ghost use Rattle.rpcinfo.specs.Running.{ask_of, EndsUnread, IsExplained};
+ghost use Rattle.rb_words.specs.Refusals.{refusal_lines};
+ghost use Rattle.rpcinfo.specs.Ending.{Says};
+ghost use Rattle.rpcinfo.specs.Running.{ask_of, EndsSaying, EndsUnread, ReadsShape};
 
 use crate::ending::{Ending, UNREADABLE, explain};
 use crate::fault::Fault;
 use clap::error::ErrorKind;
-use clap::{Arg, ArgAction, ArgGroup, ArgMatches, Command, Error};
+use clap::{Arg, ArgAction, ArgMatches, Command, Error};
 use rb_show::{Ask, InfoFault, Question};
+use rb_uaddr::Uaddr;
+use rb_words::{Flag, Refusal, Request, Shape, Spot, Wanted, read_words, write_refusal};
 use std::alloc::{AllocError, Global};
 use std::convert::AsStr;
 use std::io::Write;
-use std::net::Ipv4Addr;
 
-/// Each flag with its name and its help.
-const FLAGS: [(char, &str, &str); 7] = [
-    ('p', "pmap", "Shows the mappings of version 2 as a table"),
-    ('s', "short", "Shows programs, versions and netids"),
-    ('l', "list", "Shows the addresses of a program's version"),
-    ('m', "statistics", "Shows the statistics"),
+/// Each flag of one letter with its name and its help.
+const FLAGS: [(Flag, char, &str, &str); 7] = [
     (
+        Flag::Table,
+        'p',
+        "pmap",
+        "Shows the mappings of version 2 as a table",
+    ),
+    (
+        Flag::Short,
+        's',
+        "short",
+        "Shows programs, versions and netids",
+    ),
+    (
+        Flag::List,
+        'l',
+        "list",
+        "Shows the addresses of a program's version",
+    ),
+    (Flag::Statistics, 'm', "statistics", "Shows the statistics"),
+    (
+        Flag::Tcp,
         't',
         "tcp",
-        "Calls procedure 0 of a program's version over TCP",
+        "Calls procedure 0 of a program over TCP, in one version or in each",
     ),
     (
+        Flag::Udp,
         'u',
         "udp",
-        "Calls procedure 0 of a program's version over UDP",
+        "Calls procedure 0 of a program over UDP, in one version or in each",
     ),
     (
+        Flag::Delete,
         'd',
         "delete",
         "Removes a program's version from this machine",
     ),
 ];
 
-/// The protocol numbers of version 2.
-const TCP: u32 = 6;
-
-const UDP: u32 = 17;
-
-/// Where the replies come from.
-#[derive(Clone, Copy, Debug, PartialEq, Eq)]
-pub enum Host {
-    /// Standard input has one reply in hexadecimal text.
-    Input,
-    At(Ipv4Addr),
-}
-
-/// How procedure 0 is called.
-#[derive(Clone, Copy, Debug, PartialEq, Eq)]
-pub enum Transport {
-    Tcp,
-    Udp,
-}
-
-impl Transport {
-    /// Its number in version 2.
-    pub fn prot(self) -> u32 {
-        match self {
-            Transport::Tcp => TCP,
-            Transport::Udp => UDP,
-        }
-    }
-}
-
-/// What a command line asks for.
-#[derive(Clone, Copy, Debug, PartialEq, Eq)]
-pub enum Plan {
-    /// One question and its reply.
-    Show(Host, Question),
-    /// GETPORT of a program and a version, and then procedure 0 there.
-    Ping(Transport, Ipv4Addr, u32, u32),
-}
-
 /// The words of a command line, read.
-#[derive(Clone, Copy, Debug, PartialEq, Eq)]
-pub struct Words {
-    pub port: u16,
-    pub uid: Option<u32>,
-    pub plan: Plan,
+#[derive(Clone, Copy, Debug)]
+pub struct Words<'a> {
+    pub request: Request,
+    /// The first word that belongs to no option, or nothing.
+    pub host: &'a str,
+    /// The address of `-a`.
+    pub address: Option<Uaddr>,
+    /// The path of `--local`.
+    pub local: Option<&'a str>,
 }
 
-impl Words {
+impl Words<'_> {
     /// A question of the user that the words name.
     pub fn ask(&self, question: Question) -> Ask
         ensures { result ≡ ask_of self.now question }
     {
         Ask {
             question,
-            uid: self.uid,
+            uid: self.request.uid,
         }
     }
 }
 
 /// What the words ask for. Help and faults are written, and then the `Err` says how the command ended.
-pub fn read<S: AsStr, O: Write, E: Write>(
+pub fn read<'a, S: AsStr, O: Write, E: Write>(
     alloc: Global,
-    words: &[S],
+    words: &'a [S],
     output: &mut O,
     faults: &mut E,
-) -> Result<Words, Ending>
+) -> Result<Words<'a>, Ending>
     ensures read { OnOk result (output.new ≡ output.old) }
     ensures said { OnOk result (faults.new ≡ faults.old) }
     ensures ended { IfErr result
         (EndsUnread E.contents output.old output.new faults.old faults.new) }
 {
     match matches_of(alloc, words) {
-        Ok(matches) => match read_matches(&matches) {
-            Some(words) => Ok(words),
-            None => Err(refuse(faults)),
+        Ok(matches) => match read_matches(alloc, &matches, faults) {
+            Ok(words) => Ok(words),
+            Err(ending) => Err(ending),
         },
         Err(error) => Err(show(&error, output, faults)),
     }
 }
 
-/// Says that the words can't be read.
-fn refuse<E: Write>(faults: &mut E) -> Ending
-    ensures { result.status ≡ 2 }
-{
-    let is_told = writeln!(faults, "rpcinfo: the words can't be read; see --help").is_ok();
-    Ending {
-        status: UNREADABLE,
-        is_told,
-    }
+/// An option with a value. Values are read as texts: what a number is the reader of the words says.
+fn option<'a>(alloc: Global, name: &'a str, value: &'a str, help: &'a str) -> Arg<'a> {
+    Arg::new(alloc, name)
+        .action(ArgAction::Set)
+        .value_name(value)
+        .help(help)
 }
 
-fn command<'a>(alloc: Global) -> Result<Command<'a>, AllocError> {
-    let mut command = Command::new(alloc, "rpcinfo")
-        .version("0.1.0")
-        .about("Asks a portmapper and shows what it answers");
-    let mut one = ArgGroup::new(alloc, "flag");
-    for (short, id, help) in FLAGS {
+fn with_flags<'a>(alloc: Global, command: Command<'a>) -> Result<Command<'a>, AllocError> {
+    let mut command = command;
+    for (_, short, id, help) in FLAGS {
         let flag = Arg::new(alloc, id)
             .short(short)
             .action(ArgAction::SetTrue)
             .help(help);
         command = command.arg(flag)?;
-        one = one.arg(id)?;
     }
+    Ok(command)
+}
+
+/// The options that say what is called, and where.
+fn with_places<'a>(alloc: Global, command: Command<'a>) -> Result<Command<'a>, AllocError> {
+    let netid = option(alloc, "netid", "NETID", "tcp, udp, tcp6, udp6 or local");
+    let address = option(
+        alloc,
+        "address",
+        "ADDRESS",
+        "the address that is called, with -T",
+    );
+    let target = option(
+        alloc,
+        "target",
+        "N",
+        "the port that is called, with -t and -u",
+    );
     command
-        .group(one)?
-        .arg(
-            Arg::new(alloc, "port")
-                .long("port")
-                .value_name("N")
-                .default_value("111")
-                .help("the portmapper's port, 1 to 65535"),
-        )?
-        .arg(
-            Arg::new(alloc, "uid")
-                .long("uid")
-                .value_name("N")
-                .help("asks as this user"),
-        )?
-        .arg(
-            Arg::new(alloc, "words")
-                .action(ArgAction::Append)
-                .num_args(0..=3)
-                .help("[host] [program] [version]; host - reads a reply from standard input"),
-        )
+        .arg(netid.short('T'))?
+        .arg(address.short('a'))?
+        .arg(target.short('n'))
+}
+
+/// The options that say how a portmapper is asked.
+fn with_portmapper<'a>(alloc: Global, command: Command<'a>) -> Result<Command<'a>, AllocError> {
+    let port = option(
+        alloc,
+        "port",
+        "N",
+        "the portmapper's port, 1 to 65535 [111]",
+    );
+    let uid = option(alloc, "uid", "N", "asks as this user");
+    let local = option(
+        alloc,
+        "local",
+        "PATH",
+        "asks over this socket, without HOST",
+    );
+    command
+        .arg(port.long("port"))?
+        .arg(uid.long("uid"))?
+        .arg(local.long("local"))
+}
+
+fn command<'a>(alloc: Global) -> Result<Command<'a>, AllocError> {
+    let command = Command::new(alloc, "rpcinfo")
+        .version("0.1.0")
+        .about("Asks a portmapper and shows what it answers");
+    let command = with_flags(alloc, command)?;
+    let command = with_places(alloc, command)?;
+    with_portmapper(alloc, command)?.arg(
+        Arg::new(alloc, "words")
+            .action(ArgAction::Append)
+            .num_args(0..)
+            .help("[host] [program] [version]; host - reads a reply from standard input"),
+    )
 }
 
 fn matches_of<'a, S: AsStr>(alloc: Global, words: &'a [S]) -> Result<ArgMatches<'a>, Error> {
@@ -189,96 +204,89 @@ fn show<O: Write, E: Write>(error: &Error, output: &mut O, faults: &mut E) -> En
     }
 }
 
-fn read_matches(matches: &ArgMatches<'_>) -> Option<Words> {
-    let port = u16::try_from(number(matches.get_str("port")?)?).ok()?;
-    if port == 0 {
-        return None;
+/// The flags that were given.
+fn flags_of(alloc: Global, matches: &ArgMatches<'_>) -> Result<Vec<Flag>, AllocError> {
+    let mut flags = Vec::new(alloc);
+    for (flag, _, id, _) in FLAGS {
+        if matches.get_flag(id) {
+            flags.push(flag)?;
+        }
     }
-    let uid = match matches.get_str("uid") {
-        Some(text) => Some(number(text)?),
-        None => None,
+    Ok(flags)
+}
+
+/// Says that the words can't be read, and why.
+fn refuse<E: Write>(shape: &Shape<'_, '_>, refusal: Refusal, faults: &mut E) -> Ending
+    ensures status { result.status ≡ 2 }
+    ensures said { Says E.contents faults.old faults.new result (refusal_lines shape.now refusal) }
+{
+    let is_told = write_refusal(shape, refusal, faults).is_ok();
+    Ending {
+        status: UNREADABLE,
+        is_told,
+    }
+}
+
+/// What the words ask for by their shape. What can't be read is named.
+fn read_shape<E: Write>(shape: &Shape<'_, '_>, faults: &mut E) -> Result<Request, Ending>
+    ensures read { OnOk result (faults.new ≡ faults.old) }
+    ensures exact { ReadsShape E.contents shape.now faults.old faults.new result }
+    ensures refused { IfErr result (λ ending. ending.status ≡ 2) }
+{
+    match read_words(shape) {
+        Ok(request) => Ok(request),
+        Err(refusal) => Err(refuse(shape, refusal, faults)),
+    }
+}
+
+/// The address of `-a`, where it is given.
+fn read_address<E: Write>(shape: &Shape<'_, '_>, faults: &mut E) -> Result<Option<Uaddr>, Ending>
+    ensures read { OnOk result (faults.new ≡ faults.old) }
+    ensures refused { IfErr result (λ ending. ending.status ≡ 2) }
+{
+    let Some(text) = shape.address else {
+        return Ok(None);
+    };
+    match Uaddr::parse(text.as_bytes()) {
+        Ok(address) => Ok(Some(address)),
+        Err(_) => {
+            let refusal = Refusal {
+                at: Spot::Address,
+                wanted: Wanted::Address,
+            };
+            Err(refuse(shape, refusal, faults))
+        }
+    }
+}
+
+fn read_matches<'a, E: Write>(
+    alloc: Global,
+    matches: &ArgMatches<'a>,
+    faults: &mut E,
+) -> Result<Words<'a>, Ending>
+    ensures read { OnOk result (faults.new ≡ faults.old) }
+    ensures refused { IfErr result (EndsSaying E.contents faults.old faults.new) }
+{
+    let Ok(flags) = flags_of(alloc, matches) else {
+        return Err(explain(Fault::Info(InfoFault::Memory), faults));
     };
     let words = matches.get_strs("words").unwrap_or(&[]);
-    let plan = read_plan(matches, words)?;
-    Some(Words { port, uid, plan })
-}
-
-fn read_plan(matches: &ArgMatches<'_>, words: &[&str]) -> Option<Plan> {
-    if matches.get_flag("list") {
-        return read_list(words);
-    }
-    if matches.get_flag("tcp") {
-        return read_ping(Transport::Tcp, words);
-    }
-    if matches.get_flag("udp") {
-        return read_ping(Transport::Udp, words);
-    }
-    if matches.get_flag("delete") {
-        return read_unset(words);
-    }
-    let question = if matches.get_flag("pmap") {
-        Question::Pmap
-    } else if matches.get_flag("short") {
-        Question::Short
-    } else if matches.get_flag("statistics") {
-        Question::Stats
-    } else {
-        Question::Rows
+    let shape = Shape {
+        flags: &flags,
+        port: matches.get_str("port"),
+        uid: matches.get_str("uid"),
+        target: matches.get_str("target"),
+        netid: matches.get_str("netid"),
+        address: matches.get_str("address"),
+        local: matches.get_str("local"),
+        words,
     };
-    Some(Plan::Show(read_optional_host(words)?, question))
-}
-
-fn read_list(words: &[&str]) -> Option<Plan> {
-    match words {
-        [host, prog, vers] => {
-            let question = Question::Entries(number(prog)?, number(vers)?);
-            Some(Plan::Show(read_host(host)?, question))
-        }
-        _ => None,
-    }
-}
-
-fn read_ping(transport: Transport, words: &[&str]) -> Option<Plan> {
-    match words {
-        [host, prog, vers] => {
-            let host = host.parse::<Ipv4Addr>().ok()?;
-            Some(Plan::Ping(transport, host, number(prog)?, number(vers)?))
-        }
-        _ => None,
-    }
-}
-
-fn read_unset(words: &[&str]) -> Option<Plan> {
-    match words {
-        [prog, vers] => {
-            let question = Question::Unset(number(prog)?, number(vers)?);
-            Some(Plan::Show(Host::At(Ipv4Addr::LOCALHOST), question))
-        }
-        _ => None,
-    }
-}
-
-/// The host, or this machine where there is none.
-fn read_optional_host(words: &[&str]) -> Option<Host> {
-    match words {
-        [] => Some(Host::At(Ipv4Addr::LOCALHOST)),
-        [host] => read_host(host),
-        _ => None,
-    }
-}
-
-fn read_host(text: &str) -> Option<Host> {
-    if text == "-" {
-        return Some(Host::Input);
-    }
-    Some(Host::At(text.parse::<Ipv4Addr>().ok()?))
-}
-
-/// A number of 32 bits in decimal digits alone: `parse` itself would take a sign.
-fn number(text: &str) -> Option<u32> {
-    if text.bytes().all(|b| b.is_ascii_digit()) {
-        text.parse::<u32>().ok()
-    } else {
-        None
-    }
+    let request = read_shape(&shape, faults)?;
+    let address = read_address(&shape, faults)?;
+    Ok(Words {
+        request,
+        host: words.first().copied().unwrap_or(""),
+        address,
+        local: matches.get_str("local"),
+    })
 }

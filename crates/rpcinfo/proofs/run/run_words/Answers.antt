@@ -2,4 +2,4 @@ use Rattle.rpcinfo.proofs.Flushes.{answers_out}
 use Rattle.rpcinfo.proofs.run.run_words.Goals as goal
 
 pub returns-clause-answer : goal.returns-clause-answer
-returns-clause-answer g c = answers_out g.I.Read.remaining g.O.Write.contents c.args.words.now c.args.input.now c.args.output.now _ _ _ _ c.carry_out-answer.ensures c.flushed-answer.ensures
+returns-clause-answer g c = answers_out g.I.Read.remaining g.O.Write.contents c.args.words.now c.args.input.now c.args.output.now _ _ _ _ c.carry_out-answer.ensures.answer c.flushed-answer.ensures

@@ -1,0 +1,34 @@
+-- Of the versions that a program has, each is called once, from the least to the greatest, whatever is answered.
+use Rattle.std.specs.Prelude.{◌≡◌, ◌<◌, ℕ, zero, suc, ◌+◌, ⊤, List, [], ◌∷◌}
+use Rattle.rb_course.specs.declared.course.Course.{Course}
+use Rattle.rb_course.specs.declared.course.Way.TheVariants as ways
+use Rattle.rb_course.specs.declared.course.Place.{Place}
+use Rattle.rb_course.specs.declared.course.Aim.TheVariants as aims
+use Rattle.rb_course.specs.declared.course.Answer.{Answer}
+use Rattle.rb_course.specs.declared.course.Answer.TheVariants as answers
+use Rattle.rb_course.specs.declared.course.Stage.{Stage}
+use Rattle.rb_course.specs.declared.course.Stage.TheVariants.{Call}
+use Rattle.rb_course.specs.Next.{most_versions, versions, next}
+
+-- what a call of procedure 0 is answered with
+abbrev pub IsOfCall : Answer → Type 0
+IsOfCall answers.Ready = ⊤
+IsOfCall (answers.Refused status) = ⊤
+IsOfCall (answers.Port port) = ⊥
+IsOfCall (answers.Address address) = ⊥
+
+-- the versions that are called from a stage on, at most so many, where each has this answer
+abbrev pub called_from : ℕ → Course → (ℕ → Answer) → Stage → List ℕ
+called_from zero course answer stage = []
+called_from (suc n) course answer (Call (aims.Each vers high lacks) place) = vers ∷ called_from n course answer (next course (Call (aims.Each vers high lacks) place) (answer vers)).stage
+called_from (suc n) course answer _ = []
+
+-- so many numbers from this one upwards
+abbrev pub upwards : ℕ → ℕ → List ℕ
+upwards zero least = []
+upwards (suc n) least = least ∷ upwards n (least + 1)
+
+abbrev pub EachVersionIsCalled : Type 0
+EachVersionIsCalled =
+    (course : Course) (place : Place) (low more : ℕ) (answer : ℕ → Answer) → course.way ≡ ways.Known place → more < most_versions → ((vers : ℕ) → IsOfCall (answer vers))
+    → called_from most_versions course answer (versions course low (low + more)).stage ≡ upwards (more + 1) low

@@ -1,0 +1,4 @@
+pub mod Fallback
+pub mod Lacks
+pub mod Next
+pub mod Laws

@@ -1,0 +1,169 @@
+-- What is asked of a portmapper and of a program, and what follows of each answer.
+use Rattle.std.specs.Prelude.{ℕ, ◌+◌, ◌-◌, ◌==◌, ◌||◌, nat_lt, nat_le, Bool, true, false, if◌then◌else◌, Option, Some, None, option_map}
+use Rattle.rb_names.specs.declared.netid.Netid.{Netid}
+use Rattle.rb_names.specs.declared.netid.Netid.TheVariants as netids
+use Rattle.rb_rpc.specs.declared.reply.ReplyStatus.{ReplyStatus}
+use Rattle.rb_rpc.specs.declared.reply.ReplyStatus.TheVariants as statuses
+use Rattle.rb_words.specs.declared.plan.Transport.{Transport}
+use Rattle.rb_words.specs.declared.plan.Transport.TheVariants as transports
+use Rattle.rb_show.specs.declared.ask.Ask.{Ask}
+use Rattle.rb_show.specs.declared.ask.Question.{Question}
+use Rattle.rb_show.specs.declared.ask.Question.TheVariants as questions
+use Rattle.rb_course.specs.declared.course.Course.{Course}
+use Rattle.rb_course.specs.declared.course.Way.{Way}
+use Rattle.rb_course.specs.declared.course.Way.TheVariants as ways
+use Rattle.rb_course.specs.declared.course.Place.{Place}
+use Rattle.rb_course.specs.declared.course.Place.TheVariants as places
+use Rattle.rb_course.specs.declared.course.Aim.{Aim}
+use Rattle.rb_course.specs.declared.course.Aim.TheVariants as aims
+use Rattle.rb_course.specs.declared.course.Answer.{Answer}
+use Rattle.rb_course.specs.declared.course.Answer.TheVariants as answers
+use Rattle.rb_course.specs.declared.course.End.TheVariants as ends
+use Rattle.rb_course.specs.declared.course.Stage.{Stage}
+use Rattle.rb_course.specs.declared.course.Stage.TheVariants.{Find, FindOld, Call, End}
+use Rattle.rb_course.specs.declared.course.Step.{Step}
+
+-- ---- what is asked
+
+-- the protocol number of version 2
+abbrev pub prot_of : Transport → ℕ
+prot_of transports.Tcp = 6
+prot_of transports.Udp = 17
+
+abbrev pub transport_of : Netid → Transport
+transport_of netids.Tcp = transports.Tcp
+transport_of netids.Tcp6 = transports.Tcp
+transport_of netids.Local = transports.Tcp
+transport_of netids.Udp = transports.Udp
+transport_of netids.Udp6 = transports.Udp
+
+abbrev pub version_of : Aim → ℕ
+version_of (aims.Only vers) = vers
+version_of aims.Least = 0
+version_of aims.Greatest = 4294967295
+version_of (aims.Each vers high lacks) = vers
+
+-- what is called for its refusal alone is not shown
+abbrev pub call_of : ℕ → Aim → Question
+call_of prog (aims.Only vers) = questions.Null prog vers
+call_of prog (aims.Each vers high lacks) = questions.Null prog vers
+call_of prog aims.Least = questions.Probe prog 0
+call_of prog aims.Greatest = questions.Probe prog 4294967295
+
+-- GETPORT with the protocol of the transport, or GETADDR of the netid, over its own transport
+abbrev pub find_by : Way → ℕ → Aim → Place × Question
+find_by (ways.Port transport) prog aim = (places.Portmapper transports.Tcp, questions.Port (prot_of transport) prog (version_of aim))
+find_by (ways.Address netid) prog aim = (places.Portmapper (transport_of netid), questions.Address netid prog (version_of aim))
+find_by (ways.Known place) prog aim = (place, call_of prog aim)
+
+abbrev pub find_of : Course → Aim → Place × Question
+find_of course aim = find_by course.way course.prog aim
+
+abbrev pub question_at : Course → Stage → Option (Place × Question)
+question_at course (Find aim) = Some (find_of course aim)
+question_at course (FindOld aim transport) = Some (places.Portmapper transport, questions.Port (prot_of transport) course.prog (version_of aim))
+question_at course (Call aim place) = Some (place, call_of course.prog aim)
+question_at course (End end) = None
+
+abbrev pub by_user : Option ℕ → Place × Question → Place × Ask
+by_user uid q = (q.0, record { question = q.1; uid = uid })
+
+-- each question is asked by the user of the course
+abbrev pub asked : Course → Stage → Option (Place × Ask)
+asked course stage = option_map (by_user course.uid) (question_at course stage)
+
+-- ---- what follows
+
+abbrev pub begin_by : Way → Aim → Stage
+begin_by (ways.Port transport) aim = Find aim
+begin_by (ways.Address netid) aim = Find aim
+begin_by (ways.Known place) aim = Call aim place
+
+-- a version is called where its place is known, and found else
+abbrev pub begin : Course → Aim → Stage
+begin course aim = begin_by course.way aim
+
+abbrev pub to : Stage → Step
+to stage = record { lacks = None; stage = stage }
+
+-- the version behind this one, or the end
+abbrev pub following : Course → ℕ → ℕ → Bool → Stage
+following course vers high lacks =
+    if nat_lt vers high then begin course (aims.Each (vers + 1) high lacks) else End (if lacks then ends.SomeLack else ends.Ready)
+
+-- at most so many versions are called
+abbrev pub most_versions : ℕ
+most_versions = 256
+
+-- the first of these versions
+abbrev pub versions : Course → ℕ → ℕ → Step
+versions course low high =
+    if nat_lt high low then to (End ends.Unreadable)
+    else if nat_le most_versions (high - low) then to (End ends.TooMany)
+    else to (begin course (aims.Each low high false))
+
+-- the version is not available: the end, or, of several, the next one
+abbrev pub lack : Course → Aim → Option ReplyStatus → Step
+lack course (aims.Only vers) why = to (End (ends.NotAvailable vers why))
+lack course aims.Least why = to (End (ends.NoProgram why))
+lack course aims.Greatest why = to (End (ends.NoProgram why))
+lack course (aims.Each vers high lacks) why = record { lacks = Some vers; stage = following course vers high true }
+
+abbrev pub transport_at : Way → Transport
+transport_at (ways.Port transport) = transport
+transport_at (ways.Address netid) = transport_of netid
+transport_at (ways.Known place) = transports.Tcp
+
+-- 0, and a number that no port has, say that there is none
+abbrev pub found_port : Course → Aim → ℕ → Step
+found_port course aim port =
+    if port == 0 || nat_le 65536 port then lack course aim None
+    else to (Call aim (places.Port (transport_at course.way) port))
+
+-- a portmapper without GETADDR is asked by GETPORT
+abbrev pub refused_by : Way → Aim → ReplyStatus → Step
+refused_by (ways.Address netid) aim (statuses.ProgMismatch low high) = to (FindOld aim (transport_of netid))
+refused_by way aim status = to (End (ends.Refused status))
+
+abbrev pub found_by_refusal : Course → Aim → ReplyStatus → Step
+found_by_refusal course aim status = refused_by course.way aim status
+
+-- it was asked where the version is
+abbrev pub found : Course → Aim → Answer → Step
+found course aim (answers.Port port) = found_port course aim port
+found course aim (answers.Address (Some address)) = to (Call aim (places.Address (transport_at course.way) address))
+found course aim (answers.Address None) = lack course aim None
+found course aim answers.Ready = to (End ends.Unreadable)
+found course aim (answers.Refused status) = found_by_refusal course aim status
+
+-- the same by GETPORT in place of GETADDR
+abbrev pub found_old : Course → Aim → Answer → Step
+found_old course aim (answers.Port port) = found_port course aim port
+found_old course aim (answers.Address address) = to (End ends.Unreadable)
+found_old course aim answers.Ready = to (End ends.Unreadable)
+found_old course aim (answers.Refused status) = to (End (ends.Refused status))
+
+-- procedure 0 answered
+abbrev pub ready : Course → Aim → Step
+ready course (aims.Only vers) = to (End ends.Ready)
+ready course aims.Least = to (begin course aims.Greatest)
+ready course aims.Greatest = versions course 0 4294967295
+ready course (aims.Each vers high lacks) = to (following course vers high lacks)
+
+-- Procedure 0 was refused. The refusal of version 0, or of the greatest one, tells which there are.
+abbrev pub refused : Course → Aim → ReplyStatus → Step
+refused course aims.Least (statuses.ProgMismatch low high) = versions course low high
+refused course aims.Greatest (statuses.ProgMismatch low high) = versions course low high
+refused course aim status = lack course aim (Some status)
+
+abbrev pub called : Course → Aim → Answer → Step
+called course aim answers.Ready = ready course aim
+called course aim (answers.Refused status) = refused course aim status
+called course aim (answers.Port port) = to (End ends.Unreadable)
+called course aim (answers.Address address) = to (End ends.Unreadable)
+
+abbrev pub next : Course → Stage → Answer → Step
+next course (Find aim) answer = found course aim answer
+next course (FindOld aim transport) answer = found_old course aim answer
+next course (Call aim place) answer = called course aim answer
+next course (End end) answer = to (End end)

@@ -1,0 +1,44 @@
+//! What is asked of a portmapper that has version 2 alone.
+ghost use Rattle.std.specs.Prelude.{◌≡◌};
+ghost use Rattle.rb_course.specs.Fallback.{has_two, old_of, fallback};
+
+use rb_rpc::ReplyStatus;
+use rb_show::Question;
+
+/// Whether a refusal says that there is a version 2.
+fn has_two(status: ReplyStatus) -> bool
+    ensures { result ≡ has_two status }
+{
+    match status {
+        ReplyStatus::ProgMismatch(low, high) => low <= 2 && 2 <= high,
+        ReplyStatus::Success
+        | ReplyStatus::ProgUnavail
+        | ReplyStatus::ProcUnavail
+        | ReplyStatus::GarbageArgs
+        | ReplyStatus::SystemErr
+        | ReplyStatus::RpcMismatch(_, _)
+        | ReplyStatus::AuthError(_) => false,
+    }
+}
+
+/// The question of version 2 that shows what this one does, where there is one.
+fn old_of(question: Question) -> Option<Question>
+    ensures { result ≡ old_of question }
+{
+    match question {
+        Question::Rows => Some(Question::OldRows),
+        Question::Short => Some(Question::OldShort),
+        _ => None,
+    }
+}
+
+/// What is asked in place of a question that was refused; nothing where that is the end of it.
+pub fn fallback(question: Question, status: ReplyStatus) -> Option<Question>
+    ensures { result ≡ fallback question status }
+{
+    if has_two(status) {
+        old_of(question)
+    } else {
+        None
+    }
+}

@@ -1,0 +1,8 @@
+//! What holds of courses.
+ghost use Rattle.rb_course.specs.Laws.{EachVersionIsCalled};
+
+/// Where a program's place is known, each of the versions that it has is called once, from the least to the greatest,
+/// whatever is answered.
+pub fn courses_are_whole()
+    ensures { EachVersionIsCalled }
+{}

@@ -1,0 +1,295 @@
+//! What is asked, and what follows of each answer.
+ghost use Rattle.std.specs.Prelude.{◌≡◌};
+ghost use Rattle.rb_course.specs.Next.{prot_of, transport_of, version_of, call_of, find_of, question_at, asked, begin, to, following, versions, lack, transport_at, found_port, found_by_refusal, found, found_old, ready, refused, called, next};
+
+use crate::course::{Aim, Answer, Course, End, Place, Stage, Step, Way};
+use rb_names::Netid;
+use rb_rpc::ReplyStatus;
+use rb_show::{Ask, Question};
+use rb_words::Transport;
+
+/// The protocol numbers of version 2.
+const TCP: u32 = 6;
+
+const UDP: u32 = 17;
+
+/// At most so many versions of a program are called.
+const MOST_VERSIONS: u32 = 256;
+
+fn prot_of(transport: Transport) -> u32
+    ensures { result ≡ prot_of transport }
+{
+    match transport {
+        Transport::Tcp => TCP,
+        Transport::Udp => UDP,
+    }
+}
+
+/// Over which transport a netid goes. A socket of this machine is one of a stream.
+pub fn transport_of(netid: Netid) -> Transport
+    ensures { result ≡ transport_of netid }
+{
+    match netid {
+        Netid::Tcp | Netid::Tcp6 | Netid::Local => Transport::Tcp,
+        Netid::Udp | Netid::Udp6 => Transport::Udp,
+    }
+}
+
+fn version_of(aim: Aim) -> u32
+    ensures { result ≡ version_of aim }
+{
+    match aim {
+        Aim::Only(vers) => vers,
+        Aim::Least => 0,
+        Aim::Greatest => u32::MAX,
+        Aim::Each { vers, .. } => vers,
+    }
+}
+
+/// The call of procedure 0. A version that is called for its refusal alone is not shown.
+fn call_of(prog: u32, aim: Aim) -> Question
+    ensures { result ≡ call_of prog aim }
+{
+    match aim {
+        Aim::Only(_) | Aim::Each { .. } => Question::Null(prog, version_of(aim)),
+        Aim::Least | Aim::Greatest => Question::Probe(prog, version_of(aim)),
+    }
+}
+
+/// The question that finds where a version is.
+fn find_of(course: &Course, aim: Aim) -> (Place, Question)
+    ensures { result ≡ find_of course.now aim }
+{
+    let (prog, vers) = (course.prog, version_of(aim));
+    match course.way {
+        Way::Port(transport) => (
+            Place::Portmapper(Transport::Tcp),
+            Question::Port(prot_of(transport), prog, vers),
+        ),
+        Way::Address(netid) => (
+            Place::Portmapper(transport_of(netid)),
+            Question::Address(netid, prog, vers),
+        ),
+        Way::Known(place) => (place, call_of(prog, aim)),
+    }
+}
+
+/// What is asked at a stage, and where; nothing at the end.
+fn question_at(course: &Course, stage: Stage) -> Option<(Place, Question)>
+    ensures { result ≡ question_at course.now stage }
+{
+    match stage {
+        Stage::Find(aim) => Some(find_of(course, aim)),
+        Stage::FindOld(aim, transport) => {
+            let question = Question::Port(prot_of(transport), course.prog, version_of(aim));
+            Some((Place::Portmapper(transport), question))
+        }
+        Stage::Call(aim, place) => Some((place, call_of(course.prog, aim))),
+        Stage::End(_) => None,
+    }
+}
+
+/// What is asked at a stage, by the user of the course, and where; nothing at the end.
+pub fn asked(course: &Course, stage: Stage) -> Option<(Place, Ask)>
+    ensures { result ≡ asked course.now stage }
+{
+    match question_at(course, stage) {
+        Some((place, question)) => {
+            let ask = Ask {
+                question,
+                uid: course.uid,
+            };
+            Some((place, ask))
+        }
+        None => None,
+    }
+}
+
+/// The first stage of a version: it is called where its place is known, and found else.
+pub fn begin(course: &Course, aim: Aim) -> Stage
+    ensures { result ≡ begin course.now aim }
+{
+    match course.way {
+        Way::Port(_) | Way::Address(_) => Stage::Find(aim),
+        Way::Known(place) => Stage::Call(aim, place),
+    }
+}
+
+fn to(stage: Stage) -> Step
+    ensures { result ≡ to stage }
+{
+    Step { lacks: None, stage }
+}
+
+fn end(end: End) -> Step
+    ensures { result ≡ to (Stage.End end) }
+{
+    to(Stage::End(end))
+}
+
+/// The stage behind a version: the next one, or the end behind the last.
+fn following(course: &Course, vers: u32, high: u32, lacks: bool) -> Stage
+    ensures { result ≡ following course.now vers high lacks }
+{
+    if vers < high {
+        return begin(
+            course,
+            Aim::Each {
+                vers: vers + 1,
+                high,
+                lacks,
+            },
+        );
+    }
+    if lacks {
+        Stage::End(End::SomeLack)
+    } else {
+        Stage::End(End::Ready)
+    }
+}
+
+/// The first of the versions from low to high.
+fn versions(course: &Course, low: u32, high: u32) -> Step
+    ensures { result ≡ versions course.now low high }
+{
+    if high < low {
+        return end(End::Unreadable);
+    }
+    if high - low >= MOST_VERSIONS {
+        return end(End::TooMany);
+    }
+    to(begin(
+        course,
+        Aim::Each {
+            vers: low,
+            high,
+            lacks: false,
+        },
+    ))
+}
+
+/// The version is not available.
+fn lack(course: &Course, aim: Aim, why: Option<ReplyStatus>) -> Step
+    ensures { result ≡ lack course.now aim why }
+{
+    match aim {
+        Aim::Only(vers) => end(End::NotAvailable(vers, why)),
+        Aim::Least | Aim::Greatest => end(End::NoProgram(why)),
+        Aim::Each {
+            vers,
+            high,
+            lacks: _,
+        } => Step {
+            lacks: Some(vers),
+            stage: following(course, vers, high, true),
+        },
+    }
+}
+
+/// The transport over which a program is called that was found.
+fn transport_at(way: Way) -> Transport
+    ensures { result ≡ transport_at way }
+{
+    match way {
+        Way::Port(transport) => transport,
+        Way::Address(netid) => transport_of(netid),
+        Way::Known(_) => Transport::Tcp,
+    }
+}
+
+/// A port of 0, or one that no port has, says that there is none.
+fn found_port(course: &Course, aim: Aim, port: u32) -> Step
+    ensures { result ≡ found_port course.now aim port }
+{
+    match u16::try_from(port) {
+        Ok(0) | Err(_) => lack(course, aim, None),
+        Ok(port) => to(Stage::Call(aim, Place::Port(transport_at(course.way), port))),
+    }
+}
+
+/// A portmapper without GETADDR is asked by GETPORT.
+fn found_by_refusal(course: &Course, aim: Aim, status: ReplyStatus) -> Step
+    ensures { result ≡ found_by_refusal course.now aim status }
+{
+    match (course.way, status) {
+        (Way::Address(netid), ReplyStatus::ProgMismatch(_, _)) => to(Stage::FindOld(
+            aim,
+            transport_of(netid),
+        )),
+        _ => end(End::Refused(status)),
+    }
+}
+
+/// What follows where it was asked where the version is.
+fn found(course: &Course, aim: Aim, answer: Answer) -> Step
+    ensures { result ≡ found course.now aim answer }
+{
+    match answer {
+        Answer::Port(port) => found_port(course, aim, port),
+        Answer::Address(Some(address)) => to(Stage::Call(
+            aim,
+            Place::Address(transport_at(course.way), address),
+        )),
+        Answer::Address(None) => lack(course, aim, None),
+        Answer::Ready => end(End::Unreadable),
+        Answer::Refused(status) => found_by_refusal(course, aim, status),
+    }
+}
+
+/// The same where it was asked by GETPORT in place of GETADDR.
+fn found_old(course: &Course, aim: Aim, answer: Answer) -> Step
+    ensures { result ≡ found_old course.now aim answer }
+{
+    match answer {
+        Answer::Port(port) => found_port(course, aim, port),
+        Answer::Address(_) | Answer::Ready => end(End::Unreadable),
+        Answer::Refused(status) => end(End::Refused(status)),
+    }
+}
+
+/// What follows where procedure 0 answered.
+fn ready(course: &Course, aim: Aim) -> Step
+    ensures { result ≡ ready course.now aim }
+{
+    match aim {
+        Aim::Only(_) => end(End::Ready),
+        Aim::Least => to(begin(course, Aim::Greatest)),
+        Aim::Greatest => versions(course, 0, u32::MAX),
+        Aim::Each { vers, high, lacks } => to(following(course, vers, high, lacks)),
+    }
+}
+
+/// What follows where procedure 0 was refused.
+fn refused(course: &Course, aim: Aim, status: ReplyStatus) -> Step
+    ensures { result ≡ refused course.now aim status }
+{
+    match (aim, status) {
+        (Aim::Least | Aim::Greatest, ReplyStatus::ProgMismatch(low, high)) => versions(
+            course, low, high,
+        ),
+        _ => lack(course, aim, Some(status)),
+    }
+}
+
+/// What follows where procedure 0 was called.
+fn called(course: &Course, aim: Aim, answer: Answer) -> Step
+    ensures { result ≡ called course.now aim answer }
+{
+    match answer {
+        Answer::Ready => ready(course, aim),
+        Answer::Refused(status) => refused(course, aim, status),
+        Answer::Port(_) | Answer::Address(_) => end(End::Unreadable),
+    }
+}
+
+/// What follows of an answer at a stage.
+pub fn next(course: &Course, stage: Stage, answer: Answer) -> Step
+    ensures { result ≡ next course.now stage answer }
+{
+    match stage {
+        Stage::Find(aim) => found(course, aim, answer),
+        Stage::FindOld(aim, _) => found_old(course, aim, answer),
+        Stage::Call(aim, _) => called(course, aim, answer),
+        Stage::End(_) => to(stage),
+    }
+}

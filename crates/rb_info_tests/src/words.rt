@@ -1,0 +1,56 @@
+use rb_names::Netid;
+use rb_words::{
+    Flag, Means, Plan, Refusal, Shape, Spot, Transport, Wanted, read_words, write_refusal,
+};
+use std::test::Fail;
+
+/// `--uid 7 -u HOST 100000` is read with each of its parts.
+#[test]
+fn words_are_read(rt: HostRuntime) -> Result<(), Fail> {
+    let shape = Shape {
+        flags: &[Flag::Udp],
+        port: None,
+        uid: Some("7"),
+        target: None,
+        netid: None,
+        address: None,
+        local: None,
+        words: &["192.0.2.1", "100000"],
+    };
+    let request = read_words(&shape).map_err(|_| "refused")?;
+    assert_eq!(rt; request.uid, Some(7));
+    assert_eq!(rt; request.port, 111);
+    assert_eq!(rt;
+        request.plan,
+        Plan::Ping(Means::Mapped(Transport::Udp), 100_000, None)
+    );
+    assert_eq!(rt; Netid::from_text("udp6"), Some(Netid::Udp6));
+    assert_eq!(rt; Netid::Udp6.text().as_bytes(), b"udp6".as_slice());
+    Ok(())
+}
+
+#[test]
+fn refusal_is_written(rt: HostRuntime) -> Result<(), Fail> {
+    let shape = Shape {
+        flags: &[Flag::Table],
+        port: Some("-5"),
+        uid: None,
+        target: None,
+        netid: None,
+        address: None,
+        local: None,
+        words: &[],
+    };
+    let refusal = Refusal {
+        at: Spot::Port,
+        wanted: Wanted::Port,
+    };
+    assert!(rt; read_words(&shape) == Err(refusal));
+    let mut said = Vec::new(rt.alloc());
+    write_refusal(&shape, refusal, &mut said)?;
+    assert_eq!(rt;
+        said.as_slice(),
+        b"rpcinfo: the words can't be read; see --help\nrpcinfo: '-5': a number from 1 to 65535 is wanted\n".as_slice()
+    );
+    Ok(())
+}

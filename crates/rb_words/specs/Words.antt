@@ -1,0 +1,235 @@
+-- What the words of a command line ask for.
+use Rattle.std.specs.Prelude.{ℕ, ◌+◌, Bool, true, false, not, ◌&&◌, is_some, unwrap_or, List, [], ◌∷◌, Option, Some, None, Result, Ok, Err, if◌then◌else◌, slice_get, codes}
+use Rattle.std.specs.Str.{bytes_eq}
+use Rattle.std.specs.Borrow.{Bor}
+use Rattle.rb_words.specs.declared.shape.Flag.{Flag}
+use Rattle.rb_words.specs.declared.refusal.Refusal.{Refusal}
+use Rattle.rb_words.specs.declared.refusal.Spot.{Spot}
+use Rattle.rb_words.specs.declared.refusal.Spot.TheVariants as spots
+use Rattle.rb_words.specs.declared.refusal.Wanted.{Wanted}
+use Rattle.rb_words.specs.declared.refusal.Wanted.TheVariants as wants
+use Rattle.rb_words.specs.declared.plan.Listing.{Listing}
+use Rattle.rb_words.specs.declared.plan.Listing.TheVariants as listings
+use Rattle.rb_words.specs.declared.plan.Transport.{Transport}
+use Rattle.rb_words.specs.declared.plan.Transport.TheVariants as transports
+use Rattle.rb_words.specs.declared.plan.Means.TheVariants as means
+use Rattle.rb_words.specs.declared.plan.Request.{Request}
+use Rattle.rb_words.specs.declared.shape.Shape.{Shape}
+use Rattle.rb_words.specs.declared.shape.Flag.TheVariants as flags
+use Rattle.rb_words.specs.declared.plan.Source.{Source}
+use Rattle.rb_words.specs.declared.plan.Source.TheVariants.{Here, Input, Named}
+use Rattle.rb_names.specs.declared.netid.Netid.{Netid}
+use Rattle.rb_names.specs.declared.netid.Netid.TheVariants as netids
+use Rattle.rb_names.specs.Netids.{netid_of}
+use Rattle.rb_words.specs.declared.plan.Means.{Means}
+use Rattle.rb_words.specs.declared.plan.Plan.{Plan}
+use Rattle.rb_words.specs.declared.plan.Plan.TheVariants.{Show, Entries, Ping, Delete}
+use Rattle.rb_words.specs.Numbers.{number_in}
+
+-- ---- refusals
+
+abbrev pub refused : {A : Type 0} → Spot → Wanted → Result A Refusal
+refused at wanted = Err (record { at = at; wanted = wanted })
+
+-- one after the other, up to the first that is refused
+infixl 10 ◌>>=◌
+abbrev pub ◌>>=◌ : {A B : Type 0} → Result A Refusal → (A → Result B Refusal) → Result B Refusal
+(Ok x) >>= f = f x
+(Err refusal) >>= f = Err refusal
+
+-- at most one flag
+abbrev pub flag_of : List Flag → Result (Option Flag) Refusal
+flag_of [] = Ok None
+flag_of (flag ∷ []) = Ok (Some flag)
+flag_of (flag ∷ second ∷ flags) = refused (spots.Flag second) wants.OneFlag
+
+abbrev pub or_refused : {A : Type 0} → Spot → Wanted → Option A → Result A Refusal
+or_refused at wanted (Some x) = Ok x
+or_refused at wanted None = refused at wanted
+
+abbrev pub given : {A : Type 0} → Spot → Wanted → Option A → Result (Option A) Refusal
+given at wanted (Some x) = Ok (Some x)
+given at wanted None = refused at wanted
+
+-- the number that an option has
+abbrev pub option_number : Option (Bor (List ℕ)) → Spot → Wanted → ℕ → ℕ → Result (Option ℕ) Refusal
+option_number None at wanted least most = Ok None
+option_number (Some text) at wanted least most = given at wanted (number_in least most text.now)
+
+abbrev pub word_number : ℕ → Wanted → Option (Bor (List ℕ)) → Result ℕ Refusal
+word_number i wanted None = refused spots.End wanted
+word_number i wanted (Some text) = or_refused (spots.Word i) wanted (number_in 0 4294967295 text.now)
+
+-- the number that a word is
+abbrev pub number_at : List (Bor (List ℕ)) → ℕ → Wanted → Result ℕ Refusal
+number_at words i wanted = word_number i wanted (slice_get words i)
+
+abbrev pub no_word : ℕ → Option (Bor (List ℕ)) → Result (Unit {0}) Refusal
+no_word i None = Ok tt
+no_word i (Some text) = refused (spots.Word i) wants.NoWord
+
+-- no word stands at this place
+abbrev pub ends_at : List (Bor (List ℕ)) → ℕ → Result (Unit {0}) Refusal
+ends_at words i = no_word i (slice_get words i)
+
+-- ---- hosts
+
+-- `-` is standard input
+abbrev pub source_of : List ℕ → Source
+source_of text = if bytes_eq text (codes "-") then Input else Named
+
+abbrev pub source_in : Option (Bor (List ℕ)) → Result Source Refusal
+source_in None = refused spots.End wants.Host
+source_in (Some text) = Ok (source_of text.now)
+
+abbrev pub source_at : List (Bor (List ℕ)) → Result Source Refusal
+source_at words = source_in (slice_get words 0)
+
+abbrev pub host_in : Source → Result (Unit {0}) Refusal
+host_in Named = Ok tt
+host_in Here = refused (spots.Word 0) wants.Host
+host_in Input = refused (spots.Word 0) wants.Host
+
+-- the first word names a host
+abbrev pub host_at : List (Bor (List ℕ)) → Result (Unit {0}) Refusal
+host_at words = source_at words >>= host_in
+
+-- ---- the words of each form
+
+abbrev pub shown_from : Listing → Option (Bor (List ℕ)) → Plan
+shown_from listing None = Show listing Here
+shown_from listing (Some text) = Show listing (source_of text.now)
+
+-- [HOST]
+abbrev pub shown : Listing → List (Bor (List ℕ)) → Result Plan Refusal
+shown listing words = ends_at words 1 >>= λ _. Ok (shown_from listing (slice_get words 0))
+
+-- HOST PROGRAM VERSION
+abbrev pub listed : List (Bor (List ℕ)) → Result Plan Refusal
+listed words = do
+  source ← source_at words
+  prog ← number_at words 1 wants.Program
+  vers ← number_at words 2 wants.Version
+  _ ← ends_at words 3
+  Ok (Entries source prog vers)
+
+-- without a VERSION, each of them
+abbrev pub version_in : List (Bor (List ℕ)) → ℕ → Option (Bor (List ℕ)) → Result (Option ℕ) Refusal
+version_in words i None = Ok None
+version_in words i (Some text) = do
+  vers ← number_at words i wants.Version
+  _ ← ends_at words (i + 1)
+  Ok (Some vers)
+
+-- PROGRAM [VERSION]
+abbrev pub pinged : Means → List (Bor (List ℕ)) → ℕ → Result Plan Refusal
+pinged means words i = do
+  prog ← number_at words i wants.Program
+  vers ← version_in words (i + 1) (slice_get words (i + 1))
+  Ok (Ping means prog vers)
+
+-- HOST PROGRAM [VERSION]
+abbrev pub pinged_at_host : Means → List (Bor (List ℕ)) → Result Plan Refusal
+pinged_at_host means words = host_at words >>= λ _. pinged means words 1
+
+-- PROGRAM VERSION
+abbrev pub program_and_version : List (Bor (List ℕ)) → Result (ℕ × ℕ) Refusal
+program_and_version words = do
+  prog ← number_at words 0 wants.Program
+  vers ← number_at words 1 wants.Version
+  _ ← ends_at words 2
+  Ok (prog, vers)
+
+-- ---- netids
+
+abbrev pub option_netid : Option (Bor (List ℕ)) → Result (Option Netid) Refusal
+option_netid None = Ok None
+option_netid (Some text) = given spots.Netid wants.Netid (netid_of text.now)
+
+-- ---- what each flag asks for
+
+-- procedure 0 at the address of `-a`, or at that which GETADDR says
+abbrev pub by_address : Netid → Shape → Option (Bor (List ℕ)) → Result Plan Refusal
+by_address netid shape None = pinged_at_host (means.Netid netid) shape.words.now
+by_address netid shape (Some address) = pinged (means.Address netid) shape.words.now 0
+
+abbrev pub by_netid : Netid → Shape → Result Plan Refusal
+by_netid netid shape = by_address netid shape shape.address
+
+-- a socket has no address of a host
+abbrev pub by_option : Shape → Option Netid → Result Plan Refusal
+by_option shape None = shown listings.Rows shape.words.now
+by_option shape (Some netids.Local) = refused spots.Netid wants.Socket
+by_option shape (Some netid) = by_netid netid shape
+
+abbrev pub without_flag : Shape → Result Plan Refusal
+without_flag shape = option_netid shape.netid >>= by_option shape
+
+-- procedure 0 at the port of `-n`, or at that which GETPORT says
+abbrev pub by_port : Transport → Shape → Option ℕ → Result Plan Refusal
+by_port transport shape None = pinged_at_host (means.Mapped transport) shape.words.now
+by_port transport shape (Some port) = pinged_at_host (means.Port transport port) shape.words.now
+
+abbrev pub by_transport : Transport → Shape → Result Plan Refusal
+by_transport transport shape = option_number shape.target spots.Target wants.Port 1 65535 >>= by_port transport shape
+
+abbrev pub deleted : Shape → Result Plan Refusal
+deleted shape = do
+  netid ← option_netid shape.netid
+  program ← program_and_version shape.words.now
+  Ok (Delete netid program.0 program.1)
+
+abbrev pub plan_of : Option Flag → Shape → Result Plan Refusal
+plan_of None shape = without_flag shape
+plan_of (Some flags.Table) shape = shown listings.Table shape.words.now
+plan_of (Some flags.Short) shape = shown listings.Short shape.words.now
+plan_of (Some flags.List) shape = listed shape.words.now
+plan_of (Some flags.Statistics) shape = shown listings.Statistics shape.words.now
+plan_of (Some flags.Tcp) shape = by_transport transports.Tcp shape
+plan_of (Some flags.Udp) shape = by_transport transports.Udp shape
+plan_of (Some flags.Delete) shape = deleted shape
+
+-- ---- which options a flag has
+
+abbrev pub is_ping : Option Flag → Bool
+is_ping (Some flags.Tcp) = true
+is_ping (Some flags.Udp) = true
+is_ping _ = false
+
+abbrev pub may_have_netid : Option Flag → Bool
+may_have_netid None = true
+may_have_netid (Some flags.Delete) = true
+may_have_netid _ = false
+
+abbrev pub only_where : Bool → Bool → Spot → Wanted → Result (Unit {0}) Refusal
+only_where given has at wanted = if given && not has then refused at wanted else Ok tt
+
+abbrev pub has_address : Option Flag → Bool → Bool
+has_address None netid = netid
+has_address (Some flag) netid = false
+
+-- each option that is given is one that the flag has
+abbrev pub placed : Option Flag → Shape → Result (Unit {0}) Refusal
+placed flag shape = do
+  _ ← only_where (is_some shape.target) (is_ping flag) spots.Target wants.Ping
+  _ ← only_where (is_some shape.netid) (may_have_netid flag) spots.Netid wants.NoFlagOrDelete
+  only_where (is_some shape.address) (has_address flag (is_some shape.netid)) spots.Address wants.NetidAlone
+
+-- the portmapper of this machine is asked
+abbrev pub is_here : Plan → Bool
+is_here (Show listing Here) = true
+is_here (Delete netid prog vers) = true
+is_here _ = false
+
+-- ---- all of it
+
+-- the portmapper's port where none is given is 111
+abbrev pub request_of : Shape → Result Request Refusal
+request_of shape = do
+  flag ← flag_of shape.flags.now
+  _ ← placed flag shape
+  port ← option_number shape.port spots.Port wants.Port 1 65535
+  uid ← option_number shape.uid spots.Uid wants.Uid 0 4294967295
+  plan ← plan_of flag shape
+  _ ← only_where (is_some shape.local) (is_here plan) spots.Local wants.NoHost
+  Ok (record { port = unwrap_or port 111; uid = uid; plan = plan })

@@ -1,0 +1,30 @@
+//! Numbers.
+ghost use Rattle.std.specs.Prelude.{◌≡◌};
+ghost use Rattle.std.specs.List.{list_all};
+ghost use Rattle.rb_words.specs.Numbers.{is_digit, number_in};
+
+/// Whether there are decimal digits alone.
+fn is_of_digits(text: &str) -> bool
+    ensures { result ≡ list_all is_digit text.now }
+{
+    text.bytes().all(|byte| byte.is_ascii_digit())
+}
+
+/// A number in decimal digits between two bounds. A sign is no digit: `parse` itself would take one.
+pub(crate) fn number_in(text: &str, least: u32, most: u32) -> Option<u32>
+    ensures { result ≡ number_in least most text.now }
+{
+    if !is_of_digits(text) {
+        return None;
+    }
+    match text.parse::<u32>() {
+        Ok(n) => {
+            if least <= n && n <= most {
+                Some(n)
+            } else {
+                None
+            }
+        }
+        Err(_) => None,
+    }
+}

@@ -1,0 +1,68 @@
+//! What is asked for.
+use rb_names::Netid;
+
+/// What is listed of a host's portmapper.
+#[derive(Clone, Copy, Debug, PartialEq, Eq)]
+pub enum Listing {
+    /// The rows of version 3.
+    Rows,
+    /// The same without addresses and owners.
+    Short,
+    /// The mappings of version 2.
+    Table,
+    /// The statistics of version 4.
+    Statistics,
+}
+
+/// Where the replies come from.
+#[derive(Clone, Copy, Debug, PartialEq, Eq)]
+pub enum Source {
+    /// This machine.
+    Here,
+    /// One reply in hexadecimal text, on standard input.
+    Input,
+    /// The host that the first word names.
+    Named,
+}
+
+/// The transports that version 2 has numbers for.
+#[derive(Clone, Copy, Debug, PartialEq, Eq)]
+pub enum Transport {
+    Tcp,
+    Udp,
+}
+
+/// How a program is found whose procedure 0 is called.
+#[derive(Clone, Copy, Debug, PartialEq, Eq)]
+pub enum Means {
+    /// At the port that GETPORT says, on the host that the first word names.
+    Mapped(Transport),
+    /// At this port there.
+    Port(Transport, u16),
+    /// At the address that GETADDR says. It is not `local`.
+    Netid(Netid),
+    /// At the address of `-a`. It is not `local`.
+    Address(Netid),
+}
+
+/// What a command line asks for.
+#[derive(Clone, Copy, Debug, PartialEq, Eq)]
+pub enum Plan {
+    Show(Listing, Source),
+    /// The addresses of a program and a version.
+    Entries(Source, u32, u32),
+    /// Procedure 0 of a program, in one version or in each.
+    Ping(Means, u32, Option<u32>),
+    /// UNSET of a program and a version on this machine, on one netid or on all.
+    Delete(Option<Netid>, u32, u32),
+}
+
+/// The words of a command line, read.
+#[derive(Clone, Copy, Debug, PartialEq, Eq)]
+pub struct Request {
+    /// The portmapper's port.
+    pub port: u16,
+    /// As which user is asked; as nobody without one.
+    pub uid: Option<u32>,
+    pub plan: Plan,
+}

@@ -1,0 +1,313 @@
+//! Reads the words of a command line.
+ghost use Rattle.std.specs.Prelude.{◌≡◌, ◌<◌};
+ghost use Rattle.rb_words.specs.Words.{flag_of, option_number, number_at, ends_at, source_of, source_at, host_at, shown, listed, pinged, pinged_at_host, program_and_version, option_netid, by_netid, by_transport, without_flag, deleted, plan_of, is_ping, may_have_netid, is_here, only_where, placed, request_of};
+
+use crate::number::number_in;
+use crate::plan::{Listing, Means, Plan, Request, Source, Transport};
+use crate::refusal::{Refusal, Spot, Wanted};
+use crate::shape::{Flag, Shape};
+use rb_names::Netid;
+
+/// The portmapper's port.
+const PORT: u16 = 111;
+
+fn refused<T>(at: Spot, wanted: Wanted) -> Result<T, Refusal>
+    ensures { result ≡ Err (record { at = at; wanted = wanted }) }
+{
+    Err(Refusal { at, wanted })
+}
+
+/// The only flag, or none.
+fn flag_of(flags: &[Flag]) -> Result<Option<Flag>, Refusal>
+    ensures { result ≡ flag_of flags.now }
+{
+    match flags {
+        [] => Ok(None),
+        [flag] => Ok(Some(*flag)),
+        [_, second, ..] => refused(Spot::Flag(*second), Wanted::OneFlag),
+    }
+}
+
+/// The number that an option has.
+fn option_number(
+    text: Option<&str>,
+    at: Spot,
+    wanted: Wanted,
+    least: u32,
+    most: u32,
+) -> Result<Option<u32>, Refusal>
+    ensures { result ≡ option_number text.entry at wanted least most }
+{
+    match text {
+        None => Ok(None),
+        Some(text) => match number_in(text, least, most) {
+            Some(n) => Ok(Some(n)),
+            None => refused(at, wanted),
+        },
+    }
+}
+
+/// The number that a word is.
+fn number_at(words: &[&str], i: usize, wanted: Wanted) -> Result<u32, Refusal>
+    ensures { result ≡ number_at words.now i wanted }
+{
+    match words.get(i) {
+        None => refused(Spot::End, wanted),
+        Some(text) => match number_in(text, 0, u32::MAX) {
+            Some(n) => Ok(n),
+            None => refused(Spot::Word(i), wanted),
+        },
+    }
+}
+
+/// No word stands at this place.
+fn ends_at(words: &[&str], i: usize) -> Result<(), Refusal>
+    ensures { result ≡ ends_at words.now i }
+{
+    match words.get(i) {
+        None => Ok(()),
+        Some(_) => refused(Spot::Word(i), Wanted::NoWord),
+    }
+}
+
+/// Where the replies come from, by a word that names a host.
+fn source_of(text: &str) -> Source
+    ensures { result ≡ source_of text.now }
+{
+    if text == "-" {
+        Source::Input
+    } else {
+        Source::Named
+    }
+}
+
+/// The first word names a host, or standard input.
+fn source_at(words: &[&str]) -> Result<Source, Refusal>
+    ensures { result ≡ source_at words.now }
+{
+    match words.get(0) {
+        None => refused(Spot::End, Wanted::Host),
+        Some(text) => Ok(source_of(text)),
+    }
+}
+
+/// The first word names a host.
+fn host_at(words: &[&str]) -> Result<(), Refusal>
+    ensures { result ≡ host_at words.now }
+{
+    match source_at(words)? {
+        Source::Named => Ok(()),
+        Source::Here | Source::Input => refused(Spot::Word(0), Wanted::Host),
+    }
+}
+
+/// A list of the host that the first word names, or of this machine.
+fn shown(listing: Listing, words: &[&str]) -> Result<Plan, Refusal>
+    ensures { result ≡ shown listing words.now }
+{
+    ends_at(words, 1)?;
+    match words.get(0) {
+        None => Ok(Plan::Show(listing, Source::Here)),
+        Some(text) => Ok(Plan::Show(listing, source_of(text))),
+    }
+}
+
+/// HOST PROGRAM VERSION, where HOST may be standard input.
+fn listed(words: &[&str]) -> Result<Plan, Refusal>
+    ensures { result ≡ listed words.now }
+{
+    let source = source_at(words)?;
+    let prog = number_at(words, 1, Wanted::Program)?;
+    let vers = number_at(words, 2, Wanted::Version)?;
+    ends_at(words, 3)?;
+    Ok(Plan::Entries(source, prog, vers))
+}
+
+/// PROGRAM, and VERSION where it is there, from this place on.
+fn pinged(means: Means, words: &[&str], i: usize) -> Result<Plan, Refusal>
+    requires { i < 2 }
+    ensures { result ≡ pinged means words.now i }
+{
+    let prog = number_at(words, i, Wanted::Program)?;
+    if words.get(i + 1).is_none() {
+        return Ok(Plan::Ping(means, prog, None));
+    }
+    let vers = number_at(words, i + 1, Wanted::Version)?;
+    ends_at(words, i + 2)?;
+    Ok(Plan::Ping(means, prog, Some(vers)))
+}
+
+/// HOST PROGRAM, and VERSION where it is there.
+fn pinged_at_host(means: Means, words: &[&str]) -> Result<Plan, Refusal>
+    ensures { result ≡ pinged_at_host means words.now }
+{
+    host_at(words)?;
+    pinged(means, words, 1)
+}
+
+/// PROGRAM VERSION.
+fn program_and_version(words: &[&str]) -> Result<(u32, u32), Refusal>
+    ensures { result ≡ program_and_version words.now }
+{
+    let prog = number_at(words, 0, Wanted::Program)?;
+    let vers = number_at(words, 1, Wanted::Version)?;
+    ends_at(words, 2)?;
+    Ok((prog, vers))
+}
+
+/// The netid of `-T`.
+fn option_netid(text: Option<&str>) -> Result<Option<Netid>, Refusal>
+    ensures { result ≡ option_netid text.entry }
+{
+    match text {
+        None => Ok(None),
+        Some(text) => match Netid::from_text(text) {
+            Some(netid) => Ok(Some(netid)),
+            None => refused(Spot::Netid, Wanted::Netid),
+        },
+    }
+}
+
+/// The number of a port, where it is given.
+fn option_port(text: Option<&str>, at: Spot) -> Result<Option<u16>, Refusal>
+    ensures { result ≡ option_number text.entry at Wanted.Port 1 65535 }
+{
+    match option_number(text, at, Wanted::Port, 1, 65535)? {
+        None => Ok(None),
+        Some(port) => Ok(Some(port as u16)),
+    }
+}
+
+/// Procedure 0 at the address of `-a`, or at that which GETADDR says.
+fn by_netid(netid: Netid, shape: &Shape<'_, '_>) -> Result<Plan, Refusal>
+    ensures { result ≡ by_netid netid shape.now }
+{
+    match shape.address {
+        None => pinged_at_host(Means::Netid(netid), shape.words),
+        Some(_) => pinged(Means::Address(netid), shape.words, 0),
+    }
+}
+
+/// Without a flag: a list, or with `-T` procedure 0 of a program.
+fn without_flag(shape: &Shape<'_, '_>) -> Result<Plan, Refusal>
+    ensures { result ≡ without_flag shape.now }
+{
+    match option_netid(shape.netid)? {
+        None => shown(Listing::Rows, shape.words),
+        Some(Netid::Local) => refused(Spot::Netid, Wanted::Socket),
+        Some(netid) => by_netid(netid, shape),
+    }
+}
+
+/// `-t` and `-u`.
+fn by_transport(transport: Transport, shape: &Shape<'_, '_>) -> Result<Plan, Refusal>
+    ensures { result ≡ by_transport transport shape.now }
+{
+    match option_port(shape.target, Spot::Target)? {
+        None => pinged_at_host(Means::Mapped(transport), shape.words),
+        Some(port) => pinged_at_host(Means::Port(transport, port), shape.words),
+    }
+}
+
+fn deleted(shape: &Shape<'_, '_>) -> Result<Plan, Refusal>
+    ensures { result ≡ deleted shape.now }
+{
+    let netid = option_netid(shape.netid)?;
+    let (prog, vers) = program_and_version(shape.words)?;
+    Ok(Plan::Delete(netid, prog, vers))
+}
+
+/// What the flag asks for.
+fn plan_of(flag: Option<Flag>, shape: &Shape<'_, '_>) -> Result<Plan, Refusal>
+    ensures { result ≡ plan_of flag shape.now }
+{
+    match flag {
+        None => without_flag(shape),
+        Some(Flag::Table) => shown(Listing::Table, shape.words),
+        Some(Flag::Short) => shown(Listing::Short, shape.words),
+        Some(Flag::List) => listed(shape.words),
+        Some(Flag::Statistics) => shown(Listing::Statistics, shape.words),
+        Some(Flag::Tcp) => by_transport(Transport::Tcp, shape),
+        Some(Flag::Udp) => by_transport(Transport::Udp, shape),
+        Some(Flag::Delete) => deleted(shape),
+    }
+}
+
+fn is_ping(flag: Option<Flag>) -> bool
+    ensures { result ≡ is_ping flag }
+{
+    matches!(flag, Some(Flag::Tcp | Flag::Udp))
+}
+
+fn may_have_netid(flag: Option<Flag>) -> bool
+    ensures { result ≡ may_have_netid flag }
+{
+    matches!(flag, None | Some(Flag::Delete))
+}
+
+/// An option that is given is one that the form has.
+fn only_where(given: bool, has: bool, at: Spot, wanted: Wanted) -> Result<(), Refusal>
+    ensures { result ≡ only_where given has at wanted }
+{
+    if given && !has {
+        return refused(at, wanted);
+    }
+    Ok(())
+}
+
+/// Each option that is given is one that the flag has.
+fn placed(flag: Option<Flag>, shape: &Shape<'_, '_>) -> Result<(), Refusal>
+    ensures { result ≡ placed flag shape.now }
+{
+    let netid = shape.netid.is_some();
+    only_where(
+        shape.target.is_some(),
+        is_ping(flag),
+        Spot::Target,
+        Wanted::Ping,
+    )?;
+    only_where(
+        netid,
+        may_have_netid(flag),
+        Spot::Netid,
+        Wanted::NoFlagOrDelete,
+    )?;
+    let address = netid && flag.is_none();
+    only_where(
+        shape.address.is_some(),
+        address,
+        Spot::Address,
+        Wanted::NetidAlone,
+    )
+}
+
+/// Whether the portmapper of this machine is asked.
+fn is_here(plan: Plan) -> bool
+    ensures { result ≡ is_here plan }
+{
+    match plan {
+        Plan::Show(_, source) => matches!(source, Source::Here),
+        Plan::Delete(..) => true,
+        Plan::Entries(..) | Plan::Ping(..) => false,
+    }
+}
+
+/// What the words ask for. Where they can't be read it is said where, and what is wanted there.
+///
+/// A number has decimal digits alone: no sign, and no other text. Ports are 1 to 65535, other numbers 0 to 4294967295.
+pub fn read_words(shape: &Shape<'_, '_>) -> Result<Request, Refusal>
+    ensures { result ≡ request_of shape.now }
+{
+    let flag = flag_of(shape.flags)?;
+    placed(flag, shape)?;
+    let port = option_port(shape.port, Spot::Port)?.unwrap_or(PORT);
+    let uid = option_number(shape.uid, Spot::Uid, Wanted::Uid, 0, u32::MAX)?;
+    let plan = plan_of(flag, shape)?;
+    only_where(
+        shape.local.is_some(),
+        is_here(plan),
+        Spot::Local,
+        Wanted::NoHost,
+    )?;
+    Ok(Request { port, uid, plan })
+}

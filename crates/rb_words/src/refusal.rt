@@ -1,0 +1,139 @@
+//! Words that can't be read.
+ghost use Rattle.std.specs.Prelude.{◌≡◌, OnOk};
+ghost use Rattle.std.specs.Io.KnownBytes.{Appends};
+ghost use Rattle.rb_words.specs.Refusals.{flag_text, spot_text, wanted_text, refusal_lines, named_line};
+
+use crate::shape::{Flag, Shape};
+use std::io;
+use std::io::Write;
+
+/// What on a command line can't be read.
+#[derive(Clone, Copy, Debug, PartialEq, Eq)]
+pub enum Spot {
+    /// A flag behind another one.
+    Flag(Flag),
+    Port,
+    Uid,
+    Target,
+    Netid,
+    Address,
+    Local,
+    /// The word of this number, from 0.
+    Word(usize),
+    /// A word is missing.
+    End,
+}
+
+/// What is wanted there.
+#[derive(Clone, Copy, Debug, PartialEq, Eq)]
+pub enum Wanted {
+    OneFlag,
+    Port,
+    Uid,
+    Netid,
+    /// A netid of TCP or UDP.
+    Socket,
+    /// A universal address.
+    Address,
+    Host,
+    Program,
+    Version,
+    NoWord,
+    /// `-n` goes with `-t` and `-u` alone.
+    Ping,
+    /// `-T` goes with `-d`, with `-a`, and without a flag.
+    NoFlagOrDelete,
+    /// `-a` goes with `-T`, without a flag.
+    NetidAlone,
+    /// `--local` goes with forms that have no HOST.
+    NoHost,
+}
+
+/// Why words can't be read.
+#[derive(Clone, Copy, Debug, PartialEq, Eq)]
+pub struct Refusal {
+    pub at: Spot,
+    pub wanted: Wanted,
+}
+
+/// A flag as it is written.
+fn flag_text(flag: Flag) -> &'static str
+    ensures { result.now ≡ flag_text flag }
+{
+    match flag {
+        Flag::Table => "-p",
+        Flag::Short => "-s",
+        Flag::List => "-l",
+        Flag::Statistics => "-m",
+        Flag::Tcp => "-t",
+        Flag::Udp => "-u",
+        Flag::Delete => "-d",
+    }
+}
+
+/// What stands there, or nothing.
+fn spot_text<'a>(shape: &Shape<'_, 'a>, at: Spot) -> &'a str
+    ensures { result.now ≡ spot_text shape.now at }
+{
+    match at {
+        Spot::Flag(flag) => flag_text(flag),
+        Spot::Port => shape.port.unwrap_or(""),
+        Spot::Uid => shape.uid.unwrap_or(""),
+        Spot::Target => shape.target.unwrap_or(""),
+        Spot::Netid => shape.netid.unwrap_or(""),
+        Spot::Address => shape.address.unwrap_or(""),
+        Spot::Local => shape.local.unwrap_or(""),
+        Spot::Word(i) => shape.words.get(i).copied().unwrap_or(""),
+        Spot::End => "",
+    }
+}
+
+/// What is wanted, in words.
+fn wanted_text(wanted: Wanted) -> &'static str
+    ensures { result.now ≡ wanted_text wanted }
+{
+    match wanted {
+        Wanted::OneFlag => "one flag at most is wanted",
+        Wanted::Port => "a number from 1 to 65535 is wanted",
+        Wanted::Uid => "a number from 0 to 4294967295 is wanted",
+        Wanted::Netid => "tcp, udp, tcp6, udp6 or local is wanted",
+        Wanted::Socket => "tcp, udp, tcp6 or udp6 is wanted",
+        Wanted::Address => "a universal address is wanted, as 192.0.2.1.0.111",
+        Wanted::Host => "HOST is wanted, a name or an address",
+        Wanted::Program => "PROGRAM is wanted, a number from 0 to 4294967295",
+        Wanted::Version => "VERSION is wanted, a number from 0 to 4294967295",
+        Wanted::NoWord => "no further word is wanted",
+        Wanted::Ping => "-n goes with -t and -u alone",
+        Wanted::NoFlagOrDelete => "-T goes with -d, or with no flag",
+        Wanted::NetidAlone => "-a goes with -T, and with no flag",
+        Wanted::NoHost => "--local goes with no HOST",
+    }
+}
+
+/// The line that names the word, where there is one, and what is wanted.
+fn write_named<W: Write>(shape: &Shape<'_, '_>, refusal: Refusal, writer: &mut W) -> io::Result<()>
+    ensures { OnOk result
+        (Appends (W.contents writer.old) (W.contents writer.new) (named_line shape.now refusal)) }
+{
+    let wanted = wanted_text(refusal.wanted);
+    match refusal.at {
+        Spot::End => writeln!(writer, "rpcinfo: {wanted}"),
+        at => {
+            let word = spot_text(shape, at);
+            writeln!(writer, "rpcinfo: '{word}': {wanted}")
+        }
+    }
+}
+
+/// Says that the words can't be read: which word, and what is wanted.
+pub fn write_refusal<W: Write>(
+    shape: &Shape<'_, '_>,
+    refusal: Refusal,
+    writer: &mut W,
+) -> io::Result<()>
+    ensures { OnOk result
+        (Appends (W.contents writer.old) (W.contents writer.new) (refusal_lines shape.now refusal)) }
+{
+    writeln!(writer, "rpcinfo: the words can't be read; see --help")?;
+    write_named(shape, refusal, writer)
+}

@@ -1,0 +1,41 @@
+//! The words by their shape: flags, options with their values, and the rest.
+ghost use Rattle.std.specs.Prelude.{◌≡◌};
+
+/// A flag names a form; at most one stands on a command line.
+#[derive(Clone, Copy, Debug, PartialEq, Eq)]
+pub enum Flag {
+    /// `-p`
+    Table,
+    /// `-s`
+    Short,
+    /// `-l`
+    List,
+    /// `-m`
+    Statistics,
+    /// `-t`
+    Tcp,
+    /// `-u`
+    Udp,
+    /// `-d`
+    Delete,
+}
+
+/// What stands on a command line, unread.
+#[derive(Clone, Copy, Debug)]
+pub struct Shape<'s, 'a> {
+    pub flags: &'s [Flag],
+    /// `--port`
+    pub port: Option<&'a str>,
+    /// `--uid`
+    pub uid: Option<&'a str>,
+    /// `-n`
+    pub target: Option<&'a str>,
+    /// `-T`
+    pub netid: Option<&'a str>,
+    /// `-a`
+    pub address: Option<&'a str>,
+    /// `--local`
+    pub local: Option<&'a str>,
+    /// The words that belong to no option, in their order.
+    pub words: &'s [&'a str],
+}

@@ -1,0 +1,220 @@
+//! Questions over sockets. No contract can say what they are answered with: what is asked, where, and what follows of an
+//! answer is decided in `rb_course` and in `plans`.
+ghost use Rattle.std.specs.Prelude.{◌≡◌};
+ghost use Rattle.rpcinfo.specs.Running.{no_notices};
+
+use crate::ending::Notices;
+use crate::fault::Fault;
+use crate::hosts::{addresses_of, at_place, here, is_of};
+use crate::input::FIRST_XID;
+use crate::net::{Peer, ask_datagram, ask_stream};
+use crate::plans::{aim_of, answer_of, ended, way_of};
+use crate::words::Words;
+use rb_course::{Course, Place, asked, begin, fallback, next, show_lack};
+use rb_show::{Ask, InfoFault, Question, Shown};
+use rb_words::{Means, Transport};
+use std::alloc::Global;
+use std::io::Write;
+use std::net::{Net, SocketAddr};
+use std::rt::Clock;
+
+/// The answer to what was asked, with what there is to notice.
+pub type Answered = (Result<Shown, Fault>, Notices);
+
+/// More questions than a course has.
+const MOST_QUESTIONS: u32 = 1024;
+
+const SECOND_XID: u32 = 2;
+
+/// Nothing is to be noticed.
+pub fn silently(answer: Result<Shown, Fault>) -> Answered
+    ensures answer { result.0 ≡ answer }
+    ensures silent { result.1 ≡ no_notices }
+{
+    let notices = Notices {
+        answered: None,
+        is_old: false,
+    };
+    (answer, notices)
+}
+
+/// Asks a portmapper, and where it has version 2 alone by that.
+fn ask_portmapper<N: Net + Clock, O: Write>(
+    alloc: Global,
+    net: &N,
+    words: &Words<'_>,
+    peer: Peer<'_>,
+    question: Question,
+    output: &mut O,
+) -> (Result<Shown, Fault>, bool) {
+    let answer = ask_stream(alloc, net, peer, &words.ask(question), FIRST_XID, output);
+    let Err(Fault::Info(InfoFault::Refused(head))) = answer else {
+        return (answer, false);
+    };
+    let Some(question) = fallback(question, head.status) else {
+        return (answer, false);
+    };
+    let answer = ask_stream(alloc, net, peer, &words.ask(question), SECOND_XID, output);
+    (answer, true)
+}
+
+/// Asks the portmapper of this machine: over the socket that the words name, where somebody listens there.
+pub fn ask_here<N: Net + Clock, O: Write>(
+    alloc: Global,
+    net: &N,
+    words: &Words<'_>,
+    question: Question,
+    output: &mut O,
+) -> Answered {
+    if let Some(path) = words.local {
+        let peer = Peer::Here(path);
+        let (answer, is_old) = ask_portmapper(alloc, net, words, peer, question, output);
+        if answer != Err(Fault::NoConnection) {
+            let notices = Notices {
+                answered: None,
+                is_old,
+            };
+            return (answer, notices);
+        }
+    }
+    let peer = Peer::Host(here(words.request.port));
+    let (answer, is_old) = ask_portmapper(alloc, net, words, peer, question, output);
+    let notices = Notices {
+        answered: None,
+        is_old,
+    };
+    (answer, notices)
+}
+
+/// Asks the portmapper of the host that the words name, at each of its addresses until one answers.
+pub fn ask_named<N: Net + Clock, O: Write>(
+    alloc: Global,
+    net: &N,
+    words: &Words<'_>,
+    question: Question,
+    output: &mut O,
+) -> Answered {
+    let addresses = match addresses_of(alloc, net, words.host, words.request.port) {
+        Ok(addresses) => addresses,
+        Err(fault) => return silently(Err(fault)),
+    };
+    let mut last = Fault::NoHost;
+    for address in &addresses {
+        let peer = Peer::Host(*address);
+        let (answer, is_old) = ask_portmapper(alloc, net, words, peer, question, output);
+        if answer == Err(Fault::NoConnection) {
+            last = Fault::NoConnection;
+            continue;
+        }
+        return (answer, notices_of(*address, addresses.len(), is_old));
+    }
+    silently(Err(last))
+}
+
+/// The address is named where the host has several.
+fn notices_of(address: SocketAddr, count: usize, is_old: bool) -> Notices {
+    Notices {
+        answered: if count > 1 { Some(address.ip()) } else { None },
+        is_old,
+    }
+}
+
+fn ask_at<N: Net + Clock, O: Write>(
+    alloc: Global,
+    net: &N,
+    place: Place,
+    portmapper: SocketAddr,
+    ask: &Ask,
+    xid: u32,
+    output: &mut O,
+) -> Result<Shown, Fault> {
+    match at_place(place, portmapper) {
+        (Transport::Tcp, address) => {
+            ask_stream(alloc, net, Peer::Host(address), ask, xid, output)
+        }
+        (Transport::Udp, address) => ask_datagram(alloc, net, address, ask, xid, output),
+    }
+}
+
+/// Calls procedure 0 of a program on a host, in the version that is named or in each that it has.
+fn run_course<N: Net + Clock, O: Write>(
+    alloc: Global,
+    net: &N,
+    portmapper: SocketAddr,
+    course: &Course,
+    vers: Option<u32>,
+    output: &mut O,
+) -> Result<Shown, Fault> {
+    let mut stage = begin(course, aim_of(vers));
+    for xid in FIRST_XID..MOST_QUESTIONS {
+        let Some((place, ask)) = asked(course, stage) else {
+            break;
+        };
+        let reply = ask_at(alloc, net, place, portmapper, &ask, xid, output);
+        let step = next(course, stage, answer_of(reply)?);
+        if let Some(vers) = step.lacks {
+            if show_lack(course.prog, vers, output).is_err() {
+                return Err(Fault::Info(InfoFault::Write));
+            }
+        }
+        stage = step.stage;
+    }
+    ended(course.prog, FIRST_XID, stage)
+}
+
+/// Calls procedure 0 of a program on the host that the words name, at each of its addresses until one answers.
+fn ping_named<N: Net + Clock, O: Write>(
+    alloc: Global,
+    net: &N,
+    words: &Words<'_>,
+    course: &Course,
+    vers: Option<u32>,
+    output: &mut O,
+) -> Answered {
+    let addresses = match addresses_of(alloc, net, words.host, words.request.port) {
+        Ok(addresses) => addresses,
+        Err(fault) => return silently(Err(fault)),
+    };
+    let mut last = Fault::NoHost;
+    for address in &addresses {
+        if !is_of(course.way, *address) {
+            continue;
+        }
+        let answer = run_course(alloc, net, *address, course, vers, output);
+        if answer == Err(Fault::NoConnection) {
+            last = Fault::NoConnection;
+            continue;
+        }
+        return (answer, notices_of(*address, addresses.len(), false));
+    }
+    silently(Err(last))
+}
+
+/// Calls procedure 0 of a program.
+pub fn ping<N: Net + Clock, O: Write>(
+    alloc: Global,
+    net: &N,
+    words: &Words<'_>,
+    means: Means,
+    prog: u32,
+    vers: Option<u32>,
+    output: &mut O,
+) -> Answered {
+    let Some(way) = way_of(means, words.address) else {
+        return silently(Err(Fault::NoHost));
+    };
+    let course = Course {
+        way,
+        prog,
+        uid: words.request.uid,
+    };
+    match means {
+        Means::Address(_) => {
+            let portmapper = here(words.request.port);
+            silently(run_course(alloc, net, portmapper, &course, vers, output))
+        }
+        Means::Mapped(_) | Means::Port(..) | Means::Netid(_) => ping_named(
+            alloc, net, words, &course, vers, output,
+        ),
+    }
+}
