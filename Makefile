@@ -7,22 +7,27 @@ DESTDIR =
 UNITS = $(PREFIX)/lib/systemd/system
 SBINDIR = $(DESTDIR)$(PREFIX)/sbin
 MANDIR = $(DESTDIR)$(PREFIX)/share/man/man8
+DOCDIR = $(DESTDIR)$(PREFIX)/share/doc/rpcbind-proved
+# The programs are installed as rpcbind-proved and rpcinfo-proved, beside those of others; `make install NAMES=plain` gives
+# them their own names.
+NAMES = proved
+SUFFIX = $(if $(filter plain,$(NAMES)),,-proved)
+PLACED = sed 's|@PREFIX@|$(PREFIX)|g; s|@SUFFIX@|$(SUFFIX)|g'
 
 .PHONY: all run test rows peers memory bench measure install uninstall clean
 
-# Proves each crate and builds the programs, crates/rpcbind/out/rpcbind and crates/rpcinfo/out/rpcinfo.
+# Proves each crate, side by side, and builds the programs, crates/rpcbind/out/rpcbind and crates/rpcinfo/out/rpcinfo.
 all:
-	rt all check
-	cd crates/rpcbind && rt run -- replay < /dev/null
-	cd crates/rpcinfo && rt run -- --version
+	@tests/prove.sh
 
-# Three calls from bytes to bytes, before any proof.
+# The daemon, asked over real sockets of 127.0.0.1, and three calls from bytes to bytes: in a minute, before any proof.
+# PORT=N takes another port.
 run:
-	cd crates/rpcbind && rt try -- replay < ../../examples/first.events
+	@PORT=$(PORT) examples/run.sh
 
 # Every proof from nothing, the edits that must be refused, each test, and the rows of tests/rows.
 test:
-	tests/run-all.sh
+	@tests/run-all.sh
 
 # The rows alone, over the program that `make` or `make test` built.
 rows:
@@ -40,21 +45,29 @@ memory:
 bench:
 	tests/run-bench.sh
 
-# Where the time of `make test` goes, by crate. It proves everything from nothing, so run it in a clone of its own.
+# Where the time of `make test` goes, by crate, into docs/TIMINGS.md. It proves everything from nothing, so run it in a
+# clone of its own.
 measure:
-	tests/measure-gate.sh
+	tests/measure-gate.sh > timings.new && mv timings.new docs/TIMINGS.md
 
-# The built programs, their man pages and a unit of systemd, with PREFIX in it.
+# The built programs, their man pages, and the units of systemd, with PREFIX and the programs' names in them.
 install:
-	install -d $(SBINDIR) $(MANDIR) $(DESTDIR)$(UNITS)
-	install -m 755 crates/rpcbind/out/rpcbind crates/rpcinfo/out/rpcinfo $(SBINDIR)
-	install -m 644 man/rpcbind.8 man/rpcinfo.8 $(MANDIR)
-	sed 's|@PREFIX@|$(PREFIX)|' packaging/rpcbind-proved.service > $(DESTDIR)$(UNITS)/rpcbind-proved.service
-	chmod 644 $(DESTDIR)$(UNITS)/rpcbind-proved.service
+	install -d $(SBINDIR) $(MANDIR) $(DOCDIR) $(DESTDIR)$(UNITS)
+	install -m 644 LICENSE CHANGELOG packaging/rpcbind-proved.default $(DOCDIR)
+	install -m 755 crates/rpcbind/out/rpcbind $(SBINDIR)/rpcbind$(SUFFIX)
+	install -m 755 crates/rpcinfo/out/rpcinfo $(SBINDIR)/rpcinfo$(SUFFIX)
+	install -m 644 man/rpcbind.8 $(MANDIR)/rpcbind$(SUFFIX).8
+	install -m 644 man/rpcinfo.8 $(MANDIR)/rpcinfo$(SUFFIX).8
+	$(PLACED) packaging/rpcbind-proved.service > $(DESTDIR)$(UNITS)/rpcbind-proved.service
+	$(PLACED) packaging/rpcbind-proved.socket > $(DESTDIR)$(UNITS)/rpcbind-proved.socket
+	chmod 644 $(DESTDIR)$(UNITS)/rpcbind-proved.service $(DESTDIR)$(UNITS)/rpcbind-proved.socket
 
+# NAMES as it was at the install.
 uninstall:
-	rm -f $(SBINDIR)/rpcbind $(SBINDIR)/rpcinfo $(MANDIR)/rpcbind.8 $(MANDIR)/rpcinfo.8
-	rm -f $(DESTDIR)$(UNITS)/rpcbind-proved.service
+	rm -f $(SBINDIR)/rpcbind$(SUFFIX) $(SBINDIR)/rpcinfo$(SUFFIX)
+	rm -f $(MANDIR)/rpcbind$(SUFFIX).8 $(MANDIR)/rpcinfo$(SUFFIX).8
+	rm -f $(DESTDIR)$(UNITS)/rpcbind-proved.service $(DESTDIR)$(UNITS)/rpcbind-proved.socket
+	rm -rf $(DOCDIR)
 
 clean:
 	rm -rf crates/*/out

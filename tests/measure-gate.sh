@@ -1,7 +1,7 @@
 #!/usr/bin/env bash
-# Shows where the time of the gate goes: for each crate the processor seconds of its first proof, of the proof with its
-# tests, and of its must-fail edits. Run it in a clone of its own, where nothing else works: it proves from nothing.
-# With names of crates it measures those alone.
+# Shows where the time of the gate goes, as docs/TIMINGS.md has it: for each crate its lines and edits, and the processor
+# seconds of its first proof, of the proof with its tests, and of its must-fail edits. Run it in a clone of its own, where
+# nothing else works: it proves from nothing. With names of crates it measures those alone.
 set -u
 cd "$(dirname "$0")/.." || exit 1
 
@@ -22,6 +22,14 @@ inside() {
 names=("$@")
 [ $# -gt 0 ] || mapfile -t names < <(sed -nE 's/^([a-z0-9_]+)[: ].*/\1/p' crates.txt)
 
+cat << END
+# Timings
+
+Where the time of \`make test\` goes, written by \`make measure\` on $(date +%Y-%m-%d): $(nproc) hardware threads of
+$(sed -nE 's/^model name\s*: (.*)/\1/p' /proc/cpuinfo | head -n 1), $(rt version). Lines are those of code, specifications and proofs; times are
+processor seconds.
+
+END
 echo '| crate | lines | edits | first proof | with tests | edits together |'
 echo '|---|---|---|---|---|---|'
 for name in "${names[@]}"; do

@@ -3,6 +3,7 @@
 # then the rows. The last line is 'N passed, N failed' over both; the status is 1 where one failed.
 set -u
 cd "$(dirname "$0")/.." || exit 1
+. tests/machine.sh
 
 work=$(mktemp -d) || exit 1
 trap 'rm -rf "$work"' EXIT
@@ -13,7 +14,7 @@ failed=0
 # one that fails and counts none.
 add() {
     local status p f
-    "$@" 2>&1 | tee "$work/log"
+    "$@" 2>&1 | tee "$work/log" | show_progress
     status=${PIPESTATUS[0]}
     if ! read -r p f < <(tail -n 1 "$work/log" | sed -nE 's/^([0-9]+) passed, ([0-9]+) failed$/\1 \2/p'); then
         echo "failed: '$*' printed no counts"
@@ -26,6 +27,28 @@ add() {
     failed=$((failed + f))
 }
 
+# Passes lines on. Behind one with which `rt ci` ends the proof of a crate, or begins its edits, it says how far it is.
+show_progress() {
+    local line proved=0 tried=0
+    while IFS= read -r line || [ -n "$line" ]; do
+        printf '%s\n' "$line"
+        case $line in
+            'rt: '*': its tests'*) continue ;;
+            'rt: '*' proved' | 'rt: '*' NOT PROVED'* | 'rt: '*' is kept: '*) proved=$((proved + 1)) ;;
+            'rt: '*': trying its must-fail edits'*) tried=$((tried + 1)) ;;
+            *) continue ;;
+        esac
+        echo "make test: after $(in_minutes "$SECONDS") $proved of $crates crates are proved or failed," \
+            "and the edits of $tried of $with_edits have begun"
+    done
+}
+
+crates=$(list_crates | wc -l)
+with_edits=$(find crates/*/must-fail -name '*.edit' -printf '%h\n' | sort -u | wc -l)
+cores=$(count_cores)
+say_kit
+echo "make test: $crates crates on $cores cores: from nothing about $(minutes_of_test "$cores") minutes;" \
+    "what this machine passed before is not proved again"
 add rt ci
 add tests/run-rows.sh
 echo "$passed passed, $failed failed"

@@ -1,7 +1,9 @@
 #!/usr/bin/env bash
-# Shows what of the built daemon is resident, at the default limits: after its start, and after a load (a million calls
-# over all 64 connections, and calls over UDP that fill its rows, ask for them, list them and are forwarded), which takes
-# not a page more. The word, if there is one, is the path of another built program. The last line is 'N passed, N failed';
+# Shows what of the built daemon is resident, at the default limits and on all kinds of listeners: after its start, and
+# after a load (a million calls over all 64 connections, half of them on [::1], the same connections on the local socket
+# where there is python3, and calls over UDP that fill its rows, ask for them, list them and are forwarded), which takes not
+# a page more of its own. Pages of its file, which the system maps as they are run and can let go, count in what is
+# resident alone. The word, if there is one, is the path of another built program. The last line is 'N passed, N failed';
 # the status is 1 where one failed.
 set -u
 cd "$(dirname "$0")/.." || exit 1
@@ -37,6 +39,11 @@ resident() {
     awk '/^Rss:/ { print $2 }' "/proc/$daemon/smaps_rollup"
 }
 
+# So many of them are its own, and no file's.
+own() {
+    awk '/^Anonymous:/ { print $2 }' "/proc/$daemon/smaps_rollup"
+}
+
 # Writes numbers as words of four bytes.
 words() {
     printf "$(printf '%08x' "$@" | sed 's/../\\x&/g')"
@@ -48,8 +55,10 @@ call_over_tcp() {
     for xid in $(seq 1000); do
         words $((0x80000028)) "$xid" 0 2 100000 2 0 0 0 0 0
     done > "$work/calls"
-    for _ in $(seq 64); do
+    for _ in $(seq 32); do
         exec {socket}<> /dev/tcp/127.0.0.1/$port
+        sockets+=("$socket")
+        exec {socket}<> /dev/tcp/::1/$port
         sockets+=("$socket")
     done
     for round in $(seq 16); do
@@ -59,6 +68,26 @@ call_over_tcp() {
         done
     done
     for socket in "${sockets[@]}"; do exec {socket}>&-; done
+}
+
+# Opens all connections on the local socket, and has each answer 1,000 NULL calls.
+call_on_local_socket() {
+    timeout 60 python3 - "$work/local" "$work/calls" << 'END'
+import socket, sys
+
+calls = open(sys.argv[2], "rb").read()
+clients = [socket.socket(socket.AF_UNIX) for _ in range(64)]
+for client in clients:
+    client.connect(sys.argv[1])
+for client in clients:
+    client.sendall(calls)
+    got = 0
+    while got < 28000:
+        piece = client.recv(28000 - got)
+        if not piece:
+            sys.exit(1)
+        got += len(piece)
+END
 }
 
 # Sends the longest datagram there can be, which is no call; sets rows until none has room, asks for each, lists them, and
@@ -79,19 +108,26 @@ call_over_udp() {
 }
 
 [ -x "$program" ] || { echo "no program $program: run 'make' first"; exit 1; }
-start_daemon "$work/daemon" --port $port || exit 1
-before=$(resident)
-echo "resident after the start: $before kB"
+start_daemon "$work/daemon" --port $port --bind 127.0.0.1 --bind 127.0.0.2 --loopback6 --local "$work/local" || exit 1
+before=$(own)
+echo "resident after the start: $(resident) kB, its own $before kB"
 call_over_tcp
 judge $? "1,024,000 calls over 64 connections are answered"
+if command -v python3 > /dev/null; then
+    call_on_local_socket
+    judge $? "64,000 calls over 64 connections on the local socket are answered"
+else
+    echo "skipped: there is no python3 for the local socket"
+fi
 call_over_udp
 judge $? "calls over UDP are answered"
-after=$(resident)
-echo "resident after the load: $after kB"
-[ "$after" -le 4096 ]
+after=$(own)
+all=$(resident)
+echo "resident after the load: $all kB, its own $after kB"
+[ "$all" -le 4096 ]
 judge $? "at most 4,096 kB"
 [ "$after" -eq "$before" ]
-judge $? "the load takes not a page more"
+judge $? "the load takes not a page more of its own"
 kill -0 "$daemon" 2> /dev/null
 judge $? "the daemon serves on"
 echo "$passed passed, $failed failed"

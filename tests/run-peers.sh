@@ -1,25 +1,28 @@
 #!/usr/bin/env bash
-# Runs real clients against the built daemon, in a network, mount and process namespace of its own: a loopback alone, an
-# empty /run, and nothing of the machine is touched. Needs root, `unshare` and `ip`. Clients that are not installed are
-# skipped, and said so. The last line is 'N passed, N failed, N skipped'; the status is 1 where one failed.
+# Runs real clients and services against the built daemon, in a network, mount and process namespace of its own: a loopback
+# alone, an empty /run, and nothing of the machine is touched. First with /etc/netconfig as it is, then with one of IPv4
+# alone. Needs root, `unshare` and `ip`. What is not installed is skipped, and said so. The word, if there is one, is the
+# path of another built program. The last line is 'N passed, N failed, N skipped'; the status is 1 where one failed.
 #
-# `rpcinfo` is that of Debian's package rpcbind; a program of tests/peers is built with cc and libtirpc.
+# `rpcinfo` is that of Debian's package rpcbind; a program of tests/peers is built with cc and libtirpc; services are those of
+# nfs-common, nfs-kernel-server, rstatd, rusersd, rwalld, quota and nfs-ganesha-vfs, clients those of rusers and libnfs-utils.
 set -u
-cd "$(dirname "$0")/.." || exit 1
+here=$(cd "$(dirname "$0")/.." && pwd) || exit 1
+cd "$here" || exit 1
 
 . tests/daemon.sh
 
-program=$PWD/crates/rpcbind/out/rpcbind
-
 if [ "${1:-}" != --inside ]; then
+    program=${1:-$PWD/crates/rpcbind/out/rpcbind}
     [ -x "$program" ] || { echo "no program $program: run 'make' first"; exit 1; }
     for tool in unshare ip mount; do
         command -v "$tool" > /dev/null || { echo "skipped: there is no $tool"; exit 0; }
     done
     [ "$(id -u)" -eq 0 ] || { echo "skipped: a namespace of its own wants root"; exit 0; }
-    exec unshare --net --mount --propagation private --pid --fork --kill-child --mount-proc "$0" --inside
+    exec unshare --net --mount --propagation private --pid --fork --kill-child --mount-proc "$0" --inside "$program"
 fi
 
+program=$2
 work=$(mktemp -d) || exit 1
 daemon=
 passed=0
@@ -38,6 +41,16 @@ skip() {
     echo "skipped: $1"
 }
 
+# Counts a check by the status given, and says what was checked where it failed.
+judge() {
+    if [ "$1" -eq 0 ]; then
+        passed=$((passed + 1))
+    else
+        failed=$((failed + 1))
+        echo "failed: $2"
+    fi
+}
+
 # Runs a client, shows what it wrote, and wants status 0 and a line that has these words in it, in this order.
 wants() {
     local name=$1 words=$2
@@ -46,36 +59,53 @@ wants() {
     timeout 30 "$@" > "$work/written" 2>&1 < /dev/null
     local status=$?
     sed 's/^/    /' "$work/written"
-    if [ "$status" -eq 0 ] && tr -s ' \t' ' ' < "$work/written" | grep -q -e "$words"; then
-        passed=$((passed + 1))
-    else
-        failed=$((failed + 1))
-        echo "failed: $name (status $status, wanted '$words')"
+    [ "$status" -eq 0 ] && tr -s ' \t' ' ' < "$work/written" | grep -q -e "$words"
+    judge $? "$name (status $status, wanted '$words')"
+}
+
+# A loopback, and folders of the services' own.
+prepare() {
+    mount -t tmpfs tmpfs /run || exit 1
+    mkdir -p /run/rpc_pipefs /run/ganesha /run/sendsigs.omit.d
+    ip link set lo up || exit 1
+    if [ -d /var/lib/nfs ]; then
+        mount -t tmpfs tmpfs /var/lib/nfs || exit 1
+        mkdir -p /var/lib/nfs/sm /var/lib/nfs/sm.bak /var/lib/nfs/ganesha
+        touch /var/lib/nfs/etab /var/lib/nfs/rmtab /var/lib/nfs/state
+        chown -R statd /var/lib/nfs/sm /var/lib/nfs/sm.bak /var/lib/nfs/state 2> /dev/null
+    fi
+    # Debian's, and not one that was installed before it on the PATH.
+    rpcinfo=$(dpkg -L rpcbind 2> /dev/null | grep '/rpcinfo$' | head -n 1)
+    dpkg-query -W rpcbind libtirpc3 libtirpc3t64 nfs-common nfs-ganesha libnfs-utils 2> /dev/null
+    if [ -e /etc/netconfig ]; then
+        printf '%s\n' 'udp tpi_clts v inet udp - -' 'tcp tpi_cots_ord v inet tcp - -' > "$work/netconfig"
     fi
 }
 
-start() {
-    mount -t tmpfs tmpfs /run || exit 1
-    ip link set lo up || exit 1
-    # A libtirpc client tries tcp6 and udp6 first where /etc/netconfig has them.
-    printf '%s\n' 'udp tpi_clts v inet udp - -' 'tcp tpi_cots_ord v inet tcp - -' > "$work/netconfig"
-    [ ! -e /etc/netconfig ] || mount --bind "$work/netconfig" /etc/netconfig
-    start_daemon "$work/daemon" || exit 1
-    cat "$work/daemon"
-}
-
-# Debian's, and not the one that `make install` may have put before it on the PATH.
 run_rpcinfo() {
-    local rpcinfo
-    rpcinfo=$(dpkg -L rpcbind 2> /dev/null | grep '/rpcinfo$' | head -n 1)
     [ -x "$rpcinfo" ] || { skip "rpcinfo is not installed (package rpcbind)"; return; }
-    dpkg-query -W rpcbind libtirpc3 libtirpc3t64 2> /dev/null
+    wants "rpcinfo" '100000 4 tcp 0.0.0.0.0.111 portmapper superuser' "$rpcinfo"
+    wants "rpcinfo -p without a host" '100000 4 tcp 111 ' "$rpcinfo" -p
+    wants "rpcinfo -s without a host" '100000 2,3,4 .*superuser' "$rpcinfo" -s
+    wants "rpcinfo -m" 'RPCBIND (version 4) statistics' "$rpcinfo" -m
     wants "rpcinfo -p" '100000 4 tcp 111 ' "$rpcinfo" -p 127.0.0.1
     wants "rpcinfo -s" '100000 2,3,4 .*superuser' "$rpcinfo" -s 127.0.0.1
     wants "rpcinfo -T udp" 'program 100000 version 4 ready' "$rpcinfo" -T udp 127.0.0.1 100000
     wants "rpcinfo -T tcp" 'program 100000 version 4 ready' "$rpcinfo" -T tcp 127.0.0.1 100000
     wants "rpcinfo -t" 'program 100000 version 2 ready' "$rpcinfo" -t 127.0.0.1 100000 2
     wants "rpcinfo -u" 'program 100000 version 2 ready' "$rpcinfo" -u 127.0.0.1 100000 2
+}
+
+# A DUMP of version 4 over TCP [::1]: the reply is one fragment that has the six rows of program 100000, of 56 bytes
+# each, behind a head of 24, and a word of its end.
+dump_over_loopback6() {
+    local socket reply
+    exec {socket}<> /dev/tcp/::1/111 || return 1
+    printf '\x80\x00\x00\x28\x00\x00\x00\x01\x00\x00\x00\x00\x00\x00\x00\x02\x00\x01\x86\xa0\x00\x00\x00\x04\x00\x00\x00\x04' >&"$socket"
+    printf '\0%.0s' $(seq 16) >&"$socket"
+    reply=$(timeout 5 head -c 368 <&"$socket" | od -An -tx1 | tr -d ' \n')
+    exec {socket}>&-
+    [ "${#reply}" -eq 736 ] && [ "${reply:0:56}" = 8000016c000000010000000100000000000000000000000000000000 ]
 }
 
 run_libtirpc() {
@@ -88,9 +118,141 @@ run_libtirpc() {
     wants "a libtirpc program" 'version 2: is not found any more: yes' "$work/register"
 }
 
-start
-run_rpcinfo
-run_libtirpc
-kill -0 "$daemon" 2> /dev/null || { failed=$((failed + 1)); echo "failed: the daemon ended"; }
+# The lines of the registered program.
+registered() {
+    "$rpcinfo" 127.0.0.1 2> /dev/null | awk -v program="$1" '$1 == program'
+}
+
+# Waits until the program is registered, or is not any more.
+await() {
+    local is_there
+    for _ in $(seq 100); do
+        is_there=no
+        [ -z "$(registered "$2")" ] || is_there=yes
+        [ "$is_there" = "$1" ] && return
+        sleep 0.1
+    done
+    return 1
+}
+
+# Ends the service of this name. Its process has another number than the one that started where it goes into the background.
+end_service() {
+    local number
+    for number in $(pidof "$1"); do kill "$number"; done
+}
+
+# Starts a service, wants its program to be registered on each netid that is told, and not any more at its end, unless it
+# leaves its rows behind at any rpcbind. Between, it runs a client, if there is one: a function.
+run_service() {
+    local name=$1 program_number=$2 netids=$3 client=$4 netid
+    shift 4
+    command -v "$1" > /dev/null || { skip "$name is not installed"; return; }
+    echo "\$ $*"
+    "$@" > "$work/service" 2>&1 < /dev/null &
+    await yes "$program_number"
+    judge $? "$name registers"
+    sleep 0.5
+    registered "$program_number" | sed 's/^/    /'
+    for netid in $netids; do
+        has_netid "$netid" || continue
+        registered "$program_number" | awk -v netid="$netid" '$3 == netid { found = 1 } END { exit !found }'
+        judge $? "$name is registered on $netid"
+    done
+    [ -z "$client" ] || "$client"
+    end_service "$(basename "$1")"
+    [ "$name" != rpc.rwalld ] || return
+    await no "$program_number"
+    judge $? "$name is registered no more at its end"
+}
+
+has_netid() {
+    grep -q "^$1[[:space:]]" /etc/netconfig
+}
+
+ask_mountd() {
+    command -v showmount > /dev/null || { skip "showmount is not installed"; return; }
+    wants "showmount -e" 'Export list for 127.0.0.1' showmount -e 127.0.0.1
+}
+
+ask_rusersd() {
+    command -v rusers > /dev/null || { skip "rusers is not installed"; return; }
+    # It has nobody to tell, and its status is 1 where nobody answers.
+    echo "\$ rusers -a 127.0.0.1"
+    timeout 30 rusers -a 127.0.0.1 > "$work/written" 2>&1
+    judge $? "rusers"
+    sed 's/^/    /' "$work/written"
+}
+
+run_services() {
+    [ -x "$rpcinfo" ] || { skip "no services without rpcinfo"; return; }
+    run_service rpc.statd 100024 "udp tcp udp6 tcp6" "" rpc.statd -F --no-notify
+    run_service rpc.mountd 100005 "udp tcp udp6 tcp6" ask_mountd rpc.mountd -F
+    run_service rpc.rstatd 100001 udp "" rpc.rstatd
+    run_service rpc.rusersd 100002 udp ask_rusersd rpc.rusersd
+    run_service rpc.rwalld 100008 udp "" rpc.rwalld
+    run_service rpc.rquotad 100011 "udp tcp udp6 tcp6" "" rpc.rquotad -F
+}
+
+# A folder that nfs-ganesha serves by version 3.
+write_ganesha() {
+    rm -rf /run/served
+    mkdir -p /run/served || return 1
+    echo hello > /run/served/greeting
+    cat > "$work/ganesha.conf" <<'END'
+NFS_CORE_PARAM { Protocols = 3; Enable_NLM = false; Enable_RQUOTA = false; }
+NFSv4 { Graceless = true; RecoveryBackend = fs; }
+EXPORT {
+    Export_Id = 1; Path = /run/served; Pseudo = /run/served; Access_Type = RW; Squash = No_Root_Squash; SecType = sys;
+    Protocols = 3; Transports = UDP, TCP; FSAL { Name = VFS; }
+}
+END
+}
+
+# A whole mount of NFS version 3 in user space: each port is looked up.
+ask_ganesha() {
+    local place=nfs://127.0.0.1/run/served
+    command -v showmount > /dev/null && wants "showmount -e" '/run/served' showmount -e 127.0.0.1
+    command -v nfs-ls > /dev/null || { skip "nfs-ls is not installed (package libnfs-utils)"; return; }
+    wants "nfs-ls" 'greeting' nfs-ls "$place?version=3"
+    wants "nfs-cat" 'hello' nfs-cat "$place/greeting?version=3"
+    wants "nfs-cp" 'copied' nfs-cp "$here/crates.txt" "$place/copy?version=3"
+    cmp -s "$here/crates.txt" /run/served/copy
+    judge $? "what was copied is the same"
+}
+
+run_ganesha() {
+    [ -x "$rpcinfo" ] || return
+    command -v ganesha.nfsd > /dev/null || { skip "nfs-ganesha is not installed"; return; }
+    write_ganesha || { skip "no folder for nfs-ganesha"; return; }
+    run_service nfs-ganesha 100003 "udp tcp udp6 tcp6" ask_ganesha \
+        ganesha.nfsd -F -f "$work/ganesha.conf" -L "$work/ganesha.log" -p /run/ganesha/ganesha.pid
+    await no 100005
+    judge $? "mountd of nfs-ganesha is registered no more at its end"
+}
+
+# All clients and services, with /etc/netconfig as it stands.
+run_all() {
+    echo "== $1"
+    start_daemon "$work/daemon" --local /run/rpcbind.sock --loopback6 || exit 1
+    cat "$work/daemon"
+    run_rpcinfo
+    dump_over_loopback6
+    judge $? "a DUMP of version 4 over TCP [::1]"
+    run_libtirpc
+    run_services
+    run_ganesha
+    kill -0 "$daemon" 2> /dev/null
+    judge $? "the daemon serves on"
+    kill "$daemon"
+    wait "$daemon" 2> /dev/null
+    daemon=
+}
+
+prepare
+run_all "/etc/netconfig as it is"
+if [ -e /etc/netconfig ]; then
+    # The file of the local socket was left behind: the next start mends it.
+    mount --bind "$work/netconfig" /etc/netconfig && run_all "/etc/netconfig with IPv4 alone"
+fi
 echo "$passed passed, $failed failed, $skipped skipped"
 [ "$failed" -eq 0 ]

@@ -212,19 +212,90 @@ run_three_turns() {
     judge $? "three turns of the daemon"
 }
 
+# It says so of each address, of [::1] and of the local socket, whose file has the mode that is given. The second start
+# finds the file of the first, which nobody listens on any more.
+run_all_listeners() {
+    local local_socket=$work/local.sock bad=0
+    printf 'rpcbind: listening on %s\n' '127.0.0.1 port 20112' '127.0.0.2 port 20112' '::1 port 20112' "$local_socket" \
+        > "$work/wanted"
+    for _ in 1 2; do
+        run /dev/null serve --port 20112 --bind 127.0.0.1 --bind 127.0.0.2 --loopback6 --local "$local_socket" \
+            --local-mode 620 --turns 1
+        as_wanted "$work/wanted" /dev/null 0 || bad=1
+    done
+    [ "$(stat -c %a "$local_socket")" = 620 ] || bad=1
+    judge $bad "a daemon on all listeners, twice"
+}
+
+# A file that is no socket stays.
+run_file_in_the_way() {
+    local file=$work/in-the-way
+    echo kept > "$file"
+    printf 'rpcbind: %s\n' "bind $file: the file is no socket, and stays" 'socket failed' > "$work/wanted"
+    run /dev/null serve --port 20112 --turns 1 --local "$file"
+    as_wanted /dev/null "$work/wanted" 1 && [ "$(cat "$file")" = kept ]
+    judge $? "a file in the way of the local socket"
+}
+
+# Which limit is out of its range, and what is wanted.
 run_daemon_with_bad_limits() {
-    echo 'rpcbind: bad limits' > "$work/wanted"
-    run /dev/null serve --port 20112 --turns 1 --conns 0
-    as_wanted /dev/null "$work/wanted" 1
-    judge $? "a daemon with limits out of their ranges"
+    local option value wanted
+    while read -r option value wanted; do
+        printf 'rpcbind: %s\n' "--$option $value: $wanted is wanted" 'bad limits' > "$work/wanted"
+        run /dev/null serve --port 20112 --turns 1 "--$option" "$value"
+        as_wanted /dev/null "$work/wanted" 1
+        judge $? "a daemon with --$option $value"
+    done << 'END'
+conns 0 1 to 256
+rows 4097 8 to 4096
+forwards 65 0 to 64
+END
 }
 
 # 192.0.2.1 is no address of this machine.
 run_daemon_elsewhere() {
-    echo 'rpcbind: socket failed' > "$work/wanted"
+    printf 'rpcbind: %s\n' 'bind TCP 192.0.2.1:20112: Cannot assign requested address (os error 99)' 'socket failed' \
+        > "$work/wanted"
     run /dev/null serve --bind 192.0.2.1 --port 20112 --turns 1
     as_wanted /dev/null "$work/wanted" 1
     judge $? "a daemon at an address that is not there"
+}
+
+# Clients from elsewhere can make nothing of 0.0.0.0.
+run_daemon_without_announce() {
+    echo 'rpcbind: listening on 0.0.0.0 port 20112' > "$work/wanted"
+    echo 'rpcbind: no --announce: clients from elsewhere will be told 0.0.0.0' > "$work/wanted-stderr"
+    run /dev/null serve --bind 0.0.0.0 --port 20112 --turns 1
+    as_wanted "$work/wanted" "$work/wanted-stderr" 0
+    judge $? "a daemon at 0.0.0.0 that announces nothing else"
+}
+
+# Words of `serve` that can't be read: the value, the option, and what is wanted.
+run_bad_words_of_serve() {
+    local option value wanted
+    while IFS=: read -r option value wanted; do
+        echo "error: invalid value '$value' for '--$option': $wanted is wanted" > "$work/wanted"
+        run /dev/null serve "--$option" "$value"
+        as_wanted /dev/null "$work/wanted" 2
+        judge $? "--$option '$value' can't be read"
+    done << 'END'
+local-mode:8:a mode from 0 to 777 in octal digits
+local-mode:1000:a mode from 0 to 777 in octal digits
+local-mode:+6:a mode from 0 to 777 in octal digits
+bind:localhost:an IPv4 address as 192.0.2.1
+END
+    echo "error: invalid value '::' for '--bind': an IPv4 address as 192.0.2.1 is wanted" > "$work/wanted"
+    run /dev/null serve --bind 127.0.0.1 --bind ::
+    as_wanted /dev/null "$work/wanted" 2
+    judge $? "--bind '::' can't be read"
+}
+
+# Both programs are of one version, the newest of CHANGELOG that has a number.
+check_version() {
+    local version
+    version=$(grep -m 1 -oE '^[0-9]+\.[0-9]+\.[0-9]+$' CHANGELOG)
+    [ "$("$program" --version)" = "rpcbind $version" ] && [ "$("$rpcinfo" --version)" = "rpcinfo $version" ]
+    judge $? "the version of both programs"
 }
 
 # Help is printed with status 0, and names each of these options.
@@ -326,6 +397,12 @@ run_rpcinfo_of_nobody() {
     run_rpcinfo /dev/null --port 20199 -p
     as_wanted /dev/null "$work/wanted" 1
     judge $? "rpcinfo where nobody listens"
+    run_rpcinfo /dev/null -n 20199 -u 127.0.0.1 100000 4
+    as_wanted /dev/null "$work/wanted" 1
+    judge $? "rpcinfo by a datagram where nobody listens"
+    run_rpcinfo /dev/null --local "$work/nobody" --port 20199 -p
+    as_wanted /dev/null "$work/wanted" 1
+    judge $? "rpcinfo where nobody listens on a socket either"
 }
 
 # Status 0 says that the output was written out.
@@ -366,6 +443,19 @@ check_proofs_by_hand() {
     judge $? "proofs by hand other than those of the meter's token"
 }
 
+# Each name that the documents give is one of the repository's.
+check_names() {
+    tests/check-names.py > "$work/names"
+    judge $? "names that documents give and that stand nowhere: $(grep -c 'there is no' "$work/names")"
+    grep 'there is no' "$work/names"
+}
+
+# tests/row.py makes events from words: those of the example as they stand.
+check_words() {
+    tests/row.py < examples/first.words > "$work/events" && same examples/first.events "$work/events" "events of words"
+    judge $? "examples/first.words are not the events of examples/first.events"
+}
+
 # README.md names every crate.
 check_crates_are_named() {
     local line name unnamed=
@@ -388,10 +478,14 @@ if [ -x "$program" ]; then
     run_input_that_cannot_be_read
     run_with_little_memory
     run_three_turns
+    run_all_listeners
+    run_file_in_the_way
     run_daemon_with_bad_limits
     run_daemon_elsewhere
+    run_daemon_without_announce
+    run_bad_words_of_serve
     run_help_of '' help version
-    run_help_of serve bind announce port conns rows forwards turns help version
+    run_help_of serve bind announce local local-mode loopback6 port conns rows forwards turns help version
     run_help_of replay announce port conns rows forwards xid now help version
     run_version_of '' rpcbind
     run_version_of serve rpcbind-serve
@@ -410,8 +504,11 @@ if [ -x "$rpcinfo" ]; then
 else
     judge 1 "no program $rpcinfo: run 'make' first"
 fi
+check_version
 check_proofs_by_hand
 check_crates_are_named
+check_names
+check_words
 
 echo "$passed passed, $failed failed"
 [ "$failed" -eq 0 ]

@@ -1,5 +1,5 @@
-/* Registers a program on udp with a stock libtirpc, looks it up, unregisters it, and looks again. Each line says what
-   was wanted and what came; the status is 0 where each came as wanted. */
+/* Registers a program with a stock libtirpc on each netid that /etc/netconfig has, looks it up, unregisters it, and looks
+   again. Each line says what was wanted and what came; the status is 0 where each came as wanted. */
 #include <arpa/inet.h>
 #include <netconfig.h>
 #include <netinet/in.h>
@@ -36,6 +36,17 @@ static void over_version_2(void)
     wants("version 2: is not found any more", port_of(IPPROTO_UDP) == 0);
 }
 
+/* Whether the list of all rows has one of the program on this netid. */
+static int is_listed(const char *netid)
+{
+    struct netconfig *tcp = getnetconfigent("tcp");
+    rpcblist *row = tcp == NULL ? NULL : rpcb_getmaps(tcp, "127.0.0.1");
+    for (; row != NULL; row = row->rpcb_next)
+        if (row->rpcb_map.r_prog == PROGRAM && strcmp(row->rpcb_map.r_netid, netid) == 0)
+            return 1;
+    return 0;
+}
+
 static void over_version_4(const char *netid)
 {
     struct netconfig *transport = getnetconfigent(netid);
@@ -45,14 +56,35 @@ static void over_version_4(const char *netid)
         printf("version 4: no netid %s in /etc/netconfig, skipped\n", netid);
         return;
     }
+    printf("version 4 on %s\n", netid);
     there.sin_addr.s_addr = htonl(INADDR_LOOPBACK);
     wants("version 4: registers", rpcb_set(PROGRAM, VERSION, transport, &address));
     memset(&found, 0, sizeof found);
     wants("version 4: is found", rpcb_getaddr(PROGRAM, VERSION, transport, &answer, "127.0.0.1")
         && found.sin_port == htons(PORT) && found.sin_addr.s_addr == htonl(INADDR_LOOPBACK));
+    wants("version 4: is listed", is_listed(netid));
     wants("version 4: unregisters", rpcb_unset(PROGRAM, VERSION, transport));
     wants("version 4: is not found any more",
         !rpcb_getaddr(PROGRAM, VERSION, transport, &answer, "127.0.0.1"));
+    freenetconfigent(transport);
+}
+
+/* Rows of IPv6 are listed; look-ups go by tcp and udp. */
+static void over_version_4_with_ipv6(const char *netid)
+{
+    struct netconfig *transport = getnetconfigent(netid);
+    struct sockaddr_in6 there = {.sin6_family = AF_INET6, .sin6_port = htons(PORT), .sin6_addr = IN6ADDR_LOOPBACK_INIT};
+    struct netbuf address = {sizeof there, sizeof there, &there};
+    if (transport == NULL) {
+        printf("version 4: no netid %s in /etc/netconfig, skipped\n", netid);
+        return;
+    }
+    printf("version 4 on %s\n", netid);
+    wants("version 4: registers", rpcb_set(PROGRAM, VERSION, transport, &address));
+    wants("version 4: refuses it again", !rpcb_set(PROGRAM, VERSION, transport, &address));
+    wants("version 4: is listed", is_listed(netid));
+    wants("version 4: unregisters", rpcb_unset(PROGRAM, VERSION, transport));
+    wants("version 4: is not listed any more", !is_listed(netid));
     freenetconfigent(transport);
 }
 
@@ -61,5 +93,7 @@ int main(void)
     over_version_2();
     over_version_4("udp");
     over_version_4("tcp");
+    over_version_4_with_ipv6("udp6");
+    over_version_4_with_ipv6("tcp6");
     return failures != 0;
 }

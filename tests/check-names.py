@@ -1,0 +1,174 @@
+#!/usr/bin/env python3
+"""Resolves the names that documents give: files, definitions, functions, rows, edits and tests.
+
+In docs/RULES.md a name has to stand where its column says, in the crate of its table or in the one that is named with
+it. In the other documents a name in backquotes that looks like one of this repository (it has an underscore, a `::`, a
+slash, a capital letter inside, or ends as a file) has to be one of it, or stand in tests/names-of-others. Prints a line
+for each name that is nowhere; the last line is 'N passed, N failed', and the status 1 where one failed.
+"""
+import re
+import sys
+from collections import defaultdict
+from pathlib import Path
+
+ROOT = Path(__file__).resolve().parent.parent
+CRATES = sorted(p.name for p in (ROOT / "crates").iterdir() if (p / "src").is_dir())
+DOCUMENTS = [ROOT / "README.md", *sorted((ROOT / "docs").glob("*.md")), *sorted(ROOT.glob("crates/*/README.md"))]
+OTHERS = set((ROOT / "tests" / "names-of-others").read_text().split())
+
+TICKED = re.compile(r"`([^`\n]+)`(?: \(([^)`]*)\))?(?: of `?(rb_\w+|rpcinfo|rpcbind)`?)?")
+IDENTIFIER = r"[A-Za-z_][\w]*"
+
+
+class Crate:
+    """What one crate defines."""
+
+    def __init__(self, name):
+        folder = ROOT / "crates" / name
+        self.definitions = {f.stem: spec_names(f.read_text()) for f in folder.glob("specs/**/*.antt")}
+        self.functions = set()
+        for file in folder.glob("src/**/*.rt"):
+            self.functions |= source_names(file.read_text())
+            self.functions |= {f"{file.stem}::{n}" for n in source_names(file.read_text())}
+        self.edits = {f.stem for f in folder.glob("must-fail/*.edit")}
+
+
+def spec_names(text):
+    """Names of definitions and of fields of one file of specs."""
+    names = set()
+    for line in text.splitlines():
+        if line.startswith("use "):
+            continue
+        if found := re.match(r"(?:[a-z]+ )*pub (?:record |data )?([^\s:({]+)", line):
+            names.add(found[1])
+        names |= set(re.findall(r"^\s+(?:pub )?([^\W\d]\w*)(?: [^\W\d]\w*)* :(?!:)", line))
+    return names
+
+
+def source_names(text):
+    """Names that one source file defines; what an impl or a trait has is also `Type::name`."""
+    names, owner = set(), None
+    for line in text.splitlines():
+        if found := re.match(rf"(?:pub(?:\([a-z]+\))? )?(?:unsafe )?(?:impl|trait)\b(.*)\{{?", line):
+            words = re.sub(r"^\s*<[^>]*>+", "", found[1])
+            words = words.split(" for ")[-1]
+            owner = re.match(rf"\s*(?:\w+::)*({IDENTIFIER})", words)
+            owner = owner[1] if owner else None
+        elif line.startswith("}"):
+            owner = None
+        if found := re.search(rf"\b(?:fn|struct|enum|trait|type|const|static|mod|macro_rules!) ({IDENTIFIER})", line):
+            names.add(found[1])
+            if owner:
+                names.add(f"{owner}::{found[1]}")
+        if found := re.match(rf"\s+(?:pub(?:\([a-z]+\))? )?({IDENTIFIER})(?::|,|\(|\s*\{{|$)", line):
+            names.add(found[1])
+        names |= set(re.findall(rf"\b(?:ensures|requires|invariant) ({IDENTIFIER})", line))
+        if found := re.match(r"(?:pub )?enum (\w+)", line) or re.match(r"(?:pub )?struct (\w+)", line):
+            owner = found[1]
+        elif owner and (found := re.match(rf"    (?:pub )?({IDENTIFIER})[,({{:]", line)):
+            names |= {f"{owner}::{found[1]}", f"{owner}.{found[1]}"}
+    return names
+
+
+CRATE = {name: Crate(name) for name in CRATES}
+ROWS = {f.stem for f in ROOT.glob("tests/rows*/*.*")} | set(
+    re.findall(r"[a-z]\w+", (ROOT / "tests" / "run-rows.sh").read_text()))
+TESTS = {n for c in CRATES for n in CRATE[c].functions}
+ALL_FUNCTIONS = {n for c in CRATES for n in CRATE[c].functions}
+ALL_DEFINITIONS = defaultdict(set)
+for crate in CRATES:
+    for file, names in CRATE[crate].definitions.items():
+        ALL_DEFINITIONS[file] |= names
+ALL_NAMES = ROWS | ALL_FUNCTIONS | {n for c in CRATES for n in CRATE[c].edits} | set(CRATES)
+for file, names in ALL_DEFINITIONS.items():
+    ALL_NAMES |= names | {file} | {f"{file}.{n}" for n in names}
+FILES = {str(p.relative_to(ROOT)) for p in ROOT.rglob("*") if ".git" not in p.parts and "out" not in p.parts}
+
+
+def is_file(name):
+    """A path below the top, below crates/, or the end of one."""
+    name = name.rstrip("/")
+    pattern = re.compile(re.escape(name).replace(r"\*", "[^/]*") + "$")
+    return any(pattern.fullmatch(f) or pattern.fullmatch(f.removeprefix("crates/")) or f.endswith("/" + name)
+               for f in FILES)
+
+
+def in_definitions(name, crates):
+    file, _, definition = name.partition(".")
+    return any(definition in CRATE[c].definitions.get(file, ()) for c in crates)
+
+
+def in_column(column, name, crates):
+    if column in ("definition", "stated in"):
+        return in_definitions(name, crates)
+    if column in ("function", "proved by"):
+        return any(name in CRATE[c].functions for c in crates)
+    if column == "edit":
+        return any(name in CRATE[c].edits for c in crates)
+    return name in ROWS or name in TESTS or is_file(name)
+
+
+def check_rules(text):
+    """The tables of docs/RULES.md: (line, name, whether it resolves)."""
+    crates, columns = CRATES, None
+    for number, line in enumerate(text.splitlines(), 1):
+        if line.startswith("## "):
+            crates = re.findall(r"\b(?:rb_\w+|rpcbind|rpcinfo)\b", line) or CRATES
+            columns = None
+        elif line.startswith("| rule "):
+            columns = [c.strip() for c in line.strip("|").split("|")]
+        elif line.startswith("| ") and columns:
+            for column, cell in zip(columns[1:], line.strip("|").split(" | ")[1:]):
+                named = None
+                for found in TICKED.finditer(cell):
+                    name = found[1]
+                    if name in CRATES:
+                        named = name
+                        continue
+                    where = [c for c in (found[2] or "").split() if c in CRATES]
+                    owner = [found[3]] if found[3] else where or ([named] if named else crates)
+                    yield number, name, in_column(column.strip(), name, owner)
+
+
+def looks_like_ours(name):
+    if re.search(r"[\s=<>{}\[\]|$@,]|NAME|/?out/|\.\.$|^\.\.", name) or name.startswith(("-", "/", "~", "$", "::")):
+        return False
+    return bool(re.search(r"_|::|/|[a-z][A-Z]", name) or re.search(r"\.(rt|antt|md|sh|py|edit|events|txt)$", name)
+                or re.fullmatch(r"[A-Z]\w*\.\w+", name))
+
+
+def check_document(text):
+    """Every other document: (line, name, whether it resolves)."""
+    fenced = False
+    for number, line in enumerate(text.splitlines(), 1):
+        if line.startswith("```"):
+            fenced = not fenced
+        if fenced or line.startswith("    "):
+            continue
+        for name in re.findall(r"`([^`]+)`", line):
+            name = name.removesuffix("()")
+            if looks_like_ours(name) and name not in OTHERS:
+                bare = name.lstrip(".")
+                yield number, name, bare in ALL_NAMES or is_file(bare) or last_of(bare) in ALL_NAMES
+
+
+def last_of(name):
+    """`Type::name` of a name with crates and modules in front."""
+    return "::".join(name.split("::")[-2:])
+
+
+def main():
+    passed = failed = 0
+    for document in DOCUMENTS:
+        text = document.read_text()
+        check = check_rules if document.name == "RULES.md" else check_document
+        for line, name, holds in check(text):
+            passed += holds
+            failed += not holds
+            if not holds:
+                print(f"{document.relative_to(ROOT)}:{line}: there is no `{name}`")
+    print(f"{passed} passed, {failed} failed")
+    return 1 if failed else 0
+
+
+sys.exit(main())

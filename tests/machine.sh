@@ -1,0 +1,69 @@
+# Sourced by the scripts behind `make run`, `make` and `make test`: the kit that they want, what of this machine they
+# may use, and how long they take.
+
+# What the repository was proved with, by `rt version`. The sum is that of the logic: kits of one sum prove the same.
+kit_name=rattle-kit-13f
+kit_logic=dac8208d650f15bf
+
+# Says which kit is wanted and which is here. Another logic is only warned of. The status is 1 where there is no `rt`.
+say_kit() {
+    local found logic
+    if ! found=$(rt version 2> /dev/null); then
+        echo "no rt on the PATH: unpack a kit of the Rattle toolchain (wanted: $kit_name, or another with logic" \
+            "$kit_logic), and put its bin/ on the PATH" >&2
+        return 1
+    fi
+    logic=${found##*logic }
+    echo "kit: $found, from $(dirname "$(readlink -f "$(command -v rt)")")"
+    if [ "$logic" = "$kit_logic" ]; then
+        echo "     wanted is logic $kit_logic, under whatever name of the kit: this is it"
+    else
+        echo "     warning: this was proved with $kit_name, logic $kit_logic; with another logic a proof may fail" >&2
+    fi
+}
+
+# The processors that this process may use: those that it may run on, or fewer by the quota of its control group.
+count_cores() {
+    local cores quota period
+    cores=$(nproc)
+    if { read -r quota period < /sys/fs/cgroup/cpu.max; } 2> /dev/null && [ "$quota" != max ]; then
+        [ "$((quota / period))" -ge "$cores" ] || cores=$((quota / period))
+        [ "$cores" -gt 0 ] || cores=1
+    fi
+    echo "$cores"
+}
+
+# The memory in MiB that is free here, under the limit of the control group too.
+count_memory() {
+    local free limit held
+    free=$(awk '$1 == "MemAvailable:" { print int($2 / 1024) }' /proc/meminfo)
+    if { read -r limit < /sys/fs/cgroup/memory.max; } 2> /dev/null && [ "$limit" != max ]; then
+        held=$(awk '$1 == "anon" { print $2 }' /sys/fs/cgroup/memory.stat)
+        limit=$(((limit - held) / 1048576))
+        [ "$limit" -ge "$free" ] || free=$limit
+    fi
+    echo "$free"
+}
+
+# The crates of crates.txt, one a line.
+list_crates() {
+    sed -nE 's/^([a-z0-9_]+)([: ].*)?$/\1/p' crates.txt
+}
+
+# A number of seconds, as '3 min 20 s'.
+in_minutes() {
+    if [ "$1" -ge 60 ]; then
+        echo "$(($1 / 60)) min $(($1 % 60)) s"
+    else
+        echo "$1 s"
+    fi
+}
+
+# About how many minutes `make` takes from nothing on so many processors, and `make test`.
+minutes_of_make() {
+    echo $((12 + 60 / $1))
+}
+
+minutes_of_test() {
+    echo $((20 + 220 / $1))
+}

@@ -1,0 +1,283 @@
+#!/usr/bin/env bash
+# Proves each crate of crates.txt and builds the programs, as many crates side by side as processors and memory allow.
+#
+# A crate begins as soon as those that it stands on are proved, the one with the longest chain of others above it first.
+# Crates that begin at one time share the free processors by their lines of code, up to four each; one that a longer chain
+# is still to begin beside gets one.
+#
+# `rt` lets one command at a time work in a crate's folder or in one below it. So each crate is proved in a room
+# of its own: a folder with links to its files and to the libraries below it, which has its out/ meanwhile. The crates'
+# own folders are locked for so long, as `rt` locks them.
+#
+# Where a crate fails, its output is shown and those above it are not tried. The status is 1 where one failed.
+set -u
+cd "$(dirname "$0")/.." || exit 1
+. tests/machine.sh
+
+# The rooms are on the disk of the crates, as such links lead to no other, and where `rt ci` seeks no crates.
+if [ -d .git ]; then rooms=$PWD/.git/proving; else rooms=$PWD/out/proving; fi
+memory_of_one=3000 # in MiB
+
+names=()         # the crates
+declare -A uses  # of each crate those of ours that it stands on, as crates.txt has them
+declare -A lines # its lines of code
+declare -A chain # its lines and those of the longest chain of crates above it
+declare -A state # waiting, running, proved, failed or skipped
+declare -A jobs  # how many processors a running crate was given
+declare -A since # when it began
+declare -A pids  # its process
+
+# ---- crates
+
+read_crates() {
+    local name word
+    mapfile -t names < <(list_crates)
+    for name in "${names[@]}"; do
+        state[$name]=waiting
+    done
+    for name in "${names[@]}"; do
+        uses[$name]=
+        for word in $(sed -nE "s/^$name( [^:]*)?:([^#]*).*/\2/p" crates.txt); do
+            [ -z "${state[$word]:-}" ] || uses[$name]+=" $word"
+        done
+    done
+}
+
+# Follows the crates upwards until no chain grows any more.
+measure_chains() {
+    local name below least grows=1
+    for name in "${names[@]}"; do
+        lines[$name]=$(find "crates/$name/src" -name '*.rt' -exec cat {} + | wc -l)
+        chain[$name]=${lines[$name]}
+    done
+    while [ "$grows" = 1 ]; do
+        grows=0
+        for name in "${names[@]}"; do
+            for below in ${uses[$name]}; do
+                least=$((lines[$below] + chain[$name]))
+                [ "${chain[$below]}" -ge "$least" ] || { chain[$below]=$least; grows=1; }
+            done
+        done
+    done
+}
+
+# All crates of ours below a crate, one a line.
+list_below() {
+    local below
+    for below in ${uses[$1]}; do
+        echo "$below"
+        list_below "$below"
+    done | sort -u
+}
+
+# Those that wait for nothing but a processor, the longest chain first.
+list_ready() {
+    local name below
+    for name in "${names[@]}"; do
+        [ "${state[$name]}" = waiting ] || continue
+        for below in ${uses[$name]}; do
+            [ "${state[$below]}" = proved ] || continue 2
+        done
+        echo "${chain[$name]} $name"
+    done | sort -rn | cut -d ' ' -f 2
+}
+
+# ---- one proof
+
+# Waits for any `rt` that works in a crate, and keeps others out until this script ends.
+lock_crates() {
+    local name folder
+    command -v flock > /dev/null || return 0
+    for name in "${names[@]}"; do
+        exec {folder}< "crates/$name" || return 1
+        flock -n "$folder" && continue
+        echo "waiting for another rt to finish in crates/$name"
+        flock "$folder"
+    done
+}
+
+link_folder() {
+    [ -d "$1" ] || return 0
+    mkdir -p "$2" && { cp -al "$1" "$2" 2> /dev/null || cp -a "$1" "$2"; }
+}
+
+# Makes the room of a crate, whose crates.txt lists it and those below it alone.
+furnish() {
+    local name=$1 room=$rooms/$1 crate part
+    mkdir -p "$room/crates/$name" || return 1
+    for crate in $(list_below "$name") "$name"; do
+        grep -E "^$crate([: ]|\$)" crates.txt >> "$room/crates.txt" || return 1
+        for part in src specs proofs; do
+            link_folder "crates/$crate/$part" "$room/crates/$crate" || return 1
+        done
+        [ "$crate" = "$name" ] || link_folder "crates/$crate/out/rlib" "$room/crates/$crate/out" || return 1
+    done
+    [ ! -d "crates/$name/out" ] || mv "crates/$name/out" "$room/crates/$name/out"
+}
+
+# Gives the crate its out/ back, with what was made there.
+put_back() {
+    local made=$rooms/$1/crates/$1/out
+    if [ -d "$made" ]; then
+        rm -rf "crates/$1/out"
+        mv "$made" "crates/$1/out"
+    fi
+    rm -rf "${rooms:?}/$1"
+}
+
+# Proves a crate, and says on `ended` how that ended. Its `rt` ends with it, and ends all that it started.
+prove() {
+    local name=$1 status words=(lib --jobs "$2") rt
+    trap '' INT HUP
+    trap 'kill "${rt:-}" 2> /dev/null; wait; exit 1' TERM
+    if [ -f "crates/$name/src/main.rt" ]; then
+        words=(run --jobs "$2" -- --version)
+    fi
+    furnish "$name" && cd "$rooms/$name/crates/$name" && {
+        rt "${words[@]}" < /dev/null &
+        rt=$!
+        wait "$rt"
+    }
+    status=$?
+    echo "$name $status" >&"$ended"
+}
+
+# ---- all of them
+
+say() {
+    local seconds
+    seconds=$(in_minutes "$SECONDS")
+    printf '%12s  %s\n' "$seconds" "$*"
+}
+
+# How many crates are in one of these states.
+count() {
+    local name found=0
+    for name in "${names[@]}"; do
+        [[ " $* " == *" ${state[$name]} "* ]] && found=$((found + 1))
+    done
+    echo "$found"
+}
+
+# The longest chain among the crates that wait for others: one that is ready and has a shorter chain can be late.
+longest_to_come() {
+    local name longest=0
+    for name in "${names[@]}"; do
+        [ "${state[$name]}" = waiting ] && [[ " $* " != *" $name "* ]] || continue
+        [ "${chain[$name]}" -le "$longest" ] || longest=${chain[$name]}
+    done
+    echo "$longest"
+}
+
+# Shares the free processors among the crates that are ready.
+start_ready() {
+    local ready name share longest all=0
+    mapfile -t ready < <(list_ready)
+    longest=$(longest_to_come "${ready[@]}")
+    for name in "${ready[@]}"; do
+        all=$((all + lines[$name]))
+    done
+    for name in "${ready[@]}"; do
+        [ "$free" -gt 0 ] || return 0
+        share=$(((free * lines[$name] + all / 2) / all))
+        [ "${chain[$name]}" -ge "$longest" ] || share=1
+        [ "$share" -gt 0 ] || share=1
+        [ "$share" -le 4 ] || share=4
+        prove "$name" "$share" > "$logs/$name" 2>&1 &
+        pids[$name]=$!
+        state[$name]=running
+        jobs[$name]=$share
+        since[$name]=$SECONDS
+        free=$((free - share))
+        all=$((all - lines[$name]))
+        say "$name begins, on $share of $slots"
+    done
+}
+
+# Those above a crate that failed are not tried.
+skip_above() {
+    local name
+    for name in "${names[@]}"; do
+        if [ "${state[$name]}" = waiting ] && list_below "$name" | grep -qx "$1"; then
+            state[$name]=skipped
+        fi
+    done
+}
+
+# Waits until a crate has ended, and takes over what came of it.
+await_one() {
+    local name status
+    read -r name status <&"$ended"
+    wait "${pids[$name]}"
+    unset "pids[$name]"
+    put_back "$name"
+    free=$((free + jobs[$name]))
+    if [ "$status" -eq 0 ]; then
+        state[$name]=proved
+        say "$name is proved, in $(in_minutes $((SECONDS - since[$name]))): $(count proved) of ${#names[@]} crates"
+        return
+    fi
+    state[$name]=failed
+    skip_above "$name"
+    say "$name FAILED, with status $status:"
+    sed "s|$rooms/$name/||g" "$logs/$name"
+}
+
+# However this ends, each `rt` ends, and the crates have their out/ again.
+clean_up() {
+    local name
+    trap '' INT TERM HUP
+    [ "${#pids[@]}" -eq 0 ] || kill "${pids[@]}" 2> /dev/null
+    wait
+    for name in "${names[@]}"; do
+        put_back "$name"
+    done
+    rm -rf "$rooms" "$logs"
+}
+
+tell_outcome() {
+    local name failed='' skipped=''
+    for name in "${names[@]}"; do
+        case ${state[$name]} in
+            failed) failed+=" $name" ;;
+            skipped) skipped+=" $name" ;;
+        esac
+    done
+    if [ -n "$failed" ]; then
+        echo "FAILED:$failed"
+        [ -z "$skipped" ] || echo "not tried, as they stand on those:$skipped"
+        return 1
+    fi
+    echo "${#names[@]} crates are proved, in $(in_minutes "$SECONDS"). The programs:"
+    for name in "${names[@]}"; do
+        [ ! -f "crates/$name/src/main.rt" ] || echo "  crates/$name/out/$name"
+    done
+}
+
+say_kit || exit 1
+cores=$(count_cores)
+slots=$(($(count_memory) / memory_of_one))
+[ "$slots" -gt 0 ] || slots=1
+[ "$slots" -lt "$cores" ] || slots=$cores
+free=$slots
+read_crates
+measure_chains
+lock_crates || exit 1
+logs=$(mktemp -d) || exit 1
+trap clean_up EXIT
+trap 'exit 1' INT TERM HUP
+for name in "${names[@]}"; do
+    # What a run that was killed outright left.
+    put_back "$name"
+done
+mkfifo "$logs/ended" && exec {ended}<> "$logs/ended" || exit 1
+
+SECONDS=0
+echo "make: ${#names[@]} crates on $slots of $cores cores ($memory_of_one MiB of free memory for each):" \
+    "from nothing about $(minutes_of_make "$slots") minutes"
+start_ready
+while [ "$(count running)" -gt 0 ]; do
+    await_one
+    start_ready
+done
+tell_outcome
