@@ -3,12 +3,14 @@
 
 In docs/RULES.md a name has to stand where its column says, in the crate of its table or in the one that is named with
 it. In the other documents a name in backquotes that looks like one of this repository (it has an underscore, a `::`, a
-slash, a capital letter inside, or ends as a file) has to be one of it, or stand in tests/names-of-others. Prints a line
-for each name that is nowhere; the last line is 'N passed, N failed', and the status 1 where one failed.
+slash, a capital letter inside, or ends as a file) has to be one of it, or stand in tests/names-of-others. In
+docs/CLAIMS.md a name behind 'By CRATE:' has to stand in that crate. Prints a line for each name that is nowhere; the
+last line is 'N passed, N failed', and the status 1 where one failed.
 """
 import re
 import sys
 from collections import defaultdict
+from itertools import chain
 from pathlib import Path
 
 ROOT = Path(__file__).resolve().parent.parent
@@ -152,6 +154,39 @@ def check_document(text):
                 yield number, name, bare in ALL_NAMES or is_file(bare) or last_of(bare) in ALL_NAMES
 
 
+def check_claims(text):
+    """The contracts of docs/CLAIMS.md, each in the crate that is named with it: (line, name, whether it resolves).
+
+    A definition that is named so may stand in any crate.
+    """
+    crate, defined = None, False
+    for number, line in enumerate(text.splitlines(), 1):
+        if re.match(r"  By ", line):
+            crate, defined = None, False
+        elif not line.startswith("  ") or line.startswith("- "):
+            crate = None
+            continue
+        elif crate is None:
+            continue
+        for found in re.finditer(r"\b(rb_\w+|rpcbind|rpcinfo):(?= |$)|\bdefinitions?\b|;|`([^`]+)`", line):
+            word, name = found[1], found[2]
+            if word:
+                crate = word
+            if not name:
+                defined = found[0].startswith("definition")
+            elif defined:
+                yield number, name, any(name in names for names in ALL_DEFINITIONS.values())
+            elif crate:
+                yield number, f"{name}` in `{crate}", stands_in(name, crate)
+
+
+def stands_in(name, crate):
+    """A function, a clause or a definition of the crate."""
+    definitions = set().union(*CRATE[crate].definitions.values()) if CRATE[crate].definitions else set()
+    functions = CRATE[crate].functions
+    return name in functions or last_of(name) in functions or name in definitions or name.split(".")[-1] in definitions
+
+
 def last_of(name):
     """`Type::name` of a name with crates and modules in front."""
     return "::".join(name.split("::")[-2:])
@@ -161,8 +196,10 @@ def main():
     passed = failed = 0
     for document in DOCUMENTS:
         text = document.read_text()
-        check = check_rules if document.name == "RULES.md" else check_document
-        for line, name, holds in check(text):
+        checks = [check_rules] if document.name == "RULES.md" else [check_document]
+        if document.name == "CLAIMS.md":
+            checks.append(check_claims)
+        for line, name, holds in chain.from_iterable(check(text) for check in checks):
             passed += holds
             failed += not holds
             if not holds:
