@@ -139,7 +139,13 @@ prove() {
         wait "$rt"
     }
     status=$?
+    times > "$logs/$name.times"
     echo "$name $status" >&"$ended"
+}
+
+# The processor seconds (user and system) of a crate that was proved: the second line of `times` has those of `rt`.
+processor_seconds() {
+    sed -n 2p "$logs/$1.times" | tr ms ' ' | awk '{ printf "%d", $1 * 60 + $2 + $3 * 60 + $4 + 0.5 }'
 }
 
 # ---- all of them
@@ -214,7 +220,8 @@ await_one() {
     free=$((free + jobs[$name]))
     if [ "$status" -eq 0 ]; then
         state[$name]=proved
-        say "$name is proved, in $(in_minutes $((SECONDS - since[$name]))): $(count proved) of ${#names[@]} crates"
+        say "$name is proved, in $(in_minutes $((SECONDS - since[$name]))) ($(processor_seconds "$name") processor" \
+            "seconds): $(count proved) of ${#names[@]} crates"
         return
     fi
     state[$name]=failed
