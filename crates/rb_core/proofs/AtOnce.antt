@@ -10,7 +10,6 @@ use Rattle.rb_rpc.specs.Records.{fragment_size, marked}
 use Rattle.rb_rpc.specs.declared.peer.Peer.{Peer}
 use Rattle.rb_rpc.specs.declared.peer.Caller.TheVariants.{Tcp}
 use Rattle.rb_proto.specs.declared.books.Books.{Books}
-use Rattle.rb_forward.specs.StandsFor.{Table as Entries}
 use Rattle.rb_core.specs.declared.replies.Served.{Served as CodeServed}
 use Rattle.rb_core.specs.declared.replies.Served.TheVariants.{Told, Listed}
 use Rattle.rb_core.specs.declared.types.Outcome.TheVariants as outcomes
@@ -28,13 +27,13 @@ use Rattle.rb_model.specs.Calls.Outcome.{NoCall, Reply, Forwarded, Silent}
 use Rattle.rb_model.specs.Connections.{longest_fragment, pending_of, owed_of, phase_after, settled, pending_in, phase_when_given, when_given, giving, is_lost, is_live, live_connection, change_first, changed_at, on_live, on_connection}
 use Rattle.rb_core.specs.StandsFor.{Source, StandsForPhase, StandsForConnection, StandsForConnections, Table, Held, StandsFor, source_of}
 use Rattle.rb_core.specs.Slots.{Acts, Shows, StaysTable, is_idle_stage, feeding, arguments_on}
-use Rattle.rb_core.specs.Awaits.{is_idle_slot, has_idle, StayUnlessForwarded}
+use Rattle.rb_core.specs.Awaits.{is_idle_slot, has_idle}
 use Rattle.rb_core.specs.Listings.{source_in}
 use Rattle.rb_model.specs.Losses.{evicting}
-use Rattle.rb_core.specs.Serving.{served_in, kind_in}
+use Rattle.rb_core.specs.Serving.{served_in}
 use Rattle.rb_core.specs.Core.{context_of, answering_heard}
 use Rattle.rb_model.specs.Step.{settled_in, serve_message, bytes, pending, pending_at, pending_on, gave, with_count}
-use Rattle.rb_core.specs.AtOnce.{pending_bytes, at_once_in, at_once_on, at_once, owes, whole_length, count_at_once, given_when_answered, front, without_front, then_giving, exchanging, answered_giving, IsLeft, whole_cost}
+use Rattle.rb_core.specs.AtOnce.{pending_bytes, at_once_in, at_once_on, at_once, owes, whole_length, count_at_once, given_when_answered, front, without_front, then_giving, exchanging, answered_giving, IsGivenAtOnce, whole_cost}
 use Rattle.rb_model.proofs.Cuts.{IsFeeding, find-changed, changed-twice}
 use Rattle.rb_model.proofs.Fragments.{length-short, length-long, some-marked}
 use Rattle.rb_core.proofs.Steps.{Served, serve_gives, serve_stands, serve_connections, crowd_in, change_alike, change_nothing, RecordEnded, ended_by, taken_of}
@@ -59,8 +58,7 @@ idle_lives source id slot c stands idle =
     by_stage stages.Idle Awaiting e z = refl
     by_stage stages.Idle Lost e z = absurd z
     by_stage (stages.Reading reader) phase e z = absurd cc
-    by_stage (stages.Owing given) phase e z = absurd cc
-    by_stage (stages.Streaming stream) phase e z = absurd cc
+    by_stage (stages.Giving giving) phase e z = absurd cc
     by_stage stages.Awaiting phase e z = absurd cc
     by_stage stages.Lost phase e z = absurd cc
 
@@ -114,24 +112,26 @@ whole_leaves clock c reply given some is =
     cond-false _ _ _ (nonzero (length given) some)
     ∙ ap (λ (p : Phase). record c { phase = p; mark = clock }) (idle_then (length given) reply (omega (arith, ap (λ (xs : List ℕ). length xs) is)))
 
-pub leaves : (source : Source) (served left : CodeServed) (before after : Kept) (given : List ℕ) → IsLeft served left before after given → Leaves (served_in source served before.bytes) (served_in source left after.bytes) given
-leaves source served left before after given is = record {
-  all = all_left;
-  closes = elim (none_or_some given) [ inl none ↦ ap is_no_call (all_left none) | inr some ↦ rw (is.is_reply some, is.is_over some) refl ];
-  lives = λ some. rw (is.is_reply some) refl;
-  shows = λ some. rw (is.is_reply some) (all_pending before.bytes (is.whole some).few ∙ sym (is.whole some).is_marked);
-  later = λ some clock c. rw (is.is_reply some, is.is_over some) (whole_leaves clock c before.bytes given some (is.whole some).is_marked);
+-- Nothing is left of a reply that is given whole,
+pub leaves_none : (source : Source) (served : CodeServed) (before after : Kept) (given : List ℕ) → 0 < length given → IsGivenAtOnce served before after given
+    → Leaves (served_in source served before.bytes) Silent given
+leaves_none source served before after given some is = record {
+  all = λ none. absurd (omega (arith, some, ap (λ (xs : List ℕ). length xs) none));
+  closes = rw is.is_reply refl;
+  lives = λ more. rw is.is_reply refl;
+  shows = λ more. rw is.is_reply (all_pending before.bytes is.whole.few ∙ sym is.whole.is_marked);
+  later = λ more clock c. rw is.is_reply (whole_leaves clock c before.bytes given some is.whole.is_marked);
 }
-  where
-    all_left : given ≡ [] → served_in source left after.bytes ≡ served_in source served before.bytes
-    all_left none = let same = is.all none in rw (same.0, same.1) refl
 
--- No entry is new where none was.
-pub quiet_left : (old new : Entries) (served left : CodeServed) (before after : Kept) (given : List ℕ) → IsLeft served left before after given → StayUnlessForwarded (kind_in served) old new → StayUnlessForwarded (kind_in left) old new
-quiet_left old new served left before after given is quiet = elim (none_or_some given) [
-  | inl none ↦ subst (λ (x : CodeServed). StayUnlessForwarded (kind_in x) old new) (sym (is.all none).0) quiet
-  | inr some ↦ subst (λ (x : CodeServed). StayUnlessForwarded (kind_in x) old new) (sym (is.is_over some)) (subst (λ (x : CodeServed). StayUnlessForwarded (kind_in x) old new) (is.is_reply some) quiet)
-]
+-- and all of an answer where no byte is given.
+pub leaves_all : (given : Outcome) → Leaves given given []
+leaves_all given = record {
+  all = λ none. refl;
+  closes = refl;
+  lives = λ some. absurd (omega (arith, some));
+  shows = λ some. absurd (omega (arith, some));
+  later = λ some clock c. absurd (omega (arith, some));
+}
 
 module _ (id : ℕ) (given left : Outcome) (bytes : List ℕ) (is : Leaves given left bytes) where
   feeding_on : (clock : ℕ) → 0 < length bytes → IsFeeding id (settled clock given)
@@ -173,7 +173,7 @@ marked_fits room reply = elim (cases_lt fragment_size (length reply)) [
 ]
 
 -- what is given at once of an outcome
-abbrev count_of : ℕ → Outcome → ℕ
+abbrev pub count_of : ℕ → Outcome → ℕ
 count_of room given = cond (is_no_call given) 0 (at_once_in room (phase_after given))
 
 pub counts_served : (room : ℕ) (source : Source) (served : CodeServed) (reply : List ℕ) → count_at_once room served reply ≡ count_of room (served_in source served reply)

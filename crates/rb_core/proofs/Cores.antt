@@ -8,7 +8,7 @@ use Rattle.rb_model.specs.Calls.{longest_reply}
 use Rattle.rb_core.specs.StandsFor.{Table}
 use Rattle.rb_core.specs.Slots.{StaysTable, IsDraft}
 use Rattle.rb_core.specs.Awaits.{AreAwaited}
-use Rattle.rb_core.specs.Listings.{AreTold, KeepsTold, source_in}
+use Rattle.rb_core.specs.Listings.{AreTold, source_in}
 use Rattle.rb_core.specs.Core.{IsCore}
 
 pub stays_twice : (a b c : Table) → StaysTable a b → StaysTable b c → StaysTable a c
@@ -51,10 +51,11 @@ core_changed setting old new books left reply written draft after arguments hear
 
 -- with other connections, draft and arguments
 pub core_moved : (setting : Setting) (old new : Table) (books : Books) (reply draft after arguments heard : Kept) (len : ℕ)
-    → IsCore setting old books reply draft arguments len → StaysTable old new → AreAwaited books.forwards new → KeepsTold old new
+    → IsCore setting old books reply draft arguments len → StaysTable old new → AreAwaited books.forwards new
+    → (AreTold (source_in setting.listener.host books) old → AreTold (source_in setting.listener.host books) new)
     → IsDraft reply.tie after → after.bytes ≡ [] → IsDraft reply.tie heard
     → IsCore setting new books reply after heard len
 core_moved setting old new books reply draft after arguments heard len h stays awaited told =
     core_changed setting old new books books reply reply draft after arguments heard len len h stays
     (record { limit = refl; cap = refl; first_xid = refl; registry = refl; stats = refl; forwards = refl }) refl refl h.len h.short
-    awaited (told (source_in setting.listener.host books) h.told)
+    awaited (told h.told)

@@ -26,7 +26,10 @@ use Rattle.rb_model.specs.declared.message.Message.TheVariants as says
 use Rattle.rb_model.specs.State.{Phase, Connection, Connections}
 use Rattle.rb_model.specs.State.Phase.{Idle, Reading, Owing, Awaiting, Lost}
 use Rattle.rb_model.specs.Losses.{began_in, begins, is_kept_for, removals_by, kept_removals}
-use Rattle.rb_core.specs.StandsFor.{Source, Table, StandsForPhase, StandsForConnection, StandsForConnections, source_for}
+use Rattle.rb_core.specs.declared.giving.Rest.{Rest}
+use Rattle.rb_core.specs.declared.giving.Rest.TheVariants as rests
+use Rattle.rb_core.specs.Giving.{CanTell}
+use Rattle.rb_core.specs.StandsFor.{rest_in, stamp_in, Source, Table, StandsForPhase, StandsForConnection, StandsForConnections, source_for}
 use Rattle.rb_core.specs.Listings.{HasRoom, began_stage, slot_began, IsToldStage, IsToldSlot, AreTold, stamps_of, IsOldest, IsEarliest}
 use Rattle.rb_core.proofs.Evicting.{began_alike}
 
@@ -43,17 +46,24 @@ module _ (host : List ℕ) (old new : Registry) (goes : GoesOn old new) where
   abbrev IsLow : Stage → Type 0
   IsLow stage = (n : ℕ) → began_stage stage ≡ Some n → new.floor ≤ n
 
-  stage_told : (stage : Stage) → IsLow stage → IsToldStage before stage → IsToldStage after stage
-  stage_told stages.Idle low t = tt
-  stage_told (stages.Reading reader) low t = tt
-  stage_told (stages.Owing given) low t = tt
-  stage_told (stages.Streaming stream) low t =
-      let s = list_reply_goes_on old new stream.behind goes (low stream.behind.stamp refl) t.told in
-      record { told = s.told; some = λ more. rw (s.rest host) (t.some more) }
-  stage_told stages.Awaiting low t = tt
-  stage_told stages.Lost low t = tt
+  -- what is not shown yet is the same
+  rest_goes_on : (rest : Rest) → ((n : ℕ) → stamp_in rest ≡ Some n → new.floor ≤ n) → CanTell before rest
+      → CanTell after rest × ((buffer : List ℕ) → rest_in after buffer rest ≡ rest_in before buffer rest)
+  rest_goes_on (rests.Held start) low t = (tt, λ buffer. refl)
+  rest_goes_on (rests.Listed list) low t =
+      let s = list_reply_goes_on old new list goes (low list.stamp refl) t in
+      (s.told, λ buffer. s.rest host)
 
-  phase_stands : (stage : Stage) (buffer window : Kept) (phase : Phase) → IsLow stage → IsToldStage before stage → StandsForPhase before stage buffer window phase → StandsForPhase after stage buffer window phase
+  stage_told : (buffer : List ℕ) (stage : Stage) → IsLow stage → IsToldStage before buffer stage → IsToldStage after buffer stage
+  stage_told buffer stages.Idle low t = tt
+  stage_told buffer (stages.Reading reader) low t = tt
+  stage_told buffer (stages.Giving giving) low t =
+      let s = rest_goes_on giving.rest low t.told in
+      record { told = s.0; some = λ more. rw (s.1 buffer) (t.some more) }
+  stage_told buffer stages.Awaiting low t = tt
+  stage_told buffer stages.Lost low t = tt
+
+  phase_stands : (stage : Stage) (buffer window : Kept) (phase : Phase) → IsLow stage → IsToldStage before buffer.bytes stage → StandsForPhase before stage buffer window phase → StandsForPhase after stage buffer window phase
   phase_stands stages.Idle buffer window Idle low t h = h
   phase_stands stages.Idle buffer window (Reading fed) low t h = absurd h
   phase_stands stages.Idle buffer window (Owing o) low t h = absurd h
@@ -64,18 +74,13 @@ module _ (host : List ℕ) (old new : Registry) (goes : GoesOn old new) where
   phase_stands (stages.Reading reader) buffer window (Owing o) low t h = absurd h
   phase_stands (stages.Reading reader) buffer window Awaiting low t h = absurd h
   phase_stands (stages.Reading reader) buffer window Lost low t h = absurd h
-  phase_stands (stages.Owing given) buffer window Idle low t h = absurd h
-  phase_stands (stages.Owing given) buffer window (Reading fed) low t h = absurd h
-  phase_stands (stages.Owing given) buffer window (Owing o) low t h = h
-  phase_stands (stages.Owing given) buffer window Awaiting low t h = absurd h
-  phase_stands (stages.Owing given) buffer window Lost low t h = absurd h
-  phase_stands (stages.Streaming stream) buffer window Idle low t h = absurd h
-  phase_stands (stages.Streaming stream) buffer window (Reading fed) low t h = absurd h
-  phase_stands (stages.Streaming stream) buffer window (Owing o) low t h =
-      let s = list_reply_goes_on old new stream.behind goes (low stream.behind.stamp refl) t.told in
-      record { reply = h.reply; gives = h.gives; began = h.began; place = h.place; rest = s.rest host ∙ h.rest; last = h.last }
-  phase_stands (stages.Streaming stream) buffer window Awaiting low t h = absurd h
-  phase_stands (stages.Streaming stream) buffer window Lost low t h = absurd h
+  phase_stands (stages.Giving giving) buffer window Idle low t h = absurd h
+  phase_stands (stages.Giving giving) buffer window (Reading fed) low t h = absurd h
+  phase_stands (stages.Giving giving) buffer window (Owing o) low t h =
+      let s = rest_goes_on giving.rest low t.told in
+      record { reply = h.reply; shows = h.shows; began = h.began; place = h.place; rest = s.1 buffer.bytes ∙ h.rest; last = h.last }
+  phase_stands (stages.Giving giving) buffer window Awaiting low t h = absurd h
+  phase_stands (stages.Giving giving) buffer window Lost low t h = absurd h
   phase_stands stages.Awaiting buffer window Idle low t h = absurd h
   phase_stands stages.Awaiting buffer window (Reading fed) low t h = absurd h
   phase_stands stages.Awaiting buffer window (Owing o) low t h = absurd h
@@ -105,7 +110,7 @@ module _ (host : List ℕ) (old new : Registry) (goes : GoesOn old new) where
   all_told [] low t = All-nil (IsToldSlot after)
   all_told (slot ∷ slots) low t =
       let l = first_low slot slots low in
-      All-cons (IsToldSlot after) slot slots (stage_told slot.stage l.0 (All-head (IsToldSlot before) slot slots t)) (all_told slots l.1 (All-tail (IsToldSlot before) slot slots t))
+      All-cons (IsToldSlot after) slot slots (stage_told slot.buffer.bytes slot.stage l.0 (All-head (IsToldSlot before) slot slots t)) (all_told slots l.1 (All-tail (IsToldSlot before) slot slots t))
 
   all_stand : (slots : List Slot) (all : List Connection) → AreLow slots → All (IsToldSlot before) slots → AllZip (StandsForConnection before) slots all → AllZip (StandsForConnection after) slots all
   all_stand [] [] low t z = tt
@@ -113,7 +118,7 @@ module _ (host : List ℕ) (old new : Registry) (goes : GoesOn old new) where
   all_stand (slot ∷ slots) [] low t z = absurd z
   all_stand (slot ∷ slots) (c ∷ all) low t z =
       let l = first_low slot slots low in
-      let told : IsToldStage before slot.stage = All-head (IsToldSlot before) slot slots t in (
+      let told : IsToldStage before slot.buffer.bytes slot.stage = All-head (IsToldSlot before) slot slots t in (
         record { number = z.0.number; peer = z.0.peer; mark = z.0.mark; phase = phase_stands slot.stage slot.buffer slot.window c.phase l.0 told z.0.phase },
         all_stand slots all l.1 (All-tail (IsToldSlot before) slot slots t) z.1,
       )
@@ -132,13 +137,18 @@ stamps_reach : (source : Source) (slots : List Slot) → All (IsToldSlot source)
 stamps_reach source [] t = All-nil (λ n. (source.registry.floor ≤ n) × (n ≤ source.registry.stamp))
 stamps_reach source (slot ∷ slots) t = by_stage slot.stage refl (All-head (IsToldSlot source) slot slots t) (stamps_reach source slots (All-tail (IsToldSlot source) slot slots t))
   where
-    by_stage : (stage : Stage) → slot.stage ≡ stage → IsToldStage source slot.stage → Reach source slots → Reach source (slot ∷ slots)
+    by_stage : (stage : Stage) → slot.stage ≡ stage → IsToldStage source slot.buffer.bytes slot.stage → Reach source slots → Reach source (slot ∷ slots)
     by_stage stages.Idle is t further = rw is further
     by_stage (stages.Reading reader) is t further = rw is further
-    by_stage (stages.Owing given) is t further = rw is further
-    by_stage (stages.Streaming stream) is t further =
-        let told = subst (IsToldStage source) is t in
-        rw is (All-cons (λ n. (source.registry.floor ≤ n) × (n ≤ source.registry.stamp)) stream.behind.stamp (filter_map slot_began slots) (told.told.place.reached.from_floor, told.told.place.reached.made) further)
+    by_stage (stages.Giving giving) is t further = by_rest giving.rest refl (told_in is t)
+      where
+        told_in : slot.stage ≡ stages.Giving giving → IsToldStage source slot.buffer.bytes slot.stage → CanTell source giving.rest
+        told_in e z = let it : IsToldStage source slot.buffer.bytes (stages.Giving giving) = subst (IsToldStage source slot.buffer.bytes) e z in it.told
+
+        by_rest : (rest : Rest) → giving.rest ≡ rest → CanTell source rest → Reach source (slot ∷ slots)
+        by_rest (rests.Held start) r told = rw (is, r) further
+        by_rest (rests.Listed list) r told =
+            rw (is, r) (All-cons (λ n. (source.registry.floor ≤ n) × (n ≤ source.registry.stamp)) list.stamp (filter_map slot_began slots) (told.place.reached.from_floor, told.place.reached.made) further)
     by_stage stages.Awaiting is t further = rw is further
     by_stage stages.Lost is t further = rw is further
 

@@ -18,6 +18,7 @@ use Rattle.rb_model.specs.Losses.{began_in, began_before, evicted, evicting}
 use Rattle.rb_core.specs.StandsFor.{Source, Table, StandsForPhase, StandsForConnection, StandsForConnections, charge, held_in, IsWithin}
 use Rattle.rb_core.specs.Slots.{IsTable, StaysTable, HasBuffers, AreNumbered, is_numbered, is_idle_stage}
 use Rattle.rb_core.specs.Awaits.{is_free_slot, is_free, is_idle_slot, has_idle, NoneIsFreed}
+use Rattle.rb_core.specs.StandsFor.{stamp_in}
 use Rattle.rb_core.specs.Listings.{began_stage, slot_began, IsToldSlot, IsOldest, earlier, IsEarliest, began_early, evicted_slot, with_evicted}
 
 -- ---- one slot
@@ -33,16 +34,11 @@ began_alike source (stages.Reading reader) buffer window (Reading fed) h = refl
 began_alike source (stages.Reading reader) buffer window (Owing o) h = absurd h
 began_alike source (stages.Reading reader) buffer window Awaiting h = absurd h
 began_alike source (stages.Reading reader) buffer window Lost h = absurd h
-began_alike source (stages.Owing given) buffer window Idle h = absurd h
-began_alike source (stages.Owing given) buffer window (Reading fed) h = absurd h
-began_alike source (stages.Owing given) buffer window (Owing o) h = sym h.1
-began_alike source (stages.Owing given) buffer window Awaiting h = absurd h
-began_alike source (stages.Owing given) buffer window Lost h = absurd h
-began_alike source (stages.Streaming stream) buffer window Idle h = absurd h
-began_alike source (stages.Streaming stream) buffer window (Reading fed) h = absurd h
-began_alike source (stages.Streaming stream) buffer window (Owing o) h = sym h.began
-began_alike source (stages.Streaming stream) buffer window Awaiting h = absurd h
-began_alike source (stages.Streaming stream) buffer window Lost h = absurd h
+began_alike source (stages.Giving giving) buffer window Idle h = absurd h
+began_alike source (stages.Giving giving) buffer window (Reading fed) h = absurd h
+began_alike source (stages.Giving giving) buffer window Awaiting h = absurd h
+began_alike source (stages.Giving giving) buffer window Lost h = absurd h
+began_alike source (stages.Giving giving) buffer window (Owing o) h = sym h.began
 began_alike source stages.Awaiting buffer window Idle h = absurd h
 began_alike source stages.Awaiting buffer window (Reading fed) h = absurd h
 began_alike source stages.Awaiting buffer window (Owing o) h = absurd h
@@ -227,8 +223,7 @@ idle_stays earliest id slot idle = by_stage slot.stage refl
     by_stage : (stage : Stage) → slot.stage ≡ stage → is_idle_slot id (evicted_slot earliest slot) ≡ true
     by_stage stages.Idle is = rw is (rw is at idle)
     by_stage (stages.Reading reader) is = let clash : false ≡ true = rw is at (and_true (eqb slot.number id) (is_idle_stage slot.stage) idle) in absurd cc
-    by_stage (stages.Owing given) is = let clash : false ≡ true = rw is at (and_true (eqb slot.number id) (is_idle_stage slot.stage) idle) in absurd cc
-    by_stage (stages.Streaming stream) is = let clash : false ≡ true = rw is at (and_true (eqb slot.number id) (is_idle_stage slot.stage) idle) in absurd cc
+    by_stage (stages.Giving giving) is = let clash : false ≡ true = rw is at (and_true (eqb slot.number id) (is_idle_stage slot.stage) idle) in absurd cc
     by_stage stages.Awaiting is = let clash : false ≡ true = rw is at (and_true (eqb slot.number id) (is_idle_stage slot.stage) idle) in absurd cc
     by_stage stages.Lost is = let clash : false ≡ true = rw is at (and_true (eqb slot.number id) (is_idle_stage slot.stage) idle) in absurd cc
 
@@ -251,10 +246,9 @@ free_alike earliest id slot = by_stage slot.stage refl
     by_stage : (stage : Stage) → slot.stage ≡ stage → is_free_slot id (evicted_slot earliest slot) ≡ is_free_slot id slot
     by_stage stages.Idle is = rw is refl
     by_stage (stages.Reading reader) is = rw is refl
-    by_stage (stages.Owing given) is = rw is refl
-    by_stage (stages.Streaming stream) is = by_test (nat_lt stream.behind.stamp earliest) refl
+    by_stage (stages.Giving giving) is = by_test (began_early earliest (stamp_in giving.rest)) refl
       where
-        by_test : (b : Bool) → nat_lt stream.behind.stamp earliest ≡ b → is_free_slot id (evicted_slot earliest slot) ≡ is_free_slot id slot
+        by_test : (b : Bool) → began_early earliest (stamp_in giving.rest) ≡ b → is_free_slot id (evicted_slot earliest slot) ≡ is_free_slot id slot
         by_test true t = rw (is, t) refl
         by_test false t = rw (is, t) refl
     by_stage stages.Awaiting is = rw is refl

@@ -60,8 +60,7 @@ module _ (source : Source) (clock : ℕ) (table : Table) where
 not-awaiting : (clock mark : ℕ) (stage : Stage) → has_come clock (deadline mark (phase_like stage)) ≡ true → is_awaiting_stage stage ≡ false
 not-awaiting clock mark stages.Idle h = refl
 not-awaiting clock mark (stages.Reading reader) h = refl
-not-awaiting clock mark (stages.Owing given) h = refl
-not-awaiting clock mark (stages.Streaming stream) h = refl
+not-awaiting clock mark (stages.Giving giving) h = refl
 not-awaiting clock mark stages.Awaiting h = absurd cc
 not-awaiting clock mark stages.Lost h = refl
 

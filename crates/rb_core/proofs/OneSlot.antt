@@ -1,5 +1,5 @@
 -- One connection's slot beside the connection that it stands for.
-use Rattle.std.proofs.Common.{◌≡◌, ℕ, ◌+◌, ◌-◌, ◌<◌, ◌≤◌, Bool, true, false, cond, nat_lt, eqb, List, [], ◌∷◌, ◌++◌, length, Option, Some, None, refl, sym, ap, subst, ◌∙◌, arith}
+use Rattle.std.proofs.Common.{◌≡◌, ℕ, ◌+◌, ◌-◌, ◌<◌, ◌≤◌, false, eqb, List, [], ◌∷◌, ◌++◌, length, Option, Some, None, refl, sym, ap, subst, ◌∙◌, arith}
 use Rattle.std.specs.Prelude.{min, take}
 use Rattle.std.proofs.lemmas.Bool.{lt-ltb, le-ltb}
 use Rattle.std.proofs.lemmas.Bool.Decides.{nat_tests}
@@ -16,9 +16,9 @@ use Rattle.rb_model.specs.State.{Owed, Phase, Connection}
 use Rattle.rb_model.specs.State.Phase.{Idle, Reading, Owing, Awaiting, Lost}
 use Rattle.rb_model.specs.Connections.{Taking, taking, taking_on, taking_up_to, mark_when_fed, fed_in, pending_in, phase_when_given, when_given, giving, pending_of}
 use Rattle.rb_model.specs.Connections.Taking.{TakesNone, Ends}
-use Rattle.rb_core.specs.StandsFor.{IsGiving, IsReading, Source, IsStreaming, StandsForPhase, StandsForConnection}
+use Rattle.rb_core.specs.StandsFor.{IsGiving, IsReading, Source, StandsForPhase, StandsForConnection}
 use Rattle.rb_core.specs.Reading.{Fed, Reader, fed_until}
-use Rattle.rb_core.specs.declared.giving.Stream.{Stream}
+use Rattle.rb_core.specs.declared.giving.Giving.{Giving}
 use Rattle.rb_core.specs.Slots.{Acts, received, fed_with, feeding, arguments_after, arguments_heard}
 
 -- ---- the phase by the stage
@@ -45,22 +45,11 @@ reading_phase source reader stage buffer window phase is h = at phase (subst (λ
     at Awaiting h = absurd h
     at Lost h = absurd h
 
-pub owing_phase : (source : Source) (given : ℕ) (stage : Stage) (buffer window : Kept) (phase : Phase) → stage ≡ stages.Owing given → StandsForPhase source stage buffer window phase
-    → (o : Owed) × (phase ≡ Owing o) × IsGiving buffer.bytes window given o × (o.began ≡ None)
-owing_phase source given stage buffer window phase is h = at phase (subst (λ (s : Stage). StandsForPhase source s buffer window phase) is h)
+pub giving_phase : (source : Source) (giving : Giving) (stage : Stage) (buffer window : Kept) (phase : Phase) → stage ≡ stages.Giving giving → StandsForPhase source stage buffer window phase
+    → (o : Owed) × (phase ≡ Owing o) × IsGiving source giving buffer.bytes window o
+giving_phase source giving stage buffer window phase is h = at phase (subst (λ (s : Stage). StandsForPhase source s buffer window phase) is h)
   where
-    at : (phase : Phase) → StandsForPhase source (stages.Owing given) buffer window phase → (o : Owed) × (phase ≡ Owing o) × IsGiving buffer.bytes window given o × (o.began ≡ None)
-    at Idle h = absurd h
-    at (Reading fed) h = absurd h
-    at (Owing o) h = (o, refl, h.0, h.1)
-    at Awaiting h = absurd h
-    at Lost h = absurd h
-
-pub streaming_phase : (source : Source) (stream : Stream) (stage : Stage) (buffer window : Kept) (phase : Phase) → stage ≡ stages.Streaming stream → StandsForPhase source stage buffer window phase
-    → (o : Owed) × (phase ≡ Owing o) × IsStreaming source stream window o
-streaming_phase source stream stage buffer window phase is h = at phase (subst (λ (s : Stage). StandsForPhase source s buffer window phase) is h)
-  where
-    at : (phase : Phase) → StandsForPhase source (stages.Streaming stream) buffer window phase → (o : Owed) × (phase ≡ Owing o) × IsStreaming source stream window o
+    at : (phase : Phase) → StandsForPhase source (stages.Giving giving) buffer window phase → (o : Owed) × (phase ≡ Owing o) × IsGiving source giving buffer.bytes window o
     at Idle h = absurd h
     at (Reading fed) h = absurd h
     at (Owing o) h = (o, refl, h)
@@ -188,81 +177,49 @@ none_given source old clock n none = record {
 }
 
 -- nothing is pending but where a reply is owed
-pub nothing_pending : (source : Source) (stage : Stage) (buffer window : Kept) (phase : Phase) → ((x : ℕ) → stage ≡ stages.Owing x → ⊥) → ((x : Stream) → stage ≡ stages.Streaming x → ⊥) → StandsForPhase source stage buffer window phase → pending_in phase ≡ []
-nothing_pending source stages.Idle buffer window Idle other another h = refl
-nothing_pending source stages.Idle buffer window (Reading fed) other another h = absurd h
-nothing_pending source stages.Idle buffer window (Owing o) other another h = absurd h
-nothing_pending source stages.Idle buffer window Awaiting other another h = absurd h
-nothing_pending source stages.Idle buffer window Lost other another h = absurd h
-nothing_pending source (stages.Reading reader) buffer window Idle other another h = absurd h
-nothing_pending source (stages.Reading reader) buffer window (Reading fed) other another h = refl
-nothing_pending source (stages.Reading reader) buffer window (Owing o) other another h = absurd h
-nothing_pending source (stages.Reading reader) buffer window Awaiting other another h = absurd h
-nothing_pending source (stages.Reading reader) buffer window Lost other another h = absurd h
-nothing_pending source (stages.Owing given) buffer window phase other another h = absurd (other given refl)
-nothing_pending source (stages.Streaming stream) buffer window phase other another h = absurd (another stream refl)
-nothing_pending source stages.Awaiting buffer window Idle other another h = absurd h
-nothing_pending source stages.Awaiting buffer window (Reading fed) other another h = absurd h
-nothing_pending source stages.Awaiting buffer window (Owing o) other another h = absurd h
-nothing_pending source stages.Awaiting buffer window Awaiting other another h = refl
-nothing_pending source stages.Awaiting buffer window Lost other another h = absurd h
-nothing_pending source stages.Lost buffer window Idle other another h = absurd h
-nothing_pending source stages.Lost buffer window (Reading fed) other another h = absurd h
-nothing_pending source stages.Lost buffer window (Owing o) other another h = absurd h
-nothing_pending source stages.Lost buffer window Awaiting other another h = absurd h
-nothing_pending source stages.Lost buffer window Lost other another h = refl
+pub nothing_pending : (source : Source) (stage : Stage) (buffer window : Kept) (phase : Phase) → ((x : Giving) → stage ≡ stages.Giving x → ⊥) → StandsForPhase source stage buffer window phase → pending_in phase ≡ []
+nothing_pending source stages.Idle buffer window Idle other h = refl
+nothing_pending source stages.Idle buffer window (Reading fed) other h = absurd h
+nothing_pending source stages.Idle buffer window (Owing o) other h = absurd h
+nothing_pending source stages.Idle buffer window Awaiting other h = absurd h
+nothing_pending source stages.Idle buffer window Lost other h = absurd h
+nothing_pending source (stages.Reading reader) buffer window Idle other h = absurd h
+nothing_pending source (stages.Reading reader) buffer window (Reading fed) other h = refl
+nothing_pending source (stages.Reading reader) buffer window (Owing o) other h = absurd h
+nothing_pending source (stages.Reading reader) buffer window Awaiting other h = absurd h
+nothing_pending source (stages.Reading reader) buffer window Lost other h = absurd h
+nothing_pending source (stages.Giving giving) buffer window phase other h = absurd (other giving refl)
+nothing_pending source stages.Awaiting buffer window Idle other h = absurd h
+nothing_pending source stages.Awaiting buffer window (Reading fed) other h = absurd h
+nothing_pending source stages.Awaiting buffer window (Owing o) other h = absurd h
+nothing_pending source stages.Awaiting buffer window Awaiting other h = refl
+nothing_pending source stages.Awaiting buffer window Lost other h = absurd h
+nothing_pending source stages.Lost buffer window Idle other h = absurd h
+nothing_pending source stages.Lost buffer window (Reading fed) other h = absurd h
+nothing_pending source stages.Lost buffer window (Owing o) other h = absurd h
+nothing_pending source stages.Lost buffer window Awaiting other h = absurd h
+nothing_pending source stages.Lost buffer window Lost other h = refl
 
-module _ (source : Source) (old new : Slot) (clock n more given : ℕ) (result : Option ℕ)
-    (stage : old.stage ≡ stages.Owing given)
-    (count : (o : Owed) → IsGiving old.buffer.bytes old.window given o → result ≡ cond (nat_lt (o.given + more) (length o.marked)) (Some (o.given + more)) None)
-    (all_given : (o : Owed) → IsGiving old.buffer.bytes old.window given o → more ≡ min n (length (pending_of o)))
+pub goes_on_giving : (source : Source) (giving : Giving) (buffer window : Kept) (more : ℕ) (o : Owed) → IsGiving source giving buffer.bytes window (record o { given = o.given + more })
+    → StandsForPhase source (stages.Giving giving) buffer window (phase_when_given more (Owing o))
+goes_on_giving source giving buffer window more o g = rw (lt-ltb (o.given + more) (length o.marked) g.shows.owes) g
+
+pub is_given : (source : Source) (buffer window : Kept) (more : ℕ) (o : Owed) → length o.marked ≤ o.given + more → buffer.bytes ≡ [] → window.bytes ≡ []
+    → StandsForPhase source stages.Idle buffer window (phase_when_given more (Owing o))
+is_given source buffer window more o all b w = rw (le-ltb (o.given + more) (length o.marked) all) (b, w)
+
+module _ (source : Source) (old new : Slot) (clock n more : ℕ) (giving_is : Giving)
+    (stage : old.stage ≡ stages.Giving giving_is)
+    (counted : (o : Owed) → IsGiving source giving_is old.buffer.bytes old.window o → more ≡ min n (length (pending_of o)))
     (some : 0 < more)
     (number : new.number ≡ old.number) (peer : new.peer ≡ old.peer) (mark : new.mark ≡ clock)
-    (goes_on : (o : Owed) (k : ℕ) → IsGiving old.buffer.bytes old.window given o → o.began ≡ None → result ≡ Some k → StandsForPhase source new.stage new.buffer new.window (Owing (record o { given = o.given + more })))
-    (ends : result ≡ None → StandsForPhase source new.stage new.buffer new.window Idle) where
+    (goes_on : (o : Owed) → IsGiving source giving_is old.buffer.bytes old.window o → StandsForPhase source new.stage new.buffer new.window (phase_when_given more (Owing o))) where
   pub some_given : Acts (StandsForConnection source) (giving clock n) old new tt
   unfolding giving when_given
   some_given = record {
     gives = λ c h. refl;
     stands = λ c h.
-        let w = owing_phase source given old.stage old.buffer old.window c.phase stage h.phase in
-        let m : more ≡ min n (length (pending_in c.phase)) = rw w.1 (all_given w.0 w.2) in
-        let test : eqb more 0 ≡ false = grind (arith, nat_tests) in
-        let phase = by_end w.0 w.2 w.3 (nat_lt (w.0.given + more) (length w.0.marked)) refl in
-        rw (← m) (rw test (record { number = number ∙ h.number; peer = peer ∙ h.peer; mark = mark; phase = rw w.1 phase }));
-  }
-    where
-      by_end : (o : Owed) → IsGiving old.buffer.bytes old.window given o → o.began ≡ None → (b : Bool) → nat_lt (o.given + more) (length o.marked) ≡ b
-          → StandsForPhase source new.stage new.buffer new.window (phase_when_given more (Owing o))
-      by_end o g none true e =
-          let is : result ≡ Some (o.given + more) = rw e at (count o g) in
-          rw e (goes_on o (o.given + more) g none is)
-      by_end o g none false e =
-          let is : result ≡ None = rw e at (count o g) in
-          rw e (ends is)
-
--- ---- bytes of a list that are given
-
-pub list_goes_on : (source : Source) (stream : Stream) (buffer window : Kept) (more : ℕ) (o : Owed) → IsStreaming source stream window (record o { given = o.given + more })
-    → StandsForPhase source (stages.Streaming stream) buffer window (phase_when_given more (Owing o))
-list_goes_on source stream buffer window more o g = rw (lt-ltb (o.given + more) (length o.marked) g.gives.owes) g
-
-pub list_is_over : (source : Source) (buffer window : Kept) (more : ℕ) (o : Owed) → length o.marked ≤ o.given + more → buffer.bytes ≡ [] → window.bytes ≡ []
-    → StandsForPhase source stages.Idle buffer window (phase_when_given more (Owing o))
-list_is_over source buffer window more o all b w = rw (le-ltb (o.given + more) (length o.marked) all) (b, w)
-
-module _ (source : Source) (old new : Slot) (clock n more : ℕ) (stream : Stream)
-    (stage : old.stage ≡ stages.Streaming stream)
-    (counted : (o : Owed) → IsStreaming source stream old.window o → more ≡ min n (length (pending_of o)))
-    (some : 0 < more)
-    (number : new.number ≡ old.number) (peer : new.peer ≡ old.peer) (mark : new.mark ≡ clock)
-    (goes_on : (o : Owed) → IsStreaming source stream old.window o → StandsForPhase source new.stage new.buffer new.window (phase_when_given more (Owing o))) where
-  pub list_given : Acts (StandsForConnection source) (giving clock n) old new tt
-  unfolding giving when_given
-  list_given = record {
-    gives = λ c h. refl;
-    stands = λ c h.
-        let w = streaming_phase source stream old.stage old.buffer old.window c.phase stage h.phase in
+        let w = giving_phase source giving_is old.stage old.buffer old.window c.phase stage h.phase in
         let m : more ≡ min n (length (pending_in c.phase)) = rw w.1 (counted w.0 w.2) in
         let test : eqb more 0 ≡ false = grind (arith, nat_tests) in
         let phase = goes_on w.0 w.2 in

@@ -1,5 +1,5 @@
 -- What a call leaves behind, from what its parts do to the books.
-use Rattle.std.proofs.Common.{◌≡◌, List, ℕ, [], ◌++◌, length, Some, None, refl, sym, ap, ◌∙◌, arith, length-append, append-nil}
+use Rattle.std.proofs.Common.{◌≡◌, ◌<◌, List, ℕ, [], ◌++◌, length, Some, None, refl, sym, ap, ◌∙◌, arith, length-append, append-nil}
 use Rattle.std.proofs.lemmas.Bool.{cond-false, le-ltb}
 use Rattle.rb_rpc.specs.declared.call.CallHead.{CallHead}
 use Rattle.rb_forward.specs.StandsFor.{Table}
@@ -25,12 +25,11 @@ use Rattle.rb_proto.specs.declared.answers.Listing.{Listing}
 use Rattle.rb_proto.specs.declared.answers.Results.{Results}
 use Rattle.rb_proto.specs.declared.answers.Results.TheVariants as results
 use Rattle.rb_proto.specs.declared.list_reply.ListReply.{ListReply}
-use Rattle.rb_proto.specs.ListParts.{list_reply, ListsRows, IsTold}
+use Rattle.rb_proto.specs.ListParts.{list_reply, ListsRows}
+use Rattle.rb_proto.specs.ListReplies.{rest_of}
 use Rattle.rb_core.specs.declared.replies.Served.TheVariants.{Listed}
-use Rattle.rb_core.specs.StandsFor.{source_for}
-use Rattle.rb_core.specs.Giving.{IsToldBy}
 use Rattle.rb_core.specs.Listings.{source_in}
-use Rattle.rb_core.specs.Serving.{list_outcome, listing_outcome, IsStreamedTo, streamed}
+use Rattle.rb_core.specs.Serving.{listing_outcome, IsStreamedTo, streamed}
 use Rattle.rb_core.proofs.ReplyHeads.{some_head, short_head}
 use Rattle.rb_model.specs.declared.message.Message.TheVariants as says
 use Rattle.rb_model.specs.Calls.{Outcome, told_as, told_results, reply_with, outcome, fitting, success, longest_reply}
@@ -114,11 +113,8 @@ streamed_to (Tcp id peer) given xid listing e = tt
 
 -- a list of which nothing was given
 module _ (host : List ℕ) (registry : Registry) (xid : ℕ) (listing : Listing) (list : ListReply) (rest : ListsRows xid listing registry list) where
-  pub fresh_is_told : IsTold registry list → IsToldBy (source_for host registry) list
-  fresh_is_told told =
+  pub fresh_is_some : 0 < length (rest_of host registry list)
+  fresh_is_some =
       let some = some_head xid Success in
       let whole = length-append (reply_head xid Success) (list_bytes host (rows_of registry) listing) in
-      record { told = told; some = omega (arith, some, whole, ap (λ (xs : List ℕ). length xs) (rest host)) }
-
-  pub fresh_outcome : list.stamp ≡ registry.stamp → list_outcome (source_for host registry) list ≡ listing_outcome (source_for host registry) xid listing
-  fresh_outcome stamp = rw (rest host, stamp) refl
+      omega (arith, some, whole, ap (λ (xs : List ℕ). length xs) (rest host))

@@ -1,5 +1,5 @@
 -- Connections that are Idle since a moment, and records that come whole on them.
-use Rattle.std.proofs.Common.{◌≡◌, ℕ, ◌+◌, Bool, true, false, not, ◌&&◌, ◌||◌, eqb, nat_lt, List, [], ◌∷◌, length, Option, Some, None, refl, sym, ap, subst, ◌∙◌}
+use Rattle.std.proofs.Common.{◌≡◌, ℕ, ◌+◌, Bool, true, false, not, ◌&&◌, ◌||◌, eqb, List, [], ◌∷◌, length, Option, Some, None, refl, sym, ap, ◌∙◌}
 use Rattle.std.specs.Prelude.{IfSome, IfNone, option_map}
 use Rattle.std.specs.List.{AllZip, list_any}
 use Rattle.std.specs.Map.{values_of}
@@ -12,10 +12,6 @@ use Rattle.rb_core.specs.declared.slot.Slot.{Slot}
 use Rattle.rb_core.specs.declared.slot.Stage.{Stage}
 use Rattle.rb_core.specs.declared.slot.Stage.TheVariants as stages
 use Rattle.rb_core.specs.declared.slot.Wanted.TheVariants as wanted
-use Rattle.rb_core.specs.declared.replies.Served.{Served}
-use Rattle.rb_core.specs.declared.replies.Served.TheVariants.{Told}
-use Rattle.rb_core.specs.declared.types.Outcome.{Outcome as Written}
-use Rattle.rb_core.specs.declared.types.Outcome.TheVariants as outcomes
 use Rattle.rb_model.specs.State.{Phase, Connection, Connections}
 use Rattle.rb_model.specs.State.Phase.{Idle}
 use Rattle.rb_model.specs.Calls.Outcome.{Silent}
@@ -23,10 +19,10 @@ use Rattle.rb_model.specs.Connections.{taking, fed_in, is_lost, is_live, settled
 use Rattle.rb_model.specs.Connections.Taking.{Ends}
 use Rattle.rb_core.specs.StandsFor.{Source, Table, StandsForConnection, StandsForConnections}
 use Rattle.rb_model.specs.Calls.{kept_of}
-use Rattle.rb_core.specs.Serving.{served_in}
-use Rattle.rb_core.specs.Slots.{Acts, Shows, settling, AreNumbered, HearsWhole, feeding, arguments_heard, heard_whole, is_idle_stage, is_wanted_slot, wanted_slot}
+use Rattle.rb_core.specs.Slots.{Acts, Shows, AreNumbered, HearsWhole, feeding, arguments_heard, heard_whole, is_idle_stage, is_wanted_slot, wanted_slot}
 use Rattle.rb_core.specs.Awaits.{is_unsettled_slot, IsSettled, HeardFrom}
-use Rattle.rb_core.specs.Listings.{evicted_slot}
+use Rattle.rb_core.specs.StandsFor.{stamp_in}
+use Rattle.rb_core.specs.Listings.{began_early, evicted_slot}
 use Rattle.rb_core.proofs.Evicting.{all_evicted}
 use Rattle.rb_core.proofs.Freed.{heard_on}
 use Rattle.rb_core.proofs.ByHint.{distinct_numbers, first_by_hint}
@@ -45,10 +41,9 @@ unsettled_alike earliest id clock slot none = by_stage slot.stage refl
     by_stage : (stage : Stage) → slot.stage ≡ stage → is_unsettled_slot id clock (evicted_slot earliest slot) ≡ false
     by_stage stages.Idle is = rw is (rw is at none)
     by_stage (stages.Reading reader) is = rw is (rw is at none)
-    by_stage (stages.Owing given) is = rw is (rw is at none)
-    by_stage (stages.Streaming stream) is = by_test (nat_lt stream.behind.stamp earliest) refl
+    by_stage (stages.Giving giving) is = by_test (began_early earliest (stamp_in giving.rest)) refl
       where
-        by_test : (b : Bool) → nat_lt stream.behind.stamp earliest ≡ b → is_unsettled_slot id clock (evicted_slot earliest slot) ≡ false
+        by_test : (b : Bool) → began_early earliest (stamp_in giving.rest) ≡ b → is_unsettled_slot id clock (evicted_slot earliest slot) ≡ false
         by_test true t = rw (is, t) (rw is at none)
         by_test false t = rw (is, t) (rw is at none)
     by_stage stages.Awaiting is = rw is (rw is at none)
@@ -68,8 +63,7 @@ settled_evicted earliest id clock table h = none_unsettled earliest id clock tab
 stage_is_idle : (stage : Stage) → is_idle_stage stage ≡ true → stage ≡ stages.Idle
 stage_is_idle stages.Idle e = refl
 stage_is_idle (stages.Reading reader) e = absurd cc
-stage_is_idle (stages.Owing given) e = absurd cc
-stage_is_idle (stages.Streaming stream) e = absurd cc
+stage_is_idle (stages.Giving giving) e = absurd cc
 stage_is_idle stages.Awaiting e = absurd cc
 stage_is_idle stages.Lost e = absurd cc
 
@@ -102,12 +96,6 @@ settled_among source id clock (slot ∷ slots) (c ∷ all) zip none =
 
 pub settled_stays : (source : Source) (id clock : ℕ) (table : Table) (c : Connections) → IsSettled id clock table → StandsForConnections source table c → changed_at id (settled clock Silent) c ≡ c
 settled_stays source id clock table c none h = ap (λ (xs : List Connection). record c { all = xs }) (settled_among source id clock (values_of table.slots) c.all h.all none)
-
--- so it is where that is all that is left of an answer
-pub stays_silent : (source : Source) (id clock : ℕ) (table : Table) (served : Served) (given : Written) (reply : List ℕ) → served ≡ Told given → given ≡ outcomes.Silent → IsSettled id clock table
-    → (c : Connections) → StandsForConnections source table c → StandsForConnections source table (settling id clock (served_in source served reply) c)
-stays_silent source id clock table served given reply is silent none c h =
-    rw (is, silent) (subst (λ (x : Connections). StandsForConnections source table x) (sym (settled_stays source id clock table c none h)) h)
 
 -- ---- a record comes whole
 

@@ -1,26 +1,13 @@
 -- A source goes on telling the lists that are given on the connections of a table.
-use Rattle.std.proofs.Common.{◌≡◌, ℕ, List, [], ◌∷◌, ◌++◌, Some, None, sym, subst}
+use Rattle.std.proofs.Common.{◌≡◌, ℕ, List, [], ◌∷◌, ◌++◌, Some, sym, subst}
 use Rattle.std.specs.Prelude.{All}
 use Rattle.std.specs.Map.{values_of}
 use Rattle.std.proofs.lemmas.List.Elements.{All-push}
 use Rattle.rb_xdr.specs.Pool.{value_at, with_value, without}
 use Rattle.rb_xdr.proofs.PoolLemmas.{All-value_at, All-with_value, All-without}
 use Rattle.rb_core.specs.declared.slot.Slot.{Slot}
-use Rattle.rb_core.specs.declared.slot.Stage.{Stage}
-use Rattle.rb_core.specs.declared.slot.Stage.TheVariants as stages
 use Rattle.rb_core.specs.StandsFor.{Source, Table}
-use Rattle.rb_core.specs.Listings.{began_stage, IsNoList, IsToldStage, IsToldSlot, KeepsToldSlot, AreTold, KeepsTold}
-
-pub no_list_told : (source : Source) (slot : Slot) → IsNoList slot → IsToldSlot source slot
-no_list_told source slot none = by_stage slot.stage none
-  where
-    by_stage : (stage : Stage) → began_stage stage ≡ None → IsToldStage source stage
-    by_stage stages.Idle e = tt
-    by_stage (stages.Reading reader) e = tt
-    by_stage (stages.Owing given) e = tt
-    by_stage (stages.Streaming stream) e = absurd cc
-    by_stage stages.Awaiting e = tt
-    by_stage stages.Lost e = tt
+use Rattle.rb_core.specs.Listings.{IsToldSlot, KeepsToldSlot, AreTold, KeepsTold}
 
 module _ (view now : Table) (is : view ≡ now) where
   told_before : (source : Source) → AreTold source now → AreTold source view

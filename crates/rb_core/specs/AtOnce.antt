@@ -151,13 +151,10 @@ count_at_once room (Told outcomes.Forwarded) reply = 0
 count_at_once room (Told outcomes.Silent) reply = 0
 count_at_once room (Listed xid listing) reply = 0
 
--- What is left to do of what a message is answered with, and of what is written, once these bytes were given: all of it where
--- none were, and nothing of a reply that was given whole.
-pub record IsLeft (served left : Served) (before after : Kept) (given : List ℕ) : Type 0 where
-  pub all : given ≡ [] → (left ≡ served) × (after ≡ before)
-  pub is_reply : 0 < length given → served ≡ Told outcomes.Reply
-  pub is_over : 0 < length given → left ≡ Told outcomes.Silent
-  pub whole : 0 < length given → IsGivenWhole before after given
+-- What a message is answered with is a reply, and is given whole so.
+pub record IsGivenAtOnce (served : Served) (before after : Kept) (given : List ℕ) : Type 0 where
+  pub is_reply : served ≡ Told outcomes.Reply
+  pub whole : IsGivenWhole before after given
 
 -- what it costs to give n bytes so, where there is this room: the look at how many there are, they themselves, and the
 -- buffer emptied

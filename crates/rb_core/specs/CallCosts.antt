@@ -5,11 +5,15 @@ use Rattle.rb_registry.specs.Registry.{Registry, slots_of}
 use Rattle.rb_forward.specs.Costs.{unsent_cost}
 use Rattle.rb_proto.specs.declared.books.Books.{Books}
 use Rattle.rb_proto.specs.Costs.{statistics_cost}
+use Rattle.rb_core.specs.declared.giving.Rest.{Rest}
+use Rattle.rb_core.specs.declared.giving.Rest.TheVariants as rests
+use Rattle.rb_core.specs.declared.replies.Served.{Served}
+use Rattle.rb_core.specs.declared.replies.Served.TheVariants.{Told, Listed}
 use Rattle.rb_core.specs.declared.slot.Heard.{Heard}
 use Rattle.rb_core.specs.declared.slot.Received.{Received}
 use Rattle.rb_model.specs.declared.types.CoreFault.{CoreFault}
 use Rattle.rb_model.specs.declared.types.Taken.{Taken}
-use Rattle.rb_model.specs.Costs.{serve_cost, listed_cost, recount_cost, given_cost, find_cost, take_cost, exchange_cost, read_cost, begin_list_cost, make_room_cost, answer_cost, entry_cost, ended_cost}
+use Rattle.rb_model.specs.Costs.{serve_cost, show_cost, listed_cost, recount_cost, given_cost, find_cost, take_cost, exchange_cost, read_cost, begin_list_cost, make_room_cost, answer_cost, entry_cost, ended_cost}
 use Rattle.rb_core.specs.StandsFor.{Table, Held, StandsFor}
 use Rattle.rb_model.specs.Connections.{Taking, taking, live_connection}
 use Rattle.rb_model.specs.Connections.Taking.{TakesNone, GoesOn, Ends}
@@ -19,13 +23,23 @@ use Rattle.rb_model.specs.State.{State}
 
 -- ---- on one connection
 
--- what it costs to show the next fragment: with the looks at how long the reply and the fragment before it are
-abbrev pub advance_cost : ℕ
-advance_cost = 2056
-
 -- what it costs to show a fragment of a list of these rows
 abbrev pub show_list_cost : Registry → ℕ
 show_list_cost registry = listed_cost (length (slots_of registry))
+
+-- what it costs to show the next fragment of a reply
+abbrev pub next_cost : Registry → Rest → ℕ
+next_cost registry (rests.Held start) = show_cost
+next_cost registry (rests.Listed list) = show_list_cost registry
+
+-- what it costs to begin what a message is answered with
+abbrev pub told_cost : Registry → Served → ℕ
+told_cost registry (Told given) = show_cost + 1
+told_cost registry (Listed xid listing) = show_list_cost registry + 1
+
+-- the same on a connection that is found among so many
+abbrev pub settling_cost : ℕ → Registry → Served → ℕ
+settling_cost connections registry served = find_cost connections + told_cost registry served + recount_cost
 
 -- what it costs to count bytes as given, where a list is of these rows
 abbrev pub give_cost : Registry → ℕ

@@ -11,7 +11,7 @@ use Rattle.rb_core.specs.declared.slot.Stage.TheVariants as stages
 use Rattle.rb_core.specs.declared.slot.Slot.{Slot}
 use Rattle.rb_model.specs.declared.message.Message.{Message}
 use Rattle.rb_model.specs.declared.message.Message.TheVariants as says
-use Rattle.rb_core.specs.StandsFor.{Source, source_for, Table, StandsForConnections}
+use Rattle.rb_core.specs.StandsFor.{Source, source_for, stamp_in, Table, StandsForConnections}
 use Rattle.rb_core.specs.Giving.{GoesOnBy}
 use Rattle.rb_model.specs.Losses.{crowding, evicting}
 use Rattle.rb_core.specs.Slots.{TableBecomes}
@@ -21,30 +21,29 @@ use Rattle.rb_model.specs.State.{Connections}
 
 -- after how many changes the list began that is given on it
 abbrev pub began_stage : Stage → Option ℕ
-began_stage (stages.Streaming stream) = Some stream.behind.stamp
+began_stage (stages.Giving giving) = stamp_in giving.rest
 began_stage stages.Idle = None
 began_stage (stages.Reading reader) = None
-began_stage (stages.Owing given) = None
 began_stage stages.Awaiting = None
 began_stage stages.Lost = None
 
 abbrev pub slot_began : Slot → Option ℕ
 slot_began slot = began_stage slot.stage
 
-abbrev pub IsNoList : Slot → Type 0
-IsNoList slot = slot_began slot ≡ None
-
--- the source can tell the rest of the list that is given in this stage
-abbrev pub IsToldStage : Source → Stage → Type 0
-IsToldStage source (stages.Streaming stream) = GoesOnBy source stream
-IsToldStage source stages.Idle = ⊤
-IsToldStage source (stages.Reading reader) = ⊤
-IsToldStage source (stages.Owing given) = ⊤
-IsToldStage source stages.Awaiting = ⊤
-IsToldStage source stages.Lost = ⊤
+-- the source can tell the rest of the reply that is given in this stage
+abbrev pub IsToldStage : Source → List ℕ → Stage → Type 0
+IsToldStage source buffer (stages.Giving giving) = GoesOnBy source buffer giving
+IsToldStage source buffer stages.Idle = ⊤
+IsToldStage source buffer (stages.Reading reader) = ⊤
+IsToldStage source buffer stages.Awaiting = ⊤
+IsToldStage source buffer stages.Lost = ⊤
 
 abbrev pub IsToldSlot : Source → Slot → Type 0
-IsToldSlot source slot = IsToldStage source slot.stage
+IsToldSlot source slot = IsToldStage source slot.buffer.bytes slot.stage
+
+-- whatever lists are made from
+abbrev pub IsToldByAll : Slot → Type 0
+IsToldByAll slot = (source : Source) → IsToldSlot source slot
 
 -- where a source could tell the rest of the old list, it can tell that of the new one
 abbrev pub KeepsToldSlot : Slot → Slot → Type 0

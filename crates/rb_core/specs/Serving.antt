@@ -8,8 +8,6 @@ use Rattle.rb_registry.specs.Registry.{rows_of}
 use Rattle.rb_proto.specs.declared.answers.Listing.{Listing}
 use Rattle.rb_proto.specs.declared.answers.Results.{Results}
 use Rattle.rb_proto.specs.declared.answers.Results.TheVariants as results
-use Rattle.rb_proto.specs.declared.list_reply.ListReply.{ListReply}
-use Rattle.rb_proto.specs.ListReplies.{rest_of}
 use Rattle.rb_proto.specs.ListParts.{list_reply}
 use Rattle.rb_proto.specs.declared.answers.Answer.{Answer}
 use Rattle.rb_proto.specs.declared.books.Books.{Books}
@@ -27,25 +25,21 @@ use Rattle.rb_model.specs.State.{Connections}
 use Rattle.rb_model.specs.Losses.{crowding, evicting}
 use Rattle.rb_model.specs.Calls.{Outcome, Outcome as said, is_no_call, told_as, outcome, message_with}
 use Rattle.rb_core.specs.Core.{outcome_with}
-use Rattle.rb_core.specs.Slots.{SlotBecomesFrom, BecomesFrom, settling}
+use Rattle.rb_core.specs.Slots.{SlotBecomesFrom, BecomesFrom}
+use Rattle.rb_core.specs.declared.giving.Giving.{Giving}
+use Rattle.rb_core.specs.declared.giving.Rest.{Rest}
+use Rattle.rb_core.specs.declared.slot.Stage.TheVariants as stages
+use Rattle.rb_core.specs.Giving.{ShowsNext}
 use Rattle.rb_model.specs.declared.message.Message.{Message}
 use Rattle.rb_core.specs.declared.slot.Slot.{Slot}
-use Rattle.rb_model.specs.Connections.{settled}
+use Rattle.rb_model.specs.Connections.{settled, changed_at}
 use Rattle.rb_core.specs.Reading.{null_message}
 use Rattle.rb_core.specs.Listings.{source_in}
-
--- a list of which nothing was given yet
-abbrev pub list_outcome : Source → ListReply → Outcome
-list_outcome source list = said.Reply (rest_of source.host source.registry list) (Some list.stamp)
 
 -- a list under this xid of the rows that are live now
 abbrev pub listing_outcome : Source → ℕ → Listing → Outcome
 listing_outcome source xid listing =
     said.Reply (list_reply source.host xid (rows_of source.registry) listing) (Some source.registry.stamp)
-
--- The connection that a slot stands for owes a list.
-abbrev pub SlotBeginsList : Source → ℕ → ListReply → Slot → Slot → Type 0
-SlotBeginsList source clock list old new = SlotBecomesFrom source (settled clock (list_outcome source list)) old new
 
 -- what the code answers a message with, where this is written
 abbrev pub served_in : Source → Served → List ℕ → Outcome
@@ -85,14 +79,20 @@ abbrev pub ServesNull : CallHead → Books → Books → Served → Kept → Typ
 ServesNull head old new served out =
     (context : Context) (arguments : List ℕ) → ServesMessage context (null_message head) arguments old new served out
 
--- The live connection of the number owes a list.
-abbrev pub BeginsList : Source → ℕ → ℕ → ListReply → Table → Table → Type 0
-BeginsList source id clock list old new = BecomesFrom source (settling id clock (list_outcome source list)) old new
+-- The connection that a slot stands for goes on with what its record is answered with, where this is written.
+abbrev pub SlotSettles : Source → ℕ → Served → List ℕ → Slot → Slot → Type 0
+SlotSettles source clock served written old new = SlotBecomesFrom source (settled clock (served_in source served written)) old new
 
--- It goes on with what its record is answered with, where this is written.
-abbrev pub Serves : Source → ℕ → ℕ → Served → Kept → Table → Table → Type 0
-Serves source id clock served written old new =
-    BecomesFrom source (settling id clock (served_in source served written.bytes)) old new
+-- So does the live connection of the number.
+abbrev pub Settles : Source → ℕ → ℕ → Served → List ℕ → Table → Table → Type 0
+Settles source id clock served written old new =
+    BecomesFrom source (changed_at id (settled clock (served_in source served written))) old new
+
+-- A slot gives on with the next fragment of a reply, whose bytes that were not shown yet are these.
+pub record SlotShowsNext (source : Source) (rest : Rest) (old new : Slot) : Type 0 where
+  pub giving : Giving
+  pub is : new ≡ record old { stage = stages.Giving giving; window = new.window }
+  pub shows : ShowsNext source old.buffer.bytes rest old.window new.window giving
 
 abbrev pub is_closed_by : Source → Served → List ℕ → Bool
 is_closed_by source served reply = is_no_call (served_in source served reply)

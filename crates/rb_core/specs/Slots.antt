@@ -23,11 +23,10 @@ use Rattle.rb_core.specs.declared.slot.Buffers.{Buffers}
 use Rattle.rb_model.specs.State.{Phase, Connection, Connections}
 use Rattle.rb_core.specs.StandsFor.{buffer_size, IsReading, Source, StandsForConnection, Table, StandsForConnections, held_in, AreWithin}
 use Rattle.rb_model.specs.Calls.{kept_of}
-use Rattle.rb_model.specs.Connections.{longest_fragment, Taking, taking_on, taking, mark_when_fed, reading, settled, giving, is_lost, has_number, is_live, live_connection, changed_at, on_live}
+use Rattle.rb_model.specs.Connections.{longest_fragment, Taking, taking_on, taking, mark_when_fed, reading, giving, is_lost, has_number, is_live, live_connection, on_live}
 use Rattle.rb_model.specs.Connections.Taking.{TakesNone, GoesOn, Ends}
 use Rattle.rb_model.specs.State.Phase.{Idle, Reading, Owing, Awaiting, Lost}
 use Rattle.rb_model.specs.Losses.{deadline, has_come, is_due}
-use Rattle.rb_model.specs.Calls.{Outcome}
 
 -- An act on what something stands for, which gives a result: from whatever the old one stood for, this result came,
 -- and the new one stands for what is there after the act.
@@ -54,10 +53,6 @@ SlotActs act old new result = (source : Source) → Acts (StandsForConnection so
 abbrev pub SlotBecomesFrom : Source → (Connection → Connection) → Slot → Slot → Type 0
 SlotBecomesFrom source change old new =
     (c : Connection) → StandsForConnection source old c → StandsForConnection source new (change c)
-
--- the same whatever lists are made from
-abbrev pub SlotBecomes : (Connection → Connection) → Slot → Slot → Type 0
-SlotBecomes change old new = (source : Source) → SlotBecomesFrom source change old new
 
 -- n bytes that are pending are given on the connection that a slot stands for, or as many as there are
 abbrev pub SlotGives : Source → ℕ → ℕ → Slot → Slot → Type 0
@@ -158,10 +153,6 @@ BecomesFrom source change old new =
 abbrev pub TableBecomes : (Connections → Connections) → Table → Table → Type 0
 TableBecomes change old new = (source : Source) → BecomesFrom source change old new
 
--- the connections, with the record of the live one of the number answered so
-abbrev pub settling : ℕ → ℕ → Outcome → Connections → Connections
-settling id clock given c = changed_at id (settled clock given) c
-
 -- the arguments that the core has once a piece for the connection of a number was taken
 abbrev pub arguments_on : ℕ → List ℕ → List ℕ → Connections → List ℕ
 arguments_on id before piece connections = option_map_or (arguments_heard before piece) (live_connection id connections.all) before
@@ -213,8 +204,7 @@ empty_table conns tie = record { slots = []; given = 0; conns = conns; tie = tie
 abbrev pub phase_like : Stage → Phase
 phase_like stages.Idle = Idle
 phase_like (stages.Reading reader) = Reading []
-phase_like (stages.Owing given) = Owing (record { marked = []; given = given; began = None })
-phase_like (stages.Streaming stream) = Owing (record { marked = []; given = 0; began = None })
+phase_like (stages.Giving giving) = Owing (record { marked = []; given = 0; began = None })
 phase_like stages.Awaiting = Awaiting
 phase_like stages.Lost = Lost
 
@@ -225,16 +215,14 @@ abbrev pub is_lost_stage : Stage → Bool
 is_lost_stage stages.Lost = true
 is_lost_stage stages.Idle = false
 is_lost_stage (stages.Reading reader) = false
-is_lost_stage (stages.Owing given) = false
-is_lost_stage (stages.Streaming stream) = false
+is_lost_stage (stages.Giving giving) = false
 is_lost_stage stages.Awaiting = false
 
 abbrev pub is_idle_stage : Stage → Bool
 is_idle_stage stages.Idle = true
 is_idle_stage stages.Lost = false
 is_idle_stage (stages.Reading reader) = false
-is_idle_stage (stages.Owing given) = false
-is_idle_stage (stages.Streaming stream) = false
+is_idle_stage (stages.Giving giving) = false
 is_idle_stage stages.Awaiting = false
 
 unfoldable pub is_wanted_slot : Wanted → Slot → Bool

@@ -1,5 +1,5 @@
 -- What a core holds, and the states that it stands for.
-use Rattle.std.specs.Prelude.{◌≡◌, ◌<◌, ◌≤◌, ⊤, ℕ, ◌+◌, ◌*◌, ◌/◌, ◌%◌, nat_le, max, List, [], length, take, drop, All, Some, None}
+use Rattle.std.specs.Prelude.{◌≡◌, ◌<◌, ◌≤◌, ⊤, ℕ, ◌+◌, ◌*◌, ◌/◌, ◌%◌, nat_le, max, List, [], length, take, drop, All, Option, Some, None}
 use Rattle.std.specs.List.{AllZip, sum_by}
 use Rattle.std.specs.Map.{values_of}
 use Rattle.rb_xdr.specs.Kept.{Kept}
@@ -12,7 +12,9 @@ use Rattle.rb_proto.specs.declared.books.Books.{Books}
 use Rattle.rb_proto.specs.ListReplies.{longest_part, rest_of}
 use Rattle.rb_proto.specs.Ledger.{StandsForLedger}
 use Rattle.rb_core.specs.declared.reading.Reader.{Reader}
-use Rattle.rb_core.specs.declared.giving.Stream.{Stream}
+use Rattle.rb_core.specs.declared.giving.Giving.{Giving}
+use Rattle.rb_core.specs.declared.giving.Rest.{Rest}
+use Rattle.rb_core.specs.declared.giving.Rest.TheVariants as rests
 use Rattle.rb_core.specs.declared.slot.Stage.{Stage}
 use Rattle.rb_core.specs.declared.slot.Stage.TheVariants as stages
 use Rattle.rb_core.specs.declared.slot.Slot.{Slot}
@@ -42,15 +44,12 @@ pub record IsReading (reader : Reader) (kept : Kept) (fed : List ℕ) : Type 0 w
 unfoldable pub window : Owed → List ℕ
 window o = take longest_fragment (drop (longest_fragment * (o.given / longest_fragment)) o.marked)
 
--- A reply, the fragment of it that is shown, and how many of its marked bytes were given, stand for what is owed.
-pub record IsGiving (reply : List ℕ) (shown : Kept) (given : ℕ) (o : Owed) : Type 0 where
+-- A window shows the fragment of this reply in which the giving stands.
+pub record IsShown (reply : List ℕ) (shown : Kept) (o : Owed) : Type 0 where
   pub marked : o.marked ≡ marked reply
-  pub given_is : given ≡ o.given
   pub owes : o.given < length o.marked
   pub shown_is : shown.bytes ≡ window o
   pub cap : shown.cap ≡ longest_fragment
-
--- ---- a list that is given fragment by fragment, each made from the registry once the one before it was given
 
 -- what lists are made from: the host that they show, and the rows
 pub record Source : Type 0 where
@@ -60,19 +59,24 @@ pub record Source : Type 0 where
 abbrev pub source_for : List ℕ → Registry → Source
 source_for host registry = record { host = host; registry = registry }
 
--- the bytes behind the fragment that is shown
-abbrev pub rest_behind : Source → Stream → List ℕ
-rest_behind source stream = rest_of source.host source.registry stream.behind
+-- the bytes that are not shown yet: those of the buffer from a place on, or those of a list, as its source makes them
+abbrev pub rest_in : Source → List ℕ → Rest → List ℕ
+rest_in source buffer (rests.Held start) = drop start buffer
+rest_in source buffer (rests.Listed list) = rest_of source.host source.registry list
 
--- A stream and the fragment of its list that is shown stand for what is owed: so many bytes of the fragment were given, and
--- the source gives those behind it.
-pub record IsStreaming (source : Source) (stream : Stream) (shown : Kept) (o : Owed) : Type 0 where
+-- after how many changes the reply began, where it is a list
+abbrev pub stamp_in : Rest → Option ℕ
+stamp_in (rests.Held start) = None
+stamp_in (rests.Listed list) = Some list.stamp
+
+-- The window and the rest behind it stand for what is owed: so many bytes of the fragment that is shown were given.
+pub record IsGiving (source : Source) (giving : Giving) (buffer : List ℕ) (shown : Kept) (o : Owed) : Type 0 where
   pub reply : List ℕ
-  pub gives : IsGiving reply shown o.given o
-  pub began : o.began ≡ Some stream.behind.stamp
-  pub place : stream.place ≡ o.given % longest_fragment
-  pub rest : rest_behind source stream ≡ drop (longest_part * (o.given / longest_fragment + 1)) reply
-  pub last : stream.last ≡ nat_le (length reply) (longest_part * (o.given / longest_fragment + 1))
+  pub shows : IsShown reply shown o
+  pub began : o.began ≡ stamp_in giving.rest
+  pub place : giving.place ≡ o.given % longest_fragment
+  pub rest : rest_in source buffer giving.rest ≡ drop (longest_part * (o.given / longest_fragment + 1)) reply
+  pub last : giving.last ≡ nat_le (length reply) (longest_part * (o.given / longest_fragment + 1))
 
 -- ---- one connection
 
@@ -80,8 +84,7 @@ pub record IsStreaming (source : Source) (stream : Stream) (shown : Kept) (o : O
 abbrev pub StandsForPhase : Source → Stage → Kept → Kept → Phase → Type 0
 StandsForPhase source stages.Idle buffer window Idle = (buffer.bytes ≡ []) × (window.bytes ≡ [])
 StandsForPhase source (stages.Reading reader) buffer window (Reading fed) = IsReading reader buffer fed × (window.bytes ≡ [])
-StandsForPhase source (stages.Owing given) buffer window (Owing o) = IsGiving buffer.bytes window given o × (o.began ≡ None)
-StandsForPhase source (stages.Streaming stream) buffer window (Owing o) = IsStreaming source stream window o
+StandsForPhase source (stages.Giving giving) buffer window (Owing o) = IsGiving source giving buffer.bytes window o
 StandsForPhase source stages.Awaiting buffer window Awaiting = (buffer.bytes ≡ []) × (window.bytes ≡ [])
 StandsForPhase source stages.Lost buffer window Lost = ⊤
 StandsForPhase source stage buffer window phase = ⊥

@@ -122,9 +122,13 @@ pub fn answer(
         draft,
         meter,
     );
-    let (left, given) = give_at_once(served, draft, room, meter);
+    let given = give_at_once(served, draft, room, meter);
+    if given > 0 {
+        // It is Idle since this moment, and stays so.
+        return (false, given);
+    }
     let host = context.listener.host;
     let clock = context.clock;
-    let closed = connections.go_on(id, left, clock, host, &books.registry, draft, meter);
-    (closed, given)
+    connections.settle(id, served, clock, host, &books.registry, draft, meter);
+    (served.is_no_call(), 0)
 }

@@ -13,9 +13,7 @@ use crate::hints::Hints;
 use crate::reading::LONGEST_ARGUMENTS;
 use crate::replies::{LONGEST_REPLY, Served};
 use crate::slot::{Buffers, CHARGE, Received, Slot, Stage, Wanted, Whole};
-use crate::types::Outcome;
 use rb_model::CoreFault;
-use rb_proto::ListReply;
 use rb_registry::Registry;
 use rb_rpc::{Peer, one_fragment};
 use rb_xdr::{Kept, Meter, NoMemory, Pool};
@@ -242,16 +240,15 @@ fn recounted(held: u64, before: u64, slot: &Slot, meter: &mut Meter) -> u64
 impl Connections {
     ghost use Rattle.std.specs.Prelude.{◌≡◌, ◌≤◌, ◌<◌, ◌+◌, ◌*◌, [], true, false, ℕ, length, Some, OnErr, IfOk, IfSome, IfNone, All};
     ghost use Rattle.rb_model.specs.Connections.{on_live, opening_of, closing_of, first_lost, longest_fragment};
-    ghost use Rattle.rb_core.specs.Giving.{IsToldBy, pending_count};
-    ghost use Rattle.rb_core.specs.Serving.{BeginsList, Serves, is_closed_by, kind_in, IsWritten};
+    ghost use Rattle.rb_core.specs.Giving.{pending_count};
+    ghost use Rattle.rb_core.specs.Serving.{Settles, kind_in, IsWritten};
     ghost use Rattle.rb_core.specs.Listings.{AreTold, KeepsTold, EvictsBefore, stamps_of, IsOldest};
     ghost use Rattle.rb_model.specs.Losses.{expiring};
-    ghost use Rattle.rb_core.specs.Core.{given_in};
-    ghost use Rattle.rb_core.specs.Slots.{settling, Finds, TableActs, TableBecomes, TableGives, TableHears, TableLends, TableShows, TakesWhole, KeepsWhole, HearsWhole, StaysTable, IsDraft, empty_table, feeding, HasBuffers};
+    ghost use Rattle.rb_core.specs.Slots.{Finds, TableActs, TableGives, TableHears, TableLends, TableShows, TakesWhole, KeepsWhole, HearsWhole, StaysTable, IsDraft, empty_table, feeding, HasBuffers};
     ghost use Rattle.rb_model.specs.Step.{pending_at};
-    ghost use Rattle.rb_core.specs.CallCosts.{slot_count, look_cost, received_cost, taken_cost, list_cost, giving_cost};
-    ghost use Rattle.rb_model.specs.Costs.{settle_cost, pending_cost, oldest_cost, evict_cost};
-    ghost use Rattle.rb_core.specs.Awaits.{has_idle, AwaitsIfForwarded, NoneIsFreed, OnlyIsFreed, HeardFrom, HearsFree, IsSettled, KeepsSettled};
+    ghost use Rattle.rb_core.specs.CallCosts.{slot_count, look_cost, received_cost, taken_cost, settling_cost, giving_cost};
+    ghost use Rattle.rb_model.specs.Costs.{pending_cost, oldest_cost, evict_cost};
+    ghost use Rattle.rb_core.specs.Awaits.{has_idle, AwaitsIfForwarded, NoneIsFreed, OnlyIsFreed, HeardFrom, HearsFree, KeepsSettled};
     ghost use Rattle.rb_core.specs.StandsFor.{held_in, most_charge, source_for};
     ghost use Rattle.std.specs.Map.{values_of};
 
@@ -410,83 +407,10 @@ impl Connections {
         Ok(received)
     }
 
-    /// The live connection of the number goes on as its record is answered, or its call that was forwarded: it takes the
-    /// reply, and gives an empty buffer for it, or it is Awaiting, Idle or Lost.
+    /// The live connection of the number goes on as its record is answered, or its call that was forwarded. It owes a reply,
+    /// for which it gives an empty buffer, or a list, whose first fragment is made in this one; or it is Awaiting, Idle or
+    /// Lost.
     pub fn settle(
-        &mut self,
-        id: u64,
-        outcome: Outcome,
-        reply: &mut Kept,
-        clock: u64,
-        meter: &mut Meter,
-    )
-        requires tie { meter.old.tie ≡ self.old.tie }
-        requires draft { IsDraft meter.old.tie reply.old }
-        requires some { outcome ≡ Outcome.Reply → 0 < length reply.old.bytes }
-        ensures stands { TableBecomes (settling id clock (given_in outcome reply.old)) self.old self.new }
-        ensures others { OnlyIsFreed id self.old self.new }
-        ensures awaits { AwaitsIfForwarded outcome id self.old self.new }
-        ensures told { KeepsTold self.old self.new }
-        ensures stays { StaysTable self.old self.new }
-        ensures draft { IsDraft meter.old.tie reply.new }
-        ensures empty { reply.new.bytes ≡ [] }
-        ensures cost { PaysAtMost meter.old meter.new (settle_cost (slot_count self.old)) }
-    {
-        let Some(key) = wanted_key(&self.slots, &self.hints, Wanted::Live(id), meter) else {
-            reply.clear(meter);
-            return;
-        };
-        self.hints.note(id, key);
-        let Some(slot) = self.slots.get_mut(key, meter) else {
-            unreachable!()
-        };
-        let before = slot.charge(meter);
-        slot.settle(outcome, reply, clock, meter);
-        self.held = recounted(self.held, before, slot, meter);
-    }
-
-    /// The live connection of the number goes on as its record is answered by a list: it owes that, and its first fragment
-    /// is made in a buffer that is empty before and after.
-    pub fn list(
-        &mut self,
-        id: u64,
-        list: ListReply,
-        clock: u64,
-        host: [u8; 4],
-        registry: &Registry,
-        scratch: &mut Kept,
-        meter: &mut Meter,
-    )
-        requires registry { meter.old.tie ≡ registry.now.tie }
-        requires tie { meter.old.tie ≡ self.old.tie }
-        requires scratch { IsDraft meter.old.tie scratch.old }
-        requires empty { scratch.old.bytes ≡ [] }
-        requires list { IsToldBy (source_for host registry.now) list }
-        requires told { AreTold (source_for host registry.now) self.old }
-        ensures stands { BeginsList (source_for host registry.now) id clock list self.old self.new }
-        ensures told { AreTold (source_for host registry.now) self.new }
-        ensures others { OnlyIsFreed id self.old self.new }
-        ensures stays { StaysTable self.old self.new }
-        ensures draft { IsDraft meter.old.tie scratch.new }
-        ensures empty { scratch.new.bytes ≡ [] }
-        ensures cost { PaysAtMost meter.old meter.new
-            (list_cost (slot_count self.old) registry.now) }
-    {
-        let Some(key) = wanted_key(&self.slots, &self.hints, Wanted::Live(id), meter) else {
-            return;
-        };
-        self.hints.note(id, key);
-        let Some(slot) = self.slots.get_mut(key, meter) else {
-            unreachable!()
-        };
-        let before = slot.charge(meter);
-        slot.list(list, clock, host, registry, scratch, meter);
-        self.held = recounted(self.held, before, slot, meter);
-    }
-
-    /// The live connection of the number, which is Idle since this moment, goes on with what its record is answered with,
-    /// where a reply is written in this buffer, which is empty after it. It says whether the connection is Lost now.
-    pub fn go_on(
         &mut self,
         id: u64,
         served: Served,
@@ -495,17 +419,14 @@ impl Connections {
         registry: &Registry,
         draft: &mut Kept,
         meter: &mut Meter,
-    ) -> bool
+    )
         requires registry { meter.old.tie ≡ registry.now.tie }
         requires tie { meter.old.tie ≡ self.old.tie }
         requires draft { IsDraft meter.old.tie draft.old }
         requires written { IsWritten served draft.old.bytes }
         requires told { AreTold (source_for host registry.now) self.old }
-        requires settled { IsSettled id clock self.old }
-        ensures stands { Serves
-            (source_for host registry.now) id clock served draft.old self.old self.new }
-        ensures closed { result
-            ≡ is_closed_by (source_for host registry.now) served draft.old.bytes }
+        ensures stands { Settles
+            (source_for host registry.now) id clock served draft.old.bytes self.old self.new }
         ensures told { AreTold (source_for host registry.now) self.new }
         ensures others { OnlyIsFreed id self.old self.new }
         ensures awaits { AwaitsIfForwarded (kind_in served) id self.old self.new }
@@ -513,21 +434,19 @@ impl Connections {
         ensures draft { IsDraft meter.old.tie draft.new }
         ensures empty { draft.new.bytes ≡ [] }
         ensures cost { PaysAtMost meter.old meter.new
-            (list_cost (slot_count self.old) registry.now) }
+            (settling_cost (slot_count self.old) registry.now served) }
     {
-        match served {
-            // It is Idle since this moment, and stays so.
-            Served::Told(Outcome::Silent) => false,
-            Served::Told(outcome) => {
-                self.settle(id, outcome, draft, clock, meter);
-                outcome.is_no_call()
-            }
-            Served::Listed(xid, listing) => {
-                let list = ListReply::new(xid, listing, registry);
-                self.list(id, list, clock, host, registry, draft, meter);
-                false
-            }
-        }
+        let Some(key) = wanted_key(&self.slots, &self.hints, Wanted::Live(id), meter) else {
+            draft.clear(meter);
+            return;
+        };
+        self.hints.note(id, key);
+        let Some(slot) = self.slots.get_mut(key, meter) else {
+            unreachable!()
+        };
+        let before = slot.charge(meter);
+        slot.settle(served, clock, host, registry, draft, meter);
+        self.held = recounted(self.held, before, slot, meter);
     }
 
     /// Counts n of the pending bytes of the live connection of the number as given, or as many as there are: `Gone`

@@ -713,8 +713,15 @@ impl Core {
         match ended.forward.caller {
             Caller::Tcp(id, _) => {
                 let outcome = put_end(ended, message, &mut self.draft, meter);
-                self.connections
-                    .settle(id, outcome, &mut self.draft, self.clock, meter);
+                self.connections.settle(
+                    id,
+                    Served::Told(outcome),
+                    self.clock,
+                    self.listener.host,
+                    &self.books.registry,
+                    &mut self.draft,
+                    meter,
+                );
                 Told::TcpReady(id)
             }
             Caller::Udp(peer) => {

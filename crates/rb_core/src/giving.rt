@@ -1,21 +1,20 @@
 //! A reply that is given fragment by fragment (RFC 5531 section 11).
 //!
-//! The whole reply stays unmarked in one buffer. A window shows its current fragment, marked, and
-//! a number tells how many of all its marked bytes were given. A list is held nowhere as a whole: the window shows a
-//! fragment of it, and the next one is made from the registry once that was given.
-ghost use Rattle.std.specs.Prelude.{◌≡◌, ◌-◌, ◌%◌, ◌<◌, ◌≤◌, ◌^◌, [], None, length, take, drop, nat_le};
-ghost use Rattle.rb_xdr.specs.Meter.{Pays, PaysAtMost};
+//! A window shows its current fragment, marked. What is behind that is in the connection's buffer, unmarked, or it is a
+//! list, which is held nowhere as a whole: its next fragment is made from the registry once this one was given.
+ghost use Rattle.std.specs.Prelude.{◌≡◌, ◌+◌, ◌<◌, ◌≤◌, ◌++◌, ℕ, List, [], length, take};
+ghost use Rattle.rb_xdr.specs.Meter.{PaysAtMost};
 ghost use Rattle.rb_xdr.specs.Puts.{Appends, HasRoom};
-ghost use Rattle.rb_model.specs.Connections.{longest_fragment, owed_of};
-ghost use Rattle.rb_core.specs.StandsFor.{IsGiving};
-ghost use Rattle.rb_core.specs.Giving.{showing, OfPending, CountsOn, ShowsOn};
-ghost use Rattle.rb_rpc.specs.Records.{marked};
-ghost use Rattle.rb_proto.specs.ListReplies.{longest_part, rest_of};
-ghost use Rattle.rb_proto.specs.ListParts.{IsBehindPart, IsTold};
+ghost use Rattle.rb_model.specs.Connections.{longest_fragment};
+ghost use Rattle.rb_core.specs.StandsFor.{Source, rest_in, source_for};
+ghost use Rattle.rb_core.specs.Giving.{CanTell, ShowsNext};
+ghost use Rattle.rb_rpc.specs.Records.{fragment_header};
+ghost use Rattle.rb_proto.specs.ListReplies.{longest_part};
 ghost use Rattle.rb_core.specs.Slots.{IsDraft};
-ghost use Rattle.rb_model.specs.Costs.{show_cost, pending_cost};
-ghost use Rattle.rb_core.specs.CallCosts.{advance_cost, show_list_cost};
+ghost use Rattle.rb_model.specs.Costs.{show_cost};
+ghost use Rattle.rb_core.specs.CallCosts.{next_cost, show_list_cost};
 ghost use Rattle.rb_core.specs.AtOnce.{IsGivenWhole, whole_cost, whole_length};
+ghost use Rattle.rb_core.specs.declared.giving.Rest.TheVariants.{Held, Listed};
 
 use rb_proto::ListReply;
 use rb_registry::Registry;
@@ -28,11 +27,35 @@ const DATA: usize = 1024;
 /// The bytes of such a fragment with its header.
 const MARKED: usize = 1028;
 
-/// A list that is given.
+/// What of a reply was not shown yet.
 #[derive(Clone, Copy, Debug, PartialEq, Eq)]
-pub struct Stream {
+pub enum Rest {
+    /// The bytes of the buffer from this place on.
+    Held(usize),
+    /// The bytes of a list, which are made from the registry.
+    Listed(ListReply),
+}
+
+impl Rest {
+    ghost use Rattle.std.specs.Prelude.{◌≡◌};
+    ghost use Rattle.rb_core.specs.StandsFor.{stamp_in};
+
+    /// After how many changes the reply began, where it is a list.
+    pub fn stamp(self) -> Option<u64>
+        ensures { result ≡ stamp_in self }
+    {
+        match self {
+            Rest::Held(_) => None,
+            Rest::Listed(list) => Some(list.stamp()),
+        }
+    }
+}
+
+/// A reply that is given.
+#[derive(Clone, Copy, Debug, PartialEq, Eq)]
+pub struct Giving {
     /// What is behind the fragment that is shown.
-    pub behind: ListReply,
+    pub rest: Rest,
     /// How many bytes of the fragment were given.
     pub place: usize,
     /// Whether it is the last one.
@@ -41,13 +64,17 @@ pub struct Stream {
 
 /// A core keeps its bytes in pools and buffers alone. A further field would not compile here: it
 /// belongs in the table of charges of docs/RULES.md first.
-fn layout(stream: &Stream) {
-    let Stream {
-        behind,
-        place,
-        last,
-    } = *stream;
-    let _: (ListReply, usize, bool) = (behind, place, last);
+fn layout(giving: &Giving) {
+    let Giving { rest, place, last } = *giving;
+    let _: (usize, bool) = (place, last);
+    match rest {
+        Rest::Held(start) => {
+            let _: usize = start;
+        }
+        Rest::Listed(list) => {
+            let _: ListReply = list;
+        }
+    }
 }
 
 /// Appends bytes where there is room for them.
@@ -62,35 +89,105 @@ fn put(window: &mut Kept, bytes: &[u8], meter: &mut Meter)
     };
 }
 
-/// Shows the fragment that begins at a place of the reply.
+/// Shows a fragment with this data.
 #[tactic(auto, unfolding(rb_model::specs::Connections::longest_fragment))]
-fn show(reply: &Kept, start: usize, window: &mut Kept, meter: &mut Meter)
-    requires reply_tie { meter.old.tie ≡ reply.now.tie }
-    requires window_tie { meter.old.tie ≡ window.old.tie }
-    requires start { start < length reply.now.bytes }
+fn show(part: &[u8], last: bool, window: &mut Kept, meter: &mut Meter)
+    requires tie { meter.old.tie ≡ window.old.tie }
+    requires some { 0 < length part.now }
+    requires few { length part.now ≤ longest_part }
     requires cap { window.old.cap ≡ longest_fragment }
-    ensures shown { window.new ≡ showing window.old reply.now.bytes start }
-    ensures cost { PaysAtMost meter.old meter.new show_cost }
+    ensures shown { window.new
+        ≡ record window.old { bytes = fragment_header (length part.now) last ++ part.now } }
+    ensures cost { PaysAtMost meter.old meter.new (5 + length part.now) }
 {
-    let left = reply.len(meter) - start;
-    let len = left.min(DATA);
     window.clear(meter);
-    put(window, &fragment_header(len, left <= DATA), meter);
-    put(window, reply.lend(start..start + len, meter), meter);
+    put(window, &fragment_header(part.len(), last), meter);
+    put(window, part, meter);
 }
 
-/// Shows the first fragment of a reply, of which nothing was given yet.
-pub fn begin(reply: &Kept, window: &mut Kept, meter: &mut Meter)
-    requires reply_tie { meter.old.tie ≡ reply.now.tie }
+/// Shows the fragment of a reply that begins at this place of the buffer.
+fn show_held(start: usize, buffer: &Kept, window: &mut Kept, meter: &mut Meter) -> Giving
+    requires buffer_tie { meter.old.tie ≡ buffer.now.tie }
     requires window_tie { meter.old.tie ≡ window.old.tie }
-    requires some { 0 < length reply.now.bytes }
+    requires start { start < length buffer.now.bytes }
     requires cap { window.old.cap ≡ longest_fragment }
-    ensures giving { IsGiving reply.now.bytes window.new 0 (owed_of reply.now.bytes None 0) }
-    ensures cap { window.new.cap ≡ window.old.cap }
-    ensures tie { window.new.tie ≡ window.old.tie }
+    ensures shows { (source : Source) → ShowsNext source buffer.now.bytes (Held start)
+        window.old window.new result }
     ensures cost { PaysAtMost meter.old meter.new show_cost }
 {
-    show(reply, 0, window, meter);
+    let left = buffer.len(meter) - start;
+    let end = start + left.min(DATA);
+    let last = left <= DATA;
+    show(buffer.lend(start..end, meter), last, window, meter);
+    Giving {
+        rest: Rest::Held(end),
+        place: 0,
+        last,
+    }
+}
+
+/// Shows the next fragment of a list, made in a buffer that is empty before and after.
+#[tactic(auto, unfolding(rb_model::specs::Connections::longest_fragment, rb_model::specs::Calls::longest_arguments, crate::specs::StandsFor::buffer_size, rb_model::specs::Calls::longest_reply))]
+fn show_list(
+    mut list: ListReply,
+    registry: &Registry,
+    host: [u8; 4],
+    window: &mut Kept,
+    scratch: &mut Kept,
+    meter: &mut Meter,
+) -> Giving
+    requires registry { meter.old.tie ≡ registry.now.tie }
+    requires window_tie { meter.old.tie ≡ window.old.tie }
+    requires scratch { IsDraft meter.old.tie scratch.old }
+    requires cap { window.old.cap ≡ longest_fragment }
+    requires told { CanTell (source_for host registry.now) (Listed list) }
+    requires some { 0 < length (rest_in (source_for host registry.now) [] (Listed list)) }
+    ensures shows { (buffer : List ℕ) → ShowsNext (source_for host registry.now) buffer
+        (Listed list) window.old window.new result }
+    ensures draft { IsDraft meter.old.tie scratch.new }
+    ensures empty { scratch.new.bytes ≡ [] }
+    ensures cost { PaysAtMost meter.old meter.new (show_list_cost registry.now) }
+{
+    let part = list.next_part(registry, host, scratch, meter);
+    let data = scratch.lend(part.start..part.end, meter);
+    show(data, part.last, window, meter);
+    scratch.clear(meter);
+    Giving {
+        rest: Rest::Listed(list),
+        place: 0,
+        last: part.last,
+    }
+}
+
+/// Shows the next fragment of a reply, of which this was not shown yet: of what the buffer has, or of a list, whose fragment
+/// is made in another buffer, which is empty before and after.
+pub fn show_next(
+    rest: Rest,
+    buffer: &Kept,
+    registry: &Registry,
+    host: [u8; 4],
+    window: &mut Kept,
+    scratch: &mut Kept,
+    meter: &mut Meter,
+) -> Giving
+    requires registry { meter.old.tie ≡ registry.now.tie }
+    requires buffer_tie { meter.old.tie ≡ buffer.now.tie }
+    requires window_tie { meter.old.tie ≡ window.old.tie }
+    requires scratch { IsDraft meter.old.tie scratch.old }
+    requires empty { scratch.old.bytes ≡ [] }
+    requires cap { window.old.cap ≡ longest_fragment }
+    requires told { CanTell (source_for host registry.now) rest }
+    requires some { 0 < length (rest_in (source_for host registry.now) buffer.now.bytes rest) }
+    ensures shows { ShowsNext (source_for host registry.now) buffer.now.bytes rest
+        window.old window.new result }
+    ensures draft { IsDraft meter.old.tie scratch.new }
+    ensures empty { scratch.new.bytes ≡ [] }
+    ensures cost { PaysAtMost meter.old meter.new (next_cost registry.now rest) }
+{
+    match rest {
+        Rest::Held(start) => show_held(start, buffer, window, meter),
+        Rest::Listed(list) => show_list(list, registry, host, window, scratch, meter),
+    }
 }
 
 /// Gives a reply of one fragment whole, marked, where there is room for the longest: its buffer is empty then. It says how
@@ -117,111 +214,4 @@ pub fn give_whole(reply: &mut Kept, room: &mut [u8], meter: &mut Meter) -> usize
     room[FRAGMENT_HEADER..end].copy_from_slice(reply.lend(0..len, meter));
     reply.clear(meter);
     end
-}
-
-/// How many bytes are left of the fragment that the window shows, where `given` of all were given.
-#[tactic(auto, unfolding(rb_model::specs::Connections::longest_fragment), using(crate::proofs::Fragments::pending_count))]
-pub fn pending_len(window: &Kept, given: usize, meter: &mut Meter) -> usize
-    requires tie { meter.old.tie ≡ window.now.tie }
-    ensures left { result ≡ length window.now.bytes - given % longest_fragment }
-    ensures pending { OfPending window.now given (λ bytes. result ≡ length bytes) }
-    ensures cost { Pays meter.old meter.new 1 }
-{
-    window.len(meter).saturating_sub(given % MARKED)
-}
-
-/// What is left of the fragment that the window shows, where `given` of all bytes were given.
-#[tactic(auto, unfolding(rb_model::specs::Connections::longest_fragment))]
-pub fn pending<'a>(window: &'a Kept, given: usize, meter: &mut Meter) -> &'a [u8]
-    requires tie { meter.old.tie ≡ window.now.tie }
-    requires cap { window.now.cap ≡ longest_fragment }
-    ensures pending { OfPending window.now given (λ bytes. result.now ≡ bytes) }
-    ensures left { result.now ≡ drop (given % longest_fragment) window.now.bytes }
-    ensures few { length result.now ≤ longest_fragment }
-    ensures cost { PaysAtMost meter.old meter.new pending_cost }
-{
-    let end = window.len(meter);
-    let start = end.min(given % MARKED);
-    window.lend(start..end, meter)
-}
-
-/// Counts `more` of the pending bytes as given, and shows the next fragment where this one is used
-/// up. It says how many were given in all, or `None` where the reply was given to its end.
-#[tactic(auto, unfolding(rb_model::specs::Connections::longest_fragment))]
-pub fn advance(
-    reply: &Kept,
-    window: &mut Kept,
-    given: usize,
-    more: usize,
-    meter: &mut Meter,
-) -> Option<usize>
-    requires reply_tie { meter.old.tie ≡ reply.now.tie }
-    requires window_tie { meter.old.tie ≡ window.old.tie }
-    requires reply_cap { reply.now.cap < 2 ^ 32 }
-    requires cap { window.old.cap ≡ longest_fragment }
-    requires pending { more ≤ length window.old.bytes - given % longest_fragment }
-    ensures count { CountsOn reply.now.bytes window.old given more result }
-    ensures giving { ShowsOn reply.now.bytes window.old window.new given more result }
-    ensures cap { window.new.cap ≡ window.old.cap }
-    ensures tie { window.new.tie ≡ window.old.tie }
-    ensures cost { PaysAtMost meter.old meter.new advance_cost }
-{
-    let whole = reply.len(meter);
-    let shown = window.len(meter);
-    let count = given.saturating_add(more);
-    if given % MARKED + more < shown {
-        return Some(count);
-    }
-    let start = (given / MARKED + 1) * DATA;
-    if whole <= start {
-        return None;
-    }
-    show(reply, start, window, meter);
-    Some(count)
-}
-
-/// Shows the next fragment of a list, made in a buffer that is empty before and after. It says what is behind it.
-#[tactic(auto, unfolding(rb_model::specs::Connections::longest_fragment, rb_model::specs::Calls::longest_arguments, crate::specs::StandsFor::buffer_size, rb_model::specs::Calls::longest_reply))]
-pub fn show_list(
-    list: ListReply,
-    registry: &Registry,
-    host: [u8; 4],
-    window: &mut Kept,
-    scratch: &mut Kept,
-    meter: &mut Meter,
-) -> Stream
-    requires registry { meter.old.tie ≡ registry.now.tie }
-    requires window_tie { meter.old.tie ≡ window.old.tie }
-    requires scratch { IsDraft meter.old.tie scratch.old }
-    requires cap { window.old.cap ≡ longest_fragment }
-    requires told { IsTold registry.now list }
-    requires some { 0 < length (rest_of host registry.now list) }
-    ensures shown { window.new.bytes
-        ≡ take longest_fragment (marked (rest_of host registry.now list)) }
-    ensures rest { IsBehindPart host registry.now list result.behind }
-    ensures last { result.last ≡ nat_le (length (rest_of host registry.now list)) longest_part }
-    ensures place { result.place ≡ 0 }
-    ensures told { IsTold registry.now result.behind }
-    ensures stamp { result.behind.stamp ≡ list.stamp }
-    ensures cap { window.new.cap ≡ window.old.cap }
-    ensures tie { window.new.tie ≡ window.old.tie }
-    ensures draft { IsDraft meter.old.tie scratch.new }
-    ensures empty { scratch.new.bytes ≡ [] }
-    ensures cost { PaysAtMost meter.old meter.new (show_list_cost registry.now) }
-{
-    let mut behind = list;
-    let part = behind.next_part(registry, host, scratch, meter);
-    window.clear(meter);
-    put(
-        window,
-        &fragment_header(part.end - part.start, part.last),
-        meter,
-    );
-    put(window, scratch.lend(part.start..part.end, meter), meter);
-    scratch.clear(meter);
-    Stream {
-        behind,
-        place: 0,
-        last: part.last,
-    }
 }

@@ -20,7 +20,7 @@ ghost use Rattle.rb_core.specs.Awaits.{kind_of, StayUnlessForwarded};
 ghost use Rattle.rb_core.specs.Listings.{HasRoom};
 ghost use Rattle.rb_core.specs.Core.{given_in};
 ghost use Rattle.rb_core.specs.Serving.{TellsAnswer, ServesMessage, ServesNull, kind_in, IsWritten, IsStreamedTo, streamed};
-ghost use Rattle.rb_core.specs.AtOnce.{IsLeft, count_at_once, whole_cost};
+ghost use Rattle.rb_core.specs.AtOnce.{IsGivenAtOnce, count_at_once, whole_cost};
 ghost use Rattle.rb_core.specs.CallCosts.{put_results_cost, serving_cost};
 ghost use Rattle.rb_core.specs.Slots.{IsDraft};
 ghost use Rattle.rb_model.specs.Costs.{put_end_cost};
@@ -45,6 +45,19 @@ pub enum Served {
     Told(Outcome),
     /// A list under this xid that is streamed, of which nothing is written yet.
     Listed(u32, Listing),
+}
+
+impl Served {
+    ghost use Rattle.std.specs.Prelude.{◌≡◌, ℕ, List};
+    ghost use Rattle.rb_core.specs.StandsFor.{Source};
+    ghost use Rattle.rb_core.specs.Serving.{is_closed_by};
+
+    /// Whether it is no call, so that a connection on which it came is Lost.
+    pub fn is_no_call(self) -> bool
+        ensures { (source : Source) (reply : List ℕ) → result ≡ is_closed_by source self reply }
+    {
+        matches!(self, Served::Told(Outcome::NoCall))
+    }
 }
 
 /// Writes the head of a reply into an empty buffer.
@@ -249,29 +262,21 @@ pub fn serve_null(books: &mut Books, head: &CallHead, out: &mut Kept, meter: &mu
     Served::Told(Outcome::Reply)
 }
 
-/// Writes the reply into `room` where it is one fragment and `room` has place for the longest. Returns what is left to do
-/// then, and the number of bytes written, 0 where nothing was.
-pub fn give_at_once(
-    served: Served,
-    draft: &mut Kept,
-    room: &mut [u8],
-    meter: &mut Meter,
-) -> (Served, usize)
+/// Writes the reply into `room` where it is one fragment and `room` has place for the longest: its buffer is empty then. Returns
+/// the number of bytes written, 0 where nothing was.
+pub fn give_at_once(served: Served, draft: &mut Kept, room: &mut [u8], meter: &mut Meter) -> usize
     requires draft { IsDraft meter.old.tie draft.old }
     requires written { IsWritten served draft.old.bytes }
-    ensures count { result.1 ≡ count_at_once (length room.old) served draft.old.bytes }
-    ensures left { IsLeft served result.0 draft.old draft.new (take result.1 room.new) }
-    ensures written { IsWritten result.0 draft.new.bytes }
+    ensures count { result ≡ count_at_once (length room.old) served draft.old.bytes }
+    ensures none { result ≡ 0 → draft.new ≡ draft.old }
+    ensures some { 0 < result → IsGivenAtOnce served draft.old draft.new (take result room.new) }
     ensures draft { IsDraft meter.old.tie draft.new }
-    ensures within { result.1 ≤ length room.new }
-    ensures cost { PaysAtMost meter.old meter.new (whole_cost (length room.old) result.1) }
+    ensures within { result ≤ length room.new }
+    ensures cost { PaysAtMost meter.old meter.new (whole_cost (length room.old) result) }
 {
-    if !matches!(served, Served::Told(Outcome::Reply)) {
-        return (served, 0);
-    }
-    match give_whole(draft, room, meter) {
-        0 => (served, 0),
-        given => (Served::Told(Outcome::Silent), given),
+    match served {
+        Served::Told(Outcome::Reply) => give_whole(draft, room, meter),
+        Served::Told(_) | Served::Listed(_, _) => 0,
     }
 }
 
@@ -302,7 +307,7 @@ fn put_failed(forward: &Forward, status: ReplyStatus, out: &mut Kept, meter: &mu
     requires room { longest_reply ≤ out.old.cap }
     ensures told { given_in result out.new ≡ told_failed forward.now status }
     ensures held { out.new.bytes ≡ reply_in (given_in result out.new) }
-    ensures some { result ≡ Outcome.Reply → 0 < length out.new.bytes }
+    ensures written { IsWritten (Told result) out.new.bytes }
     ensures short { length out.new.bytes ≤ longest_reply }
     ensures out { (out.new.cap ≡ out.old.cap) × (out.new.tie ≡ out.old.tie) }
     ensures cost { PaysAtMost meter.old meter.new (put_end_cost (length out.new.bytes)) }
@@ -326,7 +331,7 @@ pub fn put_end(ended: &Ended, message: &[u8], out: &mut Kept, meter: &mut Meter)
     requires room { longest_reply ≤ out.old.cap }
     ensures told { given_in result out.new ≡ told_at message.now ended.now }
     ensures held { out.new.bytes ≡ reply_in (given_in result out.new) }
-    ensures some { result ≡ Outcome.Reply → 0 < length out.new.bytes }
+    ensures written { IsWritten (Told result) out.new.bytes }
     ensures short { length out.new.bytes ≤ longest_reply }
     ensures out { (out.new.cap ≡ out.old.cap) × (out.new.tie ≡ out.old.tie) }
     ensures cost { PaysAtMost meter.old meter.new (put_end_cost (length out.new.bytes)) }

@@ -3,8 +3,9 @@ ghost use Rattle.std.specs.Prelude.{◌≡◌, ◌+◌, [], Some, None};
 ghost use Rattle.rb_xdr.specs.Meter.{Pays, PaysAtMost};
 
 use crate::deadlines::time_in;
-use crate::giving::{Stream, advance, begin, pending, pending_len, show_list};
+use crate::giving::{Giving, Rest, show_next};
 use crate::reading::{Fed, Reader};
+use crate::replies::Served;
 use crate::types::Outcome;
 use rb_proto::ListReply;
 use rb_registry::Registry;
@@ -23,10 +24,8 @@ pub enum Stage {
     Idle,
     /// In the middle of a record.
     Reading(Reader),
-    /// A reply is being given, and so many of its marked bytes were.
-    Owing(usize),
-    /// A list is being given.
-    Streaming(Stream),
+    /// A reply is being given.
+    Giving(Giving),
     /// Its call is forwarded, and takes its reply from there.
     Awaiting,
     /// It takes and gives nothing more, and waits to be closed.
@@ -87,7 +86,7 @@ pub struct Slot {
     pub stage: Stage,
     /// The moment from which its deadline counts.
     pub mark: u64,
-    /// The first bytes of the arguments of the call that is read, or the whole reply where that is no list.
+    /// The first bytes of the arguments of the call that is read, or the whole reply that is given, where that is no list.
     pub buffer: Kept,
     /// The marked fragment of the reply that is being given.
     pub window: Kept,
@@ -117,11 +116,8 @@ fn layout(slot: &Slot, spare: &Buffers) {
         Stage::Reading(reader) => {
             let _: Reader = reader;
         }
-        Stage::Owing(given) => {
-            let _: usize = given;
-        }
-        Stage::Streaming(stream) => {
-            let _: Stream = stream;
+        Stage::Giving(giving) => {
+            let _: Giving = giving;
         }
     }
     let _: &Kept = buffer;
@@ -159,17 +155,16 @@ impl Slot {
 
     ghost use Rattle.std.specs.Prelude.{◌≡◌, ◌≤◌, ◌<◌, ◌+◌, ℕ, List, [], true, false, length, Some, IfSome, IfNone};
     ghost use Rattle.rb_model.specs.State.{Connection};
-    ghost use Rattle.rb_model.specs.Connections.{settled, giving, pending_in, longest_fragment};
-    ghost use Rattle.rb_core.specs.Slots.{is_due_slot, SlotActs, SlotBecomes, SlotGives, SlotHears, SlotShows, emptied_slot, ReceivesPiece, StandsBehindPiece, HearsPiece, HasBuffers, IsDraft, StaysSlot, feeding, heard_whole, is_lost_stage, is_idle_stage, is_wanted_slot};
-    ghost use Rattle.rb_core.specs.StandsFor.{StandsForConnection, charge, most_charge, source_for};
+    ghost use Rattle.rb_model.specs.Connections.{pending_in, longest_fragment};
+    ghost use Rattle.rb_core.specs.Slots.{is_due_slot, SlotActs, SlotGives, SlotHears, SlotShows, emptied_slot, ReceivesPiece, StandsBehindPiece, HearsPiece, HasBuffers, IsDraft, StaysSlot, feeding, heard_whole, is_lost_stage, is_idle_stage, is_wanted_slot};
+    ghost use Rattle.rb_core.specs.StandsFor.{StandsForConnection, charge, most_charge, rest_in, source_for};
     ghost use Rattle.rb_model.specs.Calls.{kept_of};
-    ghost use Rattle.rb_core.specs.Listings.{slot_began, IsNoList, IsToldSlot, KeepsToldSlot};
-    ghost use Rattle.rb_core.specs.Giving.{IsToldBy, GoesOnBy};
-    ghost use Rattle.rb_core.specs.Serving.{SlotBeginsList};
+    ghost use Rattle.rb_core.specs.Listings.{slot_began, IsToldSlot, KeepsToldSlot, IsToldByAll};
+    ghost use Rattle.rb_core.specs.Giving.{CanTell};
+    ghost use Rattle.rb_core.specs.Serving.{SlotSettles, SlotShowsNext, IsWritten, kind_in};
     ghost use Rattle.rb_core.specs.Awaits.{is_awaiting_stage, sender_on, HearsSlot};
-    ghost use Rattle.rb_core.specs.Core.{given_in};
-    ghost use Rattle.rb_core.specs.CallCosts.{received_cost, give_cost, show_list_cost};
-    ghost use Rattle.rb_model.specs.Costs.{show_cost, pending_cost};
+    ghost use Rattle.rb_core.specs.CallCosts.{received_cost, give_cost, next_cost, told_cost};
+    ghost use Rattle.rb_model.specs.Costs.{pending_cost};
 
     #[tactic(auto, unfolding(crate::specs::Slots::is_wanted_slot))]
     pub fn is_wanted(&self, wanted: Wanted) -> bool
@@ -194,10 +189,8 @@ impl Slot {
         ensures { result ≡ slot_began self.now }
     {
         match self.stage {
-            Stage::Streaming(stream) => Some(stream.behind.stamp()),
-            Stage::Idle | Stage::Reading(_) | Stage::Owing(_) | Stage::Awaiting | Stage::Lost => {
-                None
-            }
+            Stage::Giving(giving) => giving.rest.stamp(),
+            Stage::Idle | Stage::Reading(_) | Stage::Awaiting | Stage::Lost => None,
         }
     }
 
@@ -226,7 +219,7 @@ impl Slot {
         ensures received { ReceivesPiece self.old reader clock piece.now result }
         ensures stands { StandsBehindPiece self.old self.new reader clock piece.now }
         ensures stage { is_awaiting_stage self.new.stage ≡ false }
-        ensures told { IsNoList self.new }
+        ensures told { IsToldByAll self.new }
         ensures heard { IfSome result.heard (λ heard. is_idle_stage self.new.stage ≡ true) }
         ensures mark { IfSome result.heard (λ heard. self.new.mark ≡ clock) }
         ensures arguments { HearsPiece self.old reader clock piece.now arguments.old arguments.new }
@@ -300,76 +293,8 @@ impl Slot {
                 self.feed(Reader::new(), piece, clock, arguments, meter)
             }
             Stage::Reading(reader) => self.feed(reader, piece, clock, arguments, meter),
-            Stage::Owing(_) | Stage::Streaming(_) | Stage::Awaiting | Stage::Lost => nothing(),
+            Stage::Giving(_) | Stage::Awaiting | Stage::Lost => nothing(),
         }
-    }
-
-    /// Goes on as its record is answered, or its call that was forwarded: it takes the reply in exchange for its own buffer
-    /// and owes it, or is Awaiting, Idle or Lost.
-    pub fn settle(&mut self, outcome: Outcome, reply: &mut Kept, clock: u64, meter: &mut Meter)
-        requires buffers { HasBuffers meter.old.tie self.old }
-        requires draft { IsDraft meter.old.tie reply.old }
-        requires some { outcome ≡ Outcome.Reply → 0 < length reply.old.bytes }
-        ensures stands { SlotBecomes
-            (settled clock (given_in outcome reply.old)) self.old self.new }
-        ensures awaits { outcome ≡ Outcome.Forwarded → is_awaiting_stage self.new.stage ≡ true }
-        ensures told { IsNoList self.new }
-        ensures stays { StaysSlot meter.old.tie self.old self.new }
-        ensures draft { IsDraft meter.old.tie reply.new }
-        ensures empty { reply.new.bytes ≡ [] }
-        ensures cost { PaysAtMost meter.old meter.new (show_cost + 1) }
-    {
-        self.mark = clock;
-        match outcome {
-            Outcome::NoCall => {
-                self.stage = Stage::Lost;
-                reply.clear(meter);
-            }
-            Outcome::Forwarded => {
-                self.stage = Stage::Awaiting;
-                self.empty(reply, meter);
-            }
-            Outcome::Silent => {
-                self.stage = Stage::Idle;
-                self.empty(reply, meter);
-            }
-            Outcome::Reply => {
-                self.stage = Stage::Owing(0);
-                self.buffer.clear(meter);
-                mem::swap(&mut self.buffer, reply);
-                begin(&self.buffer, &mut self.window, meter);
-            }
-        }
-    }
-
-    /// Goes on as its record is answered by a list: it owes that, and its first fragment is made in a buffer that is empty
-    /// before and after.
-    pub fn list(
-        &mut self,
-        list: ListReply,
-        clock: u64,
-        host: [u8; 4],
-        registry: &Registry,
-        scratch: &mut Kept,
-        meter: &mut Meter,
-    )
-        requires registry { meter.old.tie ≡ registry.now.tie }
-        requires buffers { HasBuffers meter.old.tie self.old }
-        requires scratch { IsDraft meter.old.tie scratch.old }
-        requires list { IsToldBy (source_for host registry.now) list }
-        ensures stands { SlotBeginsList
-            (source_for host registry.now) clock list self.old self.new }
-        ensures told { IsToldSlot (source_for host registry.now) self.new }
-        ensures awaits { is_awaiting_stage self.new.stage ≡ false }
-        ensures stays { StaysSlot meter.old.tie self.old self.new }
-        ensures draft { IsDraft meter.old.tie scratch.new }
-        ensures empty { scratch.new.bytes ≡ [] }
-        ensures cost { PaysAtMost meter.old meter.new (show_list_cost registry.now + 1) }
-    {
-        self.mark = clock;
-        self.buffer.clear(meter);
-        let stream = show_list(list, registry, host, &mut self.window, scratch, meter);
-        self.stage = Stage::Streaming(stream);
     }
 
     /// Empties its buffers, and that for a reply.
@@ -385,12 +310,63 @@ impl Slot {
         reply.clear(meter);
     }
 
-    /// Counts n of the pending bytes of a list as given, or as many as there are.
-    fn give_list(
+    /// Goes on as its record is answered, or its call that was forwarded. It owes a reply, which it takes in exchange for its
+    /// own buffer, or a list, whose fragments are made in this one; or it is Awaiting, Idle or Lost. The buffer that it is
+    /// handed is empty after it.
+    pub fn settle(
         &mut self,
-        stream: Stream,
-        n: usize,
+        served: Served,
         clock: u64,
+        host: [u8; 4],
+        registry: &Registry,
+        draft: &mut Kept,
+        meter: &mut Meter,
+    )
+        requires registry { meter.old.tie ≡ registry.now.tie }
+        requires buffers { HasBuffers meter.old.tie self.old }
+        requires draft { IsDraft meter.old.tie draft.old }
+        requires written { IsWritten served draft.old.bytes }
+        ensures stands { SlotSettles
+            (source_for host registry.now) clock served draft.old.bytes self.old self.new }
+        ensures awaits { kind_in served ≡ Outcome.Forwarded
+            → is_awaiting_stage self.new.stage ≡ true }
+        ensures told { IsToldSlot (source_for host registry.now) self.new }
+        ensures stays { StaysSlot meter.old.tie self.old self.new }
+        ensures draft { IsDraft meter.old.tie draft.new }
+        ensures empty { draft.new.bytes ≡ [] }
+        ensures cost { PaysAtMost meter.old meter.new (told_cost registry.now served) }
+    {
+        self.mark = clock;
+        match served {
+            Served::Told(Outcome::NoCall) => {
+                self.stage = Stage::Lost;
+                draft.clear(meter);
+            }
+            Served::Told(Outcome::Forwarded) => {
+                self.stage = Stage::Awaiting;
+                self.empty(draft, meter);
+            }
+            Served::Told(Outcome::Silent) => {
+                self.stage = Stage::Idle;
+                self.empty(draft, meter);
+            }
+            Served::Told(Outcome::Reply) => {
+                self.buffer.clear(meter);
+                mem::swap(&mut self.buffer, draft);
+                self.show(Rest::Held(0), host, registry, draft, meter);
+            }
+            Served::Listed(xid, listing) => {
+                self.buffer.clear(meter);
+                let list = ListReply::new(xid, listing, registry);
+                self.show(Rest::Listed(list), host, registry, draft, meter);
+            }
+        }
+    }
+
+    /// Goes on giving, with the next fragment of a reply, of which this was not shown yet.
+    fn show(
+        &mut self,
+        rest: Rest,
         host: [u8; 4],
         registry: &Registry,
         scratch: &mut Kept,
@@ -400,40 +376,24 @@ impl Slot {
         requires buffers { HasBuffers meter.old.tie self.old }
         requires scratch { IsDraft meter.old.tie scratch.old }
         requires empty { scratch.old.bytes ≡ [] }
-        requires stage { self.old.stage ≡ Stage.Streaming stream }
-        requires told { GoesOnBy (source_for host registry.now) stream }
-        ensures acts { SlotGives (source_for host registry.now) clock n self.old self.new }
-        ensures awaits { is_awaiting_stage self.new.stage ≡ false }
-        ensures told { IsToldSlot (source_for host registry.now) self.new }
-        ensures stays { StaysSlot meter.old.tie self.old self.new }
+        requires told { CanTell (source_for host registry.now) rest }
+        requires some { 0 < length (rest_in (source_for host registry.now)
+            self.old.buffer.bytes rest) }
+        ensures shows { SlotShowsNext (source_for host registry.now) rest self.old self.new }
         ensures draft { IsDraft meter.old.tie scratch.new }
         ensures empty { scratch.new.bytes ≡ [] }
-        ensures cost { PaysAtMost meter.old meter.new (3 + show_list_cost registry.now) }
+        ensures cost { PaysAtMost meter.old meter.new (next_cost registry.now rest) }
     {
-        let shown = self.window.len(meter);
-        let more = n.min(shown.saturating_sub(stream.place));
-        if more == 0 {
-            return;
-        }
-        self.mark = clock;
-        let place = stream.place + more;
-        if place < shown {
-            self.stage = Stage::Streaming(Stream { place, ..stream });
-        } else if stream.last {
-            self.stage = Stage::Idle;
-            self.buffer.clear(meter);
-            self.window.clear(meter);
-        } else {
-            let next = show_list(
-                stream.behind,
-                registry,
-                host,
-                &mut self.window,
-                scratch,
-                meter,
-            );
-            self.stage = Stage::Streaming(next);
-        }
+        let giving = show_next(
+            rest,
+            &self.buffer,
+            registry,
+            host,
+            &mut self.window,
+            scratch,
+            meter,
+        );
+        self.stage = Stage::Giving(giving);
     }
 
     /// Counts n of the pending bytes as given, or as many as there are: with the last byte of its reply the
@@ -460,25 +420,24 @@ impl Slot {
         ensures empty { scratch.new.bytes ≡ [] }
         ensures cost { PaysAtMost meter.old meter.new (give_cost registry.now) }
     {
-        if let Stage::Streaming(stream) = self.stage {
-            self.give_list(stream, n, clock, host, registry, scratch, meter);
-            return;
-        }
-        let Stage::Owing(given) = self.stage else {
+        let Stage::Giving(giving) = self.stage else {
             return;
         };
-        let more = n.min(pending_len(&self.window, given, meter));
+        let shown = self.window.len(meter);
+        let more = n.min(shown.saturating_sub(giving.place));
         if more == 0 {
             return;
         }
         self.mark = clock;
-        match advance(&self.buffer, &mut self.window, given, more, meter) {
-            Some(given) => self.stage = Stage::Owing(given),
-            None => {
-                self.stage = Stage::Idle;
-                self.buffer.clear(meter);
-                self.window.clear(meter);
-            }
+        let place = giving.place + more;
+        if place < shown {
+            self.stage = Stage::Giving(Giving { place, ..giving });
+        } else if giving.last {
+            self.stage = Stage::Idle;
+            self.buffer.clear(meter);
+            self.window.clear(meter);
+        } else {
+            self.show(giving.rest, host, registry, scratch, meter);
         }
     }
 
@@ -500,13 +459,13 @@ impl Slot {
         ensures cost { PaysAtMost meter.old meter.new 1 }
     {
         match self.stage {
-            Stage::Owing(given) => pending_len(&self.window, given, meter),
-            Stage::Streaming(stream) => pending_len(&self.window, stream.place, meter),
+            Stage::Giving(giving) => self.window.len(meter).saturating_sub(giving.place),
             Stage::Idle | Stage::Reading(_) | Stage::Awaiting | Stage::Lost => 0,
         }
     }
 
     /// The rest of the current fragment of the reply that is owed, empty where none is.
+    #[tactic(auto, unfolding(rb_model::specs::Connections::longest_fragment))]
     pub fn pending(&self, meter: &mut Meter) -> &[u8]
         requires { HasBuffers meter.old.tie self.now }
         ensures pending { SlotShows (λ c. pending_in c.phase) self.now result.now }
@@ -514,8 +473,10 @@ impl Slot {
         ensures cost { PaysAtMost meter.old meter.new pending_cost }
     {
         match self.stage {
-            Stage::Owing(given) => pending(&self.window, given, meter),
-            Stage::Streaming(stream) => pending(&self.window, stream.place, meter),
+            Stage::Giving(giving) => {
+                let end = self.window.len(meter);
+                self.window.lend(end.min(giving.place)..end, meter)
+            }
             Stage::Idle | Stage::Reading(_) | Stage::Awaiting | Stage::Lost => {
                 self.window.lend(0..0, meter)
             }

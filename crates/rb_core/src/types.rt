@@ -14,18 +14,6 @@ pub enum Outcome {
     Silent,
 }
 
-impl Outcome {
-    ghost use Rattle.std.specs.Prelude.{◌≡◌, ℕ, List};
-    ghost use Rattle.rb_model.specs.Calls.{is_no_call};
-    ghost use Rattle.rb_core.specs.Core.{outcome_with};
-
-    pub(crate) fn is_no_call(self) -> bool
-        ensures { (reply : List ℕ) → result ≡ is_no_call (outcome_with self reply) }
-    {
-        matches!(self, Outcome::NoCall)
-    }
-}
-
 /// What came of bytes that arrived on a connection, where a reply may be given at once.
 #[derive(Clone, Copy, Debug, PartialEq, Eq)]
 pub struct Exchanged {

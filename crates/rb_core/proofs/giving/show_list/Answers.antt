@@ -1,20 +1,18 @@
-use Rattle.std.proofs.Common.{ap, arith}
-use Rattle.rb_xdr.specs.Kept.{Kept}
+use Rattle.std.proofs.Common.{ℕ, List, Some, refl, ap, ◌∙◌}
 use Rattle.rb_proto.specs.ListReplies.{rest_of}
-use Rattle.rb_core.proofs.Fragments.{part_size, part_shown, written_twice}
+use Rattle.rb_core.proofs.Fragments.{part_shown}
 use Rattle.rb_core.proofs.giving.show_list.Goals as goal
 
-pub fragment_header-requires-clause-some : goal.fragment_header-requires-clause-some
-fragment_header-requires-clause-some c =
+pub returns-clause-shows : goal.returns-clause-shows
+returns-clause-shows c = λ buffer.
     let p = c.next_part-part.ensures in
-    let size = part_size _ _ _ _ p.part p.range p.within in
-    omega (arith, size, c.requires.some)
-
-pub returns-clause-shown : goal.returns-clause-shown
-returns-clause-shown c =
-    let p = c.next_part-part.ensures in
-    let size = part_size _ _ _ _ p.part p.range p.within in
-    ap (λ (kept : Kept). kept.bytes)
-    (written_twice c.args.window.now c.clear.new.self c.put.new.window c.put-2.new.window _ _ _ c.clear.ensures.empty c.put.ensures.written c.put-2.ensures.written
-    (rw (c.fragment_header.ensures, c.lend.ensures.bytes)
-    (part_shown (rest_of c.args.host c.args.registry.now c.args.list) _ _ _ p.part size p.last)))
+    record {
+      fragment = c.show.ensures.shown
+          ∙ ap (λ (xs : List ℕ). record c.args.window.now { bytes = xs })
+          (part_shown (rest_of c.args.host c.args.registry.now c.args.list) c.lend-data.result.now _ (c.lend-data.ensures.bytes ∙ p.part) p.last);
+      rest_is = p.rest;
+      last = p.last;
+      place = refl;
+      stamp = ap (λ (n : ℕ). Some n) p.stamp;
+      told = p.told;
+    }

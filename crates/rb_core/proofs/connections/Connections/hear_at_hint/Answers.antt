@@ -7,7 +7,7 @@ use Rattle.rb_core.specs.declared.slot.Slot.{Slot}
 use Rattle.rb_core.specs.StandsFor.{Table, IsWithin}
 use Rattle.rb_core.specs.Slots.{HasBuffers, HearsWhole}
 use Rattle.rb_core.specs.Awaits.{is_awaiting_stage, HeardFrom}
-use Rattle.rb_core.specs.Listings.{IsToldStage}
+use Rattle.rb_core.specs.Listings.{IsToldSlot}
 use Rattle.rb_core.proofs.Freed.{none_freed, freed_from}
 use Rattle.rb_core.proofs.Holding.{stays_changed}
 use Rattle.rb_core.proofs.Settled.{hears_if, heard_if, stays_if}
@@ -55,7 +55,7 @@ returns-clause-refused c =
 pub returns-clause-told : goal.returns-clause-told
 returns-clause-told c =
     keeps_changed (the_view c.self.inside) c.args.self.now c.self.view_is c.key.result c.in_ok-slot.slot.now c.hear_whole.new.self (sym c.in_ok-slot.ensures.value)
-    (λ source told. subst (λ (s : Slot). IsToldStage source s.stage) (sym c.hear_whole.ensures.kept) told)
+    (λ source told. subst (λ (s : Slot). IsToldSlot source s) (sym c.hear_whole.ensures.kept) told)
 
 pub returns-clause-free : goal.returns-clause-free
 returns-clause-free c =

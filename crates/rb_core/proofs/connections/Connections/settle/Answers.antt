@@ -2,16 +2,16 @@ use Rattle.std.proofs.Common.{◌+◌, ◌*◌, [], length, ap, sym, subst, ◌�
 use Rattle.rb_xdr.specs.Meter.{Meter}
 use Rattle.rb_core.specs.contracts.connections.Connections.{the_view}
 use Rattle.rb_model.specs.Connections.{changed_at, settled}
-use Rattle.rb_model.specs.Costs.{show_cost}
-use Rattle.rb_core.specs.Core.{outcome_with}
-use Rattle.rb_core.specs.StandsFor.{StandsForConnections}
+use Rattle.rb_core.specs.CallCosts.{told_cost}
+use Rattle.rb_core.specs.Serving.{served_in}
+use Rattle.rb_core.specs.StandsFor.{StandsForConnections, source_for}
 use Rattle.rb_core.specs.Slots.{HasBuffers}
 use Rattle.rb_core.proofs.Holding.{its_buffers, charge_fits, held_few, stays_changed, recounted_cost}
 use Rattle.rb_core.proofs.Slots.{gone_stays, live_changed, slot_is_there, table_changed}
 use Rattle.std.proofs.Common.{◌≡◌, true, refl}
 use Rattle.rb_core.specs.Awaits.{has_idle}
 use Rattle.rb_core.proofs.Freed.{found_live, none_idle, one_freed, now_awaits, only_from}
-use Rattle.rb_core.proofs.Telling.{keeps_changed, no_list_told}
+use Rattle.rb_core.proofs.Telling.{told_changed}
 use Rattle.std.specs.Map.{values_of}
 use Rattle.rb_core.proofs.ByHint.{distinct_numbers}
 use Rattle.rb_core.proofs.connections.Connections.settle.Goals as goal
@@ -20,10 +20,11 @@ pub wanted_key-requires-clause-numbers : goal.wanted_key-requires-clause-numbers
 wanted_key-requires-clause-numbers c = distinct_numbers c.self.inside.given (values_of c.self.inside.slots.entries) c.self.invariant.numbers
 
 pub returns-in_default-clause-stands : goal.returns-in_default-clause-stands
-returns-in_default-clause-stands c = λ source o h.
+returns-in_default-clause-stands c = λ o h.
+    let source = source_for c.args.host c.args.registry.now in
     let z = subst (λ t. StandsForConnections source t o) (sym c.self.view_is) h in
-    subst (λ t. StandsForConnections source t (changed_at c.args.id (settled c.args.clock (outcome_with c.args.outcome c.args.reply.now.bytes)) o)) c.self.view_is
-    (gone_stays source c.args.id (settled c.args.clock (outcome_with c.args.outcome c.args.reply.now.bytes)) (the_view c.self.inside) (sym c.in_default.ensures.key) o z)
+    subst (λ t. StandsForConnections source t (changed_at c.args.id (settled c.args.clock (served_in source c.args.served c.args.draft.now.bytes)) o)) c.self.view_is
+    (gone_stays source c.args.id (settled c.args.clock (served_in source c.args.served c.args.draft.now.bytes)) (the_view c.self.inside) (sym c.in_default.ensures.key) o z)
 
 pub unreachable-requires : goal.unreachable-requires
 unreachable-requires c = slot_is_there _ c.self.inside.slots.entries [] c.in-Some.key (sym c.in-Some.ensures.key) (sym c.in_default-get_mut.ensures.value)
@@ -58,12 +59,13 @@ returns-clause-stays c = stays_changed (the_view c.self.inside) c.args.self.now 
 pub returns-clause-cost : goal.returns-clause-cost
 returns-clause-cost c =
     rw (← c.self.view_is)
-    (recounted_cost _ _ _ _ _ _ (2 * length c.self.inside.slots.entries + 2) (show_cost + 1) c.wanted_key.ensures.cost c.get_mut.ensures.cost c.charge-before.ensures.cost c.settle.ensures.cost c.recounted-self-inside.ensures.cost _ (omega arith))
+    (recounted_cost _ _ _ _ _ _ (2 * length c.self.inside.slots.entries + 2) (told_cost c.args.registry.now c.args.served) c.wanted_key.ensures.cost c.get_mut.ensures.cost c.charge-before.ensures.cost c.settle.ensures.cost c.recounted-self-inside.ensures.cost _ (omega arith))
 
 pub returns-clause-stands : goal.returns-clause-stands
-returns-clause-stands c = λ source o h.
+returns-clause-stands c = λ o h.
+    let source = source_for c.args.host c.args.registry.now in
     let z = subst (λ t. StandsForConnections source t o) (sym c.self.view_is) h in
-    live_changed source c.args.id (settled c.args.clock (outcome_with c.args.outcome c.args.reply.now.bytes)) (the_view c.self.inside) c.in-Some.key c.in-Some-get_mut.slot.now c.settle.new.self c.self.invariant.distinct (sym c.in-Some.ensures.key) (sym c.in-Some-get_mut.ensures.value) (c.settle.ensures.stands source) o z
+    live_changed source c.args.id (settled c.args.clock (served_in source c.args.served c.args.draft.now.bytes)) (the_view c.self.inside) c.in-Some.key c.in-Some-get_mut.slot.now c.settle.new.self c.self.invariant.distinct (sym c.in-Some.ensures.key) (sym c.in-Some-get_mut.ensures.value) c.settle.ensures.stands o z
 
 pub returns-in_default-clause-others : goal.returns-in_default-clause-others
 returns-in_default-clause-others c = λ id apart none. none
@@ -83,10 +85,7 @@ returns-clause-awaits c = λ forwarded idle.
     let l = found_live c.args.id c.in-Some.key c.self.inside.slots.entries c.in-Some-get_mut.slot.now c.self.invariant.distinct (sym c.in-Some.ensures.key) (sym c.in-Some-get_mut.ensures.value) in
     now_awaits (the_view c.self.inside) c.args.id c.in-Some.key c.in-Some-get_mut.slot.now c.settle.new.self c.self.invariant.numbers (sym c.in-Some-get_mut.ensures.value) l.0 c.settle.ensures.stays.number (c.settle.ensures.awaits forwarded)
 
-pub returns-in_default-clause-told : goal.returns-in_default-clause-told
-returns-in_default-clause-told c = λ source told. told
-
 pub returns-clause-told : goal.returns-clause-told
 returns-clause-told c =
-    keeps_changed (the_view c.self.inside) c.args.self.now c.self.view_is c.in-Some.key c.in-Some-get_mut.slot.now c.settle.new.self (sym c.in-Some-get_mut.ensures.value)
-    (λ source told. no_list_told source c.settle.new.self c.settle.ensures.told)
+    let source = source_for c.args.host c.args.registry.now in
+    told_changed (the_view c.self.inside) c.args.self.now c.self.view_is source c.in-Some.key c.settle.new.self c.requires.told c.settle.ensures.told

@@ -6,11 +6,11 @@ use Rattle.rb_core.specs.declared.slot.Stage.TheVariants as stages
 use Rattle.rb_model.specs.State.{Phase}
 use Rattle.rb_model.specs.Connections.{taking, taking_on, fed_in}
 use Rattle.rb_model.specs.Connections.Taking.{TakesNone}
-use Rattle.rb_core.specs.declared.giving.Stream.{Stream}
+use Rattle.rb_core.specs.declared.giving.Giving.{Giving}
 use Rattle.rb_core.specs.StandsFor.{Source, StandsForPhase}
 use Rattle.rb_core.specs.Slots.{IsBeforePiece}
 use Rattle.rb_core.proofs.Slots.{reads_nothing}
-use Rattle.rb_core.proofs.OneSlot.{idle_phase, reading_phase, owing_phase, streaming_phase, awaiting_phase, lost_phase, feeding_acts, taken_arguments, nothing_of_nothing, nothing_where_owing, nothing_where_awaiting, nothing_where_lost, some_where_fed, mark_of_idle, mark_of_reading}
+use Rattle.rb_core.proofs.OneSlot.{idle_phase, reading_phase, giving_phase, awaiting_phase, lost_phase, feeding_acts, taken_arguments, nothing_of_nothing, nothing_where_owing, nothing_where_awaiting, nothing_where_lost, some_where_fed, mark_of_idle, mark_of_reading}
 use Rattle.rb_core.proofs.slot.Slot.take.Goals as goal
 
 no_bytes : (piece : List ℕ) → eqb (length piece) 0 ≡ true → piece ≡ []
@@ -65,18 +65,17 @@ returns-in-Reading-clause-acts c =
       stands = c.feed-in-Reading.ensures.stands source x p.0 before;
     })
 
-nothing_where : (source : Source) (stage : Stage) (buffer window : Kept) (phase : Phase) (piece : List ℕ) → ((given : ℕ) × (stage ≡ stages.Owing given)) ⊎ (((stream : Stream) × (stage ≡ stages.Streaming stream)) ⊎ ((stage ≡ stages.Awaiting) ⊎ (stage ≡ stages.Lost))) → StandsForPhase source stage buffer window phase → taking phase piece ≡ TakesNone
-nothing_where source stage buffer window phase piece (inl o) h = let p = owing_phase source o.0 stage buffer window phase o.1 h in nothing_where_owing phase p.0 piece p.1
-nothing_where source stage buffer window phase piece (inr (inl o)) h = let p = streaming_phase source o.0 stage buffer window phase o.1 h in nothing_where_owing phase p.0 piece p.1
-nothing_where source stage buffer window phase piece (inr (inr (inl a))) h = nothing_where_awaiting phase piece (awaiting_phase source stage buffer window phase a h)
-nothing_where source stage buffer window phase piece (inr (inr (inr l))) h = nothing_where_lost phase piece (lost_phase source stage buffer window phase l h)
+nothing_where : (source : Source) (stage : Stage) (buffer window : Kept) (phase : Phase) (piece : List ℕ) → ((giving : Giving) × (stage ≡ stages.Giving giving)) ⊎ ((stage ≡ stages.Awaiting) ⊎ (stage ≡ stages.Lost)) → StandsForPhase source stage buffer window phase → taking phase piece ≡ TakesNone
+nothing_where source stage buffer window phase piece (inl o) h = let p = giving_phase source o.0 stage buffer window phase o.1 h in nothing_where_owing phase p.0 piece p.1
+nothing_where source stage buffer window phase piece (inr (inl a)) h = nothing_where_awaiting phase piece (awaiting_phase source stage buffer window phase a h)
+nothing_where source stage buffer window phase piece (inr (inr l)) h = nothing_where_lost phase piece (lost_phase source stage buffer window phase l h)
 
-pub returns-in-Owing-clause-acts : goal.returns-in-Owing-clause-acts
-returns-in-Owing-clause-acts c =
+pub returns-in-Giving-clause-acts : goal.returns-in-Giving-clause-acts
+returns-in-Giving-clause-acts c =
     λ source. feeding_acts source c.args.self.now _ c.args.clock c.args.piece.now _ (λ x h. record {
       taken = TakesNone;
-      is = nothing_where source c.args.self.now.stage _ _ x.phase c.args.piece.now c.in-Owing.is h.phase;
-      gives = c.nothing-in-Owing.ensures;
+      is = nothing_where source c.args.self.now.stage _ _ x.phase c.args.piece.now c.in-Giving.is h.phase;
+      gives = c.nothing-in-Giving.ensures;
       stands = h;
     })
 
@@ -108,6 +107,12 @@ returns-in-Reading-clause-arguments c = λ source x h.
     let before : IsBeforePiece _ c.in-Reading.reader c.args.clock x p.0 = record { number = h.number; peer = h.peer; mark = h.mark ∙ sym (mark_of_reading c.args.clock x.mark x.phase p.0 p.1); reads = p.2; window = p.3 } in
     taken_arguments _ _ piece x (taking_on p.0 piece) (some_where_fed x.phase p.0 piece (ap fed_in p.1) some) (c.feed-in-Reading.ensures.arguments x p.0 before)
 
-pub returns-in-Owing-clause-arguments : goal.returns-in-Owing-clause-arguments
-returns-in-Owing-clause-arguments c = λ source x h.
-    taken_arguments _ _ c.args.piece.now x TakesNone (nothing_where source c.args.self.now.stage _ _ x.phase c.args.piece.now c.in-Owing.is h.phase) refl
+pub returns-in-Giving-clause-arguments : goal.returns-in-Giving-clause-arguments
+returns-in-Giving-clause-arguments c = λ source x h.
+    taken_arguments _ _ c.args.piece.now x TakesNone (nothing_where source c.args.self.now.stage _ _ x.phase c.args.piece.now c.in-Giving.is h.phase) refl
+
+pub returns-in-Idle-clause-told : goal.returns-in-Idle-clause-told
+returns-in-Idle-clause-told c = λ source told. c.feed.ensures.told source
+
+pub returns-in-Reading-clause-told : goal.returns-in-Reading-clause-told
+returns-in-Reading-clause-told c = λ source told. c.feed-in-Reading.ensures.told source
