@@ -4,7 +4,8 @@
 #
 # A row is NAME.events (standard input) and NAME.expected (standard output), with the rule that it shows in a comment.
 # Where they differ from the word `replay`, from 0 and from nothing, NAME.args has the program's words, one a line,
-# NAME.status the exit status and NAME.stderr the standard error. A row with bytes of connections is run again with
+# NAME.status the exit status and NAME.stderr the standard error. A row with outputs is run again by `replay --check`,
+# with what is wanted of each event in a line behind it. A row with bytes of connections is run again with
 # them cut into pieces of 1, of 7 and of 1,000 bytes: all its outputs stay, with the sums of what the pieces took.
 # A row of rpcinfo is NAME.input, NAME.args, whose comment is the rule, and NAME.expected in tests/rows-rpcinfo, with the
 # same NAME.status and NAME.stderr.
@@ -66,6 +67,22 @@ run_row() {
     as_wanted "$base.expected" "$stderr" "$status"
 }
 
+# Puts behind each event of a row the output that is wanted of it, as a line that `replay --check` reads: all agree.
+run_row_checked() {
+    local base=$1 words=(replay)
+    [ -f "$base.args" ] && mapfile -t words < "$base.args"
+    awk 'NR == FNR { wanted[FNR] = $0; next } { print } !/^#/ && !/^$/ { print "#> " wanted[++event] }' \
+        "$base.expected" "$base.events" > "$work/events"
+    echo "$(wc -l < "$base.expected") outputs agree" > "$work/wanted"
+    run "$work/events" "${words[@]}" --check
+    as_wanted "$work/wanted" /dev/null 0
+}
+
+# Whether a row runs events and prints their outputs alone.
+prints_outputs() {
+    [ ! -f "$1.status" ] && [ -s "$1.expected" ] && ! grep -qs -e '--check' -e '--steps' "$1.args"
+}
+
 # Cuts the bytes of each `bytes` line into pieces of $2 bytes, a line each, and writes to $3 of each event how many
 # lines it became.
 cut_into_pieces() {
@@ -124,6 +141,10 @@ run_rows() {
         name=$(basename "$base")
         run_row "$base"
         judge $? "row $name"
+        if prints_outputs "$base"; then
+            run_row_checked "$base"
+            judge $? "row $name, checked"
+        fi
         grep -q '^# .' "$events" || unruled="$unruled $name"
         { [ -f "$base.status" ] || ! grep -q '^bytes' "$events"; } && continue
         for length in 1 7 1000; do

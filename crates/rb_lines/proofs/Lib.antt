@@ -6,3 +6,4 @@ pub mod LineLaws
 pub mod Words
 pub mod HexWords
 pub mod LineWords
+pub mod Comparing

@@ -5,3 +5,4 @@ pub mod Running
 pub mod Worked
 pub mod LineLaws
 pub mod LineGrammar
+pub mod Checking

@@ -1,10 +1,10 @@
 -- What `rpcbind replay` does with its input.
-use Rattle.std.specs.Prelude.{◌≡◌, ◌≤◌, ℕ, ◌+◌, ◌++◌, min, not, true, IsTrue, List, [], take, Option, IfSome, Result, Ok, Err}
+use Rattle.std.specs.Prelude.{◌≡◌, ◌≤◌, ℕ, ◌+◌, ◌++◌, not, true, IsTrue, List, [], take, Option, IfSome, Result, Ok, Err}
 use Rattle.std.specs.Io.Buffered.{writer_contents}
 use Rattle.std.specs.declared.io.buffered.BufWriter.{BufWriter}
 use Rattle.rb_model.specs.State.{State, are_good, opening}
 use Rattle.rb_model.specs.declared.types.Limits.{Limits}
-use Rattle.rb_model.specs.Step.{Event, Output, run, IsReached}
+use Rattle.rb_model.specs.Step.{Event, run, IsReached}
 use Rattle.rb_model.specs.Plain.{outputs_of}
 use Rattle.rb_core.specs.Events.{bound_told}
 use Rattle.rb_lines.specs.declared.lines.ReadFault.{ReadFault}
@@ -12,7 +12,7 @@ use Rattle.rb_lines.specs.declared.lines.ReadFault.TheVariants as reading
 use Rattle.rb_lines.specs.declared.running.Beginning.{Beginning}
 use Rattle.rb_lines.specs.declared.running.Fault.{Fault}
 use Rattle.rb_lines.specs.declared.running.Ran.{Ran}
-use Rattle.rb_lines.specs.declared.running.Fault.TheVariants.{NotText, Lines, NoMemory, BadLimits, SocketFailed, ReadFailed, WriteFailed}
+use Rattle.rb_lines.specs.declared.running.Fault.TheVariants.{NotText, Lines, NoMemory, BadLimits, SocketFailed, ReadFailed, WriteFailed, NoOutputs, Differs, Lacks}
 use Rattle.rb_lines.specs.Lines.{longest_input, read, Fails}
 use Rattle.rb_lines.specs.Printing.{report_of, ending, Writes}
 
@@ -39,6 +39,9 @@ status_of BadLimits = 1
 status_of SocketFailed = 1
 status_of ReadFailed = 1
 status_of WriteFailed = 1
+status_of NoOutputs = 2
+status_of (Differs n) = 1
+status_of (Lacks n) = 1
 
 -- the text is event lines
 abbrev pub IsRead : Result (List Event) ReadFault → Type 0
@@ -66,6 +69,9 @@ IsFaultOf beginning BadLimits given = IsRead given × IsCoreFault beginning BadL
 IsFaultOf beginning SocketFailed given = ⊥
 IsFaultOf beginning ReadFailed given = ⊥
 IsFaultOf beginning WriteFailed given = IsRead given × IsTrue (are_good beginning.limits)
+IsFaultOf beginning NoOutputs given = ⊥
+IsFaultOf beginning (Differs n) given = ⊥
+IsFaultOf beginning (Lacks n) given = ⊥
 
 -- The same as `Writes`, with what is in the writer's buffer.
 abbrev pub BufWrites : {W A : Type 0} → (W → Option (List ℕ)) → BufWriter W A → BufWriter W A

@@ -1,15 +1,19 @@
 //! Event lines: reading them, running their events, and printing what each gives.
 #![tactic(auto)]
 
+mod checking;
 mod fields;
 mod laws;
+mod limits;
 mod lines;
 mod printing;
 mod running;
 mod worked;
 
+pub use checking::{check_text, run_check};
 pub use fields::decimal;
 pub use laws::{lines_are_of_the_grammar, text_reads_as_its_lines};
+pub use limits::{BadLimit, bad_limit};
 pub use lines::{ReadFault, read_events};
 pub use running::{Beginning, Fault, explain, run_replay};
 pub use worked::worked_examples;

@@ -9,6 +9,7 @@ ghost use Rattle.rb_lines.specs.Lines.{read};
 ghost use Rattle.rb_lines.specs.Printing.{report, ending};
 ghost use Rattle.rb_lines.specs.Running.{first, IsFresh, IsRunFrom, KeepsBound, status_of, BufWrites, IsEnoughOf, IsFaultOf, IsCoreFault, IsRefused, Prints, Reads, Replays, Refuses};
 
+use crate::limits::bad_limit;
 use crate::lines::{ReadFault, longest_input, read_events};
 use crate::printing::{WriteFailed, print_outputs, print_steps};
 use rb_core::{Core, CoreFault, Event, Limits, Listener, Output, replay, whole_bound};
@@ -48,6 +49,15 @@ pub enum Fault {
     ReadFailed,
     #[error("rpcbind: write failed")]
     WriteFailed,
+    /// An input that is to be checked has no output lines.
+    #[error("rpcbind: no output lines")]
+    NoOutputs,
+    /// The line of this number says another output than the run gives there.
+    #[error("rpcbind: line {0}: the run gives another output")]
+    Differs(usize),
+    /// There is no line for the output of this number.
+    #[error("rpcbind: output {0} of the run has no line")]
+    Lacks(usize),
 }
 
 impl Fault {
@@ -59,19 +69,23 @@ impl Fault {
         ensures { result ≡ status_of self }
     {
         match self {
-            Fault::NotText | Fault::Lines(ReadFault::BadLine(_) | ReadFault::TooLong) => 2,
+            Fault::NotText
+            | Fault::Lines(ReadFault::BadLine(_) | ReadFault::TooLong)
+            | Fault::NoOutputs => 2,
             Fault::Lines(ReadFault::NoMemory)
             | Fault::NoMemory
             | Fault::BadLimits
             | Fault::SocketFailed
             | Fault::ReadFailed
-            | Fault::WriteFailed => 1,
+            | Fault::WriteFailed
+            | Fault::Differs(_)
+            | Fault::Lacks(_) => 1,
         }
     }
 }
 
 /// The first bytes of what the reader has left: as many as an input may have, and one more.
-fn read_input<R: Read>(alloc: Global, reader: &mut R) -> Result<Vec<u8>, Fault>
+pub(crate) fn read_input<R: Read>(alloc: Global, reader: &mut R) -> Result<Vec<u8>, Fault>
     ensures bytes { IfOk result (λ text. IsEnoughOf (R.remaining reader.old) text.items) }
     ensures err { IfErr result (λ fault. (fault ≡ Fault.NoMemory) ⊎ (fault ≡ Fault.ReadFailed)) }
 {
@@ -107,10 +121,10 @@ fn first_core(alloc: Global, beginning: &Beginning, meter: &mut Meter) -> Result
 
 /// What a run gave, how many steps it took, and how many it may.
 #[derive(Drop)]
-struct Ran {
-    outputs: Vec<Output>,
-    steps: u128,
-    bound: u128,
+pub(crate) struct Ran {
+    pub outputs: Vec<Output>,
+    pub steps: u128,
+    pub bound: u128,
 }
 
 /// Runs the events on a core of these limits.
@@ -146,7 +160,7 @@ fn run_on(
 }
 
 /// Runs the events, from a new core.
-fn run_from(alloc: Global, beginning: &Beginning, events: &[Event]) -> Result<Ran, Fault>
+pub(crate) fn run_from(alloc: Global, beginning: &Beginning, events: &[Event]) -> Result<Ran, Fault>
     ensures ok { IfOk result (IsRunFrom
         beginning.now.limits (events_of events.now) (first beginning.now)) }
     ensures within { IfOk result KeepsBound }
@@ -245,8 +259,19 @@ pub fn run_replay<R: Read, W: Write + Drop, E: Write>(
 {
     match replay_all(alloc, beginning, reader, out) {
         Ok(()) => 0,
-        Err(fault) => explain(fault, faults),
+        Err(fault) => explain_run(fault, &beginning.limits, faults),
     }
+}
+
+/// Writes what is wrong, where that can be written, and gives the status. In front of bad limits it names the first that is
+/// out of its range.
+pub(crate) fn explain_run<E: Write>(fault: Fault, limits: &Limits, faults: &mut E) -> u8
+    ensures { result ≡ status_of fault }
+{
+    if let (Fault::BadLimits, Some(bad)) = (fault, bad_limit(limits)) {
+        let _ = writeln!(faults, "rpcbind: {bad}");
+    }
+    explain(fault, faults)
 }
 
 /// Writes what is wrong, where that can be written, and gives the status.

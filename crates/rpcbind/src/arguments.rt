@@ -23,6 +23,8 @@ const MOST_HOSTS: usize = 16;
 pub enum Words {
     Serve(Service),
     Replay(Beginning),
+    /// A replay whose outputs are compared with those of its input.
+    Check(Beginning),
 }
 
 /// An option whose value can't be read.
@@ -121,7 +123,12 @@ fn words_of<'a>(alloc: Global, matches: &ArgMatches<'a>) -> Result<Words, Unread
         return Ok(Words::Serve(service_of(alloc, serve)?));
     }
     if let Some(replay) = matches.subcommand_matches("replay") {
-        return Ok(Words::Replay(beginning_of(replay)?));
+        let beginning = beginning_of(replay)?;
+        return Ok(if replay.get_flag("check") {
+            Words::Check(beginning)
+        } else {
+            Words::Replay(beginning)
+        });
     }
     Err(Unread::BadValue(BadValue {
         option: "help",

@@ -4,12 +4,11 @@
 ghost use Rattle.std.specs.Prelude.{◌≤◌, IfErr};
 
 mod arguments;
-mod limits;
 mod options;
 mod service;
 
 use arguments::Words;
-use rb_lines::{Beginning, Fault, explain, run_replay};
+use rb_lines::{Beginning, Fault, explain, run_check, run_replay};
 use service::run_service;
 use std::io::{BufWriter, ErrorKind};
 use std::process::ExitCode;
@@ -54,10 +53,28 @@ fn replay(rt: &HostRuntime, beginning: &Beginning) -> u8
     )
 }
 
+/// Runs the command `replay --check` over standard input and output. The answer is the exit status.
+fn check(rt: &HostRuntime, beginning: &Beginning) -> u8
+    ensures { result ≤ 2 }
+{
+    let mut faults = rt.stderr();
+    let Ok(mut output) = BufWriter::new(rt.alloc(), io::writer(rt)) else {
+        return explain(Fault::NoMemory, &mut faults);
+    };
+    run_check(
+        rt.alloc(),
+        beginning,
+        &mut rt.reader(),
+        &mut output,
+        &mut faults,
+    )
+}
+
 fn main(rt: HostRuntime) -> ExitCode {
     let status = match asked(&rt) {
         Ok(Words::Serve(service)) => run_service(&rt, &service, &mut rt.stderr()),
         Ok(Words::Replay(beginning)) => replay(&rt, &beginning),
+        Ok(Words::Check(beginning)) => check(&rt, &beginning),
         Err(status) => status,
     };
     ExitCode::from(status)

@@ -86,7 +86,15 @@ fn replay<'a>(alloc: Global) -> Result<Command<'a>, AllocError> {
         .long("steps")
         .help("Tell in a last line how many counted steps the run took, and how many it may")
         .action(ArgAction::SetTrue);
+    let check = Arg::new(alloc, "check")
+        .long("check")
+        .help(
+            "Compare what each event gives with the '#> ' lines of the input, and print no outputs",
+        )
+        .conflicts_with("steps")?
+        .action(ArgAction::SetTrue);
     limited(alloc, command, ["4", "300", "4"])?
+        .arg(check)?
         .arg(steps)?
         .arg(option(alloc, "xid", "N", "Xid of the first forwarded call").default_value("1000"))?
         .arg(option(

@@ -1,10 +1,9 @@
 //! The command `serve`.
 ghost use Rattle.std.specs.Prelude.{◌≤◌};
 
-use crate::limits::bad_limit;
 use rb_core::Limits;
 use rb_daemon::{Daemon, DaemonFault, LocalSocket, Settings, SocketFault, Step};
-use rb_lines::{Fault, explain};
+use rb_lines::{Fault, bad_limit, explain};
 use rb_policy::{announced, is_no_address};
 use std::fs::Files;
 use std::io;

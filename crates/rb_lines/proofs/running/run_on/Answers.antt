@@ -1,6 +1,5 @@
 use Rattle.std.proofs.Common.{◌≡◌, ◌++◌, ℕ, List, [], sym, ap, ◌∙◌, arith}
 use Rattle.std.specs.Prelude.{min}
-use Rattle.rb_model.specs.declared.events.Output as output
 use Rattle.rb_model.specs.declared.types.Limits.{Limits}
 use Rattle.rb_core.specs.Events.{greatest_count}
 use Rattle.rb_model.specs.Plain.{events_of, outputs_of}

@@ -1,0 +1,129 @@
+-- What `rpcbind replay --check` says: whether an input's own output lines are those of the run of its events.
+use Rattle.std.specs.Prelude.{◌≡◌, ◌≤◌, ◌<◌, ◌⊎◌, ℕ, ◌+◌, if◌then◌else◌, List, [], ◌∷◌, ◌++◌, length, take, drop, map, codes, Option, Some, None, IfSome, Result, Ok, Err}
+use Rattle.std.specs.List.{flat_map}
+use Rattle.std.specs.Str.{bytes_eq}
+use Rattle.std.specs.Fmt.{decimal}
+use Rattle.std.specs.Borrow.{Bor}
+use Rattle.std.specs.declared.io.buffered.BufWriter.{BufWriter}
+use Rattle.rb_model.specs.Step.{Event, Output, run}
+use Rattle.rb_lines.specs.declared.lines.ReadFault.{ReadFault}
+use Rattle.rb_lines.specs.declared.running.Beginning.{Beginning}
+use Rattle.rb_lines.specs.declared.running.Fault.{Fault}
+use Rattle.rb_lines.specs.declared.running.Fault.TheVariants.{NotText, Lines, NoMemory, BadLimits, SocketFailed, ReadFailed, WriteFailed, NoOutputs, Differs, Lacks}
+use Rattle.rb_lines.specs.Lines.{lines_of, read, Fails}
+use Rattle.rb_lines.specs.Printing.{text_of}
+use Rattle.rb_lines.specs.Running.{first, IsCoreFault, IsRead, IsRefused, BufWrites}
+
+-- ---- what an input says of outputs
+
+-- The output line that stands behind `#> `, with the line feed that ends it. Another line has none.
+unfoldable pub said_by : List ℕ → List (List ℕ)
+said_by line = if bytes_eq (take 3 line) (codes "#> ") then (drop 3 line ++ codes "\n") ∷ [] else []
+
+-- the output lines that a text has
+unfoldable pub said : List ℕ → List (List ℕ)
+said text = flat_map said_by (lines_of text)
+
+-- the output lines of a run
+unfoldable pub printed : List Output → List (List ℕ)
+printed outputs = map text_of outputs
+
+-- ---- how both compare
+
+abbrev pub IsFrontOf : List (List ℕ) → List (List ℕ) → Type 0
+IsFrontOf some all = (rest : List (List ℕ)) × (all ≡ some ++ rest)
+
+-- This is the number of the first line at which the text and the outputs differ: what the lines before it say is a front
+-- of the outputs, and with it no more.
+pub record IsFirstOther (text : List ℕ) (outputs : List Output) (n : ℕ) : Type 0 where
+  pub before : List (List ℕ)
+  pub line : List ℕ
+  pub after : List (List ℕ)
+  pub lines : lines_of text ≡ before ++ line ∷ after
+  pub number : n ≡ length before + 1
+  pub agree : IsFrontOf (flat_map said_by before) (printed outputs)
+  pub differ : IsFrontOf (flat_map said_by before ++ said_by line) (printed outputs) → ⊥
+
+-- The text has the lines of the first outputs, and none for the one of this number, counted from 1.
+pub record IsLacking (text : List ℕ) (outputs : List Output) (n : ℕ) : Type 0 where
+  pub agree : IsFrontOf (said text) (printed outputs)
+  pub number : n ≡ length (said text) + 1
+  pub there : n ≤ length outputs
+
+-- The text has output lines, and they are those of the outputs.
+pub record Agrees (text : List ℕ) (outputs : List Output) : Type 0 where
+  pub same : said text ≡ printed outputs
+  pub some : 0 < length outputs
+
+-- how it may be that the text's output lines are not those of the outputs, or that this is not known
+abbrev pub IsUnlike : List ℕ → List Output → Fault → Type 0
+IsUnlike text outputs NoMemory = Unit {0}
+IsUnlike text outputs NoOutputs = said text ≡ []
+IsUnlike text outputs (Differs n) = IsFirstOther text outputs n
+IsUnlike text outputs (Lacks n) = IsLacking text outputs n
+IsUnlike text outputs other = ⊥
+
+-- ---- the command
+
+-- the line that says that so many agree
+abbrev pub agreement : ℕ → List ℕ
+agreement n = decimal n ++ codes " outputs agree\n"
+
+-- This holds of the outputs of the run of these events, which are there.
+abbrev pub OfRun : Beginning → (List Output → Type 0) → Result (List Event) ReadFault → Type 0
+OfRun beginning Holds (Ok events) = Holds (run (first beginning) events)
+OfRun beginning Holds (Err fault) = ⊥
+
+-- so many outputs
+abbrev pub AgreesWith : List ℕ → ℕ → List Output → Type 0
+AgreesWith text n outputs = Agrees text outputs × (n ≡ length outputs)
+
+-- Where the bytes that a reader has left are known, their output lines are those of the run of their events, so many.
+abbrev pub IsAgreed : {R : Type 0} → Beginning → (R → Option (List ℕ)) → R → ℕ → Type 0
+IsAgreed beginning remaining reader n =
+    IfSome (remaining reader) (λ input. OfRun beginning (AgreesWith input n) (read input))
+
+-- So they are, and that so many agree was written, and nothing else.
+abbrev pub FindsAgreed : {R W A : Type 0} → Beginning → (R → Option (List ℕ)) → R
+    → (W → Option (List ℕ)) → BufWriter W A → BufWriter W A → Type 0
+FindsAgreed beginning remaining reader contents old new =
+    (n : ℕ) × IsAgreed beginning remaining reader n × BufWrites contents old new (agreement n)
+
+-- The input is no event lines, or has no output lines.
+abbrev pub CannotBeChecked : List ℕ → Type 0
+CannotBeChecked input = IsRefused (read input) ⊎ (said input ≡ [])
+
+-- what may be wrong with a text that is checked
+abbrev pub IsWrongWith : Beginning → List ℕ → Fault → Type 0
+IsWrongWith beginning text NotText = ⊥
+IsWrongWith beginning text (Lines fault) = Fails fault (read text)
+IsWrongWith beginning text NoMemory = IsRead (read text)
+IsWrongWith beginning text BadLimits = IsRead (read text) × IsCoreFault beginning BadLimits
+IsWrongWith beginning text SocketFailed = ⊥
+IsWrongWith beginning text ReadFailed = ⊥
+IsWrongWith beginning text WriteFailed = ⊥
+IsWrongWith beginning text NoOutputs = OfRun beginning (λ outputs. said text ≡ []) (read text)
+IsWrongWith beginning text (Differs n) = OfRun beginning (λ outputs. IsFirstOther text outputs n) (read text)
+IsWrongWith beginning text (Lacks n) = OfRun beginning (λ outputs. IsLacking text outputs n) (read text)
+
+-- ---- as the code has them
+
+abbrev pub said_of : Option (Bor (List ℕ)) → List (List ℕ)
+said_of None = []
+said_of (Some text) = (text.now ++ codes "\n") ∷ []
+
+-- how the output lines may end that are those of so many outputs, of so many that there are
+abbrev pub IsEnd : ℕ → ℕ → Fault → Type 0
+IsEnd found count NoOutputs = found ≡ 0
+IsEnd found count (Lacks n) = (n ≡ found + 1) × (found < count)
+IsEnd found count other = ⊥
+
+-- From so many outputs of these lines that agree, the line goes on to so many.
+abbrev pub GoesOn : List (List ℕ) → List ℕ → ℕ → ℕ → Type 0
+GoesOn all line old new = take new all ≡ take old all ++ said_by line
+
+-- what may be wrong with the line of this number, behind so many outputs of these lines that agree
+abbrev pub IsWrongAt : ℕ → List (List ℕ) → List ℕ → ℕ → Fault → Type 0
+IsWrongAt number all line next NoMemory = Unit {0}
+IsWrongAt number all line next (Differs n) = (n ≡ number) × (IsFrontOf (take next all ++ said_by line) all → ⊥)
+IsWrongAt number all line next other = ⊥
