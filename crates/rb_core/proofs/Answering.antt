@@ -41,6 +41,10 @@ module _ (view : Held) (caller : Caller) (context : Context) (is : context ≡ c
   served_by message arguments table books given acts frame stays =
       subst (λ (x : Context). Served x view message arguments table books given) is (record { acts = acts; frame = frame; stays = stays })
 
+-- where a message adds no row, no room is to be made
+pub nothing_evicts : (context : Context) (message : Message) (before : Table) (old : Books) → ((l : Ledger) → asks_room context message l ≡ false) → Evicts context message before old before old
+nothing_evicts context message before old none = λ c l z h. (rw (not_asked context message c.all l (none l), none_evicted c) z, h)
+
 module _ (context : Context) (message : Message) (arguments : List ℕ) (before : Table) (old : Books) (given : Outcome) where
   -- once room was made
   pub serves_in_room : (table : Table) (mid books : Books) → GoesOn mid.registry books.registry → books.registry.floor ≡ mid.registry.floor → AreTold (source_in context.listener.host mid) table

@@ -1,6 +1,6 @@
 -- How a record is read piece by piece, and that what is kept of it says enough (RFC 5531 section 11). What is told of a
 -- message.
-use Rattle.std.specs.Prelude.{◌≡◌, ℕ, ◌+◌, ◌-◌, List, ◌++◌, length, take, Option, Some, None}
+use Rattle.std.specs.Prelude.{◌≡◌, ⊤, ℕ, ◌+◌, ◌-◌, List, ◌++◌, length, take, Option, Some, None}
 use Rattle.rb_xdr.specs.Kept.{Kept}
 use Rattle.rb_rpc.specs.declared.call.CallHead.{CallHead}
 use Rattle.rb_rpc.specs.declared.call.Verdict.{Verdict}
@@ -10,8 +10,11 @@ use Rattle.rb_rpc.specs.Verdict.{verdict}
 use Rattle.rb_rpc.specs.Marks.{StandsForFed}
 use Rattle.rb_feed.specs.Feeds.{StandsForCall, arguments_of}
 use Rattle.rb_proto.specs.declared.context.Context.{Context}
+use Rattle.rb_proto.specs.declared.procedure.Procedure.{Procedure}
 use Rattle.rb_proto.specs.declared.procedure.VoidProcedure.TheVariants as voids
 use Rattle.rb_proto.specs.declared.request.Request.TheVariants as requests
+use Rattle.rb_proto.specs.declared.request.Request.{Request}
+use Rattle.rb_proto.specs.Arguments.{arguments}
 use Rattle.rb_proto.specs.Ledger.{Ledger}
 use Rattle.rb_model.specs.declared.message.Message.{Message}
 use Rattle.rb_model.specs.declared.message.Message.TheVariants as says
@@ -74,15 +77,26 @@ abbrev pub HasMore : Marks → Intake → Kept → List ℕ → Intake → Kept 
 HasMore marks intake kept run new now =
     (fed : List ℕ) → IsInside marks intake kept fed → HasData new now (data_of (fed ++ run))
 
--- ---- NULL
+-- ---- what is called
+
+-- what a call says by what was read of its arguments, None where they are unreadable
+abbrev pub asked_of : CallHead → Option Request → Message
+asked_of head (Some request) = says.Asked (record { head = head; request = request })
+asked_of head None = says.Garbage head
+
+-- A message of this verdict calls this procedure, whatever bytes follow its head.
+abbrev pub CallsProcedure : Verdict → CallHead → Procedure → Type 0
+CallsProcedure verdict head procedure = (bytes : List ℕ) → message_with verdict bytes ≡ asked_of head (arguments procedure bytes)
+
+abbrev pub AsksNothing : Message → Type 0
+AsksNothing (says.Asked call) = ⊥
+AsksNothing says.NoCall = ⊤
+AsksNothing (says.Refused head) = ⊤
+AsksNothing (says.Garbage head) = ⊤
 
 -- a call of NULL
 abbrev pub null_message : CallHead → Message
 null_message head = says.Asked (record { head = head; request = requests.Void voids.Null })
-
--- a message of this verdict is a call of NULL of this head, whatever bytes follow it
-abbrev pub SaysNull : Verdict → CallHead → Type 0
-SaysNull verdict head = (arguments : List ℕ) → message_with verdict arguments ≡ null_message head
 
 -- ---- what is kept says enough
 

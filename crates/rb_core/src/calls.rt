@@ -15,7 +15,7 @@ ghost use Rattle.rb_core.specs.Slots.{IsDraft, StaysTable};
 
 use crate::connections::Connections;
 use crate::eviction::make_room;
-use crate::message::{message_with, null_call};
+use crate::message::procedure_of;
 use crate::replies::{Served, give_at_once, serve, serve_null};
 use crate::slot::Heard;
 use rb_proto::{Books, Context};
@@ -25,7 +25,7 @@ use rb_xdr::{Kept, Meter};
 /// Serves what the data on which this is the verdict says, behind whose head are these bytes, once there is room for the row
 /// that it adds. The reply is written into an empty buffer, unless it is a list that is streamed.
 ///
-/// A call of NULL is told from the others first, since all that it wants is a head.
+/// A call of NULL has no arguments, adds no row and wants no more than a head (RFC 1833 sections 2.2 and 3.2).
 #[tactic(auto, unfolding(rb_model::specs::Calls::longest_reply))]
 pub fn serve_verdict(
     connections: &mut Connections,
@@ -65,10 +65,14 @@ pub fn serve_verdict(
         (message_cost connections.old books.old books.new (length arguments.now)
         (length out.new.bytes)) }
 {
-    if let Some(head) = null_call(verdict) {
-        return serve_null(books, head, out, meter);
+    let called = match procedure_of(verdict) {
+        Ok(called) => called,
+        Err(message) => return serve(books, context, &message, arguments, out, meter),
+    };
+    if called.is_null() {
+        return serve_null(books, called.head, out, meter);
     }
-    let message = &message_with(verdict, arguments);
+    let message = &called.message(arguments);
     make_room(connections, books, context, message, meter);
     serve(books, context, message, arguments, out, meter)
 }

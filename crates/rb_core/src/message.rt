@@ -1,14 +1,12 @@
 //! What the data of a record, or a datagram, says: the order of refusals.
-ghost use Rattle.std.specs.Prelude.{◌≡◌, ◌≤◌, length, None, IfSome};
-ghost use Rattle.rb_rpc.specs.declared.call.CallHead.{CallHead};
+ghost use Rattle.std.specs.Prelude.{◌≡◌, ◌≤◌, List, ℕ, length, IfOk, IfErr};
 ghost use Rattle.rb_rpc.specs.Verdict.{verdict as verdict_of, EndsWithin};
 ghost use Rattle.rb_feed.specs.Feeds.{arguments_of};
-ghost use Rattle.rb_model.specs.Grammar.{HasArgsIn};
-ghost use Rattle.rb_core.specs.Reading.{SaysNull};
-ghost use Rattle.rb_model.specs.Calls.{is_served, request_of, call_of, message_with};
+ghost use Rattle.rb_model.specs.Calls.{is_served, call_of, message_with};
+ghost use Rattle.rb_core.specs.Reading.{AsksNothing, CallsProcedure};
 
 use rb_model::Message;
-use rb_proto::{ArgumentFault, Call, Request, VoidProcedure, read_args};
+use rb_proto::{Call, Procedure, VoidProcedure};
 use rb_registry::RPCB_PROG;
 use rb_rpc::{CallHead, ReplyHead, ReplyStatus, Verdict};
 
@@ -25,60 +23,68 @@ fn refusal(xid: u32, status: ReplyStatus) -> Message<'static>
     Message::Refused(ReplyHead { xid, status })
 }
 
-#[tactic(auto, unfolding(rb_model::specs::Calls::request_of))]
-fn request_of<'a>(head: &CallHead, request: Result<Request<'a>, ArgumentFault>) -> Message<'a>
-    ensures { result ≡ request_of head.now request.entry }
-{
-    match request {
-        Ok(request) => Message::Asked(Call {
-            head: *head,
-            request,
-        }),
-        Err(ArgumentFault::ProcUnavail) => refusal(head.xid, ReplyStatus::ProcUnavail),
-        Err(ArgumentFault::GarbageArgs) => Message::Garbage(*head),
+/// A call of a procedure.
+#[derive(Clone, Copy, Debug, PartialEq, Eq)]
+pub struct Called<'a> {
+    pub head: &'a CallHead,
+    pub procedure: Procedure,
+}
+
+impl Called<'_> {
+    ghost use Rattle.std.specs.Prelude.{◌≡◌, IsTrue};
+    ghost use Rattle.rb_proto.specs.Arguments.{arguments as arguments_in};
+    ghost use Rattle.rb_model.specs.Grammar.{HasArgsIn};
+    ghost use Rattle.rb_core.specs.Reading.{asked_of};
+
+    /// Whether it is a call of NULL, which has neither arguments nor results (RFC 1833 sections 2.2 and 3.2).
+    pub fn is_null(&self) -> bool
+        ensures { IsTrue result → self.now.procedure ≡ Procedure.Void VoidProcedure.Null }
+    {
+        matches!(self.procedure, Procedure::Void(VoidProcedure::Null))
+    }
+
+    /// What it says, where these bytes stand behind its head.
+    pub fn message<'a>(&self, arguments: &'a [u8]) -> Message<'a>
+        ensures message { result
+            ≡ asked_of self.now.head.now (arguments_in self.now.procedure arguments.now) }
+        ensures args { HasArgsIn result arguments.now }
+    {
+        match self.procedure.read(arguments) {
+            Some(request) => Message::Asked(Call {
+                head: *self.head,
+                request,
+            }),
+            None => Message::Garbage(*self.head),
+        }
     }
 }
 
-/// The head of a call of NULL, `None` for all others. NULL has neither arguments nor results, so its head says all of it (RFC
-/// 1833 sections 2.2 and 3.2).
-#[tactic(auto, unfolding(rb_model::specs::Calls::call_of, rb_model::specs::Calls::request_of))]
-pub fn null_call(verdict: &Verdict) -> Option<&CallHead>
-    ensures says { IfSome result (λ head. SaysNull verdict.now head.now) }
-    ensures others { result ≡ None → (head : CallHead) → SaysNull verdict.now head → ⊥ }
-{
-    let Verdict::Call(head, _) = verdict else {
-        return None;
-    };
-    if head.prog != RPCB_PROG || !is_served(head.vers) {
-        return None;
-    }
-    match VoidProcedure::at(head.vers, head.proc)? {
-        VoidProcedure::Null => Some(head),
-        _ => None,
-    }
-}
-
-/// What a message says on which this is the verdict, and these are the bytes behind its head.
-///
-/// Each line that decides returns at once: where all of them meet in one place, all their words are moved there.
-#[tactic(auto, unfolding(rb_model::specs::Calls::call_of, rb_model::specs::Calls::request_of), using(rb_model::proofs::AskedArgs::message_has))]
-pub fn message_with<'a>(verdict: &Verdict, arguments: &'a [u8]) -> Message<'a>
-    ensures message { result ≡ message_with verdict.now arguments.now }
-    ensures args { HasArgsIn result arguments.now }
+/// The procedure that is called, by its program, version and number. Where there is none, what the message says in its place: it
+/// is no call, or is refused.
+#[tactic(auto, unfolding(rb_model::specs::Calls::call_of), using(crate::proofs::Procedures::calls, crate::proofs::Procedures::unavailable))]
+pub fn procedure_of(verdict: &Verdict) -> Result<Called<'_>, Message<'static>>
+    ensures calls { IfOk result
+        (λ called. CallsProcedure verdict.now called.head.now called.procedure) }
+    ensures refuses { IfErr result
+        (λ message. (bytes : List ℕ) → message ≡ message_with verdict.now bytes) }
+    ensures asks { IfErr result (λ message. AsksNothing message) }
 {
     let head = match verdict {
-        Verdict::NoCall => return Message::NoCall,
-        Verdict::RpcMismatch(xid) => return refusal(*xid, ReplyStatus::RpcMismatch(2, 2)),
-        Verdict::AuthError(xid, stat) => return refusal(*xid, ReplyStatus::AuthError(*stat)),
+        Verdict::NoCall => return Err(Message::NoCall),
+        Verdict::RpcMismatch(xid) => return Err(refusal(*xid, ReplyStatus::RpcMismatch(2, 2))),
+        Verdict::AuthError(xid, stat) => return Err(refusal(*xid, ReplyStatus::AuthError(*stat))),
         Verdict::Call(head, _) => head,
     };
     if head.prog != RPCB_PROG {
-        return refusal(head.xid, ReplyStatus::ProgUnavail);
+        return Err(refusal(head.xid, ReplyStatus::ProgUnavail));
     }
     if !is_served(head.vers) {
-        return refusal(head.xid, ReplyStatus::ProgMismatch(2, 4));
+        return Err(refusal(head.xid, ReplyStatus::ProgMismatch(2, 4)));
     }
-    request_of(head, read_args(head.vers, head.proc, arguments))
+    match Procedure::at(head.vers, head.proc) {
+        Some(procedure) => Ok(Called { head, procedure }),
+        None => Err(refusal(head.xid, ReplyStatus::ProcUnavail)),
+    }
 }
 
 /// The bytes behind the head of a call, none where the data on which this is the verdict is no call that can be read.

@@ -1,21 +1,19 @@
 -- Requests are read exactly where their arguments are spelled.
-use Rattle.std.proofs.Common.{◌≡◌, ℕ, List, drop, cond, Option, Some, None, Ok, Err, refl, ap, sym, subst, ◌∙◌}
-use Rattle.std.specs.Prelude.{is_some, option_map, option_and_then}
+use Rattle.std.proofs.Common.{◌≡◌, ℕ, List, drop, Option, Some, None, Ok, Err, refl, ap, subst, ◌∙◌}
+use Rattle.std.specs.Prelude.{option_map, option_and_then}
 use Rattle.std.proofs.lemmas.Option.{none-some, same_Some}
 use Rattle.rb_xdr.specs.Xdr.{Reader, Reading, IsContent, AreBytes, opaque, read_opaque}
 use Rattle.rb_xdr.specs.XdrLaws.{IsSound, IsComplete}
 use Rattle.rb_xdr.proofs.Readers.{opaque_sound, opaque_complete}
 use Rattle.rb_proto.specs.declared.procedure.Procedure.{Procedure}
 use Rattle.rb_proto.specs.declared.procedure.Procedure.TheVariants as procedures
-use Rattle.rb_proto.specs.declared.procedure.VoidProcedure.{VoidProcedure}
-use Rattle.rb_proto.specs.declared.request.ArgumentFault.TheVariants.{ProcUnavail}
 use Rattle.rb_proto.specs.declared.request.Request.TheVariants.{Void, Mapping, Rpcb, Uaddr2taddr, Taddr2uaddr, Forward}
 use Rattle.rb_proto.specs.Types.{IsMapping, mapping_spelling, read_mapping, IsRpcb, rpcb_spelling, read_rpcb, IsNetbuf, netbuf_spelling, read_netbuf}
 use Rattle.rb_forward.specs.declared.types.Kind.{Kind}
 use Rattle.rb_proto.specs.declared.remote.RemoteCall.{RemoteCall}
 use Rattle.rb_proto.specs.Remote.{read_remote, SpellsRemote}
 use Rattle.rb_proto.proofs.Readings.{mapping_sound, mapping_complete, rpcb_sound, rpcb_complete, netbuf_sound, netbuf_complete, remote_spelled, remote_read}
-use Rattle.rb_proto.specs.Arguments.{Request, procedure_at, is_known, value_of, front, arguments, request, or_garbage, read_request}
+use Rattle.rb_proto.specs.Arguments.{Request, procedure_at, value_of, front, arguments, request}
 use Rattle.rb_proto.specs.Grammar.{BeginsWith, SpellsRequest, procedure_of, Asks, RequestsAreOfTheGrammar}
 
 -- a request of this procedure, whose arguments the bytes begin with
@@ -81,10 +79,3 @@ asked_request vers proc bytes r is = ap (λ (p : Option Procedure). option_and_t
 
 pub requests_are_of_the_grammar : RequestsAreOfTheGrammar
 requests_are_of_the_grammar vers proc bytes are r = (request_asks vers proc bytes are r, asked_request vers proc bytes r)
-
--- ---- a procedure without arguments
-
-pub void_reads : (vers proc : ℕ) (procedure : VoidProcedure) → procedure_at vers proc ≡ Some (procedures.Void procedure) → (bytes : List ℕ) → read_request vers proc bytes ≡ Ok (Void procedure)
-unfolding is_known request arguments
-void_reads vers proc procedure is bytes =
-    subst (λ (o : Option Procedure). cond (is_some o) (or_garbage (option_and_then (λ p. arguments p bytes) o)) (Err ProcUnavail) ≡ Ok (Void procedure)) (sym is) refl

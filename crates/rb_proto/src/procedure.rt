@@ -94,9 +94,9 @@ fn value_of<T: Drop>(read: Result<(T, usize), XdrFault>) -> Option<T>
 }
 
 impl Procedure {
-    /// The procedure of this number in this version.
+    /// The procedure of this number in this version, `None` where there is none (RFC 1833 sections 2.2 and 3.2).
     #[tactic(auto, unfolding(crate::specs::Arguments::procedure_at))]
-    pub(crate) fn at(vers: u32, proc: u32) -> Option<Procedure>
+    pub fn at(vers: u32, proc: u32) -> Option<Procedure>
         ensures { result ≡ procedure_at vers proc }
     {
         PROCEDURES
@@ -105,9 +105,9 @@ impl Procedure {
             .map(|row| row.2)
     }
 
-    /// What the bytes ask of the procedure, unless its arguments can't be read.
+    /// What the bytes ask of the procedure, `None` where its arguments can't be read. Bytes behind them count for nothing.
     #[tactic(auto, unfolding(crate::specs::Arguments::arguments))]
-    pub(crate) fn read(self, bytes: &[u8]) -> Option<Request<'_>>
+    pub fn read(self, bytes: &[u8]) -> Option<Request<'_>>
         ensures request { result ≡ arguments self bytes.now }
         ensures args { IfSome result (λ request. HasArgs request bytes.now) }
     {
@@ -127,24 +127,6 @@ impl Procedure {
                 Some(Request::Taddr2uaddr(netbuf))
             }
             Procedure::Forward(kind) => Some(Request::Forward(kind, RemoteCall::read(bytes)?)),
-        }
-    }
-}
-
-impl VoidProcedure {
-    ghost use Rattle.std.specs.Prelude.{◌↔◌, ℕ, List, Some, Ok, IfSome};
-    ghost use Rattle.rb_proto.specs.Arguments.{read_request};
-
-    /// The procedure of this number in this version, where it has no arguments.
-    pub fn at(vers: u32, proc: u32) -> Option<VoidProcedure>
-        ensures exact { (procedure : VoidProcedure) → result ≡ Some procedure
-            ↔ procedure_at vers proc ≡ Some (Procedure.Void procedure) }
-        ensures reads { IfSome result (λ procedure. (bytes : List ℕ)
-            → read_request vers proc bytes ≡ Ok (Request.Void procedure)) }
-    {
-        match Procedure::at(vers, proc) {
-            Some(Procedure::Void(procedure)) => Some(procedure),
-            Some(_) | None => None,
         }
     }
 }

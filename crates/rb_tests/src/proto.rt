@@ -8,8 +8,8 @@ ghost use Rattle.rb_tests.specs.Ready.{AreReady};
 use rb_forward::{Forward, FwdId, Kind};
 use rb_proto::{
     Answer, ArgumentFault, Books, Call, Context, Entry, ListReply, Listener, Listing, Mapping,
-    Netbuf, RemoteCall, Rpcb, VoidProcedure, answer, forwards_are_noted_once, forwards_go_to_rows,
-    list_replies_go_on, put_forwarded, put_results, read_args, refusal,
+    Netbuf, Procedure, RemoteCall, Rpcb, VoidProcedure, answer, forwards_are_noted_once,
+    forwards_go_to_rows, list_replies_go_on, put_forwarded, put_results, read_args, refusal,
     requests_are_of_the_grammar, worked_examples, worked_forwards, worked_lists,
 };
 use rb_registry::RegistryFault;
@@ -272,10 +272,10 @@ fn arguments_are_refused(rt: HostRuntime) {
 }
 
 #[test]
-fn procedures_without_arguments_are_found(rt: HostRuntime) {
-    assert_eq!(rt; VoidProcedure::at(4, 12), Some(VoidProcedure::Getstat));
-    assert_eq!(rt; VoidProcedure::at(2, 3), None);
-    assert_eq!(rt; VoidProcedure::at(3, 12), None);
+fn procedures_are_found(rt: HostRuntime) {
+    let getstat = Procedure::Void(VoidProcedure::Getstat);
+    assert_eq!(rt; Procedure::at(4, 12), Some(getstat));
+    assert_eq!(rt; Procedure::at(3, 12), None);
 }
 
 #[test]
