@@ -17,22 +17,23 @@ const GREATEST_LIST: u32 = 4096;
 /// A form in which the items of a list are shown, each as a line.
 pub trait Style<T> {
     /// The line of an item, with its end.
-    ghost text: { T → List ℕ };
+    ghost text: { Self → T → List ℕ };
 
-    fn line(alloc: Global, item: &T) -> Result<String, AllocError>
-        ensures { IfOk result (λ line. string_bytes line ≡ text item.now) };
+    fn line(&self, alloc: Global, item: &T) -> Result<String, AllocError>
+        ensures { IfOk result (λ line. string_bytes line ≡ text self.now item.now) };
 }
 
 /// Writes the line of an item.
 #[tactic(auto, using(crate::proofs::Tellings::tells_line, crate::proofs::Tellings::tells_write_fault, crate::proofs::Tellings::tells_memory))]
 pub fn show_item<T: Xdr, S: Style<T>, W: Write>(
     alloc: Global,
+    style: &S,
     item: &T,
     writer: &mut W,
 ) -> Result<(), InfoFault>
-    ensures { Writes W.contents writer.old writer.new (tell (S.text item.now ∷ [])) result }
+    ensures { Writes W.contents writer.old writer.new (tell (S.text style.now item.now ∷ [])) result }
 {
-    let Ok(line) = S::line(alloc, item) else {
+    let Ok(line) = style.line(alloc, item) else {
         return Err(InfoFault::Memory);
     };
     if writer.write_all(line.as_bytes()).is_err() {
@@ -44,18 +45,19 @@ pub fn show_item<T: Xdr, S: Style<T>, W: Write>(
 /// Shows the items of a list, a line each, and says how many they are.
 pub fn show_list<T: Xdr, S: Style<T>, R: Read, W: Write>(
     alloc: Global,
+    style: &S,
     reader: &mut R,
     at: &mut Record,
     writer: &mut W,
 ) -> Result<u32, InfoFault>
     ensures { Shows R.remaining W.contents reader.old reader.new at.old at.new
-        writer.old writer.new (tell_items T.reads S.text greatest_list 0) result }
+        writer.old writer.new (tell_items T.reads (S.text style.now) greatest_list 0) result }
 {
     for shown in 0..GREATEST_LIST {
         let next: Option<T> = take_item(alloc, reader, at)?;
         match next {
             None => return Ok(shown),
-            Some(item) => show_item::<T, S, W>(alloc, &item, writer)?,
+            Some(item) => show_item(alloc, style, &item, writer)?,
         }
     }
     let more: bool = take_item(alloc, reader, at)?;

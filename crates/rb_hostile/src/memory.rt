@@ -6,7 +6,7 @@ ghost use Rattle.std.specs.Prelude.{◌≡◌};
 use crate::cores::{LOOPBACK, bytes_of, core_of, set_call};
 use rb_core::{Core, CoreFault, Event, NoMemory, Output, replay};
 use rb_lines::{ReadFault, read_events};
-use rb_show::{Ask, InfoFault, Question, Shown, show_reply, write_call};
+use rb_show::{Ask, Form, InfoFault, Question, Shown, show_reply, write_call};
 use rb_xdr::Meter;
 use std::alloc::{AllocError, Global};
 use std::process::Abort;
@@ -141,7 +141,7 @@ const TABLE: &[u8] =
 fn refused_memory_of_a_reply(rt: HostRuntime) {
     let mut room = [0; 90];
     let mut writer = room.as_mut_slice();
-    let result = show_reply(rt.alloc(), &ASK, 1, &mut &REPLY[..], &mut writer);
+    let result = show_reply(rt.alloc(), &ASK, Form::Plain, 1, &mut &REPLY[..], &mut writer);
     let len = 90usize.saturating_sub(writer.len());
     let is_right = match result {
         Ok(shown) => shown == Shown::Rows(2) && len == 90,

@@ -1,7 +1,7 @@
 //! Replies that break off, readers that fail, and writers that fail: what is shown before is whole lines.
 ghost use Rattle.std.specs.Prelude.{◌≤◌, length};
 
-use rb_show::{Ask, InfoFault, Question, Shown, show_reply};
+use rb_show::{Ask, Form, InfoFault, Question, Shown, show_reply};
 use std::alloc::{AllocError, Global};
 use std::io;
 use std::io::{ErrorKind, Read, Write};
@@ -50,7 +50,7 @@ fn shown_of(len: usize) -> &'static [u8] {
 /// What comes of the reader's bytes, and what is written.
 fn show<R: Read>(alloc: Global, reader: &mut R) -> (Result<Shown, InfoFault>, Vec<u8>) {
     let mut written = Vec::new(alloc);
-    let result = show_reply(alloc, &ASK, 1, reader, &mut written);
+    let result = show_reply(alloc, &ASK, Form::Plain, 1, reader, &mut written);
     (result, written)
 }
 
@@ -138,7 +138,7 @@ fn replies_in_prefixes_to_a_failing_writer(rt: HostRuntime) -> Result<(), Fail> 
             written: Vec::new(rt.alloc()),
             writes,
         };
-        let result = show_reply(rt.alloc(), &ASK, 1, &mut reply.as_slice(), &mut writer);
+        let result = show_reply(rt.alloc(), &ASK, Form::Plain, 1, &mut reply.as_slice(), &mut writer);
         let wanted = if writes < 7 {
             Err(InfoFault::Write)
         } else {

@@ -1,4 +1,4 @@
-use rb_show::{Ask, Question, show_reply, write_call};
+use rb_show::{Ask, Form, Question, show_reply, write_call};
 use std::test::Fail;
 
 /// A question of nobody.
@@ -29,7 +29,8 @@ fn show_reply_has_memory(rt: HostRuntime) -> Result<(), Fail> {
     reply.extend_from_slice(entry.as_slice())?;
     let mut shown = Vec::new(rt.alloc());
     let ask = of_nobody(Question::Entries(200_001, 1));
-    show_reply(rt.alloc(), &ask, 1, &mut reply.as_slice(), &mut shown).map_err(|_| "refused")?;
+    let mut reply = reply.as_slice();
+    show_reply(rt.alloc(), &ask, Form::Plain, 1, &mut reply, &mut shown).map_err(|_| "refused")?;
     assert_eq!(rt;
         shown.as_slice(),
         b"udp 192.0.2.1.8.1 1 inet udp\n".as_slice()

@@ -2,7 +2,7 @@
 use crate::turns::{daemon_of, receive};
 use rb_course::{Aim, Answer, Course, End, Place, Stage, Step, Way, asked, begin, next};
 use rb_daemon::Daemon;
-use rb_show::{InfoFault, Shown, show_reply, write_call};
+use rb_show::{Form, InfoFault, Shown, show_reply, write_call};
 use rb_words::Transport;
 use std::io::Write;
 use std::net::{Ipv4Addr, SocketAddr, TcpStream};
@@ -31,7 +31,7 @@ fn step(
     let mut got = [0; 256];
     let len = receive(daemon, &mut stream, &mut got);
     let mut reply = got.get(..len)?;
-    let answer = match show_reply(rt.alloc(), &ask, xid, &mut reply, shown) {
+    let answer = match show_reply(rt.alloc(), &ask, Form::Plain, xid, &mut reply, shown) {
         Ok(Shown::Null) => Answer::Ready,
         Err(InfoFault::Refused(head)) => Answer::Refused(head.status),
         _ => return None,

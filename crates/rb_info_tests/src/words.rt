@@ -15,6 +15,8 @@ fn words_are_read(rt: HostRuntime) -> Result<(), Fail> {
         netid: None,
         address: None,
         local: None,
+        layouts: &[],
+        services: &[],
         words: &["192.0.2.1", "100000"],
     };
     let request = read_words(&shape).map_err(|_| "refused")?;
@@ -39,6 +41,8 @@ fn refusal_is_written(rt: HostRuntime) -> Result<(), Fail> {
         netid: None,
         address: None,
         local: None,
+        layouts: &[],
+        services: &[],
         words: &[],
     };
     let refusal = Refusal {

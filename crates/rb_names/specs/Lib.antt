@@ -1,1 +1,3 @@
 pub mod Netids
+pub mod Numbers
+pub mod Services

@@ -2,5 +2,9 @@
 #![tactic(auto)]
 
 mod netid;
+mod number;
+mod services;
 
 pub use netid::Netid;
+pub use number::number_in;
+pub use services::{LONGEST_SERVICES, Service, name_of, number_of, read_services};

@@ -18,6 +18,7 @@ use Rattle.rb_ask.specs.Lists.{tell_items, greatest_list}
 use Rattle.rb_show.specs.declared.ask.Ask.{Ask}
 use Rattle.rb_show.specs.declared.ask.Question.{Question}
 use Rattle.rb_show.specs.declared.ask.Question.TheVariants.{Rows, Short, OldRows, OldShort, Pmap, Entries, Stats, Port, Address, Null, Probe, Unset}
+use Rattle.rb_show.specs.declared.form.Form.{Form}
 use Rattle.rb_show.specs.declared.show.Shown.{Shown}
 use Rattle.rb_show.specs.declared.show.Shown.TheVariants as shown
 use Rattle.rb_show.specs.Counts.{tell_statistics}
@@ -28,8 +29,8 @@ unfoldable pub tell_list : {A : Type 0} → Reader A → (A → List ℕ) → Te
 tell_list reads line = tell_items reads line greatest_list 0 >>= λ n. give (shown.Rows n)
 
 -- behind its heading
-unfoldable pub tell_table : Teller Shown
-tell_table = tell (heading ∷ []) >>= λ _. tell_list read_mapping mapping_line
+unfoldable pub tell_table : Form → Teller Shown
+tell_table form = tell (heading form ∷ []) >>= λ _. tell_list read_mapping (mapping_line form)
 
 unfoldable pub tell_port : Teller Shown
 tell_port = take_one read_number >>= λ port. give (shown.Port port)
@@ -61,19 +62,19 @@ tell_removed removed = tell (removed_line removed ∷ []) >>= λ _. give (shown.
 unfoldable pub tell_unset : Teller Shown
 tell_unset = take_one read_bool >>= tell_removed
 
-abbrev pub tell_results : Question → Teller Shown
-tell_results Rows = tell_list read_rpcb row_line
-tell_results Short = tell_list read_rpcb short_line
-tell_results OldRows = tell_list read_mapping old_row_line
-tell_results OldShort = tell_list read_mapping old_short_line
-tell_results Pmap = tell_table
-tell_results (Entries prog vers) = tell_list read_entry entry_line
-tell_results Stats = tell_statistics
-tell_results (Port prot prog vers) = tell_port
-tell_results (Address netid prog vers) = tell_address
-tell_results (Null prog vers) = tell_ready prog vers
-tell_results (Probe prog vers) = give shown.Null
-tell_results (Unset netid prog vers) = tell_unset
+abbrev pub tell_results : Form → Question → Teller Shown
+tell_results form Rows = tell_list read_rpcb (row_line form)
+tell_results form Short = tell_list read_rpcb (short_line form)
+tell_results form OldRows = tell_list read_mapping (old_row_line form)
+tell_results form OldShort = tell_list read_mapping (old_short_line form)
+tell_results form Pmap = tell_table form
+tell_results form (Entries prog vers) = tell_list read_entry (entry_line form prog)
+tell_results form Stats = tell_statistics
+tell_results form (Port prot prog vers) = tell_port
+tell_results form (Address netid prog vers) = tell_address
+tell_results form (Null prog vers) = tell_ready prog vers
+tell_results form (Probe prog vers) = give shown.Null
+tell_results form (Unset netid prog vers) = tell_unset
 
 abbrev pub is_success : ReplyStatus → Bool
 is_success statuses.Success = true
@@ -85,19 +86,19 @@ is_success statuses.SystemErr = false
 is_success (statuses.RpcMismatch low high) = false
 is_success (statuses.AuthError stat) = false
 
-abbrev pub by_status : Question → ReplyHead → Teller Shown
-by_status question head = if is_success head.status then tell_results question else stop (Refused head)
+abbrev pub by_status : Form → Question → ReplyHead → Teller Shown
+by_status form question head = if is_success head.status then tell_results form question else stop (Refused head)
 
 -- a reply by another xid answers another call
-unfoldable pub by_head : Question → ℕ → ReplyHead → Teller Shown
-by_head question xid head = if head.xid == xid then by_status question head else stop Unreadable
+unfoldable pub by_head : Form → Question → ℕ → ReplyHead → Teller Shown
+by_head form question xid head = if head.xid == xid then by_status form question head else stop Unreadable
 
-unfoldable pub tell_reply : Ask → ℕ → Teller Shown
-tell_reply ask xid = take_head >>= by_head ask.question xid
+unfoldable pub tell_reply : Ask → Form → ℕ → Teller Shown
+tell_reply ask form xid = take_head >>= by_head form ask.question xid
 
 -- Where the bytes that the reader has are known, what is written, and what is left unread, is what the reply tells that
 -- is the data of their first marked record, as far as they go.
-abbrev pub IsShown : {R W : Type 0} → (R → Option (List ℕ)) → (W → Option (List ℕ)) → Ask → ℕ → R → R → W → W → Result Shown InfoFault → Type 0
-IsShown remaining contents ask xid reader reader' writer writer' result =
+abbrev pub IsShown : {R W : Type 0} → (R → Option (List ℕ)) → (W → Option (List ℕ)) → Ask → Form → ℕ → R → R → W → W → Result Shown InfoFault → Type 0
+IsShown remaining contents ask form xid reader reader' writer writer' result =
     (bytes : List ℕ) → remaining reader ≡ Some bytes
-    → (at : Record) × Outcome (tell_reply ask xid (data_of bytes)) bytes (remaining reader') at (contents writer) (contents writer') result
+    → (at : Record) × Outcome (tell_reply ask form xid (data_of bytes)) bytes (remaining reader') at (contents writer) (contents writer') result

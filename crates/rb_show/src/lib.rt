@@ -2,6 +2,7 @@
 #![tactic(auto)]
 
 mod ask;
+mod form;
 mod laws;
 mod lines;
 mod show;
@@ -9,6 +10,7 @@ mod statistics;
 mod worked;
 
 pub use ask::{Ask, Question, write_call};
+pub use form::Form;
 pub use laws::questions_are_requests;
 pub use rb_ask::InfoFault;
 pub use show::{Shown, show_reply};

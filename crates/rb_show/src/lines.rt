@@ -1,8 +1,9 @@
 //! The lines that are printed.
 ghost use Rattle.std.specs.Prelude.{◌≡◌, IfOk};
 ghost use Rattle.std.specs.String.{string_bytes};
-ghost use Rattle.rb_show.specs.Lines.{shown_byte, prot_text, shown_text, mapping_line, row_line, short_line, old_row_line, old_short_line, entry_line};
+ghost use Rattle.rb_show.specs.Lines.{shown_byte, prot_text, shown_text, mapping_columns, mapping_line, row_line, short_line, old_row_line, old_short_line, entry_line};
 
+use crate::form::{Form, line_end};
 use rb_ask::Style;
 use rb_proto::{Entry, Mapping, Rpcb};
 use std::alloc::{AllocError, Global};
@@ -31,53 +32,73 @@ pub(crate) fn shown_text(alloc: Global, text: &[u8]) -> Result<String, AllocErro
     Ok(shown)
 }
 
+/// The columns of a mapping.
+#[tactic(auto, using(crate::proofs::Columns::padded_right, crate::proofs::Columns::padded_left))]
+fn mapping_columns(alloc: Global, item: &Mapping) -> Result<String, AllocError>
+    ensures { IfOk result (λ columns. string_bytes columns ≡ mapping_columns item.now) }
+{
+    let Mapping {
+        prog,
+        vers,
+        prot,
+        port,
+    } = *item;
+    match prot {
+        6 => format!(in alloc; "{prog:>10} {vers:>6} tcp   {port:>5}"),
+        17 => format!(in alloc; "{prog:>10} {vers:>6} udp   {port:>5}"),
+        _ => format!(in alloc; "{prog:>10} {vers:>6} {prot:<5} {port:>5}"),
+    }
+}
+
 /// The table of mappings.
-pub struct Table;
+#[derive(Drop)]
+pub struct Table<'a> {
+    pub form: Form<'a>,
+}
 
-impl Style<Mapping> for Table {
-    ghost text = { mapping_line };
+impl Style<Mapping> for Table<'_> {
+    ghost text = { λ style. mapping_line style.form };
 
-    #[tactic(auto, using(crate::proofs::Columns::padded_right, crate::proofs::Columns::padded_left))]
-    fn line(alloc: Global, item: &Mapping) -> Result<String, AllocError> {
-        let Mapping {
-            prog,
-            vers,
-            prot,
-            port,
-        } = *item;
-        match prot {
-            6 => format!(in alloc; "{prog:>10} {vers:>6} tcp   {port:>5}\n"),
-            17 => format!(in alloc; "{prog:>10} {vers:>6} udp   {port:>5}\n"),
-            _ => format!(in alloc; "{prog:>10} {vers:>6} {prot:<5} {port:>5}\n"),
-        }
+    fn line(&self, alloc: Global, item: &Mapping) -> Result<String, AllocError> {
+        let columns = mapping_columns(alloc, item)?;
+        let end = line_end(alloc, self.form, item.prog)?;
+        format!(in alloc; "{columns}{end}")
     }
 }
 
 /// Rows with their addresses and owners.
-pub struct RowLines;
+#[derive(Drop)]
+pub struct RowLines<'a> {
+    pub form: Form<'a>,
+}
 
-impl Style<Rpcb> for RowLines {
-    ghost text = { row_line };
+impl Style<Rpcb> for RowLines<'_> {
+    ghost text = { λ style. row_line style.form };
 
-    fn line(alloc: Global, item: &Rpcb) -> Result<String, AllocError> {
+    fn line(&self, alloc: Global, item: &Rpcb) -> Result<String, AllocError> {
         let netid = shown_text(alloc, item.netid.as_slice())?;
         let addr = shown_text(alloc, item.addr.as_slice())?;
         let owner = shown_text(alloc, item.owner.as_slice())?;
         let (prog, vers) = (item.prog, item.vers);
-        format!(in alloc; "{prog} {vers} {netid} {addr} {owner}\n")
+        let end = line_end(alloc, self.form, prog)?;
+        format!(in alloc; "{prog} {vers} {netid} {addr} {owner}{end}")
     }
 }
 
 /// Rows without them.
-pub struct ShortLines;
+#[derive(Drop)]
+pub struct ShortLines<'a> {
+    pub form: Form<'a>,
+}
 
-impl Style<Rpcb> for ShortLines {
-    ghost text = { short_line };
+impl Style<Rpcb> for ShortLines<'_> {
+    ghost text = { λ style. short_line style.form };
 
-    fn line(alloc: Global, item: &Rpcb) -> Result<String, AllocError> {
+    fn line(&self, alloc: Global, item: &Rpcb) -> Result<String, AllocError> {
         let netid = shown_text(alloc, item.netid.as_slice())?;
         let (prog, vers) = (item.prog, item.vers);
-        format!(in alloc; "{prog} {vers} {netid}\n")
+        let end = line_end(alloc, self.form, prog)?;
+        format!(in alloc; "{prog} {vers} {netid}{end}")
     }
 }
 
@@ -93,44 +114,57 @@ fn prot_text(alloc: Global, prot: u32) -> Result<String, AllocError>
 }
 
 /// Mappings of version 2 as the rows of version 3 that they stand for.
-pub struct OldRowLines;
+#[derive(Drop)]
+pub struct OldRowLines<'a> {
+    pub form: Form<'a>,
+}
 
-impl Style<Mapping> for OldRowLines {
-    ghost text = { old_row_line };
+impl Style<Mapping> for OldRowLines<'_> {
+    ghost text = { λ style. old_row_line style.form };
 
-    fn line(alloc: Global, item: &Mapping) -> Result<String, AllocError> {
+    fn line(&self, alloc: Global, item: &Mapping) -> Result<String, AllocError> {
         let netid = prot_text(alloc, item.prot)?;
         let (prog, vers) = (item.prog, item.vers);
         let (high, low) = (item.port / 256, item.port % 256);
-        format!(in alloc; "{prog} {vers} {netid} 0.0.0.0.{high}.{low} unknown\n")
+        let end = line_end(alloc, self.form, prog)?;
+        format!(in alloc; "{prog} {vers} {netid} 0.0.0.0.{high}.{low} unknown{end}")
     }
 }
 
 /// The same without addresses and owners.
-pub struct OldShortLines;
+#[derive(Drop)]
+pub struct OldShortLines<'a> {
+    pub form: Form<'a>,
+}
 
-impl Style<Mapping> for OldShortLines {
-    ghost text = { old_short_line };
+impl Style<Mapping> for OldShortLines<'_> {
+    ghost text = { λ style. old_short_line style.form };
 
-    fn line(alloc: Global, item: &Mapping) -> Result<String, AllocError> {
+    fn line(&self, alloc: Global, item: &Mapping) -> Result<String, AllocError> {
         let netid = prot_text(alloc, item.prot)?;
         let (prog, vers) = (item.prog, item.vers);
-        format!(in alloc; "{prog} {vers} {netid}\n")
+        let end = line_end(alloc, self.form, prog)?;
+        format!(in alloc; "{prog} {vers} {netid}{end}")
     }
 }
 
-/// Addresses of a program's version.
-pub struct EntryLines;
+/// Addresses of this program's version.
+#[derive(Drop)]
+pub struct EntryLines<'a> {
+    pub form: Form<'a>,
+    pub prog: u32,
+}
 
-impl Style<Entry> for EntryLines {
-    ghost text = { entry_line };
+impl Style<Entry> for EntryLines<'_> {
+    ghost text = { λ style. entry_line style.form style.prog };
 
-    fn line(alloc: Global, item: &Entry) -> Result<String, AllocError> {
+    fn line(&self, alloc: Global, item: &Entry) -> Result<String, AllocError> {
         let netid = shown_text(alloc, item.netid.as_slice())?;
         let maddr = shown_text(alloc, item.maddr.as_slice())?;
         let family = shown_text(alloc, item.protofmly.as_slice())?;
         let proto = shown_text(alloc, item.proto.as_slice())?;
         let semantics = item.semantics;
-        format!(in alloc; "{netid} {maddr} {semantics} {family} {proto}\n")
+        let end = line_end(alloc, self.form, self.prog)?;
+        format!(in alloc; "{netid} {maddr} {semantics} {family} {proto}{end}")
     }
 }

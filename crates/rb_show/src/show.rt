@@ -1,13 +1,14 @@
 //! Shows what a reply tells.
 ghost use Rattle.std.specs.Prelude.{◌≡◌, List, [], ◌∷◌, ℕ};
 ghost use Rattle.rb_ask.specs.Telling.{tell, Shows, Takes, Writes};
+ghost use Rattle.rb_show.specs.Lines.{heading};
 ghost use Rattle.rb_show.specs.Replies.{tell_list, tell_table, tell_port, address_in, tell_address, tell_ready, tell_removed, removed_line, tell_unset, tell_results, is_success, by_head, IsShown};
 
 use crate::ask::{Ask, Question};
+use crate::form::Form;
 use crate::lines::{EntryLines, OldRowLines, OldShortLines, RowLines, ShortLines, Table};
 use crate::statistics::show_statistics;
 use rb_ask::{InfoFault, Record, Style, show_list, take_head, take_item};
-use rb_proto::{Entry, Mapping, Rpcb};
 use rb_rpc::{ReplyHead, ReplyStatus};
 use rb_uaddr::Uaddr;
 use rb_xdr::{Text, Xdr};
@@ -32,7 +33,14 @@ pub enum Shown {
 }
 
 /// The heading of the table of mappings.
-const HEADING: &[u8] = b"   program   vers proto  port\n";
+fn heading(form: Form<'_>) -> &'static [u8]
+    ensures { result.now ≡ heading form.entry }
+{
+    match form {
+        Form::Plain => b"   program   vers proto  port\n",
+        Form::Named(_) => b"   program   vers proto  port service\n",
+    }
+}
 
 /// Writes a line.
 #[tactic(auto, using(rb_ask::proofs::Tellings::tells_line, rb_ask::proofs::Tellings::tells_write_fault))]
@@ -48,29 +56,31 @@ fn show_line<W: Write>(line: &[u8], writer: &mut W) -> Result<(), InfoFault>
 /// Shows the items of a list.
 fn show_items<T: Xdr, S: Style<T>, R: Read, W: Write>(
     alloc: Global,
+    style: &S,
     reader: &mut R,
     at: &mut Record,
     writer: &mut W,
 ) -> Result<Shown, InfoFault>
     ensures { Shows R.remaining W.contents reader.old reader.new at.old at.new
-        writer.old writer.new (tell_list T.reads S.text) result }
+        writer.old writer.new (tell_list T.reads (S.text style.now)) result }
 {
-    let rows = show_list::<T, S, R, W>(alloc, reader, at, writer)?;
+    let rows = show_list(alloc, style, reader, at, writer)?;
     Ok(Shown::Rows(rows))
 }
 
 /// Shows the mappings of version 2 as a table.
 fn show_table<R: Read, W: Write>(
     alloc: Global,
+    form: Form<'_>,
     reader: &mut R,
     at: &mut Record,
     writer: &mut W,
 ) -> Result<Shown, InfoFault>
     ensures { Shows R.remaining W.contents reader.old reader.new at.old at.new
-        writer.old writer.new tell_table result }
+        writer.old writer.new (tell_table form.entry) result }
 {
-    show_line(HEADING, writer)?;
-    show_items::<Mapping, Table, R, W>(alloc, reader, at, writer)
+    show_line(heading(form), writer)?;
+    show_items(alloc, &Table { form }, reader, at, writer)
 }
 
 /// Takes the port of GETPORT.
@@ -156,21 +166,24 @@ fn show_unset<R: Read, W: Write>(
 /// Shows the results that a question is answered with.
 fn show_results<R: Read, W: Write>(
     alloc: Global,
+    form: Form<'_>,
     question: Question,
     reader: &mut R,
     at: &mut Record,
     writer: &mut W,
 ) -> Result<Shown, InfoFault>
     ensures { Shows R.remaining W.contents reader.old reader.new at.old at.new
-        writer.old writer.new (tell_results question) result }
+        writer.old writer.new (tell_results form.entry question) result }
 {
     match question {
-        Question::Rows => show_items::<Rpcb, RowLines, R, W>(alloc, reader, at, writer),
-        Question::Short => show_items::<Rpcb, ShortLines, R, W>(alloc, reader, at, writer),
-        Question::OldRows => show_items::<Mapping, OldRowLines, R, W>(alloc, reader, at, writer),
-        Question::OldShort => show_items::<Mapping, OldShortLines, R, W>(alloc, reader, at, writer),
-        Question::Pmap => show_table(alloc, reader, at, writer),
-        Question::Entries(_, _) => show_items::<Entry, EntryLines, R, W>(alloc, reader, at, writer),
+        Question::Rows => show_items(alloc, &RowLines { form }, reader, at, writer),
+        Question::Short => show_items(alloc, &ShortLines { form }, reader, at, writer),
+        Question::OldRows => show_items(alloc, &OldRowLines { form }, reader, at, writer),
+        Question::OldShort => show_items(alloc, &OldShortLines { form }, reader, at, writer),
+        Question::Pmap => show_table(alloc, form, reader, at, writer),
+        Question::Entries(prog, _) => {
+            show_items(alloc, &EntryLines { form, prog }, reader, at, writer)
+        },
         Question::Stats => show_statistics(alloc, reader, at, writer),
         Question::Port(_, _, _) => take_port(alloc, reader, at),
         Question::Address(_, _, _) => take_address(alloc, reader, at),
@@ -199,6 +212,7 @@ fn is_success(status: ReplyStatus) -> bool
 #[tactic(auto, using(rb_ask::proofs::Tellings::tells_stop, crate::proofs::Starts::tells_refused), unfolding(crate::specs::Replies::by_head))]
 fn show_answer<R: Read, W: Write>(
     alloc: Global,
+    form: Form<'_>,
     question: Question,
     xid: u32,
     head: ReplyHead,
@@ -207,7 +221,7 @@ fn show_answer<R: Read, W: Write>(
     writer: &mut W,
 ) -> Result<Shown, InfoFault>
     ensures { Shows R.remaining W.contents reader.old reader.new at.old at.new
-        writer.old writer.new (by_head question xid head) result }
+        writer.old writer.new (by_head form.entry question xid head) result }
 {
     if head.xid != xid {
         return Err(InfoFault::Unreadable);
@@ -215,10 +229,11 @@ fn show_answer<R: Read, W: Write>(
     if !is_success(head.status) {
         return Err(InfoFault::Refused(head));
     }
-    show_results(alloc, question, reader, at, writer)
+    show_results(alloc, form, question, reader, at, writer)
 }
 
-/// Reads the marked reply to the call with this xid, and writes what it tells, a line for each row as it comes.
+/// Reads the marked reply to the call with this xid, and writes what it tells in this form, a line for each row as it
+/// comes.
 ///
 /// Of the record as much is read as the results need, and no byte behind them. It is `Unreadable` where the data is no
 /// reply to this call or ends before its results, `Refused` where the reply is another than SUCCESS, `TooMany` at the
@@ -227,14 +242,24 @@ fn show_answer<R: Read, W: Write>(
 pub fn show_reply<R: Read, W: Write>(
     alloc: Global,
     ask: &Ask,
+    form: Form<'_>,
     xid: u32,
     reader: &mut R,
     writer: &mut W,
 ) -> Result<Shown, InfoFault>
-    ensures { IsShown R.remaining W.contents ask.now xid reader.old reader.new
+    ensures { IsShown R.remaining W.contents ask.now form.entry xid reader.old reader.new
         writer.old writer.new result }
 {
     let mut at = Record::new();
     let head = take_head(alloc, reader, &mut at)?;
-    show_answer(alloc, ask.question, xid, head, reader, &mut at, writer)
+    show_answer(
+        alloc,
+        form,
+        ask.question,
+        xid,
+        head,
+        reader,
+        &mut at,
+        writer,
+    )
 }

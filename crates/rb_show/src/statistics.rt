@@ -33,9 +33,9 @@ fn four_text(alloc: Global, four: Four) -> Result<String, AllocError>
 struct VersionLine;
 
 impl Style<u32> for VersionLine {
-    ghost text = { version_line };
+    ghost text = { λ _. version_line };
 
-    fn line(alloc: Global, item: &u32) -> Result<String, AllocError> {
+    fn line(&self, alloc: Global, item: &u32) -> Result<String, AllocError> {
         let vers = *item;
         format!(in alloc; "version {vers}\n")
     }
@@ -44,9 +44,9 @@ impl Style<u32> for VersionLine {
 struct InfoLine;
 
 impl Style<Numbers> for InfoLine {
-    ghost text = { info_line };
+    ghost text = { λ _. info_line };
 
-    fn line(alloc: Global, item: &Numbers) -> Result<String, AllocError> {
+    fn line(&self, alloc: Global, item: &Numbers) -> Result<String, AllocError> {
         let ((first, second), (third, (last, _))) = *item;
         let first = four_text(alloc, first)?;
         let second = four_text(alloc, second)?;
@@ -58,9 +58,9 @@ impl Style<Numbers> for InfoLine {
 struct SetsLine;
 
 impl Style<Numbers> for SetsLine {
-    ghost text = { sets_line };
+    ghost text = { λ _. sets_line };
 
-    fn line(alloc: Global, item: &Numbers) -> Result<String, AllocError> {
+    fn line(&self, alloc: Global, item: &Numbers) -> Result<String, AllocError> {
         let (_, (_, (_, (set, unset)))) = *item;
         format!(in alloc; "set {set} unset {unset}\n")
     }
@@ -69,9 +69,9 @@ impl Style<Numbers> for SetsLine {
 struct AddrLines;
 
 impl Style<LookUps> for AddrLines {
-    ghost text = { addr_line };
+    ghost text = { λ _. addr_line };
 
-    fn line(alloc: Global, item: &LookUps) -> Result<String, AllocError> {
+    fn line(&self, alloc: Global, item: &LookUps) -> Result<String, AllocError> {
         let netid = shown_text(alloc, item.1.1.as_slice())?;
         let (prog, vers) = item.0;
         let (success, failure) = item.1.0;
@@ -96,9 +96,9 @@ fn outcomes_text(alloc: Global, outcomes: (i32, (i32, i32))) -> Result<String, A
 struct CallLines;
 
 impl Style<Forwards> for CallLines {
-    ghost text = { call_line };
+    ghost text = { λ _. call_line };
 
-    fn line(alloc: Global, item: &Forwards) -> Result<String, AllocError> {
+    fn line(&self, alloc: Global, item: &Forwards) -> Result<String, AllocError> {
         let procedure = procedure_text(alloc, item.0)?;
         let netid = shown_text(alloc, item.1.1.as_slice())?;
         let outcomes = outcomes_text(alloc, item.1.0)?;
@@ -109,19 +109,19 @@ impl Style<Forwards> for CallLines {
 fn show_heading<W: Write>(alloc: Global, vers: u32, writer: &mut W) -> Result<(), InfoFault>
     ensures { Writes W.contents writer.old writer.new (tell (version_line vers ∷ [])) result }
 {
-    show_item::<u32, VersionLine, W>(alloc, &vers, writer)
+    show_item(alloc, &VersionLine, &vers, writer)
 }
 
 fn show_info<W: Write>(alloc: Global, numbers: &Numbers, writer: &mut W) -> Result<(), InfoFault>
     ensures { Writes W.contents writer.old writer.new (tell (info_line numbers.now ∷ [])) result }
 {
-    show_item::<Numbers, InfoLine, W>(alloc, numbers, writer)
+    show_item(alloc, &InfoLine, numbers, writer)
 }
 
 fn show_sets<W: Write>(alloc: Global, numbers: &Numbers, writer: &mut W) -> Result<(), InfoFault>
     ensures { Writes W.contents writer.old writer.new (tell (sets_line numbers.now ∷ [])) result }
 {
-    show_item::<Numbers, SetsLine, W>(alloc, numbers, writer)
+    show_item(alloc, &SetsLine, numbers, writer)
 }
 
 /// Shows the numbers of a version.
@@ -148,8 +148,8 @@ fn show_lists<R: Read, W: Write>(
     ensures { Shows R.remaining W.contents reader.old reader.new at.old at.new
         writer.old writer.new tell_lists result }
 {
-    let found = show_list::<LookUps, AddrLines, R, W>(alloc, reader, at, writer)?;
-    let called = show_list::<Forwards, CallLines, R, W>(alloc, reader, at, writer)?;
+    let found = show_list(alloc, &AddrLines, reader, at, writer)?;
+    let called = show_list(alloc, &CallLines, reader, at, writer)?;
     Ok((found, called))
 }
 

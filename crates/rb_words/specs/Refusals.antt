@@ -3,6 +3,8 @@ use Rattle.std.specs.Prelude.{ℕ, List, [], ◌++◌, codes, Option, Some, None
 use Rattle.std.specs.Borrow.{Bor}
 use Rattle.rb_words.specs.declared.shape.Flag.{Flag}
 use Rattle.rb_words.specs.declared.shape.Flag.TheVariants as flags
+use Rattle.rb_words.specs.declared.plan.Layout.{Layout}
+use Rattle.rb_words.specs.declared.plan.Layout.TheVariants as layouts
 use Rattle.rb_words.specs.declared.shape.Shape.{Shape}
 use Rattle.rb_words.specs.declared.refusal.Refusal.{Refusal}
 use Rattle.rb_words.specs.declared.refusal.Spot.{Spot}
@@ -19,6 +21,9 @@ flag_text flags.Tcp = codes "-t"
 flag_text flags.Udp = codes "-u"
 flag_text flags.Delete = codes "-d"
 
+abbrev pub layout_text : Layout → List ℕ
+layout_text layouts.Names = codes "--names"
+
 abbrev pub text_or_none : Option (Bor (List ℕ)) → List ℕ
 text_or_none (Some text) = text.now
 text_or_none None = []
@@ -32,6 +37,7 @@ spot_text shape spots.Target = text_or_none shape.target
 spot_text shape spots.Netid = text_or_none shape.netid
 spot_text shape spots.Address = text_or_none shape.address
 spot_text shape spots.Local = text_or_none shape.local
+spot_text shape (spots.Layout layout) = layout_text layout
 spot_text shape (spots.Word i) = text_or_none (slice_get shape.words.now i)
 spot_text shape spots.End = []
 
@@ -43,13 +49,14 @@ wanted_text wants.Netid = codes "tcp, udp, tcp6, udp6 or local is wanted"
 wanted_text wants.Socket = codes "tcp, udp, tcp6 or udp6 is wanted"
 wanted_text wants.Address = codes "a universal address is wanted, as 192.0.2.1.0.111"
 wanted_text wants.Host = codes "HOST is wanted, a name or an address"
-wanted_text wants.Program = codes "PROGRAM is wanted, a number from 0 to 4294967295"
+wanted_text wants.Program = codes "PROGRAM is wanted, a number from 0 to 4294967295 or a name"
 wanted_text wants.Version = codes "VERSION is wanted, a number from 0 to 4294967295"
 wanted_text wants.NoWord = codes "no further word is wanted"
 wanted_text wants.Ping = codes "-n goes with -t and -u alone"
 wanted_text wants.NoFlagOrDelete = codes "-T goes with -d, or with no flag"
 wanted_text wants.NetidAlone = codes "-a goes with -T, and with no flag"
 wanted_text wants.NoHost = codes "--local goes with no HOST"
+wanted_text wants.List = codes "--names goes with -p, -s, -l, or with no flag and no -T"
 
 -- the word, where one is there
 abbrev pub word_part : Shape → Spot → List ℕ

@@ -1,5 +1,6 @@
 -- What the words of a command line ask for.
 use Rattle.std.specs.Prelude.{ℕ, ◌+◌, Bool, true, false, not, ◌&&◌, is_some, unwrap_or, List, [], ◌∷◌, Option, Some, None, Result, Ok, Err, if◌then◌else◌, slice_get, codes}
+use Rattle.std.specs.Option.{option_or}
 use Rattle.std.specs.Str.{bytes_eq}
 use Rattle.std.specs.Borrow.{Bor}
 use Rattle.rb_words.specs.declared.shape.Flag.{Flag}
@@ -8,6 +9,7 @@ use Rattle.rb_words.specs.declared.refusal.Spot.{Spot}
 use Rattle.rb_words.specs.declared.refusal.Spot.TheVariants as spots
 use Rattle.rb_words.specs.declared.refusal.Wanted.{Wanted}
 use Rattle.rb_words.specs.declared.refusal.Wanted.TheVariants as wants
+use Rattle.rb_words.specs.declared.plan.Layout.{Layout}
 use Rattle.rb_words.specs.declared.plan.Listing.{Listing}
 use Rattle.rb_words.specs.declared.plan.Listing.TheVariants as listings
 use Rattle.rb_words.specs.declared.plan.Transport.{Transport}
@@ -20,11 +22,13 @@ use Rattle.rb_words.specs.declared.plan.Source.{Source}
 use Rattle.rb_words.specs.declared.plan.Source.TheVariants.{Here, Input, Named}
 use Rattle.rb_names.specs.declared.netid.Netid.{Netid}
 use Rattle.rb_names.specs.declared.netid.Netid.TheVariants as netids
+use Rattle.rb_names.specs.declared.services.Service.{Service}
 use Rattle.rb_names.specs.Netids.{netid_of}
+use Rattle.rb_names.specs.Services.{number_of}
 use Rattle.rb_words.specs.declared.plan.Means.{Means}
 use Rattle.rb_words.specs.declared.plan.Plan.{Plan}
 use Rattle.rb_words.specs.declared.plan.Plan.TheVariants.{Show, Entries, Ping, Delete}
-use Rattle.rb_words.specs.Numbers.{number_in}
+use Rattle.rb_names.specs.Numbers.{number_in}
 
 -- ---- refusals
 
@@ -63,6 +67,18 @@ word_number i wanted (Some text) = or_refused (spots.Word i) wanted (number_in 0
 -- the number that a word is
 abbrev pub number_at : List (Bor (List ℕ)) → ℕ → Wanted → Result ℕ Refusal
 number_at words i wanted = word_number i wanted (slice_get words i)
+
+-- the program of this number, or of this name
+abbrev pub program_of : List Service → List ℕ → Option ℕ
+program_of services text = option_or (number_in 0 4294967295 text) (number_of services text)
+
+abbrev pub word_program : Shape → ℕ → Option (Bor (List ℕ)) → Result ℕ Refusal
+word_program shape i None = refused spots.End wants.Program
+word_program shape i (Some text) = or_refused (spots.Word i) wants.Program (program_of shape.services.now text.now)
+
+-- the program that a word is
+abbrev pub program_at : Shape → ℕ → Result ℕ Refusal
+program_at shape i = word_program shape i (slice_get shape.words.now i)
 
 abbrev pub no_word : ℕ → Option (Bor (List ℕ)) → Result (Unit {0}) Refusal
 no_word i None = Ok tt
@@ -105,12 +121,12 @@ abbrev pub shown : Listing → List (Bor (List ℕ)) → Result Plan Refusal
 shown listing words = ends_at words 1 >>= λ _. Ok (shown_from listing (slice_get words 0))
 
 -- HOST PROGRAM VERSION
-abbrev pub listed : List (Bor (List ℕ)) → Result Plan Refusal
-listed words = do
-  source ← source_at words
-  prog ← number_at words 1 wants.Program
-  vers ← number_at words 2 wants.Version
-  _ ← ends_at words 3
+abbrev pub listed : Shape → Result Plan Refusal
+listed shape = do
+  source ← source_at shape.words.now
+  prog ← program_at shape 1
+  vers ← number_at shape.words.now 2 wants.Version
+  _ ← ends_at shape.words.now 3
   Ok (Entries source prog vers)
 
 -- without a VERSION, each of them
@@ -122,22 +138,22 @@ version_in words i (Some text) = do
   Ok (Some vers)
 
 -- PROGRAM [VERSION]
-abbrev pub pinged : Means → List (Bor (List ℕ)) → ℕ → Result Plan Refusal
-pinged means words i = do
-  prog ← number_at words i wants.Program
-  vers ← version_in words (i + 1) (slice_get words (i + 1))
+abbrev pub pinged : Means → Shape → ℕ → Result Plan Refusal
+pinged means shape i = do
+  prog ← program_at shape i
+  vers ← version_in shape.words.now (i + 1) (slice_get shape.words.now (i + 1))
   Ok (Ping means prog vers)
 
 -- HOST PROGRAM [VERSION]
-abbrev pub pinged_at_host : Means → List (Bor (List ℕ)) → Result Plan Refusal
-pinged_at_host means words = host_at words >>= λ _. pinged means words 1
+abbrev pub pinged_at_host : Means → Shape → Result Plan Refusal
+pinged_at_host means shape = host_at shape.words.now >>= λ _. pinged means shape 1
 
 -- PROGRAM VERSION
-abbrev pub program_and_version : List (Bor (List ℕ)) → Result (ℕ × ℕ) Refusal
-program_and_version words = do
-  prog ← number_at words 0 wants.Program
-  vers ← number_at words 1 wants.Version
-  _ ← ends_at words 2
+abbrev pub program_and_version : Shape → Result (ℕ × ℕ) Refusal
+program_and_version shape = do
+  prog ← program_at shape 0
+  vers ← number_at shape.words.now 1 wants.Version
+  _ ← ends_at shape.words.now 2
   Ok (prog, vers)
 
 -- ---- netids
@@ -150,8 +166,8 @@ option_netid (Some text) = given spots.Netid wants.Netid (netid_of text.now)
 
 -- procedure 0 at the address of `-a`, or at that which GETADDR says
 abbrev pub by_address : Netid → Shape → Option (Bor (List ℕ)) → Result Plan Refusal
-by_address netid shape None = pinged_at_host (means.Netid netid) shape.words.now
-by_address netid shape (Some address) = pinged (means.Address netid) shape.words.now 0
+by_address netid shape None = pinged_at_host (means.Netid netid) shape
+by_address netid shape (Some address) = pinged (means.Address netid) shape 0
 
 abbrev pub by_netid : Netid → Shape → Result Plan Refusal
 by_netid netid shape = by_address netid shape shape.address
@@ -167,8 +183,8 @@ without_flag shape = option_netid shape.netid >>= by_option shape
 
 -- procedure 0 at the port of `-n`, or at that which GETPORT says
 abbrev pub by_port : Transport → Shape → Option ℕ → Result Plan Refusal
-by_port transport shape None = pinged_at_host (means.Mapped transport) shape.words.now
-by_port transport shape (Some port) = pinged_at_host (means.Port transport port) shape.words.now
+by_port transport shape None = pinged_at_host (means.Mapped transport) shape
+by_port transport shape (Some port) = pinged_at_host (means.Port transport port) shape
 
 abbrev pub by_transport : Transport → Shape → Result Plan Refusal
 by_transport transport shape = option_number shape.target spots.Target wants.Port 1 65535 >>= by_port transport shape
@@ -176,14 +192,14 @@ by_transport transport shape = option_number shape.target spots.Target wants.Por
 abbrev pub deleted : Shape → Result Plan Refusal
 deleted shape = do
   netid ← option_netid shape.netid
-  program ← program_and_version shape.words.now
+  program ← program_and_version shape
   Ok (Delete netid program.0 program.1)
 
 abbrev pub plan_of : Option Flag → Shape → Result Plan Refusal
 plan_of None shape = without_flag shape
 plan_of (Some flags.Table) shape = shown listings.Table shape.words.now
 plan_of (Some flags.Short) shape = shown listings.Short shape.words.now
-plan_of (Some flags.List) shape = listed shape.words.now
+plan_of (Some flags.List) shape = listed shape
 plan_of (Some flags.Statistics) shape = shown listings.Statistics shape.words.now
 plan_of (Some flags.Tcp) shape = by_transport transports.Tcp shape
 plan_of (Some flags.Udp) shape = by_transport transports.Udp shape
@@ -221,6 +237,20 @@ is_here (Show listing Here) = true
 is_here (Delete netid prog vers) = true
 is_here _ = false
 
+-- ---- layouts
+
+-- programs are listed
+abbrev pub is_list : Plan → Bool
+is_list (Show listings.Statistics source) = false
+is_list (Show listing source) = true
+is_list (Entries source prog vers) = true
+is_list _ = false
+
+-- a layout is that of a list
+abbrev pub layout_of : List Layout → Plan → Result (Option Layout) Refusal
+layout_of [] plan = Ok None
+layout_of (layout ∷ layouts) plan = if is_list plan then Ok (Some layout) else refused (spots.Layout layout) wants.List
+
 -- ---- all of it
 
 -- the portmapper's port where none is given is 111
@@ -232,4 +262,5 @@ request_of shape = do
   uid ← option_number shape.uid spots.Uid wants.Uid 0 4294967295
   plan ← plan_of flag shape
   _ ← only_where (is_some shape.local) (is_here plan) spots.Local wants.NoHost
-  Ok (record { port = unwrap_or port 111; uid = uid; plan = plan })
+  layout ← layout_of shape.layouts.now plan
+  Ok (record { port = unwrap_or port 111; uid = uid; plan = plan; layout = layout })

@@ -1,13 +1,12 @@
 //! What the words of the command line ask for.
 #![tactic(auto)]
 
-mod number;
 mod plan;
 mod read;
 mod refusal;
 mod shape;
 
-pub use plan::{Listing, Means, Plan, Request, Source, Transport};
+pub use plan::{Layout, Listing, Means, Plan, Request, Source, Transport};
 pub use read::read_words;
 pub use refusal::{Refusal, Spot, Wanted, write_refusal};
 pub use shape::{Flag, Shape};

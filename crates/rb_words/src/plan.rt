@@ -57,6 +57,13 @@ pub enum Plan {
     Delete(Option<Netid>, u32, u32),
 }
 
+/// How a list is written, where it is not in columns alone.
+#[derive(Clone, Copy, Debug, PartialEq, Eq)]
+pub enum Layout {
+    /// With the names of programs.
+    Names,
+}
+
 /// The words of a command line, read.
 #[derive(Clone, Copy, Debug, PartialEq, Eq)]
 pub struct Request {
@@ -65,4 +72,5 @@ pub struct Request {
     /// As which user is asked; as nobody without one.
     pub uid: Option<u32>,
     pub plan: Plan,
+    pub layout: Option<Layout>,
 }

@@ -1,12 +1,11 @@
 //! Reads the words of a command line.
 ghost use Rattle.std.specs.Prelude.{◌≡◌, ◌<◌};
-ghost use Rattle.rb_words.specs.Words.{flag_of, option_number, number_at, ends_at, source_of, source_at, host_at, shown, listed, pinged, pinged_at_host, program_and_version, option_netid, by_netid, by_transport, without_flag, deleted, plan_of, is_ping, may_have_netid, is_here, only_where, placed, request_of};
+ghost use Rattle.rb_words.specs.Words.{flag_of, option_number, number_at, program_of, program_at, ends_at, source_of, source_at, host_at, shown, listed, pinged, pinged_at_host, program_and_version, option_netid, by_netid, by_transport, without_flag, deleted, plan_of, is_ping, may_have_netid, is_here, is_list, layout_of, only_where, placed, request_of};
 
-use crate::number::number_in;
-use crate::plan::{Listing, Means, Plan, Request, Source, Transport};
+use crate::plan::{Layout, Listing, Means, Plan, Request, Source, Transport};
 use crate::refusal::{Refusal, Spot, Wanted};
 use crate::shape::{Flag, Shape};
-use rb_names::Netid;
+use rb_names::{Netid, Service, number_in, number_of};
 
 /// The portmapper's port.
 const PORT: u16 = 111;
@@ -56,6 +55,29 @@ fn number_at(words: &[&str], i: usize, wanted: Wanted) -> Result<u32, Refusal>
         Some(text) => match number_in(text, 0, u32::MAX) {
             Some(n) => Ok(n),
             None => refused(Spot::Word(i), wanted),
+        },
+    }
+}
+
+/// The number of a program that a text is, or of the program of this name.
+fn program_of(services: &[Service], text: &str) -> Option<u32>
+    ensures { result ≡ program_of services.now text.now }
+{
+    match number_in(text, 0, u32::MAX) {
+        Some(n) => Some(n),
+        None => number_of(services, text.as_bytes()),
+    }
+}
+
+/// The program that a word is.
+fn program_at(shape: &Shape<'_, '_, '_>, i: usize) -> Result<u32, Refusal>
+    ensures { result ≡ program_at shape.now i }
+{
+    match shape.words.get(i) {
+        None => refused(Spot::End, Wanted::Program),
+        Some(text) => match program_of(shape.services, text) {
+            Some(n) => Ok(n),
+            None => refused(Spot::Word(i), Wanted::Program),
         },
     }
 }
@@ -113,45 +135,45 @@ fn shown(listing: Listing, words: &[&str]) -> Result<Plan, Refusal>
 }
 
 /// HOST PROGRAM VERSION, where HOST may be standard input.
-fn listed(words: &[&str]) -> Result<Plan, Refusal>
-    ensures { result ≡ listed words.now }
+fn listed(shape: &Shape<'_, '_, '_>) -> Result<Plan, Refusal>
+    ensures { result ≡ listed shape.now }
 {
-    let source = source_at(words)?;
-    let prog = number_at(words, 1, Wanted::Program)?;
-    let vers = number_at(words, 2, Wanted::Version)?;
-    ends_at(words, 3)?;
+    let source = source_at(shape.words)?;
+    let prog = program_at(shape, 1)?;
+    let vers = number_at(shape.words, 2, Wanted::Version)?;
+    ends_at(shape.words, 3)?;
     Ok(Plan::Entries(source, prog, vers))
 }
 
 /// PROGRAM, and VERSION where it is there, from this place on.
-fn pinged(means: Means, words: &[&str], i: usize) -> Result<Plan, Refusal>
+fn pinged(means: Means, shape: &Shape<'_, '_, '_>, i: usize) -> Result<Plan, Refusal>
     requires { i < 2 }
-    ensures { result ≡ pinged means words.now i }
+    ensures { result ≡ pinged means shape.now i }
 {
-    let prog = number_at(words, i, Wanted::Program)?;
-    if words.get(i + 1).is_none() {
+    let prog = program_at(shape, i)?;
+    if shape.words.get(i + 1).is_none() {
         return Ok(Plan::Ping(means, prog, None));
     }
-    let vers = number_at(words, i + 1, Wanted::Version)?;
-    ends_at(words, i + 2)?;
+    let vers = number_at(shape.words, i + 1, Wanted::Version)?;
+    ends_at(shape.words, i + 2)?;
     Ok(Plan::Ping(means, prog, Some(vers)))
 }
 
 /// HOST PROGRAM, and VERSION where it is there.
-fn pinged_at_host(means: Means, words: &[&str]) -> Result<Plan, Refusal>
-    ensures { result ≡ pinged_at_host means words.now }
+fn pinged_at_host(means: Means, shape: &Shape<'_, '_, '_>) -> Result<Plan, Refusal>
+    ensures { result ≡ pinged_at_host means shape.now }
 {
-    host_at(words)?;
-    pinged(means, words, 1)
+    host_at(shape.words)?;
+    pinged(means, shape, 1)
 }
 
 /// PROGRAM VERSION.
-fn program_and_version(words: &[&str]) -> Result<(u32, u32), Refusal>
-    ensures { result ≡ program_and_version words.now }
+fn program_and_version(shape: &Shape<'_, '_, '_>) -> Result<(u32, u32), Refusal>
+    ensures { result ≡ program_and_version shape.now }
 {
-    let prog = number_at(words, 0, Wanted::Program)?;
-    let vers = number_at(words, 1, Wanted::Version)?;
-    ends_at(words, 2)?;
+    let prog = program_at(shape, 0)?;
+    let vers = number_at(shape.words, 1, Wanted::Version)?;
+    ends_at(shape.words, 2)?;
     Ok((prog, vers))
 }
 
@@ -179,17 +201,17 @@ fn option_port(text: Option<&str>, at: Spot) -> Result<Option<u16>, Refusal>
 }
 
 /// Procedure 0 at the address of `-a`, or at that which GETADDR says.
-fn by_netid(netid: Netid, shape: &Shape<'_, '_>) -> Result<Plan, Refusal>
+fn by_netid(netid: Netid, shape: &Shape<'_, '_, '_>) -> Result<Plan, Refusal>
     ensures { result ≡ by_netid netid shape.now }
 {
     match shape.address {
-        None => pinged_at_host(Means::Netid(netid), shape.words),
-        Some(_) => pinged(Means::Address(netid), shape.words, 0),
+        None => pinged_at_host(Means::Netid(netid), shape),
+        Some(_) => pinged(Means::Address(netid), shape, 0),
     }
 }
 
 /// Without a flag: a list, or with `-T` procedure 0 of a program.
-fn without_flag(shape: &Shape<'_, '_>) -> Result<Plan, Refusal>
+fn without_flag(shape: &Shape<'_, '_, '_>) -> Result<Plan, Refusal>
     ensures { result ≡ without_flag shape.now }
 {
     match option_netid(shape.netid)? {
@@ -200,32 +222,32 @@ fn without_flag(shape: &Shape<'_, '_>) -> Result<Plan, Refusal>
 }
 
 /// `-t` and `-u`.
-fn by_transport(transport: Transport, shape: &Shape<'_, '_>) -> Result<Plan, Refusal>
+fn by_transport(transport: Transport, shape: &Shape<'_, '_, '_>) -> Result<Plan, Refusal>
     ensures { result ≡ by_transport transport shape.now }
 {
     match option_port(shape.target, Spot::Target)? {
-        None => pinged_at_host(Means::Mapped(transport), shape.words),
-        Some(port) => pinged_at_host(Means::Port(transport, port), shape.words),
+        None => pinged_at_host(Means::Mapped(transport), shape),
+        Some(port) => pinged_at_host(Means::Port(transport, port), shape),
     }
 }
 
-fn deleted(shape: &Shape<'_, '_>) -> Result<Plan, Refusal>
+fn deleted(shape: &Shape<'_, '_, '_>) -> Result<Plan, Refusal>
     ensures { result ≡ deleted shape.now }
 {
     let netid = option_netid(shape.netid)?;
-    let (prog, vers) = program_and_version(shape.words)?;
+    let (prog, vers) = program_and_version(shape)?;
     Ok(Plan::Delete(netid, prog, vers))
 }
 
 /// What the flag asks for.
-fn plan_of(flag: Option<Flag>, shape: &Shape<'_, '_>) -> Result<Plan, Refusal>
+fn plan_of(flag: Option<Flag>, shape: &Shape<'_, '_, '_>) -> Result<Plan, Refusal>
     ensures { result ≡ plan_of flag shape.now }
 {
     match flag {
         None => without_flag(shape),
         Some(Flag::Table) => shown(Listing::Table, shape.words),
         Some(Flag::Short) => shown(Listing::Short, shape.words),
-        Some(Flag::List) => listed(shape.words),
+        Some(Flag::List) => listed(shape),
         Some(Flag::Statistics) => shown(Listing::Statistics, shape.words),
         Some(Flag::Tcp) => by_transport(Transport::Tcp, shape),
         Some(Flag::Udp) => by_transport(Transport::Udp, shape),
@@ -256,7 +278,7 @@ fn only_where(given: bool, has: bool, at: Spot, wanted: Wanted) -> Result<(), Re
 }
 
 /// Each option that is given is one that the flag has.
-fn placed(flag: Option<Flag>, shape: &Shape<'_, '_>) -> Result<(), Refusal>
+fn placed(flag: Option<Flag>, shape: &Shape<'_, '_, '_>) -> Result<(), Refusal>
     ensures { result ≡ placed flag shape.now }
 {
     let netid = shape.netid.is_some();
@@ -292,10 +314,34 @@ fn is_here(plan: Plan) -> bool
     }
 }
 
+/// How a list is written, where one is asked for.
+fn layout_of(layouts: &[Layout], plan: Plan) -> Result<Option<Layout>, Refusal>
+    ensures { result ≡ layout_of layouts.now plan }
+{
+    match layouts {
+        [] => Ok(None),
+        [layout, ..] => {
+            only_where(true, is_list(plan), Spot::Layout(*layout), Wanted::List)?;
+            Ok(Some(*layout))
+        }
+    }
+}
+
+/// Whether programs are listed.
+fn is_list(plan: Plan) -> bool
+    ensures { result ≡ is_list plan }
+{
+    match plan {
+        Plan::Show(listing, _) => !matches!(listing, Listing::Statistics),
+        Plan::Entries(..) => true,
+        Plan::Ping(..) | Plan::Delete(..) => false,
+    }
+}
+
 /// What the words ask for. Where they can't be read it is said where, and what is wanted there.
 ///
 /// A number has decimal digits alone: no sign, and no other text. Ports are 1 to 65535, other numbers 0 to 4294967295.
-pub fn read_words(shape: &Shape<'_, '_>) -> Result<Request, Refusal>
+pub fn read_words(shape: &Shape<'_, '_, '_>) -> Result<Request, Refusal>
     ensures { result ≡ request_of shape.now }
 {
     let flag = flag_of(shape.flags)?;
@@ -309,5 +355,11 @@ pub fn read_words(shape: &Shape<'_, '_>) -> Result<Request, Refusal>
         Spot::Local,
         Wanted::NoHost,
     )?;
-    Ok(Request { port, uid, plan })
+    let layout = layout_of(shape.layouts, plan)?;
+    Ok(Request {
+        port,
+        uid,
+        plan,
+        layout,
+    })
 }

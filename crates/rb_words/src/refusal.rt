@@ -1,8 +1,9 @@
 //! Words that can't be read.
 ghost use Rattle.std.specs.Prelude.{◌≡◌, OnOk};
 ghost use Rattle.std.specs.Io.KnownBytes.{Appends};
-ghost use Rattle.rb_words.specs.Refusals.{flag_text, spot_text, wanted_text, refusal_lines, named_line};
+ghost use Rattle.rb_words.specs.Refusals.{flag_text, layout_text, spot_text, wanted_text, refusal_lines, named_line};
 
+use crate::plan::Layout;
 use crate::shape::{Flag, Shape};
 use std::io;
 use std::io::Write;
@@ -18,6 +19,7 @@ pub enum Spot {
     Netid,
     Address,
     Local,
+    Layout(Layout),
     /// The word of this number, from 0.
     Word(usize),
     /// A word is missing.
@@ -47,6 +49,8 @@ pub enum Wanted {
     NetidAlone,
     /// `--local` goes with forms that have no HOST.
     NoHost,
+    /// `--names` goes with lists of programs.
+    List,
 }
 
 /// Why words can't be read.
@@ -71,8 +75,17 @@ fn flag_text(flag: Flag) -> &'static str
     }
 }
 
+/// A layout as it is written.
+fn layout_text(layout: Layout) -> &'static str
+    ensures { result.now ≡ layout_text layout }
+{
+    match layout {
+        Layout::Names => "--names",
+    }
+}
+
 /// What stands there, or nothing.
-fn spot_text<'a>(shape: &Shape<'_, 'a>, at: Spot) -> &'a str
+fn spot_text<'a>(shape: &Shape<'_, 'a, '_>, at: Spot) -> &'a str
     ensures { result.now ≡ spot_text shape.now at }
 {
     match at {
@@ -83,6 +96,7 @@ fn spot_text<'a>(shape: &Shape<'_, 'a>, at: Spot) -> &'a str
         Spot::Netid => shape.netid.unwrap_or(""),
         Spot::Address => shape.address.unwrap_or(""),
         Spot::Local => shape.local.unwrap_or(""),
+        Spot::Layout(layout) => layout_text(layout),
         Spot::Word(i) => shape.words.get(i).copied().unwrap_or(""),
         Spot::End => "",
     }
@@ -100,18 +114,23 @@ fn wanted_text(wanted: Wanted) -> &'static str
         Wanted::Socket => "tcp, udp, tcp6 or udp6 is wanted",
         Wanted::Address => "a universal address is wanted, as 192.0.2.1.0.111",
         Wanted::Host => "HOST is wanted, a name or an address",
-        Wanted::Program => "PROGRAM is wanted, a number from 0 to 4294967295",
+        Wanted::Program => "PROGRAM is wanted, a number from 0 to 4294967295 or a name",
         Wanted::Version => "VERSION is wanted, a number from 0 to 4294967295",
         Wanted::NoWord => "no further word is wanted",
         Wanted::Ping => "-n goes with -t and -u alone",
         Wanted::NoFlagOrDelete => "-T goes with -d, or with no flag",
         Wanted::NetidAlone => "-a goes with -T, and with no flag",
         Wanted::NoHost => "--local goes with no HOST",
+        Wanted::List => "--names goes with -p, -s, -l, or with no flag and no -T",
     }
 }
 
 /// The line that names the word, where there is one, and what is wanted.
-fn write_named<W: Write>(shape: &Shape<'_, '_>, refusal: Refusal, writer: &mut W) -> io::Result<()>
+fn write_named<W: Write>(
+    shape: &Shape<'_, '_, '_>,
+    refusal: Refusal,
+    writer: &mut W,
+) -> io::Result<()>
     ensures { OnOk result
         (Appends (W.contents writer.old) (W.contents writer.new) (named_line shape.now refusal)) }
 {
@@ -127,7 +146,7 @@ fn write_named<W: Write>(shape: &Shape<'_, '_>, refusal: Refusal, writer: &mut W
 
 /// Says that the words can't be read: which word, and what is wanted.
 pub fn write_refusal<W: Write>(
-    shape: &Shape<'_, '_>,
+    shape: &Shape<'_, '_, '_>,
     refusal: Refusal,
     writer: &mut W,
 ) -> io::Result<()>

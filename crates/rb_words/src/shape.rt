@@ -1,6 +1,9 @@
 //! The words by their shape: flags, options with their values, and the rest.
 ghost use Rattle.std.specs.Prelude.{◌≡◌};
 
+use crate::plan::Layout;
+use rb_names::Service;
+
 /// A flag names a form; at most one stands on a command line.
 #[derive(Clone, Copy, Debug, PartialEq, Eq)]
 pub enum Flag {
@@ -22,7 +25,7 @@ pub enum Flag {
 
 /// What stands on a command line, unread.
 #[derive(Clone, Copy, Debug)]
-pub struct Shape<'s, 'a> {
+pub struct Shape<'s, 'a, 'n> {
     pub flags: &'s [Flag],
     /// `--port`
     pub port: Option<&'a str>,
@@ -36,6 +39,10 @@ pub struct Shape<'s, 'a> {
     pub address: Option<&'a str>,
     /// `--local`
     pub local: Option<&'a str>,
+    /// `--names`
+    pub layouts: &'s [Layout],
     /// The words that belong to no option, in their order.
     pub words: &'s [&'a str],
+    /// The names by which programs may be given.
+    pub services: &'n [Service],
 }

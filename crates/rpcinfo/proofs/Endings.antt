@@ -1,10 +1,10 @@
 -- Endings without words that were read.
-use Rattle.std.proofs.Common.{◌≡◌, ℕ, List, Option, Err, arith}
+use Rattle.std.proofs.Common.{◌≡◌, ℕ, List, Option, Err, arith, inl, inr}
 use Rattle.std.proofs.KnownBytes.{Appends-nil}
 use Rattle.rpcinfo.specs.declared.ending.Ending.{Ending}
 use Rattle.rpcinfo.specs.declared.fault.Fault.{Fault}
 use Rattle.rpcinfo.specs.Ending.{fault_lines, Says}
-use Rattle.rpcinfo.specs.Running.{no_notices, EndsUnread, IsExplained, IsNoticed}
+use Rattle.rpcinfo.specs.Running.{no_notices, EndsSaying, EndsUnread, IsExplained, IsNoticed}
 
 -- a fault that was explained
 pub explained : {E : Type 0} (contents : E → Option (List ℕ)) (faults faults' : E) (ending : Ending) (fault : Fault) → ending.status ≡ 1
@@ -27,3 +27,8 @@ unread_noticed contents faults faults' ending e = record {
   quiet = λ none. e;
   said = λ told. rw e (Appends-nil (contents faults));
 }
+
+-- an ending that says something is no success
+pub said_not_zero : {E : Type 0} (contents : E → Option (List ℕ)) (faults faults' : E) (ending : Ending) → EndsSaying contents faults faults' ending → ending.status ≡ 0 → ⊥
+said_not_zero contents faults faults' ending (inl said) zero = omega (arith, said.0, zero)
+said_not_zero contents faults faults' ending (inr two) zero = omega (arith, two, zero)

@@ -6,6 +6,7 @@ use Rattle.rb_ask.specs.declared.fault.InfoFault.{InfoFault}
 use Rattle.rb_ask.specs.declared.fault.InfoFault.TheVariants.{Read, Write, Unreadable, Refused, TooMany, Memory}
 use Rattle.rb_ask.specs.Telling.{Told, AfterFault}
 use Rattle.rb_show.specs.declared.ask.Ask.{Ask}
+use Rattle.rb_show.specs.declared.form.Form.{Form}
 use Rattle.rb_show.specs.declared.show.Shown.{Shown}
 use Rattle.rpcinfo.specs.declared.fault.Fault.{Fault}
 use Rattle.rpcinfo.specs.declared.fault.Fault.TheVariants.{Info, NoConnection, NoHost, NotAvailable, NoProgram, SomeLack}
@@ -54,24 +55,24 @@ told_out told a b c (Err (NotAvailable prog vers why)) result k e p = absurd p
 told_out told a b c (Err (NoProgram prog why)) result k e p = absurd p
 told_out told a b c (Err SomeLack) result k e p = absurd p
 
-known_out : (left : Option (List ℕ)) (ask : Ask) (a b c : Option (List ℕ)) (answer result : Result Shown Fault) → Keeps b c → IsOut answer result
-    → IfSome left (λ text. IsToldAs (tell_text ask text) a b answer) → IfSome left (λ text. IsToldAs (tell_text ask text) a c result)
-known_out None ask a b c answer result k e p = tt
-known_out (Some text) ask a b c answer result k e p = told_out (tell_text ask text) a b c answer result k e p
+known_out : (left : Option (List ℕ)) (ask : Ask) (form : Form) (a b c : Option (List ℕ)) (answer result : Result Shown Fault) → Keeps b c → IsOut answer result
+    → IfSome left (λ text. IsToldAs (tell_text ask form text) a b answer) → IfSome left (λ text. IsToldAs (tell_text ask form text) a c result)
+known_out None ask form a b c answer result k e p = tt
+known_out (Some text) ask form a b c answer result k e p = told_out (tell_text ask form text) a b c answer result k e p
 
 -- what holds of an answer holds of it once its lines are out
 pub answers_out : {I O : Type 0} (remaining : I → Option (List ℕ)) (contents : O → Option (List ℕ)) (words : Words) (input : I) (output output' output'' : O) (answer result : Result Shown Fault)
     → Answers remaining contents words input output output' answer → IsFlushed contents output' output'' answer result → Answers remaining contents words input output output'' result
 answers_out {I} {O} remaining contents words input output output' output'' answer result p f = by_source (plan_question words.request.plan) p
   where
-    by_source : (asked : Option (Source × Question)) → OfSource asked (λ question. ShowsAs remaining contents (ask_of words question) input output output' answer)
-        → OfSource asked (λ question. ShowsAs remaining contents (ask_of words question) input output output'' result)
-    by_source (Some (Input, question)) p = known_out (remaining input) (ask_of words question) (contents output) (contents output') (contents output'') answer result f.kept f.same p
+    by_source : (asked : Option (Source × Question)) → OfSource asked (λ question. ShowsAs remaining contents (ask_of words question) words.form input output output' answer)
+        → OfSource asked (λ question. ShowsAs remaining contents (ask_of words question) words.form input output output'' result)
+    by_source (Some (Input, question)) p = known_out (remaining input) (ask_of words question) words.form (contents output) (contents output') (contents output'') answer result f.kept f.same p
     by_source (Some (Here, question)) p = tt
     by_source (Some (Named, question)) p = tt
     by_source None p = tt
 
 -- what the reply on the input tells is the answer of words that name it
-pub answers_shown : {I O : Type 0} (remaining : I → Option (List ℕ)) (contents : O → Option (List ℕ)) (ask : Ask) (input : I) (output output' : O) (shown : Shown)
-    → ShowsInput remaining contents ask input output output' (Ok shown) → ShowsAs remaining contents ask input output output' (Ok shown)
-answers_shown remaining contents ask input output output' shown p = p
+pub answers_shown : {I O : Type 0} (remaining : I → Option (List ℕ)) (contents : O → Option (List ℕ)) (ask : Ask) (form : Form) (input : I) (output output' : O) (shown : Shown)
+    → ShowsInput remaining contents ask form input output output' (Ok shown) → ShowsAs remaining contents ask form input output output' (Ok shown)
+answers_shown remaining contents ask form input output output' shown p = p

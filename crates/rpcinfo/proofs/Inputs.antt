@@ -11,6 +11,7 @@ use Rattle.rb_ask.specs.declared.record.Record.{Record}
 use Rattle.rb_ask.specs.Telling.{Told, Outcome, lines_of}
 use Rattle.rb_ask.specs.Telling.Told.{Stop}
 use Rattle.rb_show.specs.declared.ask.Ask.{Ask}
+use Rattle.rb_show.specs.declared.form.Form.{Form}
 use Rattle.rb_show.specs.declared.show.Shown.{Shown}
 use Rattle.rb_show.specs.Replies.{tell_reply}
 use Rattle.rpcinfo.specs.Input.{longest_text, bytes_of, tell_bytes, tell_text, IsEnoughOf, IsTold}
@@ -25,10 +26,10 @@ bytes_of-take text =
     ]
 
 -- what is told of enough of an input is told of the input
-pub told_of_input : (left : Option (List ℕ)) (text : List ℕ) (ask : Ask) (old new : Option (List ℕ)) (result : Result Shown InfoFault) → IsEnoughOf left text
-    → IsTold (tell_text ask text) old new result → IfSome left (λ input. IsTold (tell_text ask input) old new result)
-told_of_input None text ask old new result is told = tt
-told_of_input (Some input) text ask old new result is told = subst (λ (bytes : Result (List ℕ) InfoFault). IsTold (tell_bytes ask bytes) old new result) (ap bytes_of is ∙ bytes_of-take input) told
+pub told_of_input : (left : Option (List ℕ)) (text : List ℕ) (ask : Ask) (form : Form) (old new : Option (List ℕ)) (result : Result Shown InfoFault) → IsEnoughOf left text
+    → IsTold (tell_text ask form text) old new result → IfSome left (λ input. IsTold (tell_text ask form input) old new result)
+told_of_input None text ask form old new result is told = tt
+told_of_input (Some input) text ask form old new result is told = subst (λ (bytes : Result (List ℕ) InfoFault). IsTold (tell_bytes ask form bytes) old new result) (ap bytes_of is ∙ bytes_of-take input) told
 
 -- nothing was written before a fault of the reader or of memory
 pub told_cut : (told : Told Shown) (held : Option (List ℕ)) (fault : InfoFault) → (fault ≡ Memory) ⊎ (fault ≡ Read) → IsTold told held held (Err fault)
@@ -44,16 +45,16 @@ stopped TooMany held = record { lines = []; told_is = refl; written = Appends-ni
 stopped (Refused head) held = record { lines = []; told_is = refl; written = Appends-nil held }
 
 -- nothing was written of a text that gives no bytes
-pub told_stop : (ask : Ask) (text : List ℕ) (held : Option (List ℕ)) (fault : InfoFault) → (fault ≡ Memory) ⊎ (bytes_of text ≡ Err fault) → IsTold (tell_text ask text) held held (Err fault)
-told_stop ask text held fault (inl e) = told_cut (tell_text ask text) held fault (inl e)
-told_stop ask text held fault (inr e) = rw e (record { bytes = []; left = None; at = record { left = 0; last = false; allowed = 0 }; outcome = stopped fault held })
+pub told_stop : (ask : Ask) (form : Form) (text : List ℕ) (held : Option (List ℕ)) (fault : InfoFault) → (fault ≡ Memory) ⊎ (bytes_of text ≡ Err fault) → IsTold (tell_text ask form text) held held (Err fault)
+told_stop ask form text held fault (inl e) = told_cut (tell_text ask form text) held fault (inl e)
+told_stop ask form text held fault (inr e) = rw e (record { bytes = []; left = None; at = record { left = 0; last = false; allowed = 0 }; outcome = stopped fault held })
 
 -- the reply that a text gives was shown
-pub told_reply : (ask : Ask) (text bytes : List ℕ) (left : Option (List ℕ)) (at : Record) (old new : Option (List ℕ)) (result : Result Shown InfoFault) → bytes_of text ≡ Ok bytes
-    → Outcome (tell_reply ask 1 (data_of bytes)) bytes left at old new result → IsTold (tell_text ask text) old new result
-told_reply ask text bytes left at old new result e outcome = rw e (record { bytes = bytes; left = left; at = at; outcome = outcome })
+pub told_reply : (ask : Ask) (form : Form) (text bytes : List ℕ) (left : Option (List ℕ)) (at : Record) (old new : Option (List ℕ)) (result : Result Shown InfoFault) → bytes_of text ≡ Ok bytes
+    → Outcome (tell_reply ask form 1 (data_of bytes)) bytes left at old new result → IsTold (tell_text ask form text) old new result
+told_reply ask form text bytes left at old new result e outcome = rw e (record { bytes = bytes; left = left; at = at; outcome = outcome })
 
 -- nothing was written where no text was read
-pub cut_input : (left : Option (List ℕ)) (ask : Ask) (held : Option (List ℕ)) (fault : InfoFault) → (fault ≡ Memory) ⊎ (fault ≡ Read) → IfSome left (λ input. IsTold (tell_text ask input) held held (Err fault))
-cut_input None ask held fault is = tt
-cut_input (Some input) ask held fault is = told_cut (tell_text ask input) held fault is
+pub cut_input : (left : Option (List ℕ)) (ask : Ask) (form : Form) (held : Option (List ℕ)) (fault : InfoFault) → (fault ≡ Memory) ⊎ (fault ≡ Read) → IfSome left (λ input. IsTold (tell_text ask form input) held held (Err fault))
+cut_input None ask form held fault is = tt
+cut_input (Some input) ask form held fault is = told_cut (tell_text ask form input) held fault is

@@ -9,6 +9,7 @@ use Rattle.rb_ask.specs.declared.record.Record.{Record}
 use Rattle.rb_ask.specs.Telling.{Told, Outcome}
 use Rattle.rb_ask.specs.Telling.Told.{Stop}
 use Rattle.rb_show.specs.declared.ask.Ask.{Ask}
+use Rattle.rb_show.specs.declared.form.Form.{Form}
 use Rattle.rb_show.specs.declared.show.Shown.{Shown}
 use Rattle.rb_show.specs.Replies.{tell_reply}
 
@@ -44,13 +45,13 @@ FailsAs gives fault = (fault ≡ Memory) ⊎ (gives ≡ Err fault)
 abbrev pub first_xid : ℕ
 first_xid = 1
 
-abbrev pub tell_bytes : Ask → Result (List ℕ) InfoFault → Told Shown
-tell_bytes ask (Ok bytes) = tell_reply ask first_xid (data_of bytes)
-tell_bytes ask (Err fault) = Stop [] fault
+abbrev pub tell_bytes : Ask → Form → Result (List ℕ) InfoFault → Told Shown
+tell_bytes ask form (Ok bytes) = tell_reply ask form first_xid (data_of bytes)
+tell_bytes ask form (Err fault) = Stop [] fault
 
 -- what the reply in a text tells
-abbrev pub tell_text : Ask → List ℕ → Told Shown
-tell_text ask text = tell_bytes ask (bytes_of text)
+abbrev pub tell_text : Ask → Form → List ℕ → Told Shown
+tell_text ask form text = tell_bytes ask form (bytes_of text)
 
 -- what was read of an input is all of it, or enough to show that it is too long
 abbrev pub IsEnoughOf : Option (List ℕ) → List ℕ → Type 0
@@ -64,6 +65,6 @@ pub record IsTold (told : Told Shown) (old new : Option (List ℕ)) (result : Re
   pub outcome : Outcome told bytes left at old new result
 
 -- where the text that the input has is known, what its reply tells is written
-abbrev pub ShowsInput : {I O : Type 0} → (I → Option (List ℕ)) → (O → Option (List ℕ)) → Ask → I → O → O → Result Shown InfoFault → Type 0
-ShowsInput remaining contents ask input output output' result =
-    IfSome (remaining input) (λ text. IsTold (tell_text ask text) (contents output) (contents output') result)
+abbrev pub ShowsInput : {I O : Type 0} → (I → Option (List ℕ)) → (O → Option (List ℕ)) → Ask → Form → I → O → O → Result Shown InfoFault → Type 0
+ShowsInput remaining contents ask form input output output' result =
+    IfSome (remaining input) (λ text. IsTold (tell_text ask form text) (contents output) (contents output') result)

@@ -1,8 +1,12 @@
 -- What the command does with words that were read.
 use Rattle.std.specs.Prelude.{◌≡◌, ◌≤◌, ◌⊎◌, ℕ, false, List, ◌++◌, Option, Some, None, IfSome, Result, Ok, Err, ⊤}
+use Rattle.std.specs.Borrow.{Bor}
 use Rattle.std.specs.Io.KnownBytes.{Keeps}
 use Rattle.rb_ask.specs.declared.fault.InfoFault.TheVariants.{Write}
 use Rattle.rb_ask.specs.Telling.{Told}
+use Rattle.rb_names.specs.declared.services.Service.{Service}
+use Rattle.rb_words.specs.declared.plan.Layout.{Layout}
+use Rattle.rb_words.specs.declared.plan.Layout.TheVariants.{Names}
 use Rattle.rb_words.specs.declared.plan.Plan.{Plan}
 use Rattle.rb_words.specs.declared.plan.Source.{Source}
 use Rattle.rb_words.specs.declared.plan.Source.TheVariants.{Here, Input, Named}
@@ -12,6 +16,8 @@ use Rattle.rb_words.specs.declared.refusal.Refusal.{Refusal}
 use Rattle.rb_words.specs.Refusals.{refusal_lines}
 use Rattle.rb_words.specs.Words.{request_of}
 use Rattle.rb_show.specs.declared.ask.Ask.{Ask}
+use Rattle.rb_show.specs.declared.form.Form.{Form}
+use Rattle.rb_show.specs.declared.form.Form.TheVariants.{Plain, Named}
 use Rattle.rb_show.specs.declared.ask.Question.{Question}
 use Rattle.rb_show.specs.declared.show.Shown.{Shown}
 use Rattle.rpcinfo.specs.declared.ending.Ending.{Ending}
@@ -26,6 +32,11 @@ use Rattle.rpcinfo.specs.Plans.{plan_question}
 -- a question of the user that the words name
 abbrev pub ask_of : Words → Question → Ask
 ask_of words question = record { question = question; uid = words.request.uid }
+
+-- the names of programs stand in a list where the words ask for them
+abbrev pub form_of : Option Layout → Bor (List Service) → Form
+form_of None services = Plain
+form_of (Some Names) services = Named services
 
 -- ---- words
 
@@ -48,9 +59,9 @@ IsToldAs told old new (Err (NoProgram prog why)) = ⊥
 IsToldAs told old new (Err SomeLack) = ⊥
 
 -- where the text that the input has is known, what its reply tells is written
-abbrev pub ShowsAs : {I O : Type 0} → (I → Option (List ℕ)) → (O → Option (List ℕ)) → Ask → I → O → O → Result Shown Fault → Type 0
-ShowsAs remaining contents ask input output output' answer =
-    IfSome (remaining input) (λ text. IsToldAs (tell_text ask text) (contents output) (contents output') answer)
+abbrev pub ShowsAs : {I O : Type 0} → (I → Option (List ℕ)) → (O → Option (List ℕ)) → Ask → Form → I → O → O → Result Shown Fault → Type 0
+ShowsAs remaining contents ask form input output output' answer =
+    IfSome (remaining input) (λ text. IsToldAs (tell_text ask form text) (contents output) (contents output') answer)
 
 -- what holds of the question of a plan whose reply is on standard input
 abbrev pub OfSource : Option (Source × Question) → (Question → Type 0) → Type 0
@@ -66,7 +77,7 @@ OfInput plan Holds = OfSource (plan_question plan) Holds
 -- over sockets nothing is said.
 abbrev pub Answers : {I O : Type 0} → (I → Option (List ℕ)) → (O → Option (List ℕ)) → Words → I → O → O → Result Shown Fault → Type 0
 Answers remaining contents words input output output' answer =
-    OfInput words.request.plan (λ question. ShowsAs remaining contents (ask_of words question) input output output' answer)
+    OfInput words.request.plan (λ question. ShowsAs remaining contents (ask_of words question) words.form input output output' answer)
 
 -- nothing is to be noticed
 abbrev pub no_notices : Notices

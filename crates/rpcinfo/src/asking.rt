@@ -11,7 +11,7 @@ use crate::net::{Peer, ask_datagram, ask_stream};
 use crate::plans::{aim_of, answer_of, ended, way_of};
 use crate::words::Words;
 use rb_course::{Course, Place, asked, begin, fallback, next, show_lack};
-use rb_show::{Ask, InfoFault, Question, Shown};
+use rb_show::{Ask, Form, InfoFault, Question, Shown};
 use rb_words::{Means, Transport};
 use std::alloc::Global;
 use std::io::Write;
@@ -42,19 +42,35 @@ pub fn silently(answer: Result<Shown, Fault>) -> Answered
 fn ask_portmapper<N: Net + Clock, O: Write>(
     alloc: Global,
     net: &N,
-    words: &Words<'_>,
+    words: &Words<'_, '_>,
     peer: Peer<'_>,
     question: Question,
     output: &mut O,
 ) -> (Result<Shown, Fault>, bool) {
-    let answer = ask_stream(alloc, net, peer, &words.ask(question), FIRST_XID, output);
+    let answer = ask_stream(
+        alloc,
+        net,
+        peer,
+        &words.ask(question),
+        words.form,
+        FIRST_XID,
+        output,
+    );
     let Err(Fault::Info(InfoFault::Refused(head))) = answer else {
         return (answer, false);
     };
     let Some(question) = fallback(question, head.status) else {
         return (answer, false);
     };
-    let answer = ask_stream(alloc, net, peer, &words.ask(question), SECOND_XID, output);
+    let answer = ask_stream(
+        alloc,
+        net,
+        peer,
+        &words.ask(question),
+        words.form,
+        SECOND_XID,
+        output,
+    );
     (answer, true)
 }
 
@@ -62,7 +78,7 @@ fn ask_portmapper<N: Net + Clock, O: Write>(
 pub fn ask_here<N: Net + Clock, O: Write>(
     alloc: Global,
     net: &N,
-    words: &Words<'_>,
+    words: &Words<'_, '_>,
     question: Question,
     output: &mut O,
 ) -> Answered {
@@ -90,7 +106,7 @@ pub fn ask_here<N: Net + Clock, O: Write>(
 pub fn ask_named<N: Net + Clock, O: Write>(
     alloc: Global,
     net: &N,
-    words: &Words<'_>,
+    words: &Words<'_, '_>,
     question: Question,
     output: &mut O,
 ) -> Answered {
@@ -130,9 +146,25 @@ fn ask_at<N: Net + Clock, O: Write>(
 ) -> Result<Shown, Fault> {
     match at_place(place, portmapper) {
         (Transport::Tcp, address) => {
-            ask_stream(alloc, net, Peer::Host(address), ask, xid, output)
+            ask_stream(
+                alloc,
+                net,
+                Peer::Host(address),
+                ask,
+                Form::Plain,
+                xid,
+                output,
+            )
         }
-        (Transport::Udp, address) => ask_datagram(alloc, net, address, ask, xid, output),
+        (Transport::Udp, address) => ask_datagram(
+            alloc,
+            net,
+            address,
+            ask,
+            Form::Plain,
+            xid,
+            output,
+        ),
     }
 }
 
@@ -166,7 +198,7 @@ fn run_course<N: Net + Clock, O: Write>(
 fn ping_named<N: Net + Clock, O: Write>(
     alloc: Global,
     net: &N,
-    words: &Words<'_>,
+    words: &Words<'_, '_>,
     course: &Course,
     vers: Option<u32>,
     output: &mut O,
@@ -194,7 +226,7 @@ fn ping_named<N: Net + Clock, O: Write>(
 pub fn ping<N: Net + Clock, O: Write>(
     alloc: Global,
     net: &N,
-    words: &Words<'_>,
+    words: &Words<'_, '_>,
     means: Means,
     prog: u32,
     vers: Option<u32>,

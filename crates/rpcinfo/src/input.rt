@@ -3,7 +3,7 @@ ghost use Rattle.std.specs.Prelude.{◌≡◌, ◌≤◌, ◌⊎◌, IfOk, IfErr
 ghost use Rattle.rpcinfo.specs.Input.{bytes_of, digits_of, is_white, longest_text, read_hex, FailsAs, IsEnoughOf, ShowsInput};
 
 use hex::FromHexError;
-use rb_show::{Ask, InfoFault, Shown, show_reply};
+use rb_show::{Ask, Form, InfoFault, Shown, show_reply};
 use std::alloc::Global;
 use std::io::{ErrorKind, Read, Write};
 
@@ -80,12 +80,13 @@ fn bytes_of(alloc: Global, text: Vec<u8>) -> Result<Vec<u8>, InfoFault>
 pub fn show_input<I: Read, O: Write>(
     alloc: Global,
     ask: &Ask,
+    form: Form<'_>,
     input: &mut I,
     output: &mut O,
 ) -> Result<Shown, InfoFault>
-    ensures { ShowsInput I.remaining O.contents ask.now input.old output.old output.new result }
+    ensures { ShowsInput I.remaining O.contents ask.now form.entry input.old output.old output.new result }
 {
     let text = read_text(alloc, input)?;
     let bytes = bytes_of(alloc, text)?;
-    show_reply(alloc, ask, FIRST_XID, &mut bytes.as_slice(), output)
+    show_reply(alloc, ask, form, FIRST_XID, &mut bytes.as_slice(), output)
 }

@@ -10,6 +10,7 @@ mod laws;
 mod net;
 mod patient;
 mod plans;
+mod programs;
 mod run;
 mod waits;
 mod words;

@@ -2,7 +2,7 @@
 use crate::fault::Fault;
 use crate::patient::{Patient, Stream};
 use crate::waits::{WAITS, left_of};
-use rb_show::{Ask, InfoFault, Shown, show_reply, write_call};
+use rb_show::{Ask, Form, InfoFault, Shown, show_reply, write_call};
 use std::alloc::{AllocError, Global};
 use std::io;
 use std::io::{BufReader, ErrorKind, Write};
@@ -48,6 +48,7 @@ pub fn ask_stream<N: Net + Clock, W: Write>(
     net: &N,
     peer: Peer<'_>,
     ask: &Ask,
+    form: Form<'_>,
     xid: u32,
     output: &mut W,
 ) -> Result<Shown, Fault> {
@@ -66,7 +67,7 @@ pub fn ask_stream<N: Net + Clock, W: Write>(
     let Ok(mut reader) = BufReader::new(alloc, stream) else {
         return Err(Fault::Info(InfoFault::Memory));
     };
-    show_reply(alloc, ask, xid, &mut reader, output).map_err(Fault::Info)
+    show_reply(alloc, ask, form, xid, &mut reader, output).map_err(Fault::Info)
 }
 
 /// The record that a datagram is, in one fragment.
@@ -146,6 +147,7 @@ pub fn ask_datagram<N: Net + Clock, W: Write>(
     net: &N,
     address: SocketAddr,
     ask: &Ask,
+    form: Form<'_>,
     xid: u32,
     output: &mut W,
 ) -> Result<Shown, Fault> {
@@ -161,5 +163,5 @@ pub fn ask_datagram<N: Net + Clock, W: Write>(
     let Ok(record) = marked(alloc, &datagram) else {
         return Err(Fault::Info(InfoFault::Memory));
     };
-    show_reply(alloc, ask, xid, &mut record.as_slice(), output).map_err(Fault::Info)
+    show_reply(alloc, ask, form, xid, &mut record.as_slice(), output).map_err(Fault::Info)
 }

@@ -4,31 +4,34 @@ ghost use Rattle.rpcinfo.specs.Ending.{EndsBy, IsNothing};
 ghost use Rattle.rpcinfo.specs.Running.{ask_of, no_notices, Answers, IsExplained, IsFlushed, IsNoticed, IsSilent, ShowsAs};
 
 use crate::asking::{Answered, ask_here, ask_named, ping, silently};
-use crate::ending::{Ending, conclude};
+use crate::ending::{Ending, conclude, explain};
 use crate::fault::Fault;
 use crate::input::show_input;
 use crate::plans::plan_question;
-use crate::words::{Words, read};
+use crate::programs::services_at;
+use crate::words::{Words, matches_of, programs_path, read_matches, show};
+use clap::ArgMatches;
+use rb_names::Service;
 use rb_show::{InfoFault, Question, Shown};
 use rb_words::{Plan, Source};
 use std::alloc::Global;
 use std::convert::AsStr;
 use std::io::{Read, Write};
 use std::net::Net;
-use std::rt::Clock;
+use std::rt::{Clock, Files};
 
 /// Shows the reply to a question that is on standard input.
 fn ask_input<I: Read, O: Write>(
     alloc: Global,
-    words: &Words<'_>,
+    words: &Words<'_, '_>,
     question: Question,
     input: &mut I,
     output: &mut O,
 ) -> Answered
-    ensures told { ShowsAs I.remaining O.contents (ask_of words.now question) input.old output.old output.new result.0 }
+    ensures told { ShowsAs I.remaining O.contents (ask_of words.now question) words.now.form input.old output.old output.new result.0 }
     ensures silent { result.1 ≡ no_notices }
 {
-    match show_input(alloc, &words.ask(question), input, output) {
+    match show_input(alloc, &words.ask(question), words.form, input, output) {
         Ok(shown) => silently(Ok(shown)),
         Err(fault) => silently(Err(Fault::Info(fault))),
     }
@@ -38,7 +41,7 @@ fn ask_input<I: Read, O: Write>(
 fn carry_out<N: Net + Clock, I: Read, O: Write>(
     alloc: Global,
     net: &N,
-    words: &Words<'_>,
+    words: &Words<'_, '_>,
     input: &mut I,
     output: &mut O,
 ) -> Answered
@@ -57,7 +60,7 @@ fn carry_out<N: Net + Clock, I: Read, O: Write>(
 fn carry_course<N: Net + Clock, O: Write>(
     alloc: Global,
     net: &N,
-    words: &Words<'_>,
+    words: &Words<'_, '_>,
     output: &mut O,
 ) -> Answered {
     match words.request.plan {
@@ -82,7 +85,7 @@ fn flushed<O: Write>(answer: Result<Shown, Fault>, output: &mut O) -> Result<Sho
 fn run_words<N: Net + Clock, I: Read, O: Write, E: Write>(
     alloc: Global,
     net: &N,
-    words: &Words<'_>,
+    words: &Words<'_, '_>,
     input: &mut I,
     output: &mut O,
     faults: &mut E,
@@ -97,12 +100,58 @@ fn run_words<N: Net + Clock, I: Read, O: Write, E: Write>(
     ((answer, notices), conclude(answer, notices, faults))
 }
 
+/// Runs the command that the words' shape names, where programs have these names.
+fn run_named<N: Net + Clock, I: Read, O: Write, E: Write>(
+    alloc: Global,
+    net: &N,
+    matches: &ArgMatches<'_>,
+    services: &[Service],
+    input: &mut I,
+    output: &mut O,
+    faults: &mut E,
+) -> Ending
+    ensures status { result.status ≤ 2 }
+    ensures quiet { result.status ≡ 0 → IsNoticed E.contents faults.old faults.new result }
+    ensures failed { result.status ≡ 1 → IsExplained E.contents faults.old faults.new result }
+    ensures unread { result.status ≡ 2 → input.new ≡ input.old }
+    ensures unwritten { result.status ≡ 2 → output.new ≡ output.old }
+{
+    match read_matches(alloc, matches, services, faults) {
+        Ok(words) => {
+            let (_answer, ending) = run_words(alloc, net, &words, input, output, faults);
+            ending
+        }
+        Err(ending) => ending,
+    }
+}
+
+/// Runs the command that the words' shape names.
+fn run_matches<N: Net + Clock + Files, I: Read, O: Write, E: Write>(
+    alloc: Global,
+    net: &N,
+    matches: &ArgMatches<'_>,
+    input: &mut I,
+    output: &mut O,
+    faults: &mut E,
+) -> Ending
+    ensures status { result.status ≤ 2 }
+    ensures quiet { result.status ≡ 0 → IsNoticed E.contents faults.old faults.new result }
+    ensures failed { result.status ≡ 1 → IsExplained E.contents faults.old faults.new result }
+    ensures unread { result.status ≡ 2 → input.new ≡ input.old }
+    ensures unwritten { result.status ≡ 2 → output.new ≡ output.old }
+{
+    match services_at(alloc, net, programs_path(matches)) {
+        Ok(services) => run_named(alloc, net, matches, &services, input, output, faults),
+        Err(fault) => explain(Fault::Info(fault), faults),
+    }
+}
+
 /// Runs the command that the words name, and answers how it ended, with its exit status.
 ///
 /// 0 says that what was asked is printed and written out; 1 that reading, writing, memory or the reply failed, or that
 /// UNSET removed nothing, which is said to `faults`; 2 that the words can't be read, and nothing was read
 /// or asked.
-pub fn run_info<N: Net + Clock, S: AsStr, I: Read, O: Write, E: Write>(
+pub fn run_info<N: Net + Clock + Files, S: AsStr, I: Read, O: Write, E: Write>(
     alloc: Global,
     net: &N,
     words: &[S],
@@ -116,11 +165,8 @@ pub fn run_info<N: Net + Clock, S: AsStr, I: Read, O: Write, E: Write>(
     ensures unread { result.status ≡ 2 → input.new ≡ input.old }
     ensures unwritten { result.status ≡ 2 → output.new ≡ output.old }
 {
-    match read(alloc, words, output, faults) {
-        Ok(words) => {
-            let (_answer, ending) = run_words(alloc, net, &words, input, output, faults);
-            ending
-        }
-        Err(ending) => ending,
+    match matches_of(alloc, words) {
+        Ok(matches) => run_matches(alloc, net, &matches, input, output, faults),
+        Err(error) => show(&error, output, faults),
     }
 }

@@ -2,18 +2,22 @@
 ghost use Rattle.std.specs.Prelude.{◌≡◌, ◌≤◌, IfErr, OnOk};
 ghost use Rattle.rb_words.specs.Refusals.{refusal_lines};
 ghost use Rattle.rpcinfo.specs.Ending.{Says};
-ghost use Rattle.rpcinfo.specs.Running.{ask_of, EndsSaying, EndsUnread, ReadsShape};
+ghost use Rattle.rpcinfo.specs.Running.{ask_of, form_of, EndsSaying, EndsUnread, ReadsShape};
 
 use crate::ending::{Ending, UNREADABLE, explain};
 use crate::fault::Fault;
 use clap::error::ErrorKind;
 use clap::{Arg, ArgAction, ArgMatches, Command, Error};
-use rb_show::{Ask, InfoFault, Question};
+use rb_names::Service;
+use rb_show::{Ask, Form, InfoFault, Question};
 use rb_uaddr::Uaddr;
-use rb_words::{Flag, Refusal, Request, Shape, Spot, Wanted, read_words, write_refusal};
+use rb_words::{Flag, Layout, Refusal, Request, Shape, Spot, Wanted, read_words, write_refusal};
 use std::alloc::{AllocError, Global};
 use std::convert::AsStr;
 use std::io::Write;
+
+/// The names of programs.
+const PROGRAMS: &str = "/etc/rpc";
 
 /// Each flag of one letter with its name and its help.
 const FLAGS: [(Flag, char, &str, &str); 7] = [
@@ -58,7 +62,7 @@ const FLAGS: [(Flag, char, &str, &str); 7] = [
 
 /// The words of a command line, read.
 #[derive(Clone, Copy, Debug)]
-pub struct Words<'a> {
+pub struct Words<'a, 'n> {
     pub request: Request,
     /// The first word that belongs to no option, or nothing.
     pub host: &'a str,
@@ -66,9 +70,11 @@ pub struct Words<'a> {
     pub address: Option<Uaddr>,
     /// The path of `--local`.
     pub local: Option<&'a str>,
+    /// How a list is written.
+    pub form: Form<'n>,
 }
 
-impl Words<'_> {
+impl Words<'_, '_> {
     /// A question of the user that the words name.
     pub fn ask(&self, question: Question) -> Ask
         ensures { result ≡ ask_of self.now question }
@@ -77,27 +83,6 @@ impl Words<'_> {
             question,
             uid: self.request.uid,
         }
-    }
-}
-
-/// What the words ask for. Help and faults are written, and then the `Err` says how the command ended.
-pub fn read<'a, S: AsStr, O: Write, E: Write>(
-    alloc: Global,
-    words: &'a [S],
-    output: &mut O,
-    faults: &mut E,
-) -> Result<Words<'a>, Ending>
-    ensures read { OnOk result (output.new ≡ output.old) }
-    ensures said { OnOk result (faults.new ≡ faults.old) }
-    ensures ended { IfErr result
-        (EndsUnread E.contents output.old output.new faults.old faults.new) }
-{
-    match matches_of(alloc, words) {
-        Ok(matches) => match read_matches(alloc, &matches, faults) {
-            Ok(words) => Ok(words),
-            Err(ending) => Err(ending),
-        },
-        Err(error) => Err(show(&error, output, faults)),
     }
 }
 
@@ -142,6 +127,21 @@ fn with_places<'a>(alloc: Global, command: Command<'a>) -> Result<Command<'a>, A
         .arg(target.short('n'))
 }
 
+/// The options that say how a list is written.
+fn with_layouts<'a>(alloc: Global, command: Command<'a>) -> Result<Command<'a>, AllocError> {
+    let names = Arg::new(alloc, "names")
+        .long("names")
+        .action(ArgAction::SetTrue)
+        .help("writes the names of programs in lists");
+    let programs = option(
+        alloc,
+        "programs",
+        "PATH",
+        "a file of names of programs [/etc/rpc]",
+    );
+    command.arg(names)?.arg(programs.long("programs"))
+}
+
 /// The options that say how a portmapper is asked.
 fn with_portmapper<'a>(alloc: Global, command: Command<'a>) -> Result<Command<'a>, AllocError> {
     let port = option(
@@ -169,6 +169,7 @@ fn command<'a>(alloc: Global) -> Result<Command<'a>, AllocError> {
         .about("Asks a portmapper and shows what it answers");
     let command = with_flags(alloc, command)?;
     let command = with_places(alloc, command)?;
+    let command = with_layouts(alloc, command)?;
     with_portmapper(alloc, command)?.arg(
         Arg::new(alloc, "words")
             .action(ArgAction::Append)
@@ -177,12 +178,18 @@ fn command<'a>(alloc: Global) -> Result<Command<'a>, AllocError> {
     )
 }
 
-fn matches_of<'a, S: AsStr>(alloc: Global, words: &'a [S]) -> Result<ArgMatches<'a>, Error> {
+/// The words by their shape.
+pub fn matches_of<'a, S: AsStr>(alloc: Global, words: &'a [S]) -> Result<ArgMatches<'a>, Error> {
     command(alloc)?.try_get_matches_from(words)
 }
 
+/// The path of the file of names of programs.
+pub fn programs_path<'a>(matches: &ArgMatches<'a>) -> &'a str {
+    matches.get_str("programs").unwrap_or(PROGRAMS)
+}
+
 /// Writes the text of help, or what is wrong with the words.
-fn show<O: Write, E: Write>(error: &Error, output: &mut O, faults: &mut E) -> Ending
+pub fn show<O: Write, E: Write>(error: &Error, output: &mut O, faults: &mut E) -> Ending
     ensures { EndsUnread E.contents output.old output.new faults.old faults.new result }
 {
     if error.kind() == ErrorKind::OutOfMemory {
@@ -215,8 +222,27 @@ fn flags_of(alloc: Global, matches: &ArgMatches<'_>) -> Result<Vec<Flag>, AllocE
     Ok(flags)
 }
 
+/// The layouts that were given.
+fn layouts_of(alloc: Global, matches: &ArgMatches<'_>) -> Result<Vec<Layout>, AllocError> {
+    let mut layouts = Vec::new(alloc);
+    if matches.get_flag("names") {
+        layouts.push(Layout::Names)?;
+    }
+    Ok(layouts)
+}
+
+/// How a list is written, with these names of programs.
+fn form_of<'a>(layout: Option<Layout>, services: &'a [Service]) -> Form<'a>
+    ensures { result ≡ form_of layout services.entry }
+{
+    match layout {
+        None => Form::Plain,
+        Some(Layout::Names) => Form::Named(services),
+    }
+}
+
 /// Says that the words can't be read, and why.
-fn refuse<E: Write>(shape: &Shape<'_, '_>, refusal: Refusal, faults: &mut E) -> Ending
+fn refuse<E: Write>(shape: &Shape<'_, '_, '_>, refusal: Refusal, faults: &mut E) -> Ending
     ensures status { result.status ≡ 2 }
     ensures said { Says E.contents faults.old faults.new result (refusal_lines shape.now refusal) }
 {
@@ -228,7 +254,7 @@ fn refuse<E: Write>(shape: &Shape<'_, '_>, refusal: Refusal, faults: &mut E) -> 
 }
 
 /// What the words ask for by their shape. What can't be read is named.
-fn read_shape<E: Write>(shape: &Shape<'_, '_>, faults: &mut E) -> Result<Request, Ending>
+fn read_shape<E: Write>(shape: &Shape<'_, '_, '_>, faults: &mut E) -> Result<Request, Ending>
     ensures read { OnOk result (faults.new ≡ faults.old) }
     ensures exact { ReadsShape E.contents shape.now faults.old faults.new result }
     ensures refused { IfErr result (λ ending. ending.status ≡ 2) }
@@ -240,7 +266,10 @@ fn read_shape<E: Write>(shape: &Shape<'_, '_>, faults: &mut E) -> Result<Request
 }
 
 /// The address of `-a`, where it is given.
-fn read_address<E: Write>(shape: &Shape<'_, '_>, faults: &mut E) -> Result<Option<Uaddr>, Ending>
+fn read_address<E: Write>(
+    shape: &Shape<'_, '_, '_>,
+    faults: &mut E,
+) -> Result<Option<Uaddr>, Ending>
     ensures read { OnOk result (faults.new ≡ faults.old) }
     ensures refused { IfErr result (λ ending. ending.status ≡ 2) }
 {
@@ -259,15 +288,21 @@ fn read_address<E: Write>(shape: &Shape<'_, '_>, faults: &mut E) -> Result<Optio
     }
 }
 
-fn read_matches<'a, E: Write>(
+/// What the words ask for, where programs may be given by these names. Faults are written, and then the `Err` says how
+/// the command ended.
+pub fn read_matches<'a, 'n, E: Write>(
     alloc: Global,
     matches: &ArgMatches<'a>,
+    services: &'n [Service],
     faults: &mut E,
-) -> Result<Words<'a>, Ending>
+) -> Result<Words<'a, 'n>, Ending>
     ensures read { OnOk result (faults.new ≡ faults.old) }
     ensures refused { IfErr result (EndsSaying E.contents faults.old faults.new) }
 {
     let Ok(flags) = flags_of(alloc, matches) else {
+        return Err(explain(Fault::Info(InfoFault::Memory), faults));
+    };
+    let Ok(layouts) = layouts_of(alloc, matches) else {
         return Err(explain(Fault::Info(InfoFault::Memory), faults));
     };
     let words = matches.get_strs("words").unwrap_or(&[]);
@@ -279,7 +314,9 @@ fn read_matches<'a, E: Write>(
         netid: matches.get_str("netid"),
         address: matches.get_str("address"),
         local: matches.get_str("local"),
+        layouts: &layouts,
         words,
+        services,
     };
     let request = read_shape(&shape, faults)?;
     let address = read_address(&shape, faults)?;
@@ -288,5 +325,6 @@ fn read_matches<'a, E: Write>(
         host: words.first().copied().unwrap_or(""),
         address,
         local: matches.get_str("local"),
+        form: form_of(request.layout, services),
     })
 }

@@ -9,5 +9,5 @@ use Rattle.rb_ask.proofs.list.show_list.Given as goal
 abbrev pub invariant-loop-shown : goal.invariant-loop-shown
 invariant-loop-shown g l =
     (known : Option (List ℕ)) (at : Record) (held : Option (List ℕ)) (result : Result ℕ InfoFault)
-    → Tells (tell_items g.T.Xdr.reads g.S.Style.text (greatest_list - l.shown) l.shown) (g.R.Read.remaining l.reader) known l.at at (g.W.Write.contents l.writer) held result
-    → Tells (tell_items g.T.Xdr.reads g.S.Style.text greatest_list 0) (g.R.Read.remaining l.initial.reader) known l.initial.at at (g.W.Write.contents l.initial.writer) held result
+    → Tells (tell_items g.T.Xdr.reads (g.S.Style.text l.style) (greatest_list - l.shown) l.shown) (g.R.Read.remaining l.reader) known l.at at (g.W.Write.contents l.writer) held result
+    → Tells (tell_items g.T.Xdr.reads (g.S.Style.text l.style) greatest_list 0) (g.R.Read.remaining l.initial.reader) known l.initial.at at (g.W.Write.contents l.initial.writer) held result

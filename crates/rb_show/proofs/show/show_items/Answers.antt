@@ -10,10 +10,10 @@ pub returns-in_err-rows : goal.returns-in_err-rows
 unfolding tell_list
 returns-in_err-rows g c =
     let p = err_from_is_err_and c.from_residual.result c.from_residual.ensures.1 in
-    rw (p.1, p.2) (tells_fault (tell_items g.T.Xdr.reads g.S.Style.text greatest_list 0) (λ n. give (Rows n)) _ _ _ _ _ _ _ c.in_err-rows.ensures)
+    rw (p.1, p.2) (tells_fault (tell_items g.T.Xdr.reads (g.S.Style.text c.args.style.now) greatest_list 0) (λ n. give (Rows n)) _ _ _ _ _ _ _ c.in_err-rows.ensures)
 
 pub returns : goal.returns
 unfolding tell_list
 returns g c =
-    tells_then (tell_items g.T.Xdr.reads g.S.Style.text greatest_list 0) (λ n. give (Rows n)) _ (g.R.Read.remaining c.show_list.new.reader) _ _ c.show_list.new.at _ _ (g.W.Write.contents c.show_list.new.writer) _
+    tells_then (tell_items g.T.Xdr.reads (g.S.Style.text c.args.style.now) greatest_list 0) (λ n. give (Rows n)) _ (g.R.Read.remaining c.show_list.new.reader) _ _ c.show_list.new.at _ _ (g.W.Write.contents c.show_list.new.writer) _
     c.in_ok-rows.rows _ c.in_ok-rows.ensures (tells_give (Rows c.in_ok-rows.rows) _ _ _)

@@ -1,4 +1,4 @@
-use Rattle.std.proofs.Common.{rules, ◌≡◌, true}
+use Rattle.std.proofs.Common.{rules}
 use Rattle.std.proofs.KnownBytes.{Appends-trans}
 use Rattle.rpcinfo.specs.Ending.{notice_lines, said_of}
 use Rattle.rpcinfo.proofs.ending.conclude.Goals as goal

@@ -1,7 +1,7 @@
 //! Numbers.
 ghost use Rattle.std.specs.Prelude.{◌≡◌};
 ghost use Rattle.std.specs.List.{list_all};
-ghost use Rattle.rb_words.specs.Numbers.{is_digit, number_in};
+ghost use Rattle.rb_names.specs.Numbers.{is_digit, number_in};
 
 /// Whether there are decimal digits alone.
 fn is_of_digits(text: &str) -> bool
@@ -11,7 +11,7 @@ fn is_of_digits(text: &str) -> bool
 }
 
 /// A number in decimal digits between two bounds. A sign is no digit: `parse` itself would take one.
-pub(crate) fn number_in(text: &str, least: u32, most: u32) -> Option<u32>
+pub fn number_in(text: &str, least: u32, most: u32) -> Option<u32>
     ensures { result ≡ number_in least most text.now }
 {
     if !is_of_digits(text) {

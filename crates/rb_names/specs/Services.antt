@@ -1,0 +1,67 @@
+-- Names of programs, as rpc(5) writes them.
+use Rattle.std.specs.Prelude.{ℕ, ◌==◌, nat_lt, Bool, not, if◌then◌else◌, List, [], ◌∷◌, length, map, Option, Some, None, option_map}
+use Rattle.std.specs.List.{slice_split, before_first, filter, find, flat_map}
+use Rattle.std.specs.Char.{is_ascii_whitespace}
+use Rattle.std.specs.Str.{bytes_eq}
+use Rattle.rb_names.specs.declared.services.Service.{Service}
+use Rattle.rb_names.specs.Numbers.{number_in}
+
+-- ---- what is read
+
+-- a name with its number
+abbrev pub Named : Type 0
+Named = List ℕ × ℕ
+
+abbrev pub plain : List Service → List Named
+plain services = map (λ service. (service.name.items, service.number)) services
+
+abbrev pub is_newline : ℕ → Bool
+is_newline b = b == 10
+
+abbrev pub is_hash : ℕ → Bool
+is_hash b = b == 35
+
+abbrev pub is_some_word : List ℕ → Bool
+is_some_word word = not (length word == 0)
+
+-- what stands between white space
+abbrev pub words_of : List ℕ → List (List ℕ)
+words_of line = filter is_some_word (slice_split is_ascii_whitespace line)
+
+abbrev pub numbered : List (List ℕ) → ℕ → List Named
+numbered names number = map (λ name. (name, number)) names
+
+abbrev pub each_with : List (List ℕ) → Option ℕ → List Named
+each_with names (Some number) = numbered names number
+each_with names None = []
+
+-- a name, its number, and further names of the same program
+abbrev pub services_of : List (List ℕ) → List Named
+services_of (name ∷ number ∷ aliases) = each_with (name ∷ aliases) (number_in 0 4294967295 number)
+services_of _ = []
+
+-- a longer line has no names
+abbrev pub longest_line : ℕ
+longest_line = 1024
+
+-- the comment behind `#` says nothing
+abbrev pub services_in_line : List ℕ → List Named
+services_in_line line =
+    if nat_lt longest_line (length line) then [] else services_of (words_of (before_first is_hash line))
+
+-- a longer text has none
+abbrev pub longest_services : ℕ
+longest_services = 65536
+
+-- the names of all lines, in their order
+abbrev pub services_in : List ℕ → List Named
+services_in text =
+    if nat_lt longest_services (length text) then [] else flat_map services_in_line (slice_split is_newline text)
+
+-- ---- what is looked up: the first one is it
+
+abbrev pub number_of : List Service → List ℕ → Option ℕ
+number_of services name = option_map (λ service. service.number) (find (λ service. bytes_eq service.name.items name) services)
+
+abbrev pub name_of : List Service → ℕ → Option (List ℕ)
+name_of services number = option_map (λ service. service.name.items) (find (λ service. service.number == number) services)

@@ -1,0 +1,41 @@
+//! In which form lists are shown.
+ghost use Rattle.std.specs.Prelude.{◌≡◌, IfOk};
+ghost use Rattle.std.specs.String.{string_bytes};
+ghost use Rattle.rb_names.specs.Services.{name_of};
+ghost use Rattle.rb_show.specs.Lines.{name_text, line_end};
+
+use crate::lines::shown_text;
+use rb_names::{Service, name_of};
+use std::alloc::{AllocError, Global};
+
+/// How the lines of a list are written.
+#[derive(Clone, Copy, Debug)]
+pub enum Form<'a> {
+    /// In columns.
+    Plain,
+    /// The same, with the name of its program at the end of each line.
+    Named(&'a [Service]),
+}
+
+/// The first name of a program, or `-`.
+fn program_name(alloc: Global, services: &[Service], prog: u32) -> Result<String, AllocError>
+    ensures { IfOk result (λ name. string_bytes name ≡ name_text (name_of services.now prog)) }
+{
+    match name_of(services, prog) {
+        Some(name) => shown_text(alloc, name),
+        None => String::from_str(alloc, "-"),
+    }
+}
+
+/// What stands behind the columns of a line that speaks of a program.
+pub(crate) fn line_end(alloc: Global, form: Form<'_>, prog: u32) -> Result<String, AllocError>
+    ensures { IfOk result (λ end. string_bytes end ≡ line_end form.entry prog) }
+{
+    match form {
+        Form::Plain => String::from_str(alloc, "\n"),
+        Form::Named(services) => {
+            let name = program_name(alloc, services, prog)?;
+            format!(in alloc; " {name}\n")
+        }
+    }
+}
