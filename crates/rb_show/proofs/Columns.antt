@@ -4,7 +4,7 @@ use Rattle.std.specs.List.{repeat}
 use Rattle.std.specs.Prelude.{encode_utf8}
 use Rattle.std.proofs.lemmas.Str.{encode_ascii}
 use Rattle.std.specs.Fmt.{padded_integral, format_spec, char_count}
-use Rattle.rb_show.specs.Lines.{at_left, at_right}
+use Rattle.rb_show.specs.Texts.{at_left, at_right}
 
 pub repeat-single : (n x : ℕ) → repeat n (x ∷ []) ≡ replicate n x
 repeat-single zero x = refl

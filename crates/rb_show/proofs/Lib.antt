@@ -1,5 +1,6 @@
 pub mod Columns
 pub mod Starts
-pub mod Texts
+pub mod ShownBytes
 pub mod Calls
 pub mod Requests
+pub mod JsonTexts

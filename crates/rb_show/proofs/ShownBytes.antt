@@ -4,7 +4,7 @@ use Rattle.std.specs.Prelude.{encode_utf8}
 use Rattle.std.proofs.lemmas.List.{map-append, take_more, take_all}
 use Rattle.std.proofs.lemmas.Str.{encode_ascii}
 use Rattle.std.proofs.lemmas.Bool.Decides.{nat_tests}
-use Rattle.rb_show.specs.Lines.{shown_byte, shown_text}
+use Rattle.rb_show.specs.Texts.{shown_byte, shown_text}
 
 shown_small : (b : ℕ) → shown_byte b < 128
 shown_small b = grind (arith, nat_tests)

@@ -4,3 +4,8 @@ pub mod Lines
 pub mod Counts
 pub mod Replies
 pub mod Worked
+pub mod Texts
+pub mod Json
+pub mod JsonLaws
+pub mod Objects
+pub mod Statistics

@@ -22,15 +22,19 @@ use Rattle.rb_show.specs.declared.form.Form.{Form}
 use Rattle.rb_show.specs.declared.show.Shown.{Shown}
 use Rattle.rb_show.specs.declared.show.Shown.TheVariants as shown
 use Rattle.rb_show.specs.Counts.{tell_statistics}
-use Rattle.rb_show.specs.Lines.{heading, mapping_line, row_line, short_line, old_row_line, old_short_line, entry_line}
+use Rattle.rb_show.specs.Lines.{is_json, heading, mapping_line, row_line, short_line, old_row_line, old_short_line, entry_line}
 
 -- the items of a list, a line each
 unfoldable pub tell_list : {A : Type 0} → Reader A → (A → List ℕ) → Teller Shown
 tell_list reads line = tell_items reads line greatest_list 0 >>= λ n. give (shown.Rows n)
 
 -- behind its heading
-unfoldable pub tell_table : Form → Teller Shown
-tell_table form = tell (heading form ∷ []) >>= λ _. tell_list read_mapping (mapping_line form)
+unfoldable pub tell_columns : Form → Teller Shown
+tell_columns form = tell (heading form ∷ []) >>= λ _. tell_list read_mapping (mapping_line form)
+
+-- objects have no heading
+abbrev pub tell_table : Form → Teller Shown
+tell_table form = if is_json form then tell_list read_mapping (mapping_line form) else tell_columns form
 
 unfoldable pub tell_port : Teller Shown
 tell_port = take_one read_number >>= λ port. give (shown.Port port)
@@ -69,7 +73,7 @@ tell_results form OldRows = tell_list read_mapping (old_row_line form)
 tell_results form OldShort = tell_list read_mapping (old_short_line form)
 tell_results form Pmap = tell_table form
 tell_results form (Entries prog vers) = tell_list read_entry (entry_line form prog)
-tell_results form Stats = tell_statistics
+tell_results form Stats = tell_statistics form
 tell_results form (Port prot prog vers) = tell_port
 tell_results form (Address netid prog vers) = tell_address
 tell_results form (Null prog vers) = tell_ready prog vers

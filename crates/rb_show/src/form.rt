@@ -2,9 +2,9 @@
 ghost use Rattle.std.specs.Prelude.{◌≡◌, IfOk};
 ghost use Rattle.std.specs.String.{string_bytes};
 ghost use Rattle.rb_names.specs.Services.{name_of};
-ghost use Rattle.rb_show.specs.Lines.{name_text, line_end};
+ghost use Rattle.rb_show.specs.Lines.{is_json, name_text, line_end};
 
-use crate::lines::shown_text;
+use crate::texts::shown_text;
 use rb_names::{Service, name_of};
 use std::alloc::{AllocError, Global};
 
@@ -15,6 +15,16 @@ pub enum Form<'a> {
     Plain,
     /// The same, with the name of its program at the end of each line.
     Named(&'a [Service]),
+    /// An object of JSON on each line.
+    Json,
+}
+
+impl Form<'_> {
+    pub(crate) fn is_json(self) -> bool
+        ensures { result ≡ is_json self.entry }
+    {
+        matches!(self, Form::Json)
+    }
 }
 
 /// The first name of a program, or `-`.
@@ -32,7 +42,7 @@ pub(crate) fn line_end(alloc: Global, form: Form<'_>, prog: u32) -> Result<Strin
     ensures { IfOk result (λ end. string_bytes end ≡ line_end form.entry prog) }
 {
     match form {
-        Form::Plain => String::from_str(alloc, "\n"),
+        Form::Plain | Form::Json => String::from_str(alloc, "\n"),
         Form::Named(services) => {
             let name = program_name(alloc, services, prog)?;
             format!(in alloc; " {name}\n")

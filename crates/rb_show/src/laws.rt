@@ -1,8 +1,15 @@
-//! What the calls have to do with rb_proto's side of them.
+//! What the calls have to do with rb_proto's side of them, and what texts of JSON are.
 ghost use Rattle.rb_show.specs.AskLaws.{QuestionsAreRequests};
+ghost use Rattle.rb_show.specs.JsonLaws.{EachByteIsACharacter, AllBytesArePrintable};
 
 /// The number of a question in its version is that of its procedure in rb_proto's table, and its arguments are spelled
 /// as a portmapper reads them.
 pub fn questions_are_requests()
     ensures { QuestionsAreRequests }
+{}
+
+/// A text of JSON spells each byte of a text as the character of its number, and is of printable ASCII characters.
+pub fn json_texts_are_of_the_grammar()
+    ensures each { EachByteIsACharacter }
+    ensures printable { AllBytesArePrintable }
 {}

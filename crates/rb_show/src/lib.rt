@@ -3,15 +3,18 @@
 
 mod ask;
 mod form;
+mod json;
 mod laws;
 mod lines;
+mod objects;
 mod show;
 mod statistics;
+mod texts;
 mod worked;
 
 pub use ask::{Ask, Question, write_call};
 pub use form::Form;
-pub use laws::questions_are_requests;
+pub use laws::{json_texts_are_of_the_grammar, questions_are_requests};
 pub use rb_ask::InfoFault;
 pub use show::{Shown, show_reply};
 pub use worked::worked_examples;

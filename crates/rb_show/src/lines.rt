@@ -1,36 +1,14 @@
-//! The lines that are printed.
+//! The lines of lists.
 ghost use Rattle.std.specs.Prelude.{◌≡◌, IfOk};
 ghost use Rattle.std.specs.String.{string_bytes};
-ghost use Rattle.rb_show.specs.Lines.{shown_byte, prot_text, shown_text, mapping_columns, mapping_line, row_line, short_line, old_row_line, old_short_line, entry_line};
+ghost use Rattle.rb_show.specs.Lines.{mapping_columns, mapping_line, row_columns, row_line, short_line, old_row_columns, old_row_line, old_short_line, entry_columns, entry_line};
 
 use crate::form::{Form, line_end};
+use crate::objects::{entry_object, mapping_object, old_row_object, row_object};
+use crate::texts::{prot_text, shown_text};
 use rb_ask::Style;
 use rb_proto::{Entry, Mapping, Rpcb};
 use std::alloc::{AllocError, Global};
-
-fn shown_char(byte: u8) -> char
-    ensures { result ≡ shown_byte byte }
-{
-    if byte.is_ascii_graphic() {
-        char::from(byte)
-    } else {
-        '?'
-    }
-}
-
-/// A text of a reply, with `?` for each byte that is no printable character, and `-` for none.
-pub(crate) fn shown_text(alloc: Global, text: &[u8]) -> Result<String, AllocError>
-    ensures { IfOk result (λ shown. string_bytes shown ≡ shown_text text.now) }
-{
-    if text.is_empty() {
-        return String::from_str(alloc, "-");
-    }
-    let mut shown = String::new(alloc);
-    for byte in text {
-        shown.push(shown_char(*byte))?;
-    }
-    Ok(shown)
-}
 
 /// The columns of a mapping.
 #[tactic(auto, using(crate::proofs::Columns::padded_right, crate::proofs::Columns::padded_left))]
@@ -60,10 +38,25 @@ impl Style<Mapping> for Table<'_> {
     ghost text = { λ style. mapping_line style.form };
 
     fn line(&self, alloc: Global, item: &Mapping) -> Result<String, AllocError> {
+        if self.form.is_json() {
+            return mapping_object(alloc, item);
+        }
         let columns = mapping_columns(alloc, item)?;
         let end = line_end(alloc, self.form, item.prog)?;
         format!(in alloc; "{columns}{end}")
     }
+}
+
+/// The columns of a row.
+fn row_columns(alloc: Global, form: Form<'_>, item: &Rpcb) -> Result<String, AllocError>
+    ensures { IfOk result (λ columns. string_bytes columns ≡ row_columns form.entry item.now) }
+{
+    let netid = shown_text(alloc, item.netid.as_slice())?;
+    let addr = shown_text(alloc, item.addr.as_slice())?;
+    let owner = shown_text(alloc, item.owner.as_slice())?;
+    let (prog, vers) = (item.prog, item.vers);
+    let end = line_end(alloc, form, prog)?;
+    format!(in alloc; "{prog} {vers} {netid} {addr} {owner}{end}")
 }
 
 /// Rows with their addresses and owners.
@@ -76,12 +69,11 @@ impl Style<Rpcb> for RowLines<'_> {
     ghost text = { λ style. row_line style.form };
 
     fn line(&self, alloc: Global, item: &Rpcb) -> Result<String, AllocError> {
-        let netid = shown_text(alloc, item.netid.as_slice())?;
-        let addr = shown_text(alloc, item.addr.as_slice())?;
-        let owner = shown_text(alloc, item.owner.as_slice())?;
-        let (prog, vers) = (item.prog, item.vers);
-        let end = line_end(alloc, self.form, prog)?;
-        format!(in alloc; "{prog} {vers} {netid} {addr} {owner}{end}")
+        if self.form.is_json() {
+            row_object(alloc, item)
+        } else {
+            row_columns(alloc, self.form, item)
+        }
     }
 }
 
@@ -102,15 +94,16 @@ impl Style<Rpcb> for ShortLines<'_> {
     }
 }
 
-/// A protocol as a netid.
-fn prot_text(alloc: Global, prot: u32) -> Result<String, AllocError>
-    ensures { IfOk result (λ text. string_bytes text ≡ prot_text prot) }
+/// The columns of a mapping as the row that it stands for.
+fn old_row_columns(alloc: Global, form: Form<'_>, item: &Mapping) -> Result<String, AllocError>
+    ensures { IfOk result
+        (λ columns. string_bytes columns ≡ old_row_columns form.entry item.now) }
 {
-    match prot {
-        6 => String::from_str(alloc, "tcp"),
-        17 => String::from_str(alloc, "udp"),
-        _ => format!(in alloc; "{prot}"),
-    }
+    let netid = prot_text(alloc, item.prot)?;
+    let (prog, vers) = (item.prog, item.vers);
+    let (high, low) = (item.port / 256, item.port % 256);
+    let end = line_end(alloc, form, prog)?;
+    format!(in alloc; "{prog} {vers} {netid} 0.0.0.0.{high}.{low} unknown{end}")
 }
 
 /// Mappings of version 2 as the rows of version 3 that they stand for.
@@ -123,11 +116,11 @@ impl Style<Mapping> for OldRowLines<'_> {
     ghost text = { λ style. old_row_line style.form };
 
     fn line(&self, alloc: Global, item: &Mapping) -> Result<String, AllocError> {
-        let netid = prot_text(alloc, item.prot)?;
-        let (prog, vers) = (item.prog, item.vers);
-        let (high, low) = (item.port / 256, item.port % 256);
-        let end = line_end(alloc, self.form, prog)?;
-        format!(in alloc; "{prog} {vers} {netid} 0.0.0.0.{high}.{low} unknown{end}")
+        if self.form.is_json() {
+            old_row_object(alloc, item)
+        } else {
+            old_row_columns(alloc, self.form, item)
+        }
     }
 }
 
@@ -148,6 +141,25 @@ impl Style<Mapping> for OldShortLines<'_> {
     }
 }
 
+/// The columns of an address of this program.
+fn entry_columns(
+    alloc: Global,
+    form: Form<'_>,
+    prog: u32,
+    item: &Entry,
+) -> Result<String, AllocError>
+    ensures { IfOk result
+        (λ columns. string_bytes columns ≡ entry_columns form.entry prog item.now) }
+{
+    let netid = shown_text(alloc, item.netid.as_slice())?;
+    let maddr = shown_text(alloc, item.maddr.as_slice())?;
+    let family = shown_text(alloc, item.protofmly.as_slice())?;
+    let proto = shown_text(alloc, item.proto.as_slice())?;
+    let semantics = item.semantics;
+    let end = line_end(alloc, form, prog)?;
+    format!(in alloc; "{netid} {maddr} {semantics} {family} {proto}{end}")
+}
+
 /// Addresses of this program's version.
 #[derive(Drop)]
 pub struct EntryLines<'a> {
@@ -159,12 +171,10 @@ impl Style<Entry> for EntryLines<'_> {
     ghost text = { λ style. entry_line style.form style.prog };
 
     fn line(&self, alloc: Global, item: &Entry) -> Result<String, AllocError> {
-        let netid = shown_text(alloc, item.netid.as_slice())?;
-        let maddr = shown_text(alloc, item.maddr.as_slice())?;
-        let family = shown_text(alloc, item.protofmly.as_slice())?;
-        let proto = shown_text(alloc, item.proto.as_slice())?;
-        let semantics = item.semantics;
-        let end = line_end(alloc, self.form, self.prog)?;
-        format!(in alloc; "{netid} {maddr} {semantics} {family} {proto}{end}")
+        if self.form.is_json() {
+            entry_object(alloc, item)
+        } else {
+            entry_columns(alloc, self.form, self.prog, item)
+        }
     }
 }

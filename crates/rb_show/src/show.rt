@@ -2,7 +2,7 @@
 ghost use Rattle.std.specs.Prelude.{◌≡◌, List, [], ◌∷◌, ℕ};
 ghost use Rattle.rb_ask.specs.Telling.{tell, Shows, Takes, Writes};
 ghost use Rattle.rb_show.specs.Lines.{heading};
-ghost use Rattle.rb_show.specs.Replies.{tell_list, tell_table, tell_port, address_in, tell_address, tell_ready, tell_removed, removed_line, tell_unset, tell_results, is_success, by_head, IsShown};
+ghost use Rattle.rb_show.specs.Replies.{tell_list, tell_columns, tell_table, tell_port, address_in, tell_address, tell_ready, tell_removed, removed_line, tell_unset, tell_results, is_success, by_head, IsShown};
 
 use crate::ask::{Ask, Question};
 use crate::form::Form;
@@ -39,6 +39,7 @@ fn heading(form: Form<'_>) -> &'static [u8]
     match form {
         Form::Plain => b"   program   vers proto  port\n",
         Form::Named(_) => b"   program   vers proto  port service\n",
+        Form::Json => b"",
     }
 }
 
@@ -68,6 +69,21 @@ fn show_items<T: Xdr, S: Style<T>, R: Read, W: Write>(
     Ok(Shown::Rows(rows))
 }
 
+/// Shows the mappings of version 2 in columns.
+fn show_columns<R: Read, W: Write>(
+    alloc: Global,
+    form: Form<'_>,
+    reader: &mut R,
+    at: &mut Record,
+    writer: &mut W,
+) -> Result<Shown, InfoFault>
+    ensures { Shows R.remaining W.contents reader.old reader.new at.old at.new
+        writer.old writer.new (tell_columns form.entry) result }
+{
+    show_line(heading(form), writer)?;
+    show_items(alloc, &Table { form }, reader, at, writer)
+}
+
 /// Shows the mappings of version 2 as a table.
 fn show_table<R: Read, W: Write>(
     alloc: Global,
@@ -79,8 +95,11 @@ fn show_table<R: Read, W: Write>(
     ensures { Shows R.remaining W.contents reader.old reader.new at.old at.new
         writer.old writer.new (tell_table form.entry) result }
 {
-    show_line(heading(form), writer)?;
-    show_items(alloc, &Table { form }, reader, at, writer)
+    if form.is_json() {
+        show_items(alloc, &Table { form }, reader, at, writer)
+    } else {
+        show_columns(alloc, form, reader, at, writer)
+    }
 }
 
 /// Takes the port of GETPORT.
@@ -184,7 +203,7 @@ fn show_results<R: Read, W: Write>(
         Question::Entries(prog, _) => {
             show_items(alloc, &EntryLines { form, prog }, reader, at, writer)
         },
-        Question::Stats => show_statistics(alloc, reader, at, writer),
+        Question::Stats => show_statistics(alloc, form, reader, at, writer),
         Question::Port(_, _, _) => take_port(alloc, reader, at),
         Question::Address(_, _, _) => take_address(alloc, reader, at),
         Question::Null(prog, vers) => show_ready(alloc, prog, vers, writer),

@@ -2,26 +2,29 @@
 ghost use Rattle.std.specs.Prelude.{◌≡◌, [], ◌∷◌, IfOk};
 ghost use Rattle.std.specs.String.{string_bytes};
 ghost use Rattle.rb_ask.specs.Telling.{tell, Shows, Writes};
-ghost use Rattle.rb_show.specs.Counts.{four_text, version_line, info_line, sets_line, addr_line, procedure_text, outcomes_text, call_line, tell_numbers, tell_lists, tell_version, tell_statistics, total};
+ghost use Rattle.rb_show.specs.Objects.{numbers_object};
+ghost use Rattle.rb_show.specs.Counts.{four_text, version_line, info_line, sets_line, addr_columns, addr_line, procedure_text, outcomes_text, call_columns, call_line, tell_columns, tell_numbers, tell_lists, tell_version, tell_statistics, total};
 
-use crate::lines::shown_text;
+use crate::form::Form;
+use crate::objects::{forwards_object, look_ups_object, numbers_object};
 use crate::show::Shown;
+use crate::texts::shown_text;
 use rb_ask::{InfoFault, Record, Style, show_item, show_list, take_item};
 use rb_xdr::Text;
 use std::alloc::{AllocError, Global};
 use std::io::{Read, Write};
 
-type Four = ((i32, i32), (i32, i32));
+pub(crate) type Four = ((i32, i32), (i32, i32));
 
 /// info[13], setinfo and unsetinfo.
-type Numbers = ((Four, Four), (Four, (i32, (i32, i32))));
+pub(crate) type Numbers = ((Four, Four), (Four, (i32, (i32, i32))));
 
 /// An item of rpcbs_addrlist: program and version; success and failure; netid.
-type LookUps = ((u32, u32), ((i32, i32), Text<32>));
+pub(crate) type LookUps = ((u32, u32), ((i32, i32), Text<32>));
 
 /// An item of rpcbs_rmtcalllist: program, version and procedure; success, failure and indirect;
 /// netid.
-type Forwards = ((u32, (u32, u32)), ((i32, (i32, i32)), Text<32>));
+pub(crate) type Forwards = ((u32, (u32, u32)), ((i32, (i32, i32)), Text<32>));
 
 fn four_text(alloc: Global, four: Four) -> Result<String, AllocError>
     ensures { IfOk result (λ text. string_bytes text ≡ four_text four) }
@@ -66,16 +69,31 @@ impl Style<Numbers> for SetsLine {
     }
 }
 
-struct AddrLines;
+fn addr_columns(alloc: Global, item: &LookUps) -> Result<String, AllocError>
+    ensures { IfOk result (λ line. string_bytes line ≡ addr_columns item.now) }
+{
+    let netid = shown_text(alloc, item.1.1.as_slice())?;
+    let (prog, vers) = item.0;
+    let (success, failure) = item.1.0;
+    format!(in alloc; "addr {prog} {vers} {netid} {success} {failure}\n")
+}
 
-impl Style<LookUps> for AddrLines {
-    ghost text = { λ _. addr_line };
+/// Look-ups of a version of rpcbind.
+#[derive(Drop)]
+struct AddrLines<'a> {
+    form: Form<'a>,
+    rpcbind: u32,
+}
+
+impl Style<LookUps> for AddrLines<'_> {
+    ghost text = { λ style. addr_line style.form style.rpcbind };
 
     fn line(&self, alloc: Global, item: &LookUps) -> Result<String, AllocError> {
-        let netid = shown_text(alloc, item.1.1.as_slice())?;
-        let (prog, vers) = item.0;
-        let (success, failure) = item.1.0;
-        format!(in alloc; "addr {prog} {vers} {netid} {success} {failure}\n")
+        if self.form.is_json() {
+            look_ups_object(alloc, self.rpcbind, item)
+        } else {
+            addr_columns(alloc, item)
+        }
     }
 }
 
@@ -93,16 +111,45 @@ fn outcomes_text(alloc: Global, outcomes: (i32, (i32, i32))) -> Result<String, A
     format!(in alloc; "{success} {failure} {indirect}")
 }
 
-struct CallLines;
+fn call_columns(alloc: Global, item: &Forwards) -> Result<String, AllocError>
+    ensures { IfOk result (λ line. string_bytes line ≡ call_columns item.now) }
+{
+    let procedure = procedure_text(alloc, item.0)?;
+    let netid = shown_text(alloc, item.1.1.as_slice())?;
+    let outcomes = outcomes_text(alloc, item.1.0)?;
+    format!(in alloc; "call {procedure} {netid} {outcomes}\n")
+}
 
-impl Style<Forwards> for CallLines {
-    ghost text = { λ _. call_line };
+/// Forwarded calls of a version of rpcbind.
+#[derive(Drop)]
+struct CallLines<'a> {
+    form: Form<'a>,
+    rpcbind: u32,
+}
+
+impl Style<Forwards> for CallLines<'_> {
+    ghost text = { λ style. call_line style.form style.rpcbind };
 
     fn line(&self, alloc: Global, item: &Forwards) -> Result<String, AllocError> {
-        let procedure = procedure_text(alloc, item.0)?;
-        let netid = shown_text(alloc, item.1.1.as_slice())?;
-        let outcomes = outcomes_text(alloc, item.1.0)?;
-        format!(in alloc; "call {procedure} {netid} {outcomes}\n")
+        if self.form.is_json() {
+            forwards_object(alloc, self.rpcbind, item)
+        } else {
+            call_columns(alloc, item)
+        }
+    }
+}
+
+/// The numbers of a version of rpcbind.
+#[derive(Drop)]
+struct NumbersObject {
+    rpcbind: u32,
+}
+
+impl Style<Numbers> for NumbersObject {
+    ghost text = { λ style. numbers_object style.rpcbind };
+
+    fn line(&self, alloc: Global, item: &Numbers) -> Result<String, AllocError> {
+        numbers_object(alloc, self.rpcbind, item)
     }
 }
 
@@ -124,49 +171,88 @@ fn show_sets<W: Write>(alloc: Global, numbers: &Numbers, writer: &mut W) -> Resu
     show_item(alloc, &SetsLine, numbers, writer)
 }
 
-/// Shows the numbers of a version.
-fn show_numbers<W: Write>(
+/// Shows the numbers of a version in columns.
+fn show_columns<W: Write>(
     alloc: Global,
     vers: u32,
     numbers: &Numbers,
     writer: &mut W,
 ) -> Result<(), InfoFault>
-    ensures { Writes W.contents writer.old writer.new (tell_numbers vers numbers.now) result }
+    ensures { Writes W.contents writer.old writer.new (tell_columns vers numbers.now) result }
 {
     show_heading(alloc, vers, writer)?;
     show_info(alloc, numbers, writer)?;
     show_sets(alloc, numbers, writer)
 }
 
+/// Shows the numbers of a version.
+fn show_numbers<W: Write>(
+    alloc: Global,
+    form: Form<'_>,
+    vers: u32,
+    numbers: &Numbers,
+    writer: &mut W,
+) -> Result<(), InfoFault>
+    ensures { Writes W.contents writer.old writer.new
+        (tell_numbers form.entry vers numbers.now) result }
+{
+    if form.is_json() {
+        show_item(alloc, &NumbersObject { rpcbind: vers }, numbers, writer)
+    } else {
+        show_columns(alloc, vers, numbers, writer)
+    }
+}
+
 /// Shows the two lists of a version, and says how many items they have.
 fn show_lists<R: Read, W: Write>(
     alloc: Global,
-    reader: &mut R,
-    at: &mut Record,
-    writer: &mut W,
-) -> Result<(u32, u32), InfoFault>
-    ensures { Shows R.remaining W.contents reader.old reader.new at.old at.new
-        writer.old writer.new tell_lists result }
-{
-    let found = show_list(alloc, &AddrLines, reader, at, writer)?;
-    let called = show_list(alloc, &CallLines, reader, at, writer)?;
-    Ok((found, called))
-}
-
-/// Shows the statistics of a version.
-fn show_version<R: Read, W: Write>(
-    alloc: Global,
+    form: Form<'_>,
     vers: u32,
     reader: &mut R,
     at: &mut Record,
     writer: &mut W,
 ) -> Result<(u32, u32), InfoFault>
     ensures { Shows R.remaining W.contents reader.old reader.new at.old at.new
-        writer.old writer.new (tell_version vers) result }
+        writer.old writer.new (tell_lists form.entry vers) result }
+{
+    let found = show_list(
+        alloc,
+        &AddrLines {
+            form,
+            rpcbind: vers,
+        },
+        reader,
+        at,
+        writer,
+    )?;
+    let called = show_list(
+        alloc,
+        &CallLines {
+            form,
+            rpcbind: vers,
+        },
+        reader,
+        at,
+        writer,
+    )?;
+    Ok((found, called))
+}
+
+/// Shows the statistics of a version.
+fn show_version<R: Read, W: Write>(
+    alloc: Global,
+    form: Form<'_>,
+    vers: u32,
+    reader: &mut R,
+    at: &mut Record,
+    writer: &mut W,
+) -> Result<(u32, u32), InfoFault>
+    ensures { Shows R.remaining W.contents reader.old reader.new at.old at.new
+        writer.old writer.new (tell_version form.entry vers) result }
 {
     let numbers: Numbers = take_item(alloc, reader, at)?;
-    show_numbers(alloc, vers, &numbers, writer)?;
-    show_lists(alloc, reader, at, writer)
+    show_numbers(alloc, form, vers, &numbers, writer)?;
+    show_lists(alloc, form, vers, reader, at, writer)
 }
 
 fn total(two: (u32, u32), three: (u32, u32), four: (u32, u32)) -> u64
@@ -183,15 +269,16 @@ fn total(two: (u32, u32), three: (u32, u32), four: (u32, u32)) -> u64
 /// Shows the statistics of versions 2, 3 and 4.
 pub(crate) fn show_statistics<R: Read, W: Write>(
     alloc: Global,
+    form: Form<'_>,
     reader: &mut R,
     at: &mut Record,
     writer: &mut W,
 ) -> Result<Shown, InfoFault>
     ensures { Shows R.remaining W.contents reader.old reader.new at.old at.new
-        writer.old writer.new tell_statistics result }
+        writer.old writer.new (tell_statistics form.entry) result }
 {
-    let two = show_version(alloc, 2, reader, at, writer)?;
-    let three = show_version(alloc, 3, reader, at, writer)?;
-    let four = show_version(alloc, 4, reader, at, writer)?;
+    let two = show_version(alloc, form, 2, reader, at, writer)?;
+    let three = show_version(alloc, form, 3, reader, at, writer)?;
+    let four = show_version(alloc, form, 4, reader, at, writer)?;
     Ok(Shown::Statistics(total(two, three, four)))
 }

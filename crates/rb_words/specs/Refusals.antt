@@ -23,6 +23,7 @@ flag_text flags.Delete = codes "-d"
 
 abbrev pub layout_text : Layout → List ℕ
 layout_text layouts.Names = codes "--names"
+layout_text layouts.Json = codes "--json"
 
 abbrev pub text_or_none : Option (Bor (List ℕ)) → List ℕ
 text_or_none (Some text) = text.now
@@ -56,6 +57,8 @@ wanted_text wants.Ping = codes "-n goes with -t and -u alone"
 wanted_text wants.NoFlagOrDelete = codes "-T goes with -d, or with no flag"
 wanted_text wants.NetidAlone = codes "-a goes with -T, and with no flag"
 wanted_text wants.NoHost = codes "--local goes with no HOST"
+wanted_text wants.OneLayout = codes "one of --names and --json at most is wanted"
+wanted_text wants.Objects = codes "--json goes with -p, -l, -m, or with no flag and no -T"
 wanted_text wants.List = codes "--names goes with -p, -s, -l, or with no flag and no -T"
 
 -- the word, where one is there

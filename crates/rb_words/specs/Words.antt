@@ -10,6 +10,7 @@ use Rattle.rb_words.specs.declared.refusal.Spot.TheVariants as spots
 use Rattle.rb_words.specs.declared.refusal.Wanted.{Wanted}
 use Rattle.rb_words.specs.declared.refusal.Wanted.TheVariants as wants
 use Rattle.rb_words.specs.declared.plan.Layout.{Layout}
+use Rattle.rb_words.specs.declared.plan.Layout.TheVariants as layouts
 use Rattle.rb_words.specs.declared.plan.Listing.{Listing}
 use Rattle.rb_words.specs.declared.plan.Listing.TheVariants as listings
 use Rattle.rb_words.specs.declared.plan.Transport.{Transport}
@@ -239,17 +240,28 @@ is_here _ = false
 
 -- ---- layouts
 
--- programs are listed
-abbrev pub is_list : Plan → Bool
-is_list (Show listings.Statistics source) = false
-is_list (Show listing source) = true
-is_list (Entries source prog vers) = true
-is_list _ = false
+-- what is wanted where a layout stands in a form that has it not
+abbrev pub wanted_with : Layout → Wanted
+wanted_with layouts.Names = wants.List
+wanted_with layouts.Json = wants.Objects
 
--- a layout is that of a list
+-- statistics have no names, and the short rows are no objects
+abbrev pub shown_with : Listing → Layout → Bool
+shown_with listings.Statistics layouts.Names = false
+shown_with listings.Short layouts.Json = false
+shown_with listing layout = true
+
+abbrev pub has_layout : Plan → Layout → Bool
+has_layout (Show listing source) layout = shown_with listing layout
+has_layout (Entries source prog vers) layout = true
+has_layout (Ping means prog vers) layout = false
+has_layout (Delete netid prog vers) layout = false
+
+-- at most one layout, and one that the plan has
 abbrev pub layout_of : List Layout → Plan → Result (Option Layout) Refusal
 layout_of [] plan = Ok None
-layout_of (layout ∷ layouts) plan = if is_list plan then Ok (Some layout) else refused (spots.Layout layout) wants.List
+layout_of (layout ∷ []) plan = if has_layout plan layout then Ok (Some layout) else refused (spots.Layout layout) (wanted_with layout)
+layout_of (layout ∷ second ∷ layouts) plan = refused (spots.Layout second) wants.OneLayout
 
 -- ---- all of it
 

@@ -62,6 +62,8 @@ pub enum Plan {
 pub enum Layout {
     /// With the names of programs.
     Names,
+    /// As an object of JSON on each line.
+    Json,
 }
 
 /// The words of a command line, read.

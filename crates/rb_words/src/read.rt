@@ -1,6 +1,6 @@
 //! Reads the words of a command line.
 ghost use Rattle.std.specs.Prelude.{◌≡◌, ◌<◌};
-ghost use Rattle.rb_words.specs.Words.{flag_of, option_number, number_at, program_of, program_at, ends_at, source_of, source_at, host_at, shown, listed, pinged, pinged_at_host, program_and_version, option_netid, by_netid, by_transport, without_flag, deleted, plan_of, is_ping, may_have_netid, is_here, is_list, layout_of, only_where, placed, request_of};
+ghost use Rattle.rb_words.specs.Words.{flag_of, option_number, number_at, program_of, program_at, ends_at, source_of, source_at, host_at, shown, listed, pinged, pinged_at_host, program_and_version, option_netid, by_netid, by_transport, without_flag, deleted, plan_of, is_ping, may_have_netid, is_here, wanted_with, has_layout, layout_of, only_where, placed, request_of};
 
 use crate::plan::{Layout, Listing, Means, Plan, Request, Source, Transport};
 use crate::refusal::{Refusal, Spot, Wanted};
@@ -314,27 +314,43 @@ fn is_here(plan: Plan) -> bool
     }
 }
 
-/// How a list is written, where one is asked for.
+/// What is wanted where a layout stands in a form that has it not.
+fn wanted_with(layout: Layout) -> Wanted
+    ensures { result ≡ wanted_with layout }
+{
+    match layout {
+        Layout::Names => Wanted::List,
+        Layout::Json => Wanted::Objects,
+    }
+}
+
+/// Whether a plan has this layout.
+fn has_layout(plan: Plan, layout: Layout) -> bool
+    ensures { result ≡ has_layout plan layout }
+{
+    match (plan, layout) {
+        (Plan::Show(listing, _), Layout::Names) => !matches!(listing, Listing::Statistics),
+        (Plan::Show(listing, _), Layout::Json) => !matches!(listing, Listing::Short),
+        (Plan::Entries(..), _) => true,
+        (Plan::Ping(..) | Plan::Delete(..), _) => false,
+    }
+}
+
+/// How what a plan shows is written. At most one layout is asked for, and one that the plan has.
 fn layout_of(layouts: &[Layout], plan: Plan) -> Result<Option<Layout>, Refusal>
     ensures { result ≡ layout_of layouts.now plan }
 {
     match layouts {
         [] => Ok(None),
-        [layout, ..] => {
-            only_where(true, is_list(plan), Spot::Layout(*layout), Wanted::List)?;
-            Ok(Some(*layout))
+        [layout] => {
+            let layout = *layout;
+            if has_layout(plan, layout) {
+                Ok(Some(layout))
+            } else {
+                refused(Spot::Layout(layout), wanted_with(layout))
+            }
         }
-    }
-}
-
-/// Whether programs are listed.
-fn is_list(plan: Plan) -> bool
-    ensures { result ≡ is_list plan }
-{
-    match plan {
-        Plan::Show(listing, _) => !matches!(listing, Listing::Statistics),
-        Plan::Entries(..) => true,
-        Plan::Ping(..) | Plan::Delete(..) => false,
+        [_, second, ..] => refused(Spot::Layout(*second), Wanted::OneLayout),
     }
 }
 

@@ -49,8 +49,11 @@ pub enum Wanted {
     NetidAlone,
     /// `--local` goes with forms that have no HOST.
     NoHost,
+    OneLayout,
     /// `--names` goes with lists of programs.
     List,
+    /// `--json` goes with lists but the short one, and with statistics.
+    Objects,
 }
 
 /// Why words can't be read.
@@ -81,6 +84,7 @@ fn layout_text(layout: Layout) -> &'static str
 {
     match layout {
         Layout::Names => "--names",
+        Layout::Json => "--json",
     }
 }
 
@@ -121,7 +125,9 @@ fn wanted_text(wanted: Wanted) -> &'static str
         Wanted::NoFlagOrDelete => "-T goes with -d, or with no flag",
         Wanted::NetidAlone => "-a goes with -T, and with no flag",
         Wanted::NoHost => "--local goes with no HOST",
+        Wanted::OneLayout => "one of --names and --json at most is wanted",
         Wanted::List => "--names goes with -p, -s, -l, or with no flag and no -T",
+        Wanted::Objects => "--json goes with -p, -l, -m, or with no flag and no -T",
     }
 }
 

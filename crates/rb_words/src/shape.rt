@@ -39,7 +39,7 @@ pub struct Shape<'s, 'a, 'n> {
     pub address: Option<&'a str>,
     /// `--local`
     pub local: Option<&'a str>,
-    /// `--names`
+    /// `--names`, `--json`
     pub layouts: &'s [Layout],
     /// The words that belong to no option, in their order.
     pub words: &'s [&'a str],

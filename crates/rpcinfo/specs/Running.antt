@@ -6,7 +6,7 @@ use Rattle.rb_ask.specs.declared.fault.InfoFault.TheVariants.{Write}
 use Rattle.rb_ask.specs.Telling.{Told}
 use Rattle.rb_names.specs.declared.services.Service.{Service}
 use Rattle.rb_words.specs.declared.plan.Layout.{Layout}
-use Rattle.rb_words.specs.declared.plan.Layout.TheVariants.{Names}
+use Rattle.rb_words.specs.declared.plan.Layout.TheVariants as layouts
 use Rattle.rb_words.specs.declared.plan.Plan.{Plan}
 use Rattle.rb_words.specs.declared.plan.Source.{Source}
 use Rattle.rb_words.specs.declared.plan.Source.TheVariants.{Here, Input, Named}
@@ -17,7 +17,7 @@ use Rattle.rb_words.specs.Refusals.{refusal_lines}
 use Rattle.rb_words.specs.Words.{request_of}
 use Rattle.rb_show.specs.declared.ask.Ask.{Ask}
 use Rattle.rb_show.specs.declared.form.Form.{Form}
-use Rattle.rb_show.specs.declared.form.Form.TheVariants.{Plain, Named}
+use Rattle.rb_show.specs.declared.form.Form.TheVariants.{Plain, Named, Json}
 use Rattle.rb_show.specs.declared.ask.Question.{Question}
 use Rattle.rb_show.specs.declared.show.Shown.{Shown}
 use Rattle.rpcinfo.specs.declared.ending.Ending.{Ending}
@@ -33,10 +33,11 @@ use Rattle.rpcinfo.specs.Plans.{plan_question}
 abbrev pub ask_of : Words → Question → Ask
 ask_of words question = record { question = question; uid = words.request.uid }
 
--- the names of programs stand in a list where the words ask for them
+-- the layout that the words ask for
 abbrev pub form_of : Option Layout → Bor (List Service) → Form
 form_of None services = Plain
-form_of (Some Names) services = Named services
+form_of (Some layouts.Names) services = Named services
+form_of (Some layouts.Json) services = Json
 
 -- ---- words
 

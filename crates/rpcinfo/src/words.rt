@@ -60,6 +60,20 @@ const FLAGS: [(Flag, char, &str, &str); 7] = [
     ),
 ];
 
+/// Each layout with its name and its help.
+const LAYOUTS: [(Layout, &str, &str); 2] = [
+    (
+        Layout::Names,
+        "names",
+        "writes the names of programs in lists",
+    ),
+    (
+        Layout::Json,
+        "json",
+        "writes an object of JSON on each line",
+    ),
+];
+
 /// The words of a command line, read.
 #[derive(Clone, Copy, Debug)]
 pub struct Words<'a, 'n> {
@@ -129,17 +143,21 @@ fn with_places<'a>(alloc: Global, command: Command<'a>) -> Result<Command<'a>, A
 
 /// The options that say how a list is written.
 fn with_layouts<'a>(alloc: Global, command: Command<'a>) -> Result<Command<'a>, AllocError> {
-    let names = Arg::new(alloc, "names")
-        .long("names")
-        .action(ArgAction::SetTrue)
-        .help("writes the names of programs in lists");
+    let mut command = command;
+    for (_, name, help) in LAYOUTS {
+        let layout = Arg::new(alloc, name)
+            .long(name)
+            .action(ArgAction::SetTrue)
+            .help(help);
+        command = command.arg(layout)?;
+    }
     let programs = option(
         alloc,
         "programs",
         "PATH",
         "a file of names of programs [/etc/rpc]",
     );
-    command.arg(names)?.arg(programs.long("programs"))
+    command.arg(programs.long("programs"))
 }
 
 /// The options that say how a portmapper is asked.
@@ -225,8 +243,10 @@ fn flags_of(alloc: Global, matches: &ArgMatches<'_>) -> Result<Vec<Flag>, AllocE
 /// The layouts that were given.
 fn layouts_of(alloc: Global, matches: &ArgMatches<'_>) -> Result<Vec<Layout>, AllocError> {
     let mut layouts = Vec::new(alloc);
-    if matches.get_flag("names") {
-        layouts.push(Layout::Names)?;
+    for (layout, name, _) in LAYOUTS {
+        if matches.get_flag(name) {
+            layouts.push(layout)?;
+        }
     }
     Ok(layouts)
 }
@@ -238,6 +258,7 @@ fn form_of<'a>(layout: Option<Layout>, services: &'a [Service]) -> Form<'a>
     match layout {
         None => Form::Plain,
         Some(Layout::Names) => Form::Named(services),
+        Some(Layout::Json) => Form::Json,
     }
 }
 

@@ -1,9 +1,9 @@
 use Rattle.std.proofs.Common.{◌≡◌, ◌<◌, ◌++◌, length, get_or, rules, arith, ap, ◌∙◌}
 use Rattle.std.specs.Prelude.{encode_utf8}
 use Rattle.std.specs.String.{string_bytes}
-use Rattle.rb_show.specs.Lines.{shown_byte}
-use Rattle.rb_show.proofs.Texts.{more, whole}
-use Rattle.rb_show.proofs.lines.shown_text.Goals as goal
+use Rattle.rb_show.specs.Texts.{shown_byte}
+use Rattle.rb_show.proofs.ShownBytes.{more, whole}
+use Rattle.rb_show.proofs.texts.shown_text.Goals as goal
 
 pub loop-byte-preserved : goal.loop-byte-preserved
 loop-byte-preserved c =

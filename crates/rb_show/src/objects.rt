@@ -1,0 +1,177 @@
+//! Objects of JSON, one on each line.
+ghost use Rattle.std.specs.Prelude.{◌≡◌, IfOk};
+ghost use Rattle.std.specs.String.{string_bytes};
+ghost use Rattle.rb_show.specs.Objects.{program_members, place_members, row_members, row_object, old_address, old_row_object, mapping_object, family_members, entry_object, four_items, info_items, numbers_object, found_members, look_ups_object, procedure_members, outcomes_members, forwards_object};
+
+use crate::json::json_text;
+use crate::statistics::{Forwards, Four, LookUps, Numbers};
+use crate::texts::prot_text;
+use rb_proto::{Entry, Mapping, Rpcb};
+use std::alloc::{AllocError, Global};
+
+fn program_members(alloc: Global, prog: u32, vers: u32) -> Result<String, AllocError>
+    ensures { IfOk result (λ text. string_bytes text ≡ program_members prog vers) }
+{
+    format!(in alloc; "\"program\":{prog},\"version\":{vers}")
+}
+
+fn place_members(alloc: Global, netid: &[u8], addr: &[u8]) -> Result<String, AllocError>
+    ensures { IfOk result (λ text. string_bytes text ≡ place_members netid.now addr.now) }
+{
+    let netid = json_text(alloc, netid)?;
+    let addr = json_text(alloc, addr)?;
+    format!(in alloc; "\"netid\":{netid},\"address\":{addr}")
+}
+
+fn row_members(
+    alloc: Global,
+    prog: u32,
+    vers: u32,
+    netid: &[u8],
+    addr: &[u8],
+) -> Result<String, AllocError>
+    ensures { IfOk result
+        (λ text. string_bytes text ≡ row_members prog vers netid.now addr.now) }
+{
+    let program = program_members(alloc, prog, vers)?;
+    let place = place_members(alloc, netid, addr)?;
+    format!(in alloc; "{program},{place}")
+}
+
+/// A row of version 3.
+pub(crate) fn row_object(alloc: Global, item: &Rpcb) -> Result<String, AllocError>
+    ensures { IfOk result (λ object. string_bytes object ≡ row_object item.now) }
+{
+    let (netid, addr) = (item.netid.as_slice(), item.addr.as_slice());
+    let row = row_members(alloc, item.prog, item.vers, netid, addr)?;
+    let owner = json_text(alloc, item.owner.as_slice())?;
+    format!(in alloc; "{{{row},\"owner\":{owner}}}\n")
+}
+
+/// The address of a port on every host.
+fn old_address(alloc: Global, port: u32) -> Result<String, AllocError>
+    ensures { IfOk result (λ text. string_bytes text ≡ old_address port) }
+{
+    let (high, low) = (port / 256, port % 256);
+    format!(in alloc; "0.0.0.0.{high}.{low}")
+}
+
+/// A mapping of version 2 as the row of version 3 that it stands for.
+pub(crate) fn old_row_object(alloc: Global, item: &Mapping) -> Result<String, AllocError>
+    ensures { IfOk result (λ object. string_bytes object ≡ old_row_object item.now) }
+{
+    let netid = prot_text(alloc, item.prot)?;
+    let addr = old_address(alloc, item.port)?;
+    let (netid, addr) = (netid.as_bytes(), addr.as_bytes());
+    let row = row_members(alloc, item.prog, item.vers, netid, addr)?;
+    format!(in alloc; "{{{row},\"owner\":\"unknown\"}}\n")
+}
+
+/// A mapping of version 2.
+pub(crate) fn mapping_object(alloc: Global, item: &Mapping) -> Result<String, AllocError>
+    ensures { IfOk result (λ object. string_bytes object ≡ mapping_object item.now) }
+{
+    let program = program_members(alloc, item.prog, item.vers)?;
+    let (prot, port) = (item.prot, item.port);
+    format!(in alloc; "{{{program},\"protocol\":{prot},\"port\":{port}}}\n")
+}
+
+fn family_members(alloc: Global, family: &[u8], proto: &[u8]) -> Result<String, AllocError>
+    ensures { IfOk result (λ text. string_bytes text ≡ family_members family.now proto.now) }
+{
+    let family = json_text(alloc, family)?;
+    let proto = json_text(alloc, proto)?;
+    format!(in alloc; "\"family\":{family},\"protocol\":{proto}")
+}
+
+/// An address of a program's version.
+pub(crate) fn entry_object(alloc: Global, item: &Entry) -> Result<String, AllocError>
+    ensures { IfOk result (λ object. string_bytes object ≡ entry_object item.now) }
+{
+    let place = place_members(alloc, item.netid.as_slice(), item.maddr.as_slice())?;
+    let family = family_members(alloc, item.protofmly.as_slice(), item.proto.as_slice())?;
+    let semantics = item.semantics;
+    format!(in alloc; "{{{place},\"semantics\":{semantics},{family}}}\n")
+}
+
+fn four_items(alloc: Global, four: Four) -> Result<String, AllocError>
+    ensures { IfOk result (λ items. string_bytes items ≡ four_items four) }
+{
+    let ((a, b), (c, d)) = four;
+    format!(in alloc; "{a},{b},{c},{d}")
+}
+
+fn info_items(alloc: Global, numbers: &Numbers) -> Result<String, AllocError>
+    ensures { IfOk result (λ items. string_bytes items ≡ info_items numbers.now) }
+{
+    let ((first, second), (third, (last, _))) = *numbers;
+    let first = four_items(alloc, first)?;
+    let second = four_items(alloc, second)?;
+    let third = four_items(alloc, third)?;
+    format!(in alloc; "{first},{second},{third},{last}")
+}
+
+/// The numbers of a version of rpcbind.
+pub(crate) fn numbers_object(
+    alloc: Global,
+    rpcbind: u32,
+    item: &Numbers,
+) -> Result<String, AllocError>
+    ensures { IfOk result (λ object. string_bytes object ≡ numbers_object rpcbind item.now) }
+{
+    let info = info_items(alloc, item)?;
+    let (_, (_, (_, (set, unset)))) = *item;
+    format!(in alloc;
+        "{{\"rpcbind\":{rpcbind},\"info\":[{info}],\"set\":{set},\"unset\":{unset}}}\n"
+    )
+}
+
+fn found_members(alloc: Global, found: (i32, i32)) -> Result<String, AllocError>
+    ensures { IfOk result (λ text. string_bytes text ≡ found_members found) }
+{
+    let (success, failure) = found;
+    format!(in alloc; "\"success\":{success},\"failure\":{failure}")
+}
+
+/// Look-ups of a version of rpcbind.
+pub(crate) fn look_ups_object(
+    alloc: Global,
+    rpcbind: u32,
+    item: &LookUps,
+) -> Result<String, AllocError>
+    ensures { IfOk result (λ object. string_bytes object ≡ look_ups_object rpcbind item.now) }
+{
+    let program = program_members(alloc, item.0.0, item.0.1)?;
+    let netid = json_text(alloc, item.1.1.as_slice())?;
+    let found = found_members(alloc, item.1.0)?;
+    format!(in alloc; "{{\"rpcbind\":{rpcbind},{program},\"netid\":{netid},{found}}}\n")
+}
+
+fn procedure_members(alloc: Global, procedure: (u32, (u32, u32))) -> Result<String, AllocError>
+    ensures { IfOk result (λ text. string_bytes text ≡ procedure_members procedure) }
+{
+    let (prog, (vers, proc)) = procedure;
+    let program = program_members(alloc, prog, vers)?;
+    format!(in alloc; "{program},\"procedure\":{proc}")
+}
+
+fn outcomes_members(alloc: Global, outcomes: (i32, (i32, i32))) -> Result<String, AllocError>
+    ensures { IfOk result (λ text. string_bytes text ≡ outcomes_members outcomes) }
+{
+    let (success, (failure, indirect)) = outcomes;
+    format!(in alloc; "\"success\":{success},\"failure\":{failure},\"indirect\":{indirect}")
+}
+
+/// Forwarded calls of a version of rpcbind.
+pub(crate) fn forwards_object(
+    alloc: Global,
+    rpcbind: u32,
+    item: &Forwards,
+) -> Result<String, AllocError>
+    ensures { IfOk result (λ object. string_bytes object ≡ forwards_object rpcbind item.now) }
+{
+    let procedure = procedure_members(alloc, item.0)?;
+    let netid = json_text(alloc, item.1.1.as_slice())?;
+    let outcomes = outcomes_members(alloc, item.1.0)?;
+    format!(in alloc; "{{\"rpcbind\":{rpcbind},{procedure},\"netid\":{netid},{outcomes}}}\n")
+}
