@@ -175,7 +175,7 @@ def check_claims(text):
             if not name:
                 defined = found[0].startswith("definition")
             elif defined:
-                yield number, name, any(name in names for names in ALL_DEFINITIONS.values())
+                yield number, name, is_file(name) or any(name in names for names in ALL_DEFINITIONS.values())
             elif crate:
                 yield number, f"{name}` in `{crate}", stands_in(name, crate)
 
