@@ -14,7 +14,7 @@ NAMES = proved
 SUFFIX = $(if $(filter plain,$(NAMES)),,-proved)
 PLACED = sed 's|@PREFIX@|$(PREFIX)|g; s|@SUFFIX@|$(SUFFIX)|g'
 
-.PHONY: all run test rows peers memory bench measure install uninstall clean
+.PHONY: all run test rows peers memory hostile bench measure install uninstall clean
 
 # Proves each crate, side by side, and builds the programs, crates/rpcbind/out/rpcbind and crates/rpcinfo/out/rpcinfo.
 all:
@@ -40,6 +40,10 @@ peers:
 # What of the built daemon is resident before and after a load of a million calls.
 memory:
 	tests/run-memory.sh
+
+# Attacks on the built daemon over sockets, each beside a good client. PROGRAM=PATH takes another program.
+hostile:
+	tests/run-hostile.sh
 
 # The time of a call, over the built program: TCP in single bytes and in one piece, datagrams over 300 rows, and long lists.
 bench:

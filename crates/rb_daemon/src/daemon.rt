@@ -61,7 +61,7 @@ impl<'a, R: Clock> Daemon<'a, R> {
         };
         sockets.write_stack();
         let events = Events::with_capacity(alloc, EVENTS).map_err(DaemonFault::Memory)?;
-        let mut serving = Serving::new(alloc, engine, sockets, limits.conns).map_err(
+        let mut serving = Serving::new(alloc, engine, sockets, limits.conns, listener.host).map_err(
             DaemonFault::Memory,
         )?;
         if let Err(error) = serving.register(poll.registry()) {
@@ -77,8 +77,8 @@ impl<'a, R: Clock> Daemon<'a, R> {
     }
 
     /// Waits for events once, at most `wait_ms` milliseconds, and not at all where something is left from the last turn,
-    /// and serves all that it showed, in this order: datagrams, what comes back for forwarded calls, connections, what is
-    /// due, and at last connections that are to be accepted, for which places are free by then. After a fault, `Socket` of a
+    /// and serves all that it showed, in this order: datagrams, what comes back for forwarded calls, connections, those
+    /// that are owed bytes last, what is due, and at last connections that are to be accepted, for which places are free by then. After a fault, `Socket` of a
     /// listener, the wait or the clock, what was handed to the core stands, and the daemon can do no more.
     pub fn turn(&mut self, wait_ms: u64) -> Result<(), DaemonFault> {
         self.wait(wait_ms)?;
@@ -89,10 +89,10 @@ impl<'a, R: Clock> Daemon<'a, R> {
         }
         self.serving.answer_calls();
         self.serving.take_forward_replies();
-        self.serving.serve_left();
         for event in &self.events {
             self.serving.serve(event);
         }
+        self.serving.serve_left();
         self.serving.expire();
         self.serving.close_lost();
         self.serving.accept_all(self.poll.registry())

@@ -6,7 +6,10 @@ use crate::outbox::{LONG_ROOM, OWN_ROOM, Outbox};
 use crate::sockets::ForwardSocket;
 use crate::stream::Stream;
 use rb_core::Exchanged;
-use rb_policy::{Next, SOCKET_CALLS, after_read, after_write, outcome_of_count, reads_on};
+use rb_policy::{
+    Holder, Next, Origin, Phase, Round, SOCKET_CALLS, after_read, after_write, is_cut_off,
+    is_stuck, outcome_of_count, phase_of, reads_on, round_of,
+};
 use std::alloc::{AllocError, Global};
 use std::io::Read;
 
@@ -16,8 +19,12 @@ const READ_AHEAD: usize = 1024;
 /// Each exchange with the core, but the last, takes or gives a byte at least.
 const EXCHANGES: usize = READ_AHEAD + LONG_ROOM;
 
-/// So many bytes to write are enough for a turn: as many as go out of outboxes of the connections' own.
-const ENOUGH: usize = SOCKET_CALLS * OWN_ROOM;
+/// The number of a turn, and its moment in milliseconds.
+#[derive(Clone, Copy, Debug, PartialEq, Eq)]
+pub(crate) struct Turn {
+    pub(crate) number: u64,
+    pub(crate) moment: u64,
+}
 
 /// All of its memory is there before the first connection has it, and stays for the next.
 #[derive(Drop)]
@@ -26,6 +33,14 @@ pub(crate) struct Link {
     id: u64,
     /// None where no connection has the place.
     stream: Option<Stream>,
+    origin: Origin,
+    /// The moment of its last progress, or of its opening, in milliseconds. A record that ended is progress, and so are
+    /// bytes that the socket took.
+    since: u64,
+    /// Whether it made progress in the turn that serves it.
+    made_progress: bool,
+    /// Whether its first call, or the rest of a call, is yet to come.
+    is_reading: bool,
     /// The bytes of `held[start..end]` were read and not yet taken.
     held: [u8; READ_AHEAD],
     start: usize,
@@ -65,6 +80,13 @@ impl Link {
         Ok(Link {
             id: 0,
             stream: None,
+            origin: Origin {
+                host: [0; 4],
+                is_local: false,
+            },
+            since: 0,
+            made_progress: false,
+            is_reading: false,
             held: [0; READ_AHEAD],
             start: 0,
             end: 0,
@@ -87,10 +109,13 @@ impl Link {
         self.id == id && !self.is_free()
     }
 
-    /// The connection gets the place.
-    pub(crate) fn open(&mut self, id: u64, stream: Stream) {
+    /// The connection gets the place at this moment, in milliseconds.
+    pub(crate) fn open(&mut self, id: u64, stream: Stream, origin: Origin, moment: u64) {
         self.id = id;
         self.stream = Some(stream);
+        self.origin = origin;
+        self.since = moment;
+        self.is_reading = true;
         self.start = 0;
         self.end = 0;
         self.may_owe = false;
@@ -122,8 +147,40 @@ impl Link {
         self.may_owe = true;
     }
 
-    pub(crate) fn was_served_in(&self, turn: u64) -> bool {
-        self.served_in == turn
+    pub(crate) fn was_served_in(&self, turn: Turn) -> bool {
+        self.served_in == turn.number
+    }
+
+    fn phase(&self) -> Phase {
+        let is_owed = self.may_owe || !self.outbox.is_empty();
+        phase_of(self.is_awaiting, is_owed, self.is_reading)
+    }
+
+    /// The round of a turn in which it is served.
+    pub(crate) fn round(&self) -> Round {
+        round_of(self.is_waiting, self.phase())
+    }
+
+    /// It is to be served though no event shows it again, if a connection has the place.
+    pub(crate) fn leave(&mut self) {
+        self.is_waiting = !self.is_free();
+    }
+
+    /// What is kept of the connection that has the place, for the door.
+    pub(crate) fn holder(&self) -> Option<Holder> {
+        if self.is_free() {
+            return None;
+        }
+        Some(Holder {
+            origin: self.origin,
+            phase: self.phase(),
+            since: self.since,
+        })
+    }
+
+    /// Whether it is to be given up at this moment, in milliseconds, since its socket takes nothing of what waits for it.
+    pub(crate) fn is_stuck(&self, moment: u64) -> bool {
+        !self.outbox.is_empty() && is_stuck(self.since, moment)
     }
 
     /// Hands in, takes over, writes and reads until the socket would block or has used up its calls of this turn. A read
@@ -134,16 +191,20 @@ impl Link {
         engine: &mut Engine,
         forwards: &ForwardSocket,
         spare: &mut Outbox,
-        turn: u64,
+        turn: Turn,
         may_end: bool,
     ) -> Progress {
-        self.served_in = turn;
+        self.served_in = turn.number;
         self.is_waiting = false;
         self.is_dry = false;
+        self.made_progress = false;
         self.written = 0;
         self.outbox.take_longer(spare);
         let progress = self.serve_calls(engine, forwards, may_end);
         spare.take_longer(&mut self.outbox);
+        if self.made_progress {
+            self.since = turn.moment;
+        }
         progress
     }
 
@@ -154,8 +215,8 @@ impl Link {
         forwards: &ForwardSocket,
         may_end: bool,
     ) -> Progress {
-        for _ in 0..SOCKET_CALLS {
-            if self.written >= ENOUGH {
+        for calls in 0..=SOCKET_CALLS {
+            if is_cut_off(calls, self.written) {
                 break;
             }
             match self.step(engine, forwards, may_end) {
@@ -224,7 +285,19 @@ impl Link {
         if given == 0 && taken.count > 0 {
             self.is_awaiting = engine.send_forward(forwards);
         }
+        self.note_taken(taken.count, end - start, given);
         Some(taken.count)
+    }
+
+    /// Notes whether a record ended with the bytes that were taken, of so many that were there: it did where a reply was
+    /// given, a call is forwarded or bytes are left. Of another one its reply tells (`take_over`).
+    fn note_taken(&mut self, taken: usize, held: usize, given: usize) {
+        if given > 0 || self.is_awaiting || (taken > 0 && taken < held) {
+            self.made_progress = true;
+            self.is_reading = false;
+        } else if taken > 0 {
+            self.is_reading = true;
+        }
     }
 
     /// Takes over the fragment that is pending. Behind the last one of a reply the core need not be asked for another.
@@ -233,6 +306,10 @@ impl Link {
             return Given::Nothing;
         }
         let given = engine.give(self.id, &mut self.outbox);
+        if matches!(given, Given::Bytes(_)) {
+            self.made_progress = true;
+            self.is_reading = false;
+        }
         self.may_owe = given != Given::Nothing && !self.outbox.is_reply_over();
         given
     }
@@ -244,6 +321,7 @@ impl Link {
         let came = self.outbox.send(stream);
         if let Ok(n) = came {
             self.written = self.written.saturating_add(n);
+            self.made_progress |= n > 0;
         }
         after_write(outcome_of_count(&came))
     }

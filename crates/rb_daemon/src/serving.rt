@@ -3,7 +3,7 @@ ghost use Rattle.std.specs.Prelude.{◌≡◌, ◌≤◌, length, vec_len, IfOk}
 
 use crate::engine::{Due, Engine};
 use crate::faults::{DaemonFault, Step};
-use crate::link::{Link, Progress};
+use crate::link::{Link, Progress, Turn};
 use crate::outbox::{LONG_ROOM, Outbox};
 use crate::sockets::{Shown, Sockets};
 use crate::stream::Stream;
@@ -11,8 +11,8 @@ use mio::event::Event;
 use mio::{Registry, Token};
 use rb_core::Peer;
 use rb_policy::{
-    Again, Next, SOCKET_CALLS, accepts, after_accept, after_all_receives, after_receive,
-    asks_for_deadlines, outcome_of,
+    Admission, Again, Holder, Next, Origin, Round, SOCKET_CALLS, accepts, admit, after_accept,
+    after_all_receives, after_receive, asks_for_deadlines, origin_of, outcome_of, serves_another,
 };
 use std::alloc::{AllocError, Global};
 use std::io;
@@ -35,20 +35,24 @@ pub(crate) struct Serving {
     sockets: Sockets,
     /// The places of connections, by the keys that their events show.
     links: Vec<Link>,
+    /// What is kept of each of them for the door, as it was when somebody came last.
+    holders: Vec<Option<Holder>>,
     /// How many places have connections.
     taken: usize,
+    /// The host that is announced: who comes from it is of this host.
+    announced: [u8; 4],
     /// The long outbox, or that of the connection which has it.
     spare: Outbox,
     datagram: Vec<u8>,
-    /// The number of the turn, and its moment.
-    turn: u64,
-    moment: u64,
+    turn: Turn,
     /// The last moment at whose end nothing was due any more.
     settled: Option<u64>,
     /// The moment by which each call that came over UDP and was forwarded has ended.
     awaited_until: u64,
     /// Whether connections are to be served though no event shows them.
     are_links_left: bool,
+    /// The key at which the next last round begins.
+    first_left: usize,
 }
 
 /// So many free places. Each is written, so that its memory is the process's from here on.
@@ -68,21 +72,29 @@ impl Serving {
         engine: Engine,
         sockets: Sockets,
         conns: usize,
+        announced: [u8; 4],
     ) -> Result<Serving, AllocError> {
+        let mut holders = Vec::with_capacity(alloc, conns)?;
+        holders.resize(conns, None)?;
         let mut datagram = Vec::with_capacity(alloc, LONGEST_DATAGRAM)?;
         datagram.resize(LONGEST_DATAGRAM, 0)?;
         Ok(Serving {
             engine,
             sockets,
             links: free_places(alloc, conns)?,
+            holders,
             taken: 0,
+            announced,
             spare: Outbox::new(alloc, LONG_ROOM)?,
             datagram,
-            turn: 0,
-            moment: 0,
+            turn: Turn {
+                number: 0,
+                moment: 0,
+            },
             settled: None,
             awaited_until: 0,
             are_links_left: false,
+            first_left: 0,
         })
     }
 
@@ -97,14 +109,16 @@ impl Serving {
 
     /// Whether something has a deadline: a connection, or a call that is forwarded.
     pub(crate) fn is_somebody_there(&self) -> bool {
-        self.taken > 0 || self.moment < self.awaited_until
+        self.taken > 0 || self.turn.moment < self.awaited_until
     }
 
     /// A turn at this moment, in milliseconds since the start of 1970.
     pub(crate) fn begin_turn(&mut self, now: u64) {
         self.engine.set_moment(now);
-        self.moment = now;
-        self.turn = self.turn.wrapping_add(1);
+        self.turn = Turn {
+            number: self.turn.number.wrapping_add(1),
+            moment: now,
+        };
     }
 
     /// Notes what an event shows of the daemon's own sockets.
@@ -112,24 +126,43 @@ impl Serving {
         self.sockets.show(event.token());
     }
 
-    /// Serves the connection that an event shows. One that was left was served after the events came, so nothing is lost
-    /// where it is passed over.
+    /// Serves the connection that an event shows, or leaves it for the last round.
     pub(crate) fn serve(&mut self, event: &Event) {
-        if let Shown::Connection(key) = Sockets::shown_by(event.token()) {
-            self.serve_link(key, event.is_read_closed());
+        let Shown::Connection(key) = Sockets::shown_by(event.token()) else {
+            return;
+        };
+        let Some(link) = self.links.get_mut(key) else {
+            return;
+        };
+        match link.round() {
+            Round::First => self.serve_link(key, event.is_read_closed()),
+            Round::Last => {
+                link.leave();
+                self.are_links_left = true;
+            }
         }
     }
 
-    /// Serves the connections that the last turn cut off, and those whose forwarded calls have ended.
+    /// The last round: serves connections that were left, by events of this turn or by the last turn, and those whose forwarded
+    /// calls have ended. Those that are too many for it are the first of the next turn's.
     pub(crate) fn serve_left(&mut self) {
         if !self.are_links_left {
             return;
         }
         self.are_links_left = false;
-        for key in 0..self.links.len() {
-            if self.links.get(key).is_some_and(|link| link.is_waiting()) {
-                self.serve_link(key, true);
+        let first = self.first_left;
+        let mut served = 0usize;
+        for key in (first..self.links.len()).chain(0..first) {
+            if !self.links.get(key).is_some_and(|link| link.is_waiting()) {
+                continue;
             }
+            if !serves_another(served) {
+                self.first_left = key;
+                self.are_links_left = true;
+                return;
+            }
+            self.serve_link(key, true);
+            served = served.saturating_add(1);
         }
     }
 
@@ -138,7 +171,11 @@ impl Serving {
         let Some(link) = self.links.get_mut(key) else {
             return;
         };
-        if link.is_free() || link.was_served_in(self.turn) {
+        if link.is_free() {
+            return;
+        }
+        if link.was_served_in(self.turn) {
+            self.are_links_left |= link.is_waiting();
             return;
         }
         match link.serve(
@@ -219,7 +256,7 @@ impl Serving {
         };
         let content = &self.datagram[..len];
         if self.engine.answer(peer, content, &calls.socket) {
-            self.awaited_until = self.moment.saturating_add(FORWARDED);
+            self.awaited_until = self.turn.moment.saturating_add(FORWARDED);
             self.sockets.calls.note(peer, i);
             self.engine.send_forward(&self.sockets.forwards.socket);
         }
@@ -278,15 +315,26 @@ impl Serving {
 
     /// Ends what is due.
     pub(crate) fn expire(&mut self) {
-        if !asks_for_deadlines(self.settled, self.moment) {
+        if !asks_for_deadlines(self.settled, self.turn.moment) {
             return;
         }
-        self.settled = Some(self.moment);
+        self.settled = Some(self.turn.moment);
+        self.close_stuck();
         for _ in 0..THINGS_DUE {
             match self.engine.expire(&self.sockets.calls) {
                 Due::Nothing => return,
                 Due::Done => {}
                 Due::Ready(id) => self.wake(id),
+            }
+        }
+    }
+
+    /// Closes the connections whose sockets take nothing of what waits for them.
+    fn close_stuck(&mut self) {
+        let now = self.turn.moment;
+        for key in 0..self.links.len() {
+            if self.links.get(key).is_some_and(|link| link.is_stuck(now)) {
+                self.close(key);
             }
         }
     }
@@ -308,12 +356,12 @@ impl Serving {
         self.links.len().saturating_sub(self.taken)
     }
 
-    /// Accepts connections on each listener, beginning with another one in each turn, as long as places are free.
+    /// Accepts connections on each listener, beginning with another one in each turn.
     pub(crate) fn accept_all(&mut self, registry: &Registry) -> Result<(), DaemonFault> {
         let free_at_first = self.free();
         let count = self.sockets.listeners.len();
         for i in 0..count {
-            let which = self.sockets.nth_listener(self.turn, i);
+            let which = self.sockets.nth_listener(self.turn.number, i);
             let is_ready = self
                 .sockets
                 .listeners
@@ -336,7 +384,7 @@ impl Serving {
         which: usize,
         free_at_first: usize,
     ) -> Result<Again, DaemonFault> {
-        for _ in 0..accepts(free_at_first, self.free()) {
+        for _ in 0..accepts(free_at_first, self.free(), self.links.len()) {
             let Some(listener) = self.sockets.listeners.get(which) else {
                 break;
             };
@@ -353,28 +401,52 @@ impl Serving {
         Ok(Again::AtOnce)
     }
 
-    /// Opens a connection. One that has no peer, or that the core or the table has no place for, is closed at once.
+    /// Opens a connection, in a free place or in that of one that is given up for it. One that has no peer, or that the core
+    /// does not take, is closed at once.
     fn open(&mut self, registry: &Registry, stream: Stream, from: Option<Peer>) {
         let Some(peer) = from else {
             return;
         };
+        let origin = origin_of(peer, self.announced);
+        let key = match self.admit(&origin) {
+            Admission::Take(key) => key,
+            Admission::GiveUp(key) => {
+                self.close(key);
+                key
+            }
+            Admission::Close => return,
+        };
         let Ok(id) = self.engine.open(peer) else {
             return;
         };
-        if !self.give_place(registry, id, stream) {
+        if !self.give_place(registry, key, id, stream, origin) {
             self.engine.closed(id);
         }
     }
 
+    /// What is done with a newcomer, as the connections stand now.
+    fn admit(&mut self, newcomer: &Origin) -> Admission {
+        for key in 0..self.links.len() {
+            if let (Some(holder), Some(link)) = (self.holders.get_mut(key), self.links.get(key)) {
+                *holder = link.holder();
+            }
+        }
+        admit(self.holders.as_slice(), newcomer, self.turn.moment)
+    }
+
     /// Gives a connection a place, under whose key its events are shown, and says whether it has it.
-    fn give_place(&mut self, registry: &Registry, id: u64, mut stream: Stream) -> bool {
-        let Some(key) = self.links.iter().position(|link| link.is_free()) else {
-            return false;
-        };
+    fn give_place(
+        &mut self,
+        registry: &Registry,
+        key: usize,
+        id: u64,
+        mut stream: Stream,
+        origin: Origin,
+    ) -> bool {
         let is_ready = stream.send_at_once().is_ok()
             && stream.register(registry, Token(key)).is_ok();
         match self.links.get_mut(key) {
-            Some(link) if is_ready => link.open(id, stream),
+            Some(link) if is_ready => link.open(id, stream, origin, self.turn.moment),
             Some(_) | None => return false,
         }
         self.taken = self.taken.saturating_add(1);

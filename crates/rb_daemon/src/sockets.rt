@@ -201,7 +201,7 @@ pub(crate) enum Shown {
 }
 
 /// More bytes than a turn needs of the stack.
-const STACK: usize = 32_768;
+const STACK: usize = 49_152;
 
 /// The sockets of the daemon itself.
 #[derive(Drop)]

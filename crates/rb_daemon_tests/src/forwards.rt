@@ -82,7 +82,7 @@ fn two_replies(rt: &HostRuntime) -> Option<Vec<u8>> {
 }
 
 /// An INDIRECT in a record of 56 bytes, and a NULL call in one of 40.
-const TWO_CALLS: [u32; 26] = [
+pub(crate) const TWO_CALLS: [u32; 26] = [
     0x8000_0038,
     15,
     0,

@@ -1,32 +1,10 @@
-//! Connections that are too many, and clients that go away.
+//! Clients that go away.
 use crate::client::Client;
-use crate::messages::{MARK_40, bytes_of, null_record, null_reply_record};
+use crate::messages::{MARK_40, bytes_of, null_record};
 use crate::records::answers_a_call;
 use crate::turns::{Host, Stopped};
 use std::alloc::Global;
 use std::test::Fail;
-
-/// Where two connections are open and no more may be, a third is closed at once, and the second is served.
-fn closes_one_too_many(rt: &HostRuntime, host: &mut Host<'_>) -> Option<bool> {
-    let call = null_record(rt.alloc(), 1).ok()?;
-    let reply = null_reply_record(rt.alloc(), 1).ok()?;
-    let _first = Client::new(rt)?;
-    let mut second = Client::new(rt)?;
-    host.turn();
-    let mut third = Client::new(rt)?;
-    third.receive(host, 1);
-    let is_sent = second.send(&call);
-    second.receive(host, 28);
-    Some(third.is_closed() && is_sent && second.got_just(&reply) && host.is_well())
-}
-
-#[test]
-fn one_connection_too_many(rt: HostRuntime) -> Result<(), Fail> {
-    let clock = Stopped::new(&rt);
-    let mut host = Host::new(&clock, 2).ok_or("no daemon")?;
-    assert_eq!(rt; closes_one_too_many(&rt, &mut host), Some(true));
-    Ok(())
-}
 
 /// A client sends the bytes, and goes away after a turn. It is out of the place of its connection after another.
 fn goes_away(rt: &HostRuntime, host: &mut Host<'_>, bytes: &[u8]) -> Option<bool> {

@@ -9,6 +9,8 @@ mod datagrams;
 #[cfg(test)]
 mod deadlines;
 #[cfg(test)]
+mod door;
+#[cfg(test)]
 mod ends;
 #[cfg(test)]
 mod forwards;

@@ -70,20 +70,21 @@ fn loopback6_serves(rt: HostRuntime) -> Result<(), Fail> {
     Ok(())
 }
 
-/// Each of three connections is on another listener. Where two may be open, the third is closed at once.
+/// Each of three connections is on another listener. Where two may be open, the first is given up for the third.
 fn shares_places(rt: &HostRuntime, host: &mut Host<'_>) -> Option<bool> {
     let mut first = Client::new(rt)?;
+    host.turn();
     let mut second = Client::local(rt)?;
     host.turn();
     let mut third = Client::at(rt, address6())?;
-    third.receive(host, 1);
+    first.receive(host, 1);
     let call = null_record(rt.alloc(), 1).ok()?;
     let reply = null_reply_record(rt.alloc(), 1).ok()?;
-    let is_sent = first.send(&call) && second.send(&call);
-    first.receive(host, 28);
+    let is_sent = second.send(&call) && third.send(&call);
     second.receive(host, 28);
-    let are_served = first.got_just(&reply) && second.got_just(&reply);
-    Some(third.is_closed() && is_sent && are_served && host.is_well())
+    third.receive(host, 28);
+    let are_served = second.got_just(&reply) && third.got_just(&reply);
+    Some(first.is_closed() && is_sent && are_served && host.is_well())
 }
 
 #[test]

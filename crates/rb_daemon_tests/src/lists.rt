@@ -13,7 +13,7 @@ fn set_call(xid: u32, prog: u32) -> [u32; 14] {
 }
 
 /// So many programs are set, from 300000 on.
-fn sets_rows(rt: &HostRuntime, host: &mut Host<'_>, count: u32) -> Option<bool> {
+pub(crate) fn sets_rows(rt: &HostRuntime, host: &mut Host<'_>, count: u32) -> Option<bool> {
     let mut caller = Caller::new(rt, 0)?;
     for i in 0..count {
         let set = set_call(i, 300_000u32.wrapping_add(i));
@@ -58,8 +58,8 @@ fn list_of_full_fragments(rt: HostRuntime) -> Result<(), Fail> {
     Ok(())
 }
 
-/// A turn writes at most so many bytes to one connection: enough, 64 times 9,252, and what the last write is more.
-const MOST_OF_A_TURN: usize = 592_128 + 65_792;
+/// A turn writes at most so many bytes to one connection: enough, 65,536, and what the last write is more.
+const MOST_OF_A_TURN: usize = 65_536 + 65_792;
 
 /// All 300 rows are there, so a list has more than 10,000 bytes, and a client asks for 400. It is left when it has got enough for a
 /// turn, and is served on in the next.

@@ -1,1 +1,3 @@
 mod Asks
+mod Doors
+mod Standings

@@ -5,3 +5,5 @@ pub mod Moments
 pub mod LocalFile
 pub mod Addresses
 pub mod Asked
+pub mod Door
+pub mod Standings

@@ -1,8 +1,12 @@
 -- What is done in a turn, and what is left for the next.
-use Rattle.std.specs.Prelude.{ℕ, ◌^◌, ◌-◌, min, Option, Some, None, Bool, true, false, not, ◌||◌, ◌==◌, if◌then◌else◌}
+use Rattle.std.specs.Prelude.{ℕ, ◌^◌, ◌-◌, ◌/◌, min, max, nat_lt, nat_le, Option, Some, None, Bool, true, false, not, ◌||◌, ◌==◌, if◌then◌else◌}
 use Rattle.rb_policy.specs.declared.turns.Again.{Again}
 use Rattle.rb_policy.specs.declared.turns.Again.TheVariants.{AtOnce, AfterWait}
-use Rattle.rb_policy.specs.declared.turns.TheConstants.{SOCKET_CALLS}
+use Rattle.rb_policy.specs.declared.turns.TheConstants.{SOCKET_CALLS, STEP, LAST_ROUND}
+use Rattle.rb_policy.specs.declared.turns.Round.{Round}
+use Rattle.rb_policy.specs.declared.turns.Round.TheVariants.{First, Last}
+use Rattle.rb_policy.specs.declared.door.Phase.{Phase}
+use Rattle.rb_policy.specs.declared.door.Phase.TheVariants.{Idle, Reading, Owing, Awaiting}
 
 -- when a socket is received from again on which all receives of a turn were made, where some of them got a datagram
 abbrev pub after_all_receives : Bool → Again
@@ -19,6 +23,23 @@ abbrev pub asks_for_deadlines : Option ℕ → ℕ → Bool
 asks_for_deadlines None now = true
 asks_for_deadlines (Some settled) now = not (settled == now) || now == 2 ^ 64 - 1
 
--- how many connections a listener may accept, where so many places were free as accepting began, and so many still are
-abbrev pub accepts : ℕ → ℕ → ℕ
-accepts first free = if first == 0 then SOCKET_CALLS else min free SOCKET_CALLS
+-- How many connections a listener may accept, where so many places were free as accepting began, so many still are, and
+-- there are so many in all. Where none was free, half of the places may change hands.
+abbrev pub accepts : ℕ → ℕ → ℕ → ℕ
+accepts first free all = if first == 0 then min (max (all / 2) 1) SOCKET_CALLS else min free SOCKET_CALLS
+
+-- whether a connection is left for the next turn, for which so many socket calls were made, and so many bytes written
+abbrev pub is_cut_off : ℕ → ℕ → Bool
+is_cut_off calls written = nat_le SOCKET_CALLS calls || nat_le STEP written
+
+-- in which round a connection is served that was left by the last turn or was not, and is in a phase
+abbrev pub round_of : Bool → Phase → Round
+round_of true phase = Last
+round_of false Idle = First
+round_of false Reading = First
+round_of false Owing = Last
+round_of false Awaiting = First
+
+-- whether one more is served in the last round
+abbrev pub serves_another : ℕ → Bool
+serves_another served = nat_lt served LAST_ROUND

@@ -3,6 +3,7 @@
 
 mod addresses;
 mod asked;
+mod door;
 mod local_file;
 mod moments;
 mod outcome;
@@ -11,6 +12,9 @@ mod turns;
 
 pub use addresses::{announced, is_no_address};
 pub use asked::{Ask, Asked};
+pub use door::{
+    ACTIVE, Admission, Holder, OWED, Origin, Phase, admit, is_stuck, origin_of, phase_of,
+};
 pub use local_file::{FileAction, FileState, file_action};
 pub use moments::Moments;
 pub use outcome::{
@@ -19,5 +23,6 @@ pub use outcome::{
 };
 pub use peers::{inet_peer, local_peer, loopback6_peer};
 pub use turns::{
-    Again, SOCKET_CALLS, accepts, after_all_receives, asks_for_deadlines, reads_on, wait_of,
+    Again, LAST_ROUND, Round, SOCKET_CALLS, STEP, accepts, after_all_receives, asks_for_deadlines,
+    is_cut_off, reads_on, round_of, serves_another, wait_of,
 };

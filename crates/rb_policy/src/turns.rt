@@ -1,9 +1,17 @@
 //! What is done in a turn, and what is left for the next.
 ghost use Rattle.std.specs.Prelude.{◌≡◌, ◌||◌, ◌==◌};
-ghost use Rattle.rb_policy.specs.Turns.{after_all_receives, wait_of, asks_for_deadlines, accepts};
+ghost use Rattle.rb_policy.specs.Turns.{after_all_receives, wait_of, asks_for_deadlines, accepts, is_cut_off, round_of, serves_another};
+
+use crate::door::Phase;
 
 /// The most socket calls for one socket in a turn.
 pub const SOCKET_CALLS: usize = 64;
+
+/// So many bytes that were written to a connection are enough for a turn.
+pub const STEP: usize = 65_536;
+
+/// So many connections are served in the last round of a turn.
+pub const LAST_ROUND: usize = 8;
 
 /// When a socket is served again.
 #[derive(Clone, Copy, Debug, PartialEq, Eq)]
@@ -54,15 +62,51 @@ pub fn asks_for_deadlines(settled: Option<u64>, now: u64) -> bool
     }
 }
 
-/// How many connections a listener may accept now: as many as places are free, of those that were free as the turn's
-/// accepting began, since the next turn may first free some that were just taken. Where none was, what waits is
-/// accepted to be closed at once. At most as many as socket calls of a turn.
-pub fn accepts(free_at_first: usize, free: usize) -> usize
-    ensures { result ≡ accepts free_at_first free }
+/// How many connections a listener may accept now. As many as places are free, of those that were free as the turn's
+/// accepting began: the next turn may first free some that were just taken. Where none was free, half of all places, and
+/// at least one: so who takes one is served before others of this kind push it out. At most as many as socket calls of a turn.
+pub fn accepts(free_at_first: usize, free: usize, all: usize) -> usize
+    ensures { result ≡ accepts free_at_first free all }
 {
-    if free_at_first == 0 {
-        SOCKET_CALLS
+    let most = if free_at_first == 0 {
+        (all / 2).max(1)
     } else {
-        free.min(SOCKET_CALLS)
+        free
+    };
+    most.min(SOCKET_CALLS)
+}
+
+/// Whether a connection is left for the next turn, after so many socket calls for it in this one, and so many bytes that
+/// were written.
+pub fn is_cut_off(calls: usize, written: usize) -> bool
+    ensures { result ≡ is_cut_off calls written }
+{
+    calls >= SOCKET_CALLS || written >= STEP
+}
+
+/// When in a turn a connection is served.
+#[derive(Clone, Copy, Debug, PartialEq, Eq)]
+pub enum Round {
+    /// When its event is looked at.
+    First,
+    /// Behind all of those.
+    Last,
+}
+
+/// The round of a connection that the last turn left, or did not, and that is in a phase: who is owed bytes, as of a list,
+/// comes behind who has a call.
+pub fn round_of(is_left: bool, phase: Phase) -> Round
+    ensures { result ≡ round_of is_left phase }
+{
+    match (is_left, phase) {
+        (false, Phase::Idle | Phase::Reading | Phase::Awaiting) => Round::First,
+        (false, Phase::Owing) | (true, _) => Round::Last,
     }
+}
+
+/// Whether one more connection is served in the last round of a turn, in which so many were.
+pub fn serves_another(served: usize) -> bool
+    ensures { result ≡ serves_another served }
+{
+    served < LAST_ROUND
 }

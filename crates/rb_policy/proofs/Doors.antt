@@ -1,0 +1,47 @@
+-- Somebody may be given up for each newcomer.
+use Rattle.std.proofs.Common.{◌≡◌, ◌<◌, ◌≤◌, ◌+◌, ℕ, zero, suc, Bool, true, false, cond, List, [], ◌∷◌, length, max, nat_lt, ◌||◌, Option, Some, None, slice_get, arith, refl, sym, ap, ◌∙◌, subst}
+use Rattle.std.specs.Prelude.{count_by, position, bytes_eq}
+use Rattle.std.proofs.lemmas.Bool.Decides.{nat_tests}
+use Rattle.std.proofs.lemmas.List.Sums.{sum_by-cons}
+use Rattle.rb_policy.specs.declared.door.Origin.{Origin}
+use Rattle.rb_policy.specs.declared.door.Holder.{Holder}
+use Rattle.rb_policy.specs.Door.{Places, is_free, is_held_by, held_by, share, may_hold_more, MayBeGivenUp}
+use Rattle.rb_policy.specs.Standings.{NobodyMayBeGivenUp}
+
+some_counted : {X : Type 0} (p : X → Bool) (xs : List X) → 0 < count_by p xs → (k : ℕ) × (x : X) × (slice_get xs k ≡ Some x) × (p x ≡ true)
+some_counted p [] some = absurd (omega (arith, some))
+some_counted {X} p (x ∷ xs) some = at (p x) refl (λ more. some_counted p xs more)
+  where
+    at : (b : Bool) → p x ≡ b → (0 < count_by p xs → (k : ℕ) × (y : X) × (slice_get xs k ≡ Some y) × (p y ≡ true)) → (k : ℕ) × (y : X) × (slice_get (x ∷ xs) k ≡ Some y) × (p y ≡ true)
+    at true e further = (0, x, refl, e)
+    at false e further =
+        let some_more : 0 < 0 + count_by p xs =
+        subst (λ b. 0 < cond b 1 0 + count_by p xs) e
+        (subst (λ n. 0 < n) (sum_by-cons (λ y. cond (p y) 1 0) x xs) some) in
+        let found = further (omega (arith, some_more)) in
+        (suc found.0, found.1, found.2, found.3)
+
+at_share : (local : Bool) (held all : ℕ) → (local || nat_lt held (share all)) ≡ false → 0 < held
+at_share local held all e = grind (arith, nat_tests, e)
+
+own : (places : Places) (newcomer : Origin) → may_hold_more places newcomer ≡ false → ¬ NobodyMayBeGivenUp places newcomer
+own places newcomer full nobody =
+    let some = at_share newcomer.is_local (held_by places newcomer.host) (length places) full in
+    let found = some_counted (is_held_by newcomer.host) places some in
+    of found.0 found.1 found.2 found.3
+  where
+    of : (k : ℕ) (held : Option Holder) → slice_get places k ≡ Some held → is_held_by newcomer.host held ≡ true → ⊥
+    of k None at e = grind (arith, e)
+    of k (Some holder) at e = nobody k holder (record { holds = at; may = grind (arith, e) })
+
+any : (place : Option Holder) (rest : Places) (newcomer : Origin) → position is_free (place ∷ rest) ≡ None → may_hold_more (place ∷ rest) newcomer ≡ true → ¬ NobodyMayBeGivenUp (place ∷ rest) newcomer
+any None rest newcomer taken more nobody = grind (arith, nat_tests, taken)
+any (Some holder) rest newcomer taken more nobody = nobody 0 holder (record { holds = refl; may = grind (arith, more) })
+
+pub never_shut : (places : Places) (newcomer : Origin) → position is_free places ≡ None → NobodyMayBeGivenUp places newcomer → places ≡ []
+never_shut [] newcomer taken nobody = refl
+never_shut (place ∷ rest) newcomer taken nobody = at (may_hold_more (place ∷ rest) newcomer) refl
+  where
+    at : (more : Bool) → may_hold_more (place ∷ rest) newcomer ≡ more → place ∷ rest ≡ []
+    at true e = absurd (any place rest newcomer taken e nobody)
+    at false e = absurd (own (place ∷ rest) newcomer e nobody)

@@ -1,0 +1,23 @@
+use Rattle.std.proofs.Common.{◌∙◌, ap, sym, subst, length, ◌+◌}
+use Rattle.rb_policy.specs.Standings.{candidate, IsFirstOf, sooner}
+use Rattle.rb_policy.proofs.Standings.{step, at_end, nobody, somebody}
+use Rattle.rb_policy.proofs.door.given_up.Goals as goal
+
+pub loop-place-preserved : goal.loop-place-preserved
+loop-place-preserved c =
+    let f = candidate c.args.places.now c.args.newcomer.now c.args.now in (
+      c.loop-place.invariant.0,
+      subst (IsFirstOf f (c.loop-place.place + 1))
+          (ap (sooner c.loop-place.first) (sym c.candidate-other.ensures) ∙ sym c.sooner-first.ensures)
+          (step f c.loop-place.place c.loop-place.first c.loop-place.invariant.1),
+    )
+
+pub returns-in-Some : goal.returns-in-Some
+returns-in-Some c =
+    somebody c.args.places.now c.args.newcomer.now c.args.now c.in-Some.standing
+    (at_end _ _ _ _ _ c.loop-place-test.false c.loop-place.auto.place-end c.in-Some.is c.loop-place.invariant.1)
+
+pub returns-in-None : goal.returns-in-None
+returns-in-None c =
+    nobody c.args.places.now c.args.newcomer.now c.args.now
+    (at_end _ _ _ _ _ c.loop-place-test.false c.loop-place.auto.place-end c.in-None.is c.loop-place.invariant.1)

@@ -1,0 +1,251 @@
+//! Who gets a place for a connection, and who is given up for it where all are taken.
+ghost use Rattle.std.specs.Prelude.{◌≡◌, ◌<◌, length, position, MatchOption};
+ghost use Rattle.rb_policy.specs.Door.{is_free, held_by, is_held_by, share, may_hold_more, is_within_share, IsGivenUp, IsAdmitted, origin_of, phase_of, is_stuck};
+ghost use Rattle.rb_policy.specs.Standings.{candidate, sooner, NobodyMayBeGivenUp};
+
+use rb_rpc::Peer;
+
+/// For so many milliseconds after its last progress a connection is active.
+pub const ACTIVE: u64 = 1_000;
+
+/// Bytes that are owed may wait so many milliseconds for the socket to take some.
+pub const OWED: u64 = 30_000;
+
+/// What a connection that holds a place is about. An earlier phase is given up before a later one.
+#[derive(Clone, Copy, Debug, PartialEq, Eq)]
+pub enum Phase {
+    /// It is between two calls.
+    Idle,
+    /// Its first call, or the rest of a call, is yet to come.
+    Reading,
+    /// Its socket has not yet taken all of its replies.
+    Owing,
+    /// Its call is forwarded, and has not ended.
+    Awaiting,
+}
+
+impl Phase {
+    ghost use Rattle.std.specs.Prelude.{◌≡◌};
+    ghost use Rattle.rb_policy.specs.Door.{rank};
+
+    fn rank(self) -> u8
+        ensures { result ≡ rank self }
+    {
+        match self {
+            Phase::Idle => 0,
+            Phase::Reading => 1,
+            Phase::Owing => 2,
+            Phase::Awaiting => 3,
+        }
+    }
+}
+
+/// The phase of a connection: whether its call is forwarded and has not ended, whether it is owed bytes, and whether its
+/// first call or the rest of a call is yet to come.
+pub fn phase_of(is_awaiting: bool, is_owed: bool, is_reading: bool) -> Phase
+    ensures { result ≡ phase_of is_awaiting is_owed is_reading }
+{
+    match (is_awaiting, is_owed, is_reading) {
+        (true, _, _) => Phase::Awaiting,
+        (false, true, _) => Phase::Owing,
+        (false, false, true) => Phase::Reading,
+        (false, false, false) => Phase::Idle,
+    }
+}
+
+/// Where a connection came from.
+#[derive(Clone, Copy, Debug, PartialEq, Eq)]
+pub struct Origin {
+    /// The peer's IPv4 address.
+    pub host: [u8; 4],
+    /// Whether that is of this host.
+    pub is_local: bool,
+}
+
+/// Where a connection came from, by its peer and the host that is announced: of this host are 127.0.0.0/8 and that.
+pub fn origin_of(peer: Peer, announced: [u8; 4]) -> Origin
+    ensures { result ≡ origin_of peer announced }
+{
+    Origin {
+        host: peer.host,
+        is_local: peer.host[0] == 127 || peer.host == announced,
+    }
+}
+
+/// What is kept of the connection that holds a place.
+#[derive(Clone, Copy, Debug, PartialEq, Eq)]
+pub struct Holder {
+    pub origin: Origin,
+    pub phase: Phase,
+    /// The moment of its last progress, or of its opening, in milliseconds. A whole record is progress, and so are bytes
+    /// of a reply that the socket takes.
+    pub since: u64,
+}
+
+/// Whether a connection is given up whose socket has taken none of the bytes that it is owed since a moment, in
+/// milliseconds.
+pub fn is_stuck(since: u64, now: u64) -> bool
+    ensures { result ≡ is_stuck since now }
+{
+    now.saturating_sub(since) >= OWED
+}
+
+/// What is done with a newcomer.
+#[derive(Clone, Copy, Debug, PartialEq, Eq)]
+pub enum Admission {
+    /// It takes the place of this number, which is free.
+    Take(usize),
+    /// It takes the place of this number, and the connection there is given up for it.
+    GiveUp(usize),
+    /// It is closed, since there are no places.
+    Close,
+}
+
+/// How a connection stands among those that may be given up.
+#[derive(Clone, Copy, Debug, PartialEq, Eq)]
+struct Standing {
+    is_within_share: bool,
+    is_local: bool,
+    is_active: bool,
+    phase: Phase,
+    since: u64,
+    place: usize,
+}
+
+/// What is done with a newcomer at this moment, in milliseconds.
+pub fn admit(places: &[Option<Holder>], newcomer: &Origin, now: u64) -> Admission
+    ensures { IsAdmitted places.now newcomer.now now result }
+{
+    match first_free(places) {
+        Some(free) => Admission::Take(free),
+        None => match given_up(places, newcomer, now) {
+            Some(place) => Admission::GiveUp(place),
+            None => Admission::Close,
+        },
+    }
+}
+
+fn first_free(places: &[Option<Holder>]) -> Option<usize>
+    ensures { result ≡ position is_free places.now }
+{
+    places.iter().position(|place| is_free(place))
+}
+
+fn is_free(place: &Option<Holder>) -> bool
+    ensures { result ≡ is_free place.now }
+{
+    place.is_none()
+}
+
+/// The place of the connection that is given up for a newcomer, if one may be.
+fn given_up(places: &[Option<Holder>], newcomer: &Origin, now: u64) -> Option<usize>
+    ensures { MatchOption result
+        (NobodyMayBeGivenUp places.now newcomer.now)
+        (λ place. IsGivenUp places.now newcomer.now now place) }
+{
+    let may_be_any = may_hold_more(places, newcomer);
+    let mut first = None;
+    for place in 0..places.len() {
+        let other = candidate(places, newcomer, may_be_any, now, place);
+        first = sooner(first, other);
+    }
+    match first {
+        Some(standing) => Some(standing.place),
+        None => None,
+    }
+}
+
+/// How the connection at a place stands, if there is one that may be given up for the newcomer.
+fn candidate(
+    places: &[Option<Holder>],
+    newcomer: &Origin,
+    may_be_any: bool,
+    now: u64,
+    place: usize,
+) -> Option<Standing>
+    requires inside { place < length places.now }
+    requires any { may_be_any ≡ may_hold_more places.now newcomer.now }
+    ensures { result ≡ candidate places.now newcomer.now now place }
+{
+    match &places[place] {
+        Some(holder) if may_be_any || holder.origin.host == newcomer.host => Some(Standing {
+            is_within_share: is_within_share(places, &holder.origin),
+            is_local: holder.origin.is_local,
+            is_active: now.saturating_sub(holder.since) < ACTIVE,
+            phase: holder.phase,
+            since: holder.since,
+            place,
+        }),
+        Some(_) | None => None,
+    }
+}
+
+impl Standing {
+    ghost use Rattle.std.specs.Prelude.{◌≡◌};
+    ghost use Rattle.std.specs.Ordering.{is_lt};
+    ghost use Rattle.rb_policy.specs.Door.{by_standing};
+
+    /// Whether it is given up before the other one.
+    fn goes_before(&self, other: &Standing) -> bool
+        ensures { result ≡ is_lt (by_standing self.now other.now) }
+    {
+        self.is_within_share
+            .cmp(&other.is_within_share)
+            .then(self.is_local.cmp(&other.is_local))
+            .then(self.is_active.cmp(&other.is_active))
+            .then(self.phase.rank().cmp(&other.phase.rank()))
+            .then(self.since.cmp(&other.since))
+            .then(self.place.cmp(&other.place))
+            .is_lt()
+    }
+}
+
+/// The one of two that goes first, if there is one.
+fn sooner(a: Option<Standing>, b: Option<Standing>) -> Option<Standing>
+    ensures { result ≡ sooner a b }
+{
+    let Some(first) = a else {
+        return b;
+    };
+    match b {
+        Some(other) if other.goes_before(&first) => b,
+        Some(_) | None => a,
+    }
+}
+
+fn may_hold_more(places: &[Option<Holder>], peer: &Origin) -> bool
+    ensures { result ≡ may_hold_more places.now peer.now }
+{
+    peer.is_local || held_by(places, &peer.host) < share(places.len())
+}
+
+fn is_within_share(places: &[Option<Holder>], peer: &Origin) -> bool
+    ensures { result ≡ is_within_share places.now peer.now }
+{
+    peer.is_local || held_by(places, &peer.host) <= share(places.len())
+}
+
+/// So many places one host may hold while others want some.
+fn share(places: usize) -> usize
+    ensures { result ≡ share places }
+{
+    (places / 2).max(1)
+}
+
+fn held_by(places: &[Option<Holder>], host: &[u8; 4]) -> usize
+    ensures { result ≡ held_by places.now host.now }
+{
+    places
+        .iter()
+        .filter(|place| is_held_by(place, host))
+        .count()
+}
+
+fn is_held_by(place: &Option<Holder>, host: &[u8; 4]) -> bool
+    ensures { result ≡ is_held_by host.now place.now }
+{
+    match place {
+        Some(holder) => holder.origin.host == *host,
+        None => false,
+    }
+}
