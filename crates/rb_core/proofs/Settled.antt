@@ -1,32 +1,33 @@
 -- Connections that are Idle since a moment, and records that come whole on them.
-use Rattle.std.proofs.Common.{◌≡◌, ℕ, ◌+◌, Bool, true, false, not, ◌&&◌, ◌||◌, eqb, List, [], ◌∷◌, length, Option, Some, None, refl, sym, ap, ◌∙◌}
-use Rattle.std.specs.Prelude.{IfSome, IfNone, option_map}
+use Rattle.std.proofs.Common.{◌≡◌, ℕ, ◌+◌, Bool, true, false, not, ◌&&◌, ◌||◌, eqb, List, [], ◌∷◌, length, Some, None, refl, sym, ap, subst, ◌∙◌}
+use Rattle.std.specs.Prelude.{All, option_map, Ok}
 use Rattle.std.specs.List.{AllZip, list_any}
 use Rattle.std.specs.Map.{values_of}
 use Rattle.std.proofs.lemmas.Bool.{and_parts, eqb-true, eq-eqb}
-use Rattle.rb_xdr.specs.Pool.{value_at, with_value, HasDistinctKeys}
-use Rattle.rb_xdr.proofs.PoolLemmas.{with_value-same}
-use Rattle.rb_rpc.specs.declared.peer.Peer.{Peer}
+use Rattle.rb_xdr.specs.Pool.{Pool, value_at, with_value, HasDistinctKeys}
+use Rattle.rb_xdr.proofs.PoolLemmas.{All-value_at, with_value-same}
 use Rattle.rb_rpc.specs.Records.{BeginsWithRecord, first_record}
 use Rattle.rb_core.specs.declared.slot.Slot.{Slot}
+use Rattle.rb_core.specs.declared.slot.Buffers.{Buffers}
 use Rattle.rb_core.specs.declared.slot.Stage.{Stage}
 use Rattle.rb_core.specs.declared.slot.Stage.TheVariants as stages
 use Rattle.rb_core.specs.declared.slot.Wanted.TheVariants as wanted
 use Rattle.rb_model.specs.State.{Phase, Connection, Connections}
 use Rattle.rb_model.specs.State.Phase.{Idle}
 use Rattle.rb_model.specs.Calls.Outcome.{Silent}
-use Rattle.rb_model.specs.Connections.{taking, fed_in, is_lost, is_live, settled, change_first, changed_at}
+use Rattle.rb_model.specs.Connections.{taking, fed_in, is_lost, is_live, settled, change_first, changed_at, on_live}
 use Rattle.rb_model.specs.Connections.Taking.{Ends}
-use Rattle.rb_core.specs.StandsFor.{Source, Table, StandsForConnection, StandsForConnections}
+use Rattle.rb_core.specs.StandsFor.{IsWithin, Source, Table, StandsForConnection, StandsForConnections}
 use Rattle.rb_model.specs.Calls.{kept_of}
-use Rattle.rb_core.specs.Slots.{Acts, Shows, AreNumbered, HearsWhole, feeding, arguments_heard, heard_whole, is_idle_stage, is_wanted_slot, wanted_slot}
-use Rattle.rb_core.specs.Awaits.{is_unsettled_slot, IsSettled, HeardFrom}
+use Rattle.rb_core.specs.Slots.{Acts, Shows, AreNumbered, HasBuffers, IsTable, feeding, arguments_heard, arguments_on, heard_whole, is_idle_stage, is_wanted_slot, wanted_slot}
+use Rattle.rb_core.specs.Awaits.{GoOn, is_awaiting_stage, is_unsettled_slot, IsSettled, HeardFrom}
 use Rattle.rb_core.specs.StandsFor.{stamp_in}
-use Rattle.rb_core.specs.Listings.{began_early, evicted_slot}
+use Rattle.rb_core.specs.Listings.{IsToldSlot, began_early, evicted_slot}
 use Rattle.rb_core.proofs.Evicting.{all_evicted}
 use Rattle.rb_core.proofs.Freed.{heard_on}
 use Rattle.rb_core.proofs.ByHint.{distinct_numbers, first_by_hint}
-use Rattle.rb_core.proofs.Slots.{live_acts, live_arguments}
+use Rattle.rb_core.proofs.Slots.{live_acts, live_arguments, table_changed}
+use Rattle.rb_core.proofs.GoingOn.{goes_on_changed}
 use Rattle.rb_core.proofs.OneSlot.{idle_phase, feeding_acts, some_where_fed, taken_whole, taken_arguments}
 
 either-false : (a b : Bool) → (a || b) ≡ false → (a ≡ false) × (b ≡ false)
@@ -122,40 +123,49 @@ module _ (source : Source) (slot : Slot) (piece content : List ℕ) (idle : slot
   pub keeps_whole : (before : List ℕ) → Shows (StandsForConnection source) (arguments_heard before piece) slot (kept_of content)
   keeps_whole before c h = taken_arguments before (kept_of content) piece c (Ends (4 + length content) content) (takes_whole c h) refl
 
--- The slot is that of the connection of the number, and its mark is another after it.
+-- The mark of a slot is another after it, and nothing else.
+module _ (k : ℕ) (table : Table) (old new : Slot) (there : value_at table.slots k ≡ Some old) (kept : new ≡ record old { mark = new.mark }) where
+  pub marked_within : All IsWithin (values_of table.slots) → IsWithin new
+  marked_within within = subst IsWithin (sym kept) (All-value_at IsWithin table.slots k old within there)
+
+  pub marked_goes_on : (now : Table) → table ≡ now → All IsWithin (values_of table.slots) → GoOn now (record table { slots = with_value table.slots k new })
+  marked_goes_on now is within =
+      goes_on_changed table now is k old new there (λ source told. subst (λ (s : Slot). IsToldSlot source s) (sym kept) told)
+      (ap (λ (s : Slot). s.number) kept) (ap (λ (s : Slot). is_awaiting_stage s.stage) kept) (marked_within within)
+
+  pub unmarked : new ≡ old → record table { slots = with_value table.slots k new } ≡ table
+  unmarked is = rw is (ap (λ (es : List (ℕ × Slot)). record table { slots = es }) (with_value-same table.slots k old there))
+
+pub marked_table : (slots : Pool Slot) (spare : Pool Buffers) (given conns held : ℕ) → IsTable slots spare given conns held → (k : ℕ) (old new : Slot) → value_at slots.entries k ≡ Some old
+    → new ≡ record old { mark = new.mark } → IsTable (record slots { entries = with_value slots.entries k new }) spare given conns held
+marked_table slots spare given conns held t k old new there kept =
+    table_changed slots spare given conns held k old new t there (ap (λ (s : Slot). s.number) kept)
+    (subst (λ (s : Slot). HasBuffers slots.tie s) (sym kept) (All-value_at (HasBuffers slots.tie) slots.entries k old t.buffers there))
+    held (rw kept refl) (subst IsWithin (sym kept) (All-value_at IsWithin slots.entries k old t.within there))
+
+-- It is that of the connection of the number, which was Idle and has this mark.
 module _ (id clock k : ℕ) (table : Table) (old new : Slot) (distinct : HasDistinctKeys table.slots) (numbers : AreNumbered table.given (values_of table.slots)) (there : value_at table.slots k ≡ Some old)
-    (kept : new ≡ record old { mark = new.mark }) where
+    (kept : new ≡ record old { mark = new.mark }) (number : old.number ≡ id) (idle : old.stage ≡ stages.Idle) (mark : new.mark ≡ clock) where
   abbrev with_new : Table
   with_new = record table { slots = with_value table.slots k new }
 
-  found : old.number ≡ id → old.stage ≡ stages.Idle → option_map (λ e. e.0) (wanted_slot (wanted.Live id) table.slots) ≡ Some k
+  found : option_map (λ e. e.0) (wanted_slot (wanted.Live id) table.slots) ≡ Some k
   unfolding wanted_slot is_wanted_slot
-  found number idle =
-      first_by_hint (wanted.Live id) table.slots k old (distinct_numbers table.given (values_of table.slots) numbers) there refl (rw (eq-eqb old.number id number, idle) refl)
+  found = first_by_hint (wanted.Live id) table.slots k old (distinct_numbers table.given (values_of table.slots) numbers) there refl (rw (eq-eqb old.number id number, idle) refl)
 
-  hears : old.number ≡ id → old.stage ≡ stages.Idle → new ≡ record old { mark = clock } → HearsWhole id clock old.peer table with_new
-  hears number idle is = rw is (record {
-    acts = λ piece content begins source.
-        live_acts source id (feeding clock piece) table k old (record old { mark = clock }) (heard_whole old.peer content) distinct (found number idle) there (hears_whole source old piece content idle begins clock);
-    arguments = λ before piece content begins source.
-        live_arguments source id before piece table k old (kept_of content) distinct (found number idle) there (keeps_whole source old piece content idle begins before);
-  })
+  is_marked : new ≡ record old { mark = clock }
+  is_marked = kept ∙ ap (λ (m : ℕ). record old { mark = m }) mark
 
-  marked : new.mark ≡ clock → new ≡ record old { mark = clock }
-  marked mark = kept ∙ ap (λ (m : ℕ). record old { mark = m }) mark
+  pub takes_whole_on : (source : Source) (piece content : List ℕ) → BeginsWithRecord content piece
+      → Acts (StandsForConnections source) (on_live id (feeding clock piece)) table with_new (Ok (heard_whole old.peer content))
+  takes_whole_on source piece content begins =
+      rw is_marked (live_acts source id (feeding clock piece) table k old (record old { mark = clock }) (heard_whole old.peer content) distinct found there (hears_whole source old piece content idle begins clock))
 
-  pub hears_if : (peer : Option Peer) → IfSome peer (λ p. old.number ≡ id) → IfSome peer (λ p. old.stage ≡ stages.Idle) → IfSome peer (λ p. new.mark ≡ clock) → IfSome peer (λ p. p ≡ old.peer)
-      → IfSome peer (λ p. HearsWhole id clock p table with_new)
-  hears_if None number idle mark from = tt
-  hears_if (Some p) number idle mark from = rw from (hears number idle (marked mark))
+  pub keeps_whole_on : (source : Source) (before piece content : List ℕ) → BeginsWithRecord content piece → Shows (StandsForConnections source) (arguments_on id before piece) table (kept_of content)
+  keeps_whole_on source before piece content begins =
+      live_arguments source id before piece table k old (kept_of content) distinct found there (keeps_whole source old piece content idle begins before)
 
-  pub heard_if : (peer : Option Peer) → IfSome peer (λ p. old.number ≡ id) → IfSome peer (λ p. old.stage ≡ stages.Idle) → IfSome peer (λ p. new.mark ≡ clock) → IfSome peer (λ p. HeardFrom id clock table with_new)
-  heard_if None number idle mark = tt
-  heard_if (Some p) number idle mark =
-      let same = ap (λ (s : Slot). s.number) kept in
+  pub heard_whole_on : HeardFrom id clock table with_new
+  heard_whole_on =
       let still : is_idle_stage new.stage ≡ true = ap (λ (s : Slot). is_idle_stage s.stage) kept ∙ ap is_idle_stage idle in
-      heard_on table id clock k old new numbers there number same (record { awaited_none = rw idle refl; is_idle = still; mark = mark })
-
-  pub stays_if : (peer : Option Peer) → IfNone peer (new ≡ old) → IfNone peer (with_new ≡ table)
-  stays_if None is = rw is (ap (λ (es : List (ℕ × Slot)). record table { slots = es }) (with_value-same table.slots k old there))
-  stays_if (Some p) is = tt
+      heard_on table id clock k old new numbers there number (ap (λ (s : Slot). s.number) kept) (record { awaited_none = rw idle refl; is_idle = still; mark = mark })

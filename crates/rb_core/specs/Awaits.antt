@@ -1,5 +1,5 @@
 -- Which connections could begin a forwarded call: those that are not open yet, and those that await none.
-use Rattle.std.specs.Prelude.{◌≡◌, ⊤, ℕ, ◌==◌, nat_lt, Bool, true, false, not, ◌&&◌, ◌||◌, if◌then◌else◌, Option, Some, None, IfSome, Result, IfOk}
+use Rattle.std.specs.Prelude.{◌≡◌, ⊤, ℕ, ◌==◌, nat_lt, Bool, true, false, not, ◌&&◌, ◌||◌, if◌then◌else◌, length, Option, Some, None, IfSome, Result, IfOk}
 use Rattle.std.specs.List.{list_any}
 use Rattle.std.specs.Map.{values_of}
 use Rattle.rb_rpc.specs.declared.peer.Peer.{Peer}
@@ -16,7 +16,8 @@ use Rattle.rb_model.specs.declared.types.CoreFault.{CoreFault}
 use Rattle.rb_core.specs.declared.types.Outcome.{Outcome}
 use Rattle.rb_core.specs.declared.types.Outcome.TheVariants as outcomes
 use Rattle.rb_core.specs.StandsFor.{Table}
-use Rattle.rb_core.specs.Slots.{is_idle_stage}
+use Rattle.rb_core.specs.Slots.{is_idle_stage, StaysTable}
+use Rattle.rb_core.specs.Listings.{KeepsTold}
 
 abbrev pub is_awaiting_stage : Stage → Bool
 is_awaiting_stage stages.Awaiting = true
@@ -67,6 +68,20 @@ KeepsAwaited old before new after = AreAwaited old.forwards before → AreAwaite
 -- no connection is free that was not so before
 abbrev pub NoneIsFreed : Table → Table → Type 0
 NoneIsFreed old new = (id : ℕ) → is_free id old ≡ false → is_free id new ≡ false
+
+-- Connections go on: the list that is given on each can still be told, and none is freed of its forwarded call.
+pub record GoOn (old new : Table) : Type 0 where
+  pub told : KeepsTold old new
+  pub free : NoneIsFreed old new
+  pub stays : StaysTable old new
+
+-- What stays of connections while those are closed whose lists are in the way of a row.
+pub record StayOpen (old new : Table) : Type 0 where
+  pub idle : (id : ℕ) → has_idle id old ≡ true → has_idle id new ≡ true
+  pub settled : KeepsSettled old new
+  pub free : NoneIsFreed old new
+  pub stays : StaysTable old new
+  pub as_many : length new.slots ≡ length old.slots
 
 -- or it is the one of this number
 abbrev pub OnlyIsFreed : ℕ → Table → Table → Type 0

@@ -1,5 +1,5 @@
 -- What the code answers a message with: a reply that is written, or a list that is streamed.
-use Rattle.std.specs.Prelude.{◌≡◌, ◌<◌, ⊤, ℕ, Bool, List, [], length, Option, Some, None}
+use Rattle.std.specs.Prelude.{◌≡◌, ◌<◌, ◌≤◌, ⊤, ℕ, Bool, List, [], length, Option, Some, None}
 use Rattle.rb_rpc.specs.declared.call.CallHead.{CallHead}
 use Rattle.rb_rpc.specs.declared.call.Verdict.{Verdict}
 use Rattle.rb_rpc.specs.declared.peer.Caller.{Caller}
@@ -13,7 +13,9 @@ use Rattle.rb_proto.specs.declared.answers.Answer.{Answer}
 use Rattle.rb_proto.specs.declared.books.Books.{Books}
 use Rattle.rb_proto.specs.declared.context.Context.{Context}
 use Rattle.rb_proto.specs.Ledger.{Ledger, StandsForLedger}
-use Rattle.rb_proto.specs.Books.{ActsAs}
+use Rattle.rb_forward.specs.StandsFor.{slots_of}
+use Rattle.rb_forward.specs.Table.{IsNew}
+use Rattle.rb_proto.specs.Books.{ActsAs, AreTied, OnlyCallerWaits, SameFrame}
 use Rattle.rb_proto.specs.Results.{shown_of, result_bytes}
 use Rattle.rb_xdr.specs.Kept.{Kept}
 use Rattle.rb_core.specs.declared.replies.Served.{Served}
@@ -23,7 +25,7 @@ use Rattle.rb_core.specs.declared.types.Outcome.TheVariants as outcomes
 use Rattle.rb_core.specs.StandsFor.{Source, Table, StandsForConnections}
 use Rattle.rb_model.specs.State.{Connections}
 use Rattle.rb_model.specs.Losses.{crowding, evicting}
-use Rattle.rb_model.specs.Calls.{Outcome, Outcome as said, is_no_call, told_as, outcome, message_with}
+use Rattle.rb_model.specs.Calls.{Outcome, Outcome as said, is_no_call, told_as, outcome, message_with, longest_reply}
 use Rattle.rb_core.specs.Core.{outcome_with}
 use Rattle.rb_core.specs.Slots.{SlotBecomesFrom, BecomesFrom}
 use Rattle.rb_core.specs.declared.giving.Giving.{Giving}
@@ -35,6 +37,7 @@ use Rattle.rb_core.specs.declared.slot.Slot.{Slot}
 use Rattle.rb_model.specs.Connections.{settled, changed_at}
 use Rattle.rb_core.specs.Reading.{null_message}
 use Rattle.rb_core.specs.Listings.{source_in}
+use Rattle.rb_core.specs.Awaits.{StayUnlessForwarded}
 
 -- a list under this xid of the rows that are live now
 abbrev pub listing_outcome : Source → ℕ → Listing → Outcome
@@ -117,6 +120,37 @@ IsNoListIn (Listed xid listing) = ⊥
 abbrev pub IsStreamedTo : Caller → Served → Type 0
 IsStreamedTo (Tcp id peer) served = ⊤
 IsStreamedTo (Udp peer) served = IsNoListIn served
+
+-- ---- the buffer of a reply, and what stays
+
+-- An empty buffer with room for a reply, counted by this meter.
+pub record IsEmptyReply (tie : ℕ) (out : Kept) : Type 0 where
+  pub tie_is : out.tie ≡ tie
+  pub empty : out.bytes ≡ []
+  pub room : longest_reply ≤ out.cap
+
+-- A reply was written into a buffer, or nothing.
+pub record WritesReply (before after : Kept) : Type 0 where
+  pub cap : after.cap ≡ before.cap
+  pub tie : after.tie ≡ before.tie
+  pub short : length after.bytes ≤ longest_reply
+
+-- A message can be served for a call that sees this: from these books, with its reply into this buffer.
+pub record CanServe (tie : ℕ) (context : Context) (books : Books) (out : Kept) : Type 0 where
+  pub tied : AreTied tie books
+  pub limit : books.registry.limit ≡ context.limit
+  pub forwards : books.forwards.cap ≡ context.forwards
+  pub caller : IsNew context.caller (slots_of books.forwards)
+  pub reply : IsEmptyReply tie out
+
+-- What is written by serving it, and what stays of the books: no forwarded call is new but one of the caller's own.
+pub record LeavesBooks (context : Context) (old new : Books) (served : Served) (before after : Kept) : Type 0 where
+  pub list : IsStreamedTo context.caller served
+  pub written : IsWritten served after.bytes
+  pub reply : WritesReply before after
+  pub quiet : StayUnlessForwarded (kind_in served) old.forwards new.forwards
+  pub waiting : OnlyCallerWaits context.caller old new
+  pub frame : SameFrame old new
 
 -- the list that is streamed to a caller, where results are one
 abbrev pub streamed : Caller → Results → Option Listing

@@ -6,7 +6,6 @@ use Rattle.std.specs.List.{list_any}
 use Rattle.std.specs.Map.{values_of}
 use Rattle.rb_xdr.specs.Kept.{Kept}
 use Rattle.rb_xdr.specs.Pool.{Pool, HasDistinctKeys}
-use Rattle.rb_rpc.specs.Records.{BeginsWithRecord}
 use Rattle.rb_rpc.specs.Verdict.{verdict}
 use Rattle.rb_rpc.specs.declared.peer.Peer.{Peer}
 use Rattle.rb_model.specs.declared.types.CoreFault.{CoreFault}
@@ -180,14 +179,6 @@ TakesWhole id clock piece whole old new = TableTakes id clock piece old new (hea
 -- where the core has its arguments after it
 abbrev pub KeepsWhole : ℕ → List ℕ → Whole → Table → Type 0
 KeepsWhole id piece whole old = (before : List ℕ) → TableShows (arguments_on id before piece) old (kept_in whole)
-
--- A record that is one fragment came whole on the live connection of the number, from this peer: what it does there, and
--- which arguments are kept of it.
-pub record HearsWhole (id clock : ℕ) (peer : Peer) (old new : Table) : Type 0 where
-  pub acts : (piece content : List ℕ) → BeginsWithRecord content piece
-      → TableTakes id clock piece old new (heard_whole peer content)
-  pub arguments : (before piece content : List ℕ) → BeginsWithRecord content piece
-      → TableShows (arguments_on id before piece) old (kept_of content)
 
 -- n bytes that are pending are given on the live connection of the number, or as many as there are
 abbrev pub TableGives : Source → ℕ → ℕ → ℕ → Table → Table → Result (Unit {0}) CoreFault → Type 0

@@ -3,13 +3,13 @@ ghost use Rattle.std.specs.Prelude.{◌≡◌, ◌≤◌, ◌+◌, ℕ, true, fa
 ghost use Rattle.rb_xdr.specs.Meter.{PaysAtMost};
 ghost use Rattle.rb_rpc.specs.declared.peer.Caller.TheVariants.{Tcp};
 ghost use Rattle.rb_forward.specs.StandsFor.{slots_of};
-ghost use Rattle.rb_forward.specs.Table.{IsNew, is_waiting};
-ghost use Rattle.rb_proto.specs.Books.{AreTied, OnlyCallerWaits, SameFrame};
+ghost use Rattle.rb_forward.specs.Table.{is_waiting};
+ghost use Rattle.rb_proto.specs.Books.{AreTied, SameFrame};
 ghost use Rattle.rb_core.specs.AtOnce.{AnswersFrom, GivesFrom, whole_cost};
-ghost use Rattle.rb_core.specs.Awaits.{has_idle, IsSettled, KeepsAwaited, KeepsSettled, NoneIsFreed, StayUnlessForwarded};
+ghost use Rattle.rb_core.specs.Awaits.{has_idle, IsSettled, KeepsAwaited, StayOpen};
 ghost use Rattle.rb_core.specs.CallCosts.{message_cost, served_cost};
 ghost use Rattle.rb_model.specs.Calls.{longest_reply};
-ghost use Rattle.rb_core.specs.Serving.{IsStreamedTo, IsWritten, ServesVerdict, kind_in};
+ghost use Rattle.rb_core.specs.Serving.{CanServe, LeavesBooks, ServesVerdict};
 ghost use Rattle.rb_core.specs.Listings.{AreTold, source_in};
 ghost use Rattle.rb_core.specs.Slots.{IsDraft, StaysTable};
 
@@ -36,31 +36,14 @@ pub fn serve_verdict(
     out: &mut Kept,
     meter: &mut Meter,
 ) -> Served
-    requires tied { AreTied meter.old.tie books.old }
     requires tie { meter.old.tie ≡ connections.old.tie }
-    requires out { meter.old.tie ≡ out.old.tie }
-    requires limit { books.old.registry.limit ≡ context.now.limit }
-    requires forwards { books.old.forwards.cap ≡ context.now.forwards }
-    requires caller { IsNew context.now.caller (slots_of books.old.forwards) }
+    requires can { CanServe meter.old.tie context.now books.old out.old }
     requires told { AreTold (source_in context.now.listener.host books.old) connections.old }
-    requires empty { out.old.bytes ≡ [] }
-    requires room { longest_reply ≤ out.old.cap }
     ensures acts { ServesVerdict context.now verdict.now arguments.now connections.old books.old
         connections.new books.new result out.new }
-    ensures list { IsStreamedTo context.now.caller result }
-    ensures written { IsWritten result out.new.bytes }
-    ensures short { length out.new.bytes ≤ longest_reply }
-    ensures out { (out.new.cap ≡ out.old.cap) × (out.new.tie ≡ out.old.tie) }
+    ensures leaves { LeavesBooks context.now books.old books.new result out.old out.new }
     ensures told { AreTold (source_in context.now.listener.host books.new) connections.new }
-    ensures idle { (id : ℕ) → has_idle id connections.old ≡ true
-        → has_idle id connections.new ≡ true }
-    ensures settled { KeepsSettled connections.old connections.new }
-    ensures free { NoneIsFreed connections.old connections.new }
-    ensures as_many { length connections.new.slots ≡ length connections.old.slots }
-    ensures stays { StaysTable connections.old connections.new }
-    ensures quiet { StayUnlessForwarded (kind_in result) books.old.forwards books.new.forwards }
-    ensures waiting { OnlyCallerWaits context.now.caller books.old books.new }
-    ensures frame { SameFrame books.old books.new }
+    ensures open { StayOpen connections.old connections.new }
     ensures cost { PaysAtMost meter.old meter.new
         (message_cost connections.old books.old books.new (length arguments.now)
         (length out.new.bytes)) }

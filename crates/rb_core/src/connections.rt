@@ -9,6 +9,7 @@ ghost use Rattle.rb_core.specs.StandsFor.{charge, most_charge, IsWithin};
 ghost use Rattle.rb_core.specs.Listings.{earlier, began_early, with_evicted, stamps_in, IsOldest};
 ghost use Rattle.rb_model.specs.Costs.{oldest_cost, evict_cost};
 
+use crate::giving::LONGEST_FRAGMENT;
 use crate::hints::Hints;
 use crate::reading::LONGEST_ARGUMENTS;
 use crate::replies::{LONGEST_REPLY, Served};
@@ -26,9 +27,6 @@ pub const BUFFER_SIZE: usize = if LONGEST_ARGUMENTS < LONGEST_REPLY {
 } else {
     LONGEST_ARGUMENTS
 };
-
-/// The length of a whole marked fragment of a reply.
-pub const LONGEST_FRAGMENT: usize = 1028;
 
 /// The connections that are open, in the order of their openings, and the buffers of those that are not.
 #[derive(Drop)]
@@ -244,11 +242,11 @@ impl Connections {
     ghost use Rattle.rb_core.specs.Serving.{Settles, kind_in, IsWritten};
     ghost use Rattle.rb_core.specs.Listings.{AreTold, KeepsTold, EvictsBefore, stamps_of, IsOldest};
     ghost use Rattle.rb_model.specs.Losses.{expiring};
-    ghost use Rattle.rb_core.specs.Slots.{Finds, TableActs, TableGives, TableHears, TableLends, TableShows, TakesWhole, KeepsWhole, HearsWhole, StaysTable, IsDraft, empty_table, feeding, HasBuffers};
+    ghost use Rattle.rb_core.specs.Slots.{Finds, TableActs, TableGives, TableHears, TableLends, TableShows, TakesWhole, KeepsWhole, StaysTable, IsDraft, empty_table, feeding, HasBuffers};
     ghost use Rattle.rb_model.specs.Step.{pending_at};
     ghost use Rattle.rb_core.specs.CallCosts.{slot_count, look_cost, received_cost, taken_cost, settling_cost, giving_cost};
     ghost use Rattle.rb_model.specs.Costs.{pending_cost, oldest_cost, evict_cost};
-    ghost use Rattle.rb_core.specs.Awaits.{has_idle, AwaitsIfForwarded, NoneIsFreed, OnlyIsFreed, HeardFrom, HearsFree, KeepsSettled};
+    ghost use Rattle.rb_core.specs.Awaits.{AwaitsIfForwarded, NoneIsFreed, OnlyIsFreed, HeardFrom, HearsFree, GoOn, StayOpen};
     ghost use Rattle.rb_core.specs.StandsFor.{held_in, most_charge, source_for};
     ghost use Rattle.std.specs.Map.{values_of};
 
@@ -274,10 +272,8 @@ impl Connections {
     pub fn open(&mut self, clock: u64, peer: Peer, meter: &mut Meter) -> Result<u64, CoreFault>
         requires { meter.old.tie ≡ self.old.tie }
         ensures acts { TableActs (opening_of self.old.conns peer clock) self.old self.new result }
-        ensures told { KeepsTold self.old self.new }
-        ensures free { NoneIsFreed self.old self.new }
+        ensures goes_on { GoOn self.old self.new }
         ensures refused { OnErr result (self.new ≡ self.old) }
-        ensures stays { StaysTable self.old self.new }
         ensures cost { PaysAtMost meter.old meter.new 4 }
     {
         if self.slots.len(meter) >= self.conns {
@@ -306,10 +302,8 @@ impl Connections {
     pub fn close(&mut self, id: u64, meter: &mut Meter) -> Result<(), CoreFault>
         requires { meter.old.tie ≡ self.old.tie }
         ensures acts { TableActs (closing_of id) self.old self.new result }
-        ensures told { KeepsTold self.old self.new }
-        ensures free { NoneIsFreed self.old self.new }
+        ensures goes_on { GoOn self.old self.new }
         ensures refused { OnErr result (self.new ≡ self.old) }
-        ensures stays { StaysTable self.old self.new }
         ensures cost { PaysAtMost meter.old meter.new (look_cost self.old + 5) }
     {
         let Some(key) = wanted_key(&self.slots, &self.hints, Wanted::Numbered(id), meter) else {
@@ -322,23 +316,6 @@ impl Connections {
         let Slot { buffer, window, .. } = slot;
         put_buffers(&mut self.spare, Buffers { buffer, window }, meter);
         Ok(())
-    }
-
-    /// Takes a whole record on the connection of the number, where that is Idle and under its hint. Returns who sent it. The
-    /// connection stays Idle until it is settled. `None` where it is not so, and then nothing changed.
-    fn hear_at_hint(&mut self, id: u64, clock: u64, meter: &mut Meter) -> Option<Peer>
-        requires { meter.old.tie ≡ self.old.tie }
-        ensures hears { IfSome result (λ peer. HearsWhole id clock peer self.old self.new) }
-        ensures from { IfSome result (λ peer. HeardFrom id clock self.old self.new) }
-        ensures refused { IfNone result (self.new ≡ self.old) }
-        ensures told { KeepsTold self.old self.new }
-        ensures free { NoneIsFreed self.old self.new }
-        ensures stays { StaysTable self.old self.new }
-        ensures as_many { length self.new.slots ≡ length self.old.slots }
-        ensures cost { Pays meter.old meter.new 1 }
-    {
-        let slot = self.slots.get_mut(self.hints.key(Wanted::Live(id)), meter)?;
-        slot.hear_whole(id, clock)
     }
 
     /// Takes a record that is one fragment and lies whole in the piece, as most do, where the live connection of the number is
@@ -357,14 +334,13 @@ impl Connections {
         ensures from { IfSome result (λ whole. HeardFrom id clock self.old self.new) }
         ensures within { IfSome result (λ whole. 4 + length whole.content.now ≤ length piece.now) }
         ensures refused { IfNone result (self.new ≡ self.old) }
-        ensures told { KeepsTold self.old self.new }
-        ensures free { NoneIsFreed self.old self.new }
-        ensures stays { StaysTable self.old self.new }
+        ensures goes_on { GoOn self.old self.new }
         ensures as_many { length self.new.slots ≡ length self.old.slots }
         ensures cost { PaysAtMost meter.old meter.new 1 }
     {
         let content = one_fragment(piece)?;
-        let peer = self.hear_at_hint(id, clock, meter)?;
+        let slot = self.slots.get_mut(self.hints.key(Wanted::Live(id)), meter)?;
+        let peer = slot.hear_whole(id, clock)?;
         Some(Whole { peer, content })
     }
 
@@ -382,13 +358,11 @@ impl Connections {
         requires arguments { IsDraft meter.old.tie arguments.old }
         ensures acts { TableActs (on_live id (feeding clock piece.now)) self.old self.new result }
         ensures arguments { TableHears id piece.now self.old arguments.old arguments.new }
-        ensures told { KeepsTold self.old self.new }
-        ensures free { NoneIsFreed self.old self.new }
+        ensures goes_on { GoOn self.old self.new }
         ensures hears { HearsFree id clock self.old self.new result }
         ensures within { IfOk result (λ got. got.count ≤ length piece.now) }
         ensures refused { OnErr result (self.new ≡ self.old) }
         ensures kept { OnErr result (arguments.new ≡ arguments.old) }
-        ensures stays { StaysTable self.old self.new }
         ensures draft { IsDraft meter.old.tie arguments.new }
         ensures as_many { length self.new.slots ≡ length self.old.slots }
         ensures cost { PaysAtMost meter.old meter.new
@@ -505,11 +479,7 @@ impl Connections {
         ensures evicts { EvictsBefore earliest self.old self.new }
         ensures told { KeepsTold self.old self.new }
         ensures later { All (λ stamp. earliest ≤ stamp) (stamps_of self.new) }
-        ensures idle { (id : ℕ) → has_idle id self.old ≡ true → has_idle id self.new ≡ true }
-        ensures settled { KeepsSettled self.old self.new }
-        ensures free { NoneIsFreed self.old self.new }
-        ensures stays { StaysTable self.old self.new }
-        ensures as_many { length self.new.slots ≡ length self.old.slots }
+        ensures open { StayOpen self.old self.new }
         ensures cost { PaysAtMost meter.old meter.new (evict_cost (slot_count self.old)) }
     {
         evict_slots(&mut self.slots, earliest, meter);
@@ -519,9 +489,7 @@ impl Connections {
     pub fn expire(&mut self, clock: u64, meter: &mut Meter) -> Option<u64>
         requires { meter.old.tie ≡ self.old.tie }
         ensures acts { TableActs (expiring clock) self.old self.new result }
-        ensures told { KeepsTold self.old self.new }
-        ensures free { NoneIsFreed self.old self.new }
-        ensures stays { StaysTable self.old self.new }
+        ensures goes_on { GoOn self.old self.new }
         ensures cost { PaysAtMost meter.old meter.new (look_cost self.old) }
     {
         let Some(key) = wanted_key(&self.slots, &self.hints, Wanted::Due(clock), meter) else {

@@ -4,7 +4,9 @@ ghost use Rattle.rb_model.specs.State.{are_good};
 ghost use Rattle.rb_model.specs.Bounds.{bytes_bound};
 
 use crate::calls::{answer, serve_verdict};
-use crate::connections::{BUFFER_SIZE, Connections, LONGEST_FRAGMENT};
+use crate::connections::{BUFFER_SIZE, Connections};
+use crate::events::LONGEST_CALL;
+use crate::giving::LONGEST_FRAGMENT;
 use crate::message::arguments_behind;
 use crate::reading::kept_arguments;
 use crate::replies::{LONGEST_REPLY, Served, put_end};
@@ -23,9 +25,6 @@ const GREATEST_CALL: u64 = 9_656;
 
 /// The longest address text of a row.
 const LONGEST_ADDRESS: u64 = 128;
-
-/// The longest forwarded call: a head of 40 bytes, and arguments.
-const LONGEST_FORWARD: u64 = 8_840;
 
 /// How many keys the statistics may have.
 pub(crate) const MOST_KEYS: u64 = 192;
@@ -130,7 +129,7 @@ fn bytes_bound(limits: &Limits) -> u64
 {
     let conns = limits.conns as u64 * (128 + GREATEST_CALL + LONGEST_FRAGMENT as u64);
     let rows = limits.rows as u64 * (32 + LONGEST_ADDRESS);
-    let forwards = limits.forwards as u64 * (128 + LONGEST_FORWARD);
+    let forwards = limits.forwards as u64 * (128 + LONGEST_CALL as u64);
     conns + rows + forwards + MOST_KEYS * 48 + LONGEST_REPLY as u64
 }
 

@@ -10,8 +10,8 @@ ghost use Rattle.rb_xdr.specs.Meter.{PaysAtMost};
 ghost use Rattle.rb_core.specs.Slots.{Shows};
 ghost use Rattle.rb_core.specs.CallCosts.{look_cost};
 
-use crate::connections::LONGEST_FRAGMENT;
 use crate::engine::Core;
+use crate::giving::LONGEST_FRAGMENT;
 use crate::replies::LONGEST_REPLY;
 use crate::types::Outcome;
 use rb_forward::FwdId;
@@ -21,7 +21,7 @@ use rb_xdr::{Meter, NoMemory};
 use std::alloc::Global;
 
 /// The longest forwarded call: a head of 40 bytes and 8,800 of arguments.
-const LONGEST_CALL: usize = 8_840;
+pub const LONGEST_CALL: usize = 8_840;
 
 #[tactic(auto, unfolding(rb_model::specs::Step::step))]
 fn open(core: &mut Core, now: u64, peer: Peer, meter: &mut Meter) -> Output

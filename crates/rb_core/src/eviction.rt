@@ -1,9 +1,8 @@
 //! Room for a row among the live rows and those that were removed, but are kept for lists that are being given.
-ghost use Rattle.std.specs.Prelude.{◌≡◌, ◌≤◌, true, ℕ, length, IsTrue};
+ghost use Rattle.std.specs.Prelude.{◌≡◌, ◌≤◌, IsTrue};
 ghost use Rattle.rb_xdr.specs.Meter.{PaysAtMost};
 ghost use Rattle.rb_proto.specs.Books.{AreTied, HasPlaceLeft, SameFrame};
-ghost use Rattle.rb_core.specs.Awaits.{has_idle, NoneIsFreed, KeepsSettled};
-ghost use Rattle.rb_core.specs.Slots.{StaysTable};
+ghost use Rattle.rb_core.specs.Awaits.{StayOpen};
 ghost use Rattle.rb_core.specs.Listings.{AreTold, HasRoom, Evicts, source_in};
 ghost use Rattle.rb_core.specs.CallCosts.{kept_count, room_cost_of};
 
@@ -49,14 +48,9 @@ pub fn make_room(
         connections.old books.old connections.new books.new }
     ensures room { HasRoom context.now message.now books.new }
     ensures told { AreTold (source_in context.now.listener.host books.new) connections.new }
-    ensures idle { (id : ℕ) → has_idle id connections.old ≡ true
-        → has_idle id connections.new ≡ true }
-    ensures settled { KeepsSettled connections.old connections.new }
-    ensures free { NoneIsFreed connections.old connections.new }
+    ensures open { StayOpen connections.old connections.new }
     ensures forwards { books.new.forwards ≡ books.old.forwards }
     ensures frame { SameFrame books.old books.new }
-    ensures stays { StaysTable connections.old connections.new }
-    ensures as_many { length connections.new.slots ≡ length connections.old.slots }
     ensures fewer { kept_count books.new ≤ kept_count books.old }
     ensures cost { PaysAtMost meter.old meter.new (room_cost_of connections.old books.old) }
 {

@@ -16,16 +16,13 @@ ghost use Rattle.rb_core.specs.CallCosts.{next_cost, show_list_cost};
 ghost use Rattle.rb_core.specs.AtOnce.{IsGivenWhole, whole_cost, whole_length};
 ghost use Rattle.rb_core.specs.declared.giving.Rest.TheVariants.{Held, Listed};
 
-use rb_proto::ListReply;
+use rb_proto::{LONGEST_PART, ListReply};
 use rb_registry::Registry;
 use rb_rpc::{FRAGMENT_HEADER, fragment_header};
 use rb_xdr::{Kept, Meter};
 
-/// The data bytes of each fragment but the last, which has 1 to as many.
-const DATA: usize = 1024;
-
-/// The bytes of such a fragment with its header.
-const MARKED: usize = 1028;
+/// The length of a whole marked fragment of a reply, of which each has as many data bytes but the last, which has 1 to as many.
+pub const LONGEST_FRAGMENT: usize = FRAGMENT_HEADER + LONGEST_PART;
 
 /// What of a reply was not shown yet.
 #[derive(Clone, Copy, Debug, PartialEq, Eq)]
@@ -116,8 +113,8 @@ fn show_held(start: usize, buffer: &Kept, window: &mut Kept, meter: &mut Meter) 
     ensures cost { PaysAtMost meter.old meter.new show_cost }
 {
     let left = buffer.len(meter) - start;
-    let end = start + left.min(DATA);
-    let last = left <= DATA;
+    let end = start + left.min(LONGEST_PART);
+    let last = left <= LONGEST_PART;
     show(buffer.lend(start..end, meter), last, window, meter);
     Giving {
         rest: Rest::Held(end),
@@ -202,11 +199,11 @@ pub fn give_whole(reply: &mut Kept, room: &mut [u8], meter: &mut Meter) -> usize
     ensures within { result ≤ length room.new }
     ensures cost { PaysAtMost meter.old meter.new (whole_cost (length room.old) result) }
 {
-    if room.len() < MARKED {
+    if room.len() < LONGEST_FRAGMENT {
         return 0;
     }
     let len = reply.len(meter);
-    if len > DATA {
+    if len > LONGEST_PART {
         return 0;
     }
     room[..FRAGMENT_HEADER].copy_from_slice(&fragment_header(len, true));

@@ -19,7 +19,7 @@ ghost use Rattle.rb_model.specs.Grammar.{HasArgsIn};
 ghost use Rattle.rb_core.specs.Awaits.{kind_of, StayUnlessForwarded};
 ghost use Rattle.rb_core.specs.Listings.{HasRoom};
 ghost use Rattle.rb_core.specs.Core.{given_in};
-ghost use Rattle.rb_core.specs.Serving.{TellsAnswer, ServesMessage, ServesNull, kind_in, IsWritten, IsStreamedTo, streamed};
+ghost use Rattle.rb_core.specs.Serving.{TellsAnswer, ServesMessage, ServesNull, CanServe, IsEmptyReply, LeavesBooks, WritesReply, kind_in, IsWritten, IsStreamedTo, streamed};
 ghost use Rattle.rb_core.specs.AtOnce.{IsGivenAtOnce, count_at_once, whole_cost};
 ghost use Rattle.rb_core.specs.CallCosts.{put_results_cost, serving_cost};
 ghost use Rattle.rb_core.specs.Slots.{IsDraft};
@@ -63,9 +63,7 @@ impl Served {
 /// Writes the head of a reply into an empty buffer.
 #[tactic(auto, using(crate::proofs::ReplyHeads::short_head, crate::proofs::ReplyHeads::some_head), unfolding(rb_model::specs::Calls::longest_reply))]
 fn put_head(out: &mut Kept, head: ReplyHead, meter: &mut Meter)
-    requires tie { meter.old.tie ≡ out.old.tie }
-    requires empty { out.old.bytes ≡ [] }
-    requires room { longest_reply ≤ out.old.cap }
+    requires out { IsEmptyReply meter.old.tie out.old }
     ensures written { out.new ≡ record out.old { bytes = reply_head head.xid head.status } }
     ensures short { length out.new.bytes ≤ 32 }
     ensures some { 0 < length out.new.bytes }
@@ -78,9 +76,7 @@ fn put_head(out: &mut Kept, head: ReplyHead, meter: &mut Meter)
 
 /// Writes the head of a reply with results into an empty buffer.
 fn put_success(xid: u32, out: &mut Kept, meter: &mut Meter)
-    requires tie { meter.old.tie ≡ out.old.tie }
-    requires empty { out.old.bytes ≡ [] }
-    requires room { longest_reply ≤ out.old.cap }
+    requires out { IsEmptyReply meter.old.tie out.old }
     ensures written { out.new ≡ record out.old { bytes = reply_head xid ReplyStatus.Success } }
     ensures short { length out.new.bytes ≤ 32 }
     ensures some { 0 < length out.new.bytes }
@@ -115,14 +111,11 @@ fn put_reply_with(
     meter: &mut Meter,
 )
     requires tied { AreTied meter.old.tie books.now }
-    requires tie { meter.old.tie ≡ out.old.tie }
-    requires empty { out.old.bytes ≡ [] }
-    requires room { longest_reply ≤ out.old.cap }
+    requires out { IsEmptyReply meter.old.tie out.old }
     ensures written { out.new.bytes ≡ success xid (results_at listener.now books.now results.now) }
-    ensures out { (out.new.cap ≡ out.old.cap) × (out.new.tie ≡ out.old.tie) }
+    ensures out { WritesReply out.old out.new }
     ensures shows { (l : Ledger) → StandsForLedger books.now l
         → shown_in books.now ≡ shown_of l }
-    ensures short { length out.new.bytes ≤ longest_reply }
     ensures some { 0 < length out.new.bytes }
     ensures cost { PaysAtMost meter.old meter.new
         (put_results_cost books.now (length out.new.bytes)) }
@@ -157,15 +150,12 @@ fn put_answer(
     meter: &mut Meter,
 ) -> Served
     requires tied { AreTied meter.old.tie books.now }
-    requires tie { meter.old.tie ≡ out.old.tie }
-    requires empty { out.old.bytes ≡ [] }
-    requires room { longest_reply ≤ out.old.cap }
+    requires out { IsEmptyReply meter.old.tie out.old }
     ensures given { TellsAnswer books.now context.now xid answer.now result out.new.bytes }
     ensures kind { kind_in result ≡ kind_of answer.now }
     ensures list { IsStreamedTo context.now.caller result }
     ensures written { IsWritten result out.new.bytes }
-    ensures short { length out.new.bytes ≤ longest_reply }
-    ensures out { (out.new.cap ≡ out.old.cap) × (out.new.tie ≡ out.old.tie) }
+    ensures out { WritesReply out.old out.new }
     ensures cost { PaysAtMost meter.old meter.new
         (put_results_cost books.now (length out.new.bytes)) }
 {
@@ -198,26 +188,14 @@ pub fn serve(
     out: &mut Kept,
     meter: &mut Meter,
 ) -> Served
-    requires tied { AreTied meter.old.tie books.old }
-    requires limit { books.old.registry.limit ≡ context.now.limit }
-    requires forwards { books.old.forwards.cap ≡ context.now.forwards }
-    requires caller { IsNew context.now.caller (slots_of books.old.forwards) }
+    requires can { CanServe meter.old.tie context.now books.old out.old }
     requires args { HasArgsIn message.now arguments.now }
-    requires row_room { HasRoom context.now message.now books.old }
-    requires tie { meter.old.tie ≡ out.old.tie }
-    requires empty { out.old.bytes ≡ [] }
-    requires room { longest_reply ≤ out.old.cap }
+    requires room { HasRoom context.now message.now books.old }
     ensures acts { ServesMessage
         context.now message.now arguments.now books.old books.new result out.new }
     ensures cursors { GoesOn books.old.registry books.new.registry }
     ensures floor { books.new.registry.floor ≡ books.old.registry.floor }
-    ensures list { IsStreamedTo context.now.caller result }
-    ensures quiet { StayUnlessForwarded (kind_in result) books.old.forwards books.new.forwards }
-    ensures waiting { OnlyCallerWaits context.now.caller books.old books.new }
-    ensures frame { SameFrame books.old books.new }
-    ensures short { length out.new.bytes ≤ longest_reply }
-    ensures written { IsWritten result out.new.bytes }
-    ensures out { (out.new.cap ≡ out.old.cap) × (out.new.tie ≡ out.old.tie) }
+    ensures leaves { LeavesBooks context.now books.old books.new result out.old out.new }
     ensures cost { PaysAtMost meter.old meter.new
         (serving_cost books.old books.new (length arguments.now) (length out.new.bytes)) }
 {
@@ -243,10 +221,9 @@ pub fn serve(
 }
 
 /// Serves a call of NULL: its reply, a head without results, is written into an empty buffer.
+#[tactic(auto, unfolding(rb_model::specs::Calls::longest_reply))]
 pub fn serve_null(books: &mut Books, head: &CallHead, out: &mut Kept, meter: &mut Meter) -> Served
-    requires tie { meter.old.tie ≡ out.old.tie }
-    requires empty { out.old.bytes ≡ [] }
-    requires room { longest_reply ≤ out.old.cap }
+    requires out { IsEmptyReply meter.old.tie out.old }
     ensures acts { ServesNull head.now books.old books.new result out.new }
     ensures replies { result ≡ Told Reply }
     ensures registry { books.new.registry ≡ books.old.registry }
@@ -254,7 +231,7 @@ pub fn serve_null(books: &mut Books, head: &CallHead, out: &mut Kept, meter: &mu
     ensures frame { SameFrame books.old books.new }
     ensures short { length out.new.bytes ≤ 32 }
     ensures some { 0 < length out.new.bytes }
-    ensures out { (out.new.cap ≡ out.old.cap) × (out.new.tie ≡ out.old.tie) }
+    ensures out { WritesReply out.old out.new }
     ensures cost { PaysAtMost meter.old meter.new 33 }
 {
     books.note_call(head);
@@ -284,12 +261,9 @@ pub fn give_at_once(served: Served, draft: &mut Kept, room: &mut [u8], meter: &m
 #[tactic(auto, using(crate::proofs::ReplyHeads::some_fitting), unfolding(rb_model::specs::Calls::fitting, rb_model::specs::Calls::longest_reply, rb_forward::specs::StandsFor::longest_arguments, rb_forward::specs::Forwards::longest_results))]
 fn put_passed(forward: &Forward, results: &[u8], out: &mut Kept, meter: &mut Meter)
     requires results { length results.now ≤ longest_results }
-    requires tie { meter.old.tie ≡ out.old.tie }
-    requires empty { out.old.bytes ≡ [] }
-    requires room { longest_reply ≤ out.old.cap }
+    requires out { IsEmptyReply meter.old.tie out.old }
     ensures writes { out.new.bytes ≡ success forward.now.xid (forwarded_bytes forward.now results.now) }
-    ensures out { (out.new.cap ≡ out.old.cap) × (out.new.tie ≡ out.old.tie) }
-    ensures short { length out.new.bytes ≤ longest_reply }
+    ensures out { WritesReply out.old out.new }
     ensures some { 0 < length out.new.bytes }
     ensures cost { PaysAtMost meter.old meter.new (put_end_cost (length out.new.bytes)) }
 {
@@ -302,14 +276,11 @@ fn put_passed(forward: &Forward, results: &[u8], out: &mut Kept, meter: &mut Met
 /// Writes what the caller of a failed call is told into an empty buffer.
 #[tactic(auto, unfolding(rb_model::specs::Calls::longest_reply))]
 fn put_failed(forward: &Forward, status: ReplyStatus, out: &mut Kept, meter: &mut Meter) -> Outcome
-    requires tie { meter.old.tie ≡ out.old.tie }
-    requires empty { out.old.bytes ≡ [] }
-    requires room { longest_reply ≤ out.old.cap }
+    requires out { IsEmptyReply meter.old.tie out.old }
     ensures told { given_in result out.new ≡ told_failed forward.now status }
     ensures held { out.new.bytes ≡ reply_in (given_in result out.new) }
     ensures written { IsWritten (Told result) out.new.bytes }
-    ensures short { length out.new.bytes ≤ longest_reply }
-    ensures out { (out.new.cap ≡ out.old.cap) × (out.new.tie ≡ out.old.tie) }
+    ensures out { WritesReply out.old out.new }
     ensures cost { PaysAtMost meter.old meter.new (put_end_cost (length out.new.bytes)) }
 {
     let xid = forward.xid;
@@ -326,14 +297,11 @@ fn put_failed(forward: &Forward, status: ReplyStatus, out: &mut Kept, meter: &mu
 /// it.
 pub fn put_end(ended: &Ended, message: &[u8], out: &mut Kept, meter: &mut Meter) -> Outcome
     requires within { PassesWithin ended.now.outcome (length message.now) }
-    requires tie { meter.old.tie ≡ out.old.tie }
-    requires empty { out.old.bytes ≡ [] }
-    requires room { longest_reply ≤ out.old.cap }
+    requires out { IsEmptyReply meter.old.tie out.old }
     ensures told { given_in result out.new ≡ told_at message.now ended.now }
     ensures held { out.new.bytes ≡ reply_in (given_in result out.new) }
     ensures written { IsWritten (Told result) out.new.bytes }
-    ensures short { length out.new.bytes ≤ longest_reply }
-    ensures out { (out.new.cap ≡ out.old.cap) × (out.new.tie ≡ out.old.tie) }
+    ensures out { WritesReply out.old out.new }
     ensures cost { PaysAtMost meter.old meter.new (put_end_cost (length out.new.bytes)) }
 {
     let forward = &ended.forward;

@@ -35,7 +35,7 @@ pub use laws::{
     forwards_are_noted_once, forwards_go_to_rows, list_replies_go_on, requests_are_of_the_grammar,
 };
 pub use lent::{LentNetbuf, LentRpcb, LentText};
-pub use list_reply::{ListPart, ListReply};
+pub use list_reply::{LONGEST_PART, ListPart, ListReply};
 pub use listener::Listener;
 pub use mapping::Mapping;
 pub use netbuf::{AddressBuf, Netbuf};

@@ -15,7 +15,7 @@ use rb_rpc::{ReplyHead, ReplyStatus, put_reply};
 use rb_xdr::{Kept, Meter, Xdr};
 
 /// A part has as many bytes, but the last one, which may have fewer.
-const LONGEST_PART: usize = 1_024;
+pub const LONGEST_PART: usize = 1_024;
 
 /// A reply that lists the rows as they were at its call, and how much of it was given. It holds no rows: each part
 /// reads them from the registry again.

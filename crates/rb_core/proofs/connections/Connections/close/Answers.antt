@@ -8,6 +8,7 @@ use Rattle.rb_model.specs.declared.types.CoreFault.TheVariants.{Gone}
 use Rattle.rb_model.specs.Connections.{closing_of}
 use Rattle.rb_core.specs.Slots.{Acts, HasBuffers, AreSpare}
 use Rattle.rb_core.specs.StandsFor.{StandsForConnections, IsWithin}
+use Rattle.rb_core.proofs.GoingOn.{goes_on_same}
 use Rattle.rb_core.proofs.Holding.{its_buffers, charge_fits, held_without}
 use Rattle.rb_core.proofs.Slots.{acts_from, none_closed, one_closed, slot_is_there, numbered-without}
 use Rattle.rb_xdr.proofs.PoolLemmas.{distinct-without, length-without}
@@ -61,27 +62,18 @@ invariant_of-self c =
           rw c.charge.ensures.charge (omega (arith, sum));
     })
 
-pub returns-clause-stays : goal.returns-clause-stays
-returns-clause-stays c =
-    rw (c.remove.ensures.entries, ← c.self.view_is)
-    (record { conns = refl; tie = refl; within = λ within. All-without IsWithin c.self.inside.slots.entries c.in-Some.key within })
-
 pub returns-clause-acts : goal.returns-clause-acts
 returns-clause-acts c =
     λ source. rw c.remove.ensures.entries (
     acts_from source (closing_of c.args.id) (the_view c.self.inside) c.args.self.now _ _ c.self.view_is
     (one_closed source c.args.id (the_view c.self.inside) c.in-Some.key c.in-Some-remove.slot c.self.invariant.distinct c.self.invariant.numbers (sym c.in-Some.ensures.key) (sym c.in-Some-remove.ensures.value)))
 
-pub returns-in_default-clause-free : goal.returns-in_default-clause-free
-returns-in_default-clause-free c = λ id none. none
+pub returns-in_default-clause-goes_on : goal.returns-in_default-clause-goes_on
+returns-in_default-clause-goes_on c = goes_on_same _
 
-pub returns-clause-free : goal.returns-clause-free
-returns-clause-free c =
-    rw c.remove.ensures.entries (freed_from (the_view c.self.inside) c.args.self.now _ c.self.view_is (none_freed_by_close (the_view c.self.inside) c.in-Some.key))
-
-pub returns-in_default-clause-told : goal.returns-in_default-clause-told
-returns-in_default-clause-told c = λ source told. told
-
-pub returns-clause-told : goal.returns-clause-told
-returns-clause-told c =
-    rw c.remove.ensures.entries (keeps_less (the_view c.self.inside) c.args.self.now c.self.view_is c.in-Some.key)
+pub returns-clause-goes_on : goal.returns-clause-goes_on
+returns-clause-goes_on c = rw c.remove.ensures.entries (record {
+  told = keeps_less (the_view c.self.inside) c.args.self.now c.self.view_is c.in-Some.key;
+  free = freed_from (the_view c.self.inside) c.args.self.now _ c.self.view_is (none_freed_by_close (the_view c.self.inside) c.in-Some.key);
+  stays = rw (← c.self.view_is) (record { conns = refl; tie = refl; within = λ within. All-without IsWithin c.self.inside.slots.entries c.in-Some.key within });
+})

@@ -16,9 +16,6 @@ invariant_of-self c =
     subst (λ (slots : Pool Slot). IsTable slots c.self.inside.spare c.self.inside.given c.self.inside.conns c.self.inside.held) (sym c.evict_slots.ensures.evicted)
     (table_evicted c.self.inside.slots c.self.inside.spare c.self.inside.given c.self.inside.conns c.self.inside.held c.args.earliest c.self.invariant)
 
-pub returns-clause-stays : goal.returns-clause-stays
-returns-clause-stays c = rw c.evict_slots.ensures.evicted (stays_evicted c.args.earliest (the_view c.self.inside) c.args.self.now c.self.view_is)
-
 pub returns-clause-evicts : goal.returns-clause-evicts
 returns-clause-evicts c = λ changes e source x z.
     rw c.evict_slots.ensures.evicted
@@ -32,19 +29,11 @@ returns-clause-told c = λ source told.
 pub returns-clause-later : goal.returns-clause-later
 returns-clause-later c = rw c.evict_slots.ensures.evicted (later_evicted c.args.earliest c.self.inside.slots.entries)
 
-pub returns-clause-idle : goal.returns-clause-idle
-returns-clause-idle c = λ id idle.
-    rw c.evict_slots.ensures.evicted (idle_evicted c.args.earliest id (the_view c.self.inside) (subst (λ t. has_idle id t ≡ true) (sym c.self.view_is) idle))
-
-pub returns-clause-settled : goal.returns-clause-settled
-returns-clause-settled c = λ id clock settled.
-    rw c.evict_slots.ensures.evicted (settled_evicted c.args.earliest id clock (the_view c.self.inside) (subst (λ t. IsSettled id clock t) (sym c.self.view_is) settled))
-
-pub returns-clause-free : goal.returns-clause-free
-returns-clause-free c =
-    rw c.evict_slots.ensures.evicted
-    (freed_from (the_view c.self.inside) c.args.self.now _ c.self.view_is (none_freed_by_eviction c.args.earliest (the_view c.self.inside)))
-
-pub returns-clause-as_many : goal.returns-clause-as_many
-returns-clause-as_many c =
-    rw c.evict_slots.ensures.evicted (length_evicted c.args.earliest c.self.inside.slots.entries ∙ ap (λ t. length t.slots) c.self.view_is)
+pub returns-clause-open : goal.returns-clause-open
+returns-clause-open c = rw c.evict_slots.ensures.evicted (record {
+  idle = λ id idle. idle_evicted c.args.earliest id (the_view c.self.inside) (subst (λ t. has_idle id t ≡ true) (sym c.self.view_is) idle);
+  settled = λ id clock settled. settled_evicted c.args.earliest id clock (the_view c.self.inside) (subst (λ t. IsSettled id clock t) (sym c.self.view_is) settled);
+  free = freed_from (the_view c.self.inside) c.args.self.now _ c.self.view_is (none_freed_by_eviction c.args.earliest (the_view c.self.inside));
+  stays = stays_evicted c.args.earliest (the_view c.self.inside) c.args.self.now c.self.view_is;
+  as_many = length_evicted c.args.earliest c.self.inside.slots.entries ∙ ap (λ t. length t.slots) c.self.view_is;
+})

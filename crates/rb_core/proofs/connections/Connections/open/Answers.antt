@@ -7,6 +7,7 @@ use Rattle.rb_model.specs.declared.types.CoreFault.TheVariants.{Full, Spent}
 use Rattle.rb_model.specs.Connections.{opening_of}
 use Rattle.rb_core.specs.Slots.{Acts, HasBuffers, AreBuffers, AreSpare}
 use Rattle.rb_core.specs.StandsFor.{StandsForConnections}
+use Rattle.rb_core.proofs.GoingOn.{goes_on_same}
 use Rattle.rb_core.proofs.Holding.{room_for_one, within_pushed, held_pushed}
 use Rattle.rb_core.proofs.Slots.{acts_from, full_acts, spent_acts, opened_acts, numbered-more}
 use Rattle.rb_core.proofs.Freed.{none_freed_by_open, freed_from}
@@ -51,16 +52,6 @@ invariant_of-self c = record {
       (held_pushed (values_of c.self.inside.slots.entries) _ c.take_buffers-buffer.ensures.made.buffer_empty c.take_buffers-buffer.ensures.made.window_empty c.self.inside.held c.self.invariant.is_held);
 }
 
-pub returns-clause-stays : goal.returns-clause-stays
-returns-clause-stays c =
-    rw (← c.self.view_is) (record {
-      conns = refl;
-      tie = c.put_slot-key.ensures.tie;
-      within = λ within.
-          rw c.put_slot-key.ensures.last
-          (within_pushed (values_of c.self.inside.slots.entries) _ c.take_buffers-buffer.ensures.made.buffer_empty c.take_buffers-buffer.ensures.made.window_empty within);
-    })
-
 pub returns-clause-acts : goal.returns-clause-acts
 returns-clause-acts c = λ source.
     let conns = ap (λ t. t.conns) c.self.view_is in
@@ -73,22 +64,21 @@ returns-clause-acts c = λ source.
       phase = (c.take_buffers-buffer.ensures.made.buffer_empty, c.take_buffers-buffer.ensures.made.window_empty);
     }))
 
-pub returns-then-len-self-clause-free : goal.returns-then-len-self-clause-free
-returns-then-len-self-clause-free c = λ id none. none
+pub returns-then-len-self-clause-goes_on : goal.returns-then-len-self-clause-goes_on
+returns-then-len-self-clause-goes_on c = goes_on_same _
 
-pub returns-then-self-clause-free : goal.returns-then-self-clause-free
-returns-then-self-clause-free c = λ id none. none
+pub returns-then-self-clause-goes_on : goal.returns-then-self-clause-goes_on
+returns-then-self-clause-goes_on c = goes_on_same _
 
-pub returns-clause-free : goal.returns-clause-free
-returns-clause-free c =
-    freed_from (the_view c.self.inside) c.args.self.now _ c.self.view_is (none_freed_by_open (the_view c.self.inside) _ _ c.put_slot-key.ensures.last refl refl)
-
-pub returns-then-len-self-clause-told : goal.returns-then-len-self-clause-told
-returns-then-len-self-clause-told c = λ source told. told
-
-pub returns-then-self-clause-told : goal.returns-then-self-clause-told
-returns-then-self-clause-told c = λ source told. told
-
-pub returns-clause-told : goal.returns-clause-told
-returns-clause-told c =
-    keeps_more (the_view c.self.inside) c.args.self.now c.self.view_is _ c.put_slot-key.new.slots.entries c.put_slot-key.ensures.last (λ source. tt)
+pub returns-clause-goes_on : goal.returns-clause-goes_on
+returns-clause-goes_on c = record {
+  told = keeps_more (the_view c.self.inside) c.args.self.now c.self.view_is _ c.put_slot-key.new.slots.entries c.put_slot-key.ensures.last (λ source. tt);
+  free = freed_from (the_view c.self.inside) c.args.self.now _ c.self.view_is (none_freed_by_open (the_view c.self.inside) _ _ c.put_slot-key.ensures.last refl refl);
+  stays = rw (← c.self.view_is) (record {
+    conns = refl;
+    tie = c.put_slot-key.ensures.tie;
+    within = λ within.
+        rw c.put_slot-key.ensures.last
+        (within_pushed (values_of c.self.inside.slots.entries) _ c.take_buffers-buffer.ensures.made.buffer_empty c.take_buffers-buffer.ensures.made.window_empty within);
+  });
+}

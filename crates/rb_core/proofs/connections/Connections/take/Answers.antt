@@ -6,11 +6,11 @@ use Rattle.rb_model.specs.Connections.{on_live}
 use Rattle.rb_core.specs.CallCosts.{received_cost}
 use Rattle.rb_core.specs.Slots.{Acts, Shows, HasBuffers, feeding, arguments_on}
 use Rattle.rb_core.specs.StandsFor.{StandsForConnections}
-use Rattle.rb_core.proofs.Holding.{its_buffers, charge_fits, held_few, stays_changed, recounted_cost}
+use Rattle.rb_core.proofs.GoingOn.{goes_on_same, goes_on_changed}
+use Rattle.rb_core.proofs.Holding.{its_buffers, charge_fits, held_few, recounted_cost}
 use Rattle.rb_core.proofs.Slots.{acts_from, gone_acts, live_acts, gone_arguments, live_arguments, slot_is_there, table_changed}
 use Rattle.rb_xdr.proofs.PoolLemmas.{length-with}
-use Rattle.rb_core.proofs.Freed.{none_freed, found_live, freed_from, hears_from, heard_from}
-use Rattle.rb_core.proofs.Telling.{keeps_changed}
+use Rattle.rb_core.proofs.Freed.{found_live, hears_from, heard_from}
 use Rattle.std.specs.Map.{values_of}
 use Rattle.rb_core.proofs.ByHint.{distinct_numbers}
 use Rattle.rb_core.proofs.connections.Connections.take.Goals as goal
@@ -50,9 +50,6 @@ invariant_of-self c =
     c.take-received.ensures.stays.number (subst (λ t. HasBuffers t c.take-received.new.self) tie c.take-received.ensures.stays.buffers)
     c.recounted-self-inside.result (rw (← c.charge-before.ensures.charge) c.recounted-self-inside.ensures.held) c.recounted-self-inside.ensures.within
 
-pub returns-clause-stays : goal.returns-clause-stays
-returns-clause-stays c = stays_changed (the_view c.self.inside) c.args.self.now c.in-Some.key c.take-received.new.self c.self.view_is c.recounted-self-inside.ensures.within
-
 pub returns-clause-cost : goal.returns-clause-cost
 returns-clause-cost c =
     rw (← c.self.view_is)
@@ -76,23 +73,16 @@ returns-clause-arguments c =
     λ source. subst (λ t. Shows (StandsForConnections source) (arguments_on c.args.id c.args.arguments.now.bytes c.args.piece.now) t c.take-received.new.arguments.bytes) c.self.view_is
     (live_arguments source c.args.id c.args.arguments.now.bytes c.args.piece.now (the_view c.self.inside) c.in-Some.key c.in-Some-get_mut.slot.now c.take-received.new.arguments.bytes c.self.invariant.distinct (sym c.in-Some.ensures.key) (sym c.in-Some-get_mut.ensures.value) (c.take-received.ensures.arguments source))
 
-pub returns-in_default-clause-free : goal.returns-in_default-clause-free
-returns-in_default-clause-free c = λ id none. none
-
-pub returns-clause-free : goal.returns-clause-free
-returns-clause-free c =
-    freed_from (the_view c.self.inside) c.args.self.now _ c.self.view_is
-    (none_freed (the_view c.self.inside) c.in-Some.key c.in-Some-get_mut.slot.now c.take-received.new.self (sym c.in-Some-get_mut.ensures.value) c.take-received.ensures.stays.number c.take-received.ensures.awaits)
-
 pub returns-clause-hears : goal.returns-clause-hears
 returns-clause-hears c =
     let l = found_live c.args.id c.in-Some.key c.self.inside.slots.entries c.in-Some-get_mut.slot.now c.self.invariant.distinct (sym c.in-Some.ensures.key) (sym c.in-Some-get_mut.ensures.value) in
     hears_from c.args.id c.args.clock (the_view c.self.inside) c.args.self.now _ (Ok c.take-received.result) c.self.view_is
     (heard_from (the_view c.self.inside) c.args.id c.args.clock c.in-Some.key c.in-Some-get_mut.slot.now c.take-received.new.self c.take-received.result c.self.invariant.numbers (sym c.in-Some-get_mut.ensures.value) l.0 c.take-received.ensures.stays.number c.take-received.ensures.heard)
 
-pub returns-in_default-clause-told : goal.returns-in_default-clause-told
-returns-in_default-clause-told c = λ source told. told
+pub returns-in_default-clause-goes_on : goal.returns-in_default-clause-goes_on
+returns-in_default-clause-goes_on c = goes_on_same _
 
-pub returns-clause-told : goal.returns-clause-told
-returns-clause-told c =
-    keeps_changed (the_view c.self.inside) c.args.self.now c.self.view_is c.in-Some.key c.in-Some-get_mut.slot.now c.take-received.new.self (sym c.in-Some-get_mut.ensures.value) c.take-received.ensures.told
+pub returns-clause-goes_on : goal.returns-clause-goes_on
+returns-clause-goes_on c =
+    goes_on_changed (the_view c.self.inside) c.args.self.now c.self.view_is c.in-Some.key c.in-Some-get_mut.slot.now c.take-received.new.self (sym c.in-Some-get_mut.ensures.value)
+    c.take-received.ensures.told c.take-received.ensures.stays.number c.take-received.ensures.awaits c.recounted-self-inside.ensures.within

@@ -17,10 +17,10 @@ returns-in_err-close-clause-acts c =
 pub returns-clause-acts : goal.returns-clause-acts
 returns-clause-acts c =
     acts_begun _ (the_view c.self.inside) c.args.self.now _ c.count-self-inside.result _ c.self.view_is
-    (closed_acts (began (the_view c.self.inside) c.count-self-inside.result) c.args.id c.close.new.self c.drop_caller.new.self _ c.drop_caller.ensures.registry c.in_ok-close.ensures.stays c.drop_caller.ensures.frame (c.in_ok-close.ensures.acts (source_of (the_view c.self.inside))) c.drop_caller.ensures.dropped)
+    (closed_acts (began (the_view c.self.inside) c.count-self-inside.result) c.args.id c.close.new.self c.drop_caller.new.self _ c.drop_caller.ensures.registry c.in_ok-close.ensures.goes_on.stays c.drop_caller.ensures.frame (c.in_ok-close.ensures.acts (source_of (the_view c.self.inside))) c.drop_caller.ensures.dropped)
 
 pub invariant_of-self-2 : goal.invariant_of-self-2
 invariant_of-self-2 c =
-    core_changed _ _ _ _ _ _ _ _ _ _ _ _ _ c.self.invariant c.in_ok-close.ensures.stays c.drop_caller.ensures.frame refl refl c.self.invariant.len c.self.invariant.short
-    (search rules) (rw c.drop_caller.ensures.registry (c.in_ok-close.ensures.told (source_of (the_view c.self.inside)) c.self.invariant.told))
+    core_changed _ _ _ _ _ _ _ _ _ _ _ _ _ c.self.invariant c.in_ok-close.ensures.goes_on.stays c.drop_caller.ensures.frame refl refl c.self.invariant.len c.self.invariant.short
+    (search rules) (rw c.drop_caller.ensures.registry (c.in_ok-close.ensures.goes_on.told (source_of (the_view c.self.inside)) c.self.invariant.told))
     c.self.invariant.is_draft c.self.invariant.empty c.self.invariant.has_arguments

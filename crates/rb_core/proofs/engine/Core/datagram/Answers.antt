@@ -59,12 +59,12 @@ returns-clause-acts c =
     let given : Outcome = outcome_with c.in-Told.outcome reply in
     let acts : ServesInRoom c.context-context.result (message_with v arguments) arguments old.connections old.books table books given = rw c.in-Told.is at c.serve_verdict-served.ensures.acts in
     acts_begun _ (the_view c.self.inside) c.args.self.now _ c.count-self-inside.result _ c.self.view_is
-    (datagram_acts (began (the_view c.self.inside) c.count-self-inside.result) c.args.now c.max-self-inside.result c.args.peer content table books reply c.serve_verdict-served.new.out.tie c.max-self-inside.ensures c.serve_verdict-served.ensures.short
+    (datagram_acts (began (the_view c.self.inside) c.count-self-inside.result) c.args.now c.max-self-inside.result c.args.peer content table books reply c.serve_verdict-served.new.out.tie c.max-self-inside.ensures c.serve_verdict-served.ensures.leaves.reply.short
     given
     (served_by old (Udp c.args.peer) c.context-context.result c.context-context.ensures (message_of content) (arguments_of content) table books given
     (of_content c.context-context.result (message_with v arguments) arguments content old.connections table old.books books given says c.arguments_behind-arguments.ensures.arguments acts)
-    c.serve_verdict-served.ensures.frame c.serve_verdict-served.ensures.stays)
-    (written_is c.in-Told.outcome reply (rw c.in-Told.is at c.serve_verdict-served.ensures.written)))
+    c.serve_verdict-served.ensures.leaves.frame c.serve_verdict-served.ensures.open.stays)
+    (written_is c.in-Told.outcome reply (rw c.in-Told.is at c.serve_verdict-served.ensures.leaves.written)))
 
 pub returns-clause-bound : goal.returns-clause-bound
 returns-clause-bound c =
@@ -76,11 +76,11 @@ invariant_of-self-2 c =
     let old : Held = record (began (the_view c.self.inside) c.count-self-inside.result) { clock = c.max-self-inside.result } in
     let table = c.serve_verdict-served.new.connections in
     let books = c.serve_verdict-served.new.books in
-    let awaited : AreAwaited old.books.forwards table = λ number waits. c.serve_verdict-served.ensures.free number (c.self.invariant.awaited number waits) in
+    let awaited : AreAwaited old.books.forwards table = λ number waits. c.serve_verdict-served.ensures.open.free number (c.self.invariant.awaited number waits) in
     let anew : OnlyWaitsAnew (Udp c.args.peer) (slots_of old.books.forwards) (slots_of books.forwards) =
-    subst (λ (x : Context). OnlyWaitsAnew x.caller (slots_of old.books.forwards) (slots_of books.forwards)) c.context-context.ensures c.serve_verdict-served.ensures.waiting in
-    core_changed _ _ _ _ _ _ _ _ _ _ _ _ _ c.self.invariant c.serve_verdict-served.ensures.stays
-    c.serve_verdict-served.ensures.frame (search rules) (search rules) c.len.ensures.len c.serve_verdict-served.ensures.short
+    subst (λ (x : Context). OnlyWaitsAnew x.caller (slots_of old.books.forwards) (slots_of books.forwards)) c.context-context.ensures c.serve_verdict-served.ensures.leaves.waiting in
+    core_changed _ _ _ _ _ _ _ _ _ _ _ _ _ c.self.invariant c.serve_verdict-served.ensures.open.stays
+    c.serve_verdict-served.ensures.leaves.frame (search rules) (search rules) c.len.ensures.len c.serve_verdict-served.ensures.leaves.reply.short
     (awaited_by_udp old.books.forwards books.forwards c.args.peer table awaited anew)
     (told_for_view old (Udp c.args.peer) c.context-context.result c.context-context.ensures table books c.serve_verdict-served.ensures.told)
     (search rules) (search rules) (search rules)

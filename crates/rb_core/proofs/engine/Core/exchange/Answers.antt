@@ -38,16 +38,16 @@ returns-in-Some-clause-acts c =
     acts_begun _ (the_view c.self.inside) c.args.self.now _ c.count-self-inside.result _ c.self.view_is
     (counted c.args.now c.args.id n c.args.piece.now (length room) view _ _
     (by_count c.args.now c.args.id n c.args.piece.now room _ _ _ c.answer_whole-closed.ensures.within
-    (exchange_whole view c.args.now c.max-clock.result c.args.id c.args.piece.now c.max-clock.ensures c.hear.new.self c.hear.ensures.stays (kept_in c.in-Some.whole) holds count (heard_in c.in-Some.whole) c.answer_whole-closed.new.self c.answer_whole-closed.result.0 (take n room)
+    (exchange_whole view c.args.now c.max-clock.result c.args.id c.args.piece.now c.max-clock.ensures c.hear.new.self c.hear.ensures.goes_on.stays (kept_in c.in-Some.whole) holds count (heard_in c.in-Some.whole) c.answer_whole-closed.new.self c.answer_whole-closed.result.0 (take n room)
     (c.in-Some.ensures.acts (source_of (the_view c.self.inside))) c.answer_whole-closed.ensures.acts))
-    (counted_whole view c.args.now c.max-clock.result c.args.id c.args.piece.now c.max-clock.ensures c.hear.new.self c.hear.ensures.stays (kept_in c.in-Some.whole) holds count (length room) n (heard_in c.in-Some.whole)
+    (counted_whole view c.args.now c.max-clock.result c.args.id c.args.piece.now c.max-clock.ensures c.hear.new.self c.hear.ensures.goes_on.stays (kept_in c.in-Some.whole) holds count (length room) n (heard_in c.in-Some.whole)
     (c.in-Some.ensures.acts (source_of (the_view c.self.inside))) (rw c.answer_whole-closed.auto.room c.answer_whole-closed.ensures.count)))
 
 pub returns-in-Some-clause-count : goal.returns-in-Some-clause-count
 returns-in-Some-clause-count c =
     let view = began (the_view c.self.inside) c.count-self-inside.result in
     shows_begun _ (the_view c.self.inside) c.args.self.now c.count-self-inside.result c.answer_whole-closed.result.1 c.self.view_is
-    (counted_whole view c.args.now c.max-clock.result c.args.id c.args.piece.now c.max-clock.ensures c.hear.new.self c.hear.ensures.stays (kept_in c.in-Some.whole) (c.in-Some.ensures.arguments (the_view c.self.inside).arguments (source_of (the_view c.self.inside))) (4 + length c.in-Some.whole.content.now) (length c.args.room.now) c.answer_whole-closed.result.1 (heard_in c.in-Some.whole)
+    (counted_whole view c.args.now c.max-clock.result c.args.id c.args.piece.now c.max-clock.ensures c.hear.new.self c.hear.ensures.goes_on.stays (kept_in c.in-Some.whole) (c.in-Some.ensures.arguments (the_view c.self.inside).arguments (source_of (the_view c.self.inside))) (4 + length c.in-Some.whole.content.now) (length c.args.room.now) c.answer_whole-closed.result.1 (heard_in c.in-Some.whole)
     (c.in-Some.ensures.acts (source_of (the_view c.self.inside))) c.answer_whole-closed.ensures.count)
 
 paid_whole : (c : goal.After-slice_known-in-Some-1) (s : State) → StandsFor c.args.self.now s → PaysAtMost c.args.meter.now c.answer_whole-closed.new.meter (look_cost c.args.self.now.connections + (take_cost (4 + length c.in-Some.whole.content.now) + recount_cost) + answer_cost (slot_count c.args.self.now.connections) (kept_count c.args.self.now.books) (kept_count c.answer_whole-closed.new.self.books) (args_heard c.args.id c.args.piece.now s) + whole_cost (length c.args.room.now) c.answer_whole-closed.result.1)
@@ -78,7 +78,7 @@ returns-in-Some-clause-cheap c = λ s h none.
 
 pub invariant_of-self : goal.invariant_of-self
 invariant_of-self c =
-    core_moved _ _ _ _ _ _ _ _ _ _ c.self.invariant c.hear.ensures.stays (awaited_by_table c.self.inside.books.forwards _ _ c.self.invariant.awaited c.hear.ensures.free) (c.hear.ensures.told _)
+    core_moved _ _ _ _ _ _ _ _ _ _ c.self.invariant c.hear.ensures.goes_on.stays (awaited_by_table c.self.inside.books.forwards _ _ c.self.invariant.awaited c.hear.ensures.goes_on.free) (c.hear.ensures.goes_on.told _)
     c.self.invariant.is_draft c.self.invariant.empty (search rules)
 
 -- ---- any piece
@@ -106,15 +106,15 @@ returns-in_default-heard-clause-acts c =
     let holds = c.in_ok-count.ensures.arguments (source_of (looked (the_view c.self.inside) c.hear.new.self)) in
     acts_begun _ (looked (the_view c.self.inside) c.hear.new.self) c.args.self.now _ c.count-self-inside.result _ (looked_is (the_view c.self.inside) c.args.self.now c.hear.new.self c.in_default.ensures.refused c.self.view_is)
     (counted c.args.now c.args.id 0 c.args.piece.now _ view _ _
-    (plainly c.args.now c.args.id c.args.piece.now view _ _ (quiet_acts view c.args.now c.max-clock.result c.args.id c.args.piece.now c.max-clock.ensures c.take.new.self c.in_ok-count.ensures.stays c.take.new.arguments.bytes holds c.in_ok-count.field-0.count taken))
-    (quiet_gives_none view c.args.now c.max-clock.result c.args.id c.args.piece.now c.max-clock.ensures c.take.new.self c.in_ok-count.ensures.stays c.take.new.arguments.bytes holds _ c.in_ok-count.field-0.count taken))
+    (plainly c.args.now c.args.id c.args.piece.now view _ _ (quiet_acts view c.args.now c.max-clock.result c.args.id c.args.piece.now c.max-clock.ensures c.take.new.self c.in_ok-count.ensures.goes_on.stays c.take.new.arguments.bytes holds c.in_ok-count.field-0.count taken))
+    (quiet_gives_none view c.args.now c.max-clock.result c.args.id c.args.piece.now c.max-clock.ensures c.take.new.self c.in_ok-count.ensures.goes_on.stays c.take.new.arguments.bytes holds _ c.in_ok-count.field-0.count taken))
 
 pub returns-in_default-heard-clause-count : goal.returns-in_default-heard-clause-count
 returns-in_default-heard-clause-count c =
     let view = began (looked (the_view c.self.inside) c.hear.new.self) c.count-self-inside.result in
     let taken = with_heard (source_of (looked (the_view c.self.inside) c.hear.new.self)) c.args.id c.max-clock.result c.args.piece.now c.hear.new.self c.take.new.self c.in_ok-count.field-0 None c.in_default-heard.is (c.in_ok-count.ensures.acts (source_of (looked (the_view c.self.inside) c.hear.new.self))) in
     shows_begun _ (looked (the_view c.self.inside) c.hear.new.self) c.args.self.now c.count-self-inside.result 0 (looked_is (the_view c.self.inside) c.args.self.now c.hear.new.self c.in_default.ensures.refused c.self.view_is)
-    (quiet_gives_none view c.args.now c.max-clock.result c.args.id c.args.piece.now c.max-clock.ensures c.take.new.self c.in_ok-count.ensures.stays c.take.new.arguments.bytes (c.in_ok-count.ensures.arguments (source_of (looked (the_view c.self.inside) c.hear.new.self))) _ c.in_ok-count.field-0.count taken)
+    (quiet_gives_none view c.args.now c.max-clock.result c.args.id c.args.piece.now c.max-clock.ensures c.take.new.self c.in_ok-count.ensures.goes_on.stays c.take.new.arguments.bytes (c.in_ok-count.ensures.arguments (source_of (looked (the_view c.self.inside) c.hear.new.self))) _ c.in_ok-count.field-0.count taken)
 
 heard : (c : goal.After-slice_known-2-1) → Acts (StandsForConnections (source_of (looked (the_view c.self.inside) c.hear.new.self))) (on_live c.args.id (feeding c.max-clock.result c.args.piece.now)) c.hear.new.self c.take.new.self (Ok (record { count = c.in_ok-count.field-0.count; heard = Some c.in-Some-heard.heard }))
 heard c = with_heard (source_of (looked (the_view c.self.inside) c.hear.new.self)) c.args.id c.max-clock.result c.args.piece.now c.hear.new.self c.take.new.self c.in_ok-count.field-0 (Some c.in-Some-heard.heard) c.in-Some-heard.is (c.in_ok-count.ensures.acts (source_of (looked (the_view c.self.inside) c.hear.new.self)))
@@ -128,16 +128,16 @@ returns-clause-acts c =
     acts_begun _ (looked (the_view c.self.inside) c.hear.new.self) c.args.self.now _ c.count-self-inside.result _ (looked_is (the_view c.self.inside) c.args.self.now c.hear.new.self c.in_default.ensures.refused c.self.view_is)
     (counted c.args.now c.args.id n c.args.piece.now (length room) view _ _
     (by_count c.args.now c.args.id n c.args.piece.now room _ _ _ c.answer_held-closed.ensures.within
-    (exchange_heard view c.args.now c.max-clock.result c.args.id c.args.piece.now c.max-clock.ensures c.take.new.self c.in_ok-count.ensures.stays c.take.new.arguments.bytes holds c.in_ok-count.field-0.count c.in-Some-heard.heard c.answer_held-closed.new.self c.answer_held-closed.result.0 (take n room)
+    (exchange_heard view c.args.now c.max-clock.result c.args.id c.args.piece.now c.max-clock.ensures c.take.new.self c.in_ok-count.ensures.goes_on.stays c.take.new.arguments.bytes holds c.in_ok-count.field-0.count c.in-Some-heard.heard c.answer_held-closed.new.self c.answer_held-closed.result.0 (take n room)
     (heard c) c.answer_held-closed.ensures.acts))
-    (counted_heard view c.args.now c.max-clock.result c.args.id c.args.piece.now c.max-clock.ensures c.take.new.self c.in_ok-count.ensures.stays c.take.new.arguments.bytes holds c.in_ok-count.field-0.count (length room) n c.in-Some-heard.heard
+    (counted_heard view c.args.now c.max-clock.result c.args.id c.args.piece.now c.max-clock.ensures c.take.new.self c.in_ok-count.ensures.goes_on.stays c.take.new.arguments.bytes holds c.in_ok-count.field-0.count (length room) n c.in-Some-heard.heard
     (heard c) (rw c.answer_held-closed.auto.room c.answer_held-closed.ensures.count)))
 
 pub returns-clause-count : goal.returns-clause-count
 returns-clause-count c =
     let view = began (looked (the_view c.self.inside) c.hear.new.self) c.count-self-inside.result in
     shows_begun _ (looked (the_view c.self.inside) c.hear.new.self) c.args.self.now c.count-self-inside.result c.answer_held-closed.result.1 (looked_is (the_view c.self.inside) c.args.self.now c.hear.new.self c.in_default.ensures.refused c.self.view_is)
-    (counted_heard view c.args.now c.max-clock.result c.args.id c.args.piece.now c.max-clock.ensures c.take.new.self c.in_ok-count.ensures.stays c.take.new.arguments.bytes (c.in_ok-count.ensures.arguments (source_of (looked (the_view c.self.inside) c.hear.new.self))) c.in_ok-count.field-0.count (length c.args.room.now) c.answer_held-closed.result.1 c.in-Some-heard.heard
+    (counted_heard view c.args.now c.max-clock.result c.args.id c.args.piece.now c.max-clock.ensures c.take.new.self c.in_ok-count.ensures.goes_on.stays c.take.new.arguments.bytes (c.in_ok-count.ensures.arguments (source_of (looked (the_view c.self.inside) c.hear.new.self))) c.in_ok-count.field-0.count (length c.args.room.now) c.answer_held-closed.result.1 c.in-Some-heard.heard
     (heard c) c.answer_held-closed.ensures.count)
 
 abbrev more : (c : goal.After-slice_known-2-1) → ℕ
@@ -187,10 +187,10 @@ returns-clause-cheap c = λ s h none.
 
 pub invariant_of-self-in_default-heard : goal.invariant_of-self-in_default-heard
 invariant_of-self-in_default-heard c =
-    core_moved _ _ _ _ _ _ _ _ _ _ c.self.invariant (stays_twice _ _ _ c.hear.ensures.stays c.in_ok-count.ensures.stays) (awaited_by_table c.self.inside.books.forwards _ _ (awaited_by_table c.self.inside.books.forwards _ _ c.self.invariant.awaited c.hear.ensures.free) c.in_ok-count.ensures.free) (λ told. c.in_ok-count.ensures.told _ (c.hear.ensures.told _ told))
+    core_moved _ _ _ _ _ _ _ _ _ _ c.self.invariant (stays_twice _ _ _ c.hear.ensures.goes_on.stays c.in_ok-count.ensures.goes_on.stays) (awaited_by_table c.self.inside.books.forwards _ _ (awaited_by_table c.self.inside.books.forwards _ _ c.self.invariant.awaited c.hear.ensures.goes_on.free) c.in_ok-count.ensures.goes_on.free) (λ told. c.in_ok-count.ensures.goes_on.told _ (c.hear.ensures.goes_on.told _ told))
     c.self.invariant.is_draft c.self.invariant.empty (search rules)
 
 pub invariant_of-self-2 : goal.invariant_of-self-2
 invariant_of-self-2 c =
-    core_moved _ _ _ _ _ _ _ _ _ _ c.self.invariant (stays_twice _ _ _ c.hear.ensures.stays c.in_ok-count.ensures.stays) (awaited_by_table c.self.inside.books.forwards _ _ (awaited_by_table c.self.inside.books.forwards _ _ c.self.invariant.awaited c.hear.ensures.free) c.in_ok-count.ensures.free) (λ told. c.in_ok-count.ensures.told _ (c.hear.ensures.told _ told))
+    core_moved _ _ _ _ _ _ _ _ _ _ c.self.invariant (stays_twice _ _ _ c.hear.ensures.goes_on.stays c.in_ok-count.ensures.goes_on.stays) (awaited_by_table c.self.inside.books.forwards _ _ (awaited_by_table c.self.inside.books.forwards _ _ c.self.invariant.awaited c.hear.ensures.goes_on.free) c.in_ok-count.ensures.goes_on.free) (λ told. c.in_ok-count.ensures.goes_on.told _ (c.hear.ensures.goes_on.told _ told))
     c.self.invariant.is_draft c.self.invariant.empty (search rules)

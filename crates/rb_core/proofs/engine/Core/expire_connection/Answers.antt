@@ -14,9 +14,9 @@ returns-clause-acts c =
     let is : c.match-expire.result ≡ closed_as c.expire.result =
     elim c.match-expire.branch [ in-Some w ↦ w.result-is ∙ ap closed_as (sym w.in-Some.is) | in-None w ↦ w.result-is ∙ ap closed_as (sym w.in-None.is) ] in
     acts_from expire_connection (the_view c.self.inside) c.args.self.now _ _ c.self.view_is
-    (due_closed (the_view c.self.inside) c.expire.new.self c.expire.result c.match-expire.result is c.expire.ensures.stays (c.expire.ensures.acts (source_of (the_view c.self.inside))))
+    (due_closed (the_view c.self.inside) c.expire.new.self c.expire.result c.match-expire.result is c.expire.ensures.goes_on.stays (c.expire.ensures.acts (source_of (the_view c.self.inside))))
 
 pub invariant_of-self : goal.invariant_of-self
 invariant_of-self c =
-    core_moved _ _ _ _ _ _ _ _ _ _ c.self.invariant c.expire.ensures.stays (awaited_by_table c.self.inside.books.forwards _ _ c.self.invariant.awaited c.expire.ensures.free) (c.expire.ensures.told _)
+    core_moved _ _ _ _ _ _ _ _ _ _ c.self.invariant c.expire.ensures.goes_on.stays (awaited_by_table c.self.inside.books.forwards _ _ c.self.invariant.awaited c.expire.ensures.goes_on.free) (c.expire.ensures.goes_on.told _)
     c.self.invariant.is_draft c.self.invariant.empty c.self.invariant.has_arguments

@@ -17,9 +17,9 @@ returns-in_err-number-clause-acts c =
 pub returns-clause-acts : goal.returns-clause-acts
 returns-clause-acts c =
     acts_begun _ (the_view c.self.inside) c.args.self.now _ c.count-self-inside.result _ c.self.view_is
-    (open_done (began (the_view c.self.inside) c.count-self-inside.result) c.args.now c.max-clock.result c.max-clock.ensures c.open.new.self c.args.peer c.in_ok-number.number c.in_ok-number.ensures.stays (c.in_ok-number.ensures.acts (source_of (the_view c.self.inside))))
+    (open_done (began (the_view c.self.inside) c.count-self-inside.result) c.args.now c.max-clock.result c.max-clock.ensures c.open.new.self c.args.peer c.in_ok-number.number c.in_ok-number.ensures.goes_on.stays (c.in_ok-number.ensures.acts (source_of (the_view c.self.inside))))
 
 pub invariant_of-self-2 : goal.invariant_of-self-2
 invariant_of-self-2 c =
-    core_moved _ _ _ _ _ _ _ _ _ _ c.self.invariant c.in_ok-number.ensures.stays (awaited_by_table c.self.inside.books.forwards _ _ c.self.invariant.awaited c.in_ok-number.ensures.free) (c.in_ok-number.ensures.told _)
+    core_moved _ _ _ _ _ _ _ _ _ _ c.self.invariant c.in_ok-number.ensures.goes_on.stays (awaited_by_table c.self.inside.books.forwards _ _ c.self.invariant.awaited c.in_ok-number.ensures.goes_on.free) (c.in_ok-number.ensures.goes_on.told _)
     c.self.invariant.is_draft c.self.invariant.empty c.self.invariant.has_arguments
