@@ -53,6 +53,11 @@ is_unsettled_slot id clock slot = slot.number == id && not (is_idle_stage slot.s
 abbrev pub IsSettled : ℕ → ℕ → Table → Type 0
 IsSettled id clock table = list_any (is_unsettled_slot id clock) (values_of table.slots) ≡ false
 
+-- It is there, and Idle since this moment.
+pub record IsIdleSince (id clock : ℕ) (table : Table) : Type 0 where
+  pub is_idle : has_idle id table ≡ true
+  pub is_settled : IsSettled id clock table
+
 -- each that was Idle since a moment is so
 abbrev pub KeepsSettled : Table → Table → Type 0
 KeepsSettled old new = (id clock : ℕ) → IsSettled id clock old → IsSettled id clock new
@@ -90,6 +95,10 @@ OnlyIsFreed number old new = (id : ℕ) → (id == number) ≡ false → is_free
 -- Where a call is forwarded for the connection of this number, which was Idle, it awaits that.
 abbrev pub AwaitsIfForwarded : Outcome → ℕ → Table → Table → Type 0
 AwaitsIfForwarded given id old new = given ≡ outcomes.Forwarded → has_idle id old ≡ true → is_free id new ≡ false
+
+-- it is Idle, and has this mark
+abbrev pub IsIdleAt : ℕ → Slot → Type 0
+IsIdleAt clock slot = (is_idle_stage slot.stage ≡ true) × (slot.mark ≡ clock)
 
 -- A record ended on it: it awaited no forwarded call, and is Idle since this moment.
 pub record HearsSlot (clock : ℕ) (old new : Slot) : Type 0 where

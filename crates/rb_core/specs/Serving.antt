@@ -27,7 +27,7 @@ use Rattle.rb_model.specs.State.{Connections}
 use Rattle.rb_model.specs.Losses.{crowding, evicting}
 use Rattle.rb_model.specs.Calls.{Outcome, Outcome as said, is_no_call, told_as, outcome, message_with, longest_reply}
 use Rattle.rb_core.specs.Core.{outcome_with}
-use Rattle.rb_core.specs.Slots.{SlotBecomesFrom, BecomesFrom}
+use Rattle.rb_core.specs.Slots.{SlotBecomesFrom, BecomesFrom, StaysTable}
 use Rattle.rb_core.specs.declared.giving.Giving.{Giving}
 use Rattle.rb_core.specs.declared.giving.Rest.{Rest}
 use Rattle.rb_core.specs.declared.slot.Stage.TheVariants as stages
@@ -36,8 +36,8 @@ use Rattle.rb_model.specs.declared.message.Message.{Message}
 use Rattle.rb_core.specs.declared.slot.Slot.{Slot}
 use Rattle.rb_model.specs.Connections.{settled, changed_at}
 use Rattle.rb_core.specs.Reading.{null_message}
-use Rattle.rb_core.specs.Listings.{source_in}
-use Rattle.rb_core.specs.Awaits.{StayUnlessForwarded}
+use Rattle.rb_core.specs.Listings.{AreTold, source_in}
+use Rattle.rb_core.specs.Awaits.{KeepsAwaited, StayUnlessForwarded}
 
 -- a list under this xid of the rows that are live now
 abbrev pub listing_outcome : Source → ℕ → Listing → Outcome
@@ -135,13 +135,12 @@ pub record WritesReply (before after : Kept) : Type 0 where
   pub tie : after.tie ≡ before.tie
   pub short : length after.bytes ≤ longest_reply
 
--- A message can be served for a call that sees this: from these books, with its reply into this buffer.
-pub record CanServe (tie : ℕ) (context : Context) (books : Books) (out : Kept) : Type 0 where
+-- A message can be served from these books for a call that sees this.
+pub record CanServe (tie : ℕ) (context : Context) (books : Books) : Type 0 where
   pub tied : AreTied tie books
   pub limit : books.registry.limit ≡ context.limit
   pub forwards : books.forwards.cap ≡ context.forwards
   pub caller : IsNew context.caller (slots_of books.forwards)
-  pub reply : IsEmptyReply tie out
 
 -- What is written by serving it, and what stays of the books: no forwarded call is new but one of the caller's own.
 pub record LeavesBooks (context : Context) (old new : Books) (served : Served) (before after : Kept) : Type 0 where
@@ -151,6 +150,13 @@ pub record LeavesBooks (context : Context) (old new : Books) (served : Served) (
   pub quiet : StayUnlessForwarded (kind_in served) old.forwards new.forwards
   pub waiting : OnlyCallerWaits context.caller old new
   pub frame : SameFrame old new
+
+-- Connections and books go on once a record on a connection was answered.
+pub record PartsGoOn (host : List ℕ) (connections : Table) (books : Books) (left : Table) (after : Books) : Type 0 where
+  pub awaited : KeepsAwaited books connections after left
+  pub told : AreTold (source_in host after) left
+  pub frame : SameFrame books after
+  pub stays : StaysTable connections left
 
 -- the list that is streamed to a caller, where results are one
 abbrev pub streamed : Caller → Results → Option Listing

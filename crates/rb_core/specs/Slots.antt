@@ -294,6 +294,11 @@ pub record IsDraft (tie : ℕ) (kept : Kept) : Type 0 where
   pub tie_is : kept.tie ≡ tie
   pub cap : kept.cap ≡ buffer_size
 
+-- the same, and it is empty
+pub record IsEmptyDraft (tie : ℕ) (kept : Kept) : Type 0 where
+  pub is_draft : IsDraft tie kept
+  pub empty : kept.bytes ≡ []
+
 -- the slot goes on having its number, and buffers of this meter
 pub record StaysSlot (tie : ℕ) (old new : Slot) : Type 0 where
   pub number : new.number ≡ old.number

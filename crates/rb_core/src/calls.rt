@@ -6,12 +6,12 @@ ghost use Rattle.rb_forward.specs.StandsFor.{slots_of};
 ghost use Rattle.rb_forward.specs.Table.{is_waiting};
 ghost use Rattle.rb_proto.specs.Books.{AreTied, SameFrame};
 ghost use Rattle.rb_core.specs.AtOnce.{AnswersFrom, GivesFrom, whole_cost};
-ghost use Rattle.rb_core.specs.Awaits.{has_idle, IsSettled, KeepsAwaited, StayOpen};
+ghost use Rattle.rb_core.specs.Awaits.{IsIdleSince, StayOpen};
 ghost use Rattle.rb_core.specs.CallCosts.{message_cost, served_cost};
 ghost use Rattle.rb_model.specs.Calls.{longest_reply};
-ghost use Rattle.rb_core.specs.Serving.{CanServe, LeavesBooks, ServesVerdict};
+ghost use Rattle.rb_core.specs.Serving.{CanServe, IsEmptyReply, LeavesBooks, PartsGoOn, ServesVerdict};
 ghost use Rattle.rb_core.specs.Listings.{AreTold, source_in};
-ghost use Rattle.rb_core.specs.Slots.{IsDraft, StaysTable};
+ghost use Rattle.rb_core.specs.Slots.{IsEmptyDraft};
 
 use crate::connections::Connections;
 use crate::eviction::make_room;
@@ -37,7 +37,8 @@ pub fn serve_verdict(
     meter: &mut Meter,
 ) -> Served
     requires tie { meter.old.tie ≡ connections.old.tie }
-    requires can { CanServe meter.old.tie context.now books.old out.old }
+    requires can { CanServe meter.old.tie context.now books.old }
+    requires out { IsEmptyReply meter.old.tie out.old }
     requires told { AreTold (source_in context.now.listener.host books.old) connections.old }
     ensures acts { ServesVerdict context.now verdict.now arguments.now connections.old books.old
         connections.new books.new result out.new }
@@ -75,27 +76,19 @@ pub fn answer(
     meter: &mut Meter,
 ) -> (bool, usize)
     requires context { context.now.caller ≡ Tcp id heard.now.peer }
-    requires limit { books.old.registry.limit ≡ context.now.limit }
-    requires forwards { books.old.forwards.cap ≡ context.now.forwards }
-    requires tied { AreTied meter.old.tie books.old }
+    requires can { CanServe meter.old.tie context.now books.old }
     requires tie { meter.old.tie ≡ connections.old.tie }
-    requires draft { IsDraft meter.old.tie draft.old }
-    requires empty { draft.old.bytes ≡ [] }
+    requires draft { IsEmptyDraft meter.old.tie draft.old }
     requires told { AreTold (source_in context.now.listener.host books.old) connections.old }
-    requires idle { has_idle id connections.old ≡ true }
-    requires settled { IsSettled id context.now.clock connections.old }
-    requires caller { is_waiting id (slots_of books.old.forwards) ≡ false }
+    requires idle { IsIdleSince id context.now.clock connections.old }
     ensures acts { AnswersFrom context.now id heard.now arguments.now connections.old books.old
         connections.new books.new result.0 (take result.1 room.new) }
     ensures count { GivesFrom (length room.old) context.now id heard.now arguments.now
         connections.old books.old result.1 }
     ensures within { result.1 ≤ length room.new }
-    ensures awaited { KeepsAwaited books.old connections.old books.new connections.new }
-    ensures told { AreTold (source_in context.now.listener.host books.new) connections.new }
-    ensures frame { SameFrame books.old books.new }
-    ensures stays { StaysTable connections.old connections.new }
-    ensures draft { IsDraft meter.old.tie draft.new }
-    ensures empty { draft.new.bytes ≡ [] }
+    ensures goes_on { PartsGoOn context.now.listener.host connections.old books.old
+        connections.new books.new }
+    ensures draft { IsEmptyDraft meter.old.tie draft.new }
     ensures cost { PaysAtMost meter.old meter.new
         (served_cost connections.old books.old books.new (length arguments.now)
         + whole_cost (length room.old) result.1) }

@@ -242,7 +242,7 @@ impl Connections {
     ghost use Rattle.rb_core.specs.Serving.{Settles, kind_in, IsWritten};
     ghost use Rattle.rb_core.specs.Listings.{AreTold, KeepsTold, EvictsBefore, stamps_of, IsOldest};
     ghost use Rattle.rb_model.specs.Losses.{expiring};
-    ghost use Rattle.rb_core.specs.Slots.{Finds, TableActs, TableGives, TableHears, TableLends, TableShows, TakesWhole, KeepsWhole, StaysTable, IsDraft, empty_table, feeding, HasBuffers};
+    ghost use Rattle.rb_core.specs.Slots.{Finds, TableActs, TableGives, TableHears, TableLends, TableShows, TakesWhole, KeepsWhole, StaysTable, IsDraft, IsEmptyDraft, empty_table, feeding, HasBuffers};
     ghost use Rattle.rb_model.specs.Step.{pending_at};
     ghost use Rattle.rb_core.specs.CallCosts.{slot_count, look_cost, received_cost, taken_cost, settling_cost, giving_cost};
     ghost use Rattle.rb_model.specs.Costs.{pending_cost, oldest_cost, evict_cost};
@@ -405,8 +405,7 @@ impl Connections {
         ensures others { OnlyIsFreed id self.old self.new }
         ensures awaits { AwaitsIfForwarded (kind_in served) id self.old self.new }
         ensures stays { StaysTable self.old self.new }
-        ensures draft { IsDraft meter.old.tie draft.new }
-        ensures empty { draft.new.bytes ≡ [] }
+        ensures draft { IsEmptyDraft meter.old.tie draft.new }
         ensures cost { PaysAtMost meter.old meter.new
             (settling_cost (slot_count self.old) registry.now served) }
     {
@@ -437,8 +436,7 @@ impl Connections {
     ) -> Result<(), CoreFault>
         requires registry { meter.old.tie ≡ registry.now.tie }
         requires tie { meter.old.tie ≡ self.old.tie }
-        requires scratch { IsDraft meter.old.tie scratch.old }
-        requires empty { scratch.old.bytes ≡ [] }
+        requires scratch { IsEmptyDraft meter.old.tie scratch.old }
         requires told { AreTold (source_for host registry.now) self.old }
         ensures acts { TableGives
             (source_for host registry.now) id clock n self.old self.new result }
@@ -446,8 +444,7 @@ impl Connections {
         ensures free { NoneIsFreed self.old self.new }
         ensures refused { OnErr result (self.new ≡ self.old) }
         ensures stays { StaysTable self.old self.new }
-        ensures draft { IsDraft meter.old.tie scratch.new }
-        ensures empty { scratch.new.bytes ≡ [] }
+        ensures draft { IsEmptyDraft meter.old.tie scratch.new }
         ensures cost { PaysAtMost meter.old meter.new
             (look_cost self.old + giving_cost registry.now) }
     {

@@ -161,7 +161,7 @@ impl Core {
     ghost use Rattle.rb_model.specs.Step.{datagram, open_connection, bytes, pending, gave, close_connection, next_lost, unsent_call, sent_call};
     ghost use Rattle.rb_core.specs.Giving.{pending_count};
     ghost use Rattle.rb_model.specs.Ending.{forward_reply, expire_connection, expire};
-    ghost use Rattle.rb_core.specs.Awaits.{has_idle, IsSettled};
+    ghost use Rattle.rb_core.specs.Awaits.{IsIdleSince};
     ghost use Rattle.rb_core.specs.HeldBytes.{held};
     ghost use Rattle.rb_model.specs.Bounds.{bytes_bound};
     ghost use Rattle.rb_core.specs.HeldBytes.{NeverPasses};
@@ -408,8 +408,7 @@ impl Core {
         meter: &mut Meter,
     ) -> (bool, usize)
         requires tie { meter.old.tie ≡ self.old.tie }
-        requires idle { has_idle id self.old.connections ≡ true }
-        requires settled { IsSettled id self.old.clock self.old.connections }
+        requires idle { IsIdleSince id self.old.clock self.old.connections }
         requires caller { is_waiting id (slots_of self.old.books.forwards) ≡ false }
         ensures acts { AnswersGiving id (heard_in whole.entry) (kept_in whole.entry)
             self.old self.new result.0 (take result.1 room.new) }
@@ -449,8 +448,7 @@ impl Core {
         meter: &mut Meter,
     ) -> (bool, usize)
         requires tie { meter.old.tie ≡ self.old.tie }
-        requires idle { has_idle id self.old.connections ≡ true }
-        requires settled { IsSettled id self.old.clock self.old.connections }
+        requires idle { IsIdleSince id self.old.clock self.old.connections }
         requires caller { is_waiting id (slots_of self.old.books.forwards) ≡ false }
         ensures acts { AnswersGiving id heard self.old.arguments
             (without_arguments self.old) self.new result.0 (take result.1 room.new) }

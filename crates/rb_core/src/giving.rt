@@ -10,7 +10,7 @@ ghost use Rattle.rb_core.specs.StandsFor.{Source, rest_in, source_for};
 ghost use Rattle.rb_core.specs.Giving.{CanTell, ShowsNext};
 ghost use Rattle.rb_rpc.specs.Records.{fragment_header};
 ghost use Rattle.rb_proto.specs.ListReplies.{longest_part};
-ghost use Rattle.rb_core.specs.Slots.{IsDraft};
+ghost use Rattle.rb_core.specs.Slots.{IsDraft, IsEmptyDraft};
 ghost use Rattle.rb_model.specs.Costs.{show_cost};
 ghost use Rattle.rb_core.specs.CallCosts.{next_cost, show_list_cost};
 ghost use Rattle.rb_core.specs.AtOnce.{IsGivenWhole, whole_cost, whole_length};
@@ -141,8 +141,7 @@ fn show_list(
     requires some { 0 < length (rest_in (source_for host registry.now) [] (Listed list)) }
     ensures shows { (buffer : List ℕ) → ShowsNext (source_for host registry.now) buffer
         (Listed list) window.old window.new result }
-    ensures draft { IsDraft meter.old.tie scratch.new }
-    ensures empty { scratch.new.bytes ≡ [] }
+    ensures draft { IsEmptyDraft meter.old.tie scratch.new }
     ensures cost { PaysAtMost meter.old meter.new (show_list_cost registry.now) }
 {
     let part = list.next_part(registry, host, scratch, meter);
@@ -170,15 +169,13 @@ pub fn show_next(
     requires registry { meter.old.tie ≡ registry.now.tie }
     requires buffer_tie { meter.old.tie ≡ buffer.now.tie }
     requires window_tie { meter.old.tie ≡ window.old.tie }
-    requires scratch { IsDraft meter.old.tie scratch.old }
-    requires empty { scratch.old.bytes ≡ [] }
+    requires scratch { IsEmptyDraft meter.old.tie scratch.old }
     requires cap { window.old.cap ≡ longest_fragment }
     requires told { CanTell (source_for host registry.now) rest }
     requires some { 0 < length (rest_in (source_for host registry.now) buffer.now.bytes rest) }
     ensures shows { ShowsNext (source_for host registry.now) buffer.now.bytes rest
         window.old window.new result }
-    ensures draft { IsDraft meter.old.tie scratch.new }
-    ensures empty { scratch.new.bytes ≡ [] }
+    ensures draft { IsEmptyDraft meter.old.tie scratch.new }
     ensures cost { PaysAtMost meter.old meter.new (next_cost registry.now rest) }
 {
     match rest {

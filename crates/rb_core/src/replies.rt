@@ -188,7 +188,8 @@ pub fn serve(
     out: &mut Kept,
     meter: &mut Meter,
 ) -> Served
-    requires can { CanServe meter.old.tie context.now books.old out.old }
+    requires can { CanServe meter.old.tie context.now books.old }
+    requires out { IsEmptyReply meter.old.tie out.old }
     requires args { HasArgsIn message.now arguments.now }
     requires room { HasRoom context.now message.now books.old }
     ensures acts { ServesMessage

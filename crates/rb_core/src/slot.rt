@@ -156,13 +156,13 @@ impl Slot {
     ghost use Rattle.std.specs.Prelude.{◌≡◌, ◌≤◌, ◌<◌, ◌+◌, ℕ, List, [], true, false, length, Some, IfSome, IfNone};
     ghost use Rattle.rb_model.specs.State.{Connection};
     ghost use Rattle.rb_model.specs.Connections.{pending_in, longest_fragment};
-    ghost use Rattle.rb_core.specs.Slots.{is_due_slot, SlotActs, SlotGives, SlotHears, SlotShows, emptied_slot, ReceivesPiece, StandsBehindPiece, HearsPiece, HasBuffers, IsDraft, StaysSlot, feeding, heard_whole, is_lost_stage, is_idle_stage, is_wanted_slot};
+    ghost use Rattle.rb_core.specs.Slots.{is_due_slot, SlotActs, SlotGives, SlotHears, SlotShows, emptied_slot, ReceivesPiece, StandsBehindPiece, HearsPiece, HasBuffers, IsDraft, IsEmptyDraft, StaysSlot, feeding, heard_whole, is_lost_stage, is_idle_stage, is_wanted_slot};
     ghost use Rattle.rb_core.specs.StandsFor.{StandsForConnection, charge, most_charge, rest_in, source_for};
     ghost use Rattle.rb_model.specs.Calls.{kept_of};
     ghost use Rattle.rb_core.specs.Listings.{slot_began, IsToldSlot, KeepsToldSlot, IsToldByAll};
     ghost use Rattle.rb_core.specs.Giving.{CanTell};
     ghost use Rattle.rb_core.specs.Serving.{SlotSettles, SlotShowsNext, IsWritten, kind_in};
-    ghost use Rattle.rb_core.specs.Awaits.{is_awaiting_stage, sender_on, HearsSlot};
+    ghost use Rattle.rb_core.specs.Awaits.{is_awaiting_stage, sender_on, HearsSlot, IsIdleAt};
     ghost use Rattle.rb_core.specs.CallCosts.{received_cost, give_cost, next_cost, told_cost};
     ghost use Rattle.rb_model.specs.Costs.{pending_cost};
 
@@ -220,8 +220,7 @@ impl Slot {
         ensures stands { StandsBehindPiece self.old self.new reader clock piece.now }
         ensures stage { is_awaiting_stage self.new.stage ≡ false }
         ensures told { IsToldByAll self.new }
-        ensures heard { IfSome result.heard (λ heard. is_idle_stage self.new.stage ≡ true) }
-        ensures mark { IfSome result.heard (λ heard. self.new.mark ≡ clock) }
+        ensures heard { IfSome result.heard (λ heard. IsIdleAt clock self.new) }
         ensures arguments { HearsPiece self.old reader clock piece.now arguments.old arguments.new }
         ensures within { result.count ≤ length piece.now }
         ensures stays { StaysSlot meter.old.tie self.old self.new }
@@ -332,8 +331,7 @@ impl Slot {
             → is_awaiting_stage self.new.stage ≡ true }
         ensures told { IsToldSlot (source_for host registry.now) self.new }
         ensures stays { StaysSlot meter.old.tie self.old self.new }
-        ensures draft { IsDraft meter.old.tie draft.new }
-        ensures empty { draft.new.bytes ≡ [] }
+        ensures draft { IsEmptyDraft meter.old.tie draft.new }
         ensures cost { PaysAtMost meter.old meter.new (told_cost registry.now served) }
     {
         self.mark = clock;
@@ -374,14 +372,12 @@ impl Slot {
     )
         requires registry { meter.old.tie ≡ registry.now.tie }
         requires buffers { HasBuffers meter.old.tie self.old }
-        requires scratch { IsDraft meter.old.tie scratch.old }
-        requires empty { scratch.old.bytes ≡ [] }
+        requires scratch { IsEmptyDraft meter.old.tie scratch.old }
         requires told { CanTell (source_for host registry.now) rest }
         requires some { 0 < length (rest_in (source_for host registry.now)
             self.old.buffer.bytes rest) }
         ensures shows { SlotShowsNext (source_for host registry.now) rest self.old self.new }
-        ensures draft { IsDraft meter.old.tie scratch.new }
-        ensures empty { scratch.new.bytes ≡ [] }
+        ensures draft { IsEmptyDraft meter.old.tie scratch.new }
         ensures cost { PaysAtMost meter.old meter.new (next_cost registry.now rest) }
     {
         let giving = show_next(
@@ -409,15 +405,13 @@ impl Slot {
     )
         requires registry { meter.old.tie ≡ registry.now.tie }
         requires buffers { HasBuffers meter.old.tie self.old }
-        requires scratch { IsDraft meter.old.tie scratch.old }
-        requires empty { scratch.old.bytes ≡ [] }
+        requires scratch { IsEmptyDraft meter.old.tie scratch.old }
         requires told { IsToldSlot (source_for host registry.now) self.old }
         ensures acts { SlotGives (source_for host registry.now) clock n self.old self.new }
         ensures awaits { is_awaiting_stage self.new.stage ≡ is_awaiting_stage self.old.stage }
         ensures told { IsToldSlot (source_for host registry.now) self.new }
         ensures stays { StaysSlot meter.old.tie self.old self.new }
-        ensures draft { IsDraft meter.old.tie scratch.new }
-        ensures empty { scratch.new.bytes ≡ [] }
+        ensures draft { IsEmptyDraft meter.old.tie scratch.new }
         ensures cost { PaysAtMost meter.old meter.new (give_cost registry.now) }
     {
         let Stage::Giving(giving) = self.stage else {

@@ -48,15 +48,10 @@ module _ (view : Held) (id : ℕ) (peer : Peer) (message : Message) (arguments :
   counts : (room n : ℕ) → n ≡ count_of room given → (s : State) → StandsFor view s → n ≡ given_when_answered room id (settled_in id (serve_message s (Tcp id peer) message arguments))
   counts room n is s h = is ∙ sym (answer_counts room view id peer message arguments roomy books given served_at idle s h)
 
-pub serve_verdict-served-requires-clause-can : goal.serve_verdict-served-requires-clause-can
+pub serve_verdict-served-requires-clause-out : goal.serve_verdict-served-requires-clause-out
 unfolding buffer_size longest_arguments longest_reply
-serve_verdict-served-requires-clause-can c = record {
-  tied = c.requires.tied;
-  limit = c.requires.limit;
-  forwards = c.requires.forwards;
-  caller = subst (λ (x : Caller). IsNew x (slots_of c.args.books.now.forwards)) (sym c.requires.context) c.requires.caller;
-  reply = record { tie_is = c.requires.draft.tie_is; empty = c.requires.empty; room = omega (arith, c.requires.draft.cap) };
-}
+serve_verdict-served-requires-clause-out c =
+    record { tie_is = c.requires.draft.is_draft.tie_is; empty = c.requires.draft.empty; room = omega (arith, c.requires.draft.is_draft.cap) }
 
 -- a reply was given at once
 module _ (c : goal.Then-given-gt0) where
@@ -77,7 +72,7 @@ module _ (c : goal.Then-given-gt0) where
         acts = v.ensures.acts;
         goes = λ o h.
             subst (λ (t : Connections). StandsForConnections source_then v.new.connections t)
-            (sym (settled_stays source_then c.args.id c.args.context.now.clock v.new.connections o (v.ensures.open.settled c.args.id c.args.context.now.clock c.requires.settled) h)) h;
+            (sym (settled_stays source_then c.args.id c.args.context.now.clock v.new.connections o (v.ensures.open.settled c.args.id c.args.context.now.clock c.requires.idle.is_settled) h)) h;
       })
 
 pub returns-then-given-gt0-clause-acts : goal.returns-then-given-gt0-clause-acts
@@ -87,7 +82,7 @@ returns-then-given-gt0-clause-acts c = λ held is.
     let reply = reply_then c in
     answers (with_parts held c.args.connections.now c.args.books.now) c.args.id c.args.heard.now.peer (message_with c.args.heard.now.verdict c.args.arguments.now) c.args.arguments.now v.new.books v.new.connections v.new.connections
     (served_in (source_then c) v.result v.new.out.bytes) Silent (take once.result once.new.room) (done_then c held is)
-    v.ensures.leaves.frame v.ensures.open.stays (v.ensures.open.idle c.args.id c.requires.idle)
+    v.ensures.leaves.frame v.ensures.open.stays (v.ensures.open.idle c.args.id c.requires.idle.is_idle)
     (record { conns = refl; tie = refl; within = λ within. within })
     (leaves_none (source_then c) v.result v.new.out once.new.draft _ (omega (arith, length-take once.result once.new.room, once.ensures.within, c.if-given-gt0.true)) reply) false (rw reply.is_reply refl)
 
@@ -97,15 +92,20 @@ returns-then-given-gt0-clause-count c = λ held is.
     let once = c.give_at_once-given in
     counts (with_parts held c.args.connections.now c.args.books.now) c.args.id c.args.heard.now.peer (message_with c.args.heard.now.verdict c.args.arguments.now) c.args.arguments.now v.new.books v.new.connections v.new.connections
     (served_in (source_then c) v.result v.new.out.bytes) Silent (take once.result once.new.room) (done_then c held is)
-    v.ensures.leaves.frame v.ensures.open.stays (v.ensures.open.idle c.args.id c.requires.idle)
+    v.ensures.leaves.frame v.ensures.open.stays (v.ensures.open.idle c.args.id c.requires.idle.is_idle)
     (length c.args.room.now) once.result (once.ensures.count ∙ counts_served (length c.args.room.now) (source_then c) v.result v.new.out.bytes)
 
-pub returns-then-given-gt0-clause-awaited : goal.returns-then-given-gt0-clause-awaited
-returns-then-given-gt0-clause-awaited c = λ are.
+pub returns-then-given-gt0-clause-goes_on : goal.returns-then-given-gt0-clause-goes_on
+returns-then-given-gt0-clause-goes_on c =
     let v = c.serve_verdict-served in
     let reply = reply_then c in
     let same : v.new.books.forwards ≡ c.args.books.now.forwards = rw reply.is_reply at v.ensures.leaves.quiet in
-    subst (λ (t : Entries). AreAwaited t v.new.connections) (sym same) (λ number waits. v.ensures.open.free number (are number waits))
+    record {
+      awaited = λ are. subst (λ (t : Entries). AreAwaited t v.new.connections) (sym same) (λ number waits. v.ensures.open.free number (are number waits));
+      told = v.ensures.told;
+      frame = v.ensures.leaves.frame;
+      stays = v.ensures.open.stays;
+    }
 
 -- all of the answer is left
 module _ (c : goal.After-is_no_call) where
@@ -137,7 +137,7 @@ returns-clause-acts c = λ held is.
     let v = c.serve_verdict-served in
     answers (with_parts held c.args.connections.now c.args.books.now) c.args.id c.args.heard.now.peer (message_with c.args.heard.now.verdict c.args.arguments.now) c.args.arguments.now v.new.books v.new.connections c.settle.new.self
     (served_in (source_else c) v.result v.new.out.bytes) (served_in (source_else c) v.result v.new.out.bytes) [] (done_else c held is)
-    v.ensures.leaves.frame v.ensures.open.stays (v.ensures.open.idle c.args.id c.requires.idle)
+    v.ensures.leaves.frame v.ensures.open.stays (v.ensures.open.idle c.args.id c.requires.idle.is_idle)
     c.settle.ensures.stays (leaves_all (served_in (source_else c) v.result v.new.out.bytes)) c.is_no_call.result (c.is_no_call.ensures (source_else c) v.new.out.bytes)
 
 pub returns-clause-count : goal.returns-clause-count
@@ -145,16 +145,20 @@ returns-clause-count c = λ held is.
     let v = c.serve_verdict-served in
     counts (with_parts held c.args.connections.now c.args.books.now) c.args.id c.args.heard.now.peer (message_with c.args.heard.now.verdict c.args.arguments.now) c.args.arguments.now v.new.books v.new.connections c.settle.new.self
     (served_in (source_else c) v.result v.new.out.bytes) (served_in (source_else c) v.result v.new.out.bytes) [] (done_else c held is)
-    v.ensures.leaves.frame v.ensures.open.stays (v.ensures.open.idle c.args.id c.requires.idle)
+    v.ensures.leaves.frame v.ensures.open.stays (v.ensures.open.idle c.args.id c.requires.idle.is_idle)
     (length c.args.room.now) 0 (sym (none_given c) ∙ c.give_at_once-given.ensures.count ∙ counts_served (length c.args.room.now) (source_else c) v.result v.new.out.bytes)
 
-pub returns-clause-awaited : goal.returns-clause-awaited
-returns-clause-awaited c = λ are.
+pub returns-clause-goes_on : goal.returns-clause-goes_on
+returns-clause-goes_on c =
     let v = c.serve_verdict-served in
-    let awaited : AreAwaited c.args.books.now.forwards v.new.connections = λ number waits. v.ensures.open.free number (are number waits) in
+    let caller = subst (λ (x : Caller). IsNew x (slots_of c.args.books.now.forwards)) c.requires.context c.requires.can.caller in
     let anew = subst (λ (x : Caller). OnlyWaitsAnew x (slots_of c.args.books.now.forwards) (slots_of v.new.books.forwards)) c.requires.context v.ensures.leaves.waiting in
-    awaited_when_answered c.args.books.now.forwards v.new.books.forwards c.args.id c.args.heard.now.peer v.new.connections c.settle.new.self (kind_in v.result)
-    awaited c.requires.caller anew v.ensures.leaves.quiet c.settle.ensures.others (λ is. c.settle.ensures.awaits is (v.ensures.open.idle c.args.id c.requires.idle))
-
-pub returns-clause-stays : goal.returns-clause-stays
-returns-clause-stays c = stays_twice _ _ _ c.serve_verdict-served.ensures.open.stays c.settle.ensures.stays
+    record {
+      awaited = λ are.
+          let awaited : AreAwaited c.args.books.now.forwards v.new.connections = λ number waits. v.ensures.open.free number (are number waits) in
+          awaited_when_answered c.args.books.now.forwards v.new.books.forwards c.args.id c.args.heard.now.peer v.new.connections c.settle.new.self (kind_in v.result)
+          awaited caller anew v.ensures.leaves.quiet c.settle.ensures.others (λ is. c.settle.ensures.awaits is (v.ensures.open.idle c.args.id c.requires.idle.is_idle));
+      told = c.settle.ensures.told;
+      frame = v.ensures.leaves.frame;
+      stays = stays_twice _ _ _ v.ensures.open.stays c.settle.ensures.stays;
+    }

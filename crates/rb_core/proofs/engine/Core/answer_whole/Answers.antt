@@ -9,7 +9,7 @@ use Rattle.rb_model.specs.Calls.{kept_of}
 use Rattle.rb_core.specs.Core.{context_of}
 use Rattle.rb_core.specs.Slots.{heard_of}
 use Rattle.rb_core.specs.AtOnce.{AnswersGiving, GivesAtOnce}
-use Rattle.rb_core.proofs.Answering.{told_for_room, told_for_view, sees}
+use Rattle.rb_core.proofs.Answering.{can_serve, told_for_room, told_for_view, sees}
 use Rattle.rb_core.proofs.Cores.{core_changed}
 use Rattle.rb_core.proofs.engine.Core.answer_whole.Goals as goal
 
@@ -48,5 +48,10 @@ returns-clause-count c =
 
 pub invariant_of-self : goal.invariant_of-self
 invariant_of-self c =
-    core_changed _ _ _ _ _ _ _ _ _ _ _ _ _ c.self.invariant c.answer.ensures.stays c.answer.ensures.frame refl refl c.self.invariant.len c.self.invariant.short
-    (c.answer.ensures.awaited c.self.invariant.awaited) (told_for_view (the_view c.self.inside) (Tcp c.args.id c.args.whole.peer) c.context-context.result (is_seen c) c.answer.new.connections c.answer.new.books c.answer.ensures.told) (search rules) c.answer.ensures.empty (search rules)
+    core_changed _ _ _ _ _ _ _ _ _ _ _ _ _ c.self.invariant c.answer.ensures.goes_on.stays c.answer.ensures.goes_on.frame refl refl c.self.invariant.len c.self.invariant.short
+    (c.answer.ensures.goes_on.awaited c.self.invariant.awaited) (told_for_view (the_view c.self.inside) (Tcp c.args.id c.args.whole.peer) c.context-context.result (is_seen c) c.answer.new.connections c.answer.new.books c.answer.ensures.goes_on.told) (search rules) c.answer.ensures.draft.empty (search rules)
+
+pub answer-requires-clause-can : goal.answer-requires-clause-can
+answer-requires-clause-can c =
+    can_serve c.args.meter.now.tie (the_view c.self.inside) c.args.id c.args.whole.peer c.context-context.result
+    (sees (the_view c.self.inside) c.args.self.now c.context-context.result (Tcp c.args.id c.args.whole.peer) c.self.view_is c.context-context.ensures) (search rules) c.self.invariant.limit c.self.invariant.forwards (search rules)
