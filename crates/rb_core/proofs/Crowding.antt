@@ -23,15 +23,16 @@ use Rattle.rb_core.specs.declared.slot.Stage.{Stage}
 use Rattle.rb_core.specs.declared.slot.Stage.TheVariants as stages
 use Rattle.rb_model.specs.declared.message.Message.{Message}
 use Rattle.rb_model.specs.declared.message.Message.TheVariants as says
-use Rattle.rb_model.specs.State.{Phase, Connection, Connections}
-use Rattle.rb_model.specs.State.Phase.{Idle, Reading, Owing, Awaiting, Lost}
+use Rattle.rb_model.specs.State.{Owed, Phase, Connection, Connections}
 use Rattle.rb_model.specs.Losses.{began_in, begins, is_kept_for, removals_by, kept_removals}
+use Rattle.rb_core.specs.declared.giving.Giving.{Giving}
 use Rattle.rb_core.specs.declared.giving.Rest.{Rest}
 use Rattle.rb_core.specs.declared.giving.Rest.TheVariants as rests
 use Rattle.rb_core.specs.Giving.{CanTell}
-use Rattle.rb_core.specs.StandsFor.{rest_in, stamp_in, Source, Table, StandsForPhase, StandsForConnection, StandsForConnections, source_for}
+use Rattle.rb_core.specs.StandsFor.{IsGiving, rest_in, stamp_in, Source, Table, StandsForPhase, StandsForConnection, StandsForConnections, source_for}
 use Rattle.rb_core.specs.Listings.{HasRoom, began_stage, slot_began, IsToldStage, IsToldSlot, AreTold, stamps_of, IsOldest, IsEarliest}
 use Rattle.rb_core.proofs.Evicting.{began_alike}
+use Rattle.rb_core.proofs.Phases.{by_phase}
 
 -- ---- lists go on
 
@@ -64,33 +65,14 @@ module _ (host : List ℕ) (old new : Registry) (goes : GoesOn old new) where
   stage_told buffer stages.Lost low t = tt
 
   phase_stands : (stage : Stage) (buffer window : Kept) (phase : Phase) → IsLow stage → IsToldStage before buffer.bytes stage → StandsForPhase before stage buffer window phase → StandsForPhase after stage buffer window phase
-  phase_stands stages.Idle buffer window Idle low t h = h
-  phase_stands stages.Idle buffer window (Reading fed) low t h = absurd h
-  phase_stands stages.Idle buffer window (Owing o) low t h = absurd h
-  phase_stands stages.Idle buffer window Awaiting low t h = absurd h
-  phase_stands stages.Idle buffer window Lost low t h = absurd h
-  phase_stands (stages.Reading reader) buffer window Idle low t h = absurd h
-  phase_stands (stages.Reading reader) buffer window (Reading fed) low t h = h
-  phase_stands (stages.Reading reader) buffer window (Owing o) low t h = absurd h
-  phase_stands (stages.Reading reader) buffer window Awaiting low t h = absurd h
-  phase_stands (stages.Reading reader) buffer window Lost low t h = absurd h
-  phase_stands (stages.Giving giving) buffer window Idle low t h = absurd h
-  phase_stands (stages.Giving giving) buffer window (Reading fed) low t h = absurd h
-  phase_stands (stages.Giving giving) buffer window (Owing o) low t h =
-      let s = rest_goes_on giving.rest low t.told in
-      record { reply = h.reply; shows = h.shows; began = h.began; place = h.place; rest = s.1 buffer.bytes ∙ h.rest; last = h.last }
-  phase_stands (stages.Giving giving) buffer window Awaiting low t h = absurd h
-  phase_stands (stages.Giving giving) buffer window Lost low t h = absurd h
-  phase_stands stages.Awaiting buffer window Idle low t h = absurd h
-  phase_stands stages.Awaiting buffer window (Reading fed) low t h = absurd h
-  phase_stands stages.Awaiting buffer window (Owing o) low t h = absurd h
-  phase_stands stages.Awaiting buffer window Awaiting low t h = h
-  phase_stands stages.Awaiting buffer window Lost low t h = absurd h
-  phase_stands stages.Lost buffer window Idle low t h = absurd h
-  phase_stands stages.Lost buffer window (Reading fed) low t h = absurd h
-  phase_stands stages.Lost buffer window (Owing o) low t h = absurd h
-  phase_stands stages.Lost buffer window Awaiting low t h = absurd h
-  phase_stands stages.Lost buffer window Lost low t h = h
+  phase_stands stage buffer window phase low t h =
+      by_phase before buffer window (λ s p. IsLow s → IsToldStage before buffer.bytes s → StandsForPhase after s buffer window p)
+      (λ z l u. z) (λ reader fed z l u. z) (λ g o z l u. goes_on g o z l u) (λ z l u. z) (λ l u. tt) stage phase h low t
+    where
+      goes_on : (g : Giving) (o : Owed) → IsGiving before g buffer.bytes window o → IsLow (stages.Giving g) → IsToldStage before buffer.bytes (stages.Giving g) → IsGiving after g buffer.bytes window o
+      goes_on g o z l u =
+          let s = rest_goes_on g.rest l u.told in
+          record { reply = z.reply; shows = z.shows; began = z.began; place = z.place; rest = s.1 buffer.bytes ∙ z.rest; last = z.last }
 
   abbrev AreLow : List Slot → Type 0
   AreLow slots = All (λ n. new.floor ≤ n) (filter_map slot_began slots)

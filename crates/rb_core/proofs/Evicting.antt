@@ -13,42 +13,20 @@ use Rattle.rb_core.specs.declared.slot.Buffers.{Buffers}
 use Rattle.rb_core.specs.declared.slot.Stage.{Stage}
 use Rattle.rb_core.specs.declared.slot.Stage.TheVariants as stages
 use Rattle.rb_model.specs.State.{Phase, Connection, Connections}
-use Rattle.rb_model.specs.State.Phase.{Idle, Reading, Owing, Awaiting, Lost}
+use Rattle.rb_model.specs.State.Phase.{Lost}
 use Rattle.rb_model.specs.Losses.{began_in, began_before, evicted, evicting}
 use Rattle.rb_core.specs.StandsFor.{Source, Table, StandsForPhase, StandsForConnection, StandsForConnections, charge, held_in, IsWithin}
 use Rattle.rb_core.specs.Slots.{IsTable, StaysTable, HasBuffers, AreNumbered, is_numbered, is_idle_stage}
 use Rattle.rb_core.specs.Awaits.{is_free_slot, is_free, is_idle_slot, has_idle, NoneIsFreed}
 use Rattle.rb_core.specs.StandsFor.{stamp_in}
 use Rattle.rb_core.specs.Listings.{began_stage, slot_began, IsToldSlot, IsOldest, earlier, IsEarliest, began_early, evicted_slot, with_evicted}
+use Rattle.rb_core.proofs.Phases.{by_phase}
 
 -- ---- one slot
 
 pub began_alike : (source : Source) (stage : Stage) (buffer window : Kept) (phase : Phase) → StandsForPhase source stage buffer window phase → began_stage stage ≡ began_in phase
-began_alike source stages.Idle buffer window Idle h = refl
-began_alike source stages.Idle buffer window (Reading fed) h = absurd h
-began_alike source stages.Idle buffer window (Owing o) h = absurd h
-began_alike source stages.Idle buffer window Awaiting h = absurd h
-began_alike source stages.Idle buffer window Lost h = absurd h
-began_alike source (stages.Reading reader) buffer window Idle h = absurd h
-began_alike source (stages.Reading reader) buffer window (Reading fed) h = refl
-began_alike source (stages.Reading reader) buffer window (Owing o) h = absurd h
-began_alike source (stages.Reading reader) buffer window Awaiting h = absurd h
-began_alike source (stages.Reading reader) buffer window Lost h = absurd h
-began_alike source (stages.Giving giving) buffer window Idle h = absurd h
-began_alike source (stages.Giving giving) buffer window (Reading fed) h = absurd h
-began_alike source (stages.Giving giving) buffer window Awaiting h = absurd h
-began_alike source (stages.Giving giving) buffer window Lost h = absurd h
-began_alike source (stages.Giving giving) buffer window (Owing o) h = sym h.began
-began_alike source stages.Awaiting buffer window Idle h = absurd h
-began_alike source stages.Awaiting buffer window (Reading fed) h = absurd h
-began_alike source stages.Awaiting buffer window (Owing o) h = absurd h
-began_alike source stages.Awaiting buffer window Awaiting h = refl
-began_alike source stages.Awaiting buffer window Lost h = absurd h
-began_alike source stages.Lost buffer window Idle h = absurd h
-began_alike source stages.Lost buffer window (Reading fed) h = absurd h
-began_alike source stages.Lost buffer window (Owing o) h = absurd h
-began_alike source stages.Lost buffer window Awaiting h = absurd h
-began_alike source stages.Lost buffer window Lost h = refl
+began_alike source stage buffer window phase h =
+    by_phase source buffer window (λ s p. began_stage s ≡ began_in p) (λ z. refl) (λ reader fed z. refl) (λ giving o z. sym z.began) (λ z. refl) refl stage phase h
 
 -- before the earliest change is before all of them
 before_all : (changes : List ℕ) (earliest n : ℕ) → IsEarliest changes earliest → list_all (λ later. nat_lt n later) changes ≡ nat_lt n earliest

@@ -20,6 +20,7 @@ use Rattle.rb_core.specs.StandsFor.{IsGiving, IsReading, Source, StandsForPhase,
 use Rattle.rb_core.specs.Reading.{Fed, Reader, fed_until}
 use Rattle.rb_core.specs.declared.giving.Giving.{Giving}
 use Rattle.rb_core.specs.Slots.{Acts, received, fed_with, feeding, arguments_after, arguments_heard}
+use Rattle.rb_core.proofs.Phases.{by_phase}
 
 -- ---- the phase by the stage
 
@@ -178,27 +179,9 @@ none_given source old clock n none = record {
 
 -- nothing is pending but where a reply is owed
 pub nothing_pending : (source : Source) (stage : Stage) (buffer window : Kept) (phase : Phase) → ((x : Giving) → stage ≡ stages.Giving x → ⊥) → StandsForPhase source stage buffer window phase → pending_in phase ≡ []
-nothing_pending source stages.Idle buffer window Idle other h = refl
-nothing_pending source stages.Idle buffer window (Reading fed) other h = absurd h
-nothing_pending source stages.Idle buffer window (Owing o) other h = absurd h
-nothing_pending source stages.Idle buffer window Awaiting other h = absurd h
-nothing_pending source stages.Idle buffer window Lost other h = absurd h
-nothing_pending source (stages.Reading reader) buffer window Idle other h = absurd h
-nothing_pending source (stages.Reading reader) buffer window (Reading fed) other h = refl
-nothing_pending source (stages.Reading reader) buffer window (Owing o) other h = absurd h
-nothing_pending source (stages.Reading reader) buffer window Awaiting other h = absurd h
-nothing_pending source (stages.Reading reader) buffer window Lost other h = absurd h
-nothing_pending source (stages.Giving giving) buffer window phase other h = absurd (other giving refl)
-nothing_pending source stages.Awaiting buffer window Idle other h = absurd h
-nothing_pending source stages.Awaiting buffer window (Reading fed) other h = absurd h
-nothing_pending source stages.Awaiting buffer window (Owing o) other h = absurd h
-nothing_pending source stages.Awaiting buffer window Awaiting other h = refl
-nothing_pending source stages.Awaiting buffer window Lost other h = absurd h
-nothing_pending source stages.Lost buffer window Idle other h = absurd h
-nothing_pending source stages.Lost buffer window (Reading fed) other h = absurd h
-nothing_pending source stages.Lost buffer window (Owing o) other h = absurd h
-nothing_pending source stages.Lost buffer window Awaiting other h = absurd h
-nothing_pending source stages.Lost buffer window Lost other h = refl
+nothing_pending source stage buffer window phase other h =
+    by_phase source buffer window (λ s p. ((x : Giving) → s ≡ stages.Giving x → ⊥) → pending_in p ≡ [])
+    (λ z not. refl) (λ reader fed z not. refl) (λ g o z not. absurd (not g refl)) (λ z not. refl) (λ not. refl) stage phase h other
 
 pub goes_on_giving : (source : Source) (giving : Giving) (buffer window : Kept) (more : ℕ) (o : Owed) → IsGiving source giving buffer.bytes window (record o { given = o.given + more })
     → StandsForPhase source (stages.Giving giving) buffer window (phase_when_given more (Owing o))

@@ -23,14 +23,14 @@ use Rattle.rb_core.specs.declared.slot.Slot.{Slot}
 use Rattle.rb_core.specs.declared.slot.Wanted.{Wanted}
 use Rattle.rb_core.specs.declared.slot.Wanted.TheVariants as wanted
 use Rattle.rb_model.specs.State.{Phase, Connection, Connections, greatest_number}
-use Rattle.rb_model.specs.State.Phase.{Idle, Reading, Owing, Awaiting, Lost}
+use Rattle.rb_model.specs.State.Phase.{Idle}
 use Rattle.rb_model.specs.Connections.{change_first, changed_at, is_lost, is_live, live_connection, on_live, has_number, number_for, opening_of, is_there, without_number, closing_of}
 use Rattle.rb_core.specs.Slots.{Acts, Shows, is_lost_stage, is_wanted_slot, is_wanted, wanted_slot, IsFound, is_numbered, AreNumbered, IsTable, HasBuffers, arguments_heard, arguments_on}
 use Rattle.rb_core.specs.declared.slot.Stage.{Stage}
-use Rattle.rb_core.specs.declared.slot.Stage.TheVariants as stages
 use Rattle.rb_core.proofs.DueSlots.{due_alike}
 use Rattle.rb_rpc.specs.declared.peer.Peer.{Peer}
 use Rattle.rb_model.proofs.Found.{all_kept, none_any, none_some, some_any}
+use Rattle.rb_core.proofs.Phases.{by_phase}
 
 some_is : {X : Type 0} (x y : X) → Some x ≡ Some y → x ≡ y
 some_is x y h = cc
@@ -122,31 +122,8 @@ module _ {A B : Type 0} (R : A → B → Type 0) where
 -- ---- slots and connections
 
 lost_as_stage : (source : Source) (stage : Stage) (buffer window : Kept) (phase : Phase) → StandsForPhase source stage buffer window phase → is_lost_stage stage ≡ is_lost phase
-lost_as_stage source stages.Idle buffer window Idle h = refl
-lost_as_stage source stages.Idle buffer window (Reading fed) h = absurd h
-lost_as_stage source stages.Idle buffer window (Owing o) h = absurd h
-lost_as_stage source stages.Idle buffer window Awaiting h = absurd h
-lost_as_stage source stages.Idle buffer window Lost h = absurd h
-lost_as_stage source (stages.Reading marks) buffer window Idle h = absurd h
-lost_as_stage source (stages.Reading marks) buffer window (Reading fed) h = refl
-lost_as_stage source (stages.Reading marks) buffer window (Owing o) h = absurd h
-lost_as_stage source (stages.Reading marks) buffer window Awaiting h = absurd h
-lost_as_stage source (stages.Reading marks) buffer window Lost h = absurd h
-lost_as_stage source (stages.Giving giving) buffer window Idle h = absurd h
-lost_as_stage source (stages.Giving giving) buffer window (Reading fed) h = absurd h
-lost_as_stage source (stages.Giving giving) buffer window (Owing o) h = refl
-lost_as_stage source (stages.Giving giving) buffer window Awaiting h = absurd h
-lost_as_stage source (stages.Giving giving) buffer window Lost h = absurd h
-lost_as_stage source stages.Awaiting buffer window Idle h = absurd h
-lost_as_stage source stages.Awaiting buffer window (Reading fed) h = absurd h
-lost_as_stage source stages.Awaiting buffer window (Owing o) h = absurd h
-lost_as_stage source stages.Awaiting buffer window Awaiting h = refl
-lost_as_stage source stages.Awaiting buffer window Lost h = absurd h
-lost_as_stage source stages.Lost buffer window Idle h = absurd h
-lost_as_stage source stages.Lost buffer window (Reading fed) h = absurd h
-lost_as_stage source stages.Lost buffer window (Owing o) h = absurd h
-lost_as_stage source stages.Lost buffer window Awaiting h = absurd h
-lost_as_stage source stages.Lost buffer window Lost h = refl
+lost_as_stage source stage buffer window phase h =
+    by_phase source buffer window (λ s p. is_lost_stage s ≡ is_lost p) (λ z. refl) (λ reader fed z. refl) (λ giving o z. refl) (λ z. refl) refl stage phase h
 
 pub wanted_alike : (source : Source) (sought : Wanted) (slot : Slot) (c : Connection) → StandsForConnection source slot c → is_wanted_slot sought slot ≡ is_wanted sought c
 unfolding is_wanted_slot is_wanted is_live
