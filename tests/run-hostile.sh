@@ -1,13 +1,14 @@
 #!/usr/bin/env bash
-# Attacks the built daemon over sockets, each attack bounded in count and time, with a good client beside it that makes
-# calls over UDP and over TCP, a connection for each. A line for each attack says how many calls were answered of how many,
-# the longest wait, and what of the daemon's own memory is resident before and after. An attack fails where fewer than 99
-# of 100 calls were answered, one waited over 50 milliseconds, or memory grew by a page. tests/hostile/attacks.py has them.
+# Attacks the built daemon over sockets, each attack bounded in count and time, with a good client beside it that
+# makes calls over UDP and over TCP, a connection for each. A line for each attack says how many calls were answered
+# of how many, the longest wait, and what of the daemon's own memory is resident before and after. An attack fails
+# where fewer than 99 of 100 calls were answered, one waited over 50 milliseconds, or memory grew by a page.
+# tests/hostile/attacks.py has them.
 #
-# The program may be another one: `PROGRAM=PATH make hostile`. Words are names of attacks, in place of all. As root it runs
-# in a network namespace of its own, where attackers and good client have addresses of their own; else on the loopback, at
-# high ports, where all of them are peers of this host. Wants python3. The last line is 'N passed, N failed'; the status is
-# 1 where one failed.
+# The program may be another one: `PROGRAM=PATH make hostile`. Words are names of attacks, in place of all. As root it
+# runs in a network namespace of its own, where attackers and good client have addresses of their own; else on the
+# loopback, at high ports, where all of them are peers of this host. Wants python3. The last line is 'N passed, N
+# failed'; the status is 1 where one failed.
 set -u
 here=$(cd "$(dirname "$0")" && pwd) || exit 1
 export PROGRAM=${PROGRAM:-$here/../crates/rpcbind/out/rpcbind}

@@ -76,10 +76,11 @@ impl<'a, R: Clock> Daemon<'a, R> {
         })
     }
 
-    /// Waits for events once, at most `wait_ms` milliseconds, and not at all where something is left from the last turn,
-    /// and serves all that it showed, in this order: datagrams, what comes back for forwarded calls, connections, those
-    /// that are owed bytes last, what is due, and at last connections that are to be accepted, for which places are free by then. After a fault, `Socket` of a
-    /// listener, the wait or the clock, what was handed to the core stands, and the daemon can do no more.
+    /// Waits for events once, at most `wait_ms` milliseconds, and not at all where something is left from the last
+    /// turn, and serves all that it showed, in this order: datagrams, what comes back for forwarded calls,
+    /// connections, those that are owed bytes last, what is due, and at last connections that are to be accepted, for
+    /// which places are free by then. After a fault, `Socket` of a listener, the wait or the clock, what was handed
+    /// to the core stands, and the daemon can do no more.
     pub fn turn(&mut self, wait_ms: u64) -> Result<(), DaemonFault> {
         self.wait(wait_ms)?;
         let now = self.moment()?;

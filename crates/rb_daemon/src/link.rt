@@ -34,8 +34,8 @@ pub(crate) struct Link {
     /// None where no connection has the place.
     stream: Option<Stream>,
     origin: Origin,
-    /// The moment of its last progress, or of its opening, in milliseconds. A record that ended is progress, and so are
-    /// bytes that the socket took.
+    /// The moment of its last progress, or of its opening, in milliseconds. A record that ended is progress, and so
+    /// are bytes that the socket took.
     since: u64,
     /// Whether it made progress in the turn that serves it.
     made_progress: bool,
@@ -178,7 +178,8 @@ impl Link {
         })
     }
 
-    /// Whether it is to be given up at this moment, in milliseconds, since its socket takes nothing of what waits for it.
+    /// Whether it is to be given up at this moment, in milliseconds, since its socket takes nothing of what waits for
+    /// it.
     pub(crate) fn is_stuck(&self, moment: u64) -> bool {
         !self.outbox.is_empty() && is_stuck(self.since, moment)
     }
@@ -289,8 +290,8 @@ impl Link {
         Some(taken.count)
     }
 
-    /// Notes whether a record ended with the bytes that were taken, of so many that were there: it did where a reply was
-    /// given, a call is forwarded or bytes are left. Of another one its reply tells (`take_over`).
+    /// Notes whether a record ended with the bytes that were taken, of so many that were there: it did where a reply
+    /// was given, a call is forwarded or bytes are left. Of another one its reply tells (`take_over`).
     fn note_taken(&mut self, taken: usize, held: usize, given: usize) {
         if given > 0 || self.is_awaiting || (taken > 0 && taken < held) {
             self.made_progress = true;
@@ -318,7 +319,7 @@ impl Link {
         let Some(stream) = &mut self.stream else {
             return Next::Close;
         };
-        let came = self.outbox.send(stream);
+        let came = self.outbox.send(&mut stream.outgoing());
         if let Ok(n) = came {
             self.written = self.written.saturating_add(n);
             self.made_progress |= n > 0;
@@ -332,7 +333,7 @@ impl Link {
         };
         self.start = 0;
         self.end = 0;
-        let came = stream.read(&mut self.held);
+        let came = stream.incoming().read(&mut self.held);
         if let Ok(n) = came {
             self.end = n;
             self.is_dry = !reads_on(n, READ_AHEAD, may_end);

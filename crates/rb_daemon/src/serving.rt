@@ -143,8 +143,8 @@ impl Serving {
         }
     }
 
-    /// The last round: serves connections that were left, by events of this turn or by the last turn, and those whose forwarded
-    /// calls have ended. Those that are too many for it are the first of the next turn's.
+    /// The last round: serves connections that were left, by events of this turn or by the last turn, and those whose
+    /// forwarded calls have ended. Those that are too many for it are the first of the next turn's.
     pub(crate) fn serve_left(&mut self) {
         if !self.are_links_left {
             return;
@@ -401,8 +401,8 @@ impl Serving {
         Ok(Again::AtOnce)
     }
 
-    /// Opens a connection, in a free place or in that of one that is given up for it. One that has no peer, or that the core
-    /// does not take, is closed at once.
+    /// Opens a connection, in a free place or in that of one that is given up for it. One that has no peer, or that
+    /// the core does not take, is closed at once.
     fn open(&mut self, registry: &Registry, stream: Stream, from: Option<Peer>) {
         let Some(peer) = from else {
             return;

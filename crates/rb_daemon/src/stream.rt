@@ -4,7 +4,8 @@ use mio::{Interest, Registry, Token};
 use std::io;
 use std::io::{Read, Write};
 
-/// A connection that was accepted, over TCP or on the local socket.
+/// A connection that was accepted, over TCP or on the local socket. It is read and written by its directions alone,
+/// which are two types.
 #[derive(Drop)]
 pub(crate) enum Stream {
     Tcp(TcpStream),
@@ -29,20 +30,42 @@ impl Stream {
             Stream::Local(stream) => registry.register(stream, token, interests),
         }
     }
+
+    pub(crate) fn incoming(&mut self) -> Incoming<'_> {
+        Incoming { stream: self }
+    }
+
+    pub(crate) fn outgoing(&mut self) -> Outgoing<'_> {
+        Outgoing { stream: self }
+    }
 }
 
-impl Read for Stream {
+/// What its peer sends: bytes come out of it, and none go in.
+#[derive(Drop)]
+pub(crate) struct Incoming<'a> {
+    stream: &'a mut Stream,
+}
+
+impl Read for Incoming<'_> {
     fn read(&mut self, room: &mut [u8]) -> io::Result<usize> {
-        match self {
+        let stream = &mut *self.stream;
+        match stream {
             Stream::Tcp(stream) => stream.read(room),
             Stream::Local(stream) => stream.read(room),
         }
     }
 }
 
-impl Write for Stream {
+/// What its peer is sent: bytes go into it, and none come out.
+#[derive(Drop)]
+pub(crate) struct Outgoing<'a> {
+    stream: &'a mut Stream,
+}
+
+impl Write for Outgoing<'_> {
     fn write(&mut self, bytes: &[u8]) -> io::Result<usize> {
-        match self {
+        let stream = &mut *self.stream;
+        match stream {
             Stream::Tcp(stream) => stream.write(bytes),
             Stream::Local(stream) => stream.write(bytes),
         }

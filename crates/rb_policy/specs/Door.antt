@@ -112,8 +112,8 @@ pub record IsGivenUp (places : Places) (newcomer : Origin) (now : ℕ) (place : 
 
 -- ---- what is done with a newcomer
 
--- It takes the first place that is free. Where none is, it takes that of the one that is given up for it. It is closed
--- where there are no places at all.
+-- It takes the first place that is free. Where none is, it takes that of the one that is given up for it. It is
+-- closed where there are no places at all.
 abbrev pub IsAdmitted : Places → Origin → ℕ → Admission → Type 0
 IsAdmitted places newcomer now (Take place) = position is_free places ≡ Some place
 IsAdmitted places newcomer now (GiveUp place) = (position is_free places ≡ None) × IsGivenUp places newcomer now place

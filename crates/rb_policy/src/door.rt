@@ -40,8 +40,8 @@ impl Phase {
     }
 }
 
-/// The phase of a connection: whether its call is forwarded and has not ended, whether it is owed bytes, and whether its
-/// first call or the rest of a call is yet to come.
+/// The phase of a connection: whether its call is forwarded and has not ended, whether it is owed bytes, and whether
+/// its first call or the rest of a call is yet to come.
 pub fn phase_of(is_awaiting: bool, is_owed: bool, is_reading: bool) -> Phase
     ensures { result ≡ phase_of is_awaiting is_owed is_reading }
 {
@@ -77,8 +77,8 @@ pub fn origin_of(peer: Peer, announced: [u8; 4]) -> Origin
 pub struct Holder {
     pub origin: Origin,
     pub phase: Phase,
-    /// The moment of its last progress, or of its opening, in milliseconds. A whole record is progress, and so are bytes
-    /// of a reply that the socket takes.
+    /// The moment of its last progress, or of its opening, in milliseconds. A whole record is progress, and so are
+    /// bytes of a reply that the socket takes.
     pub since: u64,
 }
 

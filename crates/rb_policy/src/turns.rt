@@ -63,8 +63,9 @@ pub fn asks_for_deadlines(settled: Option<u64>, now: u64) -> bool
 }
 
 /// How many connections a listener may accept now. As many as places are free, of those that were free as the turn's
-/// accepting began: the next turn may first free some that were just taken. Where none was free, half of all places, and
-/// at least one: so who takes one is served before others of this kind push it out. At most as many as socket calls of a turn.
+/// accepting began: the next turn may first free some that were just taken. Where none was free, half of all places,
+/// and at least one: so who takes one is served before others of this kind push it out. At most as many as socket
+/// calls of a turn.
 pub fn accepts(free_at_first: usize, free: usize, all: usize) -> usize
     ensures { result ≡ accepts free_at_first free all }
 {
@@ -76,8 +77,8 @@ pub fn accepts(free_at_first: usize, free: usize, all: usize) -> usize
     most.min(SOCKET_CALLS)
 }
 
-/// Whether a connection is left for the next turn, after so many socket calls for it in this one, and so many bytes that
-/// were written.
+/// Whether a connection is left for the next turn, after so many socket calls for it in this one, and so many bytes
+/// that were written.
 pub fn is_cut_off(calls: usize, written: usize) -> bool
     ensures { result ≡ is_cut_off calls written }
 {
@@ -93,8 +94,8 @@ pub enum Round {
     Last,
 }
 
-/// The round of a connection that the last turn left, or did not, and that is in a phase: who is owed bytes, as of a list,
-/// comes behind who has a call.
+/// The round of a connection that the last turn left, or did not, and that is in a phase: who is owed bytes, as of a
+/// list, comes behind who has a call.
 pub fn round_of(is_left: bool, phase: Phase) -> Round
     ensures { result ≡ round_of is_left phase }
 {
