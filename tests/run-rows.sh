@@ -248,6 +248,53 @@ run_all_listeners() {
     judge $bad "a daemon on all listeners, twice"
 }
 
+# A daemon that records is asked, over TCP and UDP; its record, of all that it was asked, agrees with a replay.
+run_record() {
+    local file=$work/record daemon check
+    "$program" serve --port 20112 --turns 30 --record "$file" > "$work/stdout" 2> "$work/stderr" &
+    daemon=$!
+    sleep 0.3
+    "$rpcinfo" --port 20112 -p 127.0.0.1 > /dev/null
+    "$rpcinfo" --port 20112 -s 127.0.0.1 > /dev/null
+    "$rpcinfo" --port 20112 -u 127.0.0.1 100000 2 > /dev/null
+    wait "$daemon"
+    got=$?
+    mapfile -t check < <(sed -n '1s/^# rpcbind //p' "$file" | tr ' ' '\n')
+    echo "$(grep -c '^#> ' "$file") outputs agree" > "$work/wanted"
+    [ "$got" -eq 0 ] && [ ! -s "$work/stderr" ] && grep -q '^datagram ' "$file" && grep -q '^gave ' "$file"
+    judge $? "a daemon that records"
+    run "$file" "${check[@]}"
+    as_wanted "$work/wanted" /dev/null 0
+    judge $? "a record is checked"
+    sed '$d' "$file" > "$work/events"
+    run "$work/events" "${check[@]}"
+    [ "$got" -eq 1 ] && grep -q 'of the run has no line' "$work/stderr"
+    judge $? "a record without its last line"
+}
+
+# At its limit a record ends with a comment line, and what stands before agrees. At a fault of its file it ends, which is
+# said once. A file that can't be made ends the program.
+run_record_that_ends() {
+    local file=$work/record check
+    run /dev/null serve --port 20112 --turns 30 --record "$file" --record-limit 1000
+    [ "$got" -eq 0 ] && [ "$(stat -c %s "$file")" -le 1000 ] && tail -n 1 "$file" | grep -q '^# the limit'
+    judge $? "a record that reaches its limit"
+    mapfile -t check < <(sed -n '1s/^# rpcbind //p' "$file" | tr ' ' '\n')
+    echo "$(grep -c '^#> ' "$file") outputs agree" > "$work/wanted"
+    run "$file" "${check[@]}"
+    as_wanted "$work/wanted" /dev/null 0
+    judge $? "a record that reached its limit is checked"
+    echo 'rpcbind: listening on 127.0.0.1 port 20112' > "$work/wanted"
+    echo 'rpcbind: write the record: No space left on device (os error 28); it ends here' > "$work/wanted-stderr"
+    run /dev/null serve --port 20112 --turns 3 --record /dev/full
+    as_wanted "$work/wanted" "$work/wanted-stderr" 0
+    judge $? "a record that its file does not take"
+    printf 'rpcbind: %s\n' "make $work/none/record: No such file or directory (os error 2)" 'write failed' > "$work/wanted-stderr"
+    run /dev/null serve --port 20112 --turns 3 --record "$work/none/record"
+    as_wanted "$work/wanted" "$work/wanted-stderr" 1
+    judge $? "a record whose file can't be made"
+}
+
 # A file that is no socket stays.
 run_file_in_the_way() {
     local file=$work/in-the-way
@@ -303,6 +350,8 @@ run_bad_words_of_serve() {
 local-mode:8:a mode from 0 to 777 in octal digits
 local-mode:1000:a mode from 0 to 777 in octal digits
 local-mode:+6:a mode from 0 to 777 in octal digits
+record-limit:999:a number from 1000 to 16777216
+record-limit:16777217:a number from 1000 to 16777216
 bind:localhost:an IPv4 address as 192.0.2.1
 END
     echo "error: invalid value '::' for '--bind': an IPv4 address as 192.0.2.1 is wanted" > "$work/wanted"
@@ -500,14 +549,16 @@ if [ -x "$program" ]; then
     run_with_little_memory
     run_three_turns
     run_all_listeners
+    run_record
+    run_record_that_ends
     run_file_in_the_way
     run_daemon_with_bad_limits
     run_daemon_elsewhere
     run_daemon_without_announce
     run_bad_words_of_serve
     run_help_of '' help version
-    run_help_of serve bind announce local local-mode loopback6 port conns rows forwards turns help version
-    run_help_of replay announce port conns rows forwards xid now help version
+    run_help_of serve bind announce local local-mode loopback6 port conns rows forwards turns record record-limit help version
+    run_help_of replay announce port conns rows forwards check steps xid now help version
     run_version_of '' rpcbind
     run_version_of serve rpcbind-serve
     run_version_of replay rpcbind-replay

@@ -1,47 +1,41 @@
--- A state that a run reaches goes on by each event.
-use Rattle.std.proofs.Common.{◌≡◌, ◌≤◌, ℕ, Bool, false, cond, List, [], ◌∷◌, ◌++◌, length, Option, Some, None, Result, Ok, Err, refl, sym, ap, subst, ◌∙◌, ◌<◌, zero, suc, take, inl, inr, ◌⊎◌, arith}
+-- A state that a run reaches goes on by each event, and so does its record.
+use Rattle.std.proofs.Common.{◌≡◌, ◌≤◌, ℕ, Bool, true, false, cond, List, [], ◌∷◌, ◌++◌, length, Option, Some, None, Result, Ok, Err, refl, sym, ap, subst, ◌∙◌, inl, inr, ◌⊎◌, append_assoc, append-nil}
 use Rattle.std.proofs.Math.Logic.{∥∥₁_elim}
-use Rattle.std.proofs.lemmas.Bool.{le-ltb, cond-false, ne_eqb}
-use Rattle.std.proofs.lemmas.List.{length-take}
+use Rattle.std.proofs.lemmas.Bool.{le-ltb}
 use Rattle.rb_rpc.specs.declared.peer.Peer.{Peer}
+use Rattle.rb_forward.specs.Forwards.{Unsent as UnsentCall}
 use Rattle.rb_proto.specs.declared.listener.Listener.{Listener}
 use Rattle.rb_model.specs.declared.types.CoreFault.{CoreFault}
 use Rattle.rb_model.specs.declared.types.Limits.{Limits}
-use Rattle.rb_model.specs.declared.types.Taken.{Taken}
-use Rattle.rb_model.specs.State.{State, opening}
-use Rattle.rb_model.specs.Calls.{Outcome, Outcome as outcomes}
-use Rattle.rb_model.specs.Step.{Event, Output, step, open_connection, bytes, pending, gave, close_connection, datagram, sent_call, output_or, show_taken, show_done, show_outcome, show_end, show_expired, is_too_much, IsReached}
-use Rattle.rb_core.specs.AtOnce.{pending_bytes, count_now, without_front, exchanging}
 use Rattle.rb_model.specs.declared.types.Told.{Told}
 use Rattle.rb_model.specs.declared.types.Expired.{Expired}
-use Rattle.rb_model.specs.Ending.{forward_reply, expire}
-use Rattle.rb_model.specs.Step.Event.{Open, Bytes, Gave, Closed, Datagram, Sent, Forward, Expire}
-use Rattle.rb_model.specs.Step.Output.{Opened, TooMuch}
 use Rattle.rb_model.specs.declared.types.Expired.TheVariants as expiries
+use Rattle.rb_model.specs.State.{State, opening}
+use Rattle.rb_model.specs.Calls.{Outcome, Outcome as outcomes}
+use Rattle.rb_model.specs.Ending.{forward_reply, expire}
+use Rattle.rb_model.specs.Step.{Event, Output, step, after, open_connection, pending, gave, close_connection, next_lost, datagram, unsent_call, sent_call, output_or, show_done, show_outcome, show_told, show_end, show_expired, is_too_much}
+use Rattle.rb_model.specs.Step.Event.{Open, Pending, Gave, Closed, NextLost, Datagram, Unsent, Sent, Forward, Expire}
+use Rattle.rb_model.specs.Step.Output.{Opened, TooMuch, IsPending, Done, LostIs, Replied, Forwarded as OutForwarded, Silent, UnsentIs, Ignored, Nothing, ConnectionClosed}
+use Rattle.rb_model.proofs.RunLaws.{after-append}
+use Rattle.rb_record.specs.Entries.{entry_text, run_text, options_text}
+use Rattle.rb_record.specs.Tapes.{Tape, Records}
+use Rattle.rb_record.proofs.RunTexts.{run_text-append, records_more, one_recorded}
+use Rattle.rb_core.specs.declared.types.Outcome as outcome
+use Rattle.rb_core.specs.declared.types.Outcome.TheVariants as outcome_kinds
+use Rattle.rb_core.specs.Core.{outcome_with, ActsWithReply}
 use Rattle.rb_core.specs.Slots.{Acts, Shows}
 use Rattle.rb_core.specs.StandsFor.{Held, StandsFor}
 use Rattle.rb_core.proofs.Begun.{began, stands_begun}
-use Rattle.rb_model.proofs.RunLaws.{after-append}
+use Rattle.rb_daemon.specs.Recording.{gift, sending_of, sending, given_or}
 use Rattle.rb_daemon.specs.Served.{IsServed}
 
-pub opening_reached : (l : Limits) (h : Listener) (xid now : ℕ) → IsReached (opening l h xid now)
-opening_reached l h xid now = record { limits = l; listener = h; first_xid = xid; now = now; events = []; is = refl }
-
-pub step_reached : (s : State) (event : Event) → IsReached s → IsReached (step s event).1
-step_reached s event r =
-    let first = opening r.limits r.listener r.first_xid r.now in
-    record {
-      limits = r.limits;
-      listener = r.listener;
-      first_xid = r.first_xid;
-      now = r.now;
-      events = r.events ++ event ∷ [];
-      is = ap (λ (t : State). (step t event).1) r.is ∙ sym (after-append first r.events (event ∷ []));
-    }
-
-output_state : {A : Type 0} (show : A → Output) (r : Result A CoreFault × State) → (output_or show r).1 ≡ r.1
+pub output_state : {A : Type 0} (show : A → Output) (r : Result A CoreFault × State) → (output_or show r).1 ≡ r.1
 output_state show (Ok x, s) = refl
 output_state show (Err fault, s) = refl
+
+pub output_given : {A : Type 0} (show : A → Output) (r : Result A CoreFault × State) → given_or show r.0 ≡ (output_or show r).0
+output_given show (Ok x, s) = refl
+output_given show (Err fault, s) = refl
 
 outcome_state : (r : Outcome × State) → (show_outcome r).1 ≡ r.1
 outcome_state (outcomes.NoCall, s) = refl
@@ -58,105 +52,255 @@ expired_state (expiries.Nothing, s) = refl
 expired_state (expiries.Ended told, s) = refl
 expired_state (expiries.ConnectionClosed id, s) = refl
 
-pub open_reached : (s : State) (now : ℕ) (peer : Peer) → IsReached s → IsReached (open_connection s now peer).1
-unfolding step
-open_reached s now peer r = subst IsReached (output_state Opened (open_connection s now peer)) (step_reached s (Open now peer) r)
+-- ---- the core of the daemon, and its record
 
-pub bytes_reached : (s : State) (now id : ℕ) (piece : List ℕ) → IsReached s → IsReached (bytes s now id piece).1
-unfolding step
-bytes_reached s now id piece r = subst IsReached (output_state show_taken (bytes s now id piece)) (step_reached s (Bytes now id piece) r)
+-- what is written of a run that goes on
+more_recorded : (l : Limits) (h : Listener) (xid now : ℕ) (first more : List Event) (s : State) (before later : Tape) → s ≡ after (opening l h xid now) first → (before.is_on ≡ true → before.text ≡ options_text l h xid now ++ run_text (opening l h xid now) first) → Records (run_text s more) before later → later.is_on ≡ true → later.text ≡ options_text l h xid now ++ run_text (opening l h xid now) (first ++ more)
+more_recorded l h xid now first more s before later is recorded records on =
+    records.grows on ∙ ap (λ (t : List ℕ). t ++ run_text s more) (recorded (records.on on))
+    ∙ append_assoc (options_text l h xid now) (run_text (opening l h xid now) first) (run_text s more)
+    ∙ ap (λ (t : List ℕ). options_text l h xid now ++ t)
+    (ap (λ (t : State). run_text (opening l h xid now) first ++ run_text t more) is ∙ sym (run_text-append (opening l h xid now) first more))
 
-pub closed_reached : (s : State) (id : ℕ) → IsReached s → IsReached (close_connection s id).1
-unfolding step
-closed_reached s id r = subst IsReached (output_state show_done (close_connection s id)) (step_reached s (Closed id) r)
-
-pub datagram_reached : (s : State) (now : ℕ) (peer : Peer) (content : List ℕ) → IsReached s → IsReached (datagram s now peer content).1
-unfolding step
-datagram_reached s now peer content r = subst IsReached (outcome_state (datagram s now peer content)) (step_reached s (Datagram now peer content) r)
-
-pub gave_reached : (s : State) (now id n : ℕ) (owed : List ℕ) → pending s id ≡ Ok owed → n ≤ length owed → IsReached s → IsReached (gave s now id n).1
-unfolding step
-gave_reached s now id n owed is le r =
-    let few : is_too_much n (pending s id) ≡ false = rw is (le-ltb (length owed) n le) in
-    let plain : State = (output_or show_done (gave s now id n)).1 in
-    let done : (step s (Gave now id n)).1 ≡ plain = ap (λ (b : Bool). (cond b (TooMuch, s) (output_or show_done (gave s now id n))).1) few in
-    subst IsReached (done ∙ output_state show_done (gave s now id n)) (step_reached s (Gave now id n) r)
-
-pub forward_reached : (s : State) (now : ℕ) (from : Peer) (message : List ℕ) → IsReached s → IsReached (forward_reply s now from message).1
-unfolding step
-forward_reached s now from message r = subst IsReached (end_state (forward_reply s now from message)) (step_reached s (Forward now from message) r)
-
-pub expire_reached : (s : State) (now : ℕ) → IsReached s → IsReached (expire s now).1
-unfolding step
-expire_reached s now r = subst IsReached (expired_state (expire s now)) (step_reached s (Expire now) r)
-
-pub sent_reached : (s : State) (number : ℕ) → IsReached s → IsReached (sent_call s number).1
-unfolding step
-sent_reached s number r = subst IsReached (output_state show_done (sent_call s number)) (step_reached s (Sent number) r)
-
--- ---- the core of the daemon
-
--- a core that stands for a reached state goes on to one that does
-pub served_on : (old new : Held) (next : State → State) → ((s : State) → StandsFor old s → StandsFor new (next s)) → ((s : State) → IsReached s → IsReached (next s)) → ∥ IsServed old ∥₁ → ∥ IsServed new ∥₁
-served_on old new next stands reached held =
-    ∥∥₁_elim held squash₁ (λ h. ∣ record { state = next h.state; stands = stands h.state h.stands; reached = reached h.state h.reached } ∣₁)
-
--- and so does one that goes on to stand for the same states, as after a look
-pub same_served : (old new : Held) → ((s : State) → StandsFor old s → StandsFor new s) → ∥ IsServed old ∥₁ → ∥ IsServed new ∥₁
-same_served old new stands = served_on old new (λ s. s) stands (λ s reached. reached)
-
-pub look_served : (old new : Held) (n : ℕ) → new ≡ began old n → ∥ IsServed old ∥₁ → ∥ IsServed new ∥₁
-look_served old new n is = same_served old new (stands_begun old new n is)
-
-pub open_served : (old new : Held) (now : ℕ) (peer : Peer) (r : Result ℕ CoreFault) → Acts StandsFor (λ s. open_connection s now peer) old new r → ∥ IsServed old ∥₁ → ∥ IsServed new ∥₁
-open_served old new now peer r acts = served_on old new (λ s. (open_connection s now peer).1) acts.stands (λ s. open_reached s now peer)
-
-none_or_more : (n : ℕ) → (n ≡ 0) ⊎ (0 < n)
-none_or_more zero = inl refl
-none_or_more (suc n) = inr (omega arith)
-
--- bytes that were taken, and as many that were given as there were
-exchange_reached : (s : State) (now id n : ℕ) (piece : List ℕ) → n ≤ length (pending_bytes (pending (bytes s now id piece).1 id)) → IsReached s → IsReached (without_front now n id (bytes s now id piece).1)
-exchange_reached s now id n piece few r = elim (none_or_more n) [
-  | inl none ↦ rw none first
-  | inr some ↦ subst IsReached (sym (cond-false _ _ _ (ne_eqb n 0 (λ e. omega (arith, e, some))))) (by_pending some (pending (bytes s now id piece).1 id) refl few)
-]
-  where
-    first : IsReached (bytes s now id piece).1
-    first = bytes_reached s now id piece r
-
-    by_pending : 0 < n → (owed : Result (List ℕ) CoreFault) → pending (bytes s now id piece).1 id ≡ owed → n ≤ length (pending_bytes owed) → IsReached (gave (bytes s now id piece).1 now id n).1
-    by_pending some (Ok owed) is within = gave_reached (bytes s now id piece).1 now id n owed is within first
-    by_pending some (Err fault) is within = absurd (omega (arith, some, within))
-
-pub exchange_served : (old new : Held) (now id room n : ℕ) (piece given : List ℕ) (r : Result Taken CoreFault) → length given ≡ n → Shows StandsFor (count_now now id piece room) old n
-    → Acts StandsFor (exchanging now id piece room) old new (r, given) → ∥ IsServed old ∥₁ → ∥ IsServed new ∥₁
-exchange_served old new now id room n piece given r all counts acts held =
+-- a core that stands for a reached state goes on by events to one that does, as they are recorded
+pub served_on : (old new : Held) (before later : Tape) (events : State → List Event) → ((s : State) → StandsFor old s → StandsFor new (after s (events s))) → ((s : State) → StandsFor old s → Records (run_text s (events s)) before later) → ∥ IsServed old before ∥₁ → ∥ IsServed new later ∥₁
+served_on old new before later events stands records held =
     ∥∥₁_elim held squash₁ (λ h.
-    let k : ℕ = count_now now id piece room h.state in
-    let is : given ≡ take k (pending_bytes (pending (bytes h.state now id piece).1 id)) = ap (λ (x : Result Taken CoreFault × List ℕ). x.1) (acts.gives h.state h.stands) in
-    let few : k ≤ length (pending_bytes (pending (bytes h.state now id piece).1 id)) = omega (arith, all, counts h.state h.stands, ap (λ (xs : List ℕ). length xs) is, length-take k (pending_bytes (pending (bytes h.state now id piece).1 id))) in
-    ∣ record { state = (exchanging now id piece room h.state).1; stands = acts.stands h.state h.stands; reached = exchange_reached h.state now id k piece few h.reached } ∣₁)
+    let r = h.reached in
+    let first = opening r.limits r.listener r.first_xid r.now in
+    ∣ record {
+      state = after h.state (events h.state);
+      stands = stands h.state h.stands;
+      reached = record {
+        limits = r.limits;
+        listener = r.listener;
+        first_xid = r.first_xid;
+        now = r.now;
+        events = r.events ++ events h.state;
+        is = ap (λ (t : State). after t (events h.state)) r.is ∙ sym (after-append first r.events (events h.state));
+      };
+      recorded = more_recorded r.limits r.listener r.first_xid r.now r.events (events h.state) h.state before later r.is h.recorded (records h.state h.stands);
+    } ∣₁)
 
-pub closed_served : (old new : Held) (id : ℕ) (r : Result (Unit {0}) CoreFault) → Acts StandsFor (λ s. close_connection s id) old new r → ∥ IsServed old ∥₁ → ∥ IsServed new ∥₁
-closed_served old new id r acts = served_on old new (λ s. (close_connection s id).1) acts.stands (λ s. closed_reached s id)
+pub new_served : (core : Held) (l : Limits) (h : Listener) (xid now : ℕ) (empty tape : Tape) → empty.text ≡ [] → Records (options_text l h xid now) empty tape → StandsFor core (opening l h xid now) → ∥ IsServed core tape ∥₁
+unfolding run_text
+new_served core l h xid now empty tape none records stands = ∣ record {
+  state = opening l h xid now;
+  stands = stands;
+  reached = record { limits = l; listener = h; first_xid = xid; now = now; events = []; is = refl };
+  recorded = λ on. records.grows on ∙ ap (λ (t : List ℕ). t ++ options_text l h xid now) none ∙ sym (append-nil (options_text l h xid now));
+} ∣₁
 
-pub datagram_served : (old new : Held) (now : ℕ) (peer : Peer) (content : List ℕ) (r : Outcome) → Acts StandsFor (λ s. datagram s now peer content) old new r → ∥ IsServed old ∥₁ → ∥ IsServed new ∥₁
-datagram_served old new now peer content r acts = served_on old new (λ s. (datagram s now peer content).1) acts.stands (λ s. datagram_reached s now peer content)
+-- what was recorded was written out
+pub written_served : (core : Held) (before later : Tape) → later.text ≡ before.text → (later.is_on ≡ true → before.is_on ≡ true) → ∥ IsServed core before ∥₁ → ∥ IsServed core later ∥₁
+written_served core before later same on held =
+    ∥∥₁_elim held squash₁ (λ h. ∣ record { state = h.state; stands = h.stands; reached = h.reached; recorded = λ is. same ∙ h.recorded (on is) } ∣₁)
 
--- bytes that were given after the look at what is pending
-pub gave_served : (old mid new : Held) (count now id n : ℕ) (owed : List ℕ) (r : Result (Unit {0}) CoreFault) → mid ≡ began old count → Acts StandsFor (λ s. gave s now id n) mid new r → ((s : State) → StandsFor old s → pending s id ≡ Ok owed) → n ≤ length owed → ∥ IsServed old ∥₁ → ∥ IsServed new ∥₁
-gave_served old mid new count now id n owed r is acts lent le held =
-    ∥∥₁_elim held squash₁ (λ h. ∣ record { state = (gave h.state now id n).1; stands = acts.stands h.state (stands_begun old mid count is h.state h.stands); reached = gave_reached h.state now id n owed (lent h.state h.stands) le h.reached } ∣₁)
+-- ---- one event
 
-pub new_served : (core : Held) (l : Limits) (h : Listener) (xid now : ℕ) → StandsFor core (opening l h xid now) → ∥ IsServed core ∥₁
-new_served core l h xid now stands = ∣ record { state = opening l h xid now; stands = stands; reached = opening_reached l h xid now } ∣₁
+pub open_records : (old new : Held) (now : ℕ) (peer : Peer) (r : Result ℕ CoreFault) (before later : Tape) → Acts StandsFor (λ s. open_connection s now peer) old new r → Records (entry_text (Open now peer) (given_or Opened r)) before later → (s : State) → StandsFor old s → Records (run_text s (Open now peer ∷ [])) before later
+unfolding step
+open_records old new now peer r before later acts records s h =
+    one_recorded s (Open now peer) (given_or Opened r) before later (ap (given_or Opened) (acts.gives s h) ∙ output_given Opened (open_connection s now peer)) records
 
-pub forward_served : (old new : Held) (now : ℕ) (from : Peer) (message : List ℕ) (r : Option Told) → Acts StandsFor (λ s. forward_reply s now from message) old new r → ∥ IsServed old ∥₁ → ∥ IsServed new ∥₁
-forward_served old new now from message r acts = served_on old new (λ s. (forward_reply s now from message).1) acts.stands (λ s. forward_reached s now from message)
+pub open_served : (old new : Held) (now : ℕ) (peer : Peer) (r : Result ℕ CoreFault) (before later : Tape) → Acts StandsFor (λ s. open_connection s now peer) old new r → Records (entry_text (Open now peer) (given_or Opened r)) before later → ∥ IsServed old before ∥₁ → ∥ IsServed new later ∥₁
+unfolding step
+open_served old new now peer r before later acts records =
+    served_on old new before later (λ s. Open now peer ∷ []) (λ s h. subst (StandsFor new) (sym (output_state Opened (open_connection s now peer))) (acts.stands s h)) (open_records old new now peer r before later acts records)
 
-pub expire_served : (old new : Held) (now : ℕ) (r : Expired) → Acts StandsFor (λ s. expire s now) old new r → ∥ IsServed old ∥₁ → ∥ IsServed new ∥₁
-expire_served old new now r acts = served_on old new (λ s. (expire s now).1) acts.stands (λ s. expire_reached s now)
+pub closed_records : (old new : Held) (id : ℕ) (r : Result (Unit {0}) CoreFault) (before later : Tape) → Acts StandsFor (λ s. close_connection s id) old new r → Records (entry_text (Closed id) (given_or show_done r)) before later → (s : State) → StandsFor old s → Records (run_text s (Closed id ∷ [])) before later
+unfolding step
+closed_records old new id r before later acts records s h =
+    one_recorded s (Closed id) (given_or show_done r) before later (ap (given_or show_done) (acts.gives s h) ∙ output_given show_done (close_connection s id)) records
 
-pub sent_served : (old new : Held) (number : ℕ) (r : Result (Unit {0}) CoreFault) → Acts StandsFor (λ s. sent_call s number) old new r → ∥ IsServed old ∥₁ → ∥ IsServed new ∥₁
-sent_served old new number r acts = served_on old new (λ s. (sent_call s number).1) acts.stands (λ s. sent_reached s number)
+pub closed_served : (old new : Held) (id : ℕ) (r : Result (Unit {0}) CoreFault) (before later : Tape) → Acts StandsFor (λ s. close_connection s id) old new r → Records (entry_text (Closed id) (given_or show_done r)) before later → ∥ IsServed old before ∥₁ → ∥ IsServed new later ∥₁
+unfolding step
+closed_served old new id r before later acts records =
+    served_on old new before later (λ s. Closed id ∷ []) (λ s h. subst (StandsFor new) (sym (output_state show_done (close_connection s id))) (acts.stands s h)) (closed_records old new id r before later acts records)
+
+pub lost_records : (old : Held) (lost : Option ℕ) (before later : Tape) → Shows StandsFor next_lost old lost → Records (entry_text NextLost (LostIs lost)) before later → (s : State) → StandsFor old s → Records (run_text s (NextLost ∷ [])) before later
+unfolding step
+lost_records old lost before later shows records s h = one_recorded s NextLost (LostIs lost) before later (ap LostIs (shows s h)) records
+
+pub lost_served : (old new : Held) (n : ℕ) (lost : Option ℕ) (before later : Tape) → new ≡ began old n → Shows StandsFor next_lost old lost → Records (entry_text NextLost (LostIs lost)) before later → ∥ IsServed old before ∥₁ → ∥ IsServed new later ∥₁
+unfolding step
+lost_served old new n lost before later is shows records =
+    served_on old new before later (λ s. NextLost ∷ []) (stands_begun old new n is) (lost_records old lost before later shows records)
+
+-- ---- a datagram
+
+-- what is shown of a datagram, with the reply that is held
+abbrev pub answer_shown : outcome.Outcome → List ℕ → Output
+answer_shown outcome_kinds.NoCall reply = Silent
+answer_shown outcome_kinds.Reply reply = Replied reply
+answer_shown outcome_kinds.Forwarded reply = OutForwarded
+answer_shown outcome_kinds.Silent reply = Silent
+
+answer_silent : (given : outcome.Outcome) (reply : List ℕ) → (given ≡ outcome_kinds.NoCall) ⊎ (given ≡ outcome_kinds.Silent) → Silent ≡ answer_shown given reply
+answer_silent given reply (inl is) = rw is refl
+answer_silent given reply (inr is) = rw is refl
+
+answer_is : (given : outcome.Outcome) (reply : List ℕ) (r : Outcome × State) → outcome_with given reply ≡ r.0 → answer_shown given reply ≡ (show_outcome r).0
+answer_is outcome_kinds.NoCall reply (x, s) is = rw (← is) refl
+answer_is outcome_kinds.Reply reply (x, s) is = rw (← is) refl
+answer_is outcome_kinds.Forwarded reply (x, s) is = rw (← is) refl
+answer_is outcome_kinds.Silent reply (x, s) is = rw (← is) refl
+
+pub datagram_records : (old new : Held) (now : ℕ) (peer : Peer) (content : List ℕ) (given : outcome.Outcome) (before later : Tape) → ActsWithReply (λ s. datagram s now peer content) old new given → Records (entry_text (Datagram now peer content) (answer_shown given new.reply)) before later → (s : State) → StandsFor old s → Records (run_text s (Datagram now peer content ∷ [])) before later
+unfolding step
+datagram_records old new now peer content given before later acts records s h =
+    one_recorded s (Datagram now peer content) (answer_shown given new.reply) before later (answer_is given new.reply (datagram s now peer content) (acts.gives s h)) records
+
+-- with a look at the reply behind it
+pub datagram_served : (old new after_look : Held) (n now : ℕ) (peer : Peer) (content : List ℕ) (given : outcome.Outcome) (before later : Tape) → after_look ≡ began new n → ActsWithReply (λ s. datagram s now peer content) old new given → Records (entry_text (Datagram now peer content) (answer_shown given new.reply)) before later → ∥ IsServed old before ∥₁ → ∥ IsServed after_look later ∥₁
+unfolding step
+datagram_served old new after_look n now peer content given before later is acts records =
+    served_on old after_look before later (λ s. Datagram now peer content ∷ [])
+    (λ s h. stands_begun new after_look n is _ (subst (StandsFor new) (sym (outcome_state (datagram s now peer content))) (acts.stands s h)))
+    (datagram_records old new now peer content given before later acts records)
+
+-- so of one that is no call, or is not answered
+pub silent_records : (old new : Held) (now : ℕ) (peer : Peer) (content : List ℕ) (given : outcome.Outcome) (before later : Tape) → (given ≡ outcome_kinds.NoCall) ⊎ (given ≡ outcome_kinds.Silent) → ActsWithReply (λ s. datagram s now peer content) old new given → Records (entry_text (Datagram now peer content) Silent) before later → (s : State) → StandsFor old s → Records (run_text s (Datagram now peer content ∷ [])) before later
+silent_records old new now peer content given before later is acts records =
+    datagram_records old new now peer content given before later acts (subst (λ (x : Output). Records (entry_text (Datagram now peer content) x) before later) (answer_silent given new.reply is) records)
+
+pub silent_served : (old new : Held) (now : ℕ) (peer : Peer) (content : List ℕ) (given : outcome.Outcome) (before later : Tape) → (given ≡ outcome_kinds.NoCall) ⊎ (given ≡ outcome_kinds.Silent) → ActsWithReply (λ s. datagram s now peer content) old new given → Records (entry_text (Datagram now peer content) Silent) before later → ∥ IsServed old before ∥₁ → ∥ IsServed new later ∥₁
+silent_served old new now peer content given before later is acts records =
+    datagram_served old new new new.begun now peer content given before later refl acts (subst (λ (x : Output). Records (entry_text (Datagram now peer content) x) before later) (answer_silent given new.reply is) records)
+
+-- ---- the end of a forwarded call
+
+end_is : (reply : List ℕ) (told : Told) (r : Option Told × State) → Some told ≡ r.0 → reply ≡ r.1.reply → show_told reply told ≡ (show_end r).0
+end_is reply told (x, s) is same = rw (← is) (ap (λ (bytes : List ℕ). show_told bytes told) same)
+
+pub ignored_records : (old new : Held) (now : ℕ) (from : Peer) (message : List ℕ) (before later : Tape) → Acts StandsFor (λ s. forward_reply s now from message) old new None → Records (entry_text (Forward now from message) Ignored) before later → (s : State) → StandsFor old s → Records (run_text s (Forward now from message ∷ [])) before later
+unfolding step
+ignored_records old new now from message before later acts records s h =
+    one_recorded s (Forward now from message) Ignored before later (none_is (forward_reply s now from message) (acts.gives s h)) records
+  where
+    none_is : (r : Option Told × State) → None ≡ r.0 → Ignored ≡ (show_end r).0
+    none_is (x, s) is = rw (← is) refl
+
+pub forward_records : (old new : Held) (now : ℕ) (from : Peer) (message : List ℕ) (told : Told) (before later : Tape) → Acts StandsFor (λ s. forward_reply s now from message) old new (Some told) → Records (entry_text (Forward now from message) (show_told new.reply told)) before later → (s : State) → StandsFor old s → Records (run_text s (Forward now from message ∷ [])) before later
+unfolding step
+forward_records old new now from message told before later acts records s h =
+    one_recorded s (Forward now from message) (show_told new.reply told) before later (end_is new.reply told (forward_reply s now from message) (acts.gives s h) (acts.stands s h).reply) records
+
+-- with a look at the reply behind it
+forward_stands : (old new after_look : Held) (n now : ℕ) (from : Peer) (message : List ℕ) (r : Option Told) → after_look ≡ began new n → Acts StandsFor (λ s. forward_reply s now from message) old new r → (s : State) → StandsFor old s → StandsFor after_look (step s (Forward now from message)).1
+unfolding step
+forward_stands old new after_look n now from message r is acts s h =
+    stands_begun new after_look n is _ (subst (StandsFor new) (sym (end_state (forward_reply s now from message))) (acts.stands s h))
+
+pub ignored_served : (old new : Held) (now : ℕ) (from : Peer) (message : List ℕ) (before later : Tape) → Acts StandsFor (λ s. forward_reply s now from message) old new None → Records (entry_text (Forward now from message) Ignored) before later → ∥ IsServed old before ∥₁ → ∥ IsServed new later ∥₁
+ignored_served old new now from message before later acts records =
+    served_on old new before later (λ s. Forward now from message ∷ []) (forward_stands old new new new.begun now from message None refl acts) (ignored_records old new now from message before later acts records)
+
+pub forward_served : (old new after_look : Held) (n now : ℕ) (from : Peer) (message : List ℕ) (told : Told) (before later : Tape) → after_look ≡ began new n → Acts StandsFor (λ s. forward_reply s now from message) old new (Some told) → Records (entry_text (Forward now from message) (show_told new.reply told)) before later → ∥ IsServed old before ∥₁ → ∥ IsServed after_look later ∥₁
+forward_served old new after_look n now from message told before later is acts records =
+    served_on old after_look before later (λ s. Forward now from message ∷ []) (forward_stands old new after_look n now from message (Some told) is acts) (forward_records old new now from message told before later acts records)
+
+-- ---- what is due
+
+-- what is shown of it, with the reply that is held
+abbrev pub due_shown : Expired → List ℕ → Output
+due_shown expiries.Nothing reply = Nothing
+due_shown (expiries.Ended told) reply = show_told reply told
+due_shown (expiries.ConnectionClosed id) reply = ConnectionClosed id
+
+due_is : (reply : List ℕ) (due : Expired) (r : Expired × State) → due ≡ r.0 → reply ≡ r.1.reply → due_shown due reply ≡ (show_expired r).0
+due_is reply expiries.Nothing (x, s) is same = rw (← is) refl
+due_is reply (expiries.Ended told) (x, s) is same = rw (← is) (ap (λ (bytes : List ℕ). show_told bytes told) same)
+due_is reply (expiries.ConnectionClosed id) (x, s) is same = rw (← is) refl
+
+pub expire_records : (old new : Held) (now : ℕ) (due : Expired) (before later : Tape) → Acts StandsFor (λ s. expire s now) old new due → Records (entry_text (Expire now) (due_shown due new.reply)) before later → (s : State) → StandsFor old s → Records (run_text s (Expire now ∷ [])) before later
+unfolding step
+expire_records old new now due before later acts records s h =
+    one_recorded s (Expire now) (due_shown due new.reply) before later (due_is new.reply due (expire s now) (acts.gives s h) (acts.stands s h).reply) records
+
+-- with a look at the reply behind it
+pub expire_served : (old new after_look : Held) (n now : ℕ) (due : Expired) (before later : Tape) → after_look ≡ began new n → Acts StandsFor (λ s. expire s now) old new due → Records (entry_text (Expire now) (due_shown due new.reply)) before later → ∥ IsServed old before ∥₁ → ∥ IsServed after_look later ∥₁
+unfolding step
+expire_served old new after_look n now due before later is acts records =
+    served_on old after_look before later (λ s. Expire now ∷ [])
+    (λ s h. stands_begun new after_look n is _ (subst (StandsFor new) (sym (expired_state (expire s now))) (acts.stands s h)))
+    (expire_records old new now due before later acts records)
+
+-- ---- what is given on a connection
+
+-- two events, each with what it gave
+two_recorded : (s : State) (first second : Event) (one two : Output) (before mid later : Tape) → one ≡ (step s first).0 → two ≡ (step (step s first).1 second).0 → Records (entry_text first one) before mid → Records (entry_text second two) mid later → Records (run_text s (first ∷ second ∷ [])) before later
+unfolding run_text
+two_recorded s first second one two before mid later is then a b =
+    rw (append-nil (entry_text second (step (step s first).1 second).0), ← is, ← then) (records_more (entry_text first one) (entry_text second two) before mid later a b)
+
+pub look_state : (s : State) (id : ℕ) → (step s (Pending id)).1 ≡ s
+unfolding step
+look_state s id = output_state IsPending (pending s id, s)
+
+pub look_output : (s : State) (id : ℕ) (owed : Result (List ℕ) CoreFault) → pending s id ≡ owed → given_or IsPending owed ≡ (step s (Pending id)).0
+unfolding step
+look_output s id owed is = ap (given_or IsPending) (sym is) ∙ output_given IsPending (pending s id, s)
+
+pub look_records : (old : Held) (id : ℕ) (owed : Result (List ℕ) CoreFault) (before later : Tape) → ((s : State) → StandsFor old s → pending s id ≡ owed) → Records (entry_text (Pending id) (given_or IsPending owed)) before later → (s : State) → StandsFor old s → Records (run_text s (Pending id ∷ [])) before later
+look_records old id owed before later shows records s h = one_recorded s (Pending id) (given_or IsPending owed) before later (look_output s id owed (shows s h)) records
+
+pub look_served : (old new : Held) (n id : ℕ) (owed : Result (List ℕ) CoreFault) (before later : Tape) → new ≡ began old n → ((s : State) → StandsFor old s → pending s id ≡ owed) → Records (entry_text (Pending id) (given_or IsPending owed)) before later → ∥ IsServed old before ∥₁ → ∥ IsServed new later ∥₁
+look_served old new n id owed before later is shows records =
+    served_on old new before later (λ s. Pending id ∷ []) (λ s h. subst (StandsFor new) (sym (look_state s id)) (stands_begun old new n is s h)) (look_records old id owed before later shows records)
+
+-- no more than is pending was given
+pub gave_state : (s : State) (now id n : ℕ) (owed : List ℕ) → pending s id ≡ Ok owed → n ≤ length owed → (step s (Gave now id n)).1 ≡ (gave s now id n).1
+unfolding step
+gave_state s now id n owed is few =
+    let plain : is_too_much n (pending s id) ≡ false = rw is (le-ltb (length owed) n few) in
+    ap (λ (b : Bool). (cond b (TooMuch, s) (output_or show_done (gave s now id n))).1) plain ∙ output_state show_done (gave s now id n)
+
+pub gave_output : (s : State) (now id n : ℕ) (owed : List ℕ) → pending s id ≡ Ok owed → n ≤ length owed → Ok tt ≡ (gave s now id n).0 → Done ≡ (step s (Gave now id n)).0
+unfolding step
+gave_output s now id n owed is few done =
+    let plain : is_too_much n (pending s id) ≡ false = rw is (le-ltb (length owed) n few) in
+    ap (given_or show_done) done ∙ output_given show_done (gave s now id n) ∙ sym (ap (λ (b : Bool). (cond b (TooMuch, s) (output_or show_done (gave s now id n))).0) plain)
+
+pub gift_state : (s : State) (now id n : ℕ) (owed : List ℕ) → pending s id ≡ Ok owed → n ≤ length owed → after s (gift now id n) ≡ (gave s now id n).1
+gift_state s now id n owed is few = ap (λ (t : State). (step t (Gave now id n)).1) (look_state s id) ∙ gave_state s now id n owed is few
+
+pub gift_records : (old mid new : Held) (count now id n : ℕ) (owed : List ℕ) (before between later : Tape) → mid ≡ began old count → Acts StandsFor (λ s. gave s now id n) mid new (Ok tt) → ((s : State) → StandsFor old s → pending s id ≡ Ok owed) → n ≤ length owed → Records (entry_text (Pending id) (IsPending owed)) before between → Records (entry_text (Gave now id n) Done) between later → (s : State) → StandsFor old s → Records (run_text s (gift now id n)) before later
+gift_records old mid new count now id n owed before between later is acts shows few one two s h =
+    two_recorded s (Pending id) (Gave now id n) (IsPending owed) Done before between later (look_output s id (Ok owed) (shows s h))
+    (gave_output s now id n owed (shows s h) few (acts.gives s (stands_begun old mid count is s h)) ∙ ap (λ (t : State). (step t (Gave now id n)).0) (sym (look_state s id))) one two
+
+pub gift_served : (old mid new : Held) (count now id n : ℕ) (owed : List ℕ) (before between later : Tape) → mid ≡ began old count → Acts StandsFor (λ s. gave s now id n) mid new (Ok tt) → ((s : State) → StandsFor old s → pending s id ≡ Ok owed) → n ≤ length owed → Records (entry_text (Pending id) (IsPending owed)) before between → Records (entry_text (Gave now id n) Done) between later → ∥ IsServed old before ∥₁ → ∥ IsServed new later ∥₁
+gift_served old mid new count now id n owed before between later is acts shows few one two =
+    served_on old new before later (λ s. gift now id n)
+    (λ s h. subst (StandsFor new) (sym (gift_state s now id n owed (shows s h) few)) (acts.stands s (stands_begun old mid count is s h)))
+    (gift_records old mid new count now id n owed before between later is acts shows few one two)
+
+-- ---- calls that are to be sent
+
+pub unsent_records : (old : Held) (unsent : Option UnsentCall) (before later : Tape) → Shows StandsFor unsent_call old unsent → Records (entry_text Unsent (UnsentIs unsent)) before later → (s : State) → StandsFor old s → Records (run_text s (Unsent ∷ [])) before later
+unfolding step
+unsent_records old unsent before later shows records s h = one_recorded s Unsent (UnsentIs unsent) before later (ap UnsentIs (shows s h)) records
+
+pub none_records : (old : Held) (before later : Tape) → Shows StandsFor unsent_call old None → Records (entry_text Unsent (UnsentIs None)) before later → (s : State) → StandsFor old s → Records (run_text s (sending s)) before later
+none_records old before later shows records s h =
+    subst (λ (u : Option UnsentCall). Records (run_text s (sending_of u)) before later) (shows s h) (unsent_records old None before later shows records s h)
+
+pub none_served : (old new : Held) (n : ℕ) (before later : Tape) → new ≡ began old n → Shows StandsFor unsent_call old None → Records (entry_text Unsent (UnsentIs None)) before later → ∥ IsServed old before ∥₁ → ∥ IsServed new later ∥₁
+unfolding step
+none_served old new n before later is shows records =
+    served_on old new before later (λ s. Unsent ∷ []) (stands_begun old new n is) (unsent_records old None before later shows records)
+
+pub sent_records : (old mid new : Held) (n : ℕ) (unsent : UnsentCall) (r : Result (Unit {0}) CoreFault) (before between later : Tape) → mid ≡ began old n → Shows StandsFor unsent_call old (Some unsent) → Acts StandsFor (λ s. sent_call s unsent.number) mid new r → Records (entry_text Unsent (UnsentIs (Some unsent))) before between → Records (entry_text (Sent unsent.number) (given_or show_done r)) between later → (s : State) → StandsFor old s → Records (run_text s (sending s)) before later
+unfolding step
+sent_records old mid new n unsent r before between later is shows acts one two s h =
+    subst (λ (u : Option UnsentCall). Records (run_text s (sending_of u)) before later) (shows s h)
+    (two_recorded s Unsent (Sent unsent.number) (UnsentIs (Some unsent)) (given_or show_done r) before between later (ap UnsentIs (shows s h))
+    (ap (given_or show_done) (acts.gives s (stands_begun old mid n is s h)) ∙ output_given show_done (sent_call s unsent.number)) one two)
+
+pub sent_served : (old mid new : Held) (n : ℕ) (unsent : UnsentCall) (r : Result (Unit {0}) CoreFault) (before between later : Tape) → mid ≡ began old n → Shows StandsFor unsent_call old (Some unsent) → Acts StandsFor (λ s. sent_call s unsent.number) mid new r → Records (entry_text Unsent (UnsentIs (Some unsent))) before between → Records (entry_text (Sent unsent.number) (given_or show_done r)) between later → ∥ IsServed old before ∥₁ → ∥ IsServed new later ∥₁
+unfolding step
+sent_served old mid new n unsent r before between later is shows acts one two =
+    served_on old new before later sending
+    (λ s h. subst (λ (u : Option UnsentCall). StandsFor new (after s (sending_of u))) (shows s h) (subst (StandsFor new) (sym (output_state show_done (sent_call s unsent.number))) (acts.stands s (stands_begun old mid n is s h))))
+    (sent_records old mid new n unsent r before between later is shows acts one two)

@@ -1,2 +1,3 @@
 pub mod Served
 pub mod Moves
+pub mod Recording

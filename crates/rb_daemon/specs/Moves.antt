@@ -5,7 +5,9 @@ use Rattle.rb_model.specs.declared.types.Limits.{Limits}
 use Rattle.rb_model.specs.State.{State, opening}
 use Rattle.rb_model.specs.declared.types.CoreFault.{CoreFault}
 use Rattle.rb_core.specs.declared.types.Exchanged.{Exchanged}
-use Rattle.rb_model.specs.Step.{pending}
+use Rattle.rb_model.specs.Step.{Event, pending}
+use Rattle.rb_record.specs.Entries.{run_text}
+use Rattle.rb_record.specs.Tapes.{Records}
 use Rattle.rb_core.specs.AtOnce.{exchanging, taken_in}
 use Rattle.rb_core.specs.Slots.{Acts}
 use Rattle.rb_core.specs.StandsFor.{StandsFor}
@@ -24,6 +26,10 @@ Moves next old new = (s : State) → StandsFor old.core s → StandsFor new.core
 -- It answers besides as the step does.
 abbrev pub ActsNow : {R : Type 0} → (State → ℕ → R × State) → Engine → Engine → R → Type 0
 ActsNow step old new result = Acts StandsFor (λ s. step s old.moment) old.core new.core result
+
+-- Whatever state its core stood for, these events from it were recorded, each with what it gave.
+abbrev pub Recorded : (State → ℕ → List Event) → Engine → Engine → Type 0
+Recorded events old new = (s : State) → StandsFor old.core s → Records (run_text s (events s old.moment)) old.tape new.tape
 
 -- A writer got of what is pending on the connection what was given.
 abbrev pub Gives : {W : Type 0} → ℕ → (W → Option (List ℕ)) → Engine → W → W → Given → Type 0

@@ -14,16 +14,19 @@ use Rattle.rb_model.specs.Calls.{Outcome}
 use Rattle.rb_model.specs.Calls.Outcome.{NoCall, Reply, Forwarded, Silent as SilentCall}
 use Rattle.rb_model.specs.Step.{datagram, gave, unsent_call, sent_call, IsReached}
 use Rattle.rb_core.specs.StandsFor.{Held, StandsFor}
+use Rattle.rb_record.specs.Tapes.{Tape}
 use Rattle.rb_daemon.specs.declared.engine.Given.{Given}
 use Rattle.rb_daemon.specs.declared.engine.Given.TheVariants.{Nothing, Bytes, Failed, Over}
 use Rattle.rb_daemon.specs.declared.engine.Due.{Due}
+use Rattle.rb_daemon.specs.Recording.{HasRecorded}
 use Rattle.rb_daemon.specs.declared.engine.Due.TheVariants as dues
 
--- The core stands for a state that a run of events reaches from an opening.
-pub record IsServed (core : Held) : Type 0 where
+-- The core stands for a state that a run of events reaches from an opening, and the tape is a record of that run.
+pub record IsServed (core : Held) (tape : Tape) : Type 0 where
   pub state : State
   pub stands : StandsFor core state
   pub reached : IsReached state
+  pub recorded : HasRecorded reached tape
 
 -- Of what is pending on a connection the writer got the first n bytes, no more than there are, where n were given; and
 -- nothing where none are pending or the writer failed.

@@ -13,6 +13,7 @@ use rb_policy::{Moments, wait_of};
 use std::alloc::{AllocError, Global};
 use std::fs::Files;
 use std::io;
+use std::io::Write;
 use std::net::Net;
 use std::rt::Clock;
 use std::time::Duration;
@@ -49,7 +50,13 @@ impl<'a, R: Clock> Daemon<'a, R> {
             host: settings.announce.octets(),
             port: settings.port,
         };
-        let (engine, moments) = engine_of(alloc, limits, listener, read_clocks(clock))?;
+        let (engine, moments) = engine_of(
+            alloc,
+            limits,
+            listener,
+            settings.record,
+            read_clocks(clock),
+        )?;
         let poll = match Poll::new(host) {
             Ok(poll) => poll,
             Err(error) => return Err(DaemonFault::Socket(Step::Prepare.failed(error))),
@@ -99,6 +106,12 @@ impl<'a, R: Clock> Daemon<'a, R> {
         self.serving.accept_all(self.poll.registry())
     }
 
+    /// Writes what was recorded of the turns and not yet written (docs/EVENTS.md). After an error nothing more is recorded, and
+    /// the daemon goes on.
+    pub fn write_record<W: Write>(&mut self, writer: &mut W) -> io::Result<()> {
+        self.serving.write_record(writer)
+    }
+
     fn wait(&mut self, longest: u64) -> Result<(), DaemonFault> {
         let wait = Duration::from_millis(wait_of(self.serving.is_something_left(), longest));
         match self.poll.poll(&mut self.events, Some(wait)) {
@@ -142,6 +155,7 @@ fn engine_of(
     alloc: Global,
     limits: Limits,
     listener: Listener,
+    record: usize,
     first: io::Result<Times>,
 ) -> Result<(Engine, Moments), DaemonFault>
     ensures bad { IsErrOf result DaemonFault.Limits ↔ IsTrue (not (are_good limits)) }
@@ -151,7 +165,7 @@ fn engine_of(
         Ok(Times { wall, monotonic }) => (*wall, *monotonic),
         Err(_) => (0, 0),
     };
-    match Engine::new(alloc, limits, listener, wall) {
+    match Engine::new(alloc, limits, listener, wall, record) {
         Ok(engine) => match first {
             Ok(_) => Ok((engine, Moments::new(wall, monotonic))),
             Err(error) => Err(DaemonFault::Socket(Step::Clock.failed(error))),

@@ -1,23 +1,31 @@
 //! Where events go to the core: in the order in which they happen, each by one function.
 ghost use Rattle.std.specs.Prelude.{◌≡◌};
-ghost use Rattle.rb_daemon.specs.Served.{IsServed};
+ghost use Rattle.rb_model.specs.Step.{show_told};
+ghost use Rattle.rb_core.specs.Events.{OnlyBegins};
+ghost use Rattle.rb_record.specs.Entries.{event_of, entry_text};
+ghost use Rattle.rb_record.specs.Tapes.{Records};
+ghost use Rattle.rb_daemon.specs.Served.{IsServed, ready_of};
 
+use crate::showing::{count_given, record_exchange, record_unsent, show_done, show_opened};
 use crate::sockets::{CallSocket, CallSockets, ForwardSocket};
 use rb_core::{Core, CoreFault, Exchanged, Expired, Limits, Listener, Outcome, Peer, Told};
+use rb_record::{Happening, Shown, Tape};
 use rb_xdr::Meter;
 use std::alloc::Global;
+use std::io;
 use std::io::{ErrorKind, Write};
 
-/// The core, the meter that it was made with, and the moment of the turn, in milliseconds since the start of 1970.
-/// Nothing else calls the core, so what is called here, line by line, are the events of a run, `exchange` as the bytes
-/// that came and the reply that was given.
+/// The core, the meter that it was made with, the moment of the turn, in milliseconds since the start of 1970, and the tape
+/// that the events are recorded on. Nothing else calls the core, so what is called here, line by line, are the events of a
+/// run, `exchange` as the bytes that came and the reply that was given, and each is recorded with what it gave.
 #[derive(Drop)]
 pub(crate) struct Engine {
     core: Core,
     meter: Meter,
     moment: u64,
+    tape: Tape,
     ghost tied: { meter.tie ≡ core.tie },
-    ghost reached: { ∥ IsServed core ∥₁ },
+    ghost served: { ∥ IsServed core tape ∥₁ },
 }
 
 /// What became of the bytes that are pending on a connection.
@@ -43,23 +51,63 @@ pub(crate) enum Due {
     Ready(u64),
 }
 
+/// Records the end of a forwarded call, and tells it: a caller over UDP gets the last reply from the socket that it called.
+/// The answer is the connection that goes on.
+fn tell(
+    core: &mut Core,
+    meter: &mut Meter,
+    tape: &mut Tape,
+    event: &Happening<'_>,
+    told: Told,
+    calls: &CallSockets,
+) -> Option<u64>
+    requires { meter.old.tie ≡ core.old.tie }
+    ensures ready { result ≡ ready_of told }
+    ensures core { OnlyBegins core.old core.new }
+    ensures tie { meter.new.tie ≡ meter.old.tie }
+    ensures recorded { Records
+        (entry_text (event_of event.now) (show_told core.old.reply told)) tape.old tape.new }
+{
+    match told {
+        Told::TcpReady(id) => {
+            tape.record(event, &Shown::Ready(id));
+            Some(id)
+        }
+        Told::Datagram(peer) => {
+            let reply = core.udp_reply(meter);
+            calls.reply_where_asked(reply, peer);
+            tape.record(event, &Shown::RepliedTo(peer, reply));
+            None
+        }
+        Told::Silent => {
+            tape.record(event, &Shown::Silent);
+            None
+        }
+    }
+}
+
 impl Engine {
-    ghost use Rattle.std.specs.Prelude.{◌≡◌, ◌≤◌, ◌↔◌, IsTrue, IsErrOf, length, not, IfOk};
+    ghost use Rattle.std.specs.Prelude.{◌≡◌, ◌≤◌, ◌↔◌, [], ◌∷◌, IsTrue, IsErrOf, length, drop, not, IfOk, OnOk};
+    ghost use Rattle.std.specs.Io.KnownBytes.{Appends};
+    ghost use Rattle.rb_model.specs.Step.Event.{Open, Closed, NextLost, Datagram, Forward, Expire};
+    ghost use Rattle.rb_daemon.specs.Recording.{exchange, giving, sending as sending_events};
     ghost use Rattle.rb_model.specs.State.{State, are_good};
     ghost use Rattle.rb_model.specs.Step.{open_connection, close_connection, next_lost};
     ghost use Rattle.rb_core.specs.StandsFor.{StandsFor};
     ghost use Rattle.rb_core.specs.Slots.{Shows};
     ghost use Rattle.rb_core.specs.AtOnce.{Exchanges, count_given, count_now};
     ghost use Rattle.rb_daemon.specs.Served.{after_giving, answering, ready_of, replying, expiring, sending};
-    ghost use Rattle.rb_daemon.specs.Moves.{BeginsAt, Moves, ActsNow, Gives};
+    ghost use Rattle.rb_daemon.specs.Moves.{BeginsAt, Moves, ActsNow, Gives, Recorded};
 
-    /// A new core at this moment, which is the first. The first forwarded call has the low 32 bits of it for its number.
-    /// `BadLimits` where a limit is out of its range, else `NoMemory` where an allocation is refused.
+    /// A new core at this moment, which is the first. The first forwarded call has the low 32 bits of it for its number. Up to
+    /// `record` bytes are recorded of its events. `BadLimits` where a limit is out of its range, else `NoMemory` where an
+    /// allocation is refused.
     pub(crate) fn new(
         alloc: Global,
         limits: Limits,
         listener: Listener,
         moment: u64,
+        record: usize,
     ) -> Result<Engine, CoreFault>
         ensures made { IfOk result (BeginsAt moment limits listener) }
         ensures bad { IsErrOf result CoreFault.BadLimits ↔ IsTrue (not (are_good limits)) }
@@ -67,10 +115,15 @@ impl Engine {
         let mut meter = Meter::new();
         let first_xid = (moment % 0x1_0000_0000) as u32;
         let core = Core::new(alloc, limits, listener, first_xid, moment, &mut meter)?;
+        let Ok(mut tape) = Tape::new(alloc, record) else {
+            return Err(CoreFault::NoMemory);
+        };
+        tape.begin(&limits, &listener, first_xid, moment);
         Ok(Engine {
             core,
             meter,
             moment,
+            tape,
         })
     }
 
@@ -78,15 +131,30 @@ impl Engine {
     pub(crate) fn set_moment(&mut self, moment: u64)
         ensures core { self.new.core ≡ self.old.core }
         ensures moment { self.new.moment ≡ moment }
+        ensures tape { self.new.tape ≡ self.old.tape }
     {
         self.moment = moment;
     }
 
-    pub(crate) fn open(&mut self, peer: Peer) -> Result<u64, CoreFault>
-        ensures acts { ActsNow (λ s now. open_connection s now peer) self.old self.new result }
+    /// Writes what was recorded and not yet written. Where that fails the recording ends.
+    pub(crate) fn write_record<W: Write>(&mut self, writer: &mut W) -> io::Result<()>
+        ensures ok { OnOk result (Appends (W.contents writer.old) (W.contents writer.new)
+            (drop self.old.tape.written self.old.tape.text)) }
+        ensures core { self.new.core ≡ self.old.core }
         ensures moment { self.new.moment ≡ self.old.moment }
     {
-        self.core.open(self.moment, peer, &mut self.meter)
+        self.tape.write_out(writer)
+    }
+
+    pub(crate) fn open(&mut self, peer: Peer) -> Result<u64, CoreFault>
+        ensures acts { ActsNow (λ s now. open_connection s now peer) self.old self.new result }
+        ensures recorded { Recorded (λ s now. Open now peer ∷ []) self.old self.new }
+        ensures moment { self.new.moment ≡ self.old.moment }
+    {
+        let opened = self.core.open(self.moment, peer, &mut self.meter);
+        self.tape
+            .record(&Happening::Open(self.moment, peer), &show_opened(opened));
+        opened
     }
 
     /// Bytes came on a connection. A reply of one fragment to the record that ends with them goes into the room, where there is
@@ -103,27 +171,47 @@ impl Engine {
             self.old.core (count_given result) }
         ensures fits { count_given result ≤ length room.new }
         ensures within { IfOk result (λ done. done.taken.count ≤ length piece.now) }
+        ensures recorded { Recorded
+            (λ s now. exchange now id piece.now (count_given result)) self.old self.new }
         ensures moment { self.new.moment ≡ self.old.moment }
     {
-        self.core
-            .exchange(self.moment, id, piece, room, &mut self.meter)
+        let done = self
+            .core
+            .exchange(self.moment, id, piece, room, &mut self.meter);
+        let given = &room[..count_given(&done)];
+        record_exchange(&mut self.tape, self.moment, id, piece, given, &done);
+        done
     }
 
     /// Writes the bytes that are pending on a connection, once, and tells the core how many the writer took.
     pub(crate) fn give<W: Write>(&mut self, id: u64, writer: &mut W) -> Given
         ensures given { Gives id W.contents self.old writer.old writer.new result }
         ensures acts { Moves (λ s now. after_giving s now id result) self.old self.new }
+        ensures recorded { Recorded (λ s now. giving now id result) self.old self.new }
         ensures moment { self.new.moment ≡ self.old.moment }
     {
+        let look = Happening::Pending(id);
         let written = match self.core.pending(id, &mut self.meter) {
-            Ok([]) => return Given::Nothing,
-            Ok(owed) => writer.write(owed),
-            Err(_) => return Given::Over,
+            Ok(owed) => {
+                self.tape.record(&look, &Shown::Pending(owed));
+                if owed.is_empty() {
+                    return Given::Nothing;
+                }
+                writer.write(owed)
+            }
+            Err(fault) => {
+                self.tape.record(&look, &Shown::Refused(fault));
+                return Given::Over;
+            }
         };
         match written {
             Ok(0) => Given::Over,
             Ok(n) => match self.core.gave(self.moment, id, n, &mut self.meter) {
-                Ok(()) => Given::Bytes(n),
+                Ok(()) => {
+                    self.tape
+                        .record(&Happening::Gave(self.moment, id, n), &Shown::Done);
+                    Given::Bytes(n)
+                }
                 Err(_) => Given::Over,
             },
             Err(error) => Given::Failed(error.kind()),
@@ -133,52 +221,51 @@ impl Engine {
     /// A connection was closed. One that the core does not know is closed already.
     pub(crate) fn closed(&mut self, id: u64)
         ensures acts { Moves (λ s now. (close_connection s id).1) self.old self.new }
+        ensures recorded { Recorded (λ s now. Closed id ∷ []) self.old self.new }
         ensures moment { self.new.moment ≡ self.old.moment }
     {
-        let _ = self.core.closed(id, &mut self.meter);
+        let done = self.core.closed(id, &mut self.meter);
+        self.tape.record(&Happening::Closed(id), &show_done(done));
     }
 
     pub(crate) fn next_lost(&mut self) -> Option<u64>
         ensures lost { (s : State) → StandsFor self.old.core s → result ≡ next_lost s }
         ensures stays { Moves (λ s now. s) self.old self.new }
+        ensures recorded { Recorded (λ s now. NextLost ∷ []) self.old self.new }
         ensures moment { self.new.moment ≡ self.old.moment }
     {
-        self.core.next_lost(&mut self.meter)
+        let lost = self.core.next_lost(&mut self.meter);
+        self.tape.record(&Happening::NextLost, &Shown::Lost(lost));
+        lost
     }
 
     /// Answers a datagram over the socket on which it came. A reply that the socket does not take is lost. It says whether
     /// the call is forwarded, and so is to be sent.
     pub(crate) fn answer(&mut self, peer: Peer, content: &[u8], socket: &CallSocket) -> bool
         ensures acts { ActsNow (answering peer content.now) self.old self.new result }
+        ensures recorded { Recorded
+            (λ s now. Datagram now peer content.now ∷ []) self.old self.new }
         ensures moment { self.new.moment ≡ self.old.moment }
     {
+        let event = Happening::Datagram(self.moment, peer, content);
         match self
             .core
             .datagram(self.moment, peer, content, &mut self.meter)
         {
             Outcome::Reply => {
-                socket.reply(self.core.udp_reply(&mut self.meter), peer);
+                let reply = self.core.udp_reply(&mut self.meter);
+                socket.reply(reply, peer);
+                self.tape.record(&event, &Shown::Replied(reply));
                 false
             }
-            Outcome::Forwarded => true,
-            Outcome::NoCall | Outcome::Silent => false,
-        }
-    }
-
-    /// Whom the end of a forwarded call is told: a caller over UDP gets the last reply from the socket that it called.
-    /// The answer is the connection that goes on.
-    fn tell(&mut self, told: Told, calls: &CallSockets) -> Option<u64>
-        ensures ready { result ≡ ready_of told }
-        ensures stays { Moves (λ s now. s) self.old self.new }
-        ensures moment { self.new.moment ≡ self.old.moment }
-    {
-        match told {
-            Told::TcpReady(id) => Some(id),
-            Told::Datagram(peer) => {
-                calls.reply_where_asked(self.core.udp_reply(&mut self.meter), peer);
-                None
+            Outcome::Forwarded => {
+                self.tape.record(&event, &Shown::Forwarded);
+                true
             }
-            Told::Silent => None,
+            Outcome::NoCall | Outcome::Silent => {
+                self.tape.record(&event, &Shown::Silent);
+                false
+            }
         }
     }
 
@@ -190,25 +277,55 @@ impl Engine {
         calls: &CallSockets,
     ) -> Option<u64>
         ensures acts { ActsNow (replying from content.now) self.old self.new result }
+        ensures recorded { Recorded
+            (λ s now. Forward now from content.now ∷ []) self.old self.new }
         ensures moment { self.new.moment ≡ self.old.moment }
     {
-        let told = self
+        let event = Happening::Forward(self.moment, from, content);
+        let Some(told) = self
             .core
-            .forward_reply(self.moment, from, content, &mut self.meter)?;
-        self.tell(told, calls)
+            .forward_reply(self.moment, from, content, &mut self.meter)
+        else {
+            self.tape.record(&event, &Shown::Ignored);
+            return None;
+        };
+        tell(
+            &mut self.core,
+            &mut self.meter,
+            &mut self.tape,
+            &event,
+            told,
+            calls,
+        )
     }
 
     /// Ends what is due first.
     pub(crate) fn expire(&mut self, calls: &CallSockets) -> Due
         ensures acts { ActsNow expiring self.old self.new result }
+        ensures recorded { Recorded (λ s now. Expire now ∷ []) self.old self.new }
         ensures moment { self.new.moment ≡ self.old.moment }
     {
+        let event = Happening::Expire(self.moment);
         let told = match self.core.expire(self.moment, &mut self.meter) {
-            Expired::Nothing => return Due::Nothing,
-            Expired::ConnectionClosed(_) => return Due::Done,
+            Expired::Nothing => {
+                self.tape.record(&event, &Shown::Nothing);
+                return Due::Nothing;
+            }
+            Expired::ConnectionClosed(id) => {
+                self.tape.record(&event, &Shown::ConnectionClosed(id));
+                return Due::Done;
+            }
             Expired::Ended(told) => told,
         };
-        match self.tell(told, calls) {
+        let goes_on = tell(
+            &mut self.core,
+            &mut self.meter,
+            &mut self.tape,
+            &event,
+            told,
+            calls,
+        );
+        match goes_on {
             Some(id) => Due::Ready(id),
             None => Due::Done,
         }
@@ -218,14 +335,19 @@ impl Engine {
     /// whether there was one.
     pub(crate) fn send_forward(&mut self, socket: &ForwardSocket) -> bool
         ensures acts { ActsNow sending self.old self.new result }
+        ensures recorded { Recorded (λ s now. sending_events s) self.old self.new }
         ensures moment { self.new.moment ≡ self.old.moment }
     {
         let Some(unsent) = self.core.unsent(&mut self.meter) else {
+            self.tape.record(&Happening::Unsent, &Shown::Unsent(None));
             return false;
         };
         let id = unsent.id;
+        record_unsent(&mut self.tape, id.number, unsent.target, unsent.call);
         socket.call(unsent.call, unsent.target);
-        let _ = self.core.sent(id, &mut self.meter);
+        let done = self.core.sent(id, &mut self.meter);
+        self.tape
+            .record(&Happening::Sent(id.number), &show_done(done));
         true
     }
 }

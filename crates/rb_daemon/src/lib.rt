@@ -9,6 +9,7 @@ mod local;
 mod outbox;
 mod serving;
 mod settings;
+mod showing;
 mod sockets;
 mod stream;
 

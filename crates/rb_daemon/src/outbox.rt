@@ -39,7 +39,9 @@ impl Model for Outbox {
 impl Outbox {
     ghost use Rattle.std.specs.Prelude.{◌≡◌, ◌==◌, [], IfOk, OnErr};
     ghost use Rattle.std.specs.Io.KnownBytes.{WriteAppends};
-    ghost use Rattle.rb_daemon.specs.Moves.{FillsOutbox};
+    ghost use Rattle.rb_core.specs.AtOnce.{count_given};
+    ghost use Rattle.rb_daemon.specs.Recording.{exchange};
+    ghost use Rattle.rb_daemon.specs.Moves.{FillsOutbox, Recorded};
 
     /// An empty one with this room. It is written to, so that its memory is the process's from here on.
     pub(crate) fn new(alloc: Global, room: usize) -> Result<Outbox, AllocError>
@@ -97,6 +99,8 @@ impl Outbox {
         piece: &[u8],
     ) -> Result<Exchanged, CoreFault>
         ensures acts { FillsOutbox id piece.now engine.old engine.new self.old self.new result }
+        ensures recorded { Recorded
+            (λ s now. exchange now id piece.now (count_given result)) engine.old engine.new }
         ensures within { IfOk result (λ done. done.taken.count ≤ length piece.now) }
     {
         let room = &mut self.held.as_mut_slice()[self.end..];

@@ -16,6 +16,7 @@ use rb_policy::{
 };
 use std::alloc::{AllocError, Global};
 use std::io;
+use std::io::Write;
 
 /// The longest datagram.
 const LONGEST_DATAGRAM: usize = 65_536;
@@ -100,6 +101,11 @@ impl Serving {
 
     pub(crate) fn register(&mut self, registry: &Registry) -> io::Result<()> {
         self.sockets.register(registry)
+    }
+
+    /// Writes what was recorded and not yet written.
+    pub(crate) fn write_record<W: Write>(&mut self, writer: &mut W) -> io::Result<()> {
+        self.engine.write_record(writer)
     }
 
     /// Whether the next turn has something to serve at once.

@@ -16,6 +16,8 @@ pub struct Settings<'a> {
     /// The port of TCP and UDP.
     pub port: u16,
     pub limits: Limits,
+    /// The most bytes of a record of its events; 0 records nothing. So much memory it takes.
+    pub record: usize,
 }
 
 /// A stream socket in the file system.

@@ -89,6 +89,7 @@ pub(crate) fn plain(hosts: &[Ipv4Addr], conns: usize) -> Settings<'_> {
             rows: 300,
             forwards: 4,
         },
+        record: 0,
     }
 }
 

@@ -20,7 +20,7 @@ use Rattle.rb_lines.specs.declared.running.Beginning.{Beginning}
 use Rattle.rb_lines.specs.declared.running.Fault.{Fault}
 use Rattle.rb_lines.specs.declared.running.Fault.TheVariants.{NotText, Lines, NoMemory, BadLimits, SocketFailed, ReadFailed, WriteFailed, NoOutputs, Differs, Lacks}
 use Rattle.rb_lines.specs.Lines.{read, lines_of, longest_input}
-use Rattle.rb_lines.specs.Printing.{text_of}
+use Rattle.rb_record.specs.Printing.{text_of}
 use Rattle.rb_lines.specs.Checking.{said_by, said, printed, IsFrontOf, IsFirstOther, Agrees, AgreesWith, IsUnlike, OfRun, CannotBeChecked, IsWrongWith, GoesOn, IsWrongAt, IsEnd}
 use Rattle.rb_lines.specs.Running.{status_of, IsRefused}
 use Rattle.rb_lines.proofs.Reading.{IsAt, read-take}

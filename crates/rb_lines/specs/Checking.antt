@@ -11,7 +11,7 @@ use Rattle.rb_lines.specs.declared.running.Beginning.{Beginning}
 use Rattle.rb_lines.specs.declared.running.Fault.{Fault}
 use Rattle.rb_lines.specs.declared.running.Fault.TheVariants.{NotText, Lines, NoMemory, BadLimits, SocketFailed, ReadFailed, WriteFailed, NoOutputs, Differs, Lacks}
 use Rattle.rb_lines.specs.Lines.{lines_of, read, Fails}
-use Rattle.rb_lines.specs.Printing.{text_of}
+use Rattle.rb_record.specs.Printing.{text_of}
 use Rattle.rb_lines.specs.Running.{first, IsCoreFault, IsRead, IsRefused, BufWrites}
 
 -- ---- what an input says of outputs

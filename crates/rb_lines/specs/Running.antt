@@ -14,7 +14,8 @@ use Rattle.rb_lines.specs.declared.running.Fault.{Fault}
 use Rattle.rb_lines.specs.declared.running.Ran.{Ran}
 use Rattle.rb_lines.specs.declared.running.Fault.TheVariants.{NotText, Lines, NoMemory, BadLimits, SocketFailed, ReadFailed, WriteFailed, NoOutputs, Differs, Lacks}
 use Rattle.rb_lines.specs.Lines.{longest_input, read, Fails}
-use Rattle.rb_lines.specs.Printing.{report_of, ending, Writes}
+use Rattle.rb_record.specs.Printing.{Writes}
+use Rattle.rb_lines.specs.Printing.{report_of, ending}
 
 -- the core with which a replay begins
 abbrev pub first : Beginning → State

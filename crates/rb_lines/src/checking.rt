@@ -5,7 +5,7 @@ ghost use Rattle.std.specs.Io.Buffered.{writer_buffer};
 ghost use Rattle.rb_model.specs.State.{are_good};
 ghost use Rattle.rb_model.specs.Plain.{output_of, outputs_of};
 ghost use Rattle.rb_lines.specs.Lines.{read};
-ghost use Rattle.rb_lines.specs.Printing.{text_of};
+ghost use Rattle.rb_record.specs.Printing.{text_of};
 ghost use Rattle.rb_lines.specs.Running.{status_of, BufWrites};
 ghost use Rattle.rb_lines.specs.Checking.{said_by, said_of, printed, agreement, Agrees, AgreesWith, IsUnlike, OfRun, IsAgreed, FindsAgreed, CannotBeChecked, IsWrongWith, GoesOn, IsWrongAt, IsEnd};
 

@@ -3,7 +3,7 @@ ghost use Rattle.std.specs.Prelude.{◌≡◌, ◌≤◌, ◌^◌, IfErr};
 ghost use Rattle.rb_lines.specs.Fields.{decimal};
 
 use crate::options::command;
-use crate::service::Service;
+use crate::service::{Record, Service};
 use clap::error::ErrorKind;
 use clap::{ArgMatches, Error};
 use rb_core::{Limits, Listener};
@@ -151,6 +151,28 @@ fn service_of<'a>(alloc: Global, matches: &ArgMatches<'a>) -> Result<Service, Un
         port: port_of(matches)?,
         limits: limits_of(matches)?,
         turns: number_of(matches, "turns")?,
+        record: record_of(alloc, matches)?,
+    })
+}
+
+/// The record, where one is asked for.
+fn record_of<'a>(alloc: Global, matches: &ArgMatches<'a>) -> Result<Option<Record>, Unread<'a>> {
+    let limit = record_limit_of(matches)?;
+    let Some(value) = matches.get_str("record") else {
+        return Ok(None);
+    };
+    match String::from_str(alloc, value) {
+        Ok(path) => Ok(Some(Record { path, limit })),
+        Err(_) => Err(Unread::NoMemory),
+    }
+}
+
+fn record_limit_of<'a>(matches: &ArgMatches<'a>) -> Result<usize, BadValue<'a>> {
+    let value = text_of(matches, "record-limit");
+    record_limit(value).ok_or(BadValue {
+        option: "record-limit",
+        value,
+        wanted: "a number from 1000 to 16777216",
     })
 }
 
@@ -279,6 +301,15 @@ fn mode(text: &str) -> Option<u32> {
     }
     let mode = u32::from_str_radix(text, 8).ok()?;
     if mode <= 0o777 { Some(mode) } else { None }
+}
+
+fn record_limit(text: &str) -> Option<usize> {
+    let limit = number(text)?;
+    if 1_000 <= limit && limit <= 16_777_216 {
+        Some(limit as usize)
+    } else {
+        None
+    }
 }
 
 fn xid(text: &str) -> Option<u32> {

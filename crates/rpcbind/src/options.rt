@@ -41,6 +41,7 @@ fn serve<'a>(alloc: Global) -> Result<Command<'a>, AllocError> {
             "IPv4 address that answers show for 0.0.0.0; callers from it are local [default: the first --bind]",
         ))?;
     let command = besides(alloc, command)?;
+    let command = recorded(alloc, command)?;
     limited(alloc, command, ["64", "1024", "16"])?.arg(option(
         alloc,
         "turns",
@@ -71,6 +72,24 @@ fn besides<'a>(alloc: Global, command: Command<'a>) -> Result<Command<'a>, Alloc
         )
         .default_value("0666"))?
         .arg(loopback6)
+}
+
+/// Where `serve` records its events.
+fn recorded<'a>(alloc: Global, command: Command<'a>) -> Result<Command<'a>, AllocError> {
+    command
+        .arg(option(
+            alloc,
+            "record",
+            "FILE",
+            "Record events and what each gives in FILE, for 'replay --check'",
+        ))?
+        .arg(option(
+            alloc,
+            "record-limit",
+            "N",
+            "Most bytes of the record, 1000 to 16777216; it takes as much memory",
+        )
+        .default_value("16000000"))
 }
 
 fn replay<'a>(alloc: Global) -> Result<Command<'a>, AllocError> {

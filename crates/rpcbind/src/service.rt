@@ -1,11 +1,11 @@
 //! The command `serve`.
-ghost use Rattle.std.specs.Prelude.{◌≤◌};
+ghost use Rattle.std.specs.Prelude.{◌≤◌, IfErr};
 
 use rb_core::Limits;
 use rb_daemon::{Daemon, DaemonFault, LocalSocket, Settings, SocketFault, Step};
 use rb_lines::{Fault, bad_limit, explain};
 use rb_policy::{announced, is_no_address};
-use std::fs::Files;
+use std::fs::{File, Files};
 use std::io;
 use std::io::Write;
 use std::net::{Ipv4Addr, Net};
@@ -30,6 +30,55 @@ pub struct Service {
     pub limits: Limits,
     /// After how many turns it ends; 0 never ends.
     pub turns: u64,
+    /// The record of its events, where one is asked for.
+    pub record: Option<Record>,
+}
+
+/// A record of events: the path of its file, and its most bytes.
+#[derive(Debug, Drop)]
+pub struct Record {
+    pub path: String,
+    pub limit: usize,
+}
+
+/// What is recorded goes to a file, as long as that takes it.
+#[derive(Drop)]
+struct Recorder<F: Write + Drop> {
+    file: Option<F>,
+}
+
+impl<F: Write + Drop> Recorder<F> {
+    /// Writes what the last turn recorded. After a fault, which is said once, nothing more is recorded.
+    fn write<R: Clock, E: Write>(&mut self, daemon: &mut Daemon<'_, R>, faults: &mut E) {
+        let Some(file) = &mut self.file else {
+            return;
+        };
+        if let Err(error) = daemon.write_record(file) {
+            let _ = writeln!(faults, "rpcbind: write the record: {error}; it ends here");
+            self.file = None;
+        }
+    }
+}
+
+/// The recorder of a service. Where its file can't be made it is said why, and the status is answered.
+fn recorder_of<R: Files, E: Write>(
+    rt: &R,
+    service: &Service,
+    faults: &mut E,
+) -> Result<Recorder<R::File>, u8>
+    ensures { IfErr result (λ status. status ≤ 2) }
+{
+    let Some(record) = &service.record else {
+        return Ok(Recorder { file: None });
+    };
+    let path = record.path.as_str();
+    match File::create(rt, path) {
+        Ok(file) => Ok(Recorder { file: Some(file) }),
+        Err(error) => {
+            let _ = writeln!(faults, "rpcbind: make {path}: {error}");
+            Err(explain(Fault::WriteFailed, faults))
+        }
+    }
 }
 
 impl Service {
@@ -49,12 +98,16 @@ impl Service {
             announce: announced(self.announce, first),
             port: self.port,
             limits: self.limits,
+            record: match &self.record {
+                Some(record) => record.limit,
+                None => 0,
+            },
         }
     }
 }
 
 /// Serves, and says on standard output where it listens. The answer is the exit status: 0 after the last turn, and 1
-/// where the limits are out of their ranges or memory, a socket or standard output failed, which `faults` is told, with
+/// where the limits are out of their ranges or memory, a socket, standard output or the file of the record failed, which `faults` is told, with
 /// what failed in a line before.
 pub fn run_service<R, E>(rt: &R, service: &Service, faults: &mut E) -> u8
 where
@@ -76,7 +129,11 @@ where
     if say_where(rt, &settings).is_err() {
         return explain(Fault::WriteFailed, faults);
     }
-    match take_turns(rt, &mut daemon, service.turns) {
+    let mut recorder = match recorder_of(rt, service, faults) {
+        Ok(recorder) => recorder,
+        Err(status) => return status,
+    };
+    match take_turns(rt, &mut daemon, service.turns, &mut recorder, faults) {
         Ok(()) => 0,
         Err(fault) => explain_fault(&fault, &settings, faults),
     }
@@ -98,19 +155,32 @@ fn say_where(rt: &impl Print, settings: &Settings<'_>) -> io::Result<()> {
     Ok(())
 }
 
-fn take_turns<R: Clock + Wait>(
+/// A turn, and what was recorded of it.
+fn take_turn<R: Clock, F: Write + Drop, E: Write>(
+    daemon: &mut Daemon<'_, R>,
+    recorder: &mut Recorder<F>,
+    faults: &mut E,
+) -> Result<(), DaemonFault> {
+    let turned = daemon.turn(WAIT);
+    recorder.write(daemon, faults);
+    turned
+}
+
+fn take_turns<R: Clock + Wait, F: Write + Drop, E: Write>(
     rt: &R,
     daemon: &mut Daemon<'_, R>,
     turns: u64,
+    recorder: &mut Recorder<F>,
+    faults: &mut E,
 ) -> Result<(), DaemonFault> {
     if turns > 0 {
         for _ in 0..turns {
-            daemon.turn(WAIT)?;
+            take_turn(daemon, recorder, faults)?;
         }
         return Ok(());
     }
     for _ in rt.forever() {
-        daemon.turn(WAIT)?;
+        take_turn(daemon, recorder, faults)?;
     }
     unreachable!()
 }

@@ -1,12 +1,22 @@
-use Rattle.rb_daemon.proofs.Reached.{look_served, datagram_served}
+use Rattle.std.proofs.Common.{refl}
+use Rattle.rb_core.specs.declared.types.Outcome.TheVariants.{Reply, Forwarded}
+use Rattle.rb_daemon.proofs.Reached.{datagram_records, datagram_served, silent_records, silent_served}
 use Rattle.rb_daemon.proofs.engine.Engine.answer.Goals as goal
 
-pub invariant_of-self-clause-reached : goal.invariant_of-self-clause-reached
-invariant_of-self-clause-reached c =
-    look_served c.datagram.new.self _ _ c.udp_reply.follows.holds-at-none (datagram_served _ _ c.args.self.now.moment c.args.peer _ _ c.datagram.ensures.acts c.args.self.now.reached)
+pub invariant_of-self-clause-served : goal.invariant_of-self-clause-served
+invariant_of-self-clause-served c = datagram_served _ c.datagram.new.self _ _ c.args.self.now.moment c.args.peer _ Reply _ _ c.udp_reply-reply.follows.holds-at-none c.in-Reply.ensures.acts (rw c.udp_reply-reply.ensures.held at c.«record».ensures) c.args.self.now.served
 
-pub invariant_of-self-in-Forwarded-clause-reached : goal.invariant_of-self-in-Forwarded-clause-reached
-invariant_of-self-in-Forwarded-clause-reached c = datagram_served _ _ c.args.self.now.moment c.args.peer _ _ c.datagram.ensures.acts c.args.self.now.reached
+pub invariant_of-self-in-Forwarded-clause-served : goal.invariant_of-self-in-Forwarded-clause-served
+invariant_of-self-in-Forwarded-clause-served c = datagram_served _ c.datagram.new.self _ c.datagram.new.self.begun c.args.self.now.moment c.args.peer _ Forwarded _ _ refl c.in-Forwarded.ensures.acts c.record-in-Forwarded.ensures c.args.self.now.served
 
-pub invariant_of-self-in-NoCall-clause-reached : goal.invariant_of-self-in-NoCall-clause-reached
-invariant_of-self-in-NoCall-clause-reached c = datagram_served _ _ c.args.self.now.moment c.args.peer _ _ c.datagram.ensures.acts c.args.self.now.reached
+pub invariant_of-self-in-NoCall-clause-served : goal.invariant_of-self-in-NoCall-clause-served
+invariant_of-self-in-NoCall-clause-served c = silent_served _ c.datagram.new.self c.args.self.now.moment c.args.peer _ c.datagram.result _ _ c.in-NoCall.is c.datagram.ensures.acts c.record-in-NoCall.ensures c.args.self.now.served
+
+pub returns-in-Reply-clause-recorded : goal.returns-in-Reply-clause-recorded
+returns-in-Reply-clause-recorded c = datagram_records _ c.datagram.new.self c.args.self.now.moment c.args.peer _ Reply _ _ c.in-Reply.ensures.acts (rw c.udp_reply-reply.ensures.held at c.«record».ensures)
+
+pub returns-in-Forwarded-clause-recorded : goal.returns-in-Forwarded-clause-recorded
+returns-in-Forwarded-clause-recorded c = datagram_records _ c.datagram.new.self c.args.self.now.moment c.args.peer _ Forwarded _ _ c.in-Forwarded.ensures.acts c.record-in-Forwarded.ensures
+
+pub returns-in-NoCall-clause-recorded : goal.returns-in-NoCall-clause-recorded
+returns-in-NoCall-clause-recorded c = silent_records _ c.datagram.new.self c.args.self.now.moment c.args.peer _ c.datagram.result _ _ c.in-NoCall.is c.datagram.ensures.acts c.record-in-NoCall.ensures

@@ -1,23 +1,45 @@
-use Rattle.std.proofs.Common.{sym, ◌∙◌}
-use Rattle.rb_core.proofs.Begun.{same_tie}
-use Rattle.rb_daemon.proofs.Reached.{gave_served, look_served}
+use Rattle.std.proofs.Common.{Ok, Err, sym, ap, ◌∙◌}
+use Rattle.rb_core.specs.StandsFor.{Held}
+use Rattle.rb_core.proofs.Begun.{began, same_tie}
+use Rattle.rb_daemon.proofs.Reached.{look_records, look_served, gift_records, gift_served}
 use Rattle.rb_daemon.proofs.engine.Engine.give.Goals as goal
 
-pub invariant_of-self-in-Ok-written-clause-reached : goal.invariant_of-self-in-Ok-written-clause-reached
-invariant_of-self-in-Ok-written-clause-reached g c =
-    gave_served c.args.self.now.core _ _ _ c.args.self.now.moment c.args.id _ c.in-Ok.owed.now _ c.pending.follows.holds-at-none c.gave.ensures.acts c.in-Ok.ensures.lent c.in-Ok-written.ensures.bound c.args.self.now.reached
+pub invariant_of-self-clause-served : goal.invariant_of-self-clause-served
+invariant_of-self-clause-served g c = look_served c.args.self.now.core _ _ c.args.id (Ok c.in-Ok.owed.now) _ _ c.pending.follows.holds-at-none c.in-Ok.ensures.lent c.«record».ensures c.args.self.now.served
 
-pub invariant_of-self-clause-reached : goal.invariant_of-self-clause-reached
-invariant_of-self-clause-reached g c = look_served c.args.self.now.core _ _ c.pending.follows.holds-at-none c.args.self.now.reached
+pub returns-then-is_empty-clause-recorded : goal.returns-then-is_empty-clause-recorded
+returns-then-is_empty-clause-recorded g c = look_records c.args.self.now.core c.args.id (Ok c.in-Ok.owed.now) _ _ c.in-Ok.ensures.lent c.«record».ensures
 
-pub invariant_of-self-in-Err-clause-reached : goal.invariant_of-self-in-Err-clause-reached
-invariant_of-self-in-Err-clause-reached g c = look_served c.args.self.now.core _ _ c.pending.follows.holds-at-none c.args.self.now.reached
+pub invariant_of-self-in-Err-clause-served : goal.invariant_of-self-in-Err-clause-served
+invariant_of-self-in-Err-clause-served g c = look_served c.args.self.now.core _ _ c.args.id (Err c.in-Err.fault) _ _ c.pending.follows.holds-at-none c.in-Err.ensures.lent c.record-in-Err.ensures c.args.self.now.served
 
-pub invariant_of-self-in-Ok-eq0-clause-reached : goal.invariant_of-self-in-Ok-eq0-clause-reached
-invariant_of-self-in-Ok-eq0-clause-reached g c = look_served c.args.self.now.core _ _ c.pending.follows.holds-at-none c.args.self.now.reached
+pub returns-in-Err-clause-recorded : goal.returns-in-Err-clause-recorded
+returns-in-Err-clause-recorded g c = look_records c.args.self.now.core c.args.id (Err c.in-Err.fault) _ _ c.in-Err.ensures.lent c.record-in-Err.ensures
+
+pub invariant_of-self-in-Ok-eq0-clause-served : goal.invariant_of-self-in-Ok-eq0-clause-served
+invariant_of-self-in-Ok-eq0-clause-served g c = look_served c.args.self.now.core _ _ c.args.id (Ok c.in-Ok.owed.now) _ _ c.pending.follows.holds-at-none c.in-Ok.ensures.lent c.«record».ensures c.args.self.now.served
+
+pub invariant_of-self-in-Ok-gave-clause-served : goal.invariant_of-self-in-Ok-gave-clause-served
+invariant_of-self-in-Ok-gave-clause-served g c = gift_served c.args.self.now.core _ c.gave.new.self _ c.args.self.now.moment c.args.id c.in-Ok-written.n c.in-Ok.owed.now _ _ _ c.pending.follows.holds-at-none c.in-Ok-gave.ensures.acts c.in-Ok.ensures.lent c.in-Ok-written.ensures.bound c.«record».ensures c.record-in-Ok-gave.ensures c.args.self.now.served
+
+pub invariant_of-self-in-Err-gave-clause-served : goal.invariant_of-self-in-Err-gave-clause-served
+invariant_of-self-in-Err-gave-clause-served g c =
+    look_served c.args.self.now.core c.gave.new.self c.gave.new.self.begun c.args.id (Ok c.in-Ok.owed.now) _ _ (c.in-Err-gave.ensures.refused ∙ ap (λ (held : Held). began held c.gave.new.self.begun) c.pending.follows.holds-at-none) c.in-Ok.ensures.lent c.«record».ensures c.args.self.now.served
 
 pub invariant_of-self-in-Err-written : goal.invariant_of-self-in-Err-written
 invariant_of-self-in-Err-written g c = record {
   tied = c.pending.ensures.cost.tie ∙ c.args.self.now.tied ∙ sym (same_tie c.args.self.now.core _ _ c.pending.follows.holds-at-none);
-  reached = look_served c.args.self.now.core _ _ c.pending.follows.holds-at-none c.args.self.now.reached;
+  served = look_served c.args.self.now.core _ _ c.args.id (Ok c.in-Ok.owed.now) _ _ c.pending.follows.holds-at-none c.in-Ok.ensures.lent c.«record».ensures c.args.self.now.served;
 }
+
+pub returns-in-Ok-eq0-clause-recorded : goal.returns-in-Ok-eq0-clause-recorded
+returns-in-Ok-eq0-clause-recorded g c = look_records c.args.self.now.core c.args.id (Ok c.in-Ok.owed.now) _ _ c.in-Ok.ensures.lent c.«record».ensures
+
+pub returns-in-Ok-gave-clause-recorded : goal.returns-in-Ok-gave-clause-recorded
+returns-in-Ok-gave-clause-recorded g c = gift_records c.args.self.now.core _ c.gave.new.self _ c.args.self.now.moment c.args.id c.in-Ok-written.n c.in-Ok.owed.now _ _ _ c.pending.follows.holds-at-none c.in-Ok-gave.ensures.acts c.in-Ok.ensures.lent c.in-Ok-written.ensures.bound c.«record».ensures c.record-in-Ok-gave.ensures
+
+pub returns-in-Err-gave-clause-recorded : goal.returns-in-Err-gave-clause-recorded
+returns-in-Err-gave-clause-recorded g c = look_records c.args.self.now.core c.args.id (Ok c.in-Ok.owed.now) _ _ c.in-Ok.ensures.lent c.«record».ensures
+
+pub returns-in-Err-written-clause-recorded : goal.returns-in-Err-written-clause-recorded
+returns-in-Err-written-clause-recorded g c = look_records c.args.self.now.core c.args.id (Ok c.in-Ok.owed.now) _ _ c.in-Ok.ensures.lent c.«record».ensures

@@ -1,5 +1,8 @@
-use Rattle.rb_daemon.proofs.Reached.{open_served}
+use Rattle.rb_daemon.proofs.Reached.{open_records, open_served}
 use Rattle.rb_daemon.proofs.engine.Engine.open.Goals as goal
 
-pub invariant_of-self-clause-reached : goal.invariant_of-self-clause-reached
-invariant_of-self-clause-reached c = open_served _ _ c.args.self.now.moment c.args.peer _ c.open.ensures.acts c.args.self.now.reached
+pub invariant_of-self-clause-served : goal.invariant_of-self-clause-served
+invariant_of-self-clause-served c = open_served _ _ c.args.self.now.moment c.args.peer _ _ _ c.open-opened.ensures.acts (rw c.show_opened.ensures at c.«record».ensures) c.args.self.now.served
+
+pub returns-clause-recorded : goal.returns-clause-recorded
+returns-clause-recorded c = open_records _ _ c.args.self.now.moment c.args.peer _ _ _ c.open-opened.ensures.acts (rw c.show_opened.ensures at c.«record».ensures)

@@ -1,0 +1,91 @@
+//! What calls of the core gave, as the outputs that are recorded.
+ghost use Rattle.std.specs.Prelude.{◌≡◌, Some};
+ghost use Rattle.rb_model.specs.Step.Output.{Opened, UnsentIs};
+ghost use Rattle.rb_model.specs.Step.Event.{Unsent};
+ghost use Rattle.rb_model.specs.Step.{show_taken, show_done};
+ghost use Rattle.rb_core.specs.AtOnce.{count_given, taken_in};
+ghost use Rattle.rb_record.specs.Printing.{shown_of};
+ghost use Rattle.rb_record.specs.Entries.{entry_text};
+ghost use Rattle.rb_record.specs.Tapes.{Records};
+ghost use Rattle.rb_daemon.specs.Recording.{given_or, gift_text, exchange_text};
+
+use rb_core::{CoreFault, Exchanged, Peer};
+use rb_record::{Happening, Shown, ShownCall, Tape};
+
+pub(crate) fn show_opened<'a>(opened: Result<u64, CoreFault>) -> Shown<'a>
+    ensures { shown_of result ≡ given_or Opened opened }
+{
+    match opened {
+        Ok(id) => Shown::Opened(id),
+        Err(fault) => Shown::Refused(fault),
+    }
+}
+
+pub(crate) fn show_done<'a>(done: Result<(), CoreFault>) -> Shown<'a>
+    ensures { shown_of result ≡ given_or show_done done }
+{
+    match done {
+        Ok(()) => Shown::Done,
+        Err(fault) => Shown::Refused(fault),
+    }
+}
+
+fn show_taken<'a>(done: &Result<Exchanged, CoreFault>) -> Shown<'a>
+    ensures { shown_of result ≡ given_or show_taken (taken_in done.now) }
+{
+    match done {
+        Ok(exchanged) if exchanged.taken.closed => Shown::TookAndClosed(exchanged.taken.count),
+        Ok(exchanged) => Shown::Took(exchanged.taken.count),
+        Err(fault) => Shown::Refused(*fault),
+    }
+}
+
+/// How many bytes were given at once.
+pub(crate) fn count_given(done: &Result<Exchanged, CoreFault>) -> usize
+    ensures { result ≡ count_given done.now }
+{
+    match done {
+        Ok(exchanged) => exchanged.given,
+        Err(_) => 0,
+    }
+}
+
+/// Records that bytes came on a connection, and where some were given at once, the look at them and that they were given.
+pub(crate) fn record_exchange(
+    tape: &mut Tape,
+    now: u64,
+    id: u64,
+    piece: &[u8],
+    given: &[u8],
+    done: &Result<Exchanged, CoreFault>,
+)
+    ensures { Records (exchange_text
+        now id piece.now (given_or show_taken (taken_in done.now)) given.now) tape.old tape.new }
+{
+    tape.record(&Happening::Bytes(now, id, piece), &show_taken(done));
+    if !given.is_empty() {
+        record_gift(tape, now, id, given);
+    }
+}
+
+/// Records the look at bytes, and that all of them were given.
+fn record_gift(tape: &mut Tape, now: u64, id: u64, given: &[u8])
+    ensures { Records (gift_text now id given.now) tape.old tape.new }
+{
+    tape.record(&Happening::Pending(id), &Shown::Pending(given));
+    tape.record(&Happening::Gave(now, id, given.len()), &Shown::Done);
+}
+
+/// Records the look for a call that is to be sent, where there is one.
+pub(crate) fn record_unsent(tape: &mut Tape, number: u64, target: Peer, call: &[u8])
+    ensures { Records (entry_text Unsent
+        (UnsentIs (Some (record { number = number; target = target; call = call.now }))))
+        tape.old tape.new }
+{
+    let unsent = ShownCall {
+        number,
+        target,
+        call,
+    };
+    tape.record(&Happening::Unsent, &Shown::Unsent(Some(unsent)));
+}

@@ -1,0 +1,67 @@
+-- Lines of events, as they are written, and what is written of a run.
+use Rattle.std.specs.Prelude.{ℕ, List, [], ◌∷◌, ◌++◌, slice_index, codes}
+use Rattle.std.specs.Fmt.{decimal}
+use Rattle.rb_rpc.specs.Peers.{peer_text}
+use Rattle.rb_proto.specs.declared.listener.Listener.{Listener}
+use Rattle.rb_model.specs.declared.types.Limits.{Limits}
+use Rattle.rb_model.specs.State.{State}
+use Rattle.rb_model.specs.Step.{Event, Output, step}
+use Rattle.rb_model.specs.Step.Event.{Datagram, Open, Bytes, Pending, Gave, Closed, NextLost, Unsent, Sent, Forward, Expire}
+use Rattle.rb_record.specs.declared.happening.Happening.{Happening}
+use Rattle.rb_record.specs.declared.happening.Happening.TheVariants as happening
+use Rattle.rb_record.specs.Printing.{bytes_line, peer_line, text_of}
+
+-- the line of an event
+abbrev pub event_text : Event → List ℕ
+event_text (Open now from) = codes "open " ++ (decimal now ++ (codes " " ++ (peer_text from ++ codes "\n")))
+event_text (Bytes now id bytes) = codes "bytes " ++ (decimal now ++ (codes " " ++ (decimal id ++ bytes_line (codes " ") bytes)))
+event_text (Pending id) = codes "pending " ++ (decimal id ++ codes "\n")
+event_text (Gave now id n) = codes "gave " ++ (decimal now ++ (codes " " ++ (decimal id ++ (codes " " ++ (decimal n ++ codes "\n")))))
+event_text (Closed id) = codes "closed " ++ (decimal id ++ codes "\n")
+event_text NextLost = codes "lost\n"
+event_text (Datagram now from bytes) = codes "datagram " ++ (decimal now ++ peer_line (codes " ") from bytes)
+event_text Unsent = codes "unsent\n"
+event_text (Sent id) = codes "sent " ++ (decimal id ++ codes "\n")
+event_text (Forward now from bytes) = codes "forward " ++ (decimal now ++ peer_line (codes " ") from bytes)
+event_text (Expire now) = codes "expire " ++ (decimal now ++ codes "\n")
+
+-- an event, and what it gave behind `#> `
+abbrev pub entry_text : Event → Output → List ℕ
+entry_text event output = event_text event ++ (codes "#> " ++ text_of output)
+
+-- what is written of a run: each event, with what it gives
+unfoldable pub run_text : State → List Event → List ℕ
+run_text s [] = []
+run_text s (event ∷ events) = entry_text event (step s event).0 ++ run_text (step s event).1 events
+
+abbrev pub limits_text : Limits → List ℕ
+limits_text limits =
+    codes " --conns " ++ (decimal limits.conns ++ (codes " --rows " ++ (decimal limits.rows ++ (codes " --forwards " ++ decimal limits.forwards))))
+
+-- the host in dotted decimal form, and the port
+abbrev pub listener_text : Listener → List ℕ
+listener_text listener =
+    codes " --announce " ++ (decimal (slice_index listener.host 0) ++ (codes "." ++ (decimal (slice_index listener.host 1)
+    ++ (codes "." ++ (decimal (slice_index listener.host 2) ++ (codes "." ++ (decimal (slice_index listener.host 3)
+    ++ (codes " --port " ++ decimal listener.port))))))))
+
+-- the command that checks a record of a run from such an opening, in a comment
+abbrev pub options_text : Limits → Listener → ℕ → ℕ → List ℕ
+options_text limits listener first_xid now =
+    codes "# rpcbind replay --check" ++ (limits_text limits ++ (listener_text listener
+    ++ (codes " --xid " ++ (decimal first_xid ++ (codes " --now " ++ (decimal now ++ codes "\n"))))))
+
+-- ---- as the code has them
+
+abbrev pub event_of : Happening → Event
+event_of (happening.Open now from) = Open now from
+event_of (happening.Bytes now id bytes) = Bytes now id bytes.now
+event_of (happening.Pending id) = Pending id
+event_of (happening.Gave now id n) = Gave now id n
+event_of (happening.Closed id) = Closed id
+event_of happening.NextLost = NextLost
+event_of (happening.Datagram now from bytes) = Datagram now from bytes.now
+event_of happening.Unsent = Unsent
+event_of (happening.Sent number) = Sent number
+event_of (happening.Forward now from bytes) = Forward now from bytes.now
+event_of (happening.Expire now) = Expire now
