@@ -1,11 +1,11 @@
 -- Somebody may be given up for each newcomer.
-use Rattle.std.proofs.Common.{◌≡◌, ◌<◌, ◌≤◌, ◌+◌, ℕ, zero, suc, Bool, true, false, cond, List, [], ◌∷◌, length, max, nat_lt, ◌||◌, Option, Some, None, slice_get, arith, refl, sym, ap, ◌∙◌, subst}
-use Rattle.std.specs.Prelude.{count_by, position, bytes_eq}
+use Rattle.std.proofs.Common.{◌≡◌, ◌<◌, ◌+◌, ℕ, suc, Bool, true, false, cond, List, [], ◌∷◌, length, nat_lt, ◌||◌, Option, Some, None, slice_get, arith, refl, subst}
+use Rattle.std.specs.Prelude.{count_by, position}
 use Rattle.std.proofs.lemmas.Bool.Decides.{nat_tests}
 use Rattle.std.proofs.lemmas.List.Sums.{sum_by-cons}
 use Rattle.rb_policy.specs.declared.door.Origin.{Origin}
 use Rattle.rb_policy.specs.declared.door.Holder.{Holder}
-use Rattle.rb_policy.specs.Door.{Places, is_free, is_held_by, held_by, share, may_hold_more, MayBeGivenUp}
+use Rattle.rb_policy.specs.Door.{Places, is_free, is_held_by, held_by, share, may_hold_more}
 use Rattle.rb_policy.specs.Standings.{NobodyMayBeGivenUp}
 
 some_counted : {X : Type 0} (p : X → Bool) (xs : List X) → 0 < count_by p xs → (k : ℕ) × (x : X) × (slice_get xs k ≡ Some x) × (p x ≡ true)

@@ -1,3 +1,4 @@
 mod Asks
+mod DoorLaws
 mod Doors
 mod Standings

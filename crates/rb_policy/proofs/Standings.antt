@@ -1,22 +1,22 @@
 -- The one of many that no other goes before.
-use Rattle.std.proofs.Common.{◌≡◌, ◌<◌, ◌≤◌, ◌+◌, ◌⊎◌, ℕ, Bool, true, false, List, length, Option, Some, None, slice_get, nat_lt, arith, refl, sym, ap, ◌∙◌, subst, inl, inr, if◌then◌else◌, IsTrue, MatchOption}
+use Rattle.std.proofs.Common.{◌≡◌, ◌<◌, ◌≤◌, ◌+◌, ◌⊎◌, ℕ, Bool, true, false, length, Option, Some, None, slice_get, nat_lt, arith, refl, sym, ap, ◌∙◌, subst, inl, inr, if◌then◌else◌}
 use Rattle.std.proofs.lemmas.Bool.Decides.{nat_tests}
 use mathlib.Core.Logic.{⊎_elim}
 use mathlib.Core.Bool.{true≢false}
 use Rattle.std.proofs.lemmas.Option.{none-some, same_Some, cond_some, slice_get_within}
 use Rattle.std.specs.declared.cmp.Ordering.{Ordering}
 use Rattle.std.specs.declared.cmp.Ordering.TheVariants.{Less, Equal, Greater}
-use Rattle.std.specs.Ordering.{nat_cmp, on, is_lt, is_gt, ordering_reverse}
+use Rattle.std.specs.Ordering.{is_lt, ordering_reverse}
 use Rattle.std.specs.Cmp.{IsTotalOrder, bool_cmp_total}
-use Rattle.std.proofs.lemmas.Cmp.{nat_cmp_total, on_total, then_total, upto}
-use Rattle.std.proofs.lemmas.Bool.{cond-true, cond-false}
+use Rattle.std.proofs.lemmas.Cmp.{nat_cmp_total, on_total, then_total}
+use Rattle.std.proofs.lemmas.Bool.{cond-true}
 use Rattle.rb_policy.specs.declared.door.Origin.{Origin}
 use Rattle.rb_policy.specs.declared.door.Holder.{Holder}
 use Rattle.rb_policy.specs.declared.door.Standing.{Standing}
-use Rattle.rb_policy.specs.Door.{Places, rank, standing, by_standing, may_hold_more, GoesBefore, MayBeGivenUp, IsGivenUp}
+use Rattle.rb_policy.specs.Door.{Places, rank, standing, by_standing, GoesBefore, MayBeGivenUp, IsGivenUp}
 use Rattle.rb_policy.specs.Standings.{candidate, candidate_in, sooner, IsFirstOf, NobodyMayBeGivenUp}
 
-by_standing_total : IsTotalOrder by_standing
+pub by_standing_total : IsTotalOrder by_standing
 by_standing_total =
     then_total (then_total (then_total (then_total (then_total
     (on_total (λ s. s.is_within_share) bool_cmp_total)

@@ -1,5 +1,5 @@
 -- Who gets a place for a connection, and who is given up for it.
-use Rattle.std.specs.Prelude.{◌≡◌, ℕ, ◌-◌, ◌/◌, max, true, false, nat_lt, nat_le, ◌==◌, Bool, not, ◌&&◌, ◌||◌, IsTrue, List, [], length, slice_get, slice_index, count_by, position, bytes_eq, Option, Some, None}
+use Rattle.std.specs.Prelude.{◌≡◌, ℕ, ◌-◌, ◌/◌, max, true, false, nat_lt, nat_le, ◌==◌, Bool, not, ◌||◌, IsTrue, List, [], length, slice_get, slice_index, count_by, position, bytes_eq, Option, Some, None}
 use Rattle.std.specs.declared.cmp.Ordering.{Ordering}
 use Rattle.std.specs.declared.cmp.Ordering.TheVariants.{Less}
 use Rattle.std.specs.Ordering.{nat_cmp, bool_cmp, on, then_cmp}

@@ -7,3 +7,4 @@ pub mod Addresses
 pub mod Asked
 pub mod Door
 pub mod Standings
+pub mod DoorLaws

@@ -4,6 +4,7 @@
 mod addresses;
 mod asked;
 mod door;
+mod laws;
 mod local_file;
 mod moments;
 mod outcome;
@@ -15,6 +16,7 @@ pub use asked::{Ask, Asked};
 pub use door::{
     ACTIVE, Admission, Holder, OWED, Origin, Phase, admit, is_stuck, origin_of, phase_of,
 };
+pub use laws::door_laws;
 pub use local_file::{FileAction, FileState, file_action};
 pub use moments::Moments;
 pub use outcome::{

@@ -1,4 +1,4 @@
-use Rattle.std.proofs.Common.{◌∙◌, ap, sym, subst, length, ◌+◌}
+use Rattle.std.proofs.Common.{◌∙◌, ap, sym, subst, ◌+◌}
 use Rattle.rb_policy.specs.Standings.{candidate, IsFirstOf, sooner}
 use Rattle.rb_policy.proofs.Standings.{step, at_end, nobody, somebody}
 use Rattle.rb_policy.proofs.door.given_up.Goals as goal

@@ -1,4 +1,4 @@
-use Rattle.std.proofs.Common.{◌≡◌, length}
+use Rattle.std.proofs.Common.{◌≡◌}
 use Rattle.rb_policy.specs.Door.{may_hold_more}
 use Rattle.rb_policy.specs.Standings.{candidate, IsFirstOf}
 use Rattle.rb_policy.proofs.door.given_up.Given as goal
