@@ -26,56 +26,31 @@ use Rattle.rb_core.proofs.Phases.{by_phase}
 
 pub idle_phase : (source : Source) (stage : Stage) (buffer window : Kept) (phase : Phase) → stage ≡ stages.Idle → StandsForPhase source stage buffer window phase
     → (phase ≡ Idle) × (buffer.bytes ≡ []) × (window.bytes ≡ [])
-idle_phase source stage buffer window phase is h = at phase (subst (λ (s : Stage). StandsForPhase source s buffer window phase) is h)
-  where
-    at : (phase : Phase) → StandsForPhase source stages.Idle buffer window phase → (phase ≡ Idle) × (buffer.bytes ≡ []) × (window.bytes ≡ [])
-    at Idle h = (refl, h.0, h.1)
-    at (Reading fed) h = absurd h
-    at (Owing o) h = absurd h
-    at Awaiting h = absurd h
-    at Lost h = absurd h
+idle_phase source stage buffer window phase is h =
+    by_phase source buffer window (λ s p. s ≡ stages.Idle → (p ≡ Idle) × (buffer.bytes ≡ []) × (window.bytes ≡ []))
+    (λ z e. (refl, z.0, z.1)) (λ reader fed z e. absurd cc) (λ g o z e. absurd cc) (λ z e. absurd cc) (λ e. absurd cc) stage phase h is
 
 pub reading_phase : (source : Source) (reader : Reader) (stage : Stage) (buffer window : Kept) (phase : Phase) → stage ≡ stages.Reading reader → StandsForPhase source stage buffer window phase
     → (fed : List ℕ) × (phase ≡ Reading fed) × IsReading reader buffer fed × (window.bytes ≡ [])
-reading_phase source reader stage buffer window phase is h = at phase (subst (λ (s : Stage). StandsForPhase source s buffer window phase) is h)
-  where
-    at : (phase : Phase) → StandsForPhase source (stages.Reading reader) buffer window phase → (fed : List ℕ) × (phase ≡ Reading fed) × IsReading reader buffer fed × (window.bytes ≡ [])
-    at Idle h = absurd h
-    at (Reading fed) h = (fed, refl, h.0, h.1)
-    at (Owing o) h = absurd h
-    at Awaiting h = absurd h
-    at Lost h = absurd h
+reading_phase source reader stage buffer window phase is h =
+    by_phase source buffer window (λ s p. s ≡ stages.Reading reader → (fed : List ℕ) × (p ≡ Reading fed) × IsReading reader buffer fed × (window.bytes ≡ []))
+    (λ z e. absurd cc) (λ r fed z e. let same : r ≡ reader = cc in (fed, refl, subst (λ (x : Reader). IsReading x buffer fed) same z.0, z.1))
+    (λ g o z e. absurd cc) (λ z e. absurd cc) (λ e. absurd cc) stage phase h is
 
 pub giving_phase : (source : Source) (giving : Giving) (stage : Stage) (buffer window : Kept) (phase : Phase) → stage ≡ stages.Giving giving → StandsForPhase source stage buffer window phase
     → (o : Owed) × (phase ≡ Owing o) × IsGiving source giving buffer.bytes window o
-giving_phase source giving stage buffer window phase is h = at phase (subst (λ (s : Stage). StandsForPhase source s buffer window phase) is h)
-  where
-    at : (phase : Phase) → StandsForPhase source (stages.Giving giving) buffer window phase → (o : Owed) × (phase ≡ Owing o) × IsGiving source giving buffer.bytes window o
-    at Idle h = absurd h
-    at (Reading fed) h = absurd h
-    at (Owing o) h = (o, refl, h)
-    at Awaiting h = absurd h
-    at Lost h = absurd h
+giving_phase source giving stage buffer window phase is h =
+    by_phase source buffer window (λ s p. s ≡ stages.Giving giving → (o : Owed) × (p ≡ Owing o) × IsGiving source giving buffer.bytes window o)
+    (λ z e. absurd cc) (λ reader fed z e. absurd cc)
+    (λ g o z e. let same : g ≡ giving = cc in (o, refl, subst (λ (x : Giving). IsGiving source x buffer.bytes window o) same z)) (λ z e. absurd cc) (λ e. absurd cc) stage phase h is
 
 pub lost_phase : (source : Source) (stage : Stage) (buffer window : Kept) (phase : Phase) → stage ≡ stages.Lost → StandsForPhase source stage buffer window phase → phase ≡ Lost
-lost_phase source stage buffer window phase is h = at phase (subst (λ (s : Stage). StandsForPhase source s buffer window phase) is h)
-  where
-    at : (phase : Phase) → StandsForPhase source stages.Lost buffer window phase → phase ≡ Lost
-    at Idle h = absurd h
-    at (Reading fed) h = absurd h
-    at (Owing o) h = absurd h
-    at Awaiting h = absurd h
-    at Lost h = refl
+lost_phase source stage buffer window phase is h =
+    by_phase source buffer window (λ s p. s ≡ stages.Lost → p ≡ Lost) (λ z e. absurd cc) (λ reader fed z e. absurd cc) (λ g o z e. absurd cc) (λ z e. absurd cc) (λ e. refl) stage phase h is
 
 pub awaiting_phase : (source : Source) (stage : Stage) (buffer window : Kept) (phase : Phase) → stage ≡ stages.Awaiting → StandsForPhase source stage buffer window phase → phase ≡ Awaiting
-awaiting_phase source stage buffer window phase is h = at phase (subst (λ (s : Stage). StandsForPhase source s buffer window phase) is h)
-  where
-    at : (phase : Phase) → StandsForPhase source stages.Awaiting buffer window phase → phase ≡ Awaiting
-    at Idle h = absurd h
-    at (Reading fed) h = absurd h
-    at (Owing o) h = absurd h
-    at Awaiting h = refl
-    at Lost h = absurd h
+awaiting_phase source stage buffer window phase is h =
+    by_phase source buffer window (λ s p. s ≡ stages.Awaiting → p ≡ Awaiting) (λ z e. absurd cc) (λ reader fed z e. absurd cc) (λ g o z e. absurd cc) (λ z e. refl) (λ e. absurd cc) stage phase h is
 
 -- ---- a piece that is taken
 

@@ -23,31 +23,23 @@ use Rattle.rb_model.specs.State.{State}
 
 -- ---- on one connection
 
--- what it costs to show a fragment of a list of these rows
-abbrev pub show_list_cost : Registry → ℕ
-show_list_cost registry = listed_cost (length (slots_of registry))
+-- how many rows a registry keeps
+abbrev pub row_count : Registry → ℕ
+row_count registry = length (slots_of registry)
 
 -- what it costs to show the next fragment of a reply
 abbrev pub next_cost : Registry → Rest → ℕ
 next_cost registry (rests.Held start) = show_cost
-next_cost registry (rests.Listed list) = show_list_cost registry
+next_cost registry (rests.Listed list) = listed_cost (row_count registry)
 
 -- what it costs to begin what a message is answered with
 abbrev pub told_cost : Registry → Served → ℕ
 told_cost registry (Told given) = show_cost + 1
-told_cost registry (Listed xid listing) = show_list_cost registry + 1
+told_cost registry (Listed xid listing) = listed_cost (row_count registry) + 1
 
 -- the same on a connection that is found among so many
 abbrev pub settling_cost : ℕ → Registry → Served → ℕ
 settling_cost connections registry served = find_cost connections + told_cost registry served + recount_cost
-
--- what it costs to count bytes as given, where a list is of these rows
-abbrev pub give_cost : Registry → ℕ
-give_cost registry = given_cost (length (slots_of registry))
-
--- the same of a connection among others
-abbrev pub giving_cost : Registry → ℕ
-giving_cost registry = give_cost registry + recount_cost
 
 -- what it costs to exchange the buffer of a record, where one ended
 abbrev pub heard_cost : Option Heard → ℕ
@@ -69,13 +61,9 @@ taking_cost (Err fault) = 0
 
 -- ---- by what is kept
 
--- what it costs to begin a list of these rows on one of so many connections
-abbrev pub list_cost : ℕ → Registry → ℕ
-list_cost connections registry = begin_list_cost connections (length (slots_of registry))
-
 -- how many rows the books keep
 abbrev pub kept_count : Books → ℕ
-kept_count books = length (slots_of books.registry)
+kept_count books = row_count books.registry
 
 -- what it costs to put results: the rows are walked twice, and the reply of so many bytes is written
 abbrev pub put_results_cost : Books → ℕ → ℕ
@@ -94,30 +82,18 @@ abbrev pub look_cost : Table → ℕ
 look_cost table = find_cost (slot_count table)
 
 -- what it costs to make room for a row
-abbrev pub room_cost_of : Table → Books → ℕ
-room_cost_of table books = make_room_cost (slot_count table) (kept_count books)
+abbrev pub room_cost : Table → Books → ℕ
+room_cost table books = make_room_cost (slot_count table) (kept_count books)
 
 -- what it costs to serve such a message once there is room for its row
 abbrev pub message_cost : Table → Books → Books → ℕ → ℕ → ℕ
-message_cost table old new args written = room_cost_of table old + serving_cost old new args written
+message_cost table old new args written = room_cost table old + serving_cost old new args written
 
 -- what it costs to answer what a record said, once its arguments are there: to serve it, and to let its connection go on
 abbrev pub served_cost : Table → Books → Books → ℕ → ℕ
-served_cost table old new args = message_cost table old new args longest_reply + list_cost (slot_count table) new.registry
-
--- how many forwarded calls there may be
-abbrev pub forwards_cap : Books → ℕ
-forwards_cap books = books.forwards.cap
+served_cost table old new args = message_cost table old new args longest_reply + begin_list_cost (slot_count table) (kept_count new)
 
 -- ---- on a core
-
--- to make room for a row
-abbrev pub room_cost : Held → ℕ
-room_cost held = room_cost_of held.connections held.books
-
--- to serve a message with so many bytes of arguments, once there is room for the row that it adds
-abbrev pub roomy_cost : Held → Held → ℕ → ℕ → ℕ
-roomy_cost old new args written = room_cost old + serve_cost (kept_count old.books) (kept_count new.books) args written
 
 -- to answer what a record said, of whose arguments so many bytes are kept
 abbrev pub answering_cost : Held → Held → ℕ → ℕ
@@ -125,11 +101,11 @@ answering_cost old new args = read_cost args + served_cost old.connections old.b
 
 -- to answer a datagram of so many bytes
 abbrev pub datagram_cost : Held → Held → ℕ → ℕ
-datagram_cost old new count = 2 + roomy_cost old new count (length new.reply)
+datagram_cost old new count = 2 + message_cost old.connections old.books new.books count (length new.reply)
 
 -- to count bytes as given
 abbrev pub gave_cost : Held → ℕ
-gave_cost held = look_cost held.connections + giving_cost held.books.registry
+gave_cost held = look_cost held.connections + (given_cost (kept_count held.books) + recount_cost)
 
 -- to take bytes where no record ends
 abbrev pub quiet_cost : Held → Result Taken CoreFault → ℕ
@@ -147,15 +123,15 @@ args_heard id piece s = length (arguments_on id [] piece s.connections)
 
 -- to close a connection, and to end the call that was forwarded for it
 abbrev pub closing_cost : Held → ℕ
-closing_cost held = look_cost held.connections + 5 + entry_cost (forwards_cap held.books)
+closing_cost held = look_cost held.connections + 5 + entry_cost held.books.forwards.cap
 
 -- to lend a call of so many bytes that is to be sent
 abbrev pub lending_cost : Held → ℕ → ℕ
-lending_cost held count = unsent_cost (forwards_cap held.books) count
+lending_cost held count = unsent_cost held.books.forwards.cap count
 
 -- to end an entry, and to tell its caller
 abbrev pub ending_cost : Held → ℕ
-ending_cost held = ended_cost (forwards_cap held.books) (slot_count held.connections)
+ending_cost held = ended_cost held.books.forwards.cap (slot_count held.connections)
 
 abbrev pub has_ended : Taking → Bool
 has_ended TakesNone = false

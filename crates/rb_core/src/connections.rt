@@ -244,8 +244,8 @@ impl Connections {
     ghost use Rattle.rb_model.specs.Losses.{expiring};
     ghost use Rattle.rb_core.specs.Slots.{Finds, TableActs, TableGives, TableHears, TableLends, TableShows, TakesWhole, KeepsWhole, StaysTable, IsDraft, IsEmptyDraft, empty_table, feeding, HasBuffers};
     ghost use Rattle.rb_model.specs.Step.{pending_at};
-    ghost use Rattle.rb_core.specs.CallCosts.{slot_count, look_cost, received_cost, taken_cost, settling_cost, giving_cost};
-    ghost use Rattle.rb_model.specs.Costs.{pending_cost, oldest_cost, evict_cost};
+    ghost use Rattle.rb_core.specs.CallCosts.{slot_count, look_cost, received_cost, taken_cost, settling_cost, row_count};
+    ghost use Rattle.rb_model.specs.Costs.{given_cost, recount_cost, pending_cost, oldest_cost, evict_cost};
     ghost use Rattle.rb_core.specs.Awaits.{AwaitsIfForwarded, NoneIsFreed, OnlyIsFreed, HeardFrom, HearsFree, GoOn, StayOpen};
     ghost use Rattle.rb_core.specs.StandsFor.{held_in, most_charge, source_for};
     ghost use Rattle.std.specs.Map.{values_of};
@@ -446,7 +446,7 @@ impl Connections {
         ensures stays { StaysTable self.old self.new }
         ensures draft { IsEmptyDraft meter.old.tie scratch.new }
         ensures cost { PaysAtMost meter.old meter.new
-            (look_cost self.old + giving_cost registry.now) }
+            (look_cost self.old + (given_cost (row_count registry.now) + recount_cost)) }
     {
         let Some(key) = wanted_key(&self.slots, &self.hints, Wanted::Live(id), meter) else {
             return Err(CoreFault::Gone);

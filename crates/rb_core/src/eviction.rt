@@ -4,7 +4,7 @@ ghost use Rattle.rb_xdr.specs.Meter.{PaysAtMost};
 ghost use Rattle.rb_proto.specs.Books.{AreTied, HasPlaceLeft, SameFrame};
 ghost use Rattle.rb_core.specs.Awaits.{StayOpen};
 ghost use Rattle.rb_core.specs.Listings.{AreTold, HasRoom, Evicts, source_in};
-ghost use Rattle.rb_core.specs.CallCosts.{kept_count, room_cost_of};
+ghost use Rattle.rb_core.specs.CallCosts.{kept_count, room_cost};
 
 use crate::connections::Connections;
 use rb_model::Message;
@@ -52,7 +52,7 @@ pub fn make_room(
     ensures forwards { books.new.forwards ≡ books.old.forwards }
     ensures frame { SameFrame books.old books.new }
     ensures fewer { kept_count books.new ≤ kept_count books.old }
-    ensures cost { PaysAtMost meter.old meter.new (room_cost_of connections.old books.old) }
+    ensures cost { PaysAtMost meter.old meter.new (room_cost connections.old books.old) }
 {
     let Message::Asked(call) = message else {
         return;

@@ -11,8 +11,8 @@ ghost use Rattle.rb_core.specs.Giving.{CanTell, ShowsNext};
 ghost use Rattle.rb_rpc.specs.Records.{fragment_header};
 ghost use Rattle.rb_proto.specs.ListReplies.{longest_part};
 ghost use Rattle.rb_core.specs.Slots.{IsDraft, IsEmptyDraft};
-ghost use Rattle.rb_model.specs.Costs.{show_cost};
-ghost use Rattle.rb_core.specs.CallCosts.{next_cost, show_list_cost};
+ghost use Rattle.rb_model.specs.Costs.{listed_cost, show_cost};
+ghost use Rattle.rb_core.specs.CallCosts.{next_cost, row_count};
 ghost use Rattle.rb_core.specs.AtOnce.{IsGivenWhole, whole_cost, whole_length};
 ghost use Rattle.rb_core.specs.declared.giving.Rest.TheVariants.{Held, Listed};
 
@@ -142,7 +142,7 @@ fn show_list(
     ensures shows { (buffer : List ℕ) → ShowsNext (source_for host registry.now) buffer
         (Listed list) window.old window.new result }
     ensures draft { IsEmptyDraft meter.old.tie scratch.new }
-    ensures cost { PaysAtMost meter.old meter.new (show_list_cost registry.now) }
+    ensures cost { PaysAtMost meter.old meter.new (listed_cost (row_count registry.now)) }
 {
     let part = list.next_part(registry, host, scratch, meter);
     let data = scratch.lend(part.start..part.end, meter);

@@ -163,8 +163,8 @@ impl Slot {
     ghost use Rattle.rb_core.specs.Giving.{CanTell};
     ghost use Rattle.rb_core.specs.Serving.{SlotSettles, SlotShowsNext, IsWritten, kind_in};
     ghost use Rattle.rb_core.specs.Awaits.{is_awaiting_stage, sender_on, HearsSlot, IsIdleAt};
-    ghost use Rattle.rb_core.specs.CallCosts.{received_cost, give_cost, next_cost, told_cost};
-    ghost use Rattle.rb_model.specs.Costs.{pending_cost};
+    ghost use Rattle.rb_core.specs.CallCosts.{received_cost, next_cost, row_count, told_cost};
+    ghost use Rattle.rb_model.specs.Costs.{given_cost, pending_cost};
 
     #[tactic(auto, unfolding(crate::specs::Slots::is_wanted_slot))]
     pub fn is_wanted(&self, wanted: Wanted) -> bool
@@ -412,7 +412,7 @@ impl Slot {
         ensures told { IsToldSlot (source_for host registry.now) self.new }
         ensures stays { StaysSlot meter.old.tie self.old self.new }
         ensures draft { IsEmptyDraft meter.old.tie scratch.new }
-        ensures cost { PaysAtMost meter.old meter.new (give_cost registry.now) }
+        ensures cost { PaysAtMost meter.old meter.new (given_cost (row_count registry.now)) }
     {
         let Stage::Giving(giving) = self.stage else {
             return;

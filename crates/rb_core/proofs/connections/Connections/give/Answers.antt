@@ -1,5 +1,6 @@
 use Rattle.std.proofs.Common.{◌+◌, ◌*◌, [], length, Err, ap, sym, subst, ◌∙◌, arith}
-use Rattle.rb_core.specs.CallCosts.{give_cost}
+use Rattle.rb_model.specs.Costs.{given_cost}
+use Rattle.rb_core.specs.CallCosts.{row_count}
 use Rattle.rb_xdr.specs.Meter.{Meter}
 use Rattle.rb_core.specs.contracts.connections.Connections.{the_view}
 use Rattle.rb_model.specs.declared.types.CoreFault.TheVariants.{Gone}
@@ -58,7 +59,7 @@ returns-clause-stays c = stays_changed (the_view c.self.inside) c.args.self.now 
 pub returns-clause-cost : goal.returns-clause-cost
 returns-clause-cost c =
     rw (← c.self.view_is)
-    (recounted_cost _ _ _ _ _ _ (2 * length c.self.inside.slots.entries + 2) (give_cost c.args.registry.now) c.wanted_key.ensures.cost c.get_mut.ensures.cost c.charge-before.ensures.cost c.give.ensures.cost c.recounted-self-inside.ensures.cost _ (omega arith))
+    (recounted_cost _ _ _ _ _ _ (2 * length c.self.inside.slots.entries + 2) (given_cost (row_count c.args.registry.now)) c.wanted_key.ensures.cost c.get_mut.ensures.cost c.charge-before.ensures.cost c.give.ensures.cost c.recounted-self-inside.ensures.cost _ (omega arith))
 
 pub returns-clause-acts : goal.returns-clause-acts
 returns-clause-acts c =
