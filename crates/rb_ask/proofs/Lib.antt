@@ -4,3 +4,4 @@ pub mod Items
 pub mod Tellings
 pub mod Listed
 pub mod HeadReads
+pub mod Taken

@@ -4,3 +4,4 @@ pub mod Heads
 pub mod HeadLaws
 pub mod Lists
 pub mod Telling
+pub mod WholeLists

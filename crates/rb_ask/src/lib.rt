@@ -7,6 +7,7 @@ mod item;
 mod laws;
 mod list;
 mod record;
+mod whole_list;
 
 pub use fault::InfoFault;
 pub use head::take_head;
@@ -14,3 +15,4 @@ pub use item::take_item;
 pub use laws::heads_are_read;
 pub use list::{Style, show_item, show_list};
 pub use record::Record;
+pub use whole_list::take_list;

@@ -12,7 +12,7 @@ use std::alloc::{AllocError, Global};
 use std::io::{Read, Write};
 
 /// At most so many items of a list are shown.
-const GREATEST_LIST: u32 = 4096;
+pub(crate) const GREATEST_LIST: u32 = 4096;
 
 /// A form in which the items of a list are shown, each as a line.
 pub trait Style<T> {

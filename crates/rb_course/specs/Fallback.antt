@@ -3,7 +3,7 @@ use Rattle.std.specs.Prelude.{nat_le, Bool, false, ◌&&◌, if◌then◌else◌
 use Rattle.rb_rpc.specs.declared.reply.ReplyStatus.{ReplyStatus}
 use Rattle.rb_rpc.specs.declared.reply.ReplyStatus.TheVariants as statuses
 use Rattle.rb_show.specs.declared.ask.Question.{Question}
-use Rattle.rb_show.specs.declared.ask.Question.TheVariants.{Rows, Short, OldRows, OldShort}
+use Rattle.rb_show.specs.declared.ask.Question.TheVariants.{Rows, Short, Summary, OldRows, OldShort, OldSummary}
 
 -- the refusal of a version that says that there is a version 2
 abbrev pub has_two : ReplyStatus → Bool
@@ -14,6 +14,7 @@ has_two _ = false
 abbrev pub old_of : Question → Option Question
 old_of Rows = Some OldRows
 old_of Short = Some OldShort
+old_of Summary = Some OldSummary
 old_of _ = None
 
 abbrev pub fallback : Question → ReplyStatus → Option Question

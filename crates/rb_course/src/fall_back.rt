@@ -28,6 +28,7 @@ fn old_of(question: Question) -> Option<Question>
     match question {
         Question::Rows => Some(Question::OldRows),
         Question::Short => Some(Question::OldShort),
+        Question::Summary => Some(Question::OldSummary),
         _ => None,
     }
 }

@@ -4,3 +4,4 @@ pub mod ShownBytes
 pub mod Calls
 pub mod Requests
 pub mod JsonTexts
+pub mod SummaryRows

@@ -5,7 +5,7 @@ use Rattle.rb_proto.specs.Arguments.{procedure_at}
 use Rattle.rb_proto.specs.Numbers.{is_void, is_mapping, is_rpcb, is_procedure, number_of}
 use Rattle.rb_proto.specs.Types.{IsMapping, mapping_spelling, IsRpcb, rpcb_spelling}
 use Rattle.rb_proto.specs.Grammar.{BeginsWith}
-use Rattle.rb_show.specs.declared.ask.Question.TheVariants.{Rows, Short, OldRows, OldShort, Pmap, Entries, Stats, Port, Address, Null, Probe, Unset}
+use Rattle.rb_show.specs.declared.ask.Question.TheVariants.{Rows, Short, OldRows, OldShort, Summary, OldSummary, Pmap, Entries, Stats, Port, Address, Null, Probe, Unset}
 use Rattle.std.specs.List.{AllByRecursion}
 use Rattle.rb_names.specs.Netids.{netid_text}
 use Rattle.rb_names.specs.declared.netid.Netid.{Netid}
@@ -49,6 +49,8 @@ are_requests Rows fit = (refl, tt)
 are_requests Short fit = (refl, tt)
 are_requests OldRows fit = (refl, tt)
 are_requests OldShort fit = (refl, tt)
+are_requests Summary fit = (refl, tt)
+are_requests OldSummary fit = (refl, tt)
 are_requests Pmap fit = (refl, tt)
 are_requests (Entries prog vers) fit = (refl, rpcb_fits None prog vers fit.0 fit.1)
 are_requests Stats fit = (refl, tt)

@@ -8,7 +8,7 @@ use Rattle.rb_proto.specs.declared.procedure.VoidProcedure.TheVariants as voids
 use Rattle.rb_proto.specs.declared.procedure.MappingProcedure.TheVariants as mappings
 use Rattle.rb_proto.specs.declared.procedure.RpcbProcedure.TheVariants as rpcbs
 use Rattle.rb_show.specs.declared.ask.Question.{Question}
-use Rattle.rb_show.specs.declared.ask.Question.TheVariants.{Rows, Short, OldRows, OldShort, Pmap, Entries, Stats, Port, Address, Null, Probe, Unset}
+use Rattle.rb_show.specs.declared.ask.Question.TheVariants.{Rows, Short, OldRows, OldShort, Summary, OldSummary, Pmap, Entries, Stats, Port, Address, Null, Probe, Unset}
 use Rattle.rb_show.specs.Asks.{procedure_of, rpcb_of, mapping_of, arguments_of}
 
 -- its numbers fit in 32 bits
@@ -17,6 +17,8 @@ HasNumbers Rows = ⊤
 HasNumbers Short = ⊤
 HasNumbers OldRows = ⊤
 HasNumbers OldShort = ⊤
+HasNumbers Summary = ⊤
+HasNumbers OldSummary = ⊤
 HasNumbers Pmap = ⊤
 HasNumbers (Entries prog vers) = IsNumber prog × IsNumber vers
 HasNumbers Stats = ⊤
@@ -32,6 +34,8 @@ request_of Rows = Some (Void voids.Dump)
 request_of Short = Some (Void voids.Dump)
 request_of OldRows = Some (Void voids.PmapDump)
 request_of OldShort = Some (Void voids.PmapDump)
+request_of Summary = Some (Void voids.Dump)
+request_of OldSummary = Some (Void voids.PmapDump)
 request_of Pmap = Some (Void voids.PmapDump)
 request_of (Entries prog vers) = Some (Rpcb rpcbs.Getaddrlist (rpcb_of None prog vers))
 request_of Stats = Some (Void voids.Getstat)

@@ -19,7 +19,7 @@ use Rattle.rb_names.specs.declared.netid.Netid.{Netid}
 use Rattle.rb_names.specs.Netids.{netid_text}
 use Rattle.rb_show.specs.declared.ask.Ask.{Ask}
 use Rattle.rb_show.specs.declared.ask.Question.{Question}
-use Rattle.rb_show.specs.declared.ask.Question.TheVariants.{Rows, Short, OldRows, OldShort, Pmap, Entries, Stats, Port, Address, Null, Probe, Unset}
+use Rattle.rb_show.specs.declared.ask.Question.TheVariants.{Rows, Short, OldRows, OldShort, Summary, OldSummary, Pmap, Entries, Stats, Port, Address, Null, Probe, Unset}
 
 -- a procedure of the portmapper in a version that has it
 abbrev pub of_portmapper : ℕ → Procedure → ℕ × ℕ × ℕ
@@ -31,6 +31,8 @@ procedure_of Rows = of_portmapper 3 (Void voids.Dump)
 procedure_of Short = of_portmapper 3 (Void voids.Dump)
 procedure_of OldRows = of_portmapper 2 (Void voids.PmapDump)
 procedure_of OldShort = of_portmapper 2 (Void voids.PmapDump)
+procedure_of Summary = of_portmapper 3 (Void voids.Dump)
+procedure_of OldSummary = of_portmapper 2 (Void voids.PmapDump)
 procedure_of Pmap = of_portmapper 2 (Void voids.PmapDump)
 procedure_of (Entries prog vers) = of_portmapper 4 (RpcbOf rpcbs.Getaddrlist)
 procedure_of Stats = of_portmapper 4 (Void voids.Getstat)
@@ -61,6 +63,8 @@ arguments_of Rows = []
 arguments_of Short = []
 arguments_of OldRows = []
 arguments_of OldShort = []
+arguments_of Summary = []
+arguments_of OldSummary = []
 arguments_of Pmap = []
 arguments_of (Entries prog vers) = rpcb_arguments None prog vers
 arguments_of Stats = []

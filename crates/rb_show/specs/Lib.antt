@@ -9,3 +9,4 @@ pub mod Json
 pub mod JsonLaws
 pub mod Objects
 pub mod Statistics
+pub mod Summary

@@ -1,5 +1,5 @@
 -- What the reply to each question tells (RFC 1833 sections 2.2 and 3.2).
-use Rattle.std.specs.Prelude.{◌≡◌, ℕ, Option, Some, None, option_map, Result, ◌==◌, Bool, true, false, if◌then◌else◌, List, [], ◌∷◌, ◌++◌, codes}
+use Rattle.std.specs.Prelude.{◌≡◌, ℕ, Option, Some, None, option_map, map, length, Result, ◌==◌, Bool, true, false, if◌then◌else◌, List, [], ◌∷◌, ◌++◌, codes}
 use Rattle.std.specs.Fmt.{decimal}
 use Rattle.rb_xdr.specs.Xdr.{Reader, read_number, read_bool, read_opaque}
 use Rattle.rb_uaddr.specs.declared.address.Uaddr.{Uaddr}
@@ -15,13 +15,15 @@ use Rattle.rb_ask.specs.declared.fault.InfoFault.TheVariants.{Unreadable, Refuse
 use Rattle.rb_ask.specs.Telling.{Teller, ◌>>=◌, give, stop, tell, take_one, Outcome}
 use Rattle.rb_ask.specs.Heads.{take_head}
 use Rattle.rb_ask.specs.Lists.{tell_items, greatest_list}
+use Rattle.rb_ask.specs.WholeLists.{take_items}
 use Rattle.rb_show.specs.declared.ask.Ask.{Ask}
 use Rattle.rb_show.specs.declared.ask.Question.{Question}
-use Rattle.rb_show.specs.declared.ask.Question.TheVariants.{Rows, Short, OldRows, OldShort, Pmap, Entries, Stats, Port, Address, Null, Probe, Unset}
+use Rattle.rb_show.specs.declared.ask.Question.TheVariants.{Rows, Short, OldRows, OldShort, Summary, OldSummary, Pmap, Entries, Stats, Port, Address, Null, Probe, Unset}
 use Rattle.rb_show.specs.declared.form.Form.{Form}
 use Rattle.rb_show.specs.declared.show.Shown.{Shown}
 use Rattle.rb_show.specs.declared.show.Shown.TheVariants as shown
 use Rattle.rb_show.specs.Counts.{tell_statistics}
+use Rattle.rb_show.specs.Summary.{ShownRow, row_of, old_row_of, summary_text}
 use Rattle.rb_show.specs.Lines.{is_json, heading, mapping_line, row_line, short_line, old_row_line, old_short_line, entry_line}
 
 -- the items of a list, a line each
@@ -29,6 +31,10 @@ unfoldable pub tell_list : {A : Type 0} → Reader A → (A → List ℕ) → Te
 tell_list reads line = tell_items reads line greatest_list 0 >>= λ n. give (shown.Rows n)
 
 -- behind its heading
+-- the items of a list, summed up once all of them were read
+unfoldable pub tell_summary : {A : Type 0} → Form → Reader A → (A → ShownRow) → Teller Shown
+tell_summary form reads row = take_items reads greatest_list [] >>= λ items. tell (summary_text form (map row items) ∷ []) >>= λ _. give (shown.Rows (length items))
+
 unfoldable pub tell_columns : Form → Teller Shown
 tell_columns form = tell (heading form ∷ []) >>= λ _. tell_list read_mapping (mapping_line form)
 
@@ -71,6 +77,8 @@ tell_results form Rows = tell_list read_rpcb (row_line form)
 tell_results form Short = tell_list read_rpcb (short_line form)
 tell_results form OldRows = tell_list read_mapping (old_row_line form)
 tell_results form OldShort = tell_list read_mapping (old_short_line form)
+tell_results form Summary = tell_summary form read_rpcb row_of
+tell_results form OldSummary = tell_summary form read_mapping old_row_of
 tell_results form Pmap = tell_table form
 tell_results form (Entries prog vers) = tell_list read_entry (entry_line form prog)
 tell_results form Stats = tell_statistics form

@@ -28,6 +28,10 @@ pub enum Question {
     OldRows,
     /// The same, shown without addresses and owners.
     OldShort,
+    /// DUMP of version 3, shown as a line for each program.
+    Summary,
+    /// DUMP of version 2, shown in the same way.
+    OldSummary,
     /// DUMP of version 2, shown as a table.
     Pmap,
     /// GETADDRLIST of a program and a version.
@@ -65,11 +69,12 @@ fn procedure_of(question: Question) -> (u32, u32, u32)
     ensures { result ≡ procedure_of question }
 {
     match question {
-        Question::Rows | Question::Short => of_portmapper(3, Procedure::Void(VoidProcedure::Dump)),
-        Question::OldRows | Question::OldShort | Question::Pmap => of_portmapper(
-            2,
-            Procedure::Void(VoidProcedure::PmapDump),
+        Question::Rows | Question::Short | Question::Summary => of_portmapper(
+            3,
+            Procedure::Void(VoidProcedure::Dump),
         ),
+        Question::OldRows | Question::OldShort | Question::OldSummary | Question::Pmap =>
+            of_portmapper(2, Procedure::Void(VoidProcedure::PmapDump)),
         Question::Entries(_, _) => of_portmapper(4, Procedure::Rpcb(RpcbProcedure::Getaddrlist)),
         Question::Stats => of_portmapper(4, Procedure::Void(VoidProcedure::Getstat)),
         Question::Port(_, _, _) => of_portmapper(2, Procedure::Mapping(MappingProcedure::Getport)),
@@ -154,6 +159,8 @@ fn put_arguments(question: Question, out: &mut Kept, meter: &mut Meter) -> Resul
         | Question::Short
         | Question::OldRows
         | Question::OldShort
+        | Question::Summary
+        | Question::OldSummary
         | Question::Pmap
         | Question::Stats
         | Question::Null(..)

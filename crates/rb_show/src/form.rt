@@ -28,7 +28,11 @@ impl Form<'_> {
 }
 
 /// The first name of a program, or `-`.
-fn program_name(alloc: Global, services: &[Service], prog: u32) -> Result<String, AllocError>
+pub(crate) fn program_name(
+    alloc: Global,
+    services: &[Service],
+    prog: u32,
+) -> Result<String, AllocError>
     ensures { IfOk result (λ name. string_bytes name ≡ name_text (name_of services.now prog)) }
 {
     match name_of(services, prog) {

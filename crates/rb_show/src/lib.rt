@@ -9,6 +9,7 @@ mod lines;
 mod objects;
 mod show;
 mod statistics;
+mod summary;
 mod texts;
 mod worked;
 

@@ -1,14 +1,17 @@
 //! Shows what a reply tells.
-ghost use Rattle.std.specs.Prelude.{◌≡◌, List, [], ◌∷◌, ℕ};
+ghost use Rattle.std.specs.Prelude.{◌≡◌, List, [], ◌∷◌, ℕ, map};
 ghost use Rattle.rb_ask.specs.Telling.{tell, Shows, Takes, Writes};
 ghost use Rattle.rb_show.specs.Lines.{heading};
-ghost use Rattle.rb_show.specs.Replies.{tell_list, tell_columns, tell_table, tell_port, address_in, tell_address, tell_ready, tell_removed, removed_line, tell_unset, tell_results, is_success, by_head, IsShown};
+ghost use Rattle.rb_show.specs.Summary.{summary_text};
+ghost use Rattle.rb_show.specs.Replies.{tell_list, tell_summary, tell_columns, tell_table, tell_port, address_in, tell_address, tell_ready, tell_removed, removed_line, tell_unset, tell_results, is_success, by_head, IsShown};
 
 use crate::ask::{Ask, Question};
 use crate::form::Form;
 use crate::lines::{EntryLines, OldRowLines, OldShortLines, RowLines, ShortLines, Table};
 use crate::statistics::show_statistics;
-use rb_ask::{InfoFault, Record, Style, show_list, take_head, take_item};
+use crate::summary::{AsRow, summary_text};
+use rb_ask::{InfoFault, Record, Style, show_list, take_head, take_item, take_list};
+use rb_proto::{Mapping, Rpcb};
 use rb_rpc::{ReplyHead, ReplyStatus};
 use rb_uaddr::Uaddr;
 use rb_xdr::{Text, Xdr};
@@ -67,6 +70,38 @@ fn show_items<T: Xdr, S: Style<T>, R: Read, W: Write>(
 {
     let rows = show_list(alloc, style, reader, at, writer)?;
     Ok(Shown::Rows(rows))
+}
+
+/// Writes the summary of items.
+fn show_text<T: AsRow, W: Write>(
+    alloc: Global,
+    form: Form<'_>,
+    items: &[T],
+    writer: &mut W,
+) -> Result<(), InfoFault>
+    ensures { Writes W.contents writer.old writer.new
+        (tell (summary_text form.entry (map T.as_shown items.now) ∷ [])) result }
+{
+    let Ok(text) = summary_text(alloc, form, items) else {
+        return Err(InfoFault::Memory);
+    };
+    show_line(text.as_bytes(), writer)
+}
+
+/// Shows the items of a list, summed up once all of them were read.
+fn show_summary<T: Xdr + AsRow, R: Read, W: Write>(
+    alloc: Global,
+    form: Form<'_>,
+    reader: &mut R,
+    at: &mut Record,
+    writer: &mut W,
+) -> Result<Shown, InfoFault>
+    ensures { Shows R.remaining W.contents reader.old reader.new at.old at.new
+        writer.old writer.new (tell_summary form.entry T.reads T.as_shown) result }
+{
+    let items: Vec<T> = take_list(alloc, reader, at)?;
+    show_text(alloc, form, &items, writer)?;
+    Ok(Shown::Rows(items.len() as u32))
 }
 
 /// Shows the mappings of version 2 in columns.
@@ -199,6 +234,8 @@ fn show_results<R: Read, W: Write>(
         Question::Short => show_items(alloc, &ShortLines { form }, reader, at, writer),
         Question::OldRows => show_items(alloc, &OldRowLines { form }, reader, at, writer),
         Question::OldShort => show_items(alloc, &OldShortLines { form }, reader, at, writer),
+        Question::Summary => show_summary::<Rpcb, R, W>(alloc, form, reader, at, writer),
+        Question::OldSummary => show_summary::<Mapping, R, W>(alloc, form, reader, at, writer),
         Question::Pmap => show_table(alloc, form, reader, at, writer),
         Question::Entries(prog, _) => {
             show_items(alloc, &EntryLines { form, prog }, reader, at, writer)

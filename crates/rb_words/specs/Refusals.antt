@@ -15,6 +15,7 @@ use Rattle.rb_words.specs.declared.refusal.Wanted.TheVariants as wants
 abbrev pub flag_text : Flag → List ℕ
 flag_text flags.Table = codes "-p"
 flag_text flags.Short = codes "-s"
+flag_text flags.Summary = codes "--summary"
 flag_text flags.List = codes "-l"
 flag_text flags.Statistics = codes "-m"
 flag_text flags.Tcp = codes "-t"

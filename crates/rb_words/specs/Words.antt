@@ -200,6 +200,7 @@ abbrev pub plan_of : Option Flag → Shape → Result Plan Refusal
 plan_of None shape = without_flag shape
 plan_of (Some flags.Table) shape = shown listings.Table shape.words.now
 plan_of (Some flags.Short) shape = shown listings.Short shape.words.now
+plan_of (Some flags.Summary) shape = shown listings.Summary shape.words.now
 plan_of (Some flags.List) shape = listed shape
 plan_of (Some flags.Statistics) shape = shown listings.Statistics shape.words.now
 plan_of (Some flags.Tcp) shape = by_transport transports.Tcp shape
@@ -245,10 +246,11 @@ abbrev pub wanted_with : Layout → Wanted
 wanted_with layouts.Names = wants.List
 wanted_with layouts.Json = wants.Objects
 
--- statistics have no names, and the short rows are no objects
+-- statistics have no names, the short rows are no objects, and a summary is written in one way
 abbrev pub shown_with : Listing → Layout → Bool
 shown_with listings.Statistics layouts.Names = false
 shown_with listings.Short layouts.Json = false
+shown_with listings.Summary layout = false
 shown_with listing layout = true
 
 abbrev pub has_layout : Plan → Layout → Bool

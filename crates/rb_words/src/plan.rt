@@ -8,6 +8,8 @@ pub enum Listing {
     Rows,
     /// The same without addresses and owners.
     Short,
+    /// A line for each program, of the rows of version 3.
+    Summary,
     /// The mappings of version 2.
     Table,
     /// The statistics of version 4.

@@ -247,6 +247,7 @@ fn plan_of(flag: Option<Flag>, shape: &Shape<'_, '_, '_>) -> Result<Plan, Refusa
         None => without_flag(shape),
         Some(Flag::Table) => shown(Listing::Table, shape.words),
         Some(Flag::Short) => shown(Listing::Short, shape.words),
+        Some(Flag::Summary) => shown(Listing::Summary, shape.words),
         Some(Flag::List) => listed(shape),
         Some(Flag::Statistics) => shown(Listing::Statistics, shape.words),
         Some(Flag::Tcp) => by_transport(Transport::Tcp, shape),
@@ -329,8 +330,14 @@ fn has_layout(plan: Plan, layout: Layout) -> bool
     ensures { result ≡ has_layout plan layout }
 {
     match (plan, layout) {
-        (Plan::Show(listing, _), Layout::Names) => !matches!(listing, Listing::Statistics),
-        (Plan::Show(listing, _), Layout::Json) => !matches!(listing, Listing::Short),
+        (Plan::Show(listing, _), Layout::Names) => !matches!(
+            listing,
+            Listing::Statistics | Listing::Summary
+        ),
+        (Plan::Show(listing, _), Layout::Json) => !matches!(
+            listing,
+            Listing::Short | Listing::Summary
+        ),
         (Plan::Entries(..), _) => true,
         (Plan::Ping(..) | Plan::Delete(..), _) => false,
     }

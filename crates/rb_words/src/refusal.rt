@@ -70,6 +70,7 @@ fn flag_text(flag: Flag) -> &'static str
     match flag {
         Flag::Table => "-p",
         Flag::Short => "-s",
+        Flag::Summary => "--summary",
         Flag::List => "-l",
         Flag::Statistics => "-m",
         Flag::Tcp => "-t",

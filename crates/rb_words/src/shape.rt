@@ -11,6 +11,8 @@ pub enum Flag {
     Table,
     /// `-s`
     Short,
+    /// `--summary`
+    Summary,
     /// `-l`
     List,
     /// `-m`

@@ -32,6 +32,7 @@ use Rattle.rpcinfo.specs.declared.fault.Fault.TheVariants.{Info, NotAvailable, N
 abbrev pub question_of : Listing → Question
 question_of listings.Rows = questions.Rows
 question_of listings.Short = questions.Short
+question_of listings.Summary = questions.Summary
 question_of listings.Table = questions.Pmap
 question_of listings.Statistics = questions.Stats
 

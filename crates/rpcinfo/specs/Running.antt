@@ -7,7 +7,9 @@ use Rattle.rb_ask.specs.Telling.{Told}
 use Rattle.rb_names.specs.declared.services.Service.{Service}
 use Rattle.rb_words.specs.declared.plan.Layout.{Layout}
 use Rattle.rb_words.specs.declared.plan.Layout.TheVariants as layouts
+use Rattle.rb_words.specs.declared.plan.Listing.TheVariants as listings
 use Rattle.rb_words.specs.declared.plan.Plan.{Plan}
+use Rattle.rb_words.specs.declared.plan.Plan.TheVariants.{Show}
 use Rattle.rb_words.specs.declared.plan.Source.{Source}
 use Rattle.rb_words.specs.declared.plan.Source.TheVariants.{Here, Input, Named}
 use Rattle.rb_words.specs.declared.plan.Request.{Request}
@@ -33,11 +35,19 @@ use Rattle.rpcinfo.specs.Plans.{plan_question}
 abbrev pub ask_of : Words → Question → Ask
 ask_of words question = record { question = question; uid = words.request.uid }
 
--- the layout that the words ask for
-abbrev pub form_of : Option Layout → Bor (List Service) → Form
-form_of None services = Plain
-form_of (Some layouts.Names) services = Named services
-form_of (Some layouts.Json) services = Json
+abbrev pub laid_out : Option Layout → Bor (List Service) → Form
+laid_out None services = Plain
+laid_out (Some layouts.Names) services = Named services
+laid_out (Some layouts.Json) services = Json
+
+-- a summary always has names
+abbrev pub form_by : Plan → Option Layout → Bor (List Service) → Form
+form_by (Show listings.Summary source) layout services = Named services
+form_by plan layout services = laid_out layout services
+
+-- how the words ask for a list
+abbrev pub form_of : Request → Bor (List Service) → Form
+form_of request services = form_by request.plan request.layout services
 
 -- ---- words
 

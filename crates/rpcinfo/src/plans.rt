@@ -15,6 +15,7 @@ fn question_of(listing: Listing) -> Question
     match listing {
         Listing::Rows => Question::Rows,
         Listing::Short => Question::Short,
+        Listing::Summary => Question::Summary,
         Listing::Table => Question::Pmap,
         Listing::Statistics => Question::Stats,
     }

@@ -11,7 +11,9 @@ use clap::{Arg, ArgAction, ArgMatches, Command, Error};
 use rb_names::Service;
 use rb_show::{Ask, Form, InfoFault, Question};
 use rb_uaddr::Uaddr;
-use rb_words::{Flag, Layout, Refusal, Request, Shape, Spot, Wanted, read_words, write_refusal};
+use rb_words::{
+    Flag, Layout, Listing, Plan, Refusal, Request, Shape, Spot, Wanted, read_words, write_refusal,
+};
 use std::alloc::{AllocError, Global};
 use std::convert::AsStr;
 use std::io::Write;
@@ -117,7 +119,11 @@ fn with_flags<'a>(alloc: Global, command: Command<'a>) -> Result<Command<'a>, Al
             .help(help);
         command = command.arg(flag)?;
     }
-    Ok(command)
+    let summary = Arg::new(alloc, "summary")
+        .long("summary")
+        .action(ArgAction::SetTrue)
+        .help("Shows a line for each program");
+    command.arg(summary)
 }
 
 /// The options that say what is called, and where.
@@ -237,6 +243,9 @@ fn flags_of(alloc: Global, matches: &ArgMatches<'_>) -> Result<Vec<Flag>, AllocE
             flags.push(flag)?;
         }
     }
+    if matches.get_flag("summary") {
+        flags.push(Flag::Summary)?;
+    }
     Ok(flags)
 }
 
@@ -251,14 +260,14 @@ fn layouts_of(alloc: Global, matches: &ArgMatches<'_>) -> Result<Vec<Layout>, Al
     Ok(layouts)
 }
 
-/// How a list is written, with these names of programs.
-fn form_of<'a>(layout: Option<Layout>, services: &'a [Service]) -> Form<'a>
-    ensures { result ≡ form_of layout services.entry }
+/// How a list is written, with these names of programs. A summary always has names.
+fn form_of<'a>(request: &Request, services: &'a [Service]) -> Form<'a>
+    ensures { result ≡ form_of request.now services.entry }
 {
-    match layout {
-        None => Form::Plain,
-        Some(Layout::Names) => Form::Named(services),
-        Some(Layout::Json) => Form::Json,
+    match (request.plan, request.layout) {
+        (Plan::Show(Listing::Summary, _), _) | (_, Some(Layout::Names)) => Form::Named(services),
+        (_, Some(Layout::Json)) => Form::Json,
+        (_, None) => Form::Plain,
     }
 }
 
@@ -346,6 +355,6 @@ pub fn read_matches<'a, 'n, E: Write>(
         host: words.first().copied().unwrap_or(""),
         address,
         local: matches.get_str("local"),
-        form: form_of(request.layout, services),
+        form: form_of(&request, services),
     })
 }

@@ -1,0 +1,96 @@
+-- A line for each program, with the versions and netids of its rows, as others' `rpcinfo -s` has them.
+use Rattle.std.specs.Prelude.{ℕ, ◌==◌, ◌&&◌, not, if◌then◌else◌, List, [], ◌∷◌, ◌++◌, map, codes, Option, Some, None}
+use Rattle.std.specs.Fmt.{decimal}
+use Rattle.std.specs.List.{find, flat_map, fold, list_any}
+use Rattle.std.specs.Borrow.{Bor}
+use Rattle.std.specs.Str.{bytes_eq}
+use Rattle.std.specs.String.{string_bytes}
+use Rattle.rb_names.specs.Services.{name_of}
+use Rattle.rb_proto.specs.declared.mapping.Mapping.{Mapping}
+use Rattle.rb_proto.specs.declared.rpcb.Rpcb.{Rpcb}
+use Rattle.rb_show.specs.declared.form.Form.{Form}
+use Rattle.rb_show.specs.declared.form.Form.TheVariants.{Plain, Named, Json}
+use Rattle.rb_show.specs.declared.summary.Row.{Row}
+use Rattle.rb_show.specs.Texts.{shown_text, prot_text, at_left, at_right}
+use Rattle.rb_show.specs.Lines.{name_text}
+
+-- ---- rows
+
+-- a row, with its texts as they are shown
+pub record ShownRow : Type 0 where
+  pub prog : ℕ
+  pub vers : ℕ
+  pub netid : List ℕ
+  pub owner : List ℕ
+
+abbrev pub plain : Row → ShownRow
+plain row = record { prog = row.prog; vers = row.vers; netid = string_bytes row.netid; owner = string_bytes row.owner }
+
+abbrev pub shown : List Row → List ShownRow
+shown rows = map plain rows
+
+abbrev pub row_of : Rpcb → ShownRow
+row_of r = record { prog = r.prog; vers = r.vers; netid = shown_text r.netid; owner = shown_text r.owner }
+
+-- a mapping of version 2 as the row of version 3 that it stands for
+abbrev pub old_row_of : Mapping → ShownRow
+old_row_of m = record { prog = m.prog; vers = m.vers; netid = prot_text m.prot; owner = codes "unknown" }
+
+-- the texts behind their borrows
+abbrev pub texts_at : List (Bor (List ℕ)) → List (List ℕ)
+texts_at texts = map (λ text. text.now) texts
+
+-- ---- what a program has
+
+abbrev pub add_program : List ℕ → ShownRow → List ℕ
+add_program seen row = if list_any (λ prog. prog == row.prog) seen then seen else seen ++ row.prog ∷ []
+
+-- the programs, each once, in the order in which they appear
+abbrev pub programs_of : List ShownRow → List ℕ
+programs_of rows = fold add_program [] rows
+
+abbrev pub add_version : ℕ → List ℕ → ShownRow → List ℕ
+add_version prog seen row = if row.prog == prog && not (list_any (λ vers. vers == row.vers) seen) then row.vers ∷ seen else seen
+
+-- the versions of a program, each once, the one that appears last first
+abbrev pub versions_of : List ShownRow → ℕ → List ℕ
+versions_of rows prog = fold (add_version prog) [] rows
+
+abbrev pub add_netid : ℕ → List (List ℕ) → ShownRow → List (List ℕ)
+add_netid prog seen row = if row.prog == prog && not (list_any (λ netid. bytes_eq netid row.netid) seen) then row.netid ∷ seen else seen
+
+-- and its netids, in the same way
+abbrev pub netids_of : List ShownRow → ℕ → List (List ℕ)
+netids_of rows prog = fold (add_netid prog) [] rows
+
+abbrev pub owner_in : Option ShownRow → List ℕ
+owner_in (Some row) = row.owner
+owner_in None = []
+
+-- the owner of its first row
+abbrev pub owner_of : List ShownRow → ℕ → List ℕ
+owner_of rows prog = owner_in (find (λ row. row.prog == prog) rows)
+
+-- ---- lines
+
+-- with commas between them
+abbrev pub joined : List (List ℕ) → List ℕ
+joined [] = []
+joined (text ∷ texts) = text ++ flat_map (λ next. codes "," ++ next) texts
+
+abbrev pub service_text : Form → ℕ → List ℕ
+service_text Plain prog = codes "-"
+service_text Json prog = codes "-"
+service_text (Named services) prog = name_text (name_of services.now prog)
+
+abbrev pub summary_heading : List ℕ
+summary_heading = codes "   program version(s) netid(s)                         service     owner\n"
+
+-- program, versions, netids, service and owner
+abbrev pub summary_line : Form → List ShownRow → ℕ → List ℕ
+summary_line form rows prog = at_right 10 (decimal prog) ++ (codes "  " ++ (at_left 10 (joined (map decimal (versions_of rows prog))) ++ (at_left 32 (joined (netids_of rows prog))
+    ++ (codes " " ++ (at_left 11 (service_text form prog) ++ (codes " " ++ (owner_of rows prog ++ codes "\n")))))))
+
+-- a line for each program, behind the heading
+abbrev pub summary_text : Form → List ShownRow → List ℕ
+summary_text form rows = summary_heading ++ flat_map (summary_line form rows) (programs_of rows)

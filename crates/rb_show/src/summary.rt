@@ -1,0 +1,274 @@
+//! A line for each program.
+ghost use Rattle.std.specs.Prelude.{◌≡◌, ◌++◌, map, IfOk, OnOk};
+ghost use Rattle.std.specs.Fmt.{decimal};
+ghost use Rattle.std.specs.List.{list_any};
+ghost use Rattle.std.specs.Str.{bytes_eq};
+ghost use Rattle.std.specs.String.{string_bytes};
+ghost use Rattle.rb_show.specs.Texts.{at_left};
+ghost use Rattle.rb_show.specs.Summary.{ShownRow, plain, shown, row_of, old_row_of, add_program, programs_of, add_version, versions_of, texts_at, add_netid, netids_of, owner_of, joined, service_text, summary_line, summary_text};
+
+use crate::form::{Form, program_name};
+use crate::texts::{prot_text, shown_text};
+use rb_proto::{Mapping, Rpcb};
+use std::alloc::{AllocError, Global};
+
+const HEADING: &str = "   program version(s) netid(s)                         service     owner\n";
+
+/// A row, with its texts as they are shown.
+#[derive(Debug, Drop)]
+pub struct Row {
+    prog: u32,
+    vers: u32,
+    netid: String,
+    owner: String,
+}
+
+/// What is a row of a summary.
+pub trait AsRow {
+    /// The row that it is.
+    ghost as_shown: { Self → ShownRow };
+
+    fn as_row(&self, alloc: Global) -> Result<Row, AllocError>
+        ensures { IfOk result (λ shown. plain shown ≡ as_shown self.now) };
+}
+
+impl AsRow for Rpcb {
+    ghost as_shown = { row_of };
+
+    fn as_row(&self, alloc: Global) -> Result<Row, AllocError> {
+        let netid = shown_text(alloc, self.netid.as_slice())?;
+        let owner = shown_text(alloc, self.owner.as_slice())?;
+        Ok(Row {
+            prog: self.prog,
+            vers: self.vers,
+            netid,
+            owner,
+        })
+    }
+}
+
+impl AsRow for Mapping {
+    ghost as_shown = { old_row_of };
+
+    fn as_row(&self, alloc: Global) -> Result<Row, AllocError> {
+        let netid = prot_text(alloc, self.prot)?;
+        let owner = String::from_str(alloc, "unknown")?;
+        Ok(Row {
+            prog: self.prog,
+            vers: self.vers,
+            netid,
+            owner,
+        })
+    }
+}
+
+/// The rows that items are.
+fn rows_of<T: AsRow>(alloc: Global, items: &[T]) -> Result<Vec<Row>, AllocError>
+    ensures { IfOk result (λ rows. shown rows.items ≡ map T.as_shown items.now) }
+{
+    let mut rows = Vec::new(alloc);
+    for item in items {
+        rows.push(item.as_row(alloc)?)?;
+    }
+    Ok(rows)
+}
+
+/// Adds a row's program, where it is not there yet.
+fn add_program(row: &Row, programs: &mut Vec<u32>) -> Result<(), AllocError>
+    ensures { OnOk result (programs.new.items ≡ add_program programs.old.items (plain row.now)) }
+{
+    if !programs.contains(&row.prog) {
+        programs.push(row.prog)?;
+    }
+    Ok(())
+}
+
+/// The programs, each once, in the order in which they appear.
+fn programs_of(alloc: Global, rows: &[Row]) -> Result<Vec<u32>, AllocError>
+    ensures { IfOk result (λ programs. programs.items ≡ programs_of (shown rows.now)) }
+{
+    let mut programs = Vec::new(alloc);
+    for row in rows {
+        add_program(row, &mut programs)?;
+    }
+    Ok(programs)
+}
+
+/// Adds the version of a row of this program in front, where it is not there yet.
+fn add_version(row: &Row, prog: u32, versions: &mut Vec<u32>) -> Result<(), AllocError>
+    ensures { OnOk result
+        (versions.new.items ≡ add_version prog versions.old.items (plain row.now)) }
+{
+    if row.prog == prog && !versions.contains(&row.vers) {
+        versions.insert(0, row.vers)?;
+    }
+    Ok(())
+}
+
+/// The versions of a program, each once, the one that appears last first.
+fn versions_of(alloc: Global, rows: &[Row], prog: u32) -> Result<Vec<u32>, AllocError>
+    ensures { IfOk result (λ versions. versions.items ≡ versions_of (shown rows.now) prog) }
+{
+    let mut versions = Vec::new(alloc);
+    for row in rows {
+        add_version(row, prog, &mut versions)?;
+    }
+    Ok(versions)
+}
+
+fn has_text(texts: &[&str], text: &str) -> bool
+    ensures { result ≡ list_any (λ one. bytes_eq one text.now) (texts_at texts.now) }
+{
+    texts.iter().any(|one| *one == text)
+}
+
+/// Adds the netid of a row of this program in front, where it is not there yet.
+fn add_netid<'a>(row: &'a Row, prog: u32, netids: &mut Vec<&'a str>) -> Result<(), AllocError>
+    ensures { OnOk result
+        (texts_at netids.new.items ≡ add_netid prog (texts_at netids.old.items) (plain row.now)) }
+{
+    let netid = row.netid.as_str();
+    if row.prog == prog && !has_text(netids, netid) {
+        netids.insert(0, netid)?;
+    }
+    Ok(())
+}
+
+/// The netids of a program, each once, the one that appears last first.
+fn netids_of<'a>(alloc: Global, rows: &'a [Row], prog: u32) -> Result<Vec<&'a str>, AllocError>
+    ensures { IfOk result
+        (λ netids. texts_at netids.items ≡ netids_of (shown rows.now) prog) }
+{
+    let mut netids = Vec::new(alloc);
+    for row in rows {
+        add_netid(row, prog, &mut netids)?;
+    }
+    Ok(netids)
+}
+
+/// The owner of a program's first row.
+fn owner_of(rows: &[Row], prog: u32) -> &str
+    ensures { result.now ≡ owner_of (shown rows.now) prog }
+{
+    match rows.iter().find(|row| row.prog == prog) {
+        Some(row) => row.owner.as_str(),
+        None => "",
+    }
+}
+
+/// Texts with commas between them.
+fn joined(alloc: Global, texts: &[&str]) -> Result<String, AllocError>
+    ensures { IfOk result
+        (λ text. string_bytes text ≡ joined (texts_at texts.now)) }
+{
+    let [first, rest @ ..] = texts else {
+        return Ok(String::new(alloc));
+    };
+    let mut text = String::from_str(alloc, first)?;
+    for next in rest {
+        text.push(',')?;
+        text.push_str(next)?;
+    }
+    Ok(text)
+}
+
+/// Numbers with commas between them.
+fn joined_numbers(alloc: Global, numbers: &[u32]) -> Result<String, AllocError>
+    ensures { IfOk result (λ text. string_bytes text ≡ joined (map decimal numbers.now)) }
+{
+    let [first, rest @ ..] = numbers else {
+        return Ok(String::new(alloc));
+    };
+    let mut text = format!(in alloc; "{first}")?;
+    for next in rest {
+        let next = format!(in alloc; ",{next}")?;
+        text.push_str(&next)?;
+    }
+    Ok(text)
+}
+
+/// A text with spaces behind it, up to this width.
+fn at_left(alloc: Global, text: &str, width: usize) -> Result<String, AllocError>
+    ensures { IfOk result (λ padded. string_bytes padded ≡ at_left width text.now) }
+{
+    let mut padded = String::from_str(alloc, text)?;
+    for place in 0..width.saturating_sub(text.len()) {
+        padded.push(' ')?;
+    }
+    Ok(padded)
+}
+
+fn service_text(alloc: Global, form: Form<'_>, prog: u32) -> Result<String, AllocError>
+    ensures { IfOk result (λ name. string_bytes name ≡ service_text form.entry prog) }
+{
+    match form {
+        Form::Plain | Form::Json => String::from_str(alloc, "-"),
+        Form::Named(services) => program_name(alloc, services, prog),
+    }
+}
+
+/// The versions of a program as they are shown.
+fn versions_text(alloc: Global, rows: &[Row], prog: u32) -> Result<String, AllocError>
+    ensures { IfOk result
+        (λ text. string_bytes text ≡ at_left 10 (joined (map decimal (versions_of (shown rows.now) prog)))) }
+{
+    let versions = versions_of(alloc, rows, prog)?;
+    let text = joined_numbers(alloc, &versions)?;
+    at_left(alloc, &text, 10)
+}
+
+/// The netids of a program as they are shown.
+fn netids_text(alloc: Global, rows: &[Row], prog: u32) -> Result<String, AllocError>
+    ensures { IfOk result
+        (λ text. string_bytes text ≡ at_left 32 (joined (netids_of (shown rows.now) prog))) }
+{
+    let netids = netids_of(alloc, rows, prog)?;
+    let text = joined(alloc, &netids)?;
+    at_left(alloc, &text, 32)
+}
+
+/// The line of a program.
+#[tactic(auto, using(crate::proofs::Columns::padded_right))]
+fn summary_line(
+    alloc: Global,
+    form: Form<'_>,
+    rows: &[Row],
+    prog: u32,
+) -> Result<String, AllocError>
+    ensures { IfOk result
+        (λ line. string_bytes line ≡ summary_line form.entry (shown rows.now) prog) }
+{
+    let versions = versions_text(alloc, rows, prog)?;
+    let netids = netids_text(alloc, rows, prog)?;
+    let name = service_text(alloc, form, prog)?;
+    let service = at_left(alloc, &name, 11)?;
+    let owner = owner_of(rows, prog);
+    format!(in alloc; "{prog:>10}  {versions}{netids} {service} {owner}\n")
+}
+
+/// A line for each program, behind the heading.
+fn summary_of_rows(alloc: Global, form: Form<'_>, rows: &[Row]) -> Result<String, AllocError>
+    ensures { IfOk result
+        (λ text. string_bytes text ≡ summary_text form.entry (shown rows.now)) }
+{
+    let programs = programs_of(alloc, rows)?;
+    let mut text = String::from_str(alloc, HEADING)?;
+    for prog in &programs {
+        let line = summary_line(alloc, form, rows, *prog)?;
+        text.push_str(&line)?;
+    }
+    Ok(text)
+}
+
+/// The summary of items that are rows.
+pub(crate) fn summary_text<T: AsRow>(
+    alloc: Global,
+    form: Form<'_>,
+    items: &[T],
+) -> Result<String, AllocError>
+    ensures { IfOk result
+        (λ text. string_bytes text ≡ summary_text form.entry (map T.as_shown items.now)) }
+{
+    let rows = rows_of(alloc, items)?;
+    summary_of_rows(alloc, form, &rows)
+}
