@@ -15,11 +15,11 @@ use Rattle.rb_model.specs.Calls.{Outcome, outcome}
 use Rattle.rb_core.specs.StandsFor.{Held, source_of, Table}
 use Rattle.rb_core.specs.Core.{context_of}
 use Rattle.rb_core.specs.Slots.{StaysTable}
-use Rattle.rb_core.specs.Listings.{Evicts, source_in, AreTold, stamps_of}
+use Rattle.rb_core.specs.Listings.{Evicts, source_in, CanListOn, stamps_of}
 use Rattle.rb_model.specs.Losses.{asks_room}
 use Rattle.rb_core.specs.Serving.{CanServe, ServesInRoom}
 use Rattle.rb_proto.specs.Ledger.{Ledger}
-use Rattle.rb_core.proofs.Crowding.{told_on, stands_on, stamps_low}
+use Rattle.rb_core.proofs.Crowding.{lists_on, stands_on, stamps_low}
 use Rattle.rb_model.proofs.Crowding.{none_evicted, not_asked}
 use Rattle.rb_core.proofs.Steps.{Served, same_source}
 
@@ -34,17 +34,17 @@ pub can_serve : (tie : ℕ) (held : Held) (id : ℕ) (peer : Peer) (context : Co
 can_serve tie held id peer context is tied limit forwards none = rw is (record { tied = tied; limit = limit; forwards = forwards; caller = none })
 
 -- The source tells the lists that are given once a message was served too.
-pub told_then : (host : List ℕ) (table : Table) (mid books : Books) → GoesOn mid.registry books.registry → books.registry.floor ≡ mid.registry.floor → AreTold (source_in host mid) table → AreTold (source_in host books) table
-told_then host table mid books cursors floor told =
-    told_on host mid.registry books.registry cursors table (subst (λ (f : ℕ). All (λ n. f ≤ n) (stamps_of table)) (sym floor) (stamps_low (source_in host mid) table told)) told
+pub lists_then : (host : List ℕ) (table : Table) (mid books : Books) → GoesOn mid.registry books.registry → books.registry.floor ≡ mid.registry.floor → CanListOn (source_in host mid) table → CanListOn (source_in host books) table
+lists_then host table mid books cursors floor told =
+    lists_on host mid.registry books.registry cursors table (subst (λ (f : ℕ). All (λ n. f ≤ n) (stamps_of table)) (sym floor) (stamps_low (source_in host mid) table told)) told
 
 module _ (view : Held) (caller : Caller) (context : Context) (is : context ≡ context_of view caller) where
-  pub told_for_room : AreTold (source_of view) view.connections → AreTold (source_in context.listener.host view.books) view.connections
-  told_for_room told = subst (λ (x : Context). AreTold (source_in x.listener.host view.books) view.connections) (sym is) told
+  pub lists_for_room : CanListOn (source_of view) view.connections → CanListOn (source_in context.listener.host view.books) view.connections
+  lists_for_room told = subst (λ (x : Context). CanListOn (source_in x.listener.host view.books) view.connections) (sym is) told
 
   -- the same of what a call saw once it was answered
-  pub told_for_view : (table : Table) (books : Books) → AreTold (source_in context.listener.host books) table → AreTold (source_in view.setting.listener.host books) table
-  told_for_view table books told = subst (λ (x : Context). AreTold (source_in x.listener.host books) table) is told
+  pub lists_for_view : (table : Table) (books : Books) → CanListOn (source_in context.listener.host books) table → CanListOn (source_in view.setting.listener.host books) table
+  lists_for_view table books told = subst (λ (x : Context). CanListOn (source_in x.listener.host books) table) is told
 
   pub served_by : (message : Message) (arguments : List ℕ) (table : Table) (books : Books) (given : Outcome) → ServesInRoom context message arguments view.connections view.books table books given
       → SameFrame view.books books → StaysTable view.connections table → Served (context_of view caller) view message arguments table books given
@@ -57,7 +57,7 @@ nothing_evicts context message before old none = λ c l z h. (rw (not_asked cont
 
 module _ (context : Context) (message : Message) (arguments : List ℕ) (before : Table) (old : Books) (given : Outcome) where
   -- once room was made
-  pub serves_in_room : (table : Table) (mid books : Books) → GoesOn mid.registry books.registry → books.registry.floor ≡ mid.registry.floor → AreTold (source_in context.listener.host mid) table
+  pub serves_in_room : (table : Table) (mid books : Books) → GoesOn mid.registry books.registry → books.registry.floor ≡ mid.registry.floor → CanListOn (source_in context.listener.host mid) table
       → Evicts context message before old table mid → ActsAs (outcome context message arguments) mid books given → ServesInRoom context message arguments before old table books given
   serves_in_room table mid books cursors floor told makes acts = record {
     gives = λ c l z h. acts.gives l (makes c l z h).1;

@@ -8,7 +8,7 @@ use Rattle.rb_model.specs.Calls.{longest_reply}
 use Rattle.rb_core.specs.StandsFor.{Table}
 use Rattle.rb_core.specs.Slots.{StaysTable, IsDraft}
 use Rattle.rb_core.specs.Awaits.{AreAwaited}
-use Rattle.rb_core.specs.Listings.{AreTold, source_in}
+use Rattle.rb_core.specs.Listings.{CanListOn, source_in}
 use Rattle.rb_core.specs.Core.{IsCore}
 
 pub stays_twice : (a b c : Table) → StaysTable a b → StaysTable b c → StaysTable a c
@@ -22,7 +22,7 @@ stays_twice a b c first then = record {
 pub core_changed : (setting : Setting) (old new : Table) (books left : Books) (reply written draft after arguments heard : Kept) (len count : ℕ)
     → IsCore setting old books reply draft arguments len → StaysTable old new → SameFrame books left
     → written.tie ≡ reply.tie → written.cap ≡ reply.cap → count ≡ length written.bytes → length written.bytes ≤ longest_reply
-    → AreAwaited left.forwards new → AreTold (source_in setting.listener.host left) new
+    → AreAwaited left.forwards new → CanListOn (source_in setting.listener.host left) new
     → IsDraft written.tie after → after.bytes ≡ [] → IsDraft written.tie heard
     → IsCore setting new left written after heard count
 core_changed setting old new books left reply written draft after arguments heard len count h stays frame tie cap counted short awaited told is_draft empty has_arguments = record {
@@ -36,7 +36,7 @@ core_changed setting old new books left reply written draft after arguments hear
   few = h.few;
   first_xid = frame.first_xid ∙ h.first_xid;
   awaited = awaited;
-  told = told;
+  lists = told;
   tied = record {
     registry = tie ∙ h.tied.registry ∙ sym frame.registry;
     stats = tie ∙ h.tied.stats ∙ sym frame.stats;
@@ -52,10 +52,10 @@ core_changed setting old new books left reply written draft after arguments hear
 -- with other connections, draft and arguments
 pub core_moved : (setting : Setting) (old new : Table) (books : Books) (reply draft after arguments heard : Kept) (len : ℕ)
     → IsCore setting old books reply draft arguments len → StaysTable old new → AreAwaited books.forwards new
-    → (AreTold (source_in setting.listener.host books) old → AreTold (source_in setting.listener.host books) new)
+    → (CanListOn (source_in setting.listener.host books) old → CanListOn (source_in setting.listener.host books) new)
     → IsDraft reply.tie after → after.bytes ≡ [] → IsDraft reply.tie heard
     → IsCore setting new books reply after heard len
 core_moved setting old new books reply draft after arguments heard len h stays awaited told =
     core_changed setting old new books books reply reply draft after arguments heard len len h stays
     (record { limit = refl; cap = refl; first_xid = refl; registry = refl; stats = refl; forwards = refl }) refl refl h.len h.short
-    awaited (told h.told)
+    awaited (told h.lists)

@@ -30,7 +30,7 @@ use Rattle.rb_core.specs.declared.giving.Rest.{Rest}
 use Rattle.rb_core.specs.declared.giving.Rest.TheVariants as rests
 use Rattle.rb_core.specs.Giving.{CanTell}
 use Rattle.rb_core.specs.StandsFor.{IsGiving, rest_in, stamp_in, Source, Table, StandsForPhase, StandsForConnection, StandsForConnections, source_for}
-use Rattle.rb_core.specs.Listings.{HasRoom, began_stage, slot_began, IsToldStage, IsToldSlot, AreTold, stamps_of, IsOldest, IsEarliest}
+use Rattle.rb_core.specs.Listings.{HasRoom, began_stage, slot_began, StageListsOn, SlotListsOn, CanListOn, stamps_of, IsOldest, IsEarliest}
 use Rattle.rb_core.proofs.Evicting.{began_alike}
 use Rattle.rb_core.proofs.Phases.{by_phase}
 
@@ -55,21 +55,21 @@ module _ (host : List ℕ) (old new : Registry) (goes : GoesOn old new) where
       let s = list_reply_goes_on old new list goes (low list.stamp refl) t in
       (s.told, λ buffer. s.rest host)
 
-  stage_told : (buffer : List ℕ) (stage : Stage) → IsLow stage → IsToldStage before buffer stage → IsToldStage after buffer stage
-  stage_told buffer stages.Idle low t = tt
-  stage_told buffer (stages.Reading reader) low t = tt
-  stage_told buffer (stages.Giving giving) low t =
+  stage_lists_on : (buffer : List ℕ) (stage : Stage) → IsLow stage → StageListsOn before buffer stage → StageListsOn after buffer stage
+  stage_lists_on buffer stages.Idle low t = tt
+  stage_lists_on buffer (stages.Reading reader) low t = tt
+  stage_lists_on buffer (stages.Giving giving) low t =
       let s = rest_goes_on giving.rest low t.told in
       record { told = s.0; some = λ more. rw (s.1 buffer) (t.some more) }
-  stage_told buffer stages.Awaiting low t = tt
-  stage_told buffer stages.Lost low t = tt
+  stage_lists_on buffer stages.Awaiting low t = tt
+  stage_lists_on buffer stages.Lost low t = tt
 
-  phase_stands : (stage : Stage) (buffer window : Kept) (phase : Phase) → IsLow stage → IsToldStage before buffer.bytes stage → StandsForPhase before stage buffer window phase → StandsForPhase after stage buffer window phase
+  phase_stands : (stage : Stage) (buffer window : Kept) (phase : Phase) → IsLow stage → StageListsOn before buffer.bytes stage → StandsForPhase before stage buffer window phase → StandsForPhase after stage buffer window phase
   phase_stands stage buffer window phase low t h =
-      by_phase before buffer window (λ s p. IsLow s → IsToldStage before buffer.bytes s → StandsForPhase after s buffer window p)
+      by_phase before buffer window (λ s p. IsLow s → StageListsOn before buffer.bytes s → StandsForPhase after s buffer window p)
       (λ z l u. z) (λ reader fed z l u. z) (λ g o z l u. goes_on g o z l u) (λ z l u. z) (λ l u. tt) stage phase h low t
     where
-      goes_on : (g : Giving) (o : Owed) → IsGiving before g buffer.bytes window o → IsLow (stages.Giving g) → IsToldStage before buffer.bytes (stages.Giving g) → IsGiving after g buffer.bytes window o
+      goes_on : (g : Giving) (o : Owed) → IsGiving before g buffer.bytes window o → IsLow (stages.Giving g) → StageListsOn before buffer.bytes (stages.Giving g) → IsGiving after g buffer.bytes window o
       goes_on g o z l u =
           let s = rest_goes_on g.rest l u.told in
           record { reply = z.reply; shows = z.shows; began = z.began; place = z.place; rest = s.1 buffer.bytes ∙ z.rest; last = z.last }
@@ -88,44 +88,44 @@ module _ (host : List ℕ) (old new : Registry) (goes : GoesOn old new) where
             All-tail (λ k. new.floor ≤ k) m (filter_map slot_began slots) here,
           )
 
-  all_told : (slots : List Slot) → AreLow slots → All (IsToldSlot before) slots → All (IsToldSlot after) slots
-  all_told [] low t = All-nil (IsToldSlot after)
-  all_told (slot ∷ slots) low t =
+  all_list_on : (slots : List Slot) → AreLow slots → All (SlotListsOn before) slots → All (SlotListsOn after) slots
+  all_list_on [] low t = All-nil (SlotListsOn after)
+  all_list_on (slot ∷ slots) low t =
       let l = first_low slot slots low in
-      All-cons (IsToldSlot after) slot slots (stage_told slot.buffer.bytes slot.stage l.0 (All-head (IsToldSlot before) slot slots t)) (all_told slots l.1 (All-tail (IsToldSlot before) slot slots t))
+      All-cons (SlotListsOn after) slot slots (stage_lists_on slot.buffer.bytes slot.stage l.0 (All-head (SlotListsOn before) slot slots t)) (all_list_on slots l.1 (All-tail (SlotListsOn before) slot slots t))
 
-  all_stand : (slots : List Slot) (all : List Connection) → AreLow slots → All (IsToldSlot before) slots → AllZip (StandsForConnection before) slots all → AllZip (StandsForConnection after) slots all
+  all_stand : (slots : List Slot) (all : List Connection) → AreLow slots → All (SlotListsOn before) slots → AllZip (StandsForConnection before) slots all → AllZip (StandsForConnection after) slots all
   all_stand [] [] low t z = tt
   all_stand [] (c ∷ all) low t z = absurd z
   all_stand (slot ∷ slots) [] low t z = absurd z
   all_stand (slot ∷ slots) (c ∷ all) low t z =
       let l = first_low slot slots low in
-      let told : IsToldStage before slot.buffer.bytes slot.stage = All-head (IsToldSlot before) slot slots t in (
+      let told : StageListsOn before slot.buffer.bytes slot.stage = All-head (SlotListsOn before) slot slots t in (
         record { number = z.0.number; peer = z.0.peer; mark = z.0.mark; phase = phase_stands slot.stage slot.buffer slot.window c.phase l.0 told z.0.phase },
-        all_stand slots all l.1 (All-tail (IsToldSlot before) slot slots t) z.1,
+        all_stand slots all l.1 (All-tail (SlotListsOn before) slot slots t) z.1,
       )
 
-  pub told_on : (table : Table) → All (λ n. new.floor ≤ n) (stamps_of table) → AreTold before table → AreTold after table
-  told_on table low t = all_told (values_of table.slots) low t
+  pub lists_on : (table : Table) → All (λ n. new.floor ≤ n) (stamps_of table) → CanListOn before table → CanListOn after table
+  lists_on table low t = all_list_on (values_of table.slots) low t
 
-  pub stands_on : (table : Table) (c : Connections) → All (λ n. new.floor ≤ n) (stamps_of table) → AreTold before table → StandsForConnections before table c → StandsForConnections after table c
+  pub stands_on : (table : Table) (c : Connections) → All (λ n. new.floor ≤ n) (stamps_of table) → CanListOn before table → StandsForConnections before table c → StandsForConnections after table c
   stands_on table c low t z = record { all = all_stand (values_of table.slots) c.all low t z.all; next = z.next }
 
 abbrev Reach : Source → List Slot → Type 0
 Reach source slots = All (λ n. (source.registry.floor ≤ n) × (n ≤ source.registry.stamp)) (filter_map slot_began slots)
 
 -- the stamps of lists that can be told are from the floor to the present
-stamps_reach : (source : Source) (slots : List Slot) → All (IsToldSlot source) slots → All (λ n. (source.registry.floor ≤ n) × (n ≤ source.registry.stamp)) (filter_map slot_began slots)
+stamps_reach : (source : Source) (slots : List Slot) → All (SlotListsOn source) slots → All (λ n. (source.registry.floor ≤ n) × (n ≤ source.registry.stamp)) (filter_map slot_began slots)
 stamps_reach source [] t = All-nil (λ n. (source.registry.floor ≤ n) × (n ≤ source.registry.stamp))
-stamps_reach source (slot ∷ slots) t = by_stage slot.stage refl (All-head (IsToldSlot source) slot slots t) (stamps_reach source slots (All-tail (IsToldSlot source) slot slots t))
+stamps_reach source (slot ∷ slots) t = by_stage slot.stage refl (All-head (SlotListsOn source) slot slots t) (stamps_reach source slots (All-tail (SlotListsOn source) slot slots t))
   where
-    by_stage : (stage : Stage) → slot.stage ≡ stage → IsToldStage source slot.buffer.bytes slot.stage → Reach source slots → Reach source (slot ∷ slots)
+    by_stage : (stage : Stage) → slot.stage ≡ stage → StageListsOn source slot.buffer.bytes slot.stage → Reach source slots → Reach source (slot ∷ slots)
     by_stage stages.Idle is t further = rw is further
     by_stage (stages.Reading reader) is t further = rw is further
     by_stage (stages.Giving giving) is t further = by_rest giving.rest refl (told_in is t)
       where
-        told_in : slot.stage ≡ stages.Giving giving → IsToldStage source slot.buffer.bytes slot.stage → CanTell source giving.rest
-        told_in e z = let it : IsToldStage source slot.buffer.bytes (stages.Giving giving) = subst (IsToldStage source slot.buffer.bytes) e z in it.told
+        told_in : slot.stage ≡ stages.Giving giving → StageListsOn source slot.buffer.bytes slot.stage → CanTell source giving.rest
+        told_in e z = let it : StageListsOn source slot.buffer.bytes (stages.Giving giving) = subst (StageListsOn source slot.buffer.bytes) e z in it.told
 
         by_rest : (rest : Rest) → giving.rest ≡ rest → CanTell source rest → Reach source (slot ∷ slots)
         by_rest (rests.Held start) r told = rw (is, r) further
@@ -134,11 +134,11 @@ stamps_reach source (slot ∷ slots) t = by_stage slot.stage refl (All-head (IsT
     by_stage stages.Awaiting is t further = rw is further
     by_stage stages.Lost is t further = rw is further
 
-pub stamps_low : (source : Source) (table : Table) → AreTold source table → All (λ n. source.registry.floor ≤ n) (stamps_of table)
+pub stamps_low : (source : Source) (table : Table) → CanListOn source table → All (λ n. source.registry.floor ≤ n) (stamps_of table)
 stamps_low source table t = λ k d within. (stamps_reach source (values_of table.slots) t k d within).0
 
 -- so they are from the floor on once it rose to the least of them
-pub trimmed_low : (source : Source) (table : Table) (oldest : Option ℕ) (floor : ℕ) → AreTold source table → IsOldest (stamps_of table) oldest
+pub trimmed_low : (source : Source) (table : Table) (oldest : Option ℕ) (floor : ℕ) → CanListOn source table → IsOldest (stamps_of table) oldest
     → floor ≡ max source.registry.floor (stamp_told source.registry oldest) → All (λ n. floor ≤ n) (stamps_of table)
 trimmed_low source table None floor t none is = subst (All (λ n. floor ≤ n)) (sym none) (All-nil (λ n. floor ≤ n))
 trimmed_low source table (Some k) floor t least is = λ i d within.
@@ -209,7 +209,7 @@ none_later (x ∷ xs) = none_later xs
 
 -- after a trim to the oldest list, the dead rows are those that are kept
 pub kept_are : (source : Source) (table : Table) (c : Connections) (books : Books) (l : Ledger) (oldest : Option ℕ) (before : List ℕ)
-    → AreTold source table → StandsForConnections source table c → IsOldest (stamps_of table) oldest → StandsForLedger books l
+    → CanListOn source table → StandsForConnections source table c → IsOldest (stamps_of table) oldest → StandsForLedger books l
     → books.registry.floor ≡ max source.registry.floor (stamp_told source.registry oldest) → removals_of books.registry ≡ later_than oldest before
     → removals_of books.registry ≡ kept_removals c.all l
 unfolding kept_removals
@@ -249,7 +249,7 @@ kept_above floor change (n ∷ stamps) low is = by_test (nat_lt n change) refl (
 
 -- the rows that are kept for lists are among the dead ones
 pub kept_few : (source : Source) (table : Table) (c : Connections) (books : Books) (l : Ledger)
-    → AreTold source table → StandsForConnections source table c → StandsForLedger books l → books.registry.floor ≡ source.registry.floor
+    → CanListOn source table → StandsForConnections source table c → StandsForLedger books l → books.registry.floor ≡ source.registry.floor
     → length (kept_removals c.all l) ≤ length (removals_of books.registry)
 unfolding kept_removals
 kept_few source table c books l t z h floor =

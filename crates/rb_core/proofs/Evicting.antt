@@ -19,7 +19,7 @@ use Rattle.rb_core.specs.StandsFor.{Source, Table, StandsForPhase, StandsForConn
 use Rattle.rb_core.specs.Slots.{IsTable, StaysTable, HasBuffers, AreNumbered, is_numbered, is_idle_stage}
 use Rattle.rb_core.specs.Awaits.{is_free_slot, is_free, is_idle_slot, has_idle, NoneIsFreed}
 use Rattle.rb_core.specs.StandsFor.{stamp_in}
-use Rattle.rb_core.specs.Listings.{began_stage, slot_began, IsToldSlot, IsOldest, earlier, IsEarliest, began_early, evicted_slot, with_evicted}
+use Rattle.rb_core.specs.Listings.{began_stage, slot_began, SlotListsOn, IsOldest, earlier, IsEarliest, began_early, evicted_slot, with_evicted}
 use Rattle.rb_core.proofs.Phases.{by_phase}
 
 -- ---- one slot
@@ -92,10 +92,10 @@ module _ (P : Slot → Type 0) (earliest : ℕ) (keeps : (slot : Slot) → P slo
   all_keep [] h = All-nil P
   all_keep (e ∷ es) h = All-cons P _ _ (keeps e.1 (All-head P e.1 (values_of es) h)) (all_keep es (All-tail P e.1 (values_of es) h))
 
-pub told_evicted : (source : Source) (earliest : ℕ) (slot : Slot) → IsToldSlot source slot → IsToldSlot source (evicted_slot earliest slot)
-told_evicted source earliest slot told = by_test (began_early earliest (slot_began slot))
+pub lists_evicted : (source : Source) (earliest : ℕ) (slot : Slot) → SlotListsOn source slot → SlotListsOn source (evicted_slot earliest slot)
+lists_evicted source earliest slot told = by_test (began_early earliest (slot_began slot))
   where
-    by_test : (b : Bool) → IsToldSlot source (cond b (record slot { stage = stages.Lost }) slot)
+    by_test : (b : Bool) → SlotListsOn source (cond b (record slot { stage = stages.Lost }) slot)
     by_test true = tt
     by_test false = told
 

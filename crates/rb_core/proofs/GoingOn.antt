@@ -3,20 +3,20 @@ use Rattle.std.proofs.Common.{◌≡◌, ℕ, Some, refl}
 use Rattle.rb_xdr.specs.Pool.{value_at, with_value}
 use Rattle.rb_core.specs.declared.slot.Slot.{Slot}
 use Rattle.rb_core.specs.StandsFor.{Table, IsWithin}
-use Rattle.rb_core.specs.Listings.{KeepsToldSlot}
+use Rattle.rb_core.specs.Listings.{SlotKeepsListing}
 use Rattle.rb_core.specs.Awaits.{GoOn, is_awaiting_stage}
 use Rattle.rb_core.proofs.Freed.{none_freed, freed_from}
 use Rattle.rb_core.proofs.Holding.{stays_changed}
-use Rattle.rb_core.proofs.Telling.{keeps_changed}
+use Rattle.rb_core.proofs.Listings.{keeps_changed}
 
 pub goes_on_same : (table : Table) → GoOn table table
-goes_on_same table = record { told = λ source told. told; free = λ id none. none; stays = record { conns = refl; tie = refl; within = λ within. within } }
+goes_on_same table = record { lists = λ source told. told; free = λ id none. none; stays = record { conns = refl; tie = refl; within = λ within. within } }
 
 pub goes_on_changed : (view now : Table) → view ≡ now → (k : ℕ) (old new : Slot) → value_at view.slots k ≡ Some old
-    → KeepsToldSlot old new → new.number ≡ old.number → is_awaiting_stage new.stage ≡ is_awaiting_stage old.stage → IsWithin new
+    → SlotKeepsListing old new → new.number ≡ old.number → is_awaiting_stage new.stage ≡ is_awaiting_stage old.stage → IsWithin new
     → GoOn now (record view { slots = with_value view.slots k new })
 goes_on_changed view now is k old new found told number awaits within = record {
-  told = keeps_changed view now is k old new found told;
+  lists = keeps_changed view now is k old new found told;
   free = freed_from view now _ is (none_freed view k old new found number awaits);
   stays = stays_changed view now k new is within;
 }

@@ -11,7 +11,7 @@ use Rattle.rb_core.specs.declared.giving.Rest.{Rest}
 use Rattle.rb_model.specs.State.{Owed, Connection}
 use Rattle.rb_model.specs.State.Phase.{Owing}
 use Rattle.rb_core.specs.declared.slot.Slot.{Slot}
-use Rattle.rb_core.specs.Listings.{IsToldSlot}
+use Rattle.rb_core.specs.Listings.{SlotListsOn}
 use Rattle.rb_core.specs.Serving.{SlotShowsNext}
 use Rattle.rb_model.specs.Connections.{longest_fragment, owed_of, pending_of}
 use Rattle.rb_core.specs.StandsFor.{Source, IsGiving, StandsForConnection, rest_in, stamp_in}
@@ -104,8 +104,8 @@ module _ (source : Source) (buffer : List ℕ) (rest : Rest) (before next : Kept
 
 -- so it is on a slot
 module _ (source : Source) (rest : Rest) (old new : Slot) (s : SlotShowsNext source rest old new) where
-  pub slot_told : IsToldSlot source new
-  slot_told = subst (λ (t : Slot). IsToldSlot source t) (sym s.is) (goes_on_shown source old.buffer.bytes rest old.window new.window s.giving s.shows)
+  pub slot_lists_on : SlotListsOn source new
+  slot_lists_on = subst (λ (t : Slot). SlotListsOn source t) (sym s.is) (goes_on_shown source old.buffer.bytes rest old.window new.window s.giving s.shows)
 
   pub slot_begins : (clock : ℕ) (c : Connection) (reply : List ℕ) (began : Option ℕ) → old.number ≡ c.number → old.peer ≡ c.peer → old.mark ≡ clock → old.window.cap ≡ longest_fragment
       → rest_in source old.buffer.bytes rest ≡ reply → stamp_in rest ≡ began → StandsForConnection source new (record c { phase = Owing (owed_of reply began 0); mark = clock })

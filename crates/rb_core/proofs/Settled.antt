@@ -22,7 +22,7 @@ use Rattle.rb_model.specs.Calls.{kept_of}
 use Rattle.rb_core.specs.Slots.{Acts, Shows, AreNumbered, HasBuffers, IsTable, feeding, arguments_heard, arguments_on, heard_whole, is_idle_stage, is_wanted_slot, wanted_slot}
 use Rattle.rb_core.specs.Awaits.{GoOn, is_awaiting_stage, is_unsettled_slot, IsSettled, HeardFrom}
 use Rattle.rb_core.specs.StandsFor.{stamp_in}
-use Rattle.rb_core.specs.Listings.{IsToldSlot, began_early, evicted_slot}
+use Rattle.rb_core.specs.Listings.{SlotListsOn, began_early, evicted_slot}
 use Rattle.rb_core.proofs.Evicting.{all_evicted}
 use Rattle.rb_core.proofs.Freed.{heard_on}
 use Rattle.rb_core.proofs.ByHint.{distinct_numbers, first_by_hint}
@@ -130,7 +130,7 @@ module _ (k : ℕ) (table : Table) (old new : Slot) (there : value_at table.slot
 
   pub marked_goes_on : (now : Table) → table ≡ now → All IsWithin (values_of table.slots) → GoOn now (record table { slots = with_value table.slots k new })
   marked_goes_on now is within =
-      goes_on_changed table now is k old new there (λ source told. subst (λ (s : Slot). IsToldSlot source s) (sym kept) told)
+      goes_on_changed table now is k old new there (λ source told. subst (λ (s : Slot). SlotListsOn source s) (sym kept) told)
       (ap (λ (s : Slot). s.number) kept) (ap (λ (s : Slot). is_awaiting_stage s.stage) kept) (marked_within within)
 
   pub unmarked : new ≡ old → record table { slots = with_value table.slots k new } ≡ table

@@ -17,7 +17,7 @@ use Rattle.rb_core.specs.declared.types.Outcome.{Outcome}
 use Rattle.rb_core.specs.declared.types.Outcome.TheVariants as outcomes
 use Rattle.rb_core.specs.StandsFor.{Table}
 use Rattle.rb_core.specs.Slots.{is_idle_stage, StaysTable}
-use Rattle.rb_core.specs.Listings.{KeepsTold}
+use Rattle.rb_core.specs.Listings.{KeepsListing}
 
 abbrev pub is_awaiting_stage : Stage → Bool
 is_awaiting_stage stages.Awaiting = true
@@ -74,9 +74,9 @@ KeepsAwaited old before new after = AreAwaited old.forwards before → AreAwaite
 abbrev pub NoneIsFreed : Table → Table → Type 0
 NoneIsFreed old new = (id : ℕ) → is_free id old ≡ false → is_free id new ≡ false
 
--- Connections go on: the list that is given on each can still be told, and none is freed of its forwarded call.
+-- Connections go on: each that gives a list can go on with it, and none is freed of its forwarded call.
 pub record GoOn (old new : Table) : Type 0 where
-  pub told : KeepsTold old new
+  pub lists : KeepsListing old new
   pub free : NoneIsFreed old new
   pub stays : StaysTable old new
 

@@ -15,7 +15,7 @@ use Rattle.rb_model.specs.Calls.{message_with, Outcome, Outcome as said, longest
 use Rattle.rb_core.specs.StandsFor.{Table, Held, StandsFor}
 use Rattle.rb_core.specs.Slots.{Acts, IsDraft}
 use Rattle.rb_core.specs.Awaits.{AreAwaited}
-use Rattle.rb_core.specs.Listings.{AreTold, source_in}
+use Rattle.rb_core.specs.Listings.{CanListOn, source_in}
 use Rattle.rb_model.specs.declared.types.Told.{Told}
 use Rattle.rb_model.specs.Ending.{told_at, tell}
 use Rattle.rb_model.specs.Step.{serve_message, settled_in}
@@ -33,7 +33,7 @@ pub record IsCore (setting : Setting) (connections : Table) (books : Books) (rep
   pub few : setting.limits.forwards ≤ 64
   pub first_xid : books.forwards.first_xid ≡ setting.first_xid
   pub awaited : AreAwaited books.forwards connections
-  pub told : AreTold (source_in setting.listener.host books) connections
+  pub lists : CanListOn (source_in setting.listener.host books) connections
   pub tied : AreTied reply.tie books
   pub connections_tie : connections.tie ≡ reply.tie
   pub reply_cap : reply.cap ≡ longest_reply

@@ -31,31 +31,31 @@ abbrev pub slot_began : Slot → Option ℕ
 slot_began slot = began_stage slot.stage
 
 -- the source can tell the rest of the reply that is given in this stage
-abbrev pub IsToldStage : Source → List ℕ → Stage → Type 0
-IsToldStage source buffer (stages.Giving giving) = GoesOnBy source buffer giving
-IsToldStage source buffer stages.Idle = ⊤
-IsToldStage source buffer (stages.Reading reader) = ⊤
-IsToldStage source buffer stages.Awaiting = ⊤
-IsToldStage source buffer stages.Lost = ⊤
+abbrev pub StageListsOn : Source → List ℕ → Stage → Type 0
+StageListsOn source buffer (stages.Giving giving) = GoesOnBy source buffer giving
+StageListsOn source buffer stages.Idle = ⊤
+StageListsOn source buffer (stages.Reading reader) = ⊤
+StageListsOn source buffer stages.Awaiting = ⊤
+StageListsOn source buffer stages.Lost = ⊤
 
-abbrev pub IsToldSlot : Source → Slot → Type 0
-IsToldSlot source slot = IsToldStage source slot.buffer.bytes slot.stage
+abbrev pub SlotListsOn : Source → Slot → Type 0
+SlotListsOn source slot = StageListsOn source slot.buffer.bytes slot.stage
 
 -- whatever lists are made from
-abbrev pub IsToldByAll : Slot → Type 0
-IsToldByAll slot = (source : Source) → IsToldSlot source slot
+abbrev pub SlotListsOnByAll : Slot → Type 0
+SlotListsOnByAll slot = (source : Source) → SlotListsOn source slot
 
 -- where a source could tell the rest of the old list, it can tell that of the new one
-abbrev pub KeepsToldSlot : Slot → Slot → Type 0
-KeepsToldSlot old new = (source : Source) → IsToldSlot source old → IsToldSlot source new
+abbrev pub SlotKeepsListing : Slot → Slot → Type 0
+SlotKeepsListing old new = (source : Source) → SlotListsOn source old → SlotListsOn source new
 
 -- ---- all of them
 
-abbrev pub AreTold : Source → Table → Type 0
-AreTold source table = All (IsToldSlot source) (values_of table.slots)
+abbrev pub CanListOn : Source → Table → Type 0
+CanListOn source table = All (SlotListsOn source) (values_of table.slots)
 
-abbrev pub KeepsTold : Table → Table → Type 0
-KeepsTold old new = (source : Source) → AreTold source old → AreTold source new
+abbrev pub KeepsListing : Table → Table → Type 0
+KeepsListing old new = (source : Source) → CanListOn source old → CanListOn source new
 
 -- after how many changes the lists began that are given
 abbrev pub stamps_in : List (ℕ × Slot) → List ℕ

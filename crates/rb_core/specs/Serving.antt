@@ -36,7 +36,7 @@ use Rattle.rb_model.specs.declared.message.Message.{Message}
 use Rattle.rb_core.specs.declared.slot.Slot.{Slot}
 use Rattle.rb_model.specs.Connections.{settled, changed_at}
 use Rattle.rb_core.specs.Reading.{null_message}
-use Rattle.rb_core.specs.Listings.{AreTold, source_in}
+use Rattle.rb_core.specs.Listings.{CanListOn, source_in}
 use Rattle.rb_core.specs.Awaits.{KeepsAwaited, StayUnlessForwarded}
 
 -- a list under this xid of the rows that are live now
@@ -154,7 +154,7 @@ pub record LeavesBooks (context : Context) (old new : Books) (served : Served) (
 -- Connections and books go on once a record on a connection was answered.
 pub record PartsGoOn (host : List ℕ) (connections : Table) (books : Books) (left : Table) (after : Books) : Type 0 where
   pub awaited : KeepsAwaited books connections after left
-  pub told : AreTold (source_in host after) left
+  pub lists : CanListOn (source_in host after) left
   pub frame : SameFrame books after
   pub stays : StaysTable connections left
 

@@ -10,7 +10,7 @@ ghost use Rattle.rb_core.specs.Awaits.{IsIdleSince, StayOpen};
 ghost use Rattle.rb_core.specs.CallCosts.{message_cost, served_cost};
 ghost use Rattle.rb_model.specs.Calls.{longest_reply};
 ghost use Rattle.rb_core.specs.Serving.{CanServe, IsEmptyReply, LeavesBooks, PartsGoOn, ServesVerdict};
-ghost use Rattle.rb_core.specs.Listings.{AreTold, source_in};
+ghost use Rattle.rb_core.specs.Listings.{CanListOn, source_in};
 ghost use Rattle.rb_core.specs.Slots.{IsEmptyDraft};
 
 use crate::connections::Connections;
@@ -39,11 +39,11 @@ pub fn serve_verdict(
     requires tie { meter.old.tie ≡ connections.old.tie }
     requires can { CanServe meter.old.tie context.now books.old }
     requires out { IsEmptyReply meter.old.tie out.old }
-    requires told { AreTold (source_in context.now.listener.host books.old) connections.old }
+    requires lists { CanListOn (source_in context.now.listener.host books.old) connections.old }
     ensures acts { ServesVerdict context.now verdict.now arguments.now connections.old books.old
         connections.new books.new result out.new }
     ensures leaves { LeavesBooks context.now books.old books.new result out.old out.new }
-    ensures told { AreTold (source_in context.now.listener.host books.new) connections.new }
+    ensures lists { CanListOn (source_in context.now.listener.host books.new) connections.new }
     ensures open { StayOpen connections.old connections.new }
     ensures cost { PaysAtMost meter.old meter.new
         (message_cost connections.old books.old books.new (length arguments.now)
@@ -79,7 +79,7 @@ pub fn answer(
     requires can { CanServe meter.old.tie context.now books.old }
     requires tie { meter.old.tie ≡ connections.old.tie }
     requires draft { IsEmptyDraft meter.old.tie draft.old }
-    requires told { AreTold (source_in context.now.listener.host books.old) connections.old }
+    requires lists { CanListOn (source_in context.now.listener.host books.old) connections.old }
     requires idle { IsIdleSince id context.now.clock connections.old }
     ensures acts { AnswersFrom context.now id heard.now arguments.now connections.old books.old
         connections.new books.new result.0 (take result.1 room.new) }

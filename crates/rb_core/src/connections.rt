@@ -240,7 +240,7 @@ impl Connections {
     ghost use Rattle.rb_model.specs.Connections.{on_live, opening_of, closing_of, first_lost, longest_fragment};
     ghost use Rattle.rb_core.specs.Giving.{pending_count};
     ghost use Rattle.rb_core.specs.Serving.{Settles, kind_in, IsWritten};
-    ghost use Rattle.rb_core.specs.Listings.{AreTold, KeepsTold, EvictsBefore, stamps_of, IsOldest};
+    ghost use Rattle.rb_core.specs.Listings.{CanListOn, KeepsListing, EvictsBefore, stamps_of, IsOldest};
     ghost use Rattle.rb_model.specs.Losses.{expiring};
     ghost use Rattle.rb_core.specs.Slots.{Finds, TableActs, TableGives, TableHears, TableLends, TableShows, TakesWhole, KeepsWhole, StaysTable, IsDraft, IsEmptyDraft, empty_table, feeding, HasBuffers};
     ghost use Rattle.rb_model.specs.Step.{pending_at};
@@ -398,10 +398,10 @@ impl Connections {
         requires tie { meter.old.tie ≡ self.old.tie }
         requires draft { IsDraft meter.old.tie draft.old }
         requires written { IsWritten served draft.old.bytes }
-        requires told { AreTold (source_for host registry.now) self.old }
+        requires lists { CanListOn (source_for host registry.now) self.old }
         ensures stands { Settles
             (source_for host registry.now) id clock served draft.old.bytes self.old self.new }
-        ensures told { AreTold (source_for host registry.now) self.new }
+        ensures lists { CanListOn (source_for host registry.now) self.new }
         ensures others { OnlyIsFreed id self.old self.new }
         ensures awaits { AwaitsIfForwarded (kind_in served) id self.old self.new }
         ensures stays { StaysTable self.old self.new }
@@ -437,10 +437,10 @@ impl Connections {
         requires registry { meter.old.tie ≡ registry.now.tie }
         requires tie { meter.old.tie ≡ self.old.tie }
         requires scratch { IsEmptyDraft meter.old.tie scratch.old }
-        requires told { AreTold (source_for host registry.now) self.old }
+        requires lists { CanListOn (source_for host registry.now) self.old }
         ensures acts { TableGives
             (source_for host registry.now) id clock n self.old self.new result }
-        ensures told { AreTold (source_for host registry.now) self.new }
+        ensures lists { CanListOn (source_for host registry.now) self.new }
         ensures free { NoneIsFreed self.old self.new }
         ensures refused { OnErr result (self.new ≡ self.old) }
         ensures stays { StaysTable self.old self.new }
@@ -474,7 +474,7 @@ impl Connections {
     pub fn evict(&mut self, earliest: u64, meter: &mut Meter)
         requires { meter.old.tie ≡ self.old.tie }
         ensures evicts { EvictsBefore earliest self.old self.new }
-        ensures told { KeepsTold self.old self.new }
+        ensures lists { KeepsListing self.old self.new }
         ensures later { All (λ stamp. earliest ≤ stamp) (stamps_of self.new) }
         ensures open { StayOpen self.old self.new }
         ensures cost { PaysAtMost meter.old meter.new (evict_cost (slot_count self.old)) }

@@ -3,7 +3,7 @@ ghost use Rattle.std.specs.Prelude.{◌≡◌, ◌≤◌, IsTrue};
 ghost use Rattle.rb_xdr.specs.Meter.{PaysAtMost};
 ghost use Rattle.rb_proto.specs.Books.{AreTied, HasPlaceLeft, SameFrame};
 ghost use Rattle.rb_core.specs.Awaits.{StayOpen};
-ghost use Rattle.rb_core.specs.Listings.{AreTold, HasRoom, Evicts, source_in};
+ghost use Rattle.rb_core.specs.Listings.{CanListOn, HasRoom, Evicts, source_in};
 ghost use Rattle.rb_core.specs.CallCosts.{kept_count, room_cost};
 
 use crate::connections::Connections;
@@ -43,11 +43,11 @@ pub fn make_room(
     requires tied { AreTied meter.old.tie books.old }
     requires tie { meter.old.tie ≡ connections.old.tie }
     requires limit { books.old.registry.limit ≡ context.now.limit }
-    requires told { AreTold (source_in context.now.listener.host books.old) connections.old }
+    requires lists { CanListOn (source_in context.now.listener.host books.old) connections.old }
     ensures makes { Evicts context.now message.now
         connections.old books.old connections.new books.new }
     ensures room { HasRoom context.now message.now books.new }
-    ensures told { AreTold (source_in context.now.listener.host books.new) connections.new }
+    ensures lists { CanListOn (source_in context.now.listener.host books.new) connections.new }
     ensures open { StayOpen connections.old connections.new }
     ensures forwards { books.new.forwards ≡ books.old.forwards }
     ensures frame { SameFrame books.old books.new }

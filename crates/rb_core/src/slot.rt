@@ -159,7 +159,7 @@ impl Slot {
     ghost use Rattle.rb_core.specs.Slots.{is_due_slot, SlotActs, SlotGives, SlotHears, SlotShows, emptied_slot, ReceivesPiece, StandsBehindPiece, HearsPiece, HasBuffers, IsDraft, IsEmptyDraft, StaysSlot, feeding, heard_whole, is_lost_stage, is_idle_stage, is_wanted_slot};
     ghost use Rattle.rb_core.specs.StandsFor.{StandsForConnection, charge, most_charge, rest_in, source_for};
     ghost use Rattle.rb_model.specs.Calls.{kept_of};
-    ghost use Rattle.rb_core.specs.Listings.{slot_began, IsToldSlot, KeepsToldSlot, IsToldByAll};
+    ghost use Rattle.rb_core.specs.Listings.{slot_began, SlotListsOn, SlotKeepsListing, SlotListsOnByAll};
     ghost use Rattle.rb_core.specs.Giving.{CanTell};
     ghost use Rattle.rb_core.specs.Serving.{SlotSettles, SlotShowsNext, IsWritten, kind_in};
     ghost use Rattle.rb_core.specs.Awaits.{is_awaiting_stage, sender_on, HearsSlot, IsIdleAt};
@@ -219,7 +219,7 @@ impl Slot {
         ensures received { ReceivesPiece self.old reader clock piece.now result }
         ensures stands { StandsBehindPiece self.old self.new reader clock piece.now }
         ensures stage { is_awaiting_stage self.new.stage ≡ false }
-        ensures told { IsToldByAll self.new }
+        ensures lists { SlotListsOnByAll self.new }
         ensures heard { IfSome result.heard (λ heard. IsIdleAt clock self.new) }
         ensures arguments { HearsPiece self.old reader clock piece.now arguments.old arguments.new }
         ensures within { result.count ≤ length piece.now }
@@ -276,7 +276,7 @@ impl Slot {
         ensures acts { SlotActs (feeding clock piece.now) self.old self.new result }
         ensures arguments { SlotHears piece.now self.old arguments.old arguments.new }
         ensures awaits { is_awaiting_stage self.new.stage ≡ is_awaiting_stage self.old.stage }
-        ensures told { KeepsToldSlot self.old self.new }
+        ensures lists { SlotKeepsListing self.old self.new }
         ensures heard { IfSome result.heard (λ heard. HearsSlot clock self.old self.new) }
         ensures within { result.count ≤ length piece.now }
         ensures stays { StaysSlot meter.old.tie self.old self.new }
@@ -329,7 +329,7 @@ impl Slot {
             (source_for host registry.now) clock served draft.old.bytes self.old self.new }
         ensures awaits { kind_in served ≡ Outcome.Forwarded
             → is_awaiting_stage self.new.stage ≡ true }
-        ensures told { IsToldSlot (source_for host registry.now) self.new }
+        ensures lists { SlotListsOn (source_for host registry.now) self.new }
         ensures stays { StaysSlot meter.old.tie self.old self.new }
         ensures draft { IsEmptyDraft meter.old.tie draft.new }
         ensures cost { PaysAtMost meter.old meter.new (told_cost registry.now served) }
@@ -406,10 +406,10 @@ impl Slot {
         requires registry { meter.old.tie ≡ registry.now.tie }
         requires buffers { HasBuffers meter.old.tie self.old }
         requires scratch { IsEmptyDraft meter.old.tie scratch.old }
-        requires told { IsToldSlot (source_for host registry.now) self.old }
+        requires lists { SlotListsOn (source_for host registry.now) self.old }
         ensures acts { SlotGives (source_for host registry.now) clock n self.old self.new }
         ensures awaits { is_awaiting_stage self.new.stage ≡ is_awaiting_stage self.old.stage }
-        ensures told { IsToldSlot (source_for host registry.now) self.new }
+        ensures lists { SlotListsOn (source_for host registry.now) self.new }
         ensures stays { StaysSlot meter.old.tie self.old self.new }
         ensures draft { IsEmptyDraft meter.old.tie scratch.new }
         ensures cost { PaysAtMost meter.old meter.new (given_cost (row_count registry.now)) }

@@ -102,7 +102,7 @@ returns-then-given-gt0-clause-goes_on c =
     let same : v.new.books.forwards ≡ c.args.books.now.forwards = rw reply.is_reply at v.ensures.leaves.quiet in
     record {
       awaited = λ are. subst (λ (t : Entries). AreAwaited t v.new.connections) (sym same) (λ number waits. v.ensures.open.free number (are number waits));
-      told = v.ensures.told;
+      lists = v.ensures.lists;
       frame = v.ensures.leaves.frame;
       stays = v.ensures.open.stays;
     }
@@ -158,7 +158,7 @@ returns-clause-goes_on c =
           let awaited : AreAwaited c.args.books.now.forwards v.new.connections = λ number waits. v.ensures.open.free number (are number waits) in
           awaited_when_answered c.args.books.now.forwards v.new.books.forwards c.args.id c.args.heard.now.peer v.new.connections c.settle.new.self (kind_in v.result)
           awaited caller anew v.ensures.leaves.quiet c.settle.ensures.others (λ is. c.settle.ensures.awaits is (v.ensures.open.idle c.args.id c.requires.idle.is_idle));
-      told = c.settle.ensures.told;
+      lists = c.settle.ensures.lists;
       frame = v.ensures.leaves.frame;
       stays = stays_twice _ _ _ v.ensures.open.stays c.settle.ensures.stays;
     }

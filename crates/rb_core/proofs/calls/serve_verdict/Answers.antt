@@ -6,7 +6,7 @@ use Rattle.rb_proto.specs.Answers.{adds_row, row_to_set}
 use Rattle.rb_proto.specs.Ledger.{Ledger}
 use Rattle.rb_core.specs.Reading.{null_message}
 use Rattle.rb_model.specs.Losses.{asks_room}
-use Rattle.rb_core.proofs.Answering.{serves_in_room, nothing_evicts, serves_without_room, told_then}
+use Rattle.rb_core.proofs.Answering.{serves_in_room, nothing_evicts, serves_without_room, lists_then}
 use Rattle.rb_core.proofs.Procedures.{null_asked, nothing_asks}
 use Rattle.rb_core.proofs.calls.serve_verdict.Goals as goal
 
@@ -20,12 +20,12 @@ returns-in-Err-clause-acts c =
     let table = c.args.connections.now in
     let books = c.args.books.now in
     rw (← c.in-Err.ensures.refuses c.args.arguments.now)
-    (serves_in_room c.args.context.now message c.args.arguments.now table books _ table books c.serve.new.books c.serve.ensures.cursors c.serve.ensures.floor c.requires.told
+    (serves_in_room c.args.context.now message c.args.arguments.now table books _ table books c.serve.new.books c.serve.ensures.cursors c.serve.ensures.floor c.requires.lists
     (nothing_evicts c.args.context.now message table books (λ l. nothing_asks c.args.context.now message l c.in-Err.ensures.asks)) c.serve.ensures.acts)
 
-pub returns-in-Err-clause-told : goal.returns-in-Err-clause-told
-returns-in-Err-clause-told c =
-    told_then c.args.context.now.listener.host c.args.connections.now c.args.books.now c.serve.new.books c.serve.ensures.cursors c.serve.ensures.floor c.requires.told
+pub returns-in-Err-clause-lists : goal.returns-in-Err-clause-lists
+returns-in-Err-clause-lists c =
+    lists_then c.args.context.now.listener.host c.args.connections.now c.args.books.now c.serve.new.books c.serve.ensures.cursors c.serve.ensures.floor c.requires.lists
 
 pub returns-then-is_null-clause-acts : goal.returns-then-is_null-clause-acts
 returns-then-is_null-clause-acts c =
@@ -40,8 +40,8 @@ returns-clause-acts c =
     let same : message_with c.args.verdict.now c.args.arguments.now ≡ message = c.in-Ok.ensures.calls c.args.arguments.now ∙ sym c.message.ensures.message in
     rw same
     (serves_in_room c.args.context.now message c.args.arguments.now c.args.connections.now c.args.books.now _ c.make_room.new.connections c.make_room.new.books c.serve-2.new.books
-    c.serve-2.ensures.cursors c.serve-2.ensures.floor c.make_room.ensures.told c.make_room.ensures.makes c.serve-2.ensures.acts)
+    c.serve-2.ensures.cursors c.serve-2.ensures.floor c.make_room.ensures.lists c.make_room.ensures.makes c.serve-2.ensures.acts)
 
-pub returns-clause-told : goal.returns-clause-told
-returns-clause-told c =
-    told_then c.args.context.now.listener.host c.make_room.new.connections c.make_room.new.books c.serve-2.new.books c.serve-2.ensures.cursors c.serve-2.ensures.floor c.make_room.ensures.told
+pub returns-clause-lists : goal.returns-clause-lists
+returns-clause-lists c =
+    lists_then c.args.context.now.listener.host c.make_room.new.connections c.make_room.new.books c.serve-2.new.books c.serve-2.ensures.cursors c.serve-2.ensures.floor c.make_room.ensures.lists

@@ -3,8 +3,8 @@ use Rattle.rb_registry.specs.Registry.{rows_of, removals_of}
 use Rattle.rb_proto.specs.Ledger.{rows_in}
 use Rattle.rb_proto.specs.Books.{wants_room_in}
 use Rattle.rb_model.specs.Losses.{asks_room, kept_removals, evicting}
-use Rattle.rb_core.specs.Listings.{source_in, AreTold, stamps_of, IsEarliest}
-use Rattle.rb_core.proofs.Crowding.{told_on, stands_on, trimmed_low, kept_are, kept_few, no_call_has_room, room_is_made, earliest_of}
+use Rattle.rb_core.specs.Listings.{source_in, CanListOn, stamps_of, IsEarliest}
+use Rattle.rb_core.proofs.Crowding.{lists_on, stands_on, trimmed_low, kept_are, kept_few, no_call_has_room, room_is_made, earliest_of}
 use Rattle.rb_model.proofs.Crowding.{none_evicted, not_asked, not_crowded, crowded, no_call_asks, row_within}
 use Rattle.rb_core.proofs.eviction.make_room.Goals as goal
 
@@ -18,7 +18,7 @@ returns-in_default-clause-room c = no_call_has_room c.args.context.now c.args.me
 pub returns-then-is_roomy-clause-makes : goal.returns-then-is_roomy-clause-makes
 returns-then-is_roomy-clause-makes c = λ x l z h.
     let source = source_in c.args.context.now.listener.host c.args.books.now in
-    let few = kept_few source c.args.connections.now x c.args.books.now l c.requires.told z h refl in
+    let few = kept_few source c.args.connections.now x c.args.books.now l c.requires.lists z h refl in
     let place = c.is_roomy.ensures.room (c.if-is_roomy.true) in
     let room : length (rows_in l) + length (kept_removals x.all l) < c.args.context.now.limit = omega (arith, few, place, ap (λ rs. length rs) h.registry.rows, c.requires.limit) in
     (rw (not_crowded c.args.context.now c.args.message.now x.all l room, none_evicted x) z, h)
@@ -28,37 +28,37 @@ returns-then-not-wants_room-clause-makes c = λ x l z h.
     let none : asks_room c.args.context.now c.args.message.now l ≡ false = rw c.in-Asked.is (sym (c.wants_room.ensures.shows l h) ∙ c.if-not-wants_room.true) in
     (rw (not_asked c.args.context.now c.args.message.now x.all l none, none_evicted x) z, h)
 
-pub returns-then-dead-context-clause-told : goal.returns-then-dead-context-clause-told
-returns-then-dead-context-clause-told c =
+pub returns-then-dead-context-clause-lists : goal.returns-then-dead-context-clause-lists
+returns-then-dead-context-clause-lists c =
     let host = c.args.context.now.listener.host in
-    let low = trimmed_low (source_in host c.args.books.now) c.args.connections.now c.oldest.result c.trim.new.self.registry.floor c.requires.told c.oldest.ensures.oldest c.trim.ensures.floor in
-    told_on host c.args.books.now.registry c.trim.new.self.registry c.trim.ensures.cursors c.args.connections.now low c.requires.told
+    let low = trimmed_low (source_in host c.args.books.now) c.args.connections.now c.oldest.result c.trim.new.self.registry.floor c.requires.lists c.oldest.ensures.oldest c.trim.ensures.floor in
+    lists_on host c.args.books.now.registry c.trim.new.self.registry c.trim.ensures.cursors c.args.connections.now low c.requires.lists
 
 pub returns-then-dead-context-clause-makes : goal.returns-then-dead-context-clause-makes
 returns-then-dead-context-clause-makes c = λ x l z h.
     let host = c.args.context.now.listener.host in
     let source = source_in host c.args.books.now in
     let table = c.args.connections.now in
-    let low = trimmed_low source table c.oldest.result c.trim.new.self.registry.floor c.requires.told c.oldest.ensures.oldest c.trim.ensures.floor in
+    let low = trimmed_low source table c.oldest.result c.trim.new.self.registry.floor c.requires.lists c.oldest.ensures.oldest c.trim.ensures.floor in
     let after = c.trim.ensures.stands l h in
-    let kept = kept_are source table x c.trim.new.self l c.oldest.result _ c.requires.told z c.oldest.ensures.oldest after c.trim.ensures.floor c.trim.ensures.dropped in
+    let kept = kept_are source table x c.trim.new.self l c.oldest.result _ c.requires.lists z c.oldest.ensures.oldest after c.trim.ensures.floor c.trim.ensures.dropped in
     let rows = after.registry.rows in
     let room : length (rows_in l) + length (kept_removals x.all l) < c.args.context.now.limit =
     omega (arith, ap (λ rs. length rs) rows, ap (λ (ns : List ℕ). length ns) kept, c.len-live.ensures.len, c.kept-dead.ensures.count, c.if-dead-context.true) in
-    (rw (not_crowded c.args.context.now c.args.message.now x.all l room, none_evicted x) (stands_on host c.args.books.now.registry c.trim.new.self.registry c.trim.ensures.cursors table x low c.requires.told z), after)
+    (rw (not_crowded c.args.context.now c.args.message.now x.all l room, none_evicted x) (stands_on host c.args.books.now.registry c.trim.new.self.registry c.trim.ensures.cursors table x low c.requires.lists z), after)
 
-first_told : (c : goal.After-trim-2) → AreTold (source_in c.args.context.now.listener.host c.trim.new.self) c.args.connections.now
-first_told c =
+first_lists : (c : goal.After-trim-2) → CanListOn (source_in c.args.context.now.listener.host c.trim.new.self) c.args.connections.now
+first_lists c =
     let host = c.args.context.now.listener.host in
-    let low = trimmed_low (source_in host c.args.books.now) c.args.connections.now c.oldest.result c.trim.new.self.registry.floor c.requires.told c.oldest.ensures.oldest c.trim.ensures.floor in
-    told_on host c.args.books.now.registry c.trim.new.self.registry c.trim.ensures.cursors c.args.connections.now low c.requires.told
+    let low = trimmed_low (source_in host c.args.books.now) c.args.connections.now c.oldest.result c.trim.new.self.registry.floor c.requires.lists c.oldest.ensures.oldest c.trim.ensures.floor in
+    lists_on host c.args.books.now.registry c.trim.new.self.registry c.trim.ensures.cursors c.args.connections.now low c.requires.lists
 
-evicted_told : (c : goal.After-trim-2) → AreTold (source_in c.args.context.now.listener.host c.trim.new.self) c.evict.new.self
-evicted_told c = c.evict.ensures.told (source_in c.args.context.now.listener.host c.trim.new.self) (first_told c)
+evicted_lists : (c : goal.After-trim-2) → CanListOn (source_in c.args.context.now.listener.host c.trim.new.self) c.evict.new.self
+evicted_lists c = c.evict.ensures.lists (source_in c.args.context.now.listener.host c.trim.new.self) (first_lists c)
 
 still_low : (c : goal.After-trim-2) → All (λ n. c.trim-2.new.self.registry.floor ≤ n) (stamps_of c.evict.new.self)
 still_low c =
-    trimmed_low (source_in c.args.context.now.listener.host c.trim.new.self) c.evict.new.self c.oldest-2.result c.trim-2.new.self.registry.floor (evicted_told c) c.oldest-2.ensures.oldest c.trim-2.ensures.floor
+    trimmed_low (source_in c.args.context.now.listener.host c.trim.new.self) c.evict.new.self c.oldest-2.result c.trim-2.new.self.registry.floor (evicted_lists c) c.oldest-2.ensures.oldest c.trim-2.ensures.floor
 
 some_dead : (c : goal.After-trim-2) → 0 < length (removals_of c.trim.new.self.registry)
 some_dead c =
@@ -69,9 +69,9 @@ some_dead c =
 the_earliest : (c : goal.After-trim-2) → IsEarliest (removals_of c.trim.new.self.registry) c.kept-dead.result.1
 the_earliest c = earliest_of (removals_of c.trim.new.self.registry) c.kept-dead.result.1 c.kept-dead.ensures.least (some_dead c)
 
-pub returns-clause-told : goal.returns-clause-told
-returns-clause-told c =
-    told_on c.args.context.now.listener.host c.trim.new.self.registry c.trim-2.new.self.registry c.trim-2.ensures.cursors c.evict.new.self (still_low c) (evicted_told c)
+pub returns-clause-lists : goal.returns-clause-lists
+returns-clause-lists c =
+    lists_on c.args.context.now.listener.host c.trim.new.self.registry c.trim-2.new.self.registry c.trim-2.ensures.cursors c.evict.new.self (still_low c) (evicted_lists c)
 
 pub returns-clause-makes : goal.returns-clause-makes
 returns-clause-makes c = λ x l z h.
@@ -79,17 +79,17 @@ returns-clause-makes c = λ x l z h.
     let source = source_in host c.args.books.now in
     let table = c.args.connections.now in
     let one = c.trim.new.self in
-    let low = trimmed_low source table c.oldest.result one.registry.floor c.requires.told c.oldest.ensures.oldest c.trim.ensures.floor in
+    let low = trimmed_low source table c.oldest.result one.registry.floor c.requires.lists c.oldest.ensures.oldest c.trim.ensures.floor in
     let after = c.trim.ensures.stands l h in
-    let kept = kept_are source table x one l c.oldest.result _ c.requires.told z c.oldest.ensures.oldest after c.trim.ensures.floor c.trim.ensures.dropped in
+    let kept = kept_are source table x one l c.oldest.result _ c.requires.lists z c.oldest.ensures.oldest after c.trim.ensures.floor c.trim.ensures.dropped in
     let rows = after.registry.rows in
     let asks : asks_room c.args.context.now c.args.message.now l ≡ true = rw c.in-Asked.is (sym (c.wants_room.ensures.shows l h) ∙ c.if-not-wants_room.false) in
     let full : c.args.context.now.limit ≤ length (rows_in l) + length (kept_removals x.all l) =
     omega (arith, ap (λ rs. length rs) rows, ap (λ (ns : List ℕ). length ns) kept, c.len-live.ensures.len, c.kept-dead.ensures.count, c.if-dead-context.false) in
-    let first = stands_on host c.args.books.now.registry one.registry c.trim.ensures.cursors table x low c.requires.told z in
+    let first = stands_on host c.args.books.now.registry one.registry c.trim.ensures.cursors table x low c.requires.lists z in
     let evicts = c.evict.ensures.evicts (removals_of one.registry) (the_earliest c) (source_in host one) x first in (
       rw (crowded c.args.context.now c.args.message.now x.all l asks full, ← kept)
-          (stands_on host one.registry c.trim-2.new.self.registry c.trim-2.ensures.cursors c.evict.new.self (evicting (removals_of one.registry) x) (still_low c) (evicted_told c) evicts),
+          (stands_on host one.registry c.trim-2.new.self.registry c.trim-2.ensures.cursors c.evict.new.self (evicting (removals_of one.registry) x) (still_low c) (evicted_lists c) evicts),
       c.trim-2.ensures.stands l after,
     )
 

@@ -13,7 +13,7 @@ use Rattle.rb_core.proofs.Holding.{its_buffers, charge_fits, held_without}
 use Rattle.rb_core.proofs.Slots.{acts_from, none_closed, one_closed, slot_is_there, numbered-without}
 use Rattle.rb_xdr.proofs.PoolLemmas.{distinct-without, length-without}
 use Rattle.rb_core.proofs.Freed.{none_freed_by_close, freed_from}
-use Rattle.rb_core.proofs.Telling.{keeps_less}
+use Rattle.rb_core.proofs.Listings.{keeps_less}
 use Rattle.rb_core.proofs.ByHint.{distinct_numbers}
 use Rattle.rb_core.proofs.connections.Connections.close.Goals as goal
 
@@ -73,7 +73,7 @@ returns-in_default-clause-goes_on c = goes_on_same _
 
 pub returns-clause-goes_on : goal.returns-clause-goes_on
 returns-clause-goes_on c = rw c.remove.ensures.entries (record {
-  told = keeps_less (the_view c.self.inside) c.args.self.now c.self.view_is c.in-Some.key;
+  lists = keeps_less (the_view c.self.inside) c.args.self.now c.self.view_is c.in-Some.key;
   free = freed_from (the_view c.self.inside) c.args.self.now _ c.self.view_is (none_freed_by_close (the_view c.self.inside) c.in-Some.key);
   stays = rw (← c.self.view_is) (record { conns = refl; tie = refl; within = λ within. All-without IsWithin c.self.inside.slots.entries c.in-Some.key within });
 })

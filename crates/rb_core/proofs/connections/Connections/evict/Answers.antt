@@ -5,9 +5,9 @@ use Rattle.rb_core.specs.declared.slot.Slot.{Slot}
 use Rattle.rb_core.specs.Awaits.{has_idle, IsSettled}
 use Rattle.rb_core.specs.Slots.{IsTable}
 use Rattle.rb_core.specs.StandsFor.{StandsForConnections}
-use Rattle.rb_core.specs.Listings.{IsToldSlot, AreTold}
+use Rattle.rb_core.specs.Listings.{SlotListsOn, CanListOn}
 use Rattle.rb_core.proofs.Freed.{freed_from}
-use Rattle.rb_core.proofs.Evicting.{table_evicts, table_evicted, told_evicted, all_keep, later_evicted, length_evicted, idle_evicted, none_freed_by_eviction, stays_evicted}
+use Rattle.rb_core.proofs.Evicting.{table_evicts, table_evicted, lists_evicted, all_keep, later_evicted, length_evicted, idle_evicted, none_freed_by_eviction, stays_evicted}
 use Rattle.rb_core.proofs.Settled.{settled_evicted}
 use Rattle.rb_core.proofs.connections.Connections.evict.Goals as goal
 
@@ -21,10 +21,10 @@ returns-clause-evicts c = λ changes e source x z.
     rw c.evict_slots.ensures.evicted
     (table_evicts source changes c.args.earliest (the_view c.self.inside) x e (subst (λ t. StandsForConnections source t x) (sym c.self.view_is) z))
 
-pub returns-clause-told : goal.returns-clause-told
-returns-clause-told c = λ source told.
+pub returns-clause-lists : goal.returns-clause-lists
+returns-clause-lists c = λ source told.
     rw c.evict_slots.ensures.evicted
-    (all_keep (IsToldSlot source) c.args.earliest (told_evicted source c.args.earliest) c.self.inside.slots.entries (subst (λ t. AreTold source t) (sym c.self.view_is) told))
+    (all_keep (SlotListsOn source) c.args.earliest (lists_evicted source c.args.earliest) c.self.inside.slots.entries (subst (λ t. CanListOn source t) (sym c.self.view_is) told))
 
 pub returns-clause-later : goal.returns-clause-later
 returns-clause-later c = rw c.evict_slots.ensures.evicted (later_evicted c.args.earliest c.self.inside.slots.entries)

@@ -11,8 +11,8 @@ use Rattle.rb_xdr.proofs.PoolLemmas.{All-value_at}
 use Rattle.rb_core.proofs.Holding.{its_buffers, charge_fits, held_few, stays_changed, recounted_cost}
 use Rattle.rb_core.proofs.Slots.{acts_from, gone_acts, live_acts, slot_is_there, table_changed}
 use Rattle.rb_core.proofs.Freed.{none_freed, freed_from}
-use Rattle.rb_core.specs.Listings.{IsToldSlot, AreTold}
-use Rattle.rb_core.proofs.Telling.{told_changed}
+use Rattle.rb_core.specs.Listings.{SlotListsOn, CanListOn}
+use Rattle.rb_core.proofs.Listings.{lists_changed}
 use Rattle.std.specs.Map.{values_of}
 use Rattle.rb_core.proofs.ByHint.{distinct_numbers}
 use Rattle.rb_core.proofs.connections.Connections.give.Goals as goal
@@ -74,13 +74,13 @@ pub returns-clause-free : goal.returns-clause-free
 returns-clause-free c = freed_from (the_view c.self.inside) c.args.self.now _ c.self.view_is
     (none_freed (the_view c.self.inside) c.in-Some.key c.in-Some-get_mut.slot.now c.give.new.self (sym c.in-Some-get_mut.ensures.value) c.give.ensures.stays.number c.give.ensures.awaits)
 
-pub give-requires-clause-told : goal.give-requires-clause-told
-give-requires-clause-told c =
+pub give-requires-clause-lists : goal.give-requires-clause-lists
+give-requires-clause-lists c =
     let source = source_for c.args.host c.args.registry.now in
-    All-value_at (IsToldSlot source) c.self.inside.slots.entries c.in-Some.key c.in-Some-get_mut.slot.now
-    (subst (λ t. AreTold source t) (sym c.self.view_is) c.requires.told) (sym c.in-Some-get_mut.ensures.value)
+    All-value_at (SlotListsOn source) c.self.inside.slots.entries c.in-Some.key c.in-Some-get_mut.slot.now
+    (subst (λ t. CanListOn source t) (sym c.self.view_is) c.requires.lists) (sym c.in-Some-get_mut.ensures.value)
 
-pub returns-clause-told : goal.returns-clause-told
-returns-clause-told c =
+pub returns-clause-lists : goal.returns-clause-lists
+returns-clause-lists c =
     let source = source_for c.args.host c.args.registry.now in
-    told_changed (the_view c.self.inside) c.args.self.now c.self.view_is source c.in-Some.key c.give.new.self c.requires.told c.give.ensures.told
+    lists_changed (the_view c.self.inside) c.args.self.now c.self.view_is source c.in-Some.key c.give.new.self c.requires.lists c.give.ensures.lists

@@ -11,7 +11,7 @@ use Rattle.rb_core.proofs.GoingOn.{goes_on_same}
 use Rattle.rb_core.proofs.Holding.{room_for_one, within_pushed, held_pushed}
 use Rattle.rb_core.proofs.Slots.{acts_from, full_acts, spent_acts, opened_acts, numbered-more}
 use Rattle.rb_core.proofs.Freed.{none_freed_by_open, freed_from}
-use Rattle.rb_core.proofs.Telling.{keeps_more}
+use Rattle.rb_core.proofs.Listings.{keeps_more}
 use Rattle.rb_core.proofs.connections.Connections.open.Goals as goal
 
 pub returns-then-len-self-clause-acts : goal.returns-then-len-self-clause-acts
@@ -72,7 +72,7 @@ returns-then-self-clause-goes_on c = goes_on_same _
 
 pub returns-clause-goes_on : goal.returns-clause-goes_on
 returns-clause-goes_on c = record {
-  told = keeps_more (the_view c.self.inside) c.args.self.now c.self.view_is _ c.put_slot-key.new.slots.entries c.put_slot-key.ensures.last (λ source. tt);
+  lists = keeps_more (the_view c.self.inside) c.args.self.now c.self.view_is _ c.put_slot-key.new.slots.entries c.put_slot-key.ensures.last (λ source. tt);
   free = freed_from (the_view c.self.inside) c.args.self.now _ c.self.view_is (none_freed_by_open (the_view c.self.inside) _ _ c.put_slot-key.ensures.last refl refl);
   stays = rw (← c.self.view_is) (record {
     conns = refl;

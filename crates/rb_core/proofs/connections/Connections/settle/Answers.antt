@@ -11,7 +11,7 @@ use Rattle.rb_core.proofs.Slots.{gone_stays, live_changed, slot_is_there, table_
 use Rattle.std.proofs.Common.{◌≡◌, true, refl}
 use Rattle.rb_core.specs.Awaits.{has_idle}
 use Rattle.rb_core.proofs.Freed.{found_live, none_idle, one_freed, now_awaits, only_from}
-use Rattle.rb_core.proofs.Telling.{told_changed}
+use Rattle.rb_core.proofs.Listings.{lists_changed}
 use Rattle.std.specs.Map.{values_of}
 use Rattle.rb_core.proofs.ByHint.{distinct_numbers}
 use Rattle.rb_core.proofs.connections.Connections.settle.Goals as goal
@@ -85,7 +85,7 @@ returns-clause-awaits c = λ forwarded idle.
     let l = found_live c.args.id c.in-Some.key c.self.inside.slots.entries c.in-Some-get_mut.slot.now c.self.invariant.distinct (sym c.in-Some.ensures.key) (sym c.in-Some-get_mut.ensures.value) in
     now_awaits (the_view c.self.inside) c.args.id c.in-Some.key c.in-Some-get_mut.slot.now c.settle.new.self c.self.invariant.numbers (sym c.in-Some-get_mut.ensures.value) l.0 c.settle.ensures.stays.number (c.settle.ensures.awaits forwarded)
 
-pub returns-clause-told : goal.returns-clause-told
-returns-clause-told c =
+pub returns-clause-lists : goal.returns-clause-lists
+returns-clause-lists c =
     let source = source_for c.args.host c.args.registry.now in
-    told_changed (the_view c.self.inside) c.args.self.now c.self.view_is source c.in-Some.key c.settle.new.self c.requires.told c.settle.ensures.told
+    lists_changed (the_view c.self.inside) c.args.self.now c.self.view_is source c.in-Some.key c.settle.new.self c.requires.lists c.settle.ensures.lists

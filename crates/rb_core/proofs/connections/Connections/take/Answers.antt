@@ -85,4 +85,4 @@ returns-in_default-clause-goes_on c = goes_on_same _
 pub returns-clause-goes_on : goal.returns-clause-goes_on
 returns-clause-goes_on c =
     goes_on_changed (the_view c.self.inside) c.args.self.now c.self.view_is c.in-Some.key c.in-Some-get_mut.slot.now c.take-received.new.self (sym c.in-Some-get_mut.ensures.value)
-    c.take-received.ensures.told c.take-received.ensures.stays.number c.take-received.ensures.awaits c.recounted-self-inside.ensures.within
+    c.take-received.ensures.lists c.take-received.ensures.stays.number c.take-received.ensures.awaits c.recounted-self-inside.ensures.within

@@ -7,7 +7,7 @@ use Rattle.rb_core.specs.declared.slot.Heard.{Heard}
 use Rattle.rb_core.specs.StandsFor.{Held}
 use Rattle.rb_core.specs.Core.{context_of, without_arguments}
 use Rattle.rb_core.specs.AtOnce.{AnswersGiving, GivesAtOnce}
-use Rattle.rb_core.proofs.Answering.{can_serve, told_for_room, told_for_view, sees}
+use Rattle.rb_core.proofs.Answering.{can_serve, lists_for_room, lists_for_view, sees}
 use Rattle.rb_core.proofs.Cores.{core_changed}
 use Rattle.rb_core.proofs.engine.Core.answer_held.Goals as goal
 
@@ -28,10 +28,10 @@ lent_all c = all_lent c.lend-arguments.result.now c.self.inside.arguments.bytes 
 is_seen : (c : goal.After-clear) → c.context-context.result ≡ context_of (the_view c.self.inside) (Tcp c.args.id c.args.heard.peer)
 is_seen c = sees (the_view c.self.inside) c.args.self.now c.context-context.result (Tcp c.args.id c.args.heard.peer) c.self.view_is c.context-context.ensures
 
-pub answer-done-requires-clause-told : goal.answer-done-requires-clause-told
-answer-done-requires-clause-told c =
-    told_for_room (the_view c.self.inside) (Tcp c.args.id c.args.heard.peer) c.context-context.result
-    (sees (the_view c.self.inside) c.args.self.now c.context-context.result (Tcp c.args.id c.args.heard.peer) c.self.view_is c.context-context.ensures) c.self.invariant.told
+pub answer-done-requires-clause-lists : goal.answer-done-requires-clause-lists
+answer-done-requires-clause-lists c =
+    lists_for_room (the_view c.self.inside) (Tcp c.args.id c.args.heard.peer) c.context-context.result
+    (sees (the_view c.self.inside) c.args.self.now c.context-context.result (Tcp c.args.id c.args.heard.peer) c.self.view_is c.context-context.ensures) c.self.invariant.lists
 
 pub returns-clause-acts : goal.returns-clause-acts
 returns-clause-acts c =
@@ -47,7 +47,7 @@ returns-clause-count c =
 pub invariant_of-self : goal.invariant_of-self
 invariant_of-self c =
     core_changed _ _ _ _ _ _ _ _ _ _ _ _ _ c.self.invariant c.answer-done.ensures.goes_on.stays c.answer-done.ensures.goes_on.frame refl refl c.self.invariant.len c.self.invariant.short
-    (c.answer-done.ensures.goes_on.awaited c.self.invariant.awaited) (told_for_view (the_view c.self.inside) (Tcp c.args.id c.args.heard.peer) c.context-context.result (is_seen c) c.answer-done.new.connections c.answer-done.new.books c.answer-done.ensures.goes_on.told) (search rules) c.answer-done.ensures.draft.empty (search rules)
+    (c.answer-done.ensures.goes_on.awaited c.self.invariant.awaited) (lists_for_view (the_view c.self.inside) (Tcp c.args.id c.args.heard.peer) c.context-context.result (is_seen c) c.answer-done.new.connections c.answer-done.new.books c.answer-done.ensures.goes_on.lists) (search rules) c.answer-done.ensures.draft.empty (search rules)
 
 pub answer-done-requires-clause-can : goal.answer-done-requires-clause-can
 answer-done-requires-clause-can c =

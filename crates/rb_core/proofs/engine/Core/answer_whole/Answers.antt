@@ -9,7 +9,7 @@ use Rattle.rb_model.specs.Calls.{kept_of}
 use Rattle.rb_core.specs.Core.{context_of}
 use Rattle.rb_core.specs.Slots.{heard_of}
 use Rattle.rb_core.specs.AtOnce.{AnswersGiving, GivesAtOnce}
-use Rattle.rb_core.proofs.Answering.{can_serve, told_for_room, told_for_view, sees}
+use Rattle.rb_core.proofs.Answering.{can_serve, lists_for_room, lists_for_view, sees}
 use Rattle.rb_core.proofs.Cores.{core_changed}
 use Rattle.rb_core.proofs.engine.Core.answer_whole.Goals as goal
 
@@ -28,10 +28,10 @@ counted_by room id peer said content kept view now n says keeps is counts =
     (subst (λ (xs : List ℕ). GivesAtOnce room id (heard_of peer content) xs view n) keeps
     (subst (λ (v : Verdict). GivesAtOnce room id (record { peer = peer; verdict = v }) kept view n) says counts))
 
-pub answer-requires-clause-told : goal.answer-requires-clause-told
-answer-requires-clause-told c =
-    told_for_room (the_view c.self.inside) (Tcp c.args.id c.args.whole.peer) c.context-context.result
-    (sees (the_view c.self.inside) c.args.self.now c.context-context.result (Tcp c.args.id c.args.whole.peer) c.self.view_is c.context-context.ensures) c.self.invariant.told
+pub answer-requires-clause-lists : goal.answer-requires-clause-lists
+answer-requires-clause-lists c =
+    lists_for_room (the_view c.self.inside) (Tcp c.args.id c.args.whole.peer) c.context-context.result
+    (sees (the_view c.self.inside) c.args.self.now c.context-context.result (Tcp c.args.id c.args.whole.peer) c.self.view_is c.context-context.ensures) c.self.invariant.lists
 
 is_seen : (c : goal.After-slice_known-2-1) → c.context-context.result ≡ context_of (the_view c.self.inside) (Tcp c.args.id c.args.whole.peer)
 is_seen c = sees (the_view c.self.inside) c.args.self.now c.context-context.result (Tcp c.args.id c.args.whole.peer) c.self.view_is c.context-context.ensures
@@ -49,7 +49,7 @@ returns-clause-count c =
 pub invariant_of-self : goal.invariant_of-self
 invariant_of-self c =
     core_changed _ _ _ _ _ _ _ _ _ _ _ _ _ c.self.invariant c.answer.ensures.goes_on.stays c.answer.ensures.goes_on.frame refl refl c.self.invariant.len c.self.invariant.short
-    (c.answer.ensures.goes_on.awaited c.self.invariant.awaited) (told_for_view (the_view c.self.inside) (Tcp c.args.id c.args.whole.peer) c.context-context.result (is_seen c) c.answer.new.connections c.answer.new.books c.answer.ensures.goes_on.told) (search rules) c.answer.ensures.draft.empty (search rules)
+    (c.answer.ensures.goes_on.awaited c.self.invariant.awaited) (lists_for_view (the_view c.self.inside) (Tcp c.args.id c.args.whole.peer) c.context-context.result (is_seen c) c.answer.new.connections c.answer.new.books c.answer.ensures.goes_on.lists) (search rules) c.answer.ensures.draft.empty (search rules)
 
 pub answer-requires-clause-can : goal.answer-requires-clause-can
 answer-requires-clause-can c =

@@ -22,5 +22,5 @@ returns-clause-acts c =
 pub invariant_of-self-2 : goal.invariant_of-self-2
 invariant_of-self-2 c =
     core_changed _ _ _ _ _ _ _ _ _ _ _ _ _ c.self.invariant c.in_ok-close.ensures.goes_on.stays c.drop_caller.ensures.frame refl refl c.self.invariant.len c.self.invariant.short
-    (search rules) (rw c.drop_caller.ensures.registry (c.in_ok-close.ensures.goes_on.told (source_of (the_view c.self.inside)) c.self.invariant.told))
+    (search rules) (rw c.drop_caller.ensures.registry (c.in_ok-close.ensures.goes_on.lists (source_of (the_view c.self.inside)) c.self.invariant.lists))
     c.self.invariant.is_draft c.self.invariant.empty c.self.invariant.has_arguments

@@ -18,7 +18,7 @@ use Rattle.rb_core.specs.declared.replies.Served.TheVariants.{Told}
 use Rattle.rb_core.specs.declared.types.Outcome.{Outcome as Written}
 use Rattle.rb_core.specs.declared.types.Outcome.TheVariants as outcomes
 use Rattle.rb_core.specs.Serving.{IsWritten, ServesInRoom}
-use Rattle.rb_core.proofs.Answering.{told_for_room, told_for_view, served_by}
+use Rattle.rb_core.proofs.Answering.{lists_for_room, lists_for_view, served_by}
 use Rattle.rb_core.proofs.Steps.{datagram_acts}
 use Rattle.rb_core.proofs.Begun.{began, acts_begun}
 use Rattle.rb_core.proofs.CallBounds.{datagram_within}
@@ -36,9 +36,9 @@ of_content context said arguments content before after old new given says behind
     subst (λ (xs : List ℕ). ServesInRoom context (message_of content) xs before old after new given) behind
     (subst (λ (m : Message). ServesInRoom context m arguments before old after new given) says acts)
 
-pub serve_verdict-served-requires-clause-told : goal.serve_verdict-served-requires-clause-told
-serve_verdict-served-requires-clause-told c =
-    told_for_room (record (began (the_view c.self.inside) c.count-self-inside.result) { clock = c.max-self-inside.result }) (Udp c.args.peer) c.context-context.result c.context-context.ensures c.self.invariant.told
+pub serve_verdict-served-requires-clause-lists : goal.serve_verdict-served-requires-clause-lists
+serve_verdict-served-requires-clause-lists c =
+    lists_for_room (record (began (the_view c.self.inside) c.count-self-inside.result) { clock = c.max-self-inside.result }) (Udp c.args.peer) c.context-context.result c.context-context.ensures c.self.invariant.lists
 
 written_is : (given : Written) (reply : List ℕ) → IsWritten (Told given) reply → reply ≡ reply_in (outcome_with given reply)
 written_is outcomes.NoCall reply none = none
@@ -82,5 +82,5 @@ invariant_of-self-2 c =
     core_changed _ _ _ _ _ _ _ _ _ _ _ _ _ c.self.invariant c.serve_verdict-served.ensures.open.stays
     c.serve_verdict-served.ensures.leaves.frame (search rules) (search rules) c.len.ensures.len c.serve_verdict-served.ensures.leaves.reply.short
     (awaited_by_udp old.books.forwards books.forwards c.args.peer table awaited anew)
-    (told_for_view old (Udp c.args.peer) c.context-context.result c.context-context.ensures table books c.serve_verdict-served.ensures.told)
+    (lists_for_view old (Udp c.args.peer) c.context-context.result c.context-context.ensures table books c.serve_verdict-served.ensures.lists)
     (search rules) (search rules) (search rules)

@@ -78,7 +78,7 @@ returns-in-Some-clause-cheap c = λ s h none.
 
 pub invariant_of-self : goal.invariant_of-self
 invariant_of-self c =
-    core_moved _ _ _ _ _ _ _ _ _ _ c.self.invariant c.hear.ensures.goes_on.stays (awaited_by_table c.self.inside.books.forwards _ _ c.self.invariant.awaited c.hear.ensures.goes_on.free) (c.hear.ensures.goes_on.told _)
+    core_moved _ _ _ _ _ _ _ _ _ _ c.self.invariant c.hear.ensures.goes_on.stays (awaited_by_table c.self.inside.books.forwards _ _ c.self.invariant.awaited c.hear.ensures.goes_on.free) (c.hear.ensures.goes_on.lists _)
     c.self.invariant.is_draft c.self.invariant.empty (search rules)
 
 -- ---- any piece
@@ -187,10 +187,10 @@ returns-clause-cheap c = λ s h none.
 
 pub invariant_of-self-in_default-heard : goal.invariant_of-self-in_default-heard
 invariant_of-self-in_default-heard c =
-    core_moved _ _ _ _ _ _ _ _ _ _ c.self.invariant (stays_twice _ _ _ c.hear.ensures.goes_on.stays c.in_ok-count.ensures.goes_on.stays) (awaited_by_table c.self.inside.books.forwards _ _ (awaited_by_table c.self.inside.books.forwards _ _ c.self.invariant.awaited c.hear.ensures.goes_on.free) c.in_ok-count.ensures.goes_on.free) (λ told. c.in_ok-count.ensures.goes_on.told _ (c.hear.ensures.goes_on.told _ told))
+    core_moved _ _ _ _ _ _ _ _ _ _ c.self.invariant (stays_twice _ _ _ c.hear.ensures.goes_on.stays c.in_ok-count.ensures.goes_on.stays) (awaited_by_table c.self.inside.books.forwards _ _ (awaited_by_table c.self.inside.books.forwards _ _ c.self.invariant.awaited c.hear.ensures.goes_on.free) c.in_ok-count.ensures.goes_on.free) (λ told. c.in_ok-count.ensures.goes_on.lists _ (c.hear.ensures.goes_on.lists _ told))
     c.self.invariant.is_draft c.self.invariant.empty (search rules)
 
 pub invariant_of-self-2 : goal.invariant_of-self-2
 invariant_of-self-2 c =
-    core_moved _ _ _ _ _ _ _ _ _ _ c.self.invariant (stays_twice _ _ _ c.hear.ensures.goes_on.stays c.in_ok-count.ensures.goes_on.stays) (awaited_by_table c.self.inside.books.forwards _ _ (awaited_by_table c.self.inside.books.forwards _ _ c.self.invariant.awaited c.hear.ensures.goes_on.free) c.in_ok-count.ensures.goes_on.free) (λ told. c.in_ok-count.ensures.goes_on.told _ (c.hear.ensures.goes_on.told _ told))
+    core_moved _ _ _ _ _ _ _ _ _ _ c.self.invariant (stays_twice _ _ _ c.hear.ensures.goes_on.stays c.in_ok-count.ensures.goes_on.stays) (awaited_by_table c.self.inside.books.forwards _ _ (awaited_by_table c.self.inside.books.forwards _ _ c.self.invariant.awaited c.hear.ensures.goes_on.free) c.in_ok-count.ensures.goes_on.free) (λ told. c.in_ok-count.ensures.goes_on.lists _ (c.hear.ensures.goes_on.lists _ told))
     c.self.invariant.is_draft c.self.invariant.empty (search rules)

@@ -18,5 +18,5 @@ returns-clause-acts c =
 
 pub invariant_of-self : goal.invariant_of-self
 invariant_of-self c =
-    core_moved _ _ _ _ _ _ _ _ _ _ c.self.invariant c.expire.ensures.goes_on.stays (awaited_by_table c.self.inside.books.forwards _ _ c.self.invariant.awaited c.expire.ensures.goes_on.free) (c.expire.ensures.goes_on.told _)
+    core_moved _ _ _ _ _ _ _ _ _ _ c.self.invariant c.expire.ensures.goes_on.stays (awaited_by_table c.self.inside.books.forwards _ _ c.self.invariant.awaited c.expire.ensures.goes_on.free) (c.expire.ensures.goes_on.lists _)
     c.self.invariant.is_draft c.self.invariant.empty c.self.invariant.has_arguments

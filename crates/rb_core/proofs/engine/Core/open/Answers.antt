@@ -21,5 +21,5 @@ returns-clause-acts c =
 
 pub invariant_of-self-2 : goal.invariant_of-self-2
 invariant_of-self-2 c =
-    core_moved _ _ _ _ _ _ _ _ _ _ c.self.invariant c.in_ok-number.ensures.goes_on.stays (awaited_by_table c.self.inside.books.forwards _ _ c.self.invariant.awaited c.in_ok-number.ensures.goes_on.free) (c.in_ok-number.ensures.goes_on.told _)
+    core_moved _ _ _ _ _ _ _ _ _ _ c.self.invariant c.in_ok-number.ensures.goes_on.stays (awaited_by_table c.self.inside.books.forwards _ _ c.self.invariant.awaited c.in_ok-number.ensures.goes_on.free) (c.in_ok-number.ensures.goes_on.lists _)
     c.self.invariant.is_draft c.self.invariant.empty c.self.invariant.has_arguments

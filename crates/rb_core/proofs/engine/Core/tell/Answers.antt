@@ -4,5 +4,5 @@ use Rattle.rb_core.proofs.engine.Core.tell.Goals as goal
 
 pub invariant_of-self : goal.invariant_of-self
 invariant_of-self c =
-    core_moved _ _ _ _ _ _ _ _ _ _ c.self.invariant c.settle.ensures.stays (search rules) (λ told. c.settle.ensures.told)
+    core_moved _ _ _ _ _ _ _ _ _ _ c.self.invariant c.settle.ensures.stays (search rules) (λ told. c.settle.ensures.lists)
     (search rules) (search rules) c.self.invariant.has_arguments

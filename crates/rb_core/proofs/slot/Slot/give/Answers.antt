@@ -6,7 +6,7 @@ use Rattle.rb_model.specs.Connections.{phase_when_given}
 use Rattle.rb_core.specs.declared.slot.Slot.{Slot}
 use Rattle.rb_core.specs.StandsFor.{source_for, StandsForPhase}
 use Rattle.rb_core.proofs.OneSlot.{none_given, some_given, goes_on_giving, is_given, nothing_pending, giving_phase}
-use Rattle.rb_core.proofs.Progress.{pending_few, stays, moves, ends, slot_told}
+use Rattle.rb_core.proofs.Progress.{pending_few, stays, moves, ends, slot_lists_on}
 use Rattle.rb_core.proofs.slot.Slot.give.Goals as goal
 
 least : (n : ℕ) → min n 0 ≡ 0
@@ -51,5 +51,5 @@ returns-else-giving-clause-acts c =
     (goes_on_giving source s.giving old.buffer c.show.new.self.window _ o
     (moves source c.in-Giving.giving _ _ o g c.min-more.result c.show.new.self.window s.giving (omega arith) c.if-giving.false c.requires.buffers.window_cap s.shows)))
 
-pub returns-else-giving-clause-told : goal.returns-else-giving-clause-told
-returns-else-giving-clause-told c = slot_told _ _ _ c.show.new.self c.show.ensures.shows
+pub returns-else-giving-clause-lists : goal.returns-else-giving-clause-lists
+returns-else-giving-clause-lists c = slot_lists_on _ _ _ c.show.new.self c.show.ensures.shows

@@ -1,7 +1,7 @@
 use Rattle.std.proofs.Common.{ℕ, Some, None, refl, ap}
 use Rattle.rb_xdr.specs.Kept.{Kept}
 use Rattle.rb_model.specs.Connections.{settled}
-use Rattle.rb_core.proofs.Progress.{slot_told, slot_begins}
+use Rattle.rb_core.proofs.Progress.{slot_lists_on, slot_begins}
 use Rattle.rb_core.proofs.Serving.{fresh_is_some}
 use Rattle.rb_core.proofs.slot.Slot.settle.Goals as goal
 
@@ -26,8 +26,8 @@ returns-in-Told-Reply-clause-stands c = λ x h.
     (slot_begins _ _ _ c.show.new.self c.show.ensures.shows c.args.clock x c.args.draft.now.bytes None h.number h.peer refl c.requires.buffers.window_cap
     (ap (λ (k : Kept). k.bytes) c.swap.ensures.x_after) refl)
 
-pub returns-in-Told-Reply-clause-told : goal.returns-in-Told-Reply-clause-told
-returns-in-Told-Reply-clause-told c = slot_told _ _ _ c.show.new.self c.show.ensures.shows
+pub returns-in-Told-Reply-clause-lists : goal.returns-in-Told-Reply-clause-lists
+returns-in-Told-Reply-clause-lists c = slot_lists_on _ _ _ c.show.new.self c.show.ensures.shows
 
 pub show-requires-in-Listed-clause-some : goal.show-requires-in-Listed-clause-some
 show-requires-in-Listed-clause-some c =
@@ -40,5 +40,5 @@ returns-in-Listed-clause-stands c = λ x h.
     (slot_begins _ _ _ c.show-in-Listed.new.self c.show-in-Listed.ensures.shows c.args.clock x _ _ h.number h.peer refl c.requires.buffers.window_cap
     (c.new-list.ensures.rest c.args.host) (ap (λ (n : ℕ). Some n) c.new-list.ensures.stamp))
 
-pub returns-in-Listed-clause-told : goal.returns-in-Listed-clause-told
-returns-in-Listed-clause-told c = slot_told _ _ _ c.show-in-Listed.new.self c.show-in-Listed.ensures.shows
+pub returns-in-Listed-clause-lists : goal.returns-in-Listed-clause-lists
+returns-in-Listed-clause-lists c = slot_lists_on _ _ _ c.show-in-Listed.new.self c.show-in-Listed.ensures.shows

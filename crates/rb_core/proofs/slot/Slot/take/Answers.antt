@@ -111,8 +111,8 @@ pub returns-in-Giving-clause-arguments : goal.returns-in-Giving-clause-arguments
 returns-in-Giving-clause-arguments c = λ source x h.
     taken_arguments _ _ c.args.piece.now x TakesNone (nothing_where source c.args.self.now.stage _ _ x.phase c.args.piece.now c.in-Giving.is h.phase) refl
 
-pub returns-in-Idle-clause-told : goal.returns-in-Idle-clause-told
-returns-in-Idle-clause-told c = λ source told. c.feed.ensures.told source
+pub returns-in-Idle-clause-lists : goal.returns-in-Idle-clause-lists
+returns-in-Idle-clause-lists c = λ source told. c.feed.ensures.lists source
 
-pub returns-in-Reading-clause-told : goal.returns-in-Reading-clause-told
-returns-in-Reading-clause-told c = λ source told. c.feed-in-Reading.ensures.told source
+pub returns-in-Reading-clause-lists : goal.returns-in-Reading-clause-lists
+returns-in-Reading-clause-lists c = λ source told. c.feed-in-Reading.ensures.lists source
