@@ -13,3 +13,10 @@ start_daemon() {
     echo "the daemon does not listen"
     return 1
 }
+
+# Runs the events of a daemon's record again, by the command in its first line. The status is 0 where all outputs agree.
+check_record() {
+    local words
+    mapfile -t words < <(sed -n '1s/^# rpcbind //p' "$1" | tr ' ' '\n')
+    "$program" "${words[@]}" < "$1"
+}

@@ -2,7 +2,8 @@
 # Runs real clients and services against the built daemon, in a network, mount and process namespace of its own: a loopback
 # alone, an empty /run, and nothing of the machine is touched. First with /etc/netconfig as it is, then with one of IPv4
 # alone. Needs root, `unshare` and `ip`. What is not installed is skipped, and said so. The word, if there is one, is the
-# path of another built program. The last line is 'N passed, N failed, N skipped'; the status is 1 where one failed.
+# path of another built program. With RECORD=1 in the environment the daemon records its events, and its record is checked
+# at its end. The last line is 'N passed, N failed, N skipped'; the status is 1 where one failed.
 #
 # `rpcinfo` is that of Debian's package rpcbind; a program of tests/peers is built with cc and libtirpc; services are those of
 # nfs-common, nfs-kernel-server, rstatd, rusersd, rwalld, quota and nfs-ganesha-vfs, clients those of rusers and libnfs-utils.
@@ -103,7 +104,8 @@ dump_over_loopback6() {
     exec {socket}<> /dev/tcp/::1/111 || return 1
     printf '\x80\x00\x00\x28\x00\x00\x00\x01\x00\x00\x00\x00\x00\x00\x00\x02\x00\x01\x86\xa0\x00\x00\x00\x04\x00\x00\x00\x04' >&"$socket"
     printf '\0%.0s' $(seq 16) >&"$socket"
-    reply=$(timeout 5 head -c 368 <&"$socket" | od -An -tx1 | tr -d ' \n')
+    reply=$(timeout 5 head -c 368 <&"$socket" | od -An -v -tx1 | tr -d ' \n')
+    echo "$reply" > "$work/reply"
     exec {socket}>&-
     [ "${#reply}" -eq 736 ] && [ "${reply:0:56}" = 8000016c000000010000000100000000000000000000000000000000 ]
 }
@@ -230,10 +232,21 @@ run_ganesha() {
     judge $? "mountd of nfs-ganesha is registered no more at its end"
 }
 
+# What the daemon recorded agrees with a replay, and what a client got over its socket was given by the core.
+run_check() {
+    grep -q 'the limit of this record' "$work/record" && echo "the record reached its limit"
+    check_record "$work/record"
+    judge $? "the record is what a replay gives"
+    grep -q "^#> pending $(cat "$work/reply")\$" "$work/record"
+    judge $? "a reply that a client got is in the record"
+}
+
 # All clients and services, with /etc/netconfig as it stands.
 run_all() {
+    local words=(--local /run/rpcbind.sock --loopback6)
     echo "== $1"
-    start_daemon "$work/daemon" --local /run/rpcbind.sock --loopback6 || exit 1
+    [ -z "${RECORD:-}" ] || words+=(--record "$work/record")
+    start_daemon "$work/daemon" "${words[@]}" || exit 1
     cat "$work/daemon"
     run_rpcinfo
     dump_over_loopback6
@@ -246,6 +259,7 @@ run_all() {
     kill "$daemon"
     wait "$daemon" 2> /dev/null
     daemon=
+    [ -z "${RECORD:-}" ] || run_check
 }
 
 prepare

@@ -7,3 +7,4 @@ pub mod Words
 pub mod HexWords
 pub mod LineWords
 pub mod Comparing
+pub mod Recorded

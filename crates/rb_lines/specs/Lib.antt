@@ -6,3 +6,4 @@ pub mod Worked
 pub mod LineLaws
 pub mod LineGrammar
 pub mod Checking
+pub mod RecordLaws

@@ -1,5 +1,6 @@
 //! What holds of the definitions.
 ghost use Rattle.rb_lines.specs.LineGrammar.{EventsAreSpelled, SkippedSayNothing, BadSpellNothing, PeersAreSpelled};
+ghost use Rattle.rb_lines.specs.RecordLaws.{RecordsAreRead};
 ghost use Rattle.rb_lines.specs.LineLaws.{ReadsTheEvents, StopsAtTheFirstBadLine, RefusesLongText};
 
 /// A text that is short enough reads as the events of its lines where none is bad, and is refused at its first bad
@@ -17,4 +18,10 @@ pub fn lines_are_of_the_grammar()
     ensures skipped { SkippedSayNothing }
     ensures bad { BadSpellNothing }
     ensures peers { PeersAreSpelled }
+{}
+
+/// What is recorded of a run from an opening is read as its events, and what it says of outputs is what they gave, where it
+/// is no longer than an input may be.
+pub fn records_are_read()
+    ensures { RecordsAreRead }
 {}

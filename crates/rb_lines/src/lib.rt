@@ -12,7 +12,7 @@ mod worked;
 
 pub use checking::{check_text, run_check};
 pub use fields::decimal;
-pub use laws::{lines_are_of_the_grammar, text_reads_as_its_lines};
+pub use laws::{lines_are_of_the_grammar, records_are_read, text_reads_as_its_lines};
 pub use limits::{BadLimit, bad_limit};
 pub use lines::{ReadFault, read_events};
 pub use running::{Beginning, Fault, explain, run_replay};

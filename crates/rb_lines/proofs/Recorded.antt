@@ -1,0 +1,546 @@
+-- Lines that were recorded, read back.
+use Rattle.std.proofs.Common.{◌≡◌, ◌<◌, ◌/◌, ◌%◌, ℕ, zero, suc, false, eqb, codes, List, [], ◌∷◌, ◌++◌, length, map, slice_index, Option, Some, None, refl, sym, ap, subst, ◌∙◌, arith, inr, All, append_assoc}
+use Rattle.std.specs.List.{flat_map, onto_first, AllByRecursion}
+use Rattle.std.specs.Fmt.{decimal}
+use Rattle.std.specs.Char.{digit_value}
+use Rattle.std.proofs.lemmas.Fmt.{decimal_is_IsNumeral}
+use Rattle.std.proofs.lemmas.List.Elements.{All-append, All-cons, All-nil, All-head, All-tail}
+use Rattle.std.proofs.lemmas.List.Splits.{slice_split-cons_yes, slice_split-cons_no}
+use Rattle.hex.specs.Hex.{encode_with, encode_lower, lower_digits}
+use Rattle.rb_rpc.specs.declared.peer.Peer.{Peer}
+use Rattle.rb_rpc.specs.Peers.{peer_text}
+use Rattle.rb_forward.specs.Forwards.{Unsent as UnsentCall}
+use Rattle.rb_proto.specs.declared.listener.Listener.{Listener}
+use Rattle.rb_model.specs.declared.types.Limits.{Limits}
+use Rattle.rb_model.specs.declared.types.CoreFault.{CoreFault}
+use Rattle.rb_model.specs.declared.types.CoreFault.TheVariants.{NoMemory, BadLimits, Full, Spent, Gone}
+use Rattle.rb_model.specs.State.{State, opening}
+use Rattle.rb_model.specs.Step.{Event, Output, step, run}
+use Rattle.rb_model.specs.Step.Event.{Datagram, Open, Bytes, Pending, Gave, Closed, NextLost, Unsent, Sent, Forward, Expire}
+use Rattle.rb_model.specs.Step.Output.{Opened, Refused, TooMuch, Took, TookAndClosed, IsPending, Done, LostIs, Replied, Forwarded, Silent, UnsentIs, Ignored, Nothing, ConnectionClosed, Ready, RepliedTo}
+use Rattle.rb_record.specs.Printing.{hex_text, refusal_text, bytes_line, peer_line, text_of}
+use Rattle.rb_record.specs.Entries.{event_text, entry_text, run_text, limits_text, listener_text, options_text}
+use Rattle.rb_lines.specs.Lines.{line, lines_of}
+use Rattle.rb_lines.specs.Lines.Line.{Skipped, Happens}
+use Rattle.rb_lines.specs.LineLaws.{event_in, has_bad}
+use Rattle.rb_lines.specs.LineGrammar.{Spells, SpellsNumber, SpellsPeer, SpellsByte, SpellsBytes, SpellsHex, ◌␣◌, SpellsEvent}
+use Rattle.rb_lines.specs.Checking.{said_by, said, printed}
+use Rattle.rb_lines.specs.RecordLaws.{Fits, AreBytes, IsPeer, HasLine, HasUnsentLine, HasLostLine, HasOutputLine, RecordsAreRead}
+use Rattle.rb_lines.proofs.LineLaws.{reads_the_events}
+use Rattle.rb_lines.proofs.Words.{IsWithout, numeral_without, peer_without}
+use Rattle.rb_lines.proofs.LineWords.{line_of, skipped_say_nothing}
+
+-- ---- lines of a text
+
+-- a line that ends, and the text behind it
+line_then : (front rest : List ℕ) → IsWithout 10 front → lines_of (front ++ 10 ∷ rest) ≡ front ∷ lines_of rest
+unfolding lines_of
+line_then [] rest none = slice_split-cons_yes (λ b. eqb b 10) 10 rest refl
+line_then (x ∷ front) rest none =
+    let P : ℕ → Type 0 = λ b. eqb b 10 ≡ false in
+    slice_split-cons_no (λ b. eqb b 10) x (front ++ 10 ∷ rest) (All-head P x front none) ∙ ap (onto_first x) (line_then front rest (All-tail P x front none))
+
+-- A text is one line, with its end.
+record IsLine (text : List ℕ) : Type 0 where
+  body : List ℕ
+  whole : text ≡ body ++ 10 ∷ []
+  apart : IsWithout 10 body
+
+lines_behind : (text rest : List ℕ) (l : IsLine text) → lines_of (text ++ rest) ≡ l.body ∷ lines_of rest
+lines_behind text rest l =
+    ap (λ (t : List ℕ). lines_of (t ++ rest)) l.whole ∙ ap lines_of (append_assoc l.body (10 ∷ []) rest) ∙ line_then l.body rest l.apart
+
+-- ---- what has no line feed
+
+joined : (xs ys : List ℕ) → IsWithout 10 xs → IsWithout 10 ys → IsWithout 10 (xs ++ ys)
+joined xs ys a b = All-append (λ (b : ℕ). eqb b 10 ≡ false) xs ys a b
+
+behind : (x : ℕ) (xs : List ℕ) → eqb x 10 ≡ false → IsWithout 10 xs → IsWithout 10 (x ∷ xs)
+behind x xs a b = All-cons (λ (b : ℕ). eqb b 10 ≡ false) x xs a b
+
+nothing : IsWithout 10 []
+nothing = All-nil (λ (b : ℕ). eqb b 10 ≡ false)
+
+number_spelled : (n : ℕ) → Fits n → SpellsNumber n (decimal n)
+number_spelled n fits = let is = decimal_is_IsNumeral n fits in record { digits = is.0; value = is.1; fits = fits }
+
+number_apart : (n : ℕ) → Fits n → IsWithout 10 (decimal n)
+number_apart n fits = numeral_without 10 (decimal n) (decimal_is_IsNumeral n fits).0.1 (λ l h. omega arith)
+
+peer_spelled : (p : Peer) → IsPeer p → SpellsPeer p (peer_text p)
+peer_spelled p is = record { count = is.count; host_fits = is.host; port_fits = is.port; text_is = refl }
+
+peer_apart : (p : Peer) → IsPeer p → IsWithout 10 (peer_text p)
+peer_apart p is = peer_without 10 p (peer_text p) (peer_spelled p is) (λ l h. omega arith) (λ e. omega arith) (λ e. omega arith)
+
+-- ---- hexadecimal digits
+
+digit_apart : (i : ℕ) → eqb (slice_index lower_digits i) 10 ≡ false
+digit_apart zero = refl
+digit_apart (suc zero) = refl
+digit_apart (suc (suc zero)) = refl
+digit_apart (suc (suc (suc zero))) = refl
+digit_apart (suc (suc (suc (suc zero)))) = refl
+digit_apart (suc (suc (suc (suc (suc zero))))) = refl
+digit_apart (suc (suc (suc (suc (suc (suc zero)))))) = refl
+digit_apart (suc (suc (suc (suc (suc (suc (suc zero))))))) = refl
+digit_apart (suc (suc (suc (suc (suc (suc (suc (suc zero)))))))) = refl
+digit_apart (suc (suc (suc (suc (suc (suc (suc (suc (suc zero))))))))) = refl
+digit_apart (suc (suc (suc (suc (suc (suc (suc (suc (suc (suc zero)))))))))) = refl
+digit_apart (suc (suc (suc (suc (suc (suc (suc (suc (suc (suc (suc zero))))))))))) = refl
+digit_apart (suc (suc (suc (suc (suc (suc (suc (suc (suc (suc (suc (suc zero)))))))))))) = refl
+digit_apart (suc (suc (suc (suc (suc (suc (suc (suc (suc (suc (suc (suc (suc zero))))))))))))) = refl
+digit_apart (suc (suc (suc (suc (suc (suc (suc (suc (suc (suc (suc (suc (suc (suc zero)))))))))))))) = refl
+digit_apart (suc (suc (suc (suc (suc (suc (suc (suc (suc (suc (suc (suc (suc (suc (suc zero))))))))))))))) = refl
+digit_apart (suc (suc (suc (suc (suc (suc (suc (suc (suc (suc (suc (suc (suc (suc (suc (suc i)))))))))))))))) = refl
+
+digit_value_of : (i : ℕ) → i < 16 → digit_value (slice_index lower_digits i) ≡ i
+digit_value_of zero lt = refl
+digit_value_of (suc zero) lt = refl
+digit_value_of (suc (suc zero)) lt = refl
+digit_value_of (suc (suc (suc zero))) lt = refl
+digit_value_of (suc (suc (suc (suc zero)))) lt = refl
+digit_value_of (suc (suc (suc (suc (suc zero))))) lt = refl
+digit_value_of (suc (suc (suc (suc (suc (suc zero)))))) lt = refl
+digit_value_of (suc (suc (suc (suc (suc (suc (suc zero))))))) lt = refl
+digit_value_of (suc (suc (suc (suc (suc (suc (suc (suc zero)))))))) lt = refl
+digit_value_of (suc (suc (suc (suc (suc (suc (suc (suc (suc zero))))))))) lt = refl
+digit_value_of (suc (suc (suc (suc (suc (suc (suc (suc (suc (suc zero)))))))))) lt = refl
+digit_value_of (suc (suc (suc (suc (suc (suc (suc (suc (suc (suc (suc zero))))))))))) lt = refl
+digit_value_of (suc (suc (suc (suc (suc (suc (suc (suc (suc (suc (suc (suc zero)))))))))))) lt = refl
+digit_value_of (suc (suc (suc (suc (suc (suc (suc (suc (suc (suc (suc (suc (suc zero))))))))))))) lt = refl
+digit_value_of (suc (suc (suc (suc (suc (suc (suc (suc (suc (suc (suc (suc (suc (suc zero)))))))))))))) lt = refl
+digit_value_of (suc (suc (suc (suc (suc (suc (suc (suc (suc (suc (suc (suc (suc (suc (suc zero))))))))))))))) lt = refl
+digit_value_of (suc (suc (suc (suc (suc (suc (suc (suc (suc (suc (suc (suc (suc (suc (suc (suc i)))))))))))))))) lt = absurd (omega (arith, lt))
+
+digits_apart : (bytes : List ℕ) → IsWithout 10 (encode_lower bytes)
+unfolding encode_with
+digits_apart [] = nothing
+digits_apart (byte ∷ bytes) =
+    behind (slice_index lower_digits (byte / 16)) (slice_index lower_digits (byte % 16) ∷ encode_lower bytes) (digit_apart (byte / 16))
+    (behind (slice_index lower_digits (byte % 16)) (encode_lower bytes) (digit_apart (byte % 16)) (digits_apart bytes))
+
+hex_apart : (bytes : List ℕ) → IsWithout 10 (hex_text bytes)
+hex_apart [] = behind 45 [] refl nothing
+hex_apart (byte ∷ bytes) = digits_apart (byte ∷ bytes)
+
+byte_spelled : (byte : ℕ) → byte < 256 → SpellsByte byte (slice_index lower_digits (byte / 16)) (slice_index lower_digits (byte % 16))
+byte_spelled byte fits =
+    let high : byte / 16 < 16 = omega (arith, fits) in
+    let low : byte % 16 < 16 = omega arith in
+    let a = digit_value_of (byte / 16) high in
+    let b = digit_value_of (byte % 16) low in
+    record {
+      high_digit = omega (arith, a, high);
+      low_digit = omega (arith, b, low);
+      value = omega (arith, a, b);
+    }
+
+bytes_spelled : (bytes : List ℕ) → AreBytes bytes → SpellsBytes bytes (encode_lower bytes)
+unfolding encode_with
+bytes_spelled [] are = tt
+bytes_spelled (byte ∷ bytes) are = (byte_spelled byte are.0, bytes_spelled bytes are.1)
+
+hex_spelled : (bytes : List ℕ) → AreBytes bytes → SpellsHex bytes (hex_text bytes)
+hex_spelled [] are = refl
+hex_spelled (byte ∷ bytes) are = bytes_spelled (byte ∷ bytes) are
+
+-- ---- the line of an event
+
+spaced : (Front Back : List ℕ → Type 0) (front back : List ℕ) → Front front → Back back → (Front ␣ Back) (front ++ 32 ∷ back)
+spaced Front Back front back f b = record { front = front; back = back; in_front = f; behind = b; text_is = refl }
+
+-- a number or a peer, a space, and what follows, with the end of the line
+ended : (front back : List ℕ) → front ++ 32 ∷ (back ++ 10 ∷ []) ≡ (front ++ 32 ∷ back) ++ 10 ∷ []
+ended front back = sym (append_assoc front (32 ∷ back) (10 ∷ []))
+
+apart_pair : (front back : List ℕ) → IsWithout 10 front → IsWithout 10 back → IsWithout 10 (front ++ 32 ∷ back)
+apart_pair front back a b = joined front (32 ∷ back) a (behind 32 back refl b)
+
+-- an event's line says that event
+record IsEventLine (e : Event) : Type 0 where
+  body : List ℕ
+  whole : event_text e ≡ body ++ 10 ∷ []
+  apart : IsWithout 10 body
+  spelled : SpellsEvent e body
+  quiet : said_by body ≡ []
+
+open_apart : IsWithout 10 (codes "open")
+open_apart = behind 111 (codes "pen") refl (behind 112 (codes "en") refl (behind 101 (codes "n") refl (behind 110 ([]) refl nothing)))
+
+bytes_apart : IsWithout 10 (codes "bytes")
+bytes_apart = behind 98 (codes "ytes") refl (behind 121 (codes "tes") refl (behind 116 (codes "es") refl (behind 101 (codes "s") refl (behind 115 ([]) refl nothing))))
+
+pending_apart : IsWithout 10 (codes "pending")
+pending_apart = behind 112 (codes "ending") refl (behind 101 (codes "nding") refl (behind 110 (codes "ding") refl (behind 100 (codes "ing") refl (behind 105 (codes "ng") refl (behind 110 (codes "g") refl (behind 103 ([]) refl nothing))))))
+
+gave_apart : IsWithout 10 (codes "gave")
+gave_apart = behind 103 (codes "ave") refl (behind 97 (codes "ve") refl (behind 118 (codes "e") refl (behind 101 ([]) refl nothing)))
+
+closed_apart : IsWithout 10 (codes "closed")
+closed_apart = behind 99 (codes "losed") refl (behind 108 (codes "osed") refl (behind 111 (codes "sed") refl (behind 115 (codes "ed") refl (behind 101 (codes "d") refl (behind 100 ([]) refl nothing)))))
+
+lost_apart : IsWithout 10 (codes "lost")
+lost_apart = behind 108 (codes "ost") refl (behind 111 (codes "st") refl (behind 115 (codes "t") refl (behind 116 ([]) refl nothing)))
+
+datagram_apart : IsWithout 10 (codes "datagram")
+datagram_apart = behind 100 (codes "atagram") refl (behind 97 (codes "tagram") refl (behind 116 (codes "agram") refl (behind 97 (codes "gram") refl (behind 103 (codes "ram") refl (behind 114 (codes "am") refl (behind 97 (codes "m") refl (behind 109 ([]) refl nothing)))))))
+
+unsent_apart : IsWithout 10 (codes "unsent")
+unsent_apart = behind 117 (codes "nsent") refl (behind 110 (codes "sent") refl (behind 115 (codes "ent") refl (behind 101 (codes "nt") refl (behind 110 (codes "t") refl (behind 116 ([]) refl nothing)))))
+
+sent_apart : IsWithout 10 (codes "sent")
+sent_apart = behind 115 (codes "ent") refl (behind 101 (codes "nt") refl (behind 110 (codes "t") refl (behind 116 ([]) refl nothing)))
+
+forward_apart : IsWithout 10 (codes "forward")
+forward_apart = behind 102 (codes "orward") refl (behind 111 (codes "rward") refl (behind 114 (codes "ward") refl (behind 119 (codes "ard") refl (behind 97 (codes "rd") refl (behind 114 (codes "d") refl (behind 100 ([]) refl nothing))))))
+
+expire_apart : IsWithout 10 (codes "expire")
+expire_apart = behind 101 (codes "xpire") refl (behind 120 (codes "pire") refl (behind 112 (codes "ire") refl (behind 105 (codes "re") refl (behind 114 (codes "e") refl (behind 101 ([]) refl nothing)))))
+
+event_line : (e : Event) → HasLine e → IsEventLine e
+unfolding said_by
+event_line (Open now from) h = record {
+  body = codes "open" ++ 32 ∷ (decimal now ++ 32 ∷ peer_text from);
+  whole = ap (λ (t : List ℕ). codes "open " ++ t) (ended (decimal now) (peer_text from));
+  apart = apart_pair (codes "open") (decimal now ++ 32 ∷ peer_text from) open_apart (apart_pair (decimal now) (peer_text from) (number_apart now h.0) (peer_apart from h.1));
+  spelled = spaced (Spells (codes "open")) (SpellsNumber now ␣ SpellsPeer from) (codes "open") _ refl (spaced (SpellsNumber now) (SpellsPeer from) (decimal now) (peer_text from) (number_spelled now h.0) (peer_spelled from h.1));
+  quiet = refl;
+}
+event_line (Bytes now id bytes) h = record {
+  body = codes "bytes" ++ 32 ∷ (decimal now ++ 32 ∷ (decimal id ++ 32 ∷ hex_text bytes));
+  whole = ap (λ (t : List ℕ). codes "bytes " ++ t) (ap (λ (t : List ℕ). decimal now ++ 32 ∷ t) (ended (decimal id) (hex_text bytes)) ∙ ended (decimal now) (decimal id ++ 32 ∷ hex_text bytes));
+  apart = apart_pair (codes "bytes") (decimal now ++ 32 ∷ (decimal id ++ 32 ∷ hex_text bytes)) bytes_apart (apart_pair (decimal now) (decimal id ++ 32 ∷ hex_text bytes) (number_apart now h.0) (apart_pair (decimal id) (hex_text bytes) (number_apart id h.1) (hex_apart bytes)));
+  spelled = spaced (Spells (codes "bytes")) (SpellsNumber now ␣ SpellsNumber id ␣ SpellsHex bytes) (codes "bytes") _ refl
+      (spaced (SpellsNumber now) (SpellsNumber id ␣ SpellsHex bytes) (decimal now) _ (number_spelled now h.0) (spaced (SpellsNumber id) (SpellsHex bytes) (decimal id) (hex_text bytes) (number_spelled id h.1) (hex_spelled bytes h.2)));
+  quiet = refl;
+}
+event_line (Pending id) h = record {
+  body = codes "pending" ++ 32 ∷ decimal id;
+  whole = refl;
+  apart = apart_pair (codes "pending") (decimal id) pending_apart (number_apart id h);
+  spelled = spaced (Spells (codes "pending")) (SpellsNumber id) (codes "pending") (decimal id) refl (number_spelled id h);
+  quiet = refl;
+}
+event_line (Gave now id n) h = record {
+  body = codes "gave" ++ 32 ∷ (decimal now ++ 32 ∷ (decimal id ++ 32 ∷ decimal n));
+  whole = ap (λ (t : List ℕ). codes "gave " ++ t) (ap (λ (t : List ℕ). decimal now ++ 32 ∷ t) (ended (decimal id) (decimal n)) ∙ ended (decimal now) (decimal id ++ 32 ∷ decimal n));
+  apart = apart_pair (codes "gave") (decimal now ++ 32 ∷ (decimal id ++ 32 ∷ decimal n)) gave_apart (apart_pair (decimal now) (decimal id ++ 32 ∷ decimal n) (number_apart now h.0) (apart_pair (decimal id) (decimal n) (number_apart id h.1) (number_apart n h.2)));
+  spelled = spaced (Spells (codes "gave")) (SpellsNumber now ␣ SpellsNumber id ␣ SpellsNumber n) (codes "gave") _ refl
+      (spaced (SpellsNumber now) (SpellsNumber id ␣ SpellsNumber n) (decimal now) _ (number_spelled now h.0) (spaced (SpellsNumber id) (SpellsNumber n) (decimal id) (decimal n) (number_spelled id h.1) (number_spelled n h.2)));
+  quiet = refl;
+}
+event_line (Closed id) h = record {
+  body = codes "closed" ++ 32 ∷ decimal id;
+  whole = refl;
+  apart = apart_pair (codes "closed") (decimal id) closed_apart (number_apart id h);
+  spelled = spaced (Spells (codes "closed")) (SpellsNumber id) (codes "closed") (decimal id) refl (number_spelled id h);
+  quiet = refl;
+}
+event_line NextLost h = record { body = codes "lost"; whole = refl; apart = lost_apart; spelled = refl; quiet = refl }
+event_line (Datagram now from bytes) h = record {
+  body = codes "datagram" ++ 32 ∷ (decimal now ++ 32 ∷ (peer_text from ++ 32 ∷ hex_text bytes));
+  whole = ap (λ (t : List ℕ). codes "datagram " ++ t) (ap (λ (t : List ℕ). decimal now ++ 32 ∷ t) (ended (peer_text from) (hex_text bytes)) ∙ ended (decimal now) (peer_text from ++ 32 ∷ hex_text bytes));
+  apart = apart_pair (codes "datagram") (decimal now ++ 32 ∷ (peer_text from ++ 32 ∷ hex_text bytes)) datagram_apart (apart_pair (decimal now) (peer_text from ++ 32 ∷ hex_text bytes) (number_apart now h.0) (apart_pair (peer_text from) (hex_text bytes) (peer_apart from h.1) (hex_apart bytes)));
+  spelled = spaced (Spells (codes "datagram")) (SpellsNumber now ␣ SpellsPeer from ␣ SpellsHex bytes) (codes "datagram") _ refl
+      (spaced (SpellsNumber now) (SpellsPeer from ␣ SpellsHex bytes) (decimal now) _ (number_spelled now h.0) (spaced (SpellsPeer from) (SpellsHex bytes) (peer_text from) (hex_text bytes) (peer_spelled from h.1) (hex_spelled bytes h.2)));
+  quiet = refl;
+}
+event_line Unsent h = record { body = codes "unsent"; whole = refl; apart = unsent_apart; spelled = refl; quiet = refl }
+event_line (Sent number) h = record {
+  body = codes "sent" ++ 32 ∷ decimal number;
+  whole = refl;
+  apart = apart_pair (codes "sent") (decimal number) sent_apart (number_apart number h);
+  spelled = spaced (Spells (codes "sent")) (SpellsNumber number) (codes "sent") (decimal number) refl (number_spelled number h);
+  quiet = refl;
+}
+event_line (Forward now from bytes) h = record {
+  body = codes "forward" ++ 32 ∷ (decimal now ++ 32 ∷ (peer_text from ++ 32 ∷ hex_text bytes));
+  whole = ap (λ (t : List ℕ). codes "forward " ++ t) (ap (λ (t : List ℕ). decimal now ++ 32 ∷ t) (ended (peer_text from) (hex_text bytes)) ∙ ended (decimal now) (peer_text from ++ 32 ∷ hex_text bytes));
+  apart = apart_pair (codes "forward") (decimal now ++ 32 ∷ (peer_text from ++ 32 ∷ hex_text bytes)) forward_apart (apart_pair (decimal now) (peer_text from ++ 32 ∷ hex_text bytes) (number_apart now h.0) (apart_pair (peer_text from) (hex_text bytes) (peer_apart from h.1) (hex_apart bytes)));
+  spelled = spaced (Spells (codes "forward")) (SpellsNumber now ␣ SpellsPeer from ␣ SpellsHex bytes) (codes "forward") _ refl
+      (spaced (SpellsNumber now) (SpellsPeer from ␣ SpellsHex bytes) (decimal now) _ (number_spelled now h.0) (spaced (SpellsPeer from) (SpellsHex bytes) (peer_text from) (hex_text bytes) (peer_spelled from h.1) (hex_spelled bytes h.2)));
+  quiet = refl;
+}
+event_line (Expire now) h = record {
+  body = codes "expire" ++ 32 ∷ decimal now;
+  whole = refl;
+  apart = apart_pair (codes "expire") (decimal now) expire_apart (number_apart now h);
+  spelled = spaced (Spells (codes "expire")) (SpellsNumber now) (codes "expire") (decimal now) refl (number_spelled now h);
+  quiet = refl;
+}
+
+-- ---- the line of an output
+
+w_reply : IsWithout 10 (codes "reply ")
+w_reply = behind 114 (codes "eply ") refl (behind 101 (codes "ply ") refl (behind 112 (codes "ly ") refl (behind 108 (codes "y ") refl (behind 121 (codes " ") refl (behind 32 ([]) refl nothing)))))
+
+w_silent : IsWithout 10 (codes "silent")
+w_silent = behind 115 (codes "ilent") refl (behind 105 (codes "lent") refl (behind 108 (codes "ent") refl (behind 101 (codes "nt") refl (behind 110 (codes "t") refl (behind 116 ([]) refl nothing)))))
+
+w_open : IsWithout 10 (codes "open ")
+w_open = behind 111 (codes "pen ") refl (behind 112 (codes "en ") refl (behind 101 (codes "n ") refl (behind 110 (codes " ") refl (behind 32 ([]) refl nothing))))
+
+w_took : IsWithout 10 (codes "took ")
+w_took = behind 116 (codes "ook ") refl (behind 111 (codes "ok ") refl (behind 111 (codes "k ") refl (behind 107 (codes " ") refl (behind 32 ([]) refl nothing))))
+
+w_and_closed : IsWithout 10 (codes " closed")
+w_and_closed = behind 32 (codes "closed") refl (behind 99 (codes "losed") refl (behind 108 (codes "osed") refl (behind 111 (codes "sed") refl (behind 115 (codes "ed") refl (behind 101 (codes "d") refl (behind 100 ([]) refl nothing))))))
+
+w_pending : IsWithout 10 (codes "pending ")
+w_pending = behind 112 (codes "ending ") refl (behind 101 (codes "nding ") refl (behind 110 (codes "ding ") refl (behind 100 (codes "ing ") refl (behind 105 (codes "ng ") refl (behind 110 (codes "g ") refl (behind 103 (codes " ") refl (behind 32 ([]) refl nothing)))))))
+
+w_ok : IsWithout 10 (codes "ok")
+w_ok = behind 111 (codes "k") refl (behind 107 ([]) refl nothing)
+
+w_toomuch : IsWithout 10 (codes "toomuch")
+w_toomuch = behind 116 (codes "oomuch") refl (behind 111 (codes "omuch") refl (behind 111 (codes "much") refl (behind 109 (codes "uch") refl (behind 117 (codes "ch") refl (behind 99 (codes "h") refl (behind 104 ([]) refl nothing))))))
+
+w_lost : IsWithout 10 (codes "lost ")
+w_lost = behind 108 (codes "ost ") refl (behind 111 (codes "st ") refl (behind 115 (codes "t ") refl (behind 116 (codes " ") refl (behind 32 ([]) refl nothing))))
+
+w_lost_none : IsWithout 10 (codes "lost -")
+w_lost_none = behind 108 (codes "ost -") refl (behind 111 (codes "st -") refl (behind 115 (codes "t -") refl (behind 116 (codes " -") refl (behind 32 (codes "-") refl (behind 45 ([]) refl nothing)))))
+
+w_forwarded : IsWithout 10 (codes "forwarded")
+w_forwarded = behind 102 (codes "orwarded") refl (behind 111 (codes "rwarded") refl (behind 114 (codes "warded") refl (behind 119 (codes "arded") refl (behind 97 (codes "rded") refl (behind 114 (codes "ded") refl (behind 100 (codes "ed") refl (behind 101 (codes "d") refl (behind 100 ([]) refl nothing))))))))
+
+w_unsent : IsWithout 10 (codes "unsent ")
+w_unsent = behind 117 (codes "nsent ") refl (behind 110 (codes "sent ") refl (behind 115 (codes "ent ") refl (behind 101 (codes "nt ") refl (behind 110 (codes "t ") refl (behind 116 (codes " ") refl (behind 32 ([]) refl nothing))))))
+
+w_unsent_none : IsWithout 10 (codes "unsent -")
+w_unsent_none = behind 117 (codes "nsent -") refl (behind 110 (codes "sent -") refl (behind 115 (codes "ent -") refl (behind 101 (codes "nt -") refl (behind 110 (codes "t -") refl (behind 116 (codes " -") refl (behind 32 (codes "-") refl (behind 45 ([]) refl nothing)))))))
+
+w_ignored : IsWithout 10 (codes "ignored")
+w_ignored = behind 105 (codes "gnored") refl (behind 103 (codes "nored") refl (behind 110 (codes "ored") refl (behind 111 (codes "red") refl (behind 114 (codes "ed") refl (behind 101 (codes "d") refl (behind 100 ([]) refl nothing))))))
+
+w_nothing : IsWithout 10 (codes "nothing")
+w_nothing = behind 110 (codes "othing") refl (behind 111 (codes "thing") refl (behind 116 (codes "hing") refl (behind 104 (codes "ing") refl (behind 105 (codes "ng") refl (behind 110 (codes "g") refl (behind 103 ([]) refl nothing))))))
+
+w_closed : IsWithout 10 (codes "closed ")
+w_closed = behind 99 (codes "losed ") refl (behind 108 (codes "osed ") refl (behind 111 (codes "sed ") refl (behind 115 (codes "ed ") refl (behind 101 (codes "d ") refl (behind 100 (codes " ") refl (behind 32 ([]) refl nothing))))))
+
+w_ready : IsWithout 10 (codes "ready ")
+w_ready = behind 114 (codes "eady ") refl (behind 101 (codes "ady ") refl (behind 97 (codes "dy ") refl (behind 100 (codes "y ") refl (behind 121 (codes " ") refl (behind 32 ([]) refl nothing)))))
+
+w_datagram : IsWithout 10 (codes "datagram ")
+w_datagram = behind 100 (codes "atagram ") refl (behind 97 (codes "tagram ") refl (behind 116 (codes "agram ") refl (behind 97 (codes "gram ") refl (behind 103 (codes "ram ") refl (behind 114 (codes "am ") refl (behind 97 (codes "m ") refl (behind 109 (codes " ") refl (behind 32 ([]) refl nothing))))))))
+
+w_full : IsWithout 10 (codes "full")
+w_full = behind 102 (codes "ull") refl (behind 117 (codes "ll") refl (behind 108 (codes "l") refl (behind 108 ([]) refl nothing)))
+
+w_spent : IsWithout 10 (codes "spent")
+w_spent = behind 115 (codes "pent") refl (behind 112 (codes "ent") refl (behind 101 (codes "nt") refl (behind 110 (codes "t") refl (behind 116 ([]) refl nothing))))
+
+w_gone : IsWithout 10 (codes "gone")
+w_gone = behind 103 (codes "one") refl (behind 111 (codes "ne") refl (behind 110 (codes "e") refl (behind 101 ([]) refl nothing)))
+
+w_no_memory : IsWithout 10 (codes "no memory")
+w_no_memory = behind 110 (codes "o memory") refl (behind 111 (codes " memory") refl (behind 32 (codes "memory") refl (behind 109 (codes "emory") refl (behind 101 (codes "mory") refl (behind 109 (codes "ory") refl (behind 111 (codes "ry") refl (behind 114 (codes "y") refl (behind 121 ([]) refl nothing))))))))
+
+w_bad_limits : IsWithout 10 (codes "bad limits")
+w_bad_limits = behind 98 (codes "ad limits") refl (behind 97 (codes "d limits") refl (behind 100 (codes " limits") refl (behind 32 (codes "limits") refl (behind 108 (codes "imits") refl (behind 105 (codes "mits") refl (behind 109 (codes "its") refl (behind 105 (codes "ts") refl (behind 116 (codes "s") refl (behind 115 ([]) refl nothing)))))))))
+
+fault_line : (fault : CoreFault) → IsLine (refusal_text fault)
+fault_line Full = record { body = codes "full"; whole = refl; apart = w_full }
+fault_line Spent = record { body = codes "spent"; whole = refl; apart = w_spent }
+fault_line Gone = record { body = codes "gone"; whole = refl; apart = w_gone }
+fault_line NoMemory = record { body = codes "no memory"; whole = refl; apart = w_no_memory }
+fault_line BadLimits = record { body = codes "bad limits"; whole = refl; apart = w_bad_limits }
+
+-- a word, and bytes
+word_line : (word bytes : List ℕ) → IsWithout 10 word → IsLine (bytes_line word bytes)
+word_line word bytes apart = record {
+  body = word ++ hex_text bytes;
+  whole = sym (append_assoc word (hex_text bytes) (10 ∷ []));
+  apart = joined word (hex_text bytes) apart (hex_apart bytes);
+}
+
+-- a word, and bytes to or for a peer
+to_line : (word : List ℕ) (p : Peer) (bytes : List ℕ) → IsWithout 10 word → IsPeer p → IsLine (peer_line word p bytes)
+to_line word p bytes apart is = record {
+  body = word ++ (peer_text p ++ 32 ∷ hex_text bytes);
+  whole = ap (λ (t : List ℕ). word ++ t) (ended (peer_text p) (hex_text bytes)) ∙ sym (append_assoc word (peer_text p ++ 32 ∷ hex_text bytes) (10 ∷ []));
+  apart = joined word (peer_text p ++ 32 ∷ hex_text bytes) apart (apart_pair (peer_text p) (hex_text bytes) (peer_apart p is) (hex_apart bytes));
+}
+
+-- a word, a number and another word
+number_line : (word : List ℕ) (n : ℕ) (last : List ℕ) → IsWithout 10 word → Fits n → IsWithout 10 last → IsLine (word ++ (decimal n ++ (last ++ 10 ∷ [])))
+number_line word n last apart fits behind = record {
+  body = word ++ (decimal n ++ last);
+  whole = ap (λ (t : List ℕ). word ++ t) (sym (append_assoc (decimal n) last (10 ∷ []))) ∙ sym (append_assoc word (decimal n ++ last) (10 ∷ []));
+  apart = joined word (decimal n ++ last) apart (joined (decimal n) last (number_apart n fits) behind);
+}
+
+plain_line : (word : List ℕ) → IsWithout 10 word → IsLine (word ++ 10 ∷ [])
+plain_line word apart = record { body = word; whole = refl; apart = apart }
+
+unsent_is_line : (unsent : Option UnsentCall) → HasUnsentLine unsent → IsLine (text_of (UnsentIs unsent))
+unsent_is_line None h = plain_line (codes "unsent -") w_unsent_none
+unsent_is_line (Some unsent) h =
+    let tail = to_line (32 ∷ []) unsent.target unsent.call (behind 32 [] refl nothing) h.1 in
+    record {
+      body = codes "unsent " ++ (decimal unsent.number ++ tail.body);
+      whole = ap (λ (t : List ℕ). codes "unsent " ++ t) (ap (λ (t : List ℕ). decimal unsent.number ++ t) tail.whole ∙ sym (append_assoc (decimal unsent.number) tail.body (10 ∷ [])));
+      apart = joined (codes "unsent ") (decimal unsent.number ++ tail.body) w_unsent (joined (decimal unsent.number) tail.body (number_apart unsent.number h.0) tail.apart);
+    }
+
+lost_is_line : (id : Option ℕ) → HasLostLine id → IsLine (text_of (LostIs id))
+lost_is_line None h = plain_line (codes "lost -") w_lost_none
+lost_is_line (Some id) h = number_line (codes "lost ") id [] w_lost h nothing
+
+output_line : (o : Output) → HasOutputLine o → IsLine (text_of o)
+output_line (Replied bytes) h = word_line (codes "reply ") bytes w_reply
+output_line Silent h = plain_line (codes "silent") w_silent
+output_line (Opened id) h = number_line (codes "open ") id [] w_open h nothing
+output_line (Refused fault) h = fault_line fault
+output_line (Took n) h = number_line (codes "took ") n [] w_took h nothing
+output_line (TookAndClosed n) h = number_line (codes "took ") n (codes " closed") w_took h w_and_closed
+output_line (IsPending bytes) h = word_line (codes "pending ") bytes w_pending
+output_line Done h = plain_line (codes "ok") w_ok
+output_line TooMuch h = plain_line (codes "toomuch") w_toomuch
+output_line (LostIs id) h = lost_is_line id h
+output_line Forwarded h = plain_line (codes "forwarded") w_forwarded
+output_line (UnsentIs unsent) h = unsent_is_line unsent h
+output_line Ignored h = plain_line (codes "ignored") w_ignored
+output_line Nothing h = plain_line (codes "nothing") w_nothing
+output_line (ConnectionClosed id) h = number_line (codes "closed ") id [] w_closed h nothing
+output_line (Ready id) h = number_line (codes "ready ") id [] w_ready h nothing
+output_line (RepliedTo peer bytes) h = to_line (codes "datagram ") peer bytes w_datagram h
+
+-- ---- what lines say
+
+record Says (lines : List (List ℕ)) (events : List Event) (outputs : List Output) : Type 0 where
+  good : has_bad lines ≡ false
+  events_are : events ≡ flat_map event_in (map line lines)
+  outputs_are : flat_map said_by lines ≡ map text_of outputs
+
+-- an event, and what it gave
+says_more : (front back : List ℕ) (lines : List (List ℕ)) (e : Event) (o : Output) (events : List Event) (outputs : List Output) → line front ≡ Happens e → said_by front ≡ [] → line back ≡ Skipped → said_by back ≡ text_of o ∷ [] → Says lines events outputs → Says (front ∷ back ∷ lines) (e ∷ events) (o ∷ outputs)
+says_more front back lines e o events outputs happens quiet skipped said says = record {
+  good = rw (happens, skipped) says.good;
+  events_are = rw (happens, skipped) (ap (λ (xs : List Event). e ∷ xs) says.events_are);
+  outputs_are = rw (quiet, said) (ap (λ (xs : List (List ℕ)). text_of o ∷ xs) says.outputs_are);
+}
+
+says_comment : (front : List ℕ) (lines : List (List ℕ)) (events : List Event) (outputs : List Output) → line front ≡ Skipped → said_by front ≡ [] → Says lines events outputs → Says (front ∷ lines) events outputs
+says_comment front lines events outputs skipped quiet says = record {
+  good = rw skipped says.good;
+  events_are = rw skipped says.events_are;
+  outputs_are = rw quiet says.outputs_are;
+}
+
+says_nothing : Says (lines_of []) [] []
+unfolding lines_of line said_by
+says_nothing = record { good = refl; events_are = refl; outputs_are = refl }
+
+-- ---- a run
+
+marked_line : (text : List ℕ) → IsLine text → IsLine (codes "#> " ++ text)
+marked_line text l = record {
+  body = codes "#> " ++ l.body;
+  whole = ap (λ (t : List ℕ). codes "#> " ++ t) l.whole;
+  apart = behind 35 (62 ∷ 32 ∷ l.body) refl (behind 62 (32 ∷ l.body) refl (behind 32 l.body refl l.apart));
+}
+
+marked_skipped : (body : List ℕ) → line (codes "#> " ++ body) ≡ Skipped
+marked_skipped body = (skipped_say_nothing (codes "#> " ++ body)).1 (inr (codes "> " ++ body, refl))
+
+marked_said : (body : List ℕ) → said_by (codes "#> " ++ body) ≡ (body ++ codes "\n") ∷ []
+unfolding said_by
+marked_said body = refl
+
+entry_lines : (e : Event) (o : Output) (rest : List ℕ) (l : IsEventLine e) (m : IsLine (text_of o)) → lines_of (entry_text e o ++ rest) ≡ l.body ∷ (codes "#> " ++ m.body) ∷ lines_of rest
+unfolding marked_line
+entry_lines e o rest l m =
+    ap lines_of (append_assoc (event_text e) (codes "#> " ++ text_of o) rest)
+    ∙ lines_behind (event_text e) ((codes "#> " ++ text_of o) ++ rest) (record { body = l.body; whole = l.whole; apart = l.apart })
+    ∙ ap (λ (ls : List (List ℕ)). l.body ∷ ls) (lines_behind (codes "#> " ++ text_of o) rest (marked_line (text_of o) m))
+
+says_run : (s : State) (events : List Event) → AllByRecursion HasLine events → AllByRecursion HasOutputLine (run s events) → Says (lines_of (run_text s events)) events (run s events)
+unfolding run_text
+says_run s [] all given = says_nothing
+says_run s (e ∷ events) all given =
+    let o : Output = (step s e).0 in
+    let rest : List ℕ = run_text (step s e).1 events in
+    let l : IsEventLine e = event_line e all.0 in
+    let m : IsLine (text_of o) = output_line o given.0 in
+    subst (λ (ls : List (List ℕ)). Says ls (e ∷ events) (run s (e ∷ events))) (sym (entry_lines e o rest l m))
+    (says_more l.body (codes "#> " ++ m.body) (lines_of rest) e o events (run (step s e).1 events) (line_of l.body e l.spelled) l.quiet (marked_skipped m.body)
+    (marked_said m.body ∙ ap (λ (t : List ℕ). t ∷ []) (sym m.whole)) (says_run (step s e).1 events all.1 given.1))
+
+-- ---- its options
+
+host_apart : (h : List ℕ) → length h ≡ 4 → All (λ n. n < 256) h → (i : ℕ) → i < 4 → IsWithout 10 (decimal (slice_index h i))
+host_apart h four small i lt = number_apart (slice_index h i) (omega (arith, small i 0 (omega (arith, four, lt))))
+
+o_conns : IsWithout 10 (codes " --conns ")
+o_conns = behind 32 (codes "--conns ") refl (behind 45 (codes "-conns ") refl (behind 45 (codes "conns ") refl (behind 99 (codes "onns ") refl (behind 111 (codes "nns ") refl (behind 110 (codes "ns ") refl (behind 110 (codes "s ") refl (behind 115 (codes " ") refl (behind 32 ([]) refl nothing))))))))
+
+o_rows : IsWithout 10 (codes " --rows ")
+o_rows = behind 32 (codes "--rows ") refl (behind 45 (codes "-rows ") refl (behind 45 (codes "rows ") refl (behind 114 (codes "ows ") refl (behind 111 (codes "ws ") refl (behind 119 (codes "s ") refl (behind 115 (codes " ") refl (behind 32 ([]) refl nothing)))))))
+
+o_forwards : IsWithout 10 (codes " --forwards ")
+o_forwards = behind 32 (codes "--forwards ") refl (behind 45 (codes "-forwards ") refl (behind 45 (codes "forwards ") refl (behind 102 (codes "orwards ") refl (behind 111 (codes "rwards ") refl (behind 114 (codes "wards ") refl (behind 119 (codes "ards ") refl (behind 97 (codes "rds ") refl (behind 114 (codes "ds ") refl (behind 100 (codes "s ") refl (behind 115 (codes " ") refl (behind 32 ([]) refl nothing)))))))))))
+
+o_announce : IsWithout 10 (codes " --announce ")
+o_announce = behind 32 (codes "--announce ") refl (behind 45 (codes "-announce ") refl (behind 45 (codes "announce ") refl (behind 97 (codes "nnounce ") refl (behind 110 (codes "nounce ") refl (behind 110 (codes "ounce ") refl (behind 111 (codes "unce ") refl (behind 117 (codes "nce ") refl (behind 110 (codes "ce ") refl (behind 99 (codes "e ") refl (behind 101 (codes " ") refl (behind 32 ([]) refl nothing)))))))))))
+
+o_dot : IsWithout 10 (codes ".")
+o_dot = behind 46 ([]) refl nothing
+
+o_port : IsWithout 10 (codes " --port ")
+o_port = behind 32 (codes "--port ") refl (behind 45 (codes "-port ") refl (behind 45 (codes "port ") refl (behind 112 (codes "ort ") refl (behind 111 (codes "rt ") refl (behind 114 (codes "t ") refl (behind 116 (codes " ") refl (behind 32 ([]) refl nothing)))))))
+
+o_xid : IsWithout 10 (codes " --xid ")
+o_xid = behind 32 (codes "--xid ") refl (behind 45 (codes "-xid ") refl (behind 45 (codes "xid ") refl (behind 120 (codes "id ") refl (behind 105 (codes "d ") refl (behind 100 (codes " ") refl (behind 32 ([]) refl nothing))))))
+
+o_now : IsWithout 10 (codes " --now ")
+o_now = behind 32 (codes "--now ") refl (behind 45 (codes "-now ") refl (behind 45 (codes "now ") refl (behind 110 (codes "ow ") refl (behind 111 (codes "w ") refl (behind 119 (codes " ") refl (behind 32 ([]) refl nothing))))))
+
+o_head : IsWithout 10 (codes "# rpcbind replay --check")
+o_head = behind 35 (codes " rpcbind replay --check") refl (behind 32 (codes "rpcbind replay --check") refl (behind 114 (codes "pcbind replay --check") refl (behind 112 (codes "cbind replay --check") refl (behind 99 (codes "bind replay --check") refl (behind 98 (codes "ind replay --check") refl (behind 105 (codes "nd replay --check") refl (behind 110 (codes "d replay --check") refl (behind 100 (codes " replay --check") refl (behind 32 (codes "replay --check") refl (behind 114 (codes "eplay --check") refl (behind 101 (codes "play --check") refl (behind 112 (codes "lay --check") refl (behind 108 (codes "ay --check") refl (behind 97 (codes "y --check") refl (behind 121 (codes " --check") refl (behind 32 (codes "--check") refl (behind 45 (codes "-check") refl (behind 45 (codes "check") refl (behind 99 (codes "heck") refl (behind 104 (codes "eck") refl (behind 101 (codes "ck") refl (behind 99 (codes "k") refl (behind 107 ([]) refl nothing)))))))))))))))))))))))
+
+options_line : (limits : Limits) (listener : Listener) (first_xid now : ℕ) → Fits limits.conns → Fits limits.rows → Fits limits.forwards → IsPeer (record { host = listener.host; port = listener.port }) → Fits first_xid → Fits now → IsLine (options_text limits listener first_xid now)
+options_line limits listener first_xid now conns rows forwards peer xid_fits now_fits =
+    let four = peer.count in
+    let a = host_apart listener.host four peer.host 0 (omega arith) in
+    let b = host_apart listener.host four peer.host 1 (omega arith) in
+    let c = host_apart listener.host four peer.host 2 (omega arith) in
+    let d = host_apart listener.host four peer.host 3 (omega arith) in
+    let port = number_apart listener.port (omega (arith, peer.port)) in
+    let of_limits = joined (codes " --conns ") _ o_conns (joined (decimal limits.conns) _ (number_apart limits.conns conns) (joined (codes " --rows ") _ o_rows (joined (decimal limits.rows) _ (number_apart limits.rows rows) (joined (codes " --forwards ") _ o_forwards (number_apart limits.forwards forwards))))) in
+    let of_listener = joined (codes " --announce ") _ o_announce (joined (decimal (slice_index listener.host 0)) _ a (joined (codes ".") _ o_dot (joined (decimal (slice_index listener.host 1)) _ b (joined (codes ".") _ o_dot
+    (joined (decimal (slice_index listener.host 2)) _ c (joined (codes ".") _ o_dot (joined (decimal (slice_index listener.host 3)) _ d (joined (codes " --port ") _ o_port port)))))))) in
+    let tail = joined (codes " --xid ") (decimal first_xid ++ (codes " --now " ++ decimal now)) o_xid (joined (decimal first_xid) (codes " --now " ++ decimal now) (number_apart first_xid xid_fits) (joined (codes " --now ") (decimal now) o_now (number_apart now now_fits))) in
+    record {
+      body = codes "# rpcbind replay --check" ++ (limits_text limits ++ (listener_text listener ++ (codes " --xid " ++ (decimal first_xid ++ (codes " --now " ++ decimal now)))));
+      whole = ap (λ (t : List ℕ). codes "# rpcbind replay --check" ++ t)
+          (ap (λ (t : List ℕ). limits_text limits ++ t)
+          (ap (λ (t : List ℕ). listener_text listener ++ t)
+          (ap (λ (t : List ℕ). codes " --xid " ++ t) (sym (append_assoc (decimal first_xid) (codes " --now " ++ decimal now) (10 ∷ []))) ∙ sym (append_assoc (codes " --xid ") (decimal first_xid ++ (codes " --now " ++ decimal now)) (10 ∷ [])))
+          ∙ sym (append_assoc (listener_text listener) (codes " --xid " ++ (decimal first_xid ++ (codes " --now " ++ decimal now))) (10 ∷ [])))
+          ∙ sym (append_assoc (limits_text limits) (listener_text listener ++ (codes " --xid " ++ (decimal first_xid ++ (codes " --now " ++ decimal now)))) (10 ∷ [])));
+      apart = joined (codes "# rpcbind replay --check") (limits_text limits ++ (listener_text listener ++ (codes " --xid " ++ (decimal first_xid ++ (codes " --now " ++ decimal now))))) o_head (joined (limits_text limits) (listener_text listener ++ (codes " --xid " ++ (decimal first_xid ++ (codes " --now " ++ decimal now)))) of_limits (joined (listener_text listener) (codes " --xid " ++ (decimal first_xid ++ (codes " --now " ++ decimal now))) of_listener tail));
+    }
+
+options_skipped : (rest : List ℕ) → line (codes "# rpcbind replay --check" ++ rest) ≡ Skipped
+options_skipped rest = (skipped_say_nothing (codes "# rpcbind replay --check" ++ rest)).1 (inr (codes " rpcbind replay --check" ++ rest, refl))
+
+options_quiet : (rest : List ℕ) → said_by (codes "# rpcbind replay --check" ++ rest) ≡ []
+unfolding said_by
+options_quiet rest = refl
+
+pub records_are_read : RecordsAreRead
+unfolding said printed options_line
+records_are_read limits listener first_xid now events conns rows forwards peer xid_fits now_fits all given short =
+    let s : State = opening limits listener first_xid now in
+    let l : IsLine (options_text limits listener first_xid now) = options_line limits listener first_xid now conns rows forwards peer xid_fits now_fits in
+    let text : List ℕ = options_text limits listener first_xid now ++ run_text s events in
+    let says : Says (lines_of text) events (run s events) =
+    subst (λ (ls : List (List ℕ)). Says ls events (run s events)) (sym (lines_behind (options_text limits listener first_xid now) (run_text s events) l))
+    (says_comment l.body (lines_of (run_text s events)) events (run s events) (options_skipped _) (options_quiet _) (says_run s events all given)) in
+    record {
+      events_are = (reads_the_events text events).1 (short, says.good, says.events_are);
+      outputs_are = says.outputs_are;
+    }

@@ -1,0 +1,76 @@
+-- What was recorded of a run is read back as its events, and what it says of outputs is what they gave.
+use Rattle.std.specs.Prelude.{◌≡◌, ◌≤◌, ◌<◌, ℕ, ◌^◌, List, ◌++◌, length, Option, Some, None, Ok, All}
+use Rattle.std.specs.List.{AllByRecursion}
+use Rattle.rb_rpc.specs.declared.peer.Peer.{Peer}
+use Rattle.rb_forward.specs.Forwards.{Unsent as UnsentCall}
+use Rattle.rb_proto.specs.declared.listener.Listener.{Listener}
+use Rattle.rb_model.specs.declared.types.Limits.{Limits}
+use Rattle.rb_model.specs.State.{opening}
+use Rattle.rb_model.specs.Step.{Event, Output, run}
+use Rattle.rb_model.specs.Step.Event.{Datagram, Open, Bytes, Pending, Gave, Closed, NextLost, Unsent, Sent, Forward, Expire}
+use Rattle.rb_model.specs.Step.Output.{Opened, Took, TookAndClosed, LostIs, UnsentIs, ConnectionClosed, Ready, RepliedTo}
+use Rattle.rb_record.specs.Entries.{run_text, options_text}
+use Rattle.rb_lines.specs.Lines.{longest_input, read}
+use Rattle.rb_lines.specs.Checking.{said, printed}
+
+-- ---- what has a line: numbers of 64 bits, bytes, hosts of four bytes and ports of 16 bits
+
+abbrev pub Fits : ℕ → Type 0
+Fits n = n < 2 ^ 64
+
+abbrev pub AreBytes : List ℕ → Type 0
+AreBytes bytes = AllByRecursion (λ byte. byte < 256) bytes
+
+pub record IsPeer (p : Peer) : Type 0 where
+  pub count : length p.host ≡ 4
+  pub host : All (λ h. h < 256) p.host
+  pub port : p.port < 65536
+
+abbrev pub HasLine : Event → Type 0
+HasLine (Open now from) = Fits now × IsPeer from
+HasLine (Bytes now id bytes) = Fits now × Fits id × AreBytes bytes
+HasLine (Pending id) = Fits id
+HasLine (Gave now id n) = Fits now × Fits id × Fits n
+HasLine (Closed id) = Fits id
+HasLine NextLost = Unit {0}
+HasLine (Datagram now from bytes) = Fits now × IsPeer from × AreBytes bytes
+HasLine Unsent = Unit {0}
+HasLine (Sent number) = Fits number
+HasLine (Forward now from bytes) = Fits now × IsPeer from × AreBytes bytes
+HasLine (Expire now) = Fits now
+
+abbrev pub HasUnsentLine : Option UnsentCall → Type 0
+HasUnsentLine None = Unit {0}
+HasUnsentLine (Some unsent) = Fits unsent.number × IsPeer unsent.target
+
+abbrev pub HasLostLine : Option ℕ → Type 0
+HasLostLine None = Unit {0}
+HasLostLine (Some id) = Fits id
+
+abbrev pub HasOutputLine : Output → Type 0
+HasOutputLine (Opened id) = Fits id
+HasOutputLine (Took n) = Fits n
+HasOutputLine (TookAndClosed n) = Fits n
+HasOutputLine (LostIs id) = HasLostLine id
+HasOutputLine (UnsentIs unsent) = HasUnsentLine unsent
+HasOutputLine (ConnectionClosed id) = Fits id
+HasOutputLine (Ready id) = Fits id
+HasOutputLine (RepliedTo peer bytes) = IsPeer peer
+HasOutputLine other = Unit {0}
+
+-- ---- the law
+
+-- A text reads as these events, and says that they give these outputs.
+pub record ReadsAs (text : List ℕ) (events : List Event) (outputs : List Output) : Type 0 where
+  pub events_are : read text ≡ Ok events
+  pub outputs_are : said text ≡ printed outputs
+
+-- A record that is no longer than an input may be reads as the events of its run, and says what they give: so `replay --check`
+-- of it finds that all agree.
+abbrev pub RecordsAreRead : Type 0
+RecordsAreRead =
+    (limits : Limits) (listener : Listener) (first_xid now : ℕ) (events : List Event)
+    → Fits limits.conns → Fits limits.rows → Fits limits.forwards → IsPeer (record { host = listener.host; port = listener.port }) → Fits first_xid → Fits now
+    → AllByRecursion HasLine events → AllByRecursion HasOutputLine (run (opening limits listener first_xid now) events)
+    → length (options_text limits listener first_xid now ++ run_text (opening limits listener first_xid now) events) ≤ longest_input
+    → ReadsAs (options_text limits listener first_xid now ++ run_text (opening limits listener first_xid now) events) events (run (opening limits listener first_xid now) events)
