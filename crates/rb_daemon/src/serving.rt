@@ -362,11 +362,11 @@ impl Serving {
         self.links.len().saturating_sub(self.taken)
     }
 
-    /// Accepts connections on each listener, beginning with another one in each turn.
+    /// Accepts connections on each listener, beginning with another one in each turn, until they are as many as a turn
+    /// accepts.
     pub(crate) fn accept_all(&mut self, registry: &Registry) -> Result<(), DaemonFault> {
-        let free_at_first = self.free();
-        let count = self.sockets.listeners.len();
-        for i in 0..count {
+        let mut left = accepts(self.free(), self.links.len());
+        for i in 0..self.sockets.listeners.len() {
             let which = self.sockets.nth_listener(self.turn.number, i);
             let is_ready = self
                 .sockets
@@ -374,7 +374,7 @@ impl Serving {
                 .get(which)
                 .is_some_and(|listener| listener.is_ready());
             if is_ready {
-                let again = self.accept_on(registry, which, free_at_first)?;
+                let again = self.accept_on(registry, which, &mut left)?;
                 if let Some(listener) = self.sockets.listeners.get_mut(which) {
                     listener.leave(again);
                 }
@@ -383,17 +383,19 @@ impl Serving {
         Ok(())
     }
 
-    /// Accepts connections on the listener of this number, and says when it is served again.
+    /// Accepts connections on the listener of this number, as many as are left for the turn, and says when it is served
+    /// again.
     fn accept_on(
         &mut self,
         registry: &Registry,
         which: usize,
-        free_at_first: usize,
+        left: &mut usize,
     ) -> Result<Again, DaemonFault> {
-        for _ in 0..accepts(free_at_first, self.free(), self.links.len()) {
+        for _ in 0..*left {
             let Some(listener) = self.sockets.listeners.get(which) else {
                 break;
             };
+            *left = left.saturating_sub(1);
             match listener.socket.accept() {
                 Ok((stream, from)) => self.open(registry, stream, from),
                 Err(error) => match after_accept(outcome_of(&error)) {

@@ -23,10 +23,9 @@ abbrev pub asks_for_deadlines : Option ℕ → ℕ → Bool
 asks_for_deadlines None now = true
 asks_for_deadlines (Some settled) now = not (settled == now) || now == 2 ^ 64 - 1
 
--- How many connections a listener may accept, where so many places were free as accepting began, so many still are,
--- and there are so many in all. Where none was free, half of the places may change hands.
-abbrev pub accepts : ℕ → ℕ → ℕ → ℕ
-accepts first free all = if first == 0 then min (max (all / 2) 1) SOCKET_CALLS else min free SOCKET_CALLS
+-- how many connections a turn accepts, where so many of all places are free as its accepting begins
+abbrev pub accepts : ℕ → ℕ → ℕ
+accepts free all = if free == 0 then min (max (all / 2) 1) SOCKET_CALLS else min free SOCKET_CALLS
 
 -- whether a connection is left for the next turn, for which so many socket calls were made, and so many bytes written
 abbrev pub is_cut_off : ℕ → ℕ → Bool

@@ -62,18 +62,14 @@ pub fn asks_for_deadlines(settled: Option<u64>, now: u64) -> bool
     }
 }
 
-/// How many connections a listener may accept now. As many as places are free, of those that were free as the turn's
-/// accepting began: the next turn may first free some that were just taken. Where none was free, half of all places,
-/// and at least one: so who takes one is served before others of this kind push it out. At most as many as socket
-/// calls of a turn.
-pub fn accepts(free_at_first: usize, free: usize, all: usize) -> usize
-    ensures { result ≡ accepts free_at_first free all }
+/// How many connections a turn accepts, on all listeners together, where so many of all places are free as its accepting
+/// begins: as many as are free, since the next turn may first free some that are taken now. Where none is free, half of
+/// all places, and at least one: so who takes one is served before others of this kind push it out. At most as many as
+/// socket calls of a turn.
+pub fn accepts(free: usize, all: usize) -> usize
+    ensures { result ≡ accepts free all }
 {
-    let most = if free_at_first == 0 {
-        (all / 2).max(1)
-    } else {
-        free
-    };
+    let most = if free == 0 { (all / 2).max(1) } else { free };
     most.min(SOCKET_CALLS)
 }
 

@@ -1,5 +1,5 @@
 //! The command `serve`.
-ghost use Rattle.std.specs.Prelude.{◌≤◌, IfErr};
+ghost use Rattle.std.specs.Prelude.{◌≡◌, ◌≤◌, IfErr};
 
 use rb_core::Limits;
 use rb_daemon::{Daemon, DaemonFault, LocalSocket, Settings, SocketFault, Step};
@@ -113,7 +113,7 @@ pub fn run_service<R, E>(rt: &R, service: &Service, faults: &mut E) -> u8
 where
     R: Net + Files + Clock + Wait + AllocGlobal + Print,
     E: Write,
-    ensures { result ≤ 2 }
+    ensures { result ≤ 1 }
 {
     let settings = service.settings();
     let mut daemon = match Daemon::new(rt.alloc(), rt, rt, &settings) {
@@ -187,7 +187,7 @@ fn take_turns<R: Clock + Wait, F: Write + Drop, E: Write>(
 
 /// Writes what failed, and behind it the line of the fault, and gives the status.
 fn explain_fault<E: Write>(fault: &DaemonFault, settings: &Settings<'_>, faults: &mut E) -> u8
-    ensures { result ≤ 2 }
+    ensures { result ≡ 1 }
 {
     match fault {
         DaemonFault::Memory(_) => explain(Fault::NoMemory, faults),
