@@ -66,7 +66,7 @@ fn recorder_of<R: Files, E: Write>(
     service: &Service,
     faults: &mut E,
 ) -> Result<Recorder<R::File>, u8>
-    ensures { IfErr result (λ status. status ≤ 2) }
+    ensures { IfErr result (λ status. status ≡ 1) }
 {
     let Some(record) = &service.record else {
         return Ok(Recorder { file: None });
@@ -107,8 +107,8 @@ impl Service {
 }
 
 /// Serves, and says on standard output where it listens. The answer is the exit status: 0 after the last turn, and 1
-/// where the limits are out of their ranges or memory, a socket, standard output or the file of the record failed, which `faults` is told, with
-/// what failed in a line before.
+/// where the limits are out of their ranges or memory, a socket, standard output or the file of the record failed.
+/// `faults` is told, with what failed in a line before.
 pub fn run_service<R, E>(rt: &R, service: &Service, faults: &mut E) -> u8
 where
     R: Net + Files + Clock + Wait + AllocGlobal + Print,
