@@ -31,14 +31,14 @@ pub struct Called<'a> {
 }
 
 impl Called<'_> {
-    ghost use Rattle.std.specs.Prelude.{◌≡◌, IsTrue};
+    ghost use Rattle.std.specs.Prelude.{◌≡◌, ◌↔◌, IsTrue};
     ghost use Rattle.rb_proto.specs.Arguments.{arguments as arguments_in};
     ghost use Rattle.rb_model.specs.Grammar.{HasArgsIn};
     ghost use Rattle.rb_core.specs.Reading.{asked_of};
 
     /// Whether it is a call of NULL, which has neither arguments nor results (RFC 1833 sections 2.2 and 3.2).
     pub fn is_null(&self) -> bool
-        ensures { IsTrue result → self.now.procedure ≡ Procedure.Void VoidProcedure.Null }
+        ensures { IsTrue result ↔ self.now.procedure ≡ Procedure.Void VoidProcedure.Null }
     {
         matches!(self.procedure, Procedure::Void(VoidProcedure::Null))
     }

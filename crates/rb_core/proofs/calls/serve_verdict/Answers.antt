@@ -30,7 +30,7 @@ returns-in-Err-clause-lists c =
 pub returns-then-is_null-clause-acts : goal.returns-then-is_null-clause-acts
 returns-then-is_null-clause-acts c =
     let head = c.in-Ok.called.head.now in
-    rw (null_asked c.args.verdict.now head _ c.in-Ok.ensures.calls (c.is_null.ensures c.if-is_null.true) c.args.arguments.now)
+    rw (null_asked c.args.verdict.now head _ c.in-Ok.ensures.calls (c.is_null.ensures.0 c.if-is_null.true) c.args.arguments.now)
     (serves_without_room c.args.context.now (null_message head) c.args.arguments.now c.args.connections.now c.args.books.now _ c.serve_null.new.books
     (null_asks_none c.args.context.now head) c.serve_null.ensures.registry (c.serve_null.ensures.acts c.args.context.now c.args.arguments.now))
 
