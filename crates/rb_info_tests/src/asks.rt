@@ -37,3 +37,22 @@ fn show_reply_has_memory(rt: HostRuntime) -> Result<(), Fail> {
     );
     Ok(())
 }
+
+#[test]
+fn summary_has_memory(rt: HostRuntime) -> Result<(), Fail> {
+    let head = b"\x80\0\0\x48\0\0\0\x01\0\0\0\x01\0\0\0\0\0\0\0\0\0\0\0\0\0\0\0\0";
+    let row =
+        b"\0\0\0\x01\0\x01\x86\xa0\0\0\0\x04\0\0\0\x03tcp\0\0\0\0\0\0\0\0\x09superuser\0\0\0\0\0\0\0";
+    let mut reply = Vec::new(rt.alloc());
+    reply.extend_from_slice(head.as_slice())?;
+    reply.extend_from_slice(row.as_slice())?;
+    let mut reply = reply.as_slice();
+    let mut shown = Vec::new(rt.alloc());
+    let ask = of_nobody(Question::Summary);
+    show_reply(rt.alloc(), &ask, Form::Plain, 1, &mut reply, &mut shown).map_err(|_| "refused")?;
+    assert_eq!(rt;
+        shown.as_slice(),
+        b"   program version(s) netid(s)                         service     owner\n    100000  4         tcp                              -           superuser\n".as_slice()
+    );
+    Ok(())
+}

@@ -1,4 +1,4 @@
-use rb_names::Netid;
+use rb_names::{Netid, name_of, number_of, read_services};
 use rb_words::{
     Flag, Means, Plan, Refusal, Shape, Spot, Transport, Wanted, read_words, write_refusal,
 };
@@ -56,5 +56,15 @@ fn refusal_is_written(rt: HostRuntime) -> Result<(), Fail> {
         said.as_slice(),
         b"rpcinfo: the words can't be read; see --help\nrpcinfo: '-5': a number from 1 to 65535 is wanted\n".as_slice()
     );
+    Ok(())
+}
+
+/// The names of a line are those of its program, and the first of them is its name.
+#[test]
+fn names_are_read(rt: HostRuntime) -> Result<(), Fail> {
+    let text = b"portmapper 100000 sunrpc # the first\n";
+    let services = read_services(rt.alloc(), text.as_slice())?;
+    assert_eq!(rt; number_of(&services, b"sunrpc".as_slice()), Some(100_000));
+    assert!(rt; name_of(&services, 100_000) == Some(b"portmapper".as_slice()));
     Ok(())
 }
