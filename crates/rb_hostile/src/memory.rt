@@ -141,7 +141,14 @@ const TABLE: &[u8] =
 fn refused_memory_of_a_reply(rt: HostRuntime) {
     let mut room = [0; 90];
     let mut writer = room.as_mut_slice();
-    let result = show_reply(rt.alloc(), &ASK, Form::Plain, 1, &mut &REPLY[..], &mut writer);
+    let result = show_reply(
+        rt.alloc(),
+        &ASK,
+        Form::Plain,
+        1,
+        &mut &REPLY[..],
+        &mut writer,
+    );
     let len = 90usize.saturating_sub(writer.len());
     let is_right = match result {
         Ok(shown) => shown == Shown::Rows(2) && len == 90,

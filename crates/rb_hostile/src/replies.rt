@@ -138,7 +138,14 @@ fn replies_in_prefixes_to_a_failing_writer(rt: HostRuntime) -> Result<(), Fail> 
             written: Vec::new(rt.alloc()),
             writes,
         };
-        let result = show_reply(rt.alloc(), &ASK, Form::Plain, 1, &mut reply.as_slice(), &mut writer);
+        let result = show_reply(
+            rt.alloc(),
+            &ASK,
+            Form::Plain,
+            1,
+            &mut reply.as_slice(),
+            &mut writer,
+        );
         let wanted = if writes < 7 {
             Err(InfoFault::Write)
         } else {
