@@ -7,3 +7,4 @@ pub mod LineLaws
 pub mod LineGrammar
 pub mod Checking
 pub mod RecordLaws
+pub mod Options

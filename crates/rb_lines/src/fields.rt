@@ -68,7 +68,7 @@ fn plain(text: &[u8], limit: u64) -> Option<u64>
 }
 
 #[tactic(auto, unfolding(crate::specs::Fields::host))]
-fn host(text: &[u8]) -> Option<[u8; 4]>
+pub(crate) fn host(text: &[u8]) -> Option<[u8; 4]>
     ensures { result ≡ host text.now }
 {
     let (a, rest) = cut(text, b'.')?;

@@ -6,8 +6,10 @@ use crate::options::command;
 use crate::service::{Record, Service};
 use clap::error::ErrorKind;
 use clap::{ArgMatches, Error};
-use rb_core::{Limits, Listener};
-use rb_lines::{Beginning, Fault, decimal, explain};
+use rb_core::Limits;
+use rb_lines::{
+    Beginning, Fault, ReplayTexts, Valued, decimal, explain, read_beginning, read_limits, read_port,
+};
 use std::alloc::Global;
 use std::convert::AsStr;
 use std::fmt;
@@ -17,6 +19,10 @@ use std::net::Ipv4Addr;
 
 /// The most addresses of `--bind`.
 const MOST_HOSTS: usize = 16;
+
+const NUMBER: &str = "a number of 64 bits";
+
+const ADDRESS: &str = "an IPv4 address as 192.0.2.1";
 
 /// What a command line asks for.
 #[derive(Debug, Drop)]
@@ -222,26 +228,55 @@ fn mode_of<'a>(matches: &ArgMatches<'a>) -> Result<u32, BadValue<'a>> {
     })
 }
 
+/// What a replay begins with.
 fn beginning_of<'a>(matches: &ArgMatches<'a>) -> Result<Beginning, BadValue<'a>> {
-    let host = host_of(matches, "announce")?;
-    Ok(Beginning {
-        limits: limits_of(matches)?,
-        listener: Listener {
-            host: host.octets(),
-            port: port_of(matches)?,
-        },
-        first_xid: xid_of(matches)?,
-        moment: number_of(matches, "now")?,
+    let texts = ReplayTexts {
+        announce: text_of(matches, "announce"),
+        conns: text_of(matches, "conns"),
+        rows: text_of(matches, "rows"),
+        forwards: text_of(matches, "forwards"),
+        port: text_of(matches, "port"),
+        xid: text_of(matches, "xid"),
+        moment: text_of(matches, "now"),
         steps: matches.get_flag("steps"),
-    })
+    };
+    match read_beginning(&texts) {
+        Ok(beginning) => Ok(beginning),
+        Err(bad) => Err(bad_value(bad, matches)),
+    }
 }
 
 fn limits_of<'a>(matches: &ArgMatches<'a>) -> Result<Limits, BadValue<'a>> {
-    Ok(Limits {
-        conns: size_of(matches, "conns")?,
-        rows: size_of(matches, "rows")?,
-        forwards: size_of(matches, "forwards")?,
-    })
+    let (conns, rows) = (text_of(matches, "conns"), text_of(matches, "rows"));
+    match read_limits(conns, rows, text_of(matches, "forwards")) {
+        Ok(limits) => Ok(limits),
+        Err(bad) => Err(bad_value(bad, matches)),
+    }
+}
+
+fn port_of<'a>(matches: &ArgMatches<'a>) -> Result<u16, BadValue<'a>> {
+    match read_port(text_of(matches, "port")) {
+        Ok(port) => Ok(port),
+        Err(bad) => Err(bad_value(bad, matches)),
+    }
+}
+
+/// What is wrong with the value of an option.
+fn bad_value<'a>(bad: Valued, matches: &ArgMatches<'a>) -> BadValue<'a> {
+    let (option, wanted) = match bad {
+        Valued::Announce => ("announce", ADDRESS),
+        Valued::Conns => ("conns", NUMBER),
+        Valued::Rows => ("rows", NUMBER),
+        Valued::Forwards => ("forwards", NUMBER),
+        Valued::Port => ("port", "a port from 1 to 65535"),
+        Valued::Xid => ("xid", "a number from 0 to 4294967295"),
+        Valued::Now => ("now", NUMBER),
+    };
+    BadValue {
+        option,
+        value: text_of(matches, option),
+        wanted,
+    }
 }
 
 /// The text of an option's value. One without a value has the empty text, which no reading takes.
@@ -254,31 +289,7 @@ fn number_of<'a>(matches: &ArgMatches<'a>, option: &'static str) -> Result<u64, 
     number(value).ok_or(BadValue {
         option,
         value,
-        wanted: "a number of 64 bits",
-    })
-}
-
-/// A limit's number. One that fits in no `usize` is the greatest, which is out of each limit's range.
-fn size_of<'a>(matches: &ArgMatches<'a>, option: &'static str) -> Result<usize, BadValue<'a>> {
-    let number = number_of(matches, option)?;
-    Ok(usize::try_from(number).unwrap_or(usize::MAX))
-}
-
-fn xid_of<'a>(matches: &ArgMatches<'a>) -> Result<u32, BadValue<'a>> {
-    let value = text_of(matches, "xid");
-    xid(value).ok_or(BadValue {
-        option: "xid",
-        value,
-        wanted: "a number from 0 to 4294967295",
-    })
-}
-
-fn port_of<'a>(matches: &ArgMatches<'a>) -> Result<u16, BadValue<'a>> {
-    let value = text_of(matches, "port");
-    port(value).ok_or(BadValue {
-        option: "port",
-        value,
-        wanted: "a port from 1 to 65535",
+        wanted: NUMBER,
     })
 }
 
@@ -290,7 +301,7 @@ fn read_host<'a>(option: &'static str, value: &'a str) -> Result<Ipv4Addr, BadVa
     value.parse::<Ipv4Addr>().map_err(|_| BadValue {
         option,
         value,
-        wanted: "an IPv4 address as 192.0.2.1",
+        wanted: ADDRESS,
     })
 }
 
@@ -310,15 +321,6 @@ fn record_limit(text: &str) -> Option<usize> {
     } else {
         None
     }
-}
-
-fn xid(text: &str) -> Option<u32> {
-    u32::try_from(number(text)?).ok()
-}
-
-fn port(text: &str) -> Option<u16> {
-    let port = u16::try_from(number(text)?).ok()?;
-    if port == 0 { None } else { Some(port) }
 }
 
 /// A number of 64 bits in decimal digits alone, leading zeros allowed. A sign is no digit.

@@ -1,0 +1,109 @@
+//! What the values of the options of `replay` mean.
+ghost use Rattle.std.specs.Prelude.{◌≡◌, ◌^◌};
+ghost use Rattle.rb_lines.specs.Fields.{decimal, host};
+ghost use Rattle.rb_lines.specs.Options.{value_of, port, limits_of, beginning_of};
+
+use crate::fields::{decimal, host};
+use crate::running::Beginning;
+use rb_core::{Limits, Listener};
+
+/// An option that has a value.
+#[derive(Clone, Copy, Debug, PartialEq, Eq)]
+pub enum Valued {
+    Announce,
+    Conns,
+    Rows,
+    Forwards,
+    Port,
+    Xid,
+    Now,
+}
+
+/// The values of the options of `replay`, as texts.
+#[derive(Clone, Copy, Debug, PartialEq, Eq)]
+pub struct ReplayTexts<'a> {
+    /// The listener's host, in dotted decimal form without leading zeros.
+    pub announce: &'a str,
+    pub conns: &'a str,
+    pub rows: &'a str,
+    pub forwards: &'a str,
+    /// From 1 to 65535.
+    pub port: &'a str,
+    /// The number of the first forwarded call, of 32 bits.
+    pub xid: &'a str,
+    /// The first moment, in milliseconds since the start of 1970.
+    pub moment: &'a str,
+    pub steps: bool,
+}
+
+/// A number of 64 bits in decimal digits alone, leading zeros allowed. A sign is no digit.
+fn number(option: Valued, text: &str) -> Result<u64, Valued>
+    ensures { result ≡ value_of option (decimal (2 ^ 64) text.now) }
+{
+    decimal(text.as_bytes()).ok_or(option)
+}
+
+/// An address in dotted decimal form.
+fn address(option: Valued, text: &str) -> Result<[u8; 4], Valued>
+    ensures { result ≡ value_of option (host text.now) }
+{
+    host(text.as_bytes()).ok_or(option)
+}
+
+/// A number of 32 bits.
+#[tactic(auto, unfolding(crate::specs::Fields::decimal))]
+fn number32(option: Valued, text: &str) -> Result<u32, Valued>
+    ensures { result ≡ value_of option (decimal (2 ^ 32) text.now) }
+{
+    let n = number(option, text)?;
+    if n < 0x1_0000_0000 {
+        Ok(n as u32)
+    } else {
+        Err(option)
+    }
+}
+
+/// A port from 1 to 65535. `Port` where the text is none.
+#[tactic(auto, unfolding(crate::specs::Fields::decimal))]
+pub fn read_port(text: &str) -> Result<u16, Valued>
+    ensures { result ≡ value_of Valued.Port (port text.now) }
+{
+    let n = number(Valued::Port, text)?;
+    if 1 <= n && n < 0x1_0000 {
+        Ok(n as u16)
+    } else {
+        Err(Valued::Port)
+    }
+}
+
+/// Limits, whatever their ranges. The first option whose text is no number of 64 bits where one is none.
+pub fn read_limits(conns: &str, rows: &str, forwards: &str) -> Result<Limits, Valued>
+    ensures { result ≡ limits_of conns.now rows.now forwards.now }
+{
+    let conns = number(Valued::Conns, conns)?;
+    let rows = number(Valued::Rows, rows)?;
+    let forwards = number(Valued::Forwards, forwards)?;
+    Ok(Limits {
+        conns: conns as usize,
+        rows: rows as usize,
+        forwards: forwards as usize,
+    })
+}
+
+/// What a replay begins with, or the first option whose value can't be read, in the order of the fields.
+pub fn read_beginning(texts: &ReplayTexts<'_>) -> Result<Beginning, Valued>
+    ensures { result ≡ beginning_of texts.now }
+{
+    let host = address(Valued::Announce, texts.announce)?;
+    let limits = read_limits(texts.conns, texts.rows, texts.forwards)?;
+    let port = read_port(texts.port)?;
+    let first_xid = number32(Valued::Xid, texts.xid)?;
+    let moment = number(Valued::Now, texts.moment)?;
+    Ok(Beginning {
+        limits,
+        listener: Listener { host, port },
+        first_xid,
+        moment,
+        steps: texts.steps,
+    })
+}
