@@ -1,5 +1,6 @@
 -- What `rpcbind replay` does with its input.
-use Rattle.std.specs.Prelude.{◌≡◌, ◌≤◌, ℕ, ◌+◌, ◌++◌, not, true, IsTrue, List, [], take, Option, IfSome, Result, Ok, Err}
+use Rattle.std.specs.Prelude.{◌≡◌, ◌≤◌, ℕ, ◌+◌, ◌++◌, not, true, IsTrue, List, [], take, codes, Option, IfSome, Result, Ok, Err}
+use Rattle.std.specs.Fmt.{decimal}
 use Rattle.std.specs.Io.Buffered.{writer_contents}
 use Rattle.std.specs.declared.io.buffered.BufWriter.{BufWriter}
 use Rattle.rb_model.specs.State.{State, are_good, opening}
@@ -43,6 +44,21 @@ status_of WriteFailed = 1
 status_of NoOutputs = 2
 status_of (Differs n) = 1
 status_of (Lacks n) = 1
+
+-- the line of a fault
+abbrev pub fault_line : Fault → List ℕ
+fault_line NotText = codes "rpcbind: a word is no text\n"
+fault_line (Lines (reading.BadLine n)) = codes "rpcbind: line " ++ (decimal n ++ codes ": bad event\n")
+fault_line (Lines reading.TooLong) = codes "rpcbind: input too long\n"
+fault_line (Lines reading.NoMemory) = codes "rpcbind: no memory\n"
+fault_line NoMemory = codes "rpcbind: no memory\n"
+fault_line BadLimits = codes "rpcbind: bad limits\n"
+fault_line SocketFailed = codes "rpcbind: socket failed\n"
+fault_line ReadFailed = codes "rpcbind: read failed\n"
+fault_line WriteFailed = codes "rpcbind: write failed\n"
+fault_line NoOutputs = codes "rpcbind: no output lines\n"
+fault_line (Differs n) = codes "rpcbind: line " ++ (decimal n ++ codes ": the run gives another output\n")
+fault_line (Lacks n) = codes "rpcbind: output " ++ (decimal n ++ codes " of the run has no line\n")
 
 -- the text is event lines
 abbrev pub IsRead : Result (List Event) ReadFault → Type 0

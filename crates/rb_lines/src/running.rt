@@ -6,8 +6,9 @@ ghost use Rattle.rb_core.specs.StandsFor.{StandsFor};
 ghost use Rattle.rb_model.specs.Plain.{events_of};
 ghost use Rattle.rb_core.specs.Events.{shown};
 ghost use Rattle.rb_lines.specs.Lines.{read};
+ghost use Rattle.rb_record.specs.Printing.{Writes};
 ghost use Rattle.rb_lines.specs.Printing.{report, ending};
-ghost use Rattle.rb_lines.specs.Running.{first, IsFresh, IsRunFrom, KeepsBound, status_of, BufWrites, IsEnoughOf, IsFaultOf, IsCoreFault, IsRefused, Prints, Reads, Replays, Refuses};
+ghost use Rattle.rb_lines.specs.Running.{first, IsFresh, IsRunFrom, KeepsBound, status_of, BufWrites, IsEnoughOf, IsFaultOf, IsCoreFault, IsRefused, Prints, Reads, Replays, Refuses, fault_line};
 
 use crate::limits::bad_limit;
 use crate::lines::{ReadFault, longest_input, read_events};
@@ -17,7 +18,6 @@ use rb_xdr::Meter;
 use std::alloc::Global;
 use std::io;
 use std::io::{BufWriter, Read, Write};
-use thiserror::Error;
 
 /// What the core of a replay begins with.
 #[derive(Clone, Copy, Debug, PartialEq, Eq)]
@@ -33,30 +33,21 @@ pub struct Beginning {
 }
 
 /// Why the program ends before all is done.
-#[derive(Clone, Copy, Debug, Drop, Error, PartialEq, Eq)]
+#[derive(Clone, Copy, Debug, PartialEq, Eq)]
 pub enum Fault {
-    #[error("rpcbind: a word is no text")]
+    /// A word of the command line is no text.
     NotText,
-    #[error("rpcbind: {0}")]
     Lines(ReadFault),
-    #[error("rpcbind: no memory")]
     NoMemory,
-    #[error("rpcbind: bad limits")]
     BadLimits,
-    #[error("rpcbind: socket failed")]
     SocketFailed,
-    #[error("rpcbind: read failed")]
     ReadFailed,
-    #[error("rpcbind: write failed")]
     WriteFailed,
     /// An input that is to be checked has no output lines.
-    #[error("rpcbind: no output lines")]
     NoOutputs,
     /// The line of this number says another output than the run gives there.
-    #[error("rpcbind: line {0}: the run gives another output")]
     Differs(usize),
     /// There is no line for the output of this number.
-    #[error("rpcbind: output {0} of the run has no line")]
     Lacks(usize),
 }
 
@@ -274,10 +265,31 @@ pub(crate) fn explain_run<E: Write>(fault: Fault, limits: &Limits, faults: &mut 
     explain(fault, faults)
 }
 
+/// Writes the line of a fault, with its end.
+fn write_fault<E: Write>(fault: Fault, faults: &mut E) -> io::Result<()>
+    ensures { OnOk result (Writes E.contents faults.old faults.new (fault_line fault)) }
+{
+    match fault {
+        Fault::NotText => faults.write_all(b"rpcbind: a word is no text\n"),
+        Fault::Lines(ReadFault::BadLine(n)) => writeln!(faults, "rpcbind: line {n}: bad event"),
+        Fault::Lines(ReadFault::TooLong) => faults.write_all(b"rpcbind: input too long\n"),
+        Fault::Lines(ReadFault::NoMemory) | Fault::NoMemory => {
+            faults.write_all(b"rpcbind: no memory\n")
+        }
+        Fault::BadLimits => faults.write_all(b"rpcbind: bad limits\n"),
+        Fault::SocketFailed => faults.write_all(b"rpcbind: socket failed\n"),
+        Fault::ReadFailed => faults.write_all(b"rpcbind: read failed\n"),
+        Fault::WriteFailed => faults.write_all(b"rpcbind: write failed\n"),
+        Fault::NoOutputs => faults.write_all(b"rpcbind: no output lines\n"),
+        Fault::Differs(n) => { writeln!(faults, "rpcbind: line {n}: the run gives another output") }
+        Fault::Lacks(n) => writeln!(faults, "rpcbind: output {n} of the run has no line"),
+    }
+}
+
 /// Writes what is wrong, where that can be written, and gives the status.
 pub fn explain<E: Write>(fault: Fault, faults: &mut E) -> u8
     ensures { result ≡ status_of fault }
 {
-    let _ = writeln!(faults, "{fault}");
+    let _ = write_fault(fault, faults);
     fault.status()
 }
