@@ -7,8 +7,8 @@ use crate::sockets::ForwardSocket;
 use crate::stream::Stream;
 use rb_core::Exchanged;
 use rb_policy::{
-    Holder, Next, Origin, Phase, Round, SOCKET_CALLS, after_read, after_write, is_cut_off,
-    is_stuck, outcome_of_count, phase_of, reads_on, round_of,
+    Holder, Next, Origin, Phase, Round, SOCKET_CALLS, after_read, after_write, ends_record,
+    is_cut_off, is_stuck, outcome_of_count, phase_of, reads_on, round_of,
 };
 use std::alloc::{AllocError, Global};
 use std::io::Read;
@@ -290,10 +290,10 @@ impl Link {
         Some(taken.count)
     }
 
-    /// Notes whether a record ended with the bytes that were taken, of so many that were there: it did where a reply
-    /// was given, a call is forwarded or bytes are left. Of another one its reply tells (`take_over`).
+    /// Notes whether a record ended with the bytes that were taken, of so many that were there. Of one that is
+    /// answered later its reply tells (`take_over`).
     fn note_taken(&mut self, taken: usize, held: usize, given: usize) {
-        if given > 0 || self.is_awaiting || (taken > 0 && taken < held) {
+        if ends_record(taken, held, given, self.is_awaiting) {
             self.made_progress = true;
             self.is_reading = false;
         } else if taken > 0 {

@@ -362,8 +362,8 @@ impl Serving {
         self.links.len().saturating_sub(self.taken)
     }
 
-    /// Accepts connections on each listener, beginning with another one in each turn, until they are as many as a turn
-    /// accepts.
+    /// Accepts connections on each listener, beginning with another one in each turn, until they are as many as a
+    /// turn accepts.
     pub(crate) fn accept_all(&mut self, registry: &Registry) -> Result<(), DaemonFault> {
         let mut left = accepts(self.free(), self.links.len());
         for i in 0..self.sockets.listeners.len() {
@@ -383,8 +383,8 @@ impl Serving {
         Ok(())
     }
 
-    /// Accepts connections on the listener of this number, as many as are left for the turn, and says when it is served
-    /// again.
+    /// Accepts connections on the listener of this number, as many as are left for the turn, and says when it is
+    /// served again.
     fn accept_on(
         &mut self,
         registry: &Registry,

@@ -1,5 +1,5 @@
 -- Who gets a place for a connection, and who is given up for it.
-use Rattle.std.specs.Prelude.{◌≡◌, ℕ, ◌-◌, ◌/◌, max, true, false, nat_lt, nat_le, ◌==◌, Bool, not, ◌||◌, IsTrue, List, [], length, slice_get, slice_index, count_by, position, bytes_eq, Option, Some, None}
+use Rattle.std.specs.Prelude.{◌≡◌, ℕ, ◌-◌, ◌/◌, max, true, false, nat_lt, nat_le, ◌==◌, Bool, not, ◌&&◌, ◌||◌, IsTrue, List, [], length, slice_get, slice_index, count_by, position, bytes_eq, Option, Some, None}
 use Rattle.std.specs.declared.cmp.Ordering.{Ordering}
 use Rattle.std.specs.declared.cmp.Ordering.TheVariants.{Less}
 use Rattle.std.specs.Ordering.{nat_cmp, bool_cmp, on, then_cmp}
@@ -36,6 +36,11 @@ phase_of true owed reading = Awaiting
 phase_of false true reading = Owing
 phase_of false false true = Reading
 phase_of false false false = Idle
+
+-- whether a record ended with the bytes that were taken, of so many that were there
+abbrev pub ends_record : ℕ → ℕ → ℕ → Bool → Bool
+ends_record taken held given awaiting =
+    nat_lt 0 taken && (nat_lt 0 given || awaiting || nat_lt taken held)
 
 -- whether it is given up where its socket has taken nothing since a moment
 abbrev pub is_stuck : ℕ → ℕ → Bool

@@ -1,6 +1,6 @@
 //! Who gets a place for a connection, and who is given up for it where all are taken.
 ghost use Rattle.std.specs.Prelude.{◌≡◌, ◌<◌, length, position, MatchOption};
-ghost use Rattle.rb_policy.specs.Door.{is_free, held_by, is_held_by, share, may_hold_more, is_within_share, IsGivenUp, IsAdmitted, origin_of, phase_of, is_stuck};
+ghost use Rattle.rb_policy.specs.Door.{is_free, held_by, is_held_by, share, may_hold_more, is_within_share, IsGivenUp, IsAdmitted, origin_of, phase_of, is_stuck, ends_record};
 ghost use Rattle.rb_policy.specs.Standings.{candidate, sooner, NobodyMayBeGivenUp};
 
 use rb_rpc::Peer;
@@ -51,6 +51,14 @@ pub fn phase_of(is_awaiting: bool, is_owed: bool, is_reading: bool) -> Phase
         (false, false, true) => Phase::Reading,
         (false, false, false) => Phase::Idle,
     }
+}
+
+/// Whether a record ended with the bytes of it that were taken, of so many that were there, as far as can be told: a
+/// reply was given at once, its call is forwarded, or bytes are left. A byte of a record that goes on ends none.
+pub fn ends_record(taken: usize, held: usize, given: usize, is_awaiting: bool) -> bool
+    ensures { result ≡ ends_record taken held given is_awaiting }
+{
+    taken > 0 && (given > 0 || is_awaiting || taken < held)
 }
 
 /// Where a connection came from.

@@ -14,7 +14,8 @@ mod turns;
 pub use addresses::{announced, is_no_address};
 pub use asked::{Ask, Asked};
 pub use door::{
-    ACTIVE, Admission, Holder, OWED, Origin, Phase, admit, is_stuck, origin_of, phase_of,
+    ACTIVE, Admission, Holder, OWED, Origin, Phase, admit, ends_record, is_stuck, origin_of,
+    phase_of,
 };
 pub use laws::door_laws;
 pub use local_file::{FileAction, FileState, file_action};

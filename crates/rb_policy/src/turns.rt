@@ -62,10 +62,10 @@ pub fn asks_for_deadlines(settled: Option<u64>, now: u64) -> bool
     }
 }
 
-/// How many connections a turn accepts, on all listeners together, where so many of all places are free as its accepting
-/// begins: as many as are free, since the next turn may first free some that are taken now. Where none is free, half of
-/// all places, and at least one: so who takes one is served before others of this kind push it out. At most as many as
-/// socket calls of a turn.
+/// How many connections a turn accepts, on all listeners together, where so many of all places are free as its
+/// accepting begins: as many as are free, since the next turn may first free some that are taken now. Where none is
+/// free, half of all places, and at least one: so who takes one is served before others of this kind push it out. At
+/// most as many as socket calls of a turn.
 pub fn accepts(free: usize, all: usize) -> usize
     ensures { result ≡ accepts free all }
 {
