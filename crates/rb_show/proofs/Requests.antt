@@ -1,17 +1,19 @@
 -- Questions are requests of rb_proto.
-use Rattle.std.proofs.Common.{ℕ, zero, suc, ◌<◌, lit<, [], ◌∷◌, List, get_or, Option, Some, None, refl, sym, append-nil, arith}
-use Rattle.rb_xdr.specs.Xdr.{IsNumber, IsContent}
+use Rattle.std.proofs.Common.{ℕ, zero, suc, ◌<◌, lit<, [], ◌∷◌, List, get_or, ◌++◌, append_assoc, Option, Some, None, refl, sym, append-nil, arith}
+use Rattle.rb_xdr.specs.Xdr.{number, opaque, IsNumber, IsContent}
 use Rattle.rb_proto.specs.Arguments.{procedure_at}
 use Rattle.rb_proto.specs.Numbers.{is_void, is_mapping, is_rpcb, is_procedure, number_of}
 use Rattle.rb_proto.specs.Types.{IsMapping, mapping_spelling, IsRpcb, rpcb_spelling}
 use Rattle.rb_proto.specs.Grammar.{BeginsWith}
-use Rattle.rb_show.specs.declared.ask.Question.TheVariants.{Rows, Short, OldRows, OldShort, Summary, OldSummary, Pmap, Entries, Stats, Port, Address, Null, Probe, Unset}
+use Rattle.rb_show.specs.declared.ask.Question.TheVariants.{Rows, Short, OldRows, OldShort, Summary, OldSummary, Pmap, Entries, Stats, Port, Address, Null, Probe, Callit, Unset}
 use Rattle.std.specs.List.{AllByRecursion}
 use Rattle.rb_names.specs.Netids.{netid_text}
 use Rattle.rb_names.specs.declared.netid.Netid.{Netid}
 use Rattle.rb_names.specs.declared.netid.Netid.TheVariants.{Tcp, Udp, Tcp6, Udp6, Local}
-use Rattle.rb_show.specs.Asks.{netid_text_of, rpcb_of, mapping_of}
-use Rattle.rb_show.specs.AskLaws.{QuestionsAreRequests}
+use Rattle.rb_forward.specs.StandsFor.{longest_arguments}
+use Rattle.rb_proto.specs.Remote.{SpellsRemote}
+use Rattle.rb_show.specs.Asks.{netid_text_of, rpcb_of, mapping_of, callit_arguments}
+use Rattle.rb_show.specs.AskLaws.{remote_of, QuestionsAreRequests}
 
 nothing : (limit : ℕ) → IsContent limit []
 nothing limit = (omega arith, omega arith, λ i. omega arith)
@@ -43,6 +45,18 @@ mapping_fits prot prog vers t p v = record {
   whole = sym (append-nil (mapping_spelling (mapping_of prot prog vers)));
 }
 
+remote_fits : (prog vers : ℕ) → IsNumber prog → IsNumber vers → SpellsRemote (remote_of prog vers) (callit_arguments prog vers)
+unfolding opaque number
+remote_fits prog vers p v = record {
+  prog = p;
+  vers = v;
+  proc = omega arith;
+  args = nothing longest_arguments;
+  count = refl;
+  rest = [];
+  whole = append_assoc (number prog) (number vers) (number 0 ++ number 0);
+}
+
 pub are_requests : QuestionsAreRequests
 unfolding is_void is_mapping is_rpcb is_procedure number_of procedure_at
 are_requests Rows fit = (refl, tt)
@@ -58,4 +72,5 @@ are_requests (Port prot prog vers) fit = (refl, mapping_fits prot prog vers fit.
 are_requests (Address netid prog vers) fit = (refl, rpcb_fits (Some netid) prog vers fit.0 fit.1)
 are_requests (Null prog vers) fit = tt
 are_requests (Probe prog vers) fit = tt
+are_requests (Callit prog vers) fit = (refl, remote_fits prog vers fit.0 fit.1)
 are_requests (Unset netid prog vers) fit = (refl, rpcb_fits netid prog vers fit.0 fit.1)

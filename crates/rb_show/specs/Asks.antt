@@ -1,6 +1,7 @@
 -- What is asked of a portmapper (RFC 1833 sections 2.2 and 3.2), and the call that asks it.
 use Rattle.std.specs.Prelude.{ℕ, List, [], ◌++◌, length, true, Option, Some, None, unwrap_or}
 use Rattle.std.specs.Io.KnownBytes.{Appends}
+use Rattle.rb_xdr.specs.Xdr.{number}
 use Rattle.rb_rpc.specs.CallBytes.{call_bytes}
 use Rattle.rb_rpc.specs.declared.call.CallHead.{CallHead}
 use Rattle.rb_rpc.specs.declared.call.Credential.{Credential}
@@ -19,7 +20,7 @@ use Rattle.rb_names.specs.declared.netid.Netid.{Netid}
 use Rattle.rb_names.specs.Netids.{netid_text}
 use Rattle.rb_show.specs.declared.ask.Ask.{Ask}
 use Rattle.rb_show.specs.declared.ask.Question.{Question}
-use Rattle.rb_show.specs.declared.ask.Question.TheVariants.{Rows, Short, OldRows, OldShort, Summary, OldSummary, Pmap, Entries, Stats, Port, Address, Null, Probe, Unset}
+use Rattle.rb_show.specs.declared.ask.Question.TheVariants.{Rows, Short, OldRows, OldShort, Summary, OldSummary, Pmap, Entries, Stats, Port, Address, Null, Probe, Callit, Unset}
 
 -- a procedure of the portmapper in a version that has it
 abbrev pub of_portmapper : ℕ → Procedure → ℕ × ℕ × ℕ
@@ -40,6 +41,7 @@ procedure_of (Port prot prog vers) = of_portmapper 2 (MappingOf mappings.Getport
 procedure_of (Address netid prog vers) = of_portmapper 3 (RpcbOf rpcbs.Getaddr)
 procedure_of (Null prog vers) = (prog, vers, 0)
 procedure_of (Probe prog vers) = (prog, vers, 0)
+procedure_of (Callit prog vers) = (100000, 2, 5)
 procedure_of (Unset netid prog vers) = of_portmapper 4 (RpcbOf rpcbs.Unset)
 
 -- an empty text stands for every netid
@@ -58,6 +60,10 @@ rpcb_arguments netid prog vers = rpcb_spelling (rpcb_of netid prog vers)
 abbrev pub mapping_of : ℕ → ℕ → ℕ → Mapping
 mapping_of prot prog vers = record { prog = prog; vers = vers; prot = prot; port = 0 }
 
+-- procedure 0 of a program's version, with arguments of no bytes
+abbrev pub callit_arguments : ℕ → ℕ → List ℕ
+callit_arguments prog vers = (number prog ++ number vers) ++ (number 0 ++ number 0)
+
 abbrev pub arguments_of : Question → List ℕ
 arguments_of Rows = []
 arguments_of Short = []
@@ -72,6 +78,7 @@ arguments_of (Port prot prog vers) = mapping_spelling (mapping_of prot prog vers
 arguments_of (Address netid prog vers) = rpcb_arguments (Some netid) prog vers
 arguments_of (Null prog vers) = []
 arguments_of (Probe prog vers) = []
+arguments_of (Callit prog vers) = callit_arguments prog vers
 arguments_of (Unset netid prog vers) = rpcb_arguments netid prog vers
 
 -- AUTH_NONE without a uid

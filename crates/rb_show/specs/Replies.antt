@@ -18,7 +18,7 @@ use Rattle.rb_ask.specs.Lists.{tell_items, greatest_list}
 use Rattle.rb_ask.specs.WholeLists.{take_items}
 use Rattle.rb_show.specs.declared.ask.Ask.{Ask}
 use Rattle.rb_show.specs.declared.ask.Question.{Question}
-use Rattle.rb_show.specs.declared.ask.Question.TheVariants.{Rows, Short, OldRows, OldShort, Summary, OldSummary, Pmap, Entries, Stats, Port, Address, Null, Probe, Unset}
+use Rattle.rb_show.specs.declared.ask.Question.TheVariants.{Rows, Short, OldRows, OldShort, Summary, OldSummary, Pmap, Entries, Stats, Port, Address, Null, Probe, Callit, Unset}
 use Rattle.rb_show.specs.declared.form.Form.{Form}
 use Rattle.rb_show.specs.declared.show.Shown.{Shown}
 use Rattle.rb_show.specs.declared.show.Shown.TheVariants as shown
@@ -86,6 +86,7 @@ tell_results form (Port prot prog vers) = tell_port
 tell_results form (Address netid prog vers) = tell_address
 tell_results form (Null prog vers) = tell_ready prog vers
 tell_results form (Probe prog vers) = give shown.Null
+tell_results form (Callit prog vers) = tell_port
 tell_results form (Unset netid prog vers) = tell_unset
 
 abbrev pub is_success : ReplyStatus → Bool

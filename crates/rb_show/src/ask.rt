@@ -14,6 +14,15 @@ use std::io::Write;
 /// Program 100000, the portmapper.
 const PORTMAPPER: u32 = 100_000;
 
+/// The number of CALLIT in version 2.
+const CALLIT: u32 = 5;
+
+/// Procedure 0 of any program.
+const NULL: u32 = 0;
+
+/// The count of arguments that are none.
+const NO_BYTES: u32 = 0;
+
 /// More bytes than any call has.
 const LONGEST_CALL: usize = 1024;
 
@@ -46,6 +55,8 @@ pub enum Question {
     Null(u32, u32),
     /// The same, of which nothing is shown.
     Probe(u32, u32),
+    /// CALLIT of version 2, of procedure 0 of a program and a version.
+    Callit(u32, u32),
     /// UNSET of version 4, of a program and a version on this netid, or on all.
     Unset(Option<Netid>, u32, u32),
 }
@@ -80,6 +91,7 @@ fn procedure_of(question: Question) -> (u32, u32, u32)
         Question::Port(_, _, _) => of_portmapper(2, Procedure::Mapping(MappingProcedure::Getport)),
         Question::Address(_, _, _) => of_portmapper(3, Procedure::Rpcb(RpcbProcedure::Getaddr)),
         Question::Null(prog, vers) | Question::Probe(prog, vers) => (prog, vers, 0),
+        Question::Callit(_, _) => (PORTMAPPER, 2, CALLIT),
         Question::Unset(_, _, _) => of_portmapper(4, Procedure::Rpcb(RpcbProcedure::Unset)),
     }
 }
@@ -146,6 +158,7 @@ fn put_arguments(question: Question, out: &mut Kept, meter: &mut Meter) -> Resul
         Question::Entries(prog, vers) => put_rpcb(None, prog, vers, out, meter),
         Question::Address(netid, prog, vers) => put_rpcb(Some(netid), prog, vers, out, meter),
         Question::Unset(netid, prog, vers) => put_rpcb(netid, prog, vers, out, meter),
+        Question::Callit(prog, vers) => ((prog, vers), (NULL, NO_BYTES)).put(out, meter),
         Question::Port(prot, prog, vers) => {
             let mapping = Mapping {
                 prog,

@@ -245,6 +245,7 @@ fn show_results<R: Read, W: Write>(
         Question::Address(_, _, _) => take_address(alloc, reader, at),
         Question::Null(prog, vers) => show_ready(alloc, prog, vers, writer),
         Question::Probe(_, _) => Ok(Shown::Null),
+        Question::Callit(_, _) => take_port(alloc, reader, at),
         Question::Unset(_, _, _) => show_unset(alloc, reader, at, writer),
     }
 }

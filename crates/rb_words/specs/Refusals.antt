@@ -21,6 +21,7 @@ flag_text flags.Statistics = codes "-m"
 flag_text flags.Tcp = codes "-t"
 flag_text flags.Udp = codes "-u"
 flag_text flags.Delete = codes "-d"
+flag_text flags.Broadcast = codes "-b"
 
 abbrev pub layout_text : Layout → List ℕ
 layout_text layouts.Names = codes "--names"
@@ -39,6 +40,7 @@ spot_text shape spots.Target = text_or_none shape.target
 spot_text shape spots.Netid = text_or_none shape.netid
 spot_text shape spots.Address = text_or_none shape.address
 spot_text shape spots.Local = text_or_none shape.local
+spot_text shape spots.Broadcast = text_or_none shape.broadcast
 spot_text shape (spots.Layout layout) = layout_text layout
 spot_text shape (spots.Word i) = text_or_none (slice_get shape.words.now i)
 spot_text shape spots.End = []
@@ -58,6 +60,8 @@ wanted_text wants.Ping = codes "-n goes with -t and -u alone"
 wanted_text wants.NoFlagOrDelete = codes "-T goes with -d, or with no flag"
 wanted_text wants.NetidAlone = codes "-a goes with -T, and with no flag"
 wanted_text wants.NoHost = codes "--local goes with no HOST"
+wanted_text wants.Broadcast = codes "an IPv4 address is wanted, as 192.0.2.255"
+wanted_text wants.BroadcastAlone = codes "--broadcast goes with -b alone"
 wanted_text wants.OneLayout = codes "one of --names and --json at most is wanted"
 wanted_text wants.Objects = codes "--json goes with -p, -l, -m, or with no flag and no -T"
 wanted_text wants.List = codes "--names goes with -p, -s, -l, or with no flag and no -T"

@@ -28,7 +28,7 @@ use Rattle.rb_names.specs.Netids.{netid_of}
 use Rattle.rb_names.specs.Services.{number_of}
 use Rattle.rb_words.specs.declared.plan.Means.{Means}
 use Rattle.rb_words.specs.declared.plan.Plan.{Plan}
-use Rattle.rb_words.specs.declared.plan.Plan.TheVariants.{Show, Entries, Ping, Delete}
+use Rattle.rb_words.specs.declared.plan.Plan.TheVariants.{Show, Entries, Ping, Delete, Broadcast}
 use Rattle.rb_names.specs.Numbers.{number_in}
 
 -- ---- refusals
@@ -196,6 +196,9 @@ deleted shape = do
   program ← program_and_version shape
   Ok (Delete netid program.0 program.1)
 
+abbrev pub broadcast : Shape → Result Plan Refusal
+broadcast shape = program_and_version shape >>= λ program. Ok (Broadcast program.0 program.1)
+
 abbrev pub plan_of : Option Flag → Shape → Result Plan Refusal
 plan_of None shape = without_flag shape
 plan_of (Some flags.Table) shape = shown listings.Table shape.words.now
@@ -206,6 +209,7 @@ plan_of (Some flags.Statistics) shape = shown listings.Statistics shape.words.no
 plan_of (Some flags.Tcp) shape = by_transport transports.Tcp shape
 plan_of (Some flags.Udp) shape = by_transport transports.Udp shape
 plan_of (Some flags.Delete) shape = deleted shape
+plan_of (Some flags.Broadcast) shape = broadcast shape
 
 -- ---- which options a flag has
 
@@ -213,6 +217,10 @@ abbrev pub is_ping : Option Flag → Bool
 is_ping (Some flags.Tcp) = true
 is_ping (Some flags.Udp) = true
 is_ping _ = false
+
+abbrev pub is_broadcast : Option Flag → Bool
+is_broadcast (Some flags.Broadcast) = true
+is_broadcast _ = false
 
 abbrev pub may_have_netid : Option Flag → Bool
 may_have_netid None = true
@@ -231,6 +239,7 @@ abbrev pub placed : Option Flag → Shape → Result (Unit {0}) Refusal
 placed flag shape = do
   _ ← only_where (is_some shape.target) (is_ping flag) spots.Target wants.Ping
   _ ← only_where (is_some shape.netid) (may_have_netid flag) spots.Netid wants.NoFlagOrDelete
+  _ ← only_where (is_some shape.broadcast) (is_broadcast flag) spots.Broadcast wants.BroadcastAlone
   only_where (is_some shape.address) (has_address flag (is_some shape.netid)) spots.Address wants.NetidAlone
 
 -- the portmapper of this machine is asked
@@ -258,6 +267,7 @@ has_layout (Show listing source) layout = shown_with listing layout
 has_layout (Entries source prog vers) layout = true
 has_layout (Ping means prog vers) layout = false
 has_layout (Delete netid prog vers) layout = false
+has_layout (Broadcast prog vers) layout = false
 
 -- at most one layout, and one that the plan has
 abbrev pub layout_of : List Layout → Plan → Result (Option Layout) Refusal

@@ -57,6 +57,8 @@ pub enum Plan {
     Ping(Means, u32, Option<u32>),
     /// UNSET of a program and a version on this machine, on one netid or on all.
     Delete(Option<Netid>, u32, u32),
+    /// Procedure 0 of a program and a version, by the portmappers of a network.
+    Broadcast(u32, u32),
 }
 
 /// How a list is written, where it is not in columns alone.

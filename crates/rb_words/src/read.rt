@@ -1,6 +1,6 @@
 //! Reads the words of a command line.
 ghost use Rattle.std.specs.Prelude.{◌≡◌, ◌<◌};
-ghost use Rattle.rb_words.specs.Words.{flag_of, option_number, number_at, program_of, program_at, ends_at, source_of, source_at, host_at, shown, listed, pinged, pinged_at_host, program_and_version, option_netid, by_netid, by_transport, without_flag, deleted, plan_of, is_ping, may_have_netid, is_here, wanted_with, has_layout, layout_of, only_where, placed, request_of};
+ghost use Rattle.rb_words.specs.Words.{flag_of, option_number, number_at, program_of, program_at, ends_at, source_of, source_at, host_at, shown, listed, pinged, pinged_at_host, program_and_version, option_netid, by_netid, by_transport, without_flag, deleted, plan_of, is_ping, is_broadcast, broadcast, may_have_netid, is_here, wanted_with, has_layout, layout_of, only_where, placed, request_of};
 
 use crate::plan::{Layout, Listing, Means, Plan, Request, Source, Transport};
 use crate::refusal::{Refusal, Spot, Wanted};
@@ -239,6 +239,13 @@ fn deleted(shape: &Shape<'_, '_, '_>) -> Result<Plan, Refusal>
     Ok(Plan::Delete(netid, prog, vers))
 }
 
+fn broadcast(shape: &Shape<'_, '_, '_>) -> Result<Plan, Refusal>
+    ensures { result ≡ broadcast shape.now }
+{
+    let (prog, vers) = program_and_version(shape)?;
+    Ok(Plan::Broadcast(prog, vers))
+}
+
 /// What the flag asks for.
 fn plan_of(flag: Option<Flag>, shape: &Shape<'_, '_, '_>) -> Result<Plan, Refusal>
     ensures { result ≡ plan_of flag shape.now }
@@ -253,6 +260,7 @@ fn plan_of(flag: Option<Flag>, shape: &Shape<'_, '_, '_>) -> Result<Plan, Refusa
         Some(Flag::Tcp) => by_transport(Transport::Tcp, shape),
         Some(Flag::Udp) => by_transport(Transport::Udp, shape),
         Some(Flag::Delete) => deleted(shape),
+        Some(Flag::Broadcast) => broadcast(shape),
     }
 }
 
@@ -260,6 +268,12 @@ fn is_ping(flag: Option<Flag>) -> bool
     ensures { result ≡ is_ping flag }
 {
     matches!(flag, Some(Flag::Tcp | Flag::Udp))
+}
+
+fn is_broadcast(flag: Option<Flag>) -> bool
+    ensures { result ≡ is_broadcast flag }
+{
+    matches!(flag, Some(Flag::Broadcast))
 }
 
 fn may_have_netid(flag: Option<Flag>) -> bool
@@ -295,6 +309,12 @@ fn placed(flag: Option<Flag>, shape: &Shape<'_, '_, '_>) -> Result<(), Refusal>
         Spot::Netid,
         Wanted::NoFlagOrDelete,
     )?;
+    only_where(
+        shape.broadcast.is_some(),
+        is_broadcast(flag),
+        Spot::Broadcast,
+        Wanted::BroadcastAlone,
+    )?;
     let address = netid && flag.is_none();
     only_where(
         shape.address.is_some(),
@@ -311,7 +331,7 @@ fn is_here(plan: Plan) -> bool
     match plan {
         Plan::Show(_, source) => matches!(source, Source::Here),
         Plan::Delete(..) => true,
-        Plan::Entries(..) | Plan::Ping(..) => false,
+        Plan::Entries(..) | Plan::Ping(..) | Plan::Broadcast(..) => false,
     }
 }
 
@@ -339,7 +359,7 @@ fn has_layout(plan: Plan, layout: Layout) -> bool
             Listing::Short | Listing::Summary
         ),
         (Plan::Entries(..), _) => true,
-        (Plan::Ping(..) | Plan::Delete(..), _) => false,
+        (Plan::Ping(..) | Plan::Delete(..) | Plan::Broadcast(..), _) => false,
     }
 }
 

@@ -19,6 +19,7 @@ pub enum Spot {
     Netid,
     Address,
     Local,
+    Broadcast,
     Layout(Layout),
     /// The word of this number, from 0.
     Word(usize),
@@ -49,6 +50,10 @@ pub enum Wanted {
     NetidAlone,
     /// `--local` goes with forms that have no HOST.
     NoHost,
+    /// An IPv4 address.
+    Broadcast,
+    /// `--broadcast` goes with `-b` alone.
+    BroadcastAlone,
     OneLayout,
     /// `--names` goes with lists of programs.
     List,
@@ -76,6 +81,7 @@ fn flag_text(flag: Flag) -> &'static str
         Flag::Tcp => "-t",
         Flag::Udp => "-u",
         Flag::Delete => "-d",
+        Flag::Broadcast => "-b",
     }
 }
 
@@ -101,6 +107,7 @@ fn spot_text<'a>(shape: &Shape<'_, 'a, '_>, at: Spot) -> &'a str
         Spot::Netid => shape.netid.unwrap_or(""),
         Spot::Address => shape.address.unwrap_or(""),
         Spot::Local => shape.local.unwrap_or(""),
+        Spot::Broadcast => shape.broadcast.unwrap_or(""),
         Spot::Layout(layout) => layout_text(layout),
         Spot::Word(i) => shape.words.get(i).copied().unwrap_or(""),
         Spot::End => "",
@@ -126,6 +133,8 @@ fn wanted_text(wanted: Wanted) -> &'static str
         Wanted::NoFlagOrDelete => "-T goes with -d, or with no flag",
         Wanted::NetidAlone => "-a goes with -T, and with no flag",
         Wanted::NoHost => "--local goes with no HOST",
+        Wanted::Broadcast => "an IPv4 address is wanted, as 192.0.2.255",
+        Wanted::BroadcastAlone => "--broadcast goes with -b alone",
         Wanted::OneLayout => "one of --names and --json at most is wanted",
         Wanted::List => "--names goes with -p, -s, -l, or with no flag and no -T",
         Wanted::Objects => "--json goes with -p, -l, -m, or with no flag and no -T",

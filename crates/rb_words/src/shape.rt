@@ -23,6 +23,8 @@ pub enum Flag {
     Udp,
     /// `-d`
     Delete,
+    /// `-b`
+    Broadcast,
 }
 
 /// What stands on a command line, unread.
@@ -41,6 +43,8 @@ pub struct Shape<'s, 'a, 'n> {
     pub address: Option<&'a str>,
     /// `--local`
     pub local: Option<&'a str>,
+    /// `--broadcast`
+    pub broadcast: Option<&'a str>,
     /// `--names`, `--json`
     pub layouts: &'s [Layout],
     /// The words that belong to no option, in their order.

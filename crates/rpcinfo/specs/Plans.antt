@@ -7,7 +7,7 @@ use Rattle.rb_words.specs.declared.plan.Listing.TheVariants as listings
 use Rattle.rb_words.specs.declared.plan.Means.{Means}
 use Rattle.rb_words.specs.declared.plan.Means.TheVariants as means
 use Rattle.rb_words.specs.declared.plan.Plan.{Plan}
-use Rattle.rb_words.specs.declared.plan.Plan.TheVariants.{Show, Entries, Ping, Delete}
+use Rattle.rb_words.specs.declared.plan.Plan.TheVariants.{Show, Entries, Ping, Delete, Broadcast}
 use Rattle.rb_words.specs.declared.plan.Source.{Source}
 use Rattle.rb_words.specs.declared.plan.Source.TheVariants.{Here}
 use Rattle.rb_ask.specs.declared.fault.InfoFault.TheVariants.{Unreadable, Refused, TooMany}
@@ -42,6 +42,7 @@ plan_question (Show listing source) = Some (source, question_of listing)
 plan_question (Entries source prog vers) = Some (source, questions.Entries prog vers)
 plan_question (Delete netid prog vers) = Some (Here, questions.Unset netid prog vers)
 plan_question (Ping means prog vers) = None
+plan_question (Broadcast prog vers) = None
 
 abbrev pub known_at : Netid → Uaddr → Way
 known_at netid address = ways.Known (places.Address (transport_of netid) address)

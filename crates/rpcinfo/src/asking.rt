@@ -10,7 +10,7 @@ use crate::input::FIRST_XID;
 use crate::net::{Peer, ask_datagram, ask_stream};
 use crate::plans::{aim_of, answer_of, ended, way_of};
 use crate::words::Words;
-use rb_course::{Course, Place, asked, begin, fallback, next, show_lack};
+use rb_course::{Course, Place, Stage, asked, begin, fallback, next, show_lack};
 use rb_show::{Ask, Form, InfoFault, Question, Shown};
 use rb_words::{Means, Transport};
 use std::alloc::Global;
@@ -168,13 +168,15 @@ fn ask_at<N: Net + Clock, O: Write>(
     }
 }
 
-/// Calls procedure 0 of a program on a host, in the version that is named or in each that it has.
+/// Calls procedure 0 of a program on a host, in the version that is named or in each that it has. It is noted where the
+/// portmapper was asked by version 2 in place of 3.
 fn run_course<N: Net + Clock, O: Write>(
     alloc: Global,
     net: &N,
     portmapper: SocketAddr,
     course: &Course,
     vers: Option<u32>,
+    is_old: &mut bool,
     output: &mut O,
 ) -> Result<Shown, Fault> {
     let mut stage = begin(course, aim_of(vers));
@@ -182,6 +184,9 @@ fn run_course<N: Net + Clock, O: Write>(
         let Some((place, ask)) = asked(course, stage) else {
             break;
         };
+        if matches!(stage, Stage::FindOld(..)) {
+            *is_old = true;
+        }
         let reply = ask_at(alloc, net, place, portmapper, &ask, xid, output);
         let step = next(course, stage, answer_of(reply)?);
         if let Some(vers) = step.lacks {
@@ -212,12 +217,13 @@ fn ping_named<N: Net + Clock, O: Write>(
         if !is_of(course.way, *address) {
             continue;
         }
-        let answer = run_course(alloc, net, *address, course, vers, output);
+        let mut is_old = false;
+        let answer = run_course(alloc, net, *address, course, vers, &mut is_old, output);
         if answer == Err(Fault::NoConnection) {
             last = Fault::NoConnection;
             continue;
         }
-        return (answer, notices_of(*address, addresses.len(), false));
+        return (answer, notices_of(*address, addresses.len(), is_old));
     }
     silently(Err(last))
 }
@@ -243,7 +249,8 @@ pub fn ping<N: Net + Clock, O: Write>(
     match means {
         Means::Address(_) => {
             let portmapper = here(words.request.port);
-            silently(run_course(alloc, net, portmapper, &course, vers, output))
+            let mut is_old = false;
+            silently(run_course(alloc, net, portmapper, &course, vers, &mut is_old, output))
         }
         Means::Mapped(_) | Means::Port(..) | Means::Netid(_) => ping_named(
             alloc, net, words, &course, vers, output,

@@ -2,6 +2,7 @@
 #![tactic(auto)]
 
 mod asking;
+mod broadcast;
 mod ending;
 mod fault;
 mod hosts;

@@ -12,13 +12,13 @@ use std::rt::Clock;
 use std::time::{Duration, Instant};
 
 /// No datagram has more bytes.
-const LONGEST_DATAGRAM: usize = 65_536;
+pub const LONGEST_DATAGRAM: usize = 65_536;
 
 /// The header of the only fragment of a record.
 const LAST: u32 = 1 << 31;
 
 /// How many bytes it has.
-const HEADER: usize = 4;
+pub const HEADER: usize = 4;
 
 /// Where a call goes over a connection.
 #[derive(Clone, Copy, Debug)]
@@ -71,7 +71,7 @@ pub fn ask_stream<N: Net + Clock, W: Write>(
 }
 
 /// The record that a datagram is, in one fragment.
-fn marked(alloc: Global, datagram: &[u8]) -> Result<Vec<u8>, AllocError> {
+pub fn marked(alloc: Global, datagram: &[u8]) -> Result<Vec<u8>, AllocError> {
     let len = u32::try_from(datagram.len()).unwrap_or(u32::MAX);
     let header = (LAST | len).to_be_bytes();
     let mut record = Vec::new(alloc);

@@ -29,7 +29,7 @@ pub fn plan_question(plan: Plan) -> Option<(Source, Question)>
         Plan::Show(listing, source) => Some((source, question_of(listing))),
         Plan::Entries(source, prog, vers) => Some((source, Question::Entries(prog, vers))),
         Plan::Delete(netid, prog, vers) => Some((Source::Here, Question::Unset(netid, prog, vers))),
-        Plan::Ping(..) => None,
+        Plan::Ping(..) | Plan::Broadcast(..) => None,
     }
 }
 

@@ -4,6 +4,7 @@ ghost use Rattle.rpcinfo.specs.Ending.{EndsBy, IsNothing};
 ghost use Rattle.rpcinfo.specs.Running.{ask_of, no_notices, Answers, IsExplained, IsFlushed, IsNoticed, IsSilent, ShowsAs};
 
 use crate::asking::{Answered, ask_here, ask_named, ping, silently};
+use crate::broadcast::broadcast;
 use crate::ending::{Ending, conclude, explain};
 use crate::fault::Fault;
 use crate::input::show_input;
@@ -65,6 +66,9 @@ fn carry_course<N: Net + Clock, O: Write>(
 ) -> Answered {
     match words.request.plan {
         Plan::Ping(means, prog, vers) => ping(alloc, net, words, means, prog, vers, output),
+        Plan::Broadcast(prog, vers) => {
+            silently(broadcast(alloc, net, words, prog, vers, output))
+        }
         Plan::Show(..) | Plan::Entries(..) | Plan::Delete(..) => silently(Err(Fault::NoConnection)),
     }
 }

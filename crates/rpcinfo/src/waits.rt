@@ -13,6 +13,8 @@ pub struct Waits {
     pub whole: u64,
     /// For the datagram of a reply.
     pub datagram: u64,
+    /// For all answers to a broadcast.
+    pub broadcast: u64,
 }
 
 /// Other clients of ONC RPC wait for 25 seconds too.
@@ -21,6 +23,7 @@ pub const WAITS: Waits = Waits {
     silence: 25_000,
     whole: 60_000,
     datagram: 5_000,
+    broadcast: 5_000,
 };
 
 /// How long may be waited now, at most `most`, where so much of `whole` has passed. Once it is over, nothing may.

@@ -17,12 +17,13 @@ use rb_words::{
 use std::alloc::{AllocError, Global};
 use std::convert::AsStr;
 use std::io::Write;
+use std::net::Ipv4Addr;
 
 /// The names of programs.
 const PROGRAMS: &str = "/etc/rpc";
 
 /// Each flag of one letter with its name and its help.
-const FLAGS: [(Flag, char, &str, &str); 7] = [
+const FLAGS: [(Flag, char, &str, &str); 8] = [
     (
         Flag::Table,
         'p',
@@ -60,6 +61,12 @@ const FLAGS: [(Flag, char, &str, &str); 7] = [
         "delete",
         "Removes a program's version from this machine",
     ),
+    (
+        Flag::Broadcast,
+        'b',
+        "broadcast-call",
+        "Has the portmappers of a network call procedure 0 of a program",
+    ),
 ];
 
 /// Each layout with its name and its help.
@@ -86,6 +93,8 @@ pub struct Words<'a, 'n> {
     pub address: Option<Uaddr>,
     /// The path of `--local`.
     pub local: Option<&'a str>,
+    /// Where a broadcast goes.
+    pub network: Ipv4Addr,
     /// How a list is written.
     pub form: Form<'n>,
 }
@@ -135,6 +144,12 @@ fn with_places<'a>(alloc: Global, command: Command<'a>) -> Result<Command<'a>, A
         "ADDRESS",
         "the address that is called, with -T",
     );
+    let network = option(
+        alloc,
+        "broadcast",
+        "ADDRESS",
+        "where -b goes [255.255.255.255]",
+    );
     let target = option(
         alloc,
         "target",
@@ -142,6 +157,7 @@ fn with_places<'a>(alloc: Global, command: Command<'a>) -> Result<Command<'a>, A
         "the port that is called, with -t and -u",
     );
     command
+        .arg(network.long("broadcast"))?
         .arg(netid.short('T'))?
         .arg(address.short('a'))?
         .arg(target.short('n'))
@@ -318,6 +334,26 @@ fn read_address<E: Write>(
     }
 }
 
+/// The address of `--broadcast`, or that of this network.
+fn read_network<E: Write>(shape: &Shape<'_, '_, '_>, faults: &mut E) -> Result<Ipv4Addr, Ending>
+    ensures read { OnOk result (faults.new ≡ faults.old) }
+    ensures refused { IfErr result (λ ending. ending.status ≡ 2) }
+{
+    let Some(text) = shape.broadcast else {
+        return Ok(Ipv4Addr::BROADCAST);
+    };
+    match text.parse::<Ipv4Addr>() {
+        Ok(address) => Ok(address),
+        Err(_) => {
+            let refusal = Refusal {
+                at: Spot::Broadcast,
+                wanted: Wanted::Broadcast,
+            };
+            Err(refuse(shape, refusal, faults))
+        }
+    }
+}
+
 /// What the words ask for, where programs may be given by these names. Faults are written, and then the `Err` says how
 /// the command ended.
 pub fn read_matches<'a, 'n, E: Write>(
@@ -344,17 +380,20 @@ pub fn read_matches<'a, 'n, E: Write>(
         netid: matches.get_str("netid"),
         address: matches.get_str("address"),
         local: matches.get_str("local"),
+        broadcast: matches.get_str("broadcast"),
         layouts: &layouts,
         words,
         services,
     };
     let request = read_shape(&shape, faults)?;
     let address = read_address(&shape, faults)?;
+    let network = read_network(&shape, faults)?;
     Ok(Words {
         request,
         host: words.first().copied().unwrap_or(""),
         address,
         local: matches.get_str("local"),
+        network,
         form: form_of(&request, services),
     })
 }
