@@ -5,6 +5,10 @@
 # where fewer than 99 of 100 calls were answered, one waited over 50 milliseconds, or memory grew by a page.
 # tests/hostile/attacks.py has them.
 #
+# With RECORD=1 in the environment the daemon records its events, up to as many bytes as a replay reads; an attack then
+# fails too where `rpcbind replay --check` does not agree with its record, or the good client's first reply over TCP is
+# not in it. A call may then wait 200 milliseconds, since the lists that are given are written down too.
+#
 # The program may be another one: `PROGRAM=PATH make hostile`. Words are names of attacks, in place of all. As root it
 # runs in a network namespace of its own, where attackers and good client have addresses of their own; else on the
 # loopback, at high ports, where all of them are peers of this host. Wants python3. The last line is 'N passed, N
