@@ -12,8 +12,8 @@ use std::net::{IpAddr, Ipv4Addr, Net, SocketAddr, UdpSocket};
 use std::rt::Clock;
 use std::time::{Duration, Instant};
 
-/// At most so many portmappers are shown.
-const MOST_RESPONDERS: u32 = 4096;
+/// At most so many datagrams are looked at.
+const MOST_DATAGRAMS: u32 = 4096;
 
 /// A socket from which the call went to every host of the network.
 fn call_all<N: Net>(net: &N, network: SocketAddr, call: &[u8]) -> io::Result<UdpSocket> {
@@ -102,7 +102,7 @@ pub fn broadcast<N: Net + Clock, O: Write>(
         return Err(Fault::Info(InfoFault::Memory));
     }
     let mut seen = Vec::new(alloc);
-    for _ in 0..MOST_RESPONDERS {
+    for _ in 0..MOST_DATAGRAMS {
         let Ok((len, sender)) = next_answer(net, &socket, begun, &mut datagram) else {
             break;
         };

@@ -153,8 +153,8 @@ fn run_matches<N: Net + Clock + Files, I: Read, O: Write, E: Write>(
 /// Runs the command that the words name, and answers how it ended, with its exit status.
 ///
 /// 0 says that what was asked is printed and written out; 1 that reading, writing, memory or the reply failed, or that
-/// UNSET removed nothing, which is said to `faults`; 2 that the words can't be read, and nothing was read
-/// or asked.
+/// UNSET removed nothing, which is said to `faults`; 2 that the words can't be read: then `input` was not read, and
+/// nothing was asked.
 pub fn run_info<N: Net + Clock + Files, S: AsStr, I: Read, O: Write, E: Write>(
     alloc: Global,
     net: &N,
