@@ -110,7 +110,7 @@ whole_leaves : (clock : ℕ) (c : Connection) (reply given : List ℕ) → 0 < l
 unfolding when_given settled
 whole_leaves clock c reply given some is =
     cond-false _ _ _ (nonzero (length given) some)
-    ∙ ap (λ (p : Phase). record c { phase = p; mark = clock }) (idle_then (length given) reply (omega (arith, ap (λ (xs : List ℕ). length xs) is)))
+    ∙ ap (λ (p : Phase). record c { phase = p; since = clock }) (idle_then (length given) reply (omega (arith, ap (λ (xs : List ℕ). length xs) is)))
 
 -- Nothing is left of a reply that is given whole,
 pub leaves_none : (source : Source) (served : CodeServed) (before after : Kept) (given : List ℕ) → 0 < length given → IsGivenAtOnce served before after given

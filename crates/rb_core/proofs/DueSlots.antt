@@ -16,4 +16,4 @@ time_as_stage source stage buffer window phase h =
 
 pub due_alike : (source : Source) (clock : ℕ) (slot : Slot) (c : Connection) → StandsForConnection source slot c → is_due_slot clock slot ≡ is_due clock c
 unfolding is_due_slot is_due
-due_alike source clock slot c h = rw (h.mark, time_as_stage source slot.stage slot.buffer slot.window c.phase h.phase) refl
+due_alike source clock slot c h = rw (h.since, time_as_stage source slot.stage slot.buffer slot.window c.phase h.phase) refl

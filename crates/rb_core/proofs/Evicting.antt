@@ -62,7 +62,7 @@ evicted_stands source changes earliest slot c e h =
     rw same (by_test (began_early earliest (slot_began slot)))
   where
     by_test : (b : Bool) → StandsForConnection source (cond b (record slot { stage = stages.Lost }) slot) (cond b (record c { phase = Lost }) c)
-    by_test true = record { number = h.number; peer = h.peer; mark = h.mark; phase = tt }
+    by_test true = record { number = h.number; peer = h.peer; since = h.since; phase = tt }
     by_test false = h
 
 pub marked_is : (earliest : ℕ) (slot gone : Slot) → gone ≡ slot → began_early earliest (slot_began slot) ≡ true → record gone { stage = stages.Lost } ≡ evicted_slot earliest slot

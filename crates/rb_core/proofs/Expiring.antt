@@ -50,19 +50,19 @@ module _ (source : Source) (clock : ℕ) (table : Table) where
         let l = locate (StandsForConnection source) (is_wanted_slot (wanted.Due clock)) (is_wanted (wanted.Due clock)) (wanted_alike source (wanted.Due clock)) table.slots c.all k slot d z.all h v in
         let same = due-changed clock lost c.all l.value (apart source table.given (values_of table.slots) c.all z.all n) l.found in
         rw l.found (record {
-          all = rw same (l.changed new lost (rw becomes (record { number = l.related.number; peer = l.related.peer; mark = l.related.mark; phase = tt })));
+          all = rw same (l.changed new lost (rw becomes (record { number = l.related.number; peer = l.related.peer; since = l.related.since; phase = tt })));
           next = z.next;
         });
   }
 
 -- ---- one that is due awaits no forwarded call
 
-not-awaiting : (clock mark : ℕ) (stage : Stage) → has_come clock (deadline mark (phase_like stage)) ≡ true → is_awaiting_stage stage ≡ false
-not-awaiting clock mark stages.Idle h = refl
-not-awaiting clock mark (stages.Reading reader) h = refl
-not-awaiting clock mark (stages.Giving giving) h = refl
-not-awaiting clock mark stages.Awaiting h = absurd cc
-not-awaiting clock mark stages.Lost h = refl
+not-awaiting : (clock since : ℕ) (stage : Stage) → has_come clock (deadline since (phase_like stage)) ≡ true → is_awaiting_stage stage ≡ false
+not-awaiting clock since stages.Idle h = refl
+not-awaiting clock since (stages.Reading reader) h = refl
+not-awaiting clock since (stages.Giving giving) h = refl
+not-awaiting clock since stages.Awaiting h = absurd cc
+not-awaiting clock since stages.Lost h = refl
 
 pub due-free : (clock k : ℕ) (es : List (ℕ × Slot)) (slot : Slot) → HasDistinctKeys es → option_map (λ e. e.0) (wanted_slot (wanted.Due clock) es) ≡ Some k → value_at es k ≡ Some slot
     → is_awaiting_stage slot.stage ≡ false
@@ -70,4 +70,4 @@ unfolding wanted_slot is_wanted_slot is_due_slot
 due-free clock k es slot d h v =
     let f = is_first (is_wanted_slot (wanted.Due clock)) es k d h in
     let same : f.value ≡ slot = some_is f.value slot (sym f.here ∙ v) in
-    not-awaiting clock slot.mark slot.stage (subst (λ (s : Slot). is_wanted_slot (wanted.Due clock) s ≡ true) same f.passes)
+    not-awaiting clock slot.since slot.stage (subst (λ (s : Slot). is_wanted_slot (wanted.Due clock) s ≡ true) same f.passes)

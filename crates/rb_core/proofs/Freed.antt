@@ -186,10 +186,10 @@ module _ (table : Table) where
   is_idle id k old new v number stage = any-put (is_idle_slot id) table.slots k old new v (rw (eq-eqb new.number id number, stage) refl)
 
   -- it is Idle since this moment
-  now_settled : (id clock k : ℕ) (old new : Slot) → AreNumbered table.given (values_of table.slots) → value_at table.slots k ≡ Some old → old.number ≡ id → is_idle_stage new.stage ≡ true → new.mark ≡ clock
+  now_settled : (id clock k : ℕ) (old new : Slot) → AreNumbered table.given (values_of table.slots) → value_at table.slots k ≡ Some old → old.number ≡ id → is_idle_stage new.stage ≡ true → new.since ≡ clock
       → IsSettled id clock (record table { slots = with_value table.slots k new })
-  now_settled id clock k old new n v number idle mark =
-      alone-changed (is_unsettled_slot id clock) id table.given (λ s e. rw e refl) table.slots k old new n v number (rw (idle, eq-eqb new.mark clock mark) (both-not (eqb new.number id)))
+  now_settled id clock k old new n v number idle since =
+      alone-changed (is_unsettled_slot id clock) id table.given (λ s e. rw e refl) table.slots k old new n v number (rw (idle, eq-eqb new.since clock since) (both-not (eqb new.number id)))
     where
       both-not : (b : Bool) → (b && false) ≡ false
       both-not true = refl
@@ -201,7 +201,7 @@ module _ (table : Table) where
   heard_on id clock k old new n v number same h = record {
     was_free = was_free id k old v number h.awaited_none;
     is_idle = is_idle id k old new v (same ∙ number) h.is_idle;
-    is_settled = now_settled id clock k old new n v number h.is_idle h.mark;
+    is_settled = now_settled id clock k old new n v number h.is_idle h.since;
   }
 
 -- the slot that was found is live, and of the number

@@ -14,7 +14,7 @@ use Rattle.rb_core.specs.declared.slot.Stage.TheVariants as stages
 use Rattle.rb_core.specs.declared.slot.Received.{Received}
 use Rattle.rb_model.specs.State.{Owed, Phase, Connection}
 use Rattle.rb_model.specs.State.Phase.{Idle, Reading, Owing, Awaiting, Lost}
-use Rattle.rb_model.specs.Connections.{Taking, taking, taking_on, taking_up_to, mark_when_fed, fed_in, pending_in, phase_when_given, when_given, giving, pending_of}
+use Rattle.rb_model.specs.Connections.{Taking, taking, taking_on, taking_up_to, since_when_fed, fed_in, pending_in, phase_when_given, when_given, giving, pending_of}
 use Rattle.rb_model.specs.Connections.Taking.{TakesNone, Ends}
 use Rattle.rb_core.specs.StandsFor.{IsGiving, IsReading, Source, StandsForPhase, StandsForConnection}
 use Rattle.rb_core.specs.Reading.{Fed, Reader, fed_until}
@@ -136,11 +136,11 @@ pub heard_then : (fed piece : List ℕ) (c : Connection) (count n : ℕ) (peer :
     → said ≡ verdict (data_of (take n (fed ++ piece))) → record { count = count; heard = Some (record { peer = peer; verdict = said }) } ≡ received piece c (taking_on fed piece)
 heard_then fed piece c count n peer said is counts from says = rw (is, counts, from, says) refl
 
-pub mark_of_idle : (clock mark : ℕ) (phase : Phase) → phase ≡ Idle → mark_when_fed clock mark phase ≡ clock
-mark_of_idle clock mark phase is = rw is refl
+pub since_of_idle : (clock since : ℕ) (phase : Phase) → phase ≡ Idle → since_when_fed clock since phase ≡ clock
+since_of_idle clock since phase is = rw is refl
 
-pub mark_of_reading : (clock mark : ℕ) (phase : Phase) (fed : List ℕ) → phase ≡ Reading fed → mark_when_fed clock mark phase ≡ mark
-mark_of_reading clock mark phase fed is = rw is refl
+pub since_of_reading : (clock since : ℕ) (phase : Phase) (fed : List ℕ) → phase ≡ Reading fed → since_when_fed clock since phase ≡ since
+since_of_reading clock since phase fed is = rw is refl
 
 -- ---- bytes that are given
 
@@ -170,7 +170,7 @@ module _ (source : Source) (old new : Slot) (clock n more : ℕ) (giving_is : Gi
     (stage : old.stage ≡ stages.Giving giving_is)
     (counted : (o : Owed) → IsGiving source giving_is old.buffer.bytes old.window o → more ≡ min n (length (pending_of o)))
     (some : 0 < more)
-    (number : new.number ≡ old.number) (peer : new.peer ≡ old.peer) (mark : new.mark ≡ clock)
+    (number : new.number ≡ old.number) (peer : new.peer ≡ old.peer) (since : new.since ≡ clock)
     (goes_on : (o : Owed) → IsGiving source giving_is old.buffer.bytes old.window o → StandsForPhase source new.stage new.buffer new.window (phase_when_given more (Owing o))) where
   pub some_given : Acts (StandsForConnection source) (giving clock n) old new tt
   unfolding giving when_given
@@ -181,5 +181,5 @@ module _ (source : Source) (old new : Slot) (clock n more : ℕ) (giving_is : Gi
         let m : more ≡ min n (length (pending_in c.phase)) = rw w.1 (counted w.0 w.2) in
         let test : eqb more 0 ≡ false = grind (arith, nat_tests) in
         let phase = goes_on w.0 w.2 in
-        rw (← m) (rw test (record { number = number ∙ h.number; peer = peer ∙ h.peer; mark = mark; phase = rw w.1 phase }));
+        rw (← m) (rw test (record { number = number ∙ h.number; peer = peer ∙ h.peer; since = since; phase = rw w.1 phase }));
   }

@@ -107,12 +107,12 @@ module _ (source : Source) (rest : Rest) (old new : Slot) (s : SlotShowsNext sou
   pub slot_lists_on : SlotListsOn source new
   slot_lists_on = subst (λ (t : Slot). SlotListsOn source t) (sym s.is) (goes_on_shown source old.buffer.bytes rest old.window new.window s.giving s.shows)
 
-  pub slot_begins : (clock : ℕ) (c : Connection) (reply : List ℕ) (began : Option ℕ) → old.number ≡ c.number → old.peer ≡ c.peer → old.mark ≡ clock → old.window.cap ≡ longest_fragment
-      → rest_in source old.buffer.bytes rest ≡ reply → stamp_in rest ≡ began → StandsForConnection source new (record c { phase = Owing (owed_of reply began 0); mark = clock })
-  slot_begins clock c reply began number peer mark cap whole stamp =
-      subst (λ (t : Slot). StandsForConnection source t (record c { phase = Owing (owed_of reply began 0); mark = clock })) (sym s.is) (record {
+  pub slot_begins : (clock : ℕ) (c : Connection) (reply : List ℕ) (began : Option ℕ) → old.number ≡ c.number → old.peer ≡ c.peer → old.since ≡ clock → old.window.cap ≡ longest_fragment
+      → rest_in source old.buffer.bytes rest ≡ reply → stamp_in rest ≡ began → StandsForConnection source new (record c { phase = Owing (owed_of reply began 0); since = clock })
+  slot_begins clock c reply began number peer since cap whole stamp =
+      subst (λ (t : Slot). StandsForConnection source t (record c { phase = Owing (owed_of reply began 0); since = clock })) (sym s.is) (record {
         number = number;
         peer = peer;
-        mark = mark;
+        since = since;
         phase = begins source old.buffer.bytes rest old.window new.window s.giving s.shows reply began whole stamp cap;
       })

@@ -77,10 +77,10 @@ settled_is_same : (source : Source) (id clock : ℕ) (slot : Slot) (c : Connecti
 unfolding is_live settled
 settled_is_same source id clock slot c h none live =
     let number : eqb slot.number id ≡ true = ap (λ (n : ℕ). eqb n id) h.number ∙ (and_parts (eqb c.number id) (not (is_lost c.phase)) live).0 in
-    let idle = both-true (is_idle_stage slot.stage) (eqb slot.mark clock) (rw number at none) in
+    let idle = both-true (is_idle_stage slot.stage) (eqb slot.since clock) (rw number at none) in
     let phase : c.phase ≡ Idle = (idle_phase source slot.stage slot.buffer slot.window c.phase (stage_is_idle slot.stage idle.0) h.phase).0 in
-    let mark : c.mark ≡ clock = sym h.mark ∙ eqb-true slot.mark clock idle.1 in
-    ap (λ (p : Phase). record c { phase = p; mark = clock }) (sym phase) ∙ ap (λ (m : ℕ). record c { mark = m }) (sym mark)
+    let since : c.since ≡ clock = sym h.since ∙ eqb-true slot.since clock idle.1 in
+    ap (λ (p : Phase). record c { phase = p; since = clock }) (sym phase) ∙ ap (λ (m : ℕ). record c { since = m }) (sym since)
 
 settled_among : (source : Source) (id clock : ℕ) (slots : List Slot) (all : List Connection) → AllZip (StandsForConnection source) slots all → list_any (is_unsettled_slot id clock) slots ≡ false
     → change_first (is_live id) (settled clock Silent) all ≡ all
@@ -110,42 +110,42 @@ module _ (source : Source) (slot : Slot) (piece content : List ℕ) (idle : slot
       let p = idle_phase source slot.stage slot.buffer slot.window c.phase idle h.phase in
       some_where_fed c.phase [] piece (ap fed_in p.0) some_piece ∙ taken_whole content piece begins
 
-  pub hears_whole : (clock : ℕ) → Acts (StandsForConnection source) (feeding clock piece) slot (record slot { mark = clock }) (heard_whole slot.peer content)
-  hears_whole clock = feeding_acts source slot (record slot { mark = clock }) clock piece (heard_whole slot.peer content) (λ c h.
+  pub hears_whole : (clock : ℕ) → Acts (StandsForConnection source) (feeding clock piece) slot (record slot { since = clock }) (heard_whole slot.peer content)
+  hears_whole clock = feeding_acts source slot (record slot { since = clock }) clock piece (heard_whole slot.peer content) (λ c h.
       let p = idle_phase source slot.stage slot.buffer slot.window c.phase idle h.phase in
       record {
         taken = Ends (4 + length content) content;
         is = takes_whole c h;
         gives = ap (λ peer. heard_whole peer content) h.peer;
-        stands = record { number = h.number; peer = h.peer; mark = refl; phase = rw idle (p.1, p.2) };
+        stands = record { number = h.number; peer = h.peer; since = refl; phase = rw idle (p.1, p.2) };
       })
 
   pub keeps_whole : (before : List ℕ) → Shows (StandsForConnection source) (arguments_heard before piece) slot (kept_of content)
   keeps_whole before c h = taken_arguments before (kept_of content) piece c (Ends (4 + length content) content) (takes_whole c h) refl
 
--- The mark of a slot is another after it, and nothing else.
-module _ (k : ℕ) (table : Table) (old new : Slot) (there : value_at table.slots k ≡ Some old) (kept : new ≡ record old { mark = new.mark }) where
-  pub marked_within : All IsWithin (values_of table.slots) → IsWithin new
-  marked_within within = subst IsWithin (sym kept) (All-value_at IsWithin table.slots k old within there)
+-- Of a slot `since` is another after it, and nothing else.
+module _ (k : ℕ) (table : Table) (old new : Slot) (there : value_at table.slots k ≡ Some old) (kept : new ≡ record old { since = new.since }) where
+  pub since_within : All IsWithin (values_of table.slots) → IsWithin new
+  since_within within = subst IsWithin (sym kept) (All-value_at IsWithin table.slots k old within there)
 
-  pub marked_goes_on : (now : Table) → table ≡ now → All IsWithin (values_of table.slots) → GoOn now (record table { slots = with_value table.slots k new })
-  marked_goes_on now is within =
+  pub since_goes_on : (now : Table) → table ≡ now → All IsWithin (values_of table.slots) → GoOn now (record table { slots = with_value table.slots k new })
+  since_goes_on now is within =
       goes_on_changed table now is k old new there (λ source told. subst (λ (s : Slot). SlotListsOn source s) (sym kept) told)
-      (ap (λ (s : Slot). s.number) kept) (ap (λ (s : Slot). is_awaiting_stage s.stage) kept) (marked_within within)
+      (ap (λ (s : Slot). s.number) kept) (ap (λ (s : Slot). is_awaiting_stage s.stage) kept) (since_within within)
 
-  pub unmarked : new ≡ old → record table { slots = with_value table.slots k new } ≡ table
-  unmarked is = rw is (ap (λ (es : List (ℕ × Slot)). record table { slots = es }) (with_value-same table.slots k old there))
+  pub since_stays : new ≡ old → record table { slots = with_value table.slots k new } ≡ table
+  since_stays is = rw is (ap (λ (es : List (ℕ × Slot)). record table { slots = es }) (with_value-same table.slots k old there))
 
-pub marked_table : (slots : Pool Slot) (spare : Pool Buffers) (given conns held : ℕ) → IsTable slots spare given conns held → (k : ℕ) (old new : Slot) → value_at slots.entries k ≡ Some old
-    → new ≡ record old { mark = new.mark } → IsTable (record slots { entries = with_value slots.entries k new }) spare given conns held
-marked_table slots spare given conns held t k old new there kept =
+pub since_table : (slots : Pool Slot) (spare : Pool Buffers) (given conns held : ℕ) → IsTable slots spare given conns held → (k : ℕ) (old new : Slot) → value_at slots.entries k ≡ Some old
+    → new ≡ record old { since = new.since } → IsTable (record slots { entries = with_value slots.entries k new }) spare given conns held
+since_table slots spare given conns held t k old new there kept =
     table_changed slots spare given conns held k old new t there (ap (λ (s : Slot). s.number) kept)
     (subst (λ (s : Slot). HasBuffers slots.tie s) (sym kept) (All-value_at (HasBuffers slots.tie) slots.entries k old t.buffers there))
     held (rw kept refl) (subst IsWithin (sym kept) (All-value_at IsWithin slots.entries k old t.within there))
 
--- It is that of the connection of the number, which was Idle and has this mark.
+-- It is that of the connection of the number, which was Idle, and is so since this moment.
 module _ (id clock k : ℕ) (table : Table) (old new : Slot) (distinct : HasDistinctKeys table.slots) (numbers : AreNumbered table.given (values_of table.slots)) (there : value_at table.slots k ≡ Some old)
-    (kept : new ≡ record old { mark = new.mark }) (number : old.number ≡ id) (idle : old.stage ≡ stages.Idle) (mark : new.mark ≡ clock) where
+    (kept : new ≡ record old { since = new.since }) (number : old.number ≡ id) (idle : old.stage ≡ stages.Idle) (since : new.since ≡ clock) where
   abbrev with_new : Table
   with_new = record table { slots = with_value table.slots k new }
 
@@ -153,13 +153,13 @@ module _ (id clock k : ℕ) (table : Table) (old new : Slot) (distinct : HasDist
   unfolding wanted_slot is_wanted_slot
   found = first_by_hint (wanted.Live id) table.slots k old (distinct_numbers table.given (values_of table.slots) numbers) there refl (rw (eq-eqb old.number id number, idle) refl)
 
-  is_marked : new ≡ record old { mark = clock }
-  is_marked = kept ∙ ap (λ (m : ℕ). record old { mark = m }) mark
+  is_marked : new ≡ record old { since = clock }
+  is_marked = kept ∙ ap (λ (m : ℕ). record old { since = m }) since
 
   pub takes_whole_on : (source : Source) (piece content : List ℕ) → BeginsWithRecord content piece
       → Acts (StandsForConnections source) (on_live id (feeding clock piece)) table with_new (Ok (heard_whole old.peer content))
   takes_whole_on source piece content begins =
-      rw is_marked (live_acts source id (feeding clock piece) table k old (record old { mark = clock }) (heard_whole old.peer content) distinct found there (hears_whole source old piece content idle begins clock))
+      rw is_marked (live_acts source id (feeding clock piece) table k old (record old { since = clock }) (heard_whole old.peer content) distinct found there (hears_whole source old piece content idle begins clock))
 
   pub keeps_whole_on : (source : Source) (before piece content : List ℕ) → BeginsWithRecord content piece → Shows (StandsForConnections source) (arguments_on id before piece) table (kept_of content)
   keeps_whole_on source before piece content begins =
@@ -168,4 +168,4 @@ module _ (id clock k : ℕ) (table : Table) (old new : Slot) (distinct : HasDist
   pub heard_whole_on : HeardFrom id clock table with_new
   heard_whole_on =
       let still : is_idle_stage new.stage ≡ true = ap (λ (s : Slot). is_idle_stage s.stage) kept ∙ ap is_idle_stage idle in
-      heard_on table id clock k old new numbers there number (ap (λ (s : Slot). s.number) kept) (record { awaited_none = rw idle refl; is_idle = still; mark = mark })
+      heard_on table id clock k old new numbers there number (ap (λ (s : Slot). s.number) kept) (record { awaited_none = rw idle refl; is_idle = still; since = since })

@@ -396,7 +396,7 @@ module _ (source : Source) (conns : ℕ) (peer : Peer) (clock : ℕ) (table : Ta
 
   pub opened_acts : (slot : Slot) (new : Table) → length table.slots < conns → table.given < greatest_number
       → values_of new.slots ≡ values_of table.slots ++ slot ∷ [] → new.given ≡ table.given + 1
-      → StandsForConnection source slot (record { number = table.given + 1; peer = peer; phase = Idle; mark = clock })
+      → StandsForConnection source slot (record { number = table.given + 1; peer = peer; phase = Idle; since = clock })
       → Acts (StandsForConnections source) (opening_of conns peer clock) table new (Ok (table.given + 1))
   unfolding opening_of number_for
   opened_acts slot new room left more given stands = record {

@@ -324,7 +324,7 @@ find_changed_live id f still (x ∷ all) c there = by_test (is_live id x) refl (
 
 -- Idle, from this moment on
 abbrev idle : ℕ → Connection → Connection
-idle clock c = record c { phase = Idle; mark = clock }
+idle clock c = record c { phase = Idle; since = clock }
 
 idle_is_live : (clock id : ℕ) (c : Connection) → is_live id c ≡ true → is_live id (idle clock c) ≡ true
 unfolding is_live

@@ -47,7 +47,7 @@ has_idle id table = list_any (is_idle_slot id) (values_of table.slots)
 
 -- it has this number, and is anything but Idle since this moment
 abbrev pub is_unsettled_slot : ℕ → ℕ → Slot → Bool
-is_unsettled_slot id clock slot = slot.number == id && not (is_idle_stage slot.stage && slot.mark == clock)
+is_unsettled_slot id clock slot = slot.number == id && not (is_idle_stage slot.stage && slot.since == clock)
 
 -- The connection of this number, where there is one, is Idle since this moment.
 abbrev pub IsSettled : ℕ → ℕ → Table → Type 0
@@ -96,15 +96,15 @@ OnlyIsFreed number old new = (id : ℕ) → (id == number) ≡ false → is_free
 abbrev pub AwaitsIfForwarded : Outcome → ℕ → Table → Table → Type 0
 AwaitsIfForwarded given id old new = given ≡ outcomes.Forwarded → has_idle id old ≡ true → is_free id new ≡ false
 
--- it is Idle, and has this mark
+-- it is Idle since this moment
 abbrev pub IsIdleAt : ℕ → Slot → Type 0
-IsIdleAt clock slot = (is_idle_stage slot.stage ≡ true) × (slot.mark ≡ clock)
+IsIdleAt clock slot = (is_idle_stage slot.stage ≡ true) × (slot.since ≡ clock)
 
 -- A record ended on it: it awaited no forwarded call, and is Idle since this moment.
 pub record HearsSlot (clock : ℕ) (old new : Slot) : Type 0 where
   pub awaited_none : is_awaiting_stage old.stage ≡ false
   pub is_idle : is_idle_stage new.stage ≡ true
-  pub mark : new.mark ≡ clock
+  pub since : new.since ≡ clock
 
 -- A record ended on a connection that was free, and is Idle since this moment.
 pub record HeardFrom (id clock : ℕ) (old new : Table) : Type 0 where

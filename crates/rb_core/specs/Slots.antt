@@ -22,7 +22,7 @@ use Rattle.rb_core.specs.declared.slot.Buffers.{Buffers}
 use Rattle.rb_model.specs.State.{Phase, Connection, Connections}
 use Rattle.rb_core.specs.StandsFor.{buffer_size, IsReading, Source, StandsForConnection, Table, StandsForConnections, held_in, AreWithin}
 use Rattle.rb_model.specs.Calls.{kept_of}
-use Rattle.rb_model.specs.Connections.{longest_fragment, Taking, taking_on, taking, mark_when_fed, reading, giving, is_lost, has_number, is_live, live_connection, on_live}
+use Rattle.rb_model.specs.Connections.{longest_fragment, Taking, taking_on, taking, since_when_fed, reading, giving, is_lost, has_number, is_live, live_connection, on_live}
 use Rattle.rb_model.specs.Connections.Taking.{TakesNone, GoesOn, Ends}
 use Rattle.rb_model.specs.State.Phase.{Idle, Reading, Owing, Awaiting, Lost}
 use Rattle.rb_model.specs.Losses.{deadline, has_come, is_due}
@@ -70,7 +70,7 @@ SlotShows show slot result = (source : Source) → Shows (StandsForConnection so
 pub record IsBeforePiece (slot : Slot) (reader : Reader) (clock : ℕ) (c : Connection) (fed : List ℕ) : Type 0 where
   pub number : slot.number ≡ c.number
   pub peer : slot.peer ≡ c.peer
-  pub mark : slot.mark ≡ mark_when_fed clock c.mark c.phase
+  pub since : slot.since ≡ since_when_fed clock c.since c.phase
   pub reads : IsReading reader slot.buffer fed
   pub window : slot.window.bytes ≡ []
 
@@ -98,7 +98,7 @@ arguments_after before (Ends n content) = kept_of content
 abbrev pub fed_with : ℕ → Connection → Taking → Connection
 fed_with clock c TakesNone = c
 fed_with clock c (GoesOn fed) = reading clock fed c
-fed_with clock c (Ends n content) = record c { phase = Idle; mark = clock }
+fed_with clock c (Ends n content) = record c { phase = Idle; since = clock }
 
 -- Whatever the slot is fed behind, this is what the core is told of a piece.
 abbrev pub ReceivesPiece : Slot → Reader → ℕ → List ℕ → Received → Type 0
@@ -200,7 +200,7 @@ phase_like stages.Awaiting = Awaiting
 phase_like stages.Lost = Lost
 
 unfoldable pub is_due_slot : ℕ → Slot → Bool
-is_due_slot clock slot = has_come clock (deadline slot.mark (phase_like slot.stage))
+is_due_slot clock slot = has_come clock (deadline slot.since (phase_like slot.stage))
 
 abbrev pub is_lost_stage : Stage → Bool
 is_lost_stage stages.Lost = true

@@ -92,7 +92,7 @@ StandsForPhase source stage buffer window phase = ⊥
 pub record StandsForConnection (source : Source) (slot : Slot) (c : Connection) : Type 0 where
   pub number : slot.number ≡ c.number
   pub peer : slot.peer ≡ c.peer
-  pub mark : slot.mark ≡ c.mark
+  pub since : slot.since ≡ c.since
   pub phase : StandsForPhase source slot.stage slot.buffer slot.window c.phase
 
 -- the bytes of its buffer and its window count, and 128 for its fixed part

@@ -289,7 +289,7 @@ impl Connections {
             number: self.given,
             peer,
             stage: Stage::Idle,
-            mark: clock,
+            since: clock,
             buffer,
             window,
         };

@@ -84,8 +84,8 @@ pub struct Slot {
     pub number: u64,
     pub peer: Peer,
     pub stage: Stage,
-    /// The moment from which its deadline counts.
-    pub mark: u64,
+    /// The moment of its last progress, from which its deadline counts.
+    pub since: u64,
     /// The first bytes of the arguments of the call that is read, or the whole reply that is given, where that is no list.
     pub buffer: Kept,
     /// The marked fragment of the reply that is being given.
@@ -106,11 +106,11 @@ fn layout(slot: &Slot, spare: &Buffers) {
         number,
         peer,
         stage,
-        mark,
+        since,
         buffer,
         window,
     } = slot;
-    let _: (u64, Peer, u64) = (*number, *peer, *mark);
+    let _: (u64, Peer, u64) = (*number, *peer, *since);
     match *stage {
         Stage::Idle | Stage::Awaiting | Stage::Lost => {}
         Stage::Reading(reader) => {
@@ -147,7 +147,7 @@ impl Slot {
                 port: 0,
             },
             stage: Stage::Idle,
-            mark: 0,
+            since: 0,
             buffer: Kept::new(alloc, 0, meter)?,
             window: Kept::new(alloc, 0, meter)?,
         })
@@ -200,7 +200,7 @@ impl Slot {
         ensures { result ≡ is_due_slot clock self.now }
     {
         match time_in(&self.stage) {
-            Some(time) => self.mark.saturating_add(time) <= clock,
+            Some(time) => self.since.saturating_add(time) <= clock,
             None => false,
         }
     }
@@ -233,7 +233,7 @@ impl Slot {
             return Received { count, heard: None };
         };
         self.stage = Stage::Idle;
-        self.mark = clock;
+        self.since = clock;
         arguments.clear(meter);
         mem::swap(&mut self.buffer, arguments);
         let peer = self.peer;
@@ -248,8 +248,8 @@ impl Slot {
     pub fn hear_whole(&mut self, id: u64, clock: u64) -> Option<Peer>
         ensures idle { IfSome result (λ peer. self.old.stage ≡ Stage.Idle) }
         ensures number { IfSome result (λ peer. self.old.number ≡ id) }
-        ensures mark { IfSome result (λ peer. self.new.mark ≡ clock) }
-        ensures kept { self.new ≡ record self.old { mark = self.new.mark } }
+        ensures since { IfSome result (λ peer. self.new.since ≡ clock) }
+        ensures kept { self.new ≡ record self.old { since = self.new.since } }
         ensures peer { IfSome result (λ peer. peer ≡ self.old.peer) }
         ensures sender { result ≡ sender_on id self.old }
         ensures stays { IfNone result (self.new ≡ self.old) }
@@ -257,7 +257,7 @@ impl Slot {
         if self.number != id || !matches!(self.stage, Stage::Idle) {
             return None;
         }
-        self.mark = clock;
+        self.since = clock;
         Some(self.peer)
     }
 
@@ -288,7 +288,7 @@ impl Slot {
         }
         match self.stage {
             Stage::Idle => {
-                self.mark = clock;
+                self.since = clock;
                 self.feed(Reader::new(), piece, clock, arguments, meter)
             }
             Stage::Reading(reader) => self.feed(reader, piece, clock, arguments, meter),
@@ -334,7 +334,7 @@ impl Slot {
         ensures draft { IsEmptyDraft meter.old.tie draft.new }
         ensures cost { PaysAtMost meter.old meter.new (told_cost registry.now served) }
     {
-        self.mark = clock;
+        self.since = clock;
         match served {
             Served::Told(Outcome::NoCall) => {
                 self.stage = Stage::Lost;
@@ -422,7 +422,7 @@ impl Slot {
         if more == 0 {
             return;
         }
-        self.mark = clock;
+        self.since = clock;
         let place = giving.place + more;
         if place < shown {
             self.stage = Stage::Giving(Giving { place, ..giving });

@@ -425,7 +425,7 @@ module _ (s : State) (sound : IsSound s) (id : ℕ) (c : Connection) (there : fi
       subst (λ (ev : Event). Fate s id c ev now) (sym is) (gives-way (Datagram at peer content) at (Udp peer) content (refl, refl, refl) now same)
   fate event output now (Opens at peer is out same) =
       Lives c (ap (λ (x : Connections). find (is_live id) x.all) same
-      ∙ find-before (is_live id) s.connections.all c (record { number = s.connections.next; peer = peer; phase = Idle; mark = max s.clock at }) there)
+      ∙ find-before (is_live id) s.connections.all c (record { number = s.connections.next; peer = peer; phase = Idle; since = max s.clock at }) there)
   fate event output now (Reads at k piece d fed is here feeds none out same) = reads-at at k piece fed now same (eqb k id) refl event
   fate event output now (Ends at k piece d fed n is here feeds some out same) =
       subst (λ (ev : Event). Fate s id c ev now) (sym is) (ends-at at k piece d fed n now here feeds some same (eqb k id) refl)

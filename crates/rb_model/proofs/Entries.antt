@@ -145,7 +145,7 @@ pub giving-awaits : (clock n : ℕ) (c : Connection) → is_awaiting (giving clo
 unfolding giving when_given
 giving-awaits clock n c =
     let k : ℕ = min n (length (pending_in c.phase)) in
-    elim (eqb k 0) as (λ z. is_awaiting (cond z c (record c { phase = phase_when_given k c.phase; mark = clock })).phase ≡ is_awaiting c.phase) [ true ↦ refl | false ↦ given-awaits k c.phase ]
+    elim (eqb k 0) as (λ z. is_awaiting (cond z c (record c { phase = phase_when_given k c.phase; since = clock })).phase ≡ is_awaiting c.phase) [ true ↦ refl | false ↦ given-awaits k c.phase ]
 
 pub settled-awaiting : (clock : ℕ) (said : Outcome) (c : Connection) → is_awaiting (settled clock said c).phase ≡ is_forwarded said
 unfolding settled

@@ -16,27 +16,27 @@ abbrev pub AreApart : List Connection → Type 0
 AreApart [] = ⊤
 AreApart (c ∷ all) = (list_any (has_number c.number) all ≡ false) × AreApart all
 
-late : (clock mark : ℕ) (p : Phase) → has_come clock (deadline mark p) ≡ true → is_lost p ≡ false
-late clock mark Idle h = refl
-late clock mark (Reading fed) h = refl
-late clock mark (Owing o) h = refl
-late clock mark Awaiting h = refl
-late clock mark Lost h = absurd cc
+late : (clock since : ℕ) (p : Phase) → has_come clock (deadline since p) ≡ true → is_lost p ≡ false
+late clock since Idle h = refl
+late clock since (Reading fed) h = refl
+late clock since (Owing o) h = refl
+late clock since Awaiting h = refl
+late clock since Lost h = absurd cc
 
 pub due-live : (clock : ℕ) (c : Connection) → is_due clock c ≡ true → is_lost c.phase ≡ false
 unfolding is_due
-due-live clock c h = late clock c.mark c.phase h
+due-live clock c h = late clock c.since c.phase h
 
-free : (clock mark : ℕ) (p : Phase) → has_come clock (deadline mark p) ≡ true → is_awaiting p ≡ false
-free clock mark Idle h = refl
-free clock mark (Reading fed) h = refl
-free clock mark (Owing o) h = refl
-free clock mark Awaiting h = absurd cc
-free clock mark Lost h = refl
+free : (clock since : ℕ) (p : Phase) → has_come clock (deadline since p) ≡ true → is_awaiting p ≡ false
+free clock since Idle h = refl
+free clock since (Reading fed) h = refl
+free clock since (Owing o) h = refl
+free clock since Awaiting h = absurd cc
+free clock since Lost h = refl
 
 pub due-awaits-none : (clock : ℕ) (c : Connection) → is_due clock c ≡ true → is_awaiting c.phase ≡ false
 unfolding is_due
-due-awaits-none clock c h = free clock c.mark c.phase h
+due-awaits-none clock c h = free clock c.since c.phase h
 
 -- one that is found has its number
 pub found-there : (p : Connection → Bool) (all : List Connection) (c : Connection) → find p all ≡ Some c → list_any (has_number c.number) all ≡ true

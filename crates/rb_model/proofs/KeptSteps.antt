@@ -216,7 +216,7 @@ giving-keeps : (most clock n : ℕ) → KeepsNoMore most (λ c. (giving clock n 
 unfolding giving when_given
 giving-keeps most clock n change few c is = by_test (eqb (min n (length (pending_in c.phase))) 0) is
   where
-    by_test : (b : Bool) → keeps change (cond b c (record c { phase = phase_when_given (min n (length (pending_in c.phase))) c.phase; mark = clock })) ≡ true → keeps change c ≡ true
+    by_test : (b : Bool) → keeps change (cond b c (record c { phase = phase_when_given (min n (length (pending_in c.phase))) c.phase; since = clock })) ≡ true → keeps change c ≡ true
     by_test true e = e
     by_test false e = given-keeps (min n (length (pending_in c.phase))) change c.phase e
 
@@ -331,7 +331,7 @@ module _ (s : State) (fits : Fits s) where
   opened-fits : (now : ℕ) (peer : Peer) (r : Result ℕ CoreFault) → Fits (output_or Opened (moved now s (opening_as peer (max s.clock now) s.connections r))).1
   opened-fits now peer (Err fault) = fits
   opened-fits now peer (Ok number) =
-      let new : Connection = record { number = s.connections.next; peer = peer; phase = Idle; mark = max s.clock now } in
+      let new : Connection = record { number = s.connections.next; peer = peer; phase = Idle; since = max s.clock now } in
       kept-fits s fits (s.connections.all ++ new ∷ []) (one-more-kept (length s.ledger.changes) s.connections.all new refl)
 
   closed-fits : (id : ℕ) (b : Bool) → Fits (output_or show_done (dropped_with s id (cond b (Ok tt, without_number id s.connections) (Err Gone, s.connections)))).1

@@ -42,7 +42,7 @@ given-feeds id clock n c e = by_zero (eqb n 0)
         by_test true = e
         by_test false = e
 
-    by_zero : (z : Bool) → is_live id (cond z c (record c { phase = phase_when_given n c.phase; mark = clock })) ≡ true
+    by_zero : (z : Bool) → is_live id (cond z c (record c { phase = phase_when_given n c.phase; since = clock })) ≡ true
     by_zero true = e
     by_zero false = stays (eqb c.number id) c.phase e
 

@@ -106,7 +106,7 @@ when_given-keeps clock n = record {
 }
   where
     given : Connection → Connection
-    given c = record c { phase = phase_when_given n c.phase; mark = clock }
+    given c = record c { phase = phase_when_given n c.phase; since = clock }
 
 pub giving-keeps : (clock n : ℕ) → Keeps (λ c. (giving clock n c).1)
 unfolding giving
@@ -141,7 +141,7 @@ happening-sound s event output now sound (Stays q same) = subst SoundIn (sym sam
 happening-sound s event output now sound (Evicts at peer content is q same) =
     subst SoundIn (sym same) (mapped (evicted (crowd_at s at (Udp peer) content)) (evicted-keeps _) 0 s.connections.next s.connections.all sound)
 happening-sound s event output now sound (Opens at peer is out same) =
-    subst SoundIn (sym same) (one_more 0 s.connections.next s.connections.all (record { number = s.connections.next; peer = peer; phase = Idle; mark = max s.clock at }) refl tt sound)
+    subst SoundIn (sym same) (one_more 0 s.connections.next s.connections.all (record { number = s.connections.next; peer = peer; phase = Idle; since = max s.clock at }) refl tt sound)
 happening-sound s event output now sound (Reads at id piece c fed is there feeds none out same) =
     subst SoundIn (sym same) (changed id _ (reading-keeps (max s.clock at) (fed ++ piece) none) 0 s.connections.next s.connections.all sound)
 happening-sound s event output now sound (Ends at id piece c fed n is there feeds some out same) =

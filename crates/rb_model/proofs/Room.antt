@@ -136,7 +136,7 @@ opened-room s now peer few = by_room (nat_lt (count s) s.setting.limits.conns) r
     by_room true e true = few
     by_room true e false =
         let free = ltb-true (count s) s.setting.limits.conns e in
-        let more = pushed-length s.connections.all (record { number = s.connections.next; peer = peer; phase = Idle; mark = max s.clock now }) in
+        let more = pushed-length s.connections.all (record { number = s.connections.next; peer = peer; phase = Idle; since = max s.clock now }) in
         omega (arith, free, more)
 
 within : (s : State) (n : ℕ) → HasRoom s → n ≤ count s → n ≤ s.setting.limits.conns

@@ -162,7 +162,7 @@ giving-unfinished : (clock n : ℕ) (c : Connection) → unfinished_in (giving c
 unfolding giving when_given
 giving-unfinished clock n c =
     let k : ℕ = min n (length (pending_in c.phase)) in
-    elim (eqb k 0) as (λ z. unfinished_in (cond z c (record c { phase = phase_when_given k c.phase; mark = clock })).phase ≡ unfinished_in c.phase) [ true ↦ refl | false ↦ given-unfinished k c.phase ]
+    elim (eqb k 0) as (λ z. unfinished_in (cond z c (record c { phase = phase_when_given k c.phase; since = clock })).phase ≡ unfinished_in c.phase) [ true ↦ refl | false ↦ given-unfinished k c.phase ]
 
 no-first : first_record [] ≡ None
 unfolding first_record
@@ -485,7 +485,7 @@ module _ (id : ℕ) (s : State) (t : Session) (h : Holds id s.connections t) whe
       (subst (λ (x : Connections). FitsIn id x.all t) (sym same) (evicted-fits id (crowd_at s at (Udp peer) content) s.connections.next s.connections.all t h.sound h.live))
   by_case event output now goes (Opens at peer is out same) none =
       subst (λ (o : Output). Holds id now (with_event event o)) (sym out)
-      (quiet event (Opened s.connections.next) now goes refl refl (subst (λ (x : Connections). FitsIn id x.all t) (sym same) (opened-fits id s.connections (record { number = s.connections.next; peer = peer; phase = Idle; mark = max s.clock at }) t h refl refl)))
+      (quiet event (Opened s.connections.next) now goes refl refl (subst (λ (x : Connections). FitsIn id x.all t) (sym same) (opened-fits id s.connections (record { number = s.connections.next; peer = peer; phase = Idle; since = max s.clock at }) t h refl refl)))
   by_case event output now goes (Reads at k piece c fed is there feeds unended out same) none =
       subst (λ (ev : Event). Holds id now (with_event ev output)) (sym is) (subst (λ (o : Output). Holds id now (with_event (Bytes at k piece) o)) (sym out)
       (reads-at at k piece c fed now goes there feeds unended same (eqb k id) refl))

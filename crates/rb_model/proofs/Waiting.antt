@@ -117,7 +117,7 @@ giving-few : (clock n : ℕ) (c : Connection) → args_of (giving clock n c).1 �
 unfolding giving when_given
 giving-few clock n c = by_none (eqb (min n (length (pending_in c.phase))) 0)
   where
-    by_none : (b : Bool) → args_of (cond b c (record c { phase = phase_when_given (min n (length (pending_in c.phase))) c.phase; mark = clock })) ≤ args_of c
+    by_none : (b : Bool) → args_of (cond b c (record c { phase = phase_when_given (min n (length (pending_in c.phase))) c.phase; since = clock })) ≤ args_of c
     by_none true = omega arith
     by_none false = given-few (min n (length (pending_in c.phase))) c.phase
 
@@ -148,7 +148,7 @@ module _ (s : State) where
   opened-waits : (now : ℕ) (peer : Peer) (r : Result ℕ CoreFault) → waiting (output_or Opened (moved now s (opening_as peer (max s.clock now) s.connections r))).1 ≤ waiting s
   opened-waits now peer (Err fault) = omega arith
   opened-waits now peer (Ok number) =
-      let new : Connection = record { number = s.connections.next; peer = peer; phase = Idle; mark = max s.clock now } in
+      let new : Connection = record { number = s.connections.next; peer = peer; phase = Idle; since = max s.clock now } in
       let more = sum_by-append args_of s.connections.all (new ∷ []) in
       omega (arith, more, sum_by-cons args_of new [])
 

@@ -105,7 +105,7 @@ one-given clock n c sound few =
     let all : min n (length (pending_in c.phase)) ≡ n = omega (arith, few) in
     subst (λ (k : ℕ). IsGiven n c.phase (when_given clock k c).phase) (sym all) (by_zero (eqb n 0) refl)
   where
-    by_zero : (z : Bool) → eqb n 0 ≡ z → IsGiven n c.phase (cond z c (record c { phase = phase_when_given n c.phase; mark = clock })).phase
+    by_zero : (z : Bool) → eqb n 0 ≡ z → IsGiven n c.phase (cond z c (record c { phase = phase_when_given n c.phase; since = clock })).phase
     by_zero true e = subst (λ (k : ℕ). IsGiven k c.phase c.phase) (sym (eqb-true n 0 e)) (nothing-given c.phase sound)
     by_zero false e = some-given n c.phase
 

@@ -59,17 +59,17 @@ taking_behind (Some fed) (byte ∷ piece) = taking_on fed (byte ∷ piece)
 unfoldable pub taking : Phase → List ℕ → Taking
 taking phase piece = taking_behind (fed_in phase) piece
 
--- the mark while a record is read is that of its first byte
-abbrev pub mark_when_fed : ℕ → ℕ → Phase → ℕ
-mark_when_fed clock mark Idle = clock
-mark_when_fed clock mark (Reading fed) = mark
-mark_when_fed clock mark (Owing owed) = mark
-mark_when_fed clock mark Awaiting = mark
-mark_when_fed clock mark Lost = mark
+-- while a record is read, `since` is the moment of its first byte
+abbrev pub since_when_fed : ℕ → ℕ → Phase → ℕ
+since_when_fed clock since Idle = clock
+since_when_fed clock since (Reading fed) = since
+since_when_fed clock since (Owing owed) = since
+since_when_fed clock since Awaiting = since
+since_when_fed clock since Lost = since
 
 -- no record ended yet
 unfoldable pub reading : ℕ → List ℕ → Connection → Connection
-reading clock fed c = record c { phase = Reading fed; mark = mark_when_fed clock c.mark c.phase }
+reading clock fed c = record c { phase = Reading fed; since = since_when_fed clock c.since c.phase }
 
 abbrev pub phase_after : Outcome → Phase
 phase_after NoCall = Lost
@@ -79,7 +79,7 @@ phase_after Silent = Idle
 
 -- once the record that ended is answered, or the call that was forwarded
 unfoldable pub settled : ℕ → Outcome → Connection → Connection
-settled clock given c = record c { phase = phase_after given; mark = clock }
+settled clock given c = record c { phase = phase_after given; since = clock }
 
 -- ---- bytes that are given on one
 
@@ -101,7 +101,7 @@ phase_when_given n Lost = Lost
 
 -- so many of the pending bytes were given; none leaves it as it was
 unfoldable pub when_given : ℕ → ℕ → Connection → Connection
-when_given clock n c = if n == 0 then c else record c { phase = phase_when_given n c.phase; mark = clock }
+when_given clock n c = if n == 0 then c else record c { phase = phase_when_given n c.phase; since = clock }
 
 -- n bytes were given, or as many as are pending
 unfoldable pub giving : ℕ → ℕ → Connection → Unit {0} × Connection
@@ -158,7 +158,7 @@ number_for conns c =
 -- a new connection among them, Idle from its opening
 abbrev pub with_new : Peer → ℕ → Connections → Connections
 with_new peer clock c =
-    let new : Connection = record { number = c.next; peer = peer; phase = Idle; mark = clock } in
+    let new : Connection = record { number = c.next; peer = peer; phase = Idle; since = clock } in
     record { next = c.next + 1; all = c.all ++ new ∷ [] }
 
 abbrev pub opening_as : Peer → ℕ → Connections → Result ℕ CoreFault → Result ℕ CoreFault × Connections

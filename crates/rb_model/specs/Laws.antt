@@ -15,7 +15,7 @@ use Rattle.rb_model.specs.State.{Owed, Phase, Connection, State, are_good, at_mo
 use Rattle.rb_model.specs.Losses.{kept_removals}
 use Rattle.rb_model.specs.Step.{serve, bytes, pending, gave, next_lost, Event, Output, step, run, after, IsReached}
 use Rattle.rb_model.specs.Step.Output.{Opened, Refused, TooMuch}
-use Rattle.rb_model.specs.Connections.{owed_of, fed_in, mark_when_fed, is_lost, live_connection}
+use Rattle.rb_model.specs.Connections.{owed_of, fed_in, since_when_fed, is_lost, live_connection}
 use Rattle.rb_model.specs.State.Phase.{Idle, Reading, Owing, Awaiting, Lost}
 use Rattle.rb_model.specs.Calls.{Outcome, is_no_call}
 use Rattle.rb_model.specs.Calls.Outcome.{NoCall, Reply, Forwarded, Silent}
@@ -129,28 +129,28 @@ taken_of a = (bytes a.state a.now a.id a.piece).0
 abbrev pub state_after : Arrival → State
 state_after a = (bytes a.state a.now a.id a.piece).1
 
--- the connection is live after it, and nothing of it but its phase and its mark can be another
+-- the connection is live after it, and nothing of it but `phase` and `since` can be another
 abbrev pub IsNow : Arrival → Phase → ℕ → Type 0
-IsNow a phase mark = IsLive (state_after a) a.id (record a.connection { phase = phase; mark = mark })
+IsNow a phase since = IsLive (state_after a) a.id (record a.connection { phase = phase; since = since })
 
 -- the moment of the piece, which is never before an earlier one
 abbrev pub clock_of : Arrival → ℕ
 clock_of a = max a.state.clock a.now
 
 -- the moment at which the first byte of the record came
-abbrev pub mark_of_record : Arrival → ℕ
-mark_of_record a = mark_when_fed (clock_of a) a.connection.mark a.connection.phase
+abbrev pub since_of_record : Arrival → ℕ
+since_of_record a = since_when_fed (clock_of a) a.connection.since a.connection.phase
 
 -- Nothing is taken, and the connection stays.
 pub record TakesNothing (a : Arrival) : Type 0 where
   pub taken : taken_of a ≡ Ok (record { count = 0; closed = false })
   pub stays : IsLive (state_after a) a.id a.connection
 
--- No record ends in the piece behind these bytes: it is taken whole. The mark is that of the record's first byte.
+-- No record ends in the piece behind these bytes: it is taken whole. `since` is the moment of the record's first byte.
 pub record ReadsOn (a : Arrival) (fed : List ℕ) : Type 0 where
   pub none : HasNoRecord (fed ++ a.piece)
   pub taken : taken_of a ≡ Ok (record { count = length a.piece; closed = false })
-  pub reads : IsNow a (Reading (fed ++ a.piece)) (mark_of_record a)
+  pub reads : IsNow a (Reading (fed ++ a.piece)) (since_of_record a)
 
 -- what a call in these bytes of a record is answered with
 abbrev pub said_to : Arrival → List ℕ → Outcome

@@ -29,7 +29,7 @@ reading_time = 30000
 abbrev pub owing_time : ℕ
 owing_time = 30000
 
--- In this phase, from the mark on. A call that is awaited has a deadline of its own.
+-- In this phase, from `since` on. A call that is awaited has a deadline of its own.
 abbrev pub time_in : Phase → Option ℕ
 time_in Idle = Some idle_time
 time_in (Reading fed) = Some reading_time
@@ -39,16 +39,16 @@ time_in Lost = None
 
 -- ---- what is due
 
--- the moment from which a connection of this mark and phase is due; a sum ends at the greatest moment
+-- the moment from which a connection is due, by its `since` and its phase; a sum ends at the greatest moment
 abbrev pub deadline : ℕ → Phase → Option ℕ
-deadline mark phase = option_map (later mark) (time_in phase)
+deadline since phase = option_map (later since) (time_in phase)
 
 abbrev pub has_come : ℕ → Option ℕ → Bool
 has_come clock None = false
 has_come clock (Some moment) = nat_le moment clock
 
 unfoldable pub is_due : ℕ → Connection → Bool
-is_due clock c = has_come clock (deadline c.mark c.phase)
+is_due clock c = has_come clock (deadline c.since c.phase)
 
 -- The connections are in the order of their numbers, so the first is that of least number.
 unfoldable pub first_due : ℕ → Connections → Option ℕ

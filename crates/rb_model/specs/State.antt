@@ -32,12 +32,12 @@ pub data Phase : Type 0 where
   Awaiting : Phase
   Lost : Phase
 
--- the mark is the moment from which its deadline counts
+-- `since` is the moment of its last progress, from which its deadline counts
 pub record Connection : Type 0 where
   pub number : ℕ
   pub peer : Peer
   pub phase : Phase
-  pub mark : ℕ
+  pub since : ℕ
 
 -- the connections in the order of their openings, lost ones among them, and the number of the next one
 pub record Connections : Type 0 where

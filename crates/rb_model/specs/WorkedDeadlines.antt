@@ -36,9 +36,9 @@ null_called = Opened 1 ∷ Took 44 ∷ []
 abbrev pub OwingEnds : Type 0
 OwingEnds = run fresh (calls_null ++ Expire 29999 ∷ Expire 30000 ∷ []) ≡ null_called ++ Nothing ∷ ConnectionClosed 1 ∷ []
 
--- three bytes given move the mark, and none given does not
-abbrev pub GivenBytesMoveTheMark : Type 0
-GivenBytesMoveTheMark =
+-- three bytes given are progress, from which the deadline counts, and none given are not
+abbrev pub GivenBytesAreProgress : Type 0
+GivenBytesAreProgress =
     run fresh (calls_null ++ Gave 20000 1 3 ∷ Gave 21000 1 0 ∷ Expire 49999 ∷ Expire 50000 ∷ [])
     ≡ null_called ++ Done ∷ Done ∷ Nothing ∷ ConnectionClosed 1 ∷ []
 

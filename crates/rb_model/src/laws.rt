@@ -12,7 +12,7 @@ ghost use Rattle.rb_model.specs.WorkedConnections.{NoCallCloses, OtherRpcVersion
 ghost use Rattle.rb_model.specs.WorkedForwards.{ForwardWithoutRow, RefusedCallsAreCounted, ForwardUntilDeadline, IndirectPasses, CallitPasses, TargetRefuses, DeniedIsSystemErr, CallitIsSilent, GreatestResults, NoPlace, GreatestArguments, SilentOnTcp, ForwardPassesOnTcp, ForwardOnTcpIsWhole, ClosedCallerIsDropped, EachEndsInTurn};
 ghost use Rattle.rb_model.specs.WorkedBounds.{BytesBounds, StepsBounds};
 ghost use Rattle.rb_model.specs.WorkedLists.{DumpSurvivesUnsetAndEvicts, OldReadersAreEvicted, FullTableRefuses, RowsThatCameAndWentAreKept, ListInTwoFragments, ListAsOfItsCall};
-ghost use Rattle.rb_model.specs.WorkedDeadlines.{IdleEnds, ReadingEnds, TwoEnd, OwingEnds, GivenBytesMoveTheMark, IdleAfterTheReply, DueAtOnceAtTheGreatestMoment, ForwardedCallsComeFirst};
+ghost use Rattle.rb_model.specs.WorkedDeadlines.{IdleEnds, ReadingEnds, TwoEnd, OwingEnds, GivenBytesAreProgress, IdleAfterTheReply, DueAtOnceAtTheGreatestMoment, ForwardedCallsComeFirst};
 ghost use Rattle.rb_model.specs.Worked.{NullIsAnswered, SetThenAskThenSetAgain, GreatestVersionElse, OwnRowsAreAsked, LimitIsReached, LocalCallersSet, NothingIsSilent, NullBySys, OtherRpcVersion, TooShort, GreatestCredential, OverlongCredential, SysBodyCutShort, OverlongVerifier, BadResidue, GoodResidue, GssBeforeProgram, OtherVersion, UnknownProcedure, GarbageArguments, OtherProgram, NullOfThree, NullOfFour, GetstatFirstCall, GetstatOfRefusals};
 
 /// For each connection in each run: the bytes taken on it are the marked records of its calls and an unfinished rest;
@@ -192,7 +192,7 @@ pub fn worked_deadlines()
     ensures reading { ReadingEnds }
     ensures two { TwoEnd }
     ensures owing { OwingEnds }
-    ensures given { GivenBytesMoveTheMark }
+    ensures given { GivenBytesAreProgress }
     ensures idle_again { IdleAfterTheReply }
     ensures greatest_moment { DueAtOnceAtTheGreatestMoment }
     ensures forwarded_first { ForwardedCallsComeFirst }

@@ -60,7 +60,7 @@ returns-clause-acts c = λ source.
     (record {
       number = refl;
       peer = refl;
-      mark = refl;
+      since = refl;
       phase = (c.take_buffers-buffer.ensures.made.buffer_empty, c.take_buffers-buffer.ensures.made.window_empty);
     }))
 

@@ -17,7 +17,7 @@ pub returns-clause-stands : goal.returns-clause-stands
 returns-clause-stands c = λ source x fed b.
     let piece = c.args.piece.now in
     let end = has_ended fed piece (first_record (fed ++ piece)) c.feed-count.result c.in-Some.verdict (c.feed-count.ensures.taken fed b.reads) c.in-Some.is in
-    rw (end.is, c.swap.ensures.x_after, c.clear.ensures.empty) (record { number = b.number; peer = b.peer; mark = refl; phase = (refl, b.window) })
+    rw (end.is, c.swap.ensures.x_after, c.clear.ensures.empty) (record { number = b.number; peer = b.peer; since = refl; phase = (refl, b.window) })
 
 pub returns-clause-arguments : goal.returns-clause-arguments
 returns-clause-arguments c = λ x fed b.
@@ -34,7 +34,7 @@ returns-in_default-clause-stands c = λ source x fed b.
     rw none (record {
       number = b.number;
       peer = b.peer;
-      mark = b.mark;
+      since = b.since;
       phase = (subst (StandsBehind c.feed-count.new.self c.feed-count.new.kept (fed ++ piece)) none (c.feed-count.ensures.after fed b.reads), b.window);
     })
 

@@ -7,17 +7,17 @@ use Rattle.rb_core.proofs.slot.Slot.settle.Goals as goal
 
 pub returns-in-Told-NoCall-clause-stands : goal.returns-in-Told-NoCall-clause-stands
 unfolding settled
-returns-in-Told-NoCall-clause-stands c = λ x h. rw (c.in-Told-NoCall.is, rw c.in-Told-NoCall.is at c.in-Told-NoCall.field-0-is) (record { number = h.number; peer = h.peer; mark = refl; phase = tt })
+returns-in-Told-NoCall-clause-stands c = λ x h. rw (c.in-Told-NoCall.is, rw c.in-Told-NoCall.is at c.in-Told-NoCall.field-0-is) (record { number = h.number; peer = h.peer; since = refl; phase = tt })
 
 pub returns-in-Told-Forwarded-clause-stands : goal.returns-in-Told-Forwarded-clause-stands
 unfolding settled
 returns-in-Told-Forwarded-clause-stands c = λ x h.
-    rw (c.in-Told-Forwarded.is, rw c.in-Told-Forwarded.is at c.in-Told-Forwarded.field-0-is, c.empty.ensures.emptied) (record { number = h.number; peer = h.peer; mark = refl; phase = (refl, refl) })
+    rw (c.in-Told-Forwarded.is, rw c.in-Told-Forwarded.is at c.in-Told-Forwarded.field-0-is, c.empty.ensures.emptied) (record { number = h.number; peer = h.peer; since = refl; phase = (refl, refl) })
 
 pub returns-in-Told-Silent-clause-stands : goal.returns-in-Told-Silent-clause-stands
 unfolding settled
 returns-in-Told-Silent-clause-stands c = λ x h.
-    rw (c.in-Told-Silent.is, rw c.in-Told-Silent.is at c.in-Told-Silent.field-0-is, c.empty-in-Told-Silent.ensures.emptied) (record { number = h.number; peer = h.peer; mark = refl; phase = (refl, refl) })
+    rw (c.in-Told-Silent.is, rw c.in-Told-Silent.is at c.in-Told-Silent.field-0-is, c.empty-in-Told-Silent.ensures.emptied) (record { number = h.number; peer = h.peer; since = refl; phase = (refl, refl) })
 
 pub returns-in-Told-Reply-clause-stands : goal.returns-in-Told-Reply-clause-stands
 unfolding settled

@@ -10,7 +10,7 @@ use Rattle.rb_core.specs.declared.giving.Giving.{Giving}
 use Rattle.rb_core.specs.StandsFor.{Source, StandsForPhase}
 use Rattle.rb_core.specs.Slots.{IsBeforePiece}
 use Rattle.rb_core.proofs.Slots.{reads_nothing}
-use Rattle.rb_core.proofs.OneSlot.{idle_phase, reading_phase, giving_phase, awaiting_phase, lost_phase, feeding_acts, taken_arguments, nothing_of_nothing, nothing_where_owing, nothing_where_awaiting, nothing_where_lost, some_where_fed, mark_of_idle, mark_of_reading}
+use Rattle.rb_core.proofs.OneSlot.{idle_phase, reading_phase, giving_phase, awaiting_phase, lost_phase, feeding_acts, taken_arguments, nothing_of_nothing, nothing_where_owing, nothing_where_awaiting, nothing_where_lost, some_where_fed, since_of_idle, since_of_reading}
 use Rattle.rb_core.proofs.slot.Slot.take.Goals as goal
 
 no_bytes : (piece : List ℕ) → eqb (length piece) 0 ≡ true → piece ≡ []
@@ -40,7 +40,7 @@ returns-in-Idle-clause-acts c =
     let before : IsBeforePiece _ c.new.result c.args.clock x [] = record {
       number = h.number;
       peer = h.peer;
-      mark = sym (mark_of_idle c.args.clock x.mark x.phase p.0);
+      since = sym (since_of_idle c.args.clock x.since x.phase p.0);
       reads = reads_nothing c.new.result _ c.new.ensures.marks c.new.ensures.head p.1 c.requires.buffers.buffer_cap;
       window = p.2;
     } in
@@ -57,7 +57,7 @@ returns-in-Reading-clause-acts c =
     let some = some_bytes piece (sym c.is_empty.ensures ∙ c.if-is_empty.false) in
     λ source. feeding_acts source c.args.self.now _ c.args.clock piece _ (λ x h.
     let p = reading_phase source c.in-Reading.reader _ _ _ x.phase c.in-Reading.is h.phase in
-    let before : IsBeforePiece _ c.in-Reading.reader c.args.clock x p.0 = record { number = h.number; peer = h.peer; mark = h.mark ∙ sym (mark_of_reading c.args.clock x.mark x.phase p.0 p.1); reads = p.2; window = p.3 } in
+    let before : IsBeforePiece _ c.in-Reading.reader c.args.clock x p.0 = record { number = h.number; peer = h.peer; since = h.since ∙ sym (since_of_reading c.args.clock x.since x.phase p.0 p.1); reads = p.2; window = p.3 } in
     record {
       taken = taking_on p.0 piece;
       is = some_where_fed x.phase p.0 piece (ap fed_in p.1) some;
@@ -93,7 +93,7 @@ returns-in-Idle-clause-arguments c = λ source x h.
     let before : IsBeforePiece _ c.new.result c.args.clock x [] = record {
       number = h.number;
       peer = h.peer;
-      mark = sym (mark_of_idle c.args.clock x.mark x.phase p.0);
+      since = sym (since_of_idle c.args.clock x.since x.phase p.0);
       reads = reads_nothing c.new.result _ c.new.ensures.marks c.new.ensures.head p.1 c.requires.buffers.buffer_cap;
       window = p.2;
     } in
@@ -104,7 +104,7 @@ returns-in-Reading-clause-arguments c = λ source x h.
     let piece = c.args.piece.now in
     let some = some_bytes piece (sym c.is_empty.ensures ∙ c.if-is_empty.false) in
     let p = reading_phase source c.in-Reading.reader _ _ _ x.phase c.in-Reading.is h.phase in
-    let before : IsBeforePiece _ c.in-Reading.reader c.args.clock x p.0 = record { number = h.number; peer = h.peer; mark = h.mark ∙ sym (mark_of_reading c.args.clock x.mark x.phase p.0 p.1); reads = p.2; window = p.3 } in
+    let before : IsBeforePiece _ c.in-Reading.reader c.args.clock x p.0 = record { number = h.number; peer = h.peer; since = h.since ∙ sym (since_of_reading c.args.clock x.since x.phase p.0 p.1); reads = p.2; window = p.3 } in
     taken_arguments _ _ piece x (taking_on p.0 piece) (some_where_fed x.phase p.0 piece (ap fed_in p.1) some) (c.feed-in-Reading.ensures.arguments x p.0 before)
 
 pub returns-in-Giving-clause-arguments : goal.returns-in-Giving-clause-arguments
