@@ -24,7 +24,7 @@ use Rattle.rb_core.specs.declared.slot.Stage.TheVariants as stages
 use Rattle.rb_model.specs.declared.message.Message.{Message}
 use Rattle.rb_model.specs.declared.message.Message.TheVariants as says
 use Rattle.rb_model.specs.State.{Owed, Phase, Connection, Connections}
-use Rattle.rb_model.specs.Losses.{began_in, begins, is_kept_for, removals_by, kept_removals}
+use Rattle.rb_model.specs.Losses.{began_in, begins, is_retained_for, removals_by, retained_removals}
 use Rattle.rb_core.specs.declared.giving.Giving.{Giving}
 use Rattle.rb_core.specs.declared.giving.Rest.{Rest}
 use Rattle.rb_core.specs.declared.giving.Rest.TheVariants as rests
@@ -174,8 +174,8 @@ not_dropped k (slot ∷ slots) = by_removed slot.removed refl (not_dropped k slo
         by_test true t = let low : nat_le r k ≡ false = grind (arith, nat_tests) in rw (is, low, t) (ap (λ (xs : List ℕ). r ∷ xs) further)
         by_test false t = let low : nat_le r k ≡ true = grind (arith, nat_tests) in rw (is, low, t) further
 
-kept_by_oldest : (stamps : List ℕ) (k change : ℕ) → IsOldest stamps (Some k) → is_kept_for stamps change ≡ nat_lt k change
-kept_by_oldest stamps k change least = by_test (nat_lt k change) refl
+retained_by_oldest : (stamps : List ℕ) (k change : ℕ) → IsOldest stamps (Some k) → is_retained_for stamps change ≡ nat_lt k change
+retained_by_oldest stamps k change least = by_test (nat_lt k change) refl
   where
     some_below : (ns : List ℕ) (i : ℕ) → i < length ns → slice_index_or ns i k ≡ k → k < change → list_any (λ n. nat_lt n change) ns ≡ true
     some_below [] i within is early = absurd (omega (arith, within))
@@ -191,7 +191,7 @@ kept_by_oldest stamps k change least = by_test (nat_lt k change) refl
         let here : nat_lt n change ≡ false = le-ltb n change (omega (arith, first, late)) in
         rw here (none_below ns (All-tail (λ m. k ≤ m) n ns low) late)
 
-    by_test : (b : Bool) → nat_lt k change ≡ b → is_kept_for stamps change ≡ b
+    by_test : (b : Bool) → nat_lt k change ≡ b → is_retained_for stamps change ≡ b
     by_test true t = some_below stamps least.0.0 least.0.1 least.0.2 (ltb-true k change t)
     by_test false t = none_below stamps least.1 (ltb-false k change t)
 
@@ -199,7 +199,7 @@ filter_alike : (p q : ℕ → Bool) (xs : List ℕ) → ((x : ℕ) → p x ≡ q
 filter_alike p q [] same = refl
 filter_alike p q (x ∷ xs) same = rw (same x, filter_alike p q xs same) refl
 
-none_pass : (xs : List ℕ) → filter (is_kept_for []) xs ≡ []
+none_pass : (xs : List ℕ) → filter (is_retained_for []) xs ≡ []
 none_pass [] = refl
 none_pass (x ∷ xs) = none_pass xs
 
@@ -207,14 +207,14 @@ none_later : (xs : List ℕ) → later_than None xs ≡ []
 none_later [] = refl
 none_later (x ∷ xs) = none_later xs
 
--- after a trim to the oldest list, the dead rows are those that are kept
+-- after a trim to the oldest list, the retained rows are those that a list needs
 pub kept_are : (source : Source) (table : Table) (c : Connections) (books : Books) (l : Ledger) (oldest : Option ℕ) (before : List ℕ)
     → CanListOn source table → StandsForConnections source table c → IsOldest (stamps_of table) oldest → StandsForLedger books l
     → books.registry.floor ≡ max source.registry.floor (stamp_told source.registry oldest) → removals_of books.registry ≡ later_than oldest before
-    → removals_of books.registry ≡ kept_removals c.all l
-unfolding kept_removals
+    → removals_of books.registry ≡ retained_removals c.all l
+unfolding retained_removals
 kept_are source table c books l None before t z none h floor dropped =
-    dropped ∙ none_later before ∙ sym (ap (λ (ns : List ℕ). filter (is_kept_for ns) (removals_by l)) (begins_alike source (values_of table.slots) c.all z.all ∙ none) ∙ none_pass (removals_by l))
+    dropped ∙ none_later before ∙ sym (ap (λ (ns : List ℕ). filter (is_retained_for ns) (removals_by l)) (begins_alike source (values_of table.slots) c.all z.all ∙ none) ∙ none_pass (removals_by l))
 kept_are source table c books l (Some k) before t z least h floor dropped =
     let reach : (source.registry.floor ≤ k) × (k ≤ source.registry.stamp) =
     All-contains (λ n. (source.registry.floor ≤ n) × (n ≤ source.registry.stamp)) (stamps_of table) k (stamps_reach source (values_of table.slots) t) least.0 in
@@ -222,8 +222,8 @@ kept_are source table c books l (Some k) before t z least h floor dropped =
     removals_kept books l h
     ∙ ap (λ (n : ℕ). removals_after n l) floor_is
     ∙ not_dropped k (all_slots l.own l.changes)
-    ∙ sym (ap (λ (ns : List ℕ). filter (is_kept_for ns) (removals_by l)) (begins_alike source (values_of table.slots) c.all z.all)
-    ∙ filter_alike (is_kept_for (stamps_of table)) (λ change. nat_lt k change) (removals_by l) (λ change. kept_by_oldest (stamps_of table) k change least))
+    ∙ sym (ap (λ (ns : List ℕ). filter (is_retained_for ns) (removals_by l)) (begins_alike source (values_of table.slots) c.all z.all)
+    ∙ filter_alike (is_retained_for (stamps_of table)) (λ change. nat_lt k change) (removals_by l) (λ change. retained_by_oldest (stamps_of table) k change least))
 
 filter_fewer : (p q : ℕ → Bool) (xs : List ℕ) → ((x : ℕ) → p x ≡ true → q x ≡ true) → length (filter p xs) ≤ length (filter q xs)
 filter_fewer p q [] also = omega arith
@@ -236,29 +236,29 @@ filter_fewer p q (x ∷ xs) also = by_test (p x) refl (q x) refl (filter_fewer p
     by_test false e false f fewer = rw (e, f) fewer
 
 -- what some list began before is above what none began before
-kept_above : (floor change : ℕ) (stamps : List ℕ) → All (λ n. floor ≤ n) stamps → is_kept_for stamps change ≡ true → nat_lt floor change ≡ true
-kept_above floor change [] low is = absurd cc
-kept_above floor change (n ∷ stamps) low is = by_test (nat_lt n change) refl (kept_above floor change stamps (All-tail (λ m. floor ≤ m) n stamps low))
+retained_above : (floor change : ℕ) (stamps : List ℕ) → All (λ n. floor ≤ n) stamps → is_retained_for stamps change ≡ true → nat_lt floor change ≡ true
+retained_above floor change [] low is = absurd cc
+retained_above floor change (n ∷ stamps) low is = by_test (nat_lt n change) refl (retained_above floor change stamps (All-tail (λ m. floor ≤ m) n stamps low))
   where
-    by_test : (b : Bool) → nat_lt n change ≡ b → (is_kept_for stamps change ≡ true → nat_lt floor change ≡ true) → nat_lt floor change ≡ true
+    by_test : (b : Bool) → nat_lt n change ≡ b → (is_retained_for stamps change ≡ true → nat_lt floor change ≡ true) → nat_lt floor change ≡ true
     by_test true t further =
         let first : floor ≤ n = All-head (λ m. floor ≤ m) n stamps low in
         let early = ltb-true n change t in
         lt-ltb floor change (omega (arith, first, early))
     by_test false t further = further (rw t at is)
 
--- the rows that are kept for lists are among the dead ones
+-- the rows that lists need are among the retained ones
 pub kept_few : (source : Source) (table : Table) (c : Connections) (books : Books) (l : Ledger)
     → CanListOn source table → StandsForConnections source table c → StandsForLedger books l → books.registry.floor ≡ source.registry.floor
-    → length (kept_removals c.all l) ≤ length (removals_of books.registry)
-unfolding kept_removals
+    → length (retained_removals c.all l) ≤ length (removals_of books.registry)
+unfolding retained_removals
 kept_few source table c books l t z h floor =
     let dead : removals_of books.registry ≡ filter (λ change. nat_lt books.registry.floor change) (removals_by l) =
     removals_kept books l h ∙ not_dropped books.registry.floor (all_slots l.own l.changes) in
-    let kept : filter (is_kept_for (begins c.all)) (removals_by l) ≡ filter (is_kept_for (stamps_of table)) (removals_by l) =
-    ap (λ (ns : List ℕ). filter (is_kept_for ns) (removals_by l)) (begins_alike source (values_of table.slots) c.all z.all) in
+    let kept : filter (is_retained_for (begins c.all)) (removals_by l) ≡ filter (is_retained_for (stamps_of table)) (removals_by l) =
+    ap (λ (ns : List ℕ). filter (is_retained_for ns) (removals_by l)) (begins_alike source (values_of table.slots) c.all z.all) in
     let low : All (λ n. books.registry.floor ≤ n) (stamps_of table) = subst (λ (k : ℕ). All (λ n. k ≤ n) (stamps_of table)) (sym floor) (stamps_low source table t) in
-    let fewer = filter_fewer (is_kept_for (stamps_of table)) (λ change. nat_lt books.registry.floor change) (removals_by l) (λ change. kept_above books.registry.floor change (stamps_of table) low) in
+    let fewer = filter_fewer (is_retained_for (stamps_of table)) (λ change. nat_lt books.registry.floor change) (removals_by l) (λ change. retained_above books.registry.floor change (stamps_of table) low) in
     omega (arith, fewer, ap (λ (xs : List ℕ). length xs) dead, ap (λ (xs : List ℕ). length xs) kept)
 
 pub no_call_has_room : (context : Context) (message : Message) (books : Books) → ((call : Call) → message ≡ says.Asked call → ⊥) → HasRoom context message books

@@ -16,7 +16,7 @@ use Rattle.rb_model.specs.Step.{IsReached}
 
 -- ---- held bytes
 
--- what the connections hold, the rows, live or kept, the keys of the statistics, the forwarded calls, and the last reply
+-- what the connections hold, the rows, live or retained, the keys of the statistics, the forwarded calls, and the last reply
 -- over UDP
 abbrev pub held : Held → ℕ
 held core =

@@ -101,7 +101,7 @@ with_evicted earliest slots = record slots { entries = map (λ e. (e.0, evicted_
 
 -- ---- room for a row
 
--- where the message is a SET that is accepted, its row has a place beside the live and the dead rows
+-- where the message is a SET that is accepted, its row has a place beside the live and the retained rows
 abbrev pub HasRoom : Context → Message → Books → Type 0
 HasRoom context (says.Asked call) books = HasRowRoom context call books.registry
 HasRoom context says.NoCall books = ⊤

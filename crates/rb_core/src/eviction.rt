@@ -1,4 +1,4 @@
-//! Room for a row among the live rows and those that were removed, but are kept for lists that are being given.
+//! Room for a row among the live rows and those that were removed, but are retained for lists that are being given.
 ghost use Rattle.std.specs.Prelude.{◌≡◌, ◌≤◌, IsTrue};
 ghost use Rattle.rb_xdr.specs.Meter.{PaysAtMost};
 ghost use Rattle.rb_proto.specs.Books.{AreTied, HasPlaceLeft, SameFrame};
@@ -12,11 +12,11 @@ use rb_proto::{Books, Context};
 use rb_registry::Registry;
 use rb_xdr::Meter;
 
-/// From this number of removed rows on, a SET looks for those that can go, though there is room beside them. Fewer stay, so
+/// From this number of retained rows on, a SET looks for those that can go, though there is room beside them. Fewer stay, so
 /// that not each SET walks the rows.
-const MANY_DEAD: usize = 16;
+const MANY_RETAINED: usize = 16;
 
-/// Returns whether there is room for a row beside the live and the removed ones, and few are removed.
+/// Returns whether there is room for a row beside the live and the retained rows, and few are retained.
 fn is_roomy(registry: &Registry, limit: usize, meter: &mut Meter) -> bool
     requires tie { meter.old.tie ≡ registry.now.tie }
     requires limit { registry.now.limit ≡ limit }
@@ -24,12 +24,12 @@ fn is_roomy(registry: &Registry, limit: usize, meter: &mut Meter) -> bool
     ensures cost { PaysAtMost meter.old meter.new 1 }
 {
     let live = registry.len(meter);
-    let dead = registry.dead();
-    dead < MANY_DEAD && dead < limit - live
+    let retained = registry.dead();
+    retained < MANY_RETAINED && retained < limit - live
 }
 
-/// Makes room for the row that a message is to add: where the live rows and those that are kept for lists reach the limit,
-/// the connections become Lost whose lists began before the earliest change that removed a kept row.
+/// Makes room for the row that a message is to add: where the live and the retained rows reach the limit,
+/// the connections become Lost whose lists began before the earliest change that removed a retained row.
 ///
 /// It is inlined, since for most calls there is nothing to do.
 #[inline(always)]
@@ -65,8 +65,8 @@ pub fn make_room(
     }
     books.trim(connections.oldest(meter), meter);
     let live = books.registry.len(meter);
-    let (dead, earliest) = books.registry.kept(meter);
-    if dead < context.limit - live {
+    let (retained, earliest) = books.registry.kept(meter);
+    if retained < context.limit - live {
         return;
     }
     connections.evict(earliest, meter);

@@ -30,7 +30,7 @@ use Rattle.rb_model.specs.Step.Event.{Open, Bytes, Pending, Gave, Closed, NextLo
 use Rattle.rb_model.specs.Laws.{IsLive, IsLeast}
 use Rattle.rb_model.specs.DeadlineLaws.{NoEntryIsDue}
 use Rattle.rb_model.specs.declared.types.Expired.{Expired}
-use Rattle.rb_model.specs.Losses.{is_due, lost, began_in, kept_removals, asks_room, is_crowded, crowding, began_before, evicted, evicting}
+use Rattle.rb_model.specs.Losses.{is_due, lost, began_in, retained_removals, asks_room, is_crowded, crowding, began_before, evicted, evicting}
 use Rattle.rb_model.specs.Ending.{at_fresh_moment, expire}
 use Rattle.rb_forward.specs.declared.types.Outcome.TheVariants.{Failed}
 use Rattle.rb_forward.specs.Forwards.{Entry, Forwards, is_due as entry_is_due, ended_by, without_first}
@@ -270,19 +270,19 @@ is-false-too false h = refl
 -- where something is in the way, room is asked for and there is none
 record IsCrowding (context : Context) (message : Message) (all : List Connection) (l : Ledger) (c : Connection) : Type 0 where
   asks : asks_room context message l ≡ true
-  full : context.limit ≤ length (rows_in l) + length (kept_removals all l)
-  way : InTheWay (kept_removals all l) (began_in c.phase)
+  full : context.limit ≤ length (rows_in l) + length (retained_removals all l)
+  way : InTheWay (retained_removals all l) (began_in c.phase)
 
 crowds : (context : Context) (message : Message) (all : List Connection) (l : Ledger) (c : Connection) → began_before (crowding context message all l) (began_in c.phase) ≡ true → IsCrowding context message all l c
 unfolding crowding
 crowds context message all l c is = by_test (asks_room context message l) refl (is_crowded context.limit all l) refl is
   where
     by_test : (a : Bool) → asks_room context message l ≡ a → (b : Bool) → is_crowded context.limit all l ≡ b
-        → began_before (cond (a && b) (kept_removals all l) []) (began_in c.phase) ≡ true → IsCrowding context message all l c
+        → began_before (cond (a && b) (retained_removals all l) []) (began_in c.phase) ≡ true → IsCrowding context message all l c
     by_test true asks true full way = record {
       asks = asks;
-      full = ltb-false _ context.limit (is-false-too (nat_lt (length (rows_in l) + length (kept_removals all l)) context.limit) full);
-      way = in-the-way (kept_removals all l) (began_in c.phase) way;
+      full = ltb-false _ context.limit (is-false-too (nat_lt (length (rows_in l) + length (retained_removals all l)) context.limit) full);
+      way = in-the-way (retained_removals all l) (began_in c.phase) way;
     }
     by_test true asks false full way = absurd cc
     by_test false asks b full way = absurd cc
@@ -508,13 +508,13 @@ module _ (s : State) (reached : IsReached s) (id : ℕ) (c : Connection) (there 
 
   -- for room
   crowded-out : (at : ℕ) (caller : Caller) (content : List ℕ) → asks_room (context_in (at_moment at s) caller) (message_of content) s.ledger ≡ true
-      → s.setting.limits.rows ≤ length (rows_in s.ledger) + length (kept_removals s.connections.all s.ledger) → (n : ℕ) → began_in c.phase ≡ Some n → All (λ change. n < change) (kept_removals s.connections.all s.ledger)
+      → s.setting.limits.rows ≤ length (rows_in s.ledger) + length (retained_removals s.connections.all s.ledger) → (n : ℕ) → began_in c.phase ≡ Some n → All (λ change. n < change) (retained_removals s.connections.all s.ledger)
       → list_any (is_lost_one id) (map (evicted (crowd_at s at caller content)) s.connections.all) ≡ true
   crowded-out at caller content asks full n lists before =
       let crowd = crowded (context_in (at_moment at s) caller) (message_of content) s.connections.all s.ledger asks full in
       let within = asks-within (context_in (at_moment at s) caller) (message_of content) s.ledger asks in
       let way : began_before (crowd_at s at caller content) (began_in c.phase) ≡ true =
-      ap (λ (xs : List ℕ). began_before xs (began_in c.phase)) crowd ∙ way-of (kept_removals s.connections.all s.ledger) (began_in c.phase) n lists (omega (arith, within, full)) before in
+      ap (λ (xs : List ℕ). began_before xs (began_in c.phase)) crowd ∙ way-of (retained_removals s.connections.all s.ledger) (began_in c.phase) n lists (omega (arith, within, full)) before in
       elim (live_or_lost id (crowd_at s at caller content) s.connections.all c found) [
         | inl stays ↦ let clash : true ≡ false = sym way ∙ stays.0 in absurd cc
         | inr goes ↦ goes.1

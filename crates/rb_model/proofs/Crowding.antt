@@ -10,7 +10,7 @@ use Rattle.rb_proto.specs.Ledger.{Ledger, rows_in}
 use Rattle.rb_model.specs.declared.message.Message.{Message}
 use Rattle.rb_model.specs.declared.message.Message.TheVariants as says
 use Rattle.rb_model.specs.State.{Connection, Connections}
-use Rattle.rb_model.specs.Losses.{kept_removals, asks_room, crowding, evicted, evicting}
+use Rattle.rb_model.specs.Losses.{retained_removals, asks_room, crowding, evicted, evicting}
 
 -- ---- who is in the way
 
@@ -29,17 +29,17 @@ pub not_asked : (context : Context) (message : Message) (all : List Connection) 
 unfolding crowding
 not_asked context message all l none = rw none refl
 
-pub not_crowded : (context : Context) (message : Message) (all : List Connection) (l : Ledger) → length (rows_in l) + length (kept_removals all l) < context.limit → crowding context message all l ≡ []
+pub not_crowded : (context : Context) (message : Message) (all : List Connection) (l : Ledger) → length (rows_in l) + length (retained_removals all l) < context.limit → crowding context message all l ≡ []
 unfolding crowding
 not_crowded context message all l room =
-    let fits : nat_lt (length (rows_in l) + length (kept_removals all l)) context.limit ≡ true = lt-ltb _ _ room in
-    rw fits (elim (asks_room context message l) as (λ b. cond (b && false) (kept_removals all l) [] ≡ []) [ true ↦ refl | false ↦ refl ])
+    let fits : nat_lt (length (rows_in l) + length (retained_removals all l)) context.limit ≡ true = lt-ltb _ _ room in
+    rw fits (elim (asks_room context message l) as (λ b. cond (b && false) (retained_removals all l) [] ≡ []) [ true ↦ refl | false ↦ refl ])
 
-pub crowded : (context : Context) (message : Message) (all : List Connection) (l : Ledger) → asks_room context message l ≡ true → context.limit ≤ length (rows_in l) + length (kept_removals all l)
-    → crowding context message all l ≡ kept_removals all l
+pub crowded : (context : Context) (message : Message) (all : List Connection) (l : Ledger) → asks_room context message l ≡ true → context.limit ≤ length (rows_in l) + length (retained_removals all l)
+    → crowding context message all l ≡ retained_removals all l
 unfolding crowding
 crowded context message all l asks full =
-    let fits : nat_lt (length (rows_in l) + length (kept_removals all l)) context.limit ≡ false = le-ltb _ _ full in
+    let fits : nat_lt (length (rows_in l) + length (retained_removals all l)) context.limit ≡ false = le-ltb _ _ full in
     rw (asks, fits) refl
 
 pub no_call_asks : (context : Context) (message : Message) (l : Ledger) → ((call : Call) → message ≡ says.Asked call → ⊥) → asks_room context message l ≡ false

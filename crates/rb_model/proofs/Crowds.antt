@@ -8,7 +8,7 @@ use Rattle.rb_proto.specs.Ledger.{Ledger}
 use Rattle.rb_model.specs.declared.message.Message.{Message}
 use Rattle.rb_model.specs.State.{Connection}
 use Rattle.rb_model.specs.Connections.{is_lost, is_live, change_first}
-use Rattle.rb_model.specs.Losses.{began_in, began_before, begins, kept_removals, crowding, evicted}
+use Rattle.rb_model.specs.Losses.{began_in, began_before, begins, retained_removals, crowding, evicted}
 
 -- a connection without a list stays
 pub no_list_stays : (changes : List ℕ) (c : Connection) → began_in c.phase ≡ None → evicted changes c ≡ c
@@ -165,5 +165,5 @@ plain_lives id changes all c there none = elim (live_or_lost id changes all c th
 
 -- the rows that are in the way are the same
 pub crowding_alike : (context : Context) (message : Message) (all other : List Connection) (l : Ledger) → begins all ≡ begins other → crowding context message all l ≡ crowding context message other l
-unfolding crowding kept_removals
+unfolding crowding retained_removals
 crowding_alike context message all other l same = rw same refl

@@ -49,7 +49,7 @@ use Rattle.rb_model.specs.Calls.Outcome.{NoCall, Reply, Forwarded, Silent}
 use Rattle.rb_model.specs.State.{Setting, State, Phase, Connection, Connections, at_moment, opening}
 use Rattle.rb_model.specs.State.Phase.{Idle, Reading, Owing, Awaiting, Lost}
 use Rattle.rb_model.specs.Connections.{change_first, is_live, live_connection, pending_in, phase_when_given, when_given, giving, reading, settled, on_found, number_for, opening_as, opening_of, is_there, without_number, closing_of}
-use Rattle.rb_model.specs.Losses.{asks_room, began_in, began_before, begins, crowding, evicted, first_due, is_kept_for, kept_removals, lost, removals_by, with_lost, expiring}
+use Rattle.rb_model.specs.Losses.{asks_room, began_in, began_before, begins, crowding, evicted, first_due, is_retained_for, retained_removals, lost, removals_by, with_lost, expiring}
 use Rattle.rb_model.specs.Ending.{told_at, told_of, refused_by, tell, tell_end, at_fresh_moment, closed_as, expire_connection, expired_as, forward_reply, expire}
 use Rattle.rb_model.specs.Step.{Event, Output, Taken, context_in, serve, bytes, pending, gave, is_too_much, moved, open_connection, dropped_with, close_connection, with_reply, datagram, sent_call, output_or, show_taken, show_done, show_outcome, show_end, show_expired, step, after, IsReached}
 use Rattle.rb_model.specs.Step.Event.{Open, Bytes, Pending, Gave, Closed, NextLost, Datagram, Unsent, Sent, Forward, Expire}
@@ -59,7 +59,7 @@ use Rattle.rb_model.proofs.Crowding.{none_evicted, not_crowded, crowded}
 use Rattle.rb_model.proofs.EntriesKept.{after-setting}
 use Rattle.rb_model.proofs.Happenings.{Arriving, arriving}
 use Rattle.rb_model.proofs.Happenings.Arriving.{NotThere, NotTaken, ReadOn, Ended}
-use Rattle.rb_model.proofs.KeptRows.{keeps, is_before, kept_by, KeepsLess, KeepsNoMore, same-kept, changed-kept, mapped-kept, filtered-kept, one-more-kept, total, total-is, total-more, Least, least-of, none-keep, one-fewer}
+use Rattle.rb_model.proofs.KeptRows.{keeps, is_before, retained_by, KeepsLess, KeepsNoMore, same-kept, changed-kept, mapped-kept, filtered-kept, one-more-kept, total, total-is, total-more, Least, least-of, none-keep, one-fewer}
 
 -- ---- what a call leaves behind
 
@@ -235,37 +235,37 @@ module _ (context : Context) (message : Message) (all : List Connection) (l : Le
   left = map (evicted (crowding context message all l)) all
 
   -- where those connections are evicted whose lists are in the way
-  evicted-fits : (change : ℕ) (changes : List ℕ) → kept_removals all l ≡ change ∷ changes → total (map (evicted (change ∷ changes)) all) l.own l.changes < context.limit
-  unfolding kept_removals
+  evicted-fits : (change : ℕ) (changes : List ℕ) → retained_removals all l ≡ change ∷ changes → total (map (evicted (change ∷ changes)) all) l.own l.changes < context.limit
+  unfolding retained_removals
   evicted-fits change changes is =
       let now : List Connection = map (evicted (change ∷ changes)) all in
       let least : Least (change ∷ changes) = least-of change changes in
-      let also : (n : ℕ) → is_kept_for (begins now) n ≡ true → is_kept_for (begins all) n ≡ true =
-      λ n kept. kept_by n all ∙ mapped-kept n (evicted (change ∷ changes)) (evicted-keeps n (change ∷ changes)) all n (omega arith) (sym (kept_by n now) ∙ kept) in
-      let out : is_kept_for (begins now) least.value ≡ false = kept_by least.value now ∙ none-keep change changes least.value least.low all in
-      let there : list_any (λ n. eqb n least.value) (kept_removals all l) ≡ true = ap (λ (xs : List ℕ). list_any (λ n. eqb n least.value) xs) is ∙ least.there in
-      let fewer = one-fewer (is_kept_for (begins now)) (is_kept_for (begins all)) also least.value out (removals_by l) there in
+      let also : (n : ℕ) → is_retained_for (begins now) n ≡ true → is_retained_for (begins all) n ≡ true =
+      λ n kept. retained_by n all ∙ mapped-kept n (evicted (change ∷ changes)) (evicted-keeps n (change ∷ changes)) all n (omega arith) (sym (retained_by n now) ∙ kept) in
+      let out : is_retained_for (begins now) least.value ≡ false = retained_by least.value now ∙ none-keep change changes least.value least.low all in
+      let there : list_any (λ n. eqb n least.value) (retained_removals all l) ≡ true = ap (λ (xs : List ℕ). list_any (λ n. eqb n least.value) xs) is ∙ least.there in
+      let fewer = one-fewer (is_retained_for (begins now)) (is_retained_for (begins all)) also least.value out (removals_by l) there in
       omega (arith, fits, fewer, total-is all l, total-is now l)
 
   made-room : asks_room context message l ≡ true → total left l.own l.changes < context.limit
-  made-room asks = by_room (nat_lt (length (rows_in l) + length (kept_removals all l)) context.limit) refl
+  made-room asks = by_room (nat_lt (length (rows_in l) + length (retained_removals all l)) context.limit) refl
     where
       left-is : (changes : List ℕ) → crowding context message all l ≡ changes → total left l.own l.changes ≡ total (map (evicted changes) all) l.own l.changes
       left-is changes is = ap (λ (xs : List ℕ). total (map (evicted xs) all) l.own l.changes) is
 
-      by_kept : (changes : List ℕ) → kept_removals all l ≡ changes → context.limit ≤ length (rows_in l) + length (kept_removals all l) → total left l.own l.changes < context.limit
+      by_kept : (changes : List ℕ) → retained_removals all l ≡ changes → context.limit ≤ length (rows_in l) + length (retained_removals all l) → total left l.own l.changes < context.limit
       by_kept [] is full = absurd (omega (arith, full, asks-within context message l asks, ap (λ (xs : List ℕ). length xs) is))
       by_kept (change ∷ changes) is full =
           omega (arith, left-is (change ∷ changes) (crowded context message all l asks full ∙ is), evicted-fits change changes is)
 
-      by_room : (b : Bool) → nat_lt (length (rows_in l) + length (kept_removals all l)) context.limit ≡ b → total left l.own l.changes < context.limit
+      by_room : (b : Bool) → nat_lt (length (rows_in l) + length (retained_removals all l)) context.limit ≡ b → total left l.own l.changes < context.limit
       by_room true t =
           let room = ltb-true _ _ t in
           let none = left-is [] (not_crowded context message all l room) in
           let same : total (map (evicted []) all) l.own l.changes ≡ total all l.own l.changes =
           ap (λ (c : Connections). total c.all l.own l.changes) (none_evicted (record { next = 0; all = all })) in
           omega (arith, room, none, same, total-is all l)
-      by_room false t = by_kept (kept_removals all l) refl (ltb-false _ _ t)
+      by_room false t = by_kept (retained_removals all l) refl (ltb-false _ _ t)
 
   served-fits : (new : Ledger) → Effect (asks_room context message l) l new → total left new.own new.changes ≤ context.limit
   served-fits new (Same own same) =

@@ -102,7 +102,7 @@ ended_cost forwards connections = 1 + entry_cost forwards + tell_cost connection
 
 -- ---- events
 
--- how many rows there may be, live or removed, and how many connections are there, Lost ones too
+-- how many rows there may be, live or retained, and how many connections are there, Lost ones too
 abbrev pub row_limit : State → ℕ
 row_limit s = s.setting.limits.rows
 

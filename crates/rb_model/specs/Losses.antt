@@ -1,4 +1,4 @@
--- When a connection becomes Lost: at its deadline, or where the rows that are kept for its list are in the way. Moments are
+-- When a connection becomes Lost: at its deadline, or where the rows that are retained for its list are in the way. Moments are
 -- in milliseconds.
 use Rattle.std.specs.Prelude.{ℕ, ◌+◌, nat_le, nat_lt, Bool, false, not, ◌&&◌, if◌then◌else◌, List, [], ◌∷◌, length, map, find, filter, filter_map, Option, Some, None}
 use Rattle.std.specs.Option.{option_map}
@@ -68,7 +68,7 @@ with_lost (Some id) c = changed_at id lost c
 unfoldable pub expiring : ℕ → Connections → Option ℕ × Connections
 expiring clock c = (first_due clock c, with_lost (first_due clock c) c)
 
--- ---- rows that are kept
+-- ---- retained rows
 
 -- the number of changes after which a streamed list began that is unfinished
 abbrev pub began_in : Phase → Option ℕ
@@ -82,16 +82,16 @@ unfoldable pub begins : List Connection → List ℕ
 begins all = filter_map (λ (c : Connection). began_in c.phase) all
 
 -- some of these lists began before the change
-abbrev pub is_kept_for : List ℕ → ℕ → Bool
-is_kept_for begins change = list_any (λ n. nat_lt n change) begins
+abbrev pub is_retained_for : List ℕ → ℕ → Bool
+is_retained_for begins change = list_any (λ n. nat_lt n change) begins
 
 -- the changes that removed rows, one for each row that was removed
 abbrev pub removals_by : Ledger → List ℕ
 removals_by l = filter_map (λ (slot : Slot). slot.removed) (all_slots l.own l.changes)
 
--- A removed row is kept where some unfinished list began before the change that removed it.
-unfoldable pub kept_removals : List Connection → Ledger → List ℕ
-kept_removals all l = filter (is_kept_for (begins all)) (removals_by l)
+-- A removed row is retained where some unfinished list began before the change that removed it.
+unfoldable pub retained_removals : List Connection → Ledger → List ℕ
+retained_removals all l = filter (is_retained_for (begins all)) (removals_by l)
 
 -- ---- room for a row
 
@@ -102,14 +102,14 @@ asks_room context says.NoCall l = false
 asks_room context (says.Refused head) l = false
 asks_room context (says.Garbage head) l = false
 
--- the live and the kept rows reach the limit
+-- the live and the retained rows reach the limit
 abbrev pub is_crowded : ℕ → List Connection → Ledger → Bool
-is_crowded limit all l = not (nat_lt (length (rows_in l) + length (kept_removals all l)) limit)
+is_crowded limit all l = not (nat_lt (length (rows_in l) + length (retained_removals all l)) limit)
 
 -- the changes that removed the rows of which one has to go, where a message wants room and there is none
 unfoldable pub crowding : Context → Message → List Connection → Ledger → List ℕ
 crowding context message all l =
-    if asks_room context message l && is_crowded context.limit all l then kept_removals all l else []
+    if asks_room context message l && is_crowded context.limit all l then retained_removals all l else []
 
 -- a list that began before the earliest of these changes, if there is one
 abbrev pub began_before : List ℕ → Option ℕ → Bool
@@ -124,7 +124,7 @@ abbrev pub evicting : List ℕ → Connections → Connections
 evicting changes c = record c { all = map (evicted changes) c.all }
 
 -- Before a message is answered that wants room, the connections become Lost whose lists began before the earliest change
--- that removed a kept row, where the live and the kept rows reach the limit.
+-- that removed a retained row, where the live and the retained rows reach the limit.
 abbrev pub with_room : Context → Message → State → State
 with_room context message s =
     record s { connections = evicting (crowding context message s.connections.all s.ledger) s.connections }

@@ -1,4 +1,4 @@
--- Worked examples: lists that are streamed, rows that are kept for them, and connections that are closed for room.
+-- Worked examples: lists that are streamed, rows that are retained for them, and connections that are closed for room.
 use Rattle.std.specs.Prelude.{◌≡◌, ℕ, ◌+◌, List, [], ◌∷◌, ◌++◌, take, drop, map, Some, None}
 use Rattle.std.specs.List.{flat_map, range_with_len}
 use Rattle.rb_xdr.specs.Xdr.{words}
@@ -44,7 +44,7 @@ B = 200002
 abbrev pub C : ℕ
 C = 200003
 
--- ---- rows that are kept, and room
+-- ---- retained rows, and room
 
 -- a list is that of its call while rows go, and the oldest reader is closed for room
 abbrev pub DumpSurvivesUnsetAndEvicts : Type 0
@@ -75,7 +75,7 @@ FullTableRefuses =
     run (fresh_with 8) (opens ∷ set A ∷ set B ∷ dump 1 ∷ set C ∷ NextLost ∷ [])
     ≡ Opened 1 ∷ was_true ∷ was_true ∷ Took 44 ∷ was_false ∷ LostIs None ∷ []
 
--- a row that came and went while a list is given is kept for it too
+-- a row that came and went while a list is given is retained for it too
 abbrev pub RowsThatCameAndWentAreKept : Type 0
 RowsThatCameAndWentAreKept =
     run (fresh_with 8) (opens ∷ set A ∷ dump 1 ∷ set B ∷ NextLost ∷ unset B ∷ NextLost ∷ set B ∷ NextLost ∷ [])

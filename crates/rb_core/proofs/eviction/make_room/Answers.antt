@@ -2,7 +2,7 @@ use Rattle.std.proofs.Common.{◌≡◌, ◌≤◌, ◌<◌, ◌+◌, true, fals
 use Rattle.rb_registry.specs.Registry.{rows_of, removals_of}
 use Rattle.rb_proto.specs.Ledger.{rows_in}
 use Rattle.rb_proto.specs.Books.{wants_room_in}
-use Rattle.rb_model.specs.Losses.{asks_room, kept_removals, evicting}
+use Rattle.rb_model.specs.Losses.{asks_room, retained_removals, evicting}
 use Rattle.rb_core.specs.Listings.{source_in, CanListOn, stamps_of, IsEarliest}
 use Rattle.rb_core.proofs.Crowding.{lists_on, stands_on, trimmed_low, kept_are, kept_few, no_call_has_room, room_is_made, earliest_of}
 use Rattle.rb_model.proofs.Crowding.{none_evicted, not_asked, not_crowded, crowded, no_call_asks, row_within}
@@ -20,7 +20,7 @@ returns-then-is_roomy-clause-makes c = λ x l z h.
     let source = source_in c.args.context.now.listener.host c.args.books.now in
     let few = kept_few source c.args.connections.now x c.args.books.now l c.requires.lists z h refl in
     let place = c.is_roomy.ensures.room (c.if-is_roomy.true) in
-    let room : length (rows_in l) + length (kept_removals x.all l) < c.args.context.now.limit = omega (arith, few, place, ap (λ rs. length rs) h.registry.rows, c.requires.limit) in
+    let room : length (rows_in l) + length (retained_removals x.all l) < c.args.context.now.limit = omega (arith, few, place, ap (λ rs. length rs) h.registry.rows, c.requires.limit) in
     (rw (not_crowded c.args.context.now c.args.message.now x.all l room, none_evicted x) z, h)
 
 pub returns-then-not-wants_room-clause-makes : goal.returns-then-not-wants_room-clause-makes
@@ -28,14 +28,14 @@ returns-then-not-wants_room-clause-makes c = λ x l z h.
     let none : asks_room c.args.context.now c.args.message.now l ≡ false = rw c.in-Asked.is (sym (c.wants_room.ensures.shows l h) ∙ c.if-not-wants_room.true) in
     (rw (not_asked c.args.context.now c.args.message.now x.all l none, none_evicted x) z, h)
 
-pub returns-then-dead-context-clause-lists : goal.returns-then-dead-context-clause-lists
-returns-then-dead-context-clause-lists c =
+pub returns-then-retained-context-clause-lists : goal.returns-then-retained-context-clause-lists
+returns-then-retained-context-clause-lists c =
     let host = c.args.context.now.listener.host in
     let low = trimmed_low (source_in host c.args.books.now) c.args.connections.now c.oldest.result c.trim.new.self.registry.floor c.requires.lists c.oldest.ensures.oldest c.trim.ensures.floor in
     lists_on host c.args.books.now.registry c.trim.new.self.registry c.trim.ensures.cursors c.args.connections.now low c.requires.lists
 
-pub returns-then-dead-context-clause-makes : goal.returns-then-dead-context-clause-makes
-returns-then-dead-context-clause-makes c = λ x l z h.
+pub returns-then-retained-context-clause-makes : goal.returns-then-retained-context-clause-makes
+returns-then-retained-context-clause-makes c = λ x l z h.
     let host = c.args.context.now.listener.host in
     let source = source_in host c.args.books.now in
     let table = c.args.connections.now in
@@ -43,8 +43,8 @@ returns-then-dead-context-clause-makes c = λ x l z h.
     let after = c.trim.ensures.stands l h in
     let kept = kept_are source table x c.trim.new.self l c.oldest.result _ c.requires.lists z c.oldest.ensures.oldest after c.trim.ensures.floor c.trim.ensures.dropped in
     let rows = after.registry.rows in
-    let room : length (rows_in l) + length (kept_removals x.all l) < c.args.context.now.limit =
-    omega (arith, ap (λ rs. length rs) rows, ap (λ (ns : List ℕ). length ns) kept, c.len-live.ensures.len, c.kept-dead.ensures.count, c.if-dead-context.true) in
+    let room : length (rows_in l) + length (retained_removals x.all l) < c.args.context.now.limit =
+    omega (arith, ap (λ rs. length rs) rows, ap (λ (ns : List ℕ). length ns) kept, c.len-live.ensures.len, c.kept-retained.ensures.count, c.if-retained-context.true) in
     (rw (not_crowded c.args.context.now c.args.message.now x.all l room, none_evicted x) (stands_on host c.args.books.now.registry c.trim.new.self.registry c.trim.ensures.cursors table x low c.requires.lists z), after)
 
 first_lists : (c : goal.After-trim-2) → CanListOn (source_in c.args.context.now.listener.host c.trim.new.self) c.args.connections.now
@@ -60,14 +60,14 @@ still_low : (c : goal.After-trim-2) → All (λ n. c.trim-2.new.self.registry.fl
 still_low c =
     trimmed_low (source_in c.args.context.now.listener.host c.trim.new.self) c.evict.new.self c.oldest-2.result c.trim-2.new.self.registry.floor (evicted_lists c) c.oldest-2.ensures.oldest c.trim-2.ensures.floor
 
-some_dead : (c : goal.After-trim-2) → 0 < length (removals_of c.trim.new.self.registry)
-some_dead c =
+some_retained : (c : goal.After-trim-2) → 0 < length (removals_of c.trim.new.self.registry)
+some_retained c =
     let wants : wants_room_in c.args.context.now c.in-Asked.call c.args.books.now.registry ≡ true = sym c.wants_room.ensures.wants ∙ c.if-not-wants_room.false in
     let within = row_within c.args.context.now c.in-Asked.call (rows_of c.args.books.now.registry) c.args.books.now.registry.stamp wants in
-    omega (arith, within, ap (λ rs. length rs) c.trim.ensures.rows, c.len-live.ensures.len, c.kept-dead.ensures.count, c.if-dead-context.false)
+    omega (arith, within, ap (λ rs. length rs) c.trim.ensures.rows, c.len-live.ensures.len, c.kept-retained.ensures.count, c.if-retained-context.false)
 
-the_earliest : (c : goal.After-trim-2) → IsEarliest (removals_of c.trim.new.self.registry) c.kept-dead.result.1
-the_earliest c = earliest_of (removals_of c.trim.new.self.registry) c.kept-dead.result.1 c.kept-dead.ensures.least (some_dead c)
+the_earliest : (c : goal.After-trim-2) → IsEarliest (removals_of c.trim.new.self.registry) c.kept-retained.result.1
+the_earliest c = earliest_of (removals_of c.trim.new.self.registry) c.kept-retained.result.1 c.kept-retained.ensures.least (some_retained c)
 
 pub returns-clause-lists : goal.returns-clause-lists
 returns-clause-lists c =
@@ -84,8 +84,8 @@ returns-clause-makes c = λ x l z h.
     let kept = kept_are source table x one l c.oldest.result _ c.requires.lists z c.oldest.ensures.oldest after c.trim.ensures.floor c.trim.ensures.dropped in
     let rows = after.registry.rows in
     let asks : asks_room c.args.context.now c.args.message.now l ≡ true = rw c.in-Asked.is (sym (c.wants_room.ensures.shows l h) ∙ c.if-not-wants_room.false) in
-    let full : c.args.context.now.limit ≤ length (rows_in l) + length (kept_removals x.all l) =
-    omega (arith, ap (λ rs. length rs) rows, ap (λ (ns : List ℕ). length ns) kept, c.len-live.ensures.len, c.kept-dead.ensures.count, c.if-dead-context.false) in
+    let full : c.args.context.now.limit ≤ length (rows_in l) + length (retained_removals x.all l) =
+    omega (arith, ap (λ rs. length rs) rows, ap (λ (ns : List ℕ). length ns) kept, c.len-live.ensures.len, c.kept-retained.ensures.count, c.if-retained-context.false) in
     let first = stands_on host c.args.books.now.registry one.registry c.trim.ensures.cursors table x low c.requires.lists z in
     let evicts = c.evict.ensures.evicts (removals_of one.registry) (the_earliest c) (source_in host one) x first in (
       rw (crowded c.args.context.now c.args.message.now x.all l asks full, ← kept)
@@ -95,7 +95,7 @@ returns-clause-makes c = λ x l z h.
 
 pub returns-clause-room : goal.returns-clause-room
 returns-clause-room c =
-    let fewer = room_is_made (removals_of c.trim.new.self.registry) (removals_of c.trim-2.new.self.registry) (stamps_of c.evict.new.self) c.kept-dead.result.1 c.oldest-2.result
+    let fewer = room_is_made (removals_of c.trim.new.self.registry) (removals_of c.trim-2.new.self.registry) (stamps_of c.evict.new.self) c.kept-retained.result.1 c.oldest-2.result
     (the_earliest c) c.evict.ensures.later c.oldest-2.ensures.oldest c.trim-2.ensures.dropped in
     let limit = c.trim-2.ensures.frame.limit in
     rw c.in-Asked.is (λ wants. omega (arith, fewer, ap (λ rs. length rs) c.trim-2.ensures.rows, c.len-live.ensures.counted, c.len-live.ensures.few, limit))
