@@ -8,3 +8,4 @@ pub mod HexWords
 pub mod LineWords
 pub mod Comparing
 pub mod Recorded
+pub mod Binds

@@ -8,3 +8,4 @@ pub mod LineGrammar
 pub mod Checking
 pub mod RecordLaws
 pub mod Options
+pub mod Serving

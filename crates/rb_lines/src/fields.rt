@@ -35,7 +35,7 @@ fn with_digit(n: u64, digit: u32) -> Option<u64>
 
 /// A number of 64 bits in decimal digits, leading zeros allowed. A sign is no digit.
 #[tactic(auto, unfolding(crate::specs::Fields::decimal))]
-pub fn decimal(text: &[u8]) -> Option<u64>
+pub(crate) fn decimal(text: &[u8]) -> Option<u64>
     ensures { result ≡ decimal (2 ^ 64) text.now }
 {
     if text.is_empty() {

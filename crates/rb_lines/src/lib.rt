@@ -9,13 +9,16 @@ mod lines;
 mod options;
 mod printing;
 mod running;
+mod serving;
 mod worked;
 
 pub use checking::{check_text, run_check};
-pub use fields::decimal;
 pub use laws::{lines_are_of_the_grammar, records_are_read, text_reads_as_its_lines};
 pub use limits::{BadLimit, bad_limit};
 pub use lines::{ReadFault, read_events};
-pub use options::{ReplayTexts, Valued, read_beginning, read_limits, read_port};
+pub use options::{ReplayTexts, Valued, read_beginning};
 pub use running::{Beginning, Fault, explain, run_replay};
+pub use serving::{
+    MOST_HOSTS, Record, ServeFault, ServeTexts, Service, read_service, serve_default,
+};
 pub use worked::worked_examples;

@@ -1,4 +1,4 @@
-//! What the values of the options of `replay` mean.
+//! What the values of the options of `replay` mean, and those that `serve` has too.
 ghost use Rattle.std.specs.Prelude.{◌≡◌, ◌^◌};
 ghost use Rattle.rb_lines.specs.Fields.{decimal, host};
 ghost use Rattle.rb_lines.specs.Options.{value_of, port, limits_of, beginning_of};
@@ -11,12 +11,18 @@ use rb_core::{Limits, Listener};
 #[derive(Clone, Copy, Debug, PartialEq, Eq)]
 pub enum Valued {
     Announce,
+    /// The value of `--bind` at this place, from 0. None may stand at place 16.
+    Bind(usize),
+    Local,
+    LocalMode,
     Conns,
     Rows,
     Forwards,
     Port,
     Xid,
     Now,
+    Turns,
+    RecordLimit,
 }
 
 /// The values of the options of `replay`, as texts.
@@ -37,14 +43,14 @@ pub struct ReplayTexts<'a> {
 }
 
 /// A number of 64 bits in decimal digits alone, leading zeros allowed. A sign is no digit.
-fn number(option: Valued, text: &str) -> Result<u64, Valued>
+pub(crate) fn number(option: Valued, text: &str) -> Result<u64, Valued>
     ensures { result ≡ value_of option (decimal (2 ^ 64) text.now) }
 {
     decimal(text.as_bytes()).ok_or(option)
 }
 
 /// An address in dotted decimal form.
-fn address(option: Valued, text: &str) -> Result<[u8; 4], Valued>
+pub(crate) fn address(option: Valued, text: &str) -> Result<[u8; 4], Valued>
     ensures { result ≡ value_of option (host text.now) }
 {
     host(text.as_bytes()).ok_or(option)
@@ -65,7 +71,7 @@ fn number32(option: Valued, text: &str) -> Result<u32, Valued>
 
 /// A port from 1 to 65535. `Port` where the text is none.
 #[tactic(auto, unfolding(crate::specs::Fields::decimal))]
-pub fn read_port(text: &str) -> Result<u16, Valued>
+pub(crate) fn read_port(text: &str) -> Result<u16, Valued>
     ensures { result ≡ value_of Valued.Port (port text.now) }
 {
     let n = number(Valued::Port, text)?;
@@ -77,7 +83,7 @@ pub fn read_port(text: &str) -> Result<u16, Valued>
 }
 
 /// Limits, whatever their ranges. The first option whose text is no number of 64 bits where one is none.
-pub fn read_limits(conns: &str, rows: &str, forwards: &str) -> Result<Limits, Valued>
+pub(crate) fn read_limits(conns: &str, rows: &str, forwards: &str) -> Result<Limits, Valued>
     ensures { result ≡ limits_of conns.now rows.now forwards.now }
 {
     let conns = number(Valued::Conns, conns)?;

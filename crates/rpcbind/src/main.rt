@@ -20,20 +20,17 @@ fn command_words(rt: &HostRuntime) -> io::Result<Vec<String>> {
     Ok(words)
 }
 
-/// What the words of the command line ask for. Where nothing is to be run, the exit status. Words that are no text
-/// can't be read.
-fn asked(rt: &HostRuntime) -> Result<Words, u8>
+/// The words of the command line, or the exit status. Words that are no text can't be read.
+fn words_or_status(rt: &HostRuntime) -> Result<Vec<String>, u8>
     ensures { IfErr result (λ status. status ≤ 2) }
 {
-    let mut faults = rt.stderr();
-    let words = match command_words(rt) {
-        Ok(words) => words,
+    match command_words(rt) {
+        Ok(words) => Ok(words),
         Err(error) if error.kind() == ErrorKind::OutOfMemory => {
-            return Err(explain(Fault::NoMemory, &mut faults));
+            Err(explain(Fault::NoMemory, &mut rt.stderr()))
         }
-        Err(_) => return Err(explain(Fault::NotText, &mut faults)),
-    };
-    arguments::read(rt.alloc(), &words, &mut io::writer(rt), &mut faults)
+        Err(_) => Err(explain(Fault::NotText, &mut rt.stderr())),
+    }
 }
 
 /// Runs the command `replay` over standard input and output. The answer is the exit status.
@@ -70,8 +67,19 @@ fn check(rt: &HostRuntime, beginning: &Beginning) -> u8
     )
 }
 
+/// What the words of the command line ask for. Where nothing is to be run, the exit status.
+fn asked<'a>(rt: &HostRuntime, words: &'a [String]) -> Result<Words<'a>, u8>
+    ensures { IfErr result (λ status. status ≤ 2) }
+{
+    arguments::read(rt.alloc(), words, &mut io::writer(rt), &mut rt.stderr())
+}
+
 fn main(rt: HostRuntime) -> ExitCode {
-    let status = match asked(&rt) {
+    let words = match words_or_status(&rt) {
+        Ok(words) => words,
+        Err(status) => return ExitCode::from(status),
+    };
+    let status = match asked(&rt, &words) {
         Ok(Words::Serve(service)) => run_service(&rt, &service, &mut rt.stderr()),
         Ok(Words::Replay(beginning)) => replay(&rt, &beginning),
         Ok(Words::Check(beginning)) => check(&rt, &beginning),

@@ -1,5 +1,6 @@
 //! The commands of the program and their options, as `--help` shows them.
 use clap::{Arg, ArgAction, Command};
+use rb_lines::{Valued, serve_default};
 use std::alloc::{AllocError, Global};
 
 const VERSION: &str = "0.1.0";
@@ -31,7 +32,7 @@ fn serve<'a>(alloc: Global) -> Result<Command<'a>, AllocError> {
         "IPv4 address to listen on over TCP and UDP; may be given up to 16 times",
     )
     .action(ArgAction::Append)
-    .default_value("127.0.0.1");
+    .default_value(serve_default(Valued::Bind(0)));
     let command = Command::new(alloc, "serve")
         .version(VERSION)
         .about("Listens over TCP and UDP, and serves until it is stopped")
@@ -42,13 +43,21 @@ fn serve<'a>(alloc: Global) -> Result<Command<'a>, AllocError> {
         ))?;
     let command = besides(alloc, command)?;
     let command = recorded(alloc, command)?;
-    limited(alloc, command, ["64", "1024", "16"])?.arg(option(
+    limited(
+        alloc,
+        command,
+        serve_default(Valued::Port),
+        serve_default(Valued::Conns),
+        serve_default(Valued::Rows),
+        serve_default(Valued::Forwards),
+    )?
+    .arg(option(
         alloc,
         "turns",
         "N",
         "End after N turns of at most 100 milliseconds; 0 never ends",
     )
-    .default_value("0"))
+    .default_value(serve_default(Valued::Turns)))
 }
 
 /// What `serve` listens on besides.
@@ -70,7 +79,7 @@ fn besides<'a>(alloc: Global, command: Command<'a>) -> Result<Command<'a>, Alloc
             "MODE",
             "Mode of the local socket's file, in octal digits",
         )
-        .default_value("0666"))?
+        .default_value(serve_default(Valued::LocalMode)))?
         .arg(loopback6)
 }
 
@@ -89,7 +98,7 @@ fn recorded<'a>(alloc: Global, command: Command<'a>) -> Result<Command<'a>, Allo
             "N",
             "Most bytes of the record, 1000 to 16777216; it takes as much memory",
         )
-        .default_value("16000000"))
+        .default_value(serve_default(Valued::RecordLimit)))
 }
 
 fn replay<'a>(alloc: Global) -> Result<Command<'a>, AllocError> {
@@ -112,7 +121,7 @@ fn replay<'a>(alloc: Global) -> Result<Command<'a>, AllocError> {
         )
         .conflicts_with("steps")?
         .action(ArgAction::SetTrue);
-    limited(alloc, command, ["4", "300", "4"])?
+    limited(alloc, command, "111", "4", "300", "4")?
         .arg(check)?
         .arg(steps)?
         .arg(option(alloc, "xid", "N", "Xid of the first forwarded call").default_value("1000"))?
@@ -129,15 +138,17 @@ fn announce<'a>(alloc: Global, help: &'a str) -> Arg<'a> {
     option(alloc, "announce", "HOST", help)
 }
 
-/// The options that both commands have. The defaults are those of `--conns`, `--rows` and `--forwards`.
+/// The options that both commands have. The defaults are those of `--port`, `--conns`, `--rows` and `--forwards`.
 fn limited<'a>(
     alloc: Global,
     command: Command<'a>,
-    defaults: [&'a str; 3],
+    port: &'a str,
+    conns: &'a str,
+    rows: &'a str,
+    forwards: &'a str,
 ) -> Result<Command<'a>, AllocError> {
-    let [conns, rows, forwards] = defaults;
     command
-        .arg(option(alloc, "port", "PORT", "TCP and UDP port, 1 to 65535").default_value("111"))?
+        .arg(option(alloc, "port", "PORT", "TCP and UDP port, 1 to 65535").default_value(port))?
         .arg(option(
             alloc,
             "conns",

@@ -1,9 +1,8 @@
 //! The command `serve`.
 ghost use Rattle.std.specs.Prelude.{◌≡◌, ◌≤◌, IfErr};
 
-use rb_core::Limits;
 use rb_daemon::{Daemon, DaemonFault, LocalSocket, Settings, SocketFault, Step};
-use rb_lines::{Fault, bad_limit, explain};
+use rb_lines::{Fault, Service, bad_limit, explain};
 use rb_policy::{announced, is_no_address};
 use std::fs::{File, Files};
 use std::io;
@@ -14,32 +13,6 @@ use std::sync::Wait;
 
 /// The longest wait of a turn, in milliseconds.
 const WAIT: u64 = 100;
-
-/// What `serve` listens on, and for how long.
-#[derive(Debug, Drop)]
-pub struct Service {
-    /// The addresses to listen on, at least one.
-    pub hosts: Vec<Ipv4Addr>,
-    pub loopback6: bool,
-    /// The path of the local socket, if there is one, and its mode.
-    pub local: Option<String>,
-    pub local_mode: u32,
-    /// The host that answers show for 0.0.0.0, where it is given.
-    pub announce: Option<Ipv4Addr>,
-    pub port: u16,
-    pub limits: Limits,
-    /// After how many turns it ends; 0 never ends.
-    pub turns: u64,
-    /// The record of its events, where one is asked for.
-    pub record: Option<Record>,
-}
-
-/// A record of events: the path of its file, and its most bytes.
-#[derive(Debug, Drop)]
-pub struct Record {
-    pub path: String,
-    pub limit: usize,
-}
 
 /// What is recorded goes to a file, as long as that takes it.
 #[derive(Drop)]
@@ -63,15 +36,15 @@ impl<F: Write + Drop> Recorder<F> {
 /// The recorder of a service. Where its file can't be made it is said why, and the status is answered.
 fn recorder_of<R: Files, E: Write>(
     rt: &R,
-    service: &Service,
+    service: &Service<'_>,
     faults: &mut E,
 ) -> Result<Recorder<R::File>, u8>
     ensures { IfErr result (λ status. status ≡ 1) }
 {
-    let Some(record) = &service.record else {
+    let Some(record) = &service.recorded else {
         return Ok(Recorder { file: None });
     };
-    let path = record.path.as_str();
+    let path = record.path;
     match File::create(rt, path) {
         Ok(file) => Ok(Recorder { file: Some(file) }),
         Err(error) => {
@@ -81,41 +54,44 @@ fn recorder_of<R: Files, E: Write>(
     }
 }
 
-impl Service {
-    fn settings(&self) -> Settings<'_> {
-        let first = self.hosts.first().copied().unwrap_or(Ipv4Addr::LOCALHOST);
-        let local = match &self.local {
-            Some(path) => Some(LocalSocket {
-                path: path.as_str(),
-                mode: self.local_mode,
-            }),
-            None => None,
-        };
-        Settings {
-            hosts: self.hosts.as_slice(),
-            loopback6: self.loopback6,
-            local,
-            announce: announced(self.announce, first),
-            port: self.port,
-            limits: self.limits,
-            record: match &self.record {
-                Some(record) => record.limit,
-                None => 0,
-            },
-        }
+/// What the daemon is told of a service.
+fn settings_of<'a>(service: &'a Service<'a>) -> Settings<'a> {
+    let first = service
+        .hosts
+        .first()
+        .copied()
+        .unwrap_or(Ipv4Addr::LOCALHOST);
+    let local = match service.local {
+        Some(path) => Some(LocalSocket {
+            path,
+            mode: service.local_mode,
+        }),
+        None => None,
+    };
+    Settings {
+        hosts: service.hosts.as_slice(),
+        loopback6: service.loopback6,
+        local,
+        announce: announced(service.announce, first),
+        port: service.port,
+        limits: service.limits,
+        record: match &service.recorded {
+            Some(record) => record.limit,
+            None => 0,
+        },
     }
 }
 
 /// Serves, and says on standard output where it listens. The answer is the exit status: 0 after the last turn, and 1
 /// where the limits are out of their ranges or memory, a socket, standard output or the file of the record failed.
 /// `faults` is told, with what failed in a line before.
-pub fn run_service<R, E>(rt: &R, service: &Service, faults: &mut E) -> u8
+pub fn run_service<R, E>(rt: &R, service: &Service<'_>, faults: &mut E) -> u8
 where
     R: Net + Files + Clock + Wait + AllocGlobal + Print,
     E: Write,
     ensures { result ≤ 1 }
 {
-    let settings = service.settings();
+    let settings = settings_of(service);
     let mut daemon = match Daemon::new(rt.alloc(), rt, rt, &settings) {
         Ok(daemon) => daemon,
         Err(fault) => return explain_fault(&fault, &settings, faults),

@@ -1,0 +1,80 @@
+-- The values of the options of `serve`.
+use Rattle.std.proofs.Common.{◌≡◌, ◌≢◌, ◌<◌, ◌≤◌, ◌+◌, ◌^◌, ℕ, true, List, [], ◌∷◌, ◌++◌, length, get_or, drop, arith, inl, inr, None, Result, Ok, Err, refl, sym, ap, subst, ◌∙◌, append_assoc, append-nil}
+use Rattle.std.specs.Borrow.{Bor}
+use Rattle.std.specs.List.{list_all}
+use Rattle.std.specs.Char.{digit_value}
+use Rattle.std.specs.Str.Parse.{IsNumeral, AllDigits, without_leading_plus, digits_value}
+use Rattle.std.specs.declared.net.ipv4_addr.Ipv4Addr.{Ipv4Addr}
+use Rattle.std.proofs.lemmas.List.{drop_more, drop_all, length_push}
+use Rattle.std.proofs.lemmas.Bool.{cases_lt, and_parts, ltb-true}
+use Rattle.std.proofs.lemmas.Str.Parse.{without_leading_plus_none}
+use Rattle.rb_lines.specs.declared.options.Valued.{Valued}
+use Rattle.rb_lines.specs.Options.{◌>>=◌}
+use Rattle.rb_lines.specs.Serving.{host_at, hosts_from, is_octal, mode}
+
+-- ---- the addresses of `--bind`
+
+-- the addresses that were read, in front of those that are left
+abbrev pub with_front : List Ipv4Addr → Result (List Ipv4Addr) Valued → Result (List Ipv4Addr) Valued
+with_front front (Ok hosts) = Ok (front ++ hosts)
+with_front front (Err bad) = Err bad
+
+abbrev onto : Ipv4Addr → Result (List Ipv4Addr) Valued → Result (List Ipv4Addr) Valued
+onto host rest = rest >>= λ others. Ok (host ∷ others)
+
+pub none_yet : (all : Result (List Ipv4Addr) Valued) → with_front [] all ≡ all
+none_yet (Ok hosts) = refl
+none_yet (Err bad) = refl
+
+with_front-onto : (front : List Ipv4Addr) (host : Ipv4Addr) (rest : Result (List Ipv4Addr) Valued) → with_front front (onto host rest) ≡ with_front (front ++ host ∷ []) rest
+with_front-onto front host (Ok hosts) = ap Ok (sym (append_assoc front (host ∷ []) hosts))
+with_front-onto front host (Err bad) = refl
+
+-- the addresses from a place on are the one there and those after it
+taken : (k i : ℕ) (texts : List (Bor (List ℕ))) (none : Bor (List ℕ)) → i < length texts
+    → hosts_from k (drop i texts) ≡ (host_at k (get_or texts i none).now >>= λ host. onto host (hosts_from (k + 1) (drop (i + 1) texts)))
+unfolding hosts_from
+taken k i texts none lt = ap (hosts_from k) (drop_more texts i none lt)
+
+pub goes_on : (front : List Ipv4Addr) (host : Ipv4Addr) (i : ℕ) (texts : List (Bor (List ℕ))) (none : Bor (List ℕ)) (all : Result (List Ipv4Addr) Valued) → i < length texts
+    → (k : ℕ) → k ≡ length front → Ok host ≡ host_at k (get_or texts i none).now → with_front front (hosts_from (length front) (drop i texts)) ≡ all
+    → with_front (front ++ host ∷ []) (hosts_from (length (front ++ host ∷ [])) (drop (i + 1) texts)) ≡ all
+goes_on front host i texts none all lt k place given h =
+    let read = ap (λ (k : ℕ). host_at k (get_or texts i none).now) (sym place) ∙ sym given in
+    let rest = hosts_from (length front + 1) (drop (i + 1) texts) in
+    let first : hosts_from (length front) (drop i texts) ≡ onto host rest = taken (length front) i texts none lt ∙ ap (λ (r : Result Ipv4Addr Valued). r >>= λ host. onto host rest) read in
+    rw (length_push front host) (sym (with_front-onto front host rest) ∙ ap (with_front front) (sym first) ∙ h)
+
+pub stops : (front : List Ipv4Addr) (bad : Valued) (i : ℕ) (texts : List (Bor (List ℕ))) (none : Bor (List ℕ)) (all : Result (List Ipv4Addr) Valued) → i < length texts
+    → (k : ℕ) → k ≡ length front → Err bad ≡ host_at k (get_or texts i none).now → with_front front (hosts_from (length front) (drop i texts)) ≡ all → all ≡ Err bad
+stops front bad i texts none all lt k place given h =
+    let read = ap (λ (k : ℕ). host_at k (get_or texts i none).now) (sym place) ∙ sym given in
+    let rest = hosts_from (length front + 1) (drop (i + 1) texts) in
+    sym h ∙ ap (with_front front) (taken (length front) i texts none lt ∙ ap (λ (r : Result Ipv4Addr Valued). r >>= λ host. onto host rest) read)
+
+pub ends : (front : List Ipv4Addr) (i : ℕ) (texts : List (Bor (List ℕ))) (all : Result (List Ipv4Addr) Valued) → length texts ≤ i → with_front front (hosts_from (length front) (drop i texts)) ≡ all → all ≡ Ok front
+unfolding hosts_from
+ends front i texts all le h = sym h ∙ ap (λ (ts : List (Bor (List ℕ))). with_front front (hosts_from (length front) ts)) (drop_all i texts le) ∙ ap Ok (append-nil front)
+
+-- ---- the mode of the local socket
+
+all_octal : (text : List ℕ) → list_all is_octal text ≡ true → AllDigits 8 text
+all_octal [] h = tt
+all_octal (c ∷ text) h = let parts = and_parts _ _ h in (ltb-true _ _ parts.0, all_octal text parts.1)
+
+no_plus : (text : List ℕ) → list_all is_octal text ≡ true → get_or text 0 0 ≢ 43
+no_plus [] h e = omega (arith, e)
+no_plus (c ∷ text) h e =
+    let digit : digit_value c < 8 = ltb-true _ _ (and_parts _ _ h).0 in
+    let plus : digit_value 43 < 8 = subst (λ (c : ℕ). digit_value c < 8) e digit in
+    omega (arith, plus)
+
+-- octal digits that are no number of 32 bits are no mode
+pub no_mode : (text : List ℕ) → list_all is_octal text ≡ true → ¬ (IsNumeral 8 (without_leading_plus text) × (digits_value 8 (without_leading_plus text) < 2 ^ 32)) → None ≡ mode text
+no_mode text octal h =
+    let plain : without_leading_plus text ≡ text = without_leading_plus_none text (no_plus text octal) in
+    let not : ¬ (IsNumeral 8 text × (digits_value 8 text < 2 ^ 32)) = subst (λ (t : List ℕ). ¬ (IsNumeral 8 t × (digits_value 8 t < 2 ^ 32))) plain h in
+    elim (cases_lt (digits_value 8 text) (2 ^ 32)) [
+      | inl fits ↦ let empty : 0 < length text → ⊥ = λ some. not ((some, all_octal text octal), fits) in let none : length text ≡ 0 = omega (arith, empty) in grind (arith, none)
+      | inr over ↦ grind (arith, over)
+    ]

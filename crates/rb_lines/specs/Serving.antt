@@ -1,0 +1,140 @@
+-- What the values of the options of `serve` mean.
+use Rattle.std.specs.Prelude.{ℕ, ◌+◌, ◌^◌, ◌==◌, ◌≡◌, nat_lt, nat_le, not, Bool, ◌&&◌, if◌then◌else◌, List, [], ◌∷◌, length, codes, Option, Some, None, Result, Ok, Err, option_map}
+use Rattle.std.specs.List.{list_all}
+use Rattle.std.specs.Char.{digit_value}
+use Rattle.std.specs.Str.Parse.{digits_value}
+use Rattle.std.specs.Borrow.{Bor}
+use Rattle.std.specs.declared.net.ipv4_addr.Ipv4Addr.{Ipv4Addr}
+use Rattle.rb_model.specs.declared.types.Limits.{Limits}
+use Rattle.rb_lines.specs.declared.options.Valued.{Valued}
+use Rattle.rb_lines.specs.declared.options.Valued.TheVariants.{Announce, Bind, Local, LocalMode, Port, Conns, Rows, Forwards, Xid, Now, Turns, RecordLimit}
+use Rattle.rb_lines.specs.declared.serving.ServeTexts.{ServeTexts}
+use Rattle.rb_lines.specs.declared.serving.ServeFault.{ServeFault}
+use Rattle.rb_lines.specs.declared.serving.ServeFault.TheVariants.{BadValue, NoMemory}
+use Rattle.rb_lines.specs.declared.serving.Record.{Record}
+use Rattle.rb_lines.specs.declared.serving.Service as code
+use Rattle.rb_lines.specs.Fields.{decimal, host}
+use Rattle.rb_lines.specs.Options.{◌>>=◌, value_of, port, limits_of}
+
+-- what stands for an option that is not given
+abbrev pub default_of : Valued → List ℕ
+default_of (Bind place) = codes "127.0.0.1"
+default_of LocalMode = codes "0666"
+default_of Port = codes "111"
+default_of Conns = codes "64"
+default_of Rows = codes "1024"
+default_of Forwards = codes "16"
+default_of Turns = codes "0"
+default_of RecordLimit = codes "16000000"
+default_of Announce = []
+default_of Local = []
+default_of Xid = []
+default_of Now = []
+
+abbrev pub address : List ℕ → Option Ipv4Addr
+address text = option_map (λ octets. record { octets = octets }) (host text)
+
+abbrev pub announced : Option (Bor (List ℕ)) → Result (Option Ipv4Addr) Valued
+announced None = Ok None
+announced (Some text) = value_of Announce (address text.now) >>= λ given. Ok (Some given)
+
+-- the address at a place of `--bind`, of which there are at most 16
+abbrev pub host_at : ℕ → List ℕ → Result Ipv4Addr Valued
+host_at place text = if nat_lt place 16 then value_of (Bind place) (address text) else Err (Bind place)
+
+unfoldable pub hosts_from : ℕ → List (Bor (List ℕ)) → Result (List Ipv4Addr) Valued
+hosts_from place [] = Ok []
+hosts_from place (text ∷ texts) = do
+  first ← host_at place text.now
+  others ← hosts_from (place + 1) texts
+  Ok (first ∷ others)
+
+-- a path of 1 to 107 bytes
+abbrev pub is_path : List ℕ → Bool
+is_path text = not (length text == 0) && nat_le (length text) 107
+
+abbrev pub local : Option (Bor (List ℕ)) → Result (Option (Bor (List ℕ))) Valued
+local None = Ok None
+local (Some text) = if is_path text.now then Ok (Some text) else Err Local
+
+abbrev pub is_octal : ℕ → Bool
+is_octal c = nat_lt (digit_value c) 8
+
+-- a number below 512 in octal digits: the bits for owner, group and others
+abbrev pub mode : List ℕ → Option ℕ
+mode text =
+    if not (length text == 0) && list_all is_octal text && nat_lt (digits_value 8 text) 512
+    then Some (digits_value 8 text) else None
+
+abbrev pub between : ℕ → ℕ → Option ℕ → Option ℕ
+between least most None = None
+between least most (Some n) = if nat_le least n && nat_le n most then Some n else None
+
+-- in bytes
+abbrev pub record_limit : List ℕ → Option ℕ
+record_limit text = between 1000 16777216 (decimal (2 ^ 64) text)
+
+-- the addresses of the vector, and the other fields
+pub record Service : Type 0 where
+  pub hosts : List Ipv4Addr
+  pub loopback6 : Bool
+  pub local : Option (Bor (List ℕ))
+  pub local_mode : ℕ
+  pub announce : Option Ipv4Addr
+  pub port : ℕ
+  pub limits : Limits
+  pub turns : ℕ
+  pub recorded : Option Record
+
+-- the same from `--local` on
+abbrev pub rest_of : Option Ipv4Addr → List Ipv4Addr → ServeTexts → Result Service Valued
+rest_of given hosts texts = do
+  path ← local texts.local
+  bits ← value_of LocalMode (mode texts.local_mode.now)
+  listens ← value_of Port (port texts.port.now)
+  most ← limits_of texts.conns.now texts.rows.now texts.forwards.now
+  ends ← value_of Turns (decimal (2 ^ 64) texts.turns.now)
+  bytes ← value_of RecordLimit (record_limit texts.record_limit.now)
+  Ok (record {
+    hosts = hosts;
+    loopback6 = texts.loopback6;
+    local = path;
+    local_mode = bits;
+    announce = given;
+    port = listens;
+    limits = most;
+    turns = ends;
+    recorded = option_map (λ path. record { path = path; limit = bytes }) texts.record_path;
+  })
+
+-- what is served, or the first option whose value can't be read
+abbrev pub service_of : ServeTexts → Result Service Valued
+service_of texts = do
+  given ← announced texts.announce
+  hosts ← hosts_from 0 texts.bind.now
+  rest_of given hosts texts
+
+-- ---- as the code has them
+
+abbrev pub view : code.Service → Service
+view s = record {
+  hosts = s.hosts.items;
+  loopback6 = s.loopback6;
+  local = s.local;
+  local_mode = s.local_mode;
+  announce = s.announce;
+  port = s.port;
+  limits = s.limits;
+  turns = s.turns;
+  recorded = s.recorded;
+}
+
+abbrev pub viewed : Result code.Service Valued → Result Service Valued
+viewed (Ok s) = Ok (view s)
+viewed (Err bad) = Err bad
+
+-- What a function returned is what the values mean, unless memory ran out.
+abbrev pub Serves : {X Y : Type 0} → (X → Y) → Result X ServeFault → Result Y Valued → Type 0
+Serves view (Ok x) given = given ≡ Ok (view x)
+Serves view (Err (BadValue bad)) given = given ≡ Err bad
+Serves view (Err NoMemory) given = Unit {0}

@@ -1,0 +1,241 @@
+//! What the values of the options of `serve` mean.
+ghost use Rattle.std.specs.Prelude.{◌≡◌};
+ghost use Rattle.std.specs.List.{list_all};
+ghost use Rattle.rb_lines.specs.Options.{value_of};
+ghost use Rattle.rb_lines.specs.Serving.{Serves, address, default_of, announced, host_at, hosts_from, local, is_octal, mode, record_limit, rest_of, service_of, view, viewed};
+
+use crate::options::{Valued, address, number, read_limits, read_port};
+use rb_core::Limits;
+use std::alloc::Global;
+use std::net::Ipv4Addr;
+
+/// The most addresses of `--bind`.
+pub const MOST_HOSTS: usize = 16;
+
+/// The longest path of a local socket, in bytes.
+const LONGEST_PATH: usize = 107;
+
+/// The values of the options of `serve`, as texts.
+#[derive(Clone, Copy, Debug)]
+pub struct ServeTexts<'m, 'a> {
+    /// An IPv4 address in dotted decimal form without leading zeros.
+    pub announce: Option<&'a str>,
+    /// At most 16 such addresses.
+    pub bind: &'m [&'a str],
+    pub loopback6: bool,
+    /// A path of 1 to 107 bytes.
+    pub local: Option<&'a str>,
+    /// The bits for owner, group and others, in octal digits.
+    pub local_mode: &'a str,
+    /// From 1 to 65535.
+    pub port: &'a str,
+    pub conns: &'a str,
+    pub rows: &'a str,
+    pub forwards: &'a str,
+    pub turns: &'a str,
+    /// Any path.
+    pub record_path: Option<&'a str>,
+    /// From 1,000 to 16,777,216 bytes.
+    pub record_limit: &'a str,
+}
+
+/// What `serve` listens on, and for how long.
+#[derive(Debug, Drop)]
+pub struct Service<'a> {
+    /// The addresses to listen on.
+    pub hosts: Vec<Ipv4Addr>,
+    pub loopback6: bool,
+    /// The path of the local socket, if there is one.
+    pub local: Option<&'a str>,
+    pub local_mode: u32,
+    /// The host that answers show for 0.0.0.0, where it is given.
+    pub announce: Option<Ipv4Addr>,
+    pub port: u16,
+    pub limits: Limits,
+    /// After how many turns it ends; 0 never ends.
+    pub turns: u64,
+    /// The record of its events, where one is asked for.
+    pub recorded: Option<Record<'a>>,
+}
+
+/// A record of events: the path of its file, and its most bytes.
+#[derive(Clone, Copy, Debug, PartialEq, Eq)]
+pub struct Record<'a> {
+    pub path: &'a str,
+    pub limit: usize,
+}
+
+/// Why the values of the options of `serve` are not read.
+#[derive(Clone, Copy, Debug, PartialEq, Eq)]
+pub enum ServeFault {
+    /// The first option whose value can't be read.
+    BadValue(Valued),
+    NoMemory,
+}
+
+/// The text that stands for the value of an option of `serve` that is not given, as it stands in the help. Where nothing
+/// stands for it, the empty text, which no reading takes.
+pub fn serve_default(option: Valued) -> &'static str
+    ensures { result.now ≡ default_of option }
+{
+    match option {
+        Valued::Bind(_) => "127.0.0.1",
+        Valued::LocalMode => "0666",
+        Valued::Port => "111",
+        Valued::Conns => "64",
+        Valued::Rows => "1024",
+        Valued::Forwards => "16",
+        Valued::Turns => "0",
+        Valued::RecordLimit => "16000000",
+        Valued::Announce | Valued::Local | Valued::Xid | Valued::Now => "",
+    }
+}
+
+/// An address in dotted decimal form.
+fn ipv4(option: Valued, text: &str) -> Result<Ipv4Addr, Valued>
+    ensures { result ≡ value_of option (address text.now) }
+{
+    let octets = address(option, text)?;
+    Ok(Ipv4Addr::from_octets(octets))
+}
+
+/// The address that is announced, where one is given.
+fn read_announce(text: Option<&str>) -> Result<Option<Ipv4Addr>, Valued>
+    ensures { result ≡ announced text.entry }
+{
+    match text {
+        Some(text) => Ok(Some(ipv4(Valued::Announce, text)?)),
+        None => Ok(None),
+    }
+}
+
+/// The address of `--bind` at a place.
+fn host_at(place: usize, text: &str) -> Result<Ipv4Addr, Valued>
+    ensures { result ≡ host_at place text.now }
+{
+    if place < MOST_HOSTS {
+        ipv4(Valued::Bind(place), text)
+    } else {
+        Err(Valued::Bind(place))
+    }
+}
+
+/// The addresses of `--bind`.
+fn read_hosts(alloc: Global, texts: &[&str]) -> Result<Vec<Ipv4Addr>, ServeFault>
+    ensures { Serves (λ hosts. hosts.items) result (hosts_from 0 texts.now) }
+{
+    let mut hosts = Vec::new(alloc);
+    for text in texts {
+        let host = match host_at(hosts.len(), text) {
+            Ok(host) => host,
+            Err(bad) => return Err(ServeFault::BadValue(bad)),
+        };
+        if hosts.push(host).is_err() {
+            return Err(ServeFault::NoMemory);
+        }
+    }
+    Ok(hosts)
+}
+
+/// The path of the local socket. One of no bytes or of more than 107 names no socket.
+fn read_local<'a>(text: Option<&'a str>) -> Result<Option<&'a str>, Valued>
+    ensures { result ≡ local text.entry }
+{
+    let Some(path) = text else {
+        return Ok(None);
+    };
+    if path.is_empty() || path.len() > LONGEST_PATH {
+        return Err(Valued::Local);
+    }
+    Ok(Some(path))
+}
+
+fn is_octal(text: &str) -> bool
+    ensures { result ≡ list_all is_octal text.now }
+{
+    text.bytes().all(|b| char::from(b).is_digit(8))
+}
+
+/// The bits of a mode for owner, group and others, in octal digits alone.
+fn read_mode(text: &str) -> Result<u32, Valued>
+    ensures { result ≡ value_of Valued.LocalMode (mode text.now) }
+{
+    if !is_octal(text) {
+        return Err(Valued::LocalMode);
+    }
+    match u32::from_str_radix(text, 8) {
+        Ok(mode) => {
+            if mode <= 0o777 {
+                Ok(mode)
+            } else {
+                Err(Valued::LocalMode)
+            }
+        }
+        Err(_) => Err(Valued::LocalMode),
+    }
+}
+
+/// The most bytes of a record.
+#[tactic(auto, unfolding(crate::specs::Fields::decimal))]
+fn read_record_limit(text: &str) -> Result<usize, Valued>
+    ensures { result ≡ value_of Valued.RecordLimit (record_limit text.now) }
+{
+    let limit = number(Valued::RecordLimit, text)?;
+    if 1_000 <= limit && limit <= 16_777_216 {
+        Ok(limit as usize)
+    } else {
+        Err(Valued::RecordLimit)
+    }
+}
+
+/// What the values of the options from `--local` on mean, with the addresses that were read.
+fn read_rest<'a>(
+    announce: Option<Ipv4Addr>,
+    hosts: Vec<Ipv4Addr>,
+    texts: &ServeTexts<'_, 'a>,
+) -> Result<Service<'a>, Valued>
+    ensures { viewed result ≡ rest_of announce hosts.items texts.now }
+{
+    let local = read_local(texts.local)?;
+    let local_mode = read_mode(texts.local_mode)?;
+    let port = read_port(texts.port)?;
+    let limits = read_limits(texts.conns, texts.rows, texts.forwards)?;
+    let turns = number(Valued::Turns, texts.turns)?;
+    let limit = read_record_limit(texts.record_limit)?;
+    Ok(Service {
+        hosts,
+        loopback6: texts.loopback6,
+        local,
+        local_mode,
+        announce,
+        port,
+        limits,
+        turns,
+        recorded: match texts.record_path {
+            Some(path) => Some(Record { path, limit }),
+            None => None,
+        },
+    })
+}
+
+/// What is served, or the first option whose value can't be read, in the order of the fields of `ServeTexts`, or that
+/// memory was refused.
+pub fn read_service<'a>(
+    alloc: Global,
+    texts: &ServeTexts<'_, 'a>,
+) -> Result<Service<'a>, ServeFault>
+    ensures { Serves view result (service_of texts.now) }
+{
+    let announce = match read_announce(texts.announce) {
+        Ok(announce) => announce,
+        Err(bad) => return Err(ServeFault::BadValue(bad)),
+    };
+    let hosts = match read_hosts(alloc, texts.bind) {
+        Ok(hosts) => hosts,
+        Err(fault) => return Err(fault),
+    };
+    match read_rest(announce, hosts, texts) {
+        Ok(service) => Ok(service),
+        Err(bad) => Err(ServeFault::BadValue(bad)),
+    }
+}
