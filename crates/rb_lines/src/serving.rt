@@ -73,8 +73,8 @@ pub enum ServeFault {
     NoMemory,
 }
 
-/// The text that stands for the value of an option of `serve` that is not given, as it stands in the help. Where nothing
-/// stands for it, the empty text, which no reading takes.
+/// The text that stands for the value of an option of `serve` that is not given, as it stands in the help. Where
+/// nothing stands for it, the empty text, which no reading takes.
 pub fn serve_default(option: Valued) -> &'static str
     ensures { result.now ≡ default_of option }
 {
