@@ -12,10 +12,12 @@ use Rattle.rb_proto.specs.declared.context.Context.{Context}
 use Rattle.rb_proto.specs.Books.{ActsAs, AreTied, SameFrame}
 use Rattle.rb_model.specs.declared.message.Message.{Message}
 use Rattle.rb_model.specs.Calls.{Outcome, outcome}
-use Rattle.rb_core.specs.StandsFor.{Held, source_of, Table}
+use Rattle.rb_core.specs.StandsFor.{Held, source_of}
+use Rattle.rb_connections.specs.StandsFor.{Table}
 use Rattle.rb_core.specs.Core.{context_of}
-use Rattle.rb_core.specs.Slots.{StaysTable}
-use Rattle.rb_core.specs.Listings.{Evicts, source_in, CanListOn, stamps_of}
+use Rattle.rb_connections.specs.Slots.{StaysTable}
+use Rattle.rb_core.specs.Eviction.{Evicts, source_in}
+use Rattle.rb_connections.specs.Listings.{CanListOn, stamps_of}
 use Rattle.rb_model.specs.Losses.{asks_room}
 use Rattle.rb_core.specs.Serving.{CanServe, ServesInRoom}
 use Rattle.rb_proto.specs.Ledger.{Ledger}

@@ -10,13 +10,13 @@ use Rattle.rb_rpc.specs.Records.{fragment_size, marked}
 use Rattle.rb_rpc.specs.declared.peer.Peer.{Peer}
 use Rattle.rb_rpc.specs.declared.peer.Caller.TheVariants.{Tcp}
 use Rattle.rb_proto.specs.declared.books.Books.{Books}
-use Rattle.rb_core.specs.declared.replies.Served.{Served as CodeServed}
-use Rattle.rb_core.specs.declared.replies.Served.TheVariants.{Told, Listed}
-use Rattle.rb_core.specs.declared.types.Outcome.TheVariants as outcomes
-use Rattle.rb_core.specs.declared.slot.Heard.{Heard}
-use Rattle.rb_core.specs.declared.slot.Slot.{Slot}
-use Rattle.rb_core.specs.declared.slot.Stage.{Stage}
-use Rattle.rb_core.specs.declared.slot.Stage.TheVariants as stages
+use Rattle.rb_connections.specs.declared.served.Served.{Served as CodeServed}
+use Rattle.rb_connections.specs.declared.served.Served.TheVariants.{Told, Listed}
+use Rattle.rb_connections.specs.declared.served.Outcome.TheVariants as outcomes
+use Rattle.rb_connections.specs.declared.slot.Heard.{Heard}
+use Rattle.rb_connections.specs.declared.slot.Slot.{Slot}
+use Rattle.rb_connections.specs.declared.slot.Stage.{Stage}
+use Rattle.rb_connections.specs.declared.slot.Stage.TheVariants as stages
 use Rattle.rb_model.specs.declared.message.Message.{Message}
 use Rattle.rb_model.specs.declared.types.CoreFault.{CoreFault}
 use Rattle.rb_model.specs.declared.types.Taken.{Taken}
@@ -25,15 +25,17 @@ use Rattle.rb_model.specs.State.Phase.{Idle, Reading, Owing, Awaiting, Lost}
 use Rattle.rb_model.specs.Calls.{Outcome, is_no_call}
 use Rattle.rb_model.specs.Calls.Outcome.{NoCall, Reply, Forwarded, Silent}
 use Rattle.rb_model.specs.Connections.{longest_fragment, pending_of, owed_of, phase_after, settled, pending_in, phase_when_given, when_given, giving, is_lost, is_live, live_connection, change_first, changed_at, on_live, on_connection}
-use Rattle.rb_core.specs.StandsFor.{Source, StandsForPhase, StandsForConnection, StandsForConnections, Table, Held, StandsFor, source_of}
-use Rattle.rb_core.specs.Slots.{Acts, Shows, StaysTable, is_idle_stage, feeding, arguments_on}
-use Rattle.rb_core.specs.Awaits.{is_idle_slot, has_idle}
-use Rattle.rb_core.specs.Listings.{source_in}
+use Rattle.rb_connections.specs.StandsFor.{Source, StandsForPhase, StandsForConnection, StandsForConnections, Table}
+use Rattle.rb_core.specs.StandsFor.{Held, StandsFor, source_of}
+use Rattle.rb_connections.specs.Slots.{Acts, Shows, StaysTable, is_idle_stage, feeding, arguments_on}
+use Rattle.rb_connections.specs.Awaits.{is_idle_slot, has_idle}
+use Rattle.rb_core.specs.Eviction.{source_in}
 use Rattle.rb_model.specs.Losses.{evicting}
-use Rattle.rb_core.specs.Serving.{served_in}
+use Rattle.rb_connections.specs.Settling.{served_in}
 use Rattle.rb_core.specs.Core.{context_of, answering_heard}
 use Rattle.rb_model.specs.Step.{settled_in, serve_message, bytes, pending, pending_at, pending_on, gave, with_count}
-use Rattle.rb_core.specs.AtOnce.{pending_bytes, at_once_in, at_once_on, at_once, owes, whole_length, count_at_once, given_when_answered, front, without_front, then_giving, exchanging, answered_giving, IsGivenAtOnce, whole_cost}
+use Rattle.rb_core.specs.AtOnce.{pending_bytes, at_once_in, at_once_on, at_once, owes, count_at_once, given_when_answered, front, without_front, then_giving, exchanging, answered_giving, IsGivenAtOnce}
+use Rattle.rb_connections.specs.Giving.{whole_length, whole_cost}
 use Rattle.rb_model.proofs.Cuts.{IsFeeding, find-changed, changed-twice}
 use Rattle.rb_model.proofs.Fragments.{length-short, length-long, some-marked}
 use Rattle.rb_core.proofs.Steps.{Served, serve_gives, serve_stands, serve_connections, crowd_in, change_alike, change_nothing, RecordEnded, ended_by, taken_of}

@@ -5,10 +5,11 @@ use Rattle.rb_rpc.specs.declared.peer.Peer.{Peer}
 use Rattle.rb_rpc.specs.declared.peer.Caller.TheVariants.{Tcp, Udp}
 use Rattle.rb_forward.specs.StandsFor.{Table as Entries, slots_of}
 use Rattle.rb_forward.specs.Table.{is_waiting, NoneWaitsAnew, OnlyWaitsAnew}
-use Rattle.rb_core.specs.declared.types.Outcome.{Outcome}
-use Rattle.rb_core.specs.declared.types.Outcome.TheVariants as outcomes
-use Rattle.rb_core.specs.StandsFor.{Table}
-use Rattle.rb_core.specs.Awaits.{is_free, AreAwaited, NoneIsFreed, OnlyIsFreed, StayUnlessForwarded}
+use Rattle.rb_connections.specs.declared.served.Outcome.{Outcome}
+use Rattle.rb_connections.specs.declared.served.Outcome.TheVariants as outcomes
+use Rattle.rb_connections.specs.StandsFor.{Table}
+use Rattle.rb_connections.specs.Awaits.{is_free, NoneIsFreed, OnlyIsFreed}
+use Rattle.rb_core.specs.Awaits.{AreAwaited, StayUnlessForwarded}
 
 -- what waits now waited before
 waited : (before now : Bool) → (before ≡ false → now ≡ false) → now ≡ true → before ≡ true

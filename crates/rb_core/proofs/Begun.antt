@@ -2,7 +2,7 @@
 use Rattle.std.proofs.Common.{◌≡◌, ℕ, sym, ap, subst, ◌∙◌}
 use Rattle.rb_xdr.specs.Meter.{Meter}
 use Rattle.rb_model.specs.State.{State}
-use Rattle.rb_core.specs.Slots.{Acts}
+use Rattle.rb_connections.specs.Slots.{Acts}
 use Rattle.rb_core.specs.StandsFor.{Held, StandsFor}
 use Rattle.rb_core.specs.Events.{shown, BeginsAt}
 

@@ -6,7 +6,8 @@ use Rattle.rb_forward.specs.Costs.{sent_cost, unsent_cost}
 use Rattle.rb_forward.specs.StandsFor.{longest_arguments as longest_args}
 use Rattle.rb_model.specs.Calls.{Outcome, longest_reply}
 use Rattle.rb_model.specs.Calls.{longest_arguments}
-use Rattle.rb_core.specs.StandsFor.{buffer_size, Held, StandsFor}
+use Rattle.rb_connections.specs.StandsFor.{buffer_size}
+use Rattle.rb_core.specs.StandsFor.{Held, StandsFor}
 use Rattle.rb_model.specs.State.{State, Setting, Connection, Connections}
 use Rattle.rb_model.specs.declared.types.CoreFault.{CoreFault}
 use Rattle.rb_model.specs.Connections.{on_live, giving, live_connection, Taking, taking}
@@ -18,8 +19,9 @@ use Rattle.rb_core.specs.AtOnce.{without_front, exchanging}
 use Rattle.rb_model.specs.Step.{datagram, bytes, gave, moved, show_taken, step, IsReached}
 use Rattle.rb_model.specs.declared.types.Taken.{Taken}
 use Rattle.rb_model.specs.Step.Event.{Bytes, Datagram}
-use Rattle.rb_core.specs.Slots.{Acts, arguments_after, arguments_heard}
-use Rattle.rb_core.specs.CallCosts.{args_heard, look_cost, slot_count, kept_count, gave_cost, closing_cost, ending_cost, datagram_cost, IsCheapIfQuiet}
+use Rattle.rb_connections.specs.Slots.{Acts, arguments_after, arguments_heard}
+use Rattle.rb_core.specs.CallCosts.{args_heard, kept_count, gave_cost, closing_cost, ending_cost, datagram_cost, IsCheapIfQuiet}
+use Rattle.rb_connections.specs.Costs.{look_cost, slot_count}
 use Rattle.rb_model.specs.Costs.{pending_cost, take_cost, recount_cost, answer_cost}
 use Rattle.rb_core.specs.Events.{StaysCheapIfQuiet, StaysWithinSteps}
 use Rattle.rb_model.proofs.EntriesKept.{step-follows}

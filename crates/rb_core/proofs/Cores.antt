@@ -5,10 +5,11 @@ use Rattle.rb_proto.specs.declared.books.Books.{Books}
 use Rattle.rb_proto.specs.Books.{SameFrame}
 use Rattle.rb_model.specs.State.{Setting}
 use Rattle.rb_model.specs.Calls.{longest_reply}
-use Rattle.rb_core.specs.StandsFor.{Table}
-use Rattle.rb_core.specs.Slots.{StaysTable, IsDraft}
+use Rattle.rb_connections.specs.StandsFor.{Table}
+use Rattle.rb_connections.specs.Slots.{StaysTable, IsDraft}
 use Rattle.rb_core.specs.Awaits.{AreAwaited}
-use Rattle.rb_core.specs.Listings.{CanListOn, source_in}
+use Rattle.rb_connections.specs.Listings.{CanListOn}
+use Rattle.rb_core.specs.Eviction.{source_in}
 use Rattle.rb_core.specs.Core.{IsCore}
 
 pub stays_twice : (a b c : Table) → StaysTable a b → StaysTable b c → StaysTable a c

@@ -18,21 +18,22 @@ use Rattle.rb_proto.specs.declared.books.Books.{Books}
 use Rattle.rb_proto.specs.Ledger.{Ledger, StandsForLedger}
 use Rattle.rb_proto.specs.Books.{removals_after}
 use Rattle.rb_proto.proofs.ListReplies.{list_reply_goes_on, removals_kept}
-use Rattle.rb_core.specs.declared.slot.Slot.{Slot}
-use Rattle.rb_core.specs.declared.slot.Stage.{Stage}
-use Rattle.rb_core.specs.declared.slot.Stage.TheVariants as stages
+use Rattle.rb_connections.specs.declared.slot.Slot.{Slot}
+use Rattle.rb_connections.specs.declared.slot.Stage.{Stage}
+use Rattle.rb_connections.specs.declared.slot.Stage.TheVariants as stages
 use Rattle.rb_model.specs.declared.message.Message.{Message}
 use Rattle.rb_model.specs.declared.message.Message.TheVariants as says
 use Rattle.rb_model.specs.State.{Owed, Phase, Connection, Connections}
 use Rattle.rb_model.specs.Losses.{began_in, begins, is_retained_for, removals_by, retained_removals}
-use Rattle.rb_core.specs.declared.giving.Giving.{Giving}
-use Rattle.rb_core.specs.declared.giving.Rest.{Rest}
-use Rattle.rb_core.specs.declared.giving.Rest.TheVariants as rests
-use Rattle.rb_core.specs.Giving.{CanTell}
-use Rattle.rb_core.specs.StandsFor.{IsGiving, rest_in, stamp_in, Source, Table, StandsForPhase, StandsForConnection, StandsForConnections, source_for}
-use Rattle.rb_core.specs.Listings.{HasRoom, began_stage, slot_began, StageListsOn, SlotListsOn, CanListOn, stamps_of, IsOldest, IsEarliest}
-use Rattle.rb_core.proofs.Evicting.{began_alike}
-use Rattle.rb_core.proofs.Phases.{by_phase}
+use Rattle.rb_connections.specs.declared.giving.Giving.{Giving}
+use Rattle.rb_connections.specs.declared.giving.Rest.{Rest}
+use Rattle.rb_connections.specs.declared.giving.Rest.TheVariants as rests
+use Rattle.rb_connections.specs.Giving.{CanTell}
+use Rattle.rb_connections.specs.StandsFor.{IsGiving, rest_in, stamp_in, Source, Table, StandsForPhase, StandsForConnection, StandsForConnections, source_for}
+use Rattle.rb_core.specs.Eviction.{HasRoom}
+use Rattle.rb_connections.specs.Listings.{began_stage, slot_began, StageListsOn, SlotListsOn, CanListOn, stamps_of, IsOldest, IsEarliest}
+use Rattle.rb_connections.proofs.Evicting.{began_alike}
+use Rattle.rb_connections.proofs.Phases.{by_phase}
 
 -- ---- lists go on
 

@@ -5,8 +5,9 @@ use Rattle.rb_model.specs.declared.types.Told.{Told}
 use Rattle.rb_model.specs.State.{State}
 use Rattle.rb_model.specs.Losses.{expiring}
 use Rattle.rb_model.specs.Ending.{closed_as, expire_connection, expired_as}
-use Rattle.rb_core.specs.Slots.{Acts, StaysTable}
-use Rattle.rb_core.specs.StandsFor.{Table, StandsForConnections, Held, StandsFor, source_of}
+use Rattle.rb_connections.specs.Slots.{Acts, StaysTable}
+use Rattle.rb_connections.specs.StandsFor.{Table, StandsForConnections}
+use Rattle.rb_core.specs.StandsFor.{Held, StandsFor, source_of}
 
 pub due_closed : (old : Held) (table : Table) (found : Option ℕ) (result : Expired) → result ≡ closed_as found → StaysTable old.connections table
     → Acts (StandsForConnections (source_of old)) (expiring old.clock) old.connections table found → Acts StandsFor expire_connection old (record old { connections = table }) result

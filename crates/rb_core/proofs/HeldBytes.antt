@@ -24,13 +24,14 @@ use Rattle.rb_forward.proofs.Heads.{length-head}
 use Rattle.rb_forward.proofs.Stands.{held_alike}
 use Rattle.rb_proto.specs.declared.listener.Listener.{Listener}
 use Rattle.rb_proto.specs.Callers.{own_rows}
-use Rattle.rb_core.specs.declared.slot.Slot.{Slot}
-use Rattle.rb_core.specs.declared.slot.Stage.{Stage}
-use Rattle.rb_core.specs.declared.slot.Stage.TheVariants as stages
+use Rattle.rb_connections.specs.declared.slot.Slot.{Slot}
+use Rattle.rb_connections.specs.declared.slot.Stage.{Stage}
+use Rattle.rb_connections.specs.declared.slot.Stage.TheVariants as stages
 use Rattle.rb_model.specs.Calls.{longest_reply}
 use Rattle.rb_model.specs.Connections.{longest_fragment}
 use Rattle.rb_model.specs.Calls.{longest_arguments, kept_of}
-use Rattle.rb_core.specs.StandsFor.{buffer_size, StandsForPhase, StandsForConnection, charge, held_in, IsWithin, Held, source_of, Source}
+use Rattle.rb_connections.specs.StandsFor.{buffer_size, StandsForPhase, StandsForConnection, charge, held_in, IsWithin, Source}
+use Rattle.rb_core.specs.StandsFor.{Held, source_of}
 use Rattle.rb_model.specs.State.{Phase, Connection}
 use Rattle.rb_model.specs.State.Phase.{Idle, Reading, Owing, Awaiting, Lost}
 use Rattle.rb_model.specs.Bounds.{greatest_call}

@@ -26,7 +26,7 @@ use Rattle.rb_model.specs.declared.message.Message.TheVariants as says
 use Rattle.rb_model.specs.Calls.{call_of, message_with, message_of, reply_with, outcome}
 use Rattle.rb_model.specs.Calls.{longest_arguments, kept_of}
 use Rattle.rb_model.specs.Grammar.{HasArgsIn}
-use Rattle.rb_core.specs.Reading.{KeptSaysTheRecord}
+use Rattle.rb_core.specs.Messages.{KeptSaysTheRecord}
 use Rattle.rb_core.proofs.ReaderFronts.{LooksAt, give_looks, bind_looks, number_looks, opaque_looks}
 
 -- ---- the types of arguments

@@ -1,5 +1,5 @@
 -- What a call leaves behind, from what its parts do to the books.
-use Rattle.std.proofs.Common.{◌≡◌, ◌<◌, List, ℕ, [], ◌++◌, length, Some, None, refl, sym, ap, ◌∙◌, arith, length-append, append-nil}
+use Rattle.std.proofs.Common.{◌≡◌, List, ℕ, [], ◌++◌, length, Some, None, refl, sym, ap, ◌∙◌, arith, append-nil}
 use Rattle.std.proofs.lemmas.Bool.{cond-false, le-ltb}
 use Rattle.rb_rpc.specs.declared.call.CallHead.{CallHead}
 use Rattle.rb_forward.specs.StandsFor.{Table}
@@ -14,27 +14,26 @@ use Rattle.rb_proto.specs.Answers.{answer}
 use Rattle.rb_proto.specs.declared.answers.Value.TheVariants as values
 use Rattle.rb_proto.specs.declared.procedure.VoidProcedure.TheVariants as voids
 use Rattle.rb_proto.specs.declared.request.Request.TheVariants as requests
-use Rattle.rb_proto.specs.Results.{Shown, result_bytes, list_bytes, shown_of}
+use Rattle.rb_proto.specs.Results.{Shown, result_bytes, shown_of}
 use Rattle.rb_rpc.specs.declared.peer.Caller.{Caller}
 use Rattle.rb_rpc.specs.declared.peer.Caller.TheVariants.{Tcp, Udp}
 use Rattle.rb_rpc.specs.declared.reply.ReplyStatus.TheVariants.{Success}
 use Rattle.rb_rpc.specs.Replies.{reply_head}
 use Rattle.rb_registry.specs.declared.row.Row.{Row}
-use Rattle.rb_registry.specs.Registry.{Registry, rows_of}
+use Rattle.rb_registry.specs.Registry.{rows_of}
 use Rattle.rb_proto.specs.declared.answers.Listing.{Listing}
 use Rattle.rb_proto.specs.declared.answers.Results.{Results}
 use Rattle.rb_proto.specs.declared.answers.Results.TheVariants as results
-use Rattle.rb_proto.specs.declared.list_reply.ListReply.{ListReply}
-use Rattle.rb_proto.specs.ListParts.{list_reply, ListsRows}
-use Rattle.rb_proto.specs.ListReplies.{rest_of}
-use Rattle.rb_core.specs.declared.replies.Served.TheVariants.{Listed}
-use Rattle.rb_core.specs.Listings.{source_in}
-use Rattle.rb_core.specs.Serving.{listing_outcome, IsStreamedTo, streamed}
-use Rattle.rb_core.proofs.ReplyHeads.{some_head, short_head}
+use Rattle.rb_proto.specs.ListParts.{list_reply}
+use Rattle.rb_connections.specs.declared.served.Served.TheVariants.{Listed}
+use Rattle.rb_core.specs.Eviction.{source_in}
+use Rattle.rb_connections.specs.Settling.{listing_outcome}
+use Rattle.rb_core.specs.Serving.{IsStreamedTo, streamed}
+use Rattle.rb_connections.proofs.ReplyHeads.{short_head}
 use Rattle.rb_model.specs.declared.message.Message.TheVariants as says
 use Rattle.rb_model.specs.Calls.{Outcome, told_as, told_results, reply_with, outcome, fitting, success, longest_reply}
 use Rattle.rb_model.specs.Calls.Outcome.{Reply}
-use Rattle.rb_core.specs.Reading.{null_message}
+use Rattle.rb_core.specs.Messages.{null_message}
 use Rattle.rb_core.specs.Awaits.{kind_of, StayUnlessForwarded as StaysUnless}
 
 -- the books stand for the ledger in which the call is noted, with the registry as it was
@@ -110,11 +109,3 @@ listed (Tcp id peer) results.Statistics xid books host listing l e h = absurd cc
 pub streamed_to : (caller : Caller) (given : Results) (xid : ℕ) (listing : Listing) → Some listing ≡ streamed caller given → IsStreamedTo caller (Listed xid listing)
 streamed_to (Udp peer) given xid listing e = absurd cc
 streamed_to (Tcp id peer) given xid listing e = tt
-
--- a list of which nothing was given
-module _ (host : List ℕ) (registry : Registry) (xid : ℕ) (listing : Listing) (list : ListReply) (rest : ListsRows xid listing registry list) where
-  pub fresh_is_some : 0 < length (rest_of host registry list)
-  fresh_is_some =
-      let some = some_head xid Success in
-      let whole = length-append (reply_head xid Success) (list_bytes host (rows_of registry) listing) in
-      omega (arith, some, whole, ap (λ (xs : List ℕ). length xs) (rest host))

@@ -1,7 +1,7 @@
 -- What calls pay, added up.
 use Rattle.std.proofs.Common.{◌≡◌, ◌≤◌, ℕ, ◌+◌, ◌*◌, List, length, Option, Some, None, Result, Ok, Err, refl, sym, ap, subst, ◌∙◌, arith}
 use Rattle.rb_xdr.specs.Meter.{Meter, PaysAtMost}
-use Rattle.rb_core.specs.declared.slot.Heard.{Heard}
+use Rattle.rb_connections.specs.declared.slot.Heard.{Heard}
 use Rattle.rb_registry.specs.Registry.{slots_of}
 use Rattle.rb_model.specs.declared.types.CoreFault.{CoreFault}
 use Rattle.rb_model.specs.State.{State, Setting, Connection, at_moment}
@@ -10,11 +10,12 @@ use Rattle.rb_model.specs.Connections.Taking.{TakesNone, GoesOn, Ends}
 use Rattle.rb_model.specs.Step.{when_taken, bytes, bytes_to}
 use Rattle.rb_model.specs.declared.types.Taken.{Taken}
 use Rattle.rb_model.specs.Calls.{longest_reply, kept_of}
-use Rattle.rb_core.specs.Slots.{Acts}
+use Rattle.rb_connections.specs.Slots.{Acts}
 use Rattle.rb_core.specs.StandsFor.{Held, StandsFor, source_of}
-use Rattle.rb_core.specs.CallCosts.{args_heard, datagram_cost, gave_cost, IsCheapIfQuiet, heard_cost, NoRecordEnds, taking_cost}
+use Rattle.rb_core.specs.CallCosts.{args_heard, datagram_cost, gave_cost, IsCheapIfQuiet, NoRecordEnds, taking_cost}
+use Rattle.rb_connections.specs.Costs.{heard_cost}
 use Rattle.rb_model.specs.Costs.{find_cost, exchange_cost, read_cost, make_room_cost, serve_cost, begin_list_cost, given_cost, answer_cost, connection_count, row_limit, take_cost, recount_cost, count_taken, piece_cost, record_cost}
-use Rattle.rb_core.proofs.Slots.{as_many}
+use Rattle.rb_connections.proofs.Slots.{as_many}
 use Rattle.rb_model.proofs.StepBounds.{taken-counts}
 
 -- a record ended, and it was answered, where so much more was paid

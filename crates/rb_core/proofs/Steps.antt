@@ -16,25 +16,26 @@ use Rattle.rb_proto.specs.Ledger.{Ledger, StandsForLedger}
 use Rattle.rb_proto.specs.Books.{ActsAs, Becomes, SameFrame}
 use Rattle.rb_proto.specs.Forwarding.{replied, fell_due, caller_dropped, call_sent}
 use Rattle.rb_model.specs.declared.message.Message.{Message}
-use Rattle.rb_core.specs.declared.slot.Heard.{Heard}
-use Rattle.rb_core.specs.declared.slot.Received.{Received}
+use Rattle.rb_connections.specs.declared.slot.Heard.{Heard}
+use Rattle.rb_connections.specs.declared.slot.Received.{Received}
 use Rattle.rb_model.specs.declared.types.CoreFault.{CoreFault}
 use Rattle.rb_model.specs.declared.types.CoreFault.TheVariants.{Gone}
 use Rattle.rb_rpc.specs.Verdict.{verdict}
 use Rattle.rb_model.specs.Calls.{Outcome, outcome, message_with, message_of, is_no_call, reply_in, longest_reply}
 use Rattle.rb_model.specs.Calls.{kept_of}
-use Rattle.rb_core.specs.StandsFor.{Table, StandsForConnections, Held, StandsFor, source_of, Source, source_for}
+use Rattle.rb_connections.specs.StandsFor.{Table, StandsForConnections, Source, source_for}
+use Rattle.rb_core.specs.StandsFor.{Held, StandsFor, source_of}
 use Rattle.rb_model.specs.State.{State, Phase, Connection, Connections, at_moment}
 use Rattle.rb_model.specs.State.Phase.{Idle, Reading, Owing, Awaiting, Lost}
 use Rattle.rb_model.specs.Connections.{Taking, taking, reading, settled, is_lost, is_live, live_connection, change_first, changed_at, on_live, opening_of, closing_of, giving}
 use Rattle.rb_model.specs.Connections.Taking.{TakesNone, GoesOn, Ends}
-use Rattle.rb_core.specs.Slots.{Acts, Shows, StaysTable, received, fed_with, feeding, arguments_after, arguments_heard, arguments_on}
+use Rattle.rb_connections.specs.Slots.{Acts, Shows, StaysTable, received, fed_with, feeding, arguments_after, arguments_heard, arguments_on}
 use Rattle.rb_model.specs.Step.{context_in, with_ledger, with_reply, settled_in, serve_message, serve, answering, with_count, when_taken, bytes_to, bytes, datagram, gave, open_connection, close_connection, moved, dropped_with, unsent_call, sent_call}
 use Rattle.rb_model.specs.declared.types.Taken.{Taken}
 use Rattle.rb_core.specs.CallCosts.{NoRecordEnds, has_ended}
 use Rattle.rb_core.specs.Core.{context_of, answering_heard}
 use Rattle.rb_core.specs.AtOnce.{at_once, at_once_in, owes}
-use Rattle.rb_core.specs.Listings.{source_in}
+use Rattle.rb_core.specs.Eviction.{source_in}
 use Rattle.rb_core.specs.Serving.{ServesInRoom}
 use Rattle.rb_model.specs.Losses.{began_in, crowding, evicted, evicting, with_room}
 use Rattle.rb_registry.specs.Registry.{Registry}

@@ -6,12 +6,13 @@ use Rattle.std.specs.Map.{values_of}
 use Rattle.std.proofs.lemmas.List.Sums.{sum_by-cons}
 use Rattle.rb_xdr.specs.Kept.{Kept}
 use Rattle.rb_xdr.specs.Meter.{Meter, PaysAtMost}
-use Rattle.rb_core.specs.declared.slot.Slot.{Slot}
-use Rattle.rb_core.specs.declared.slot.Stage.{Stage}
-use Rattle.rb_core.specs.declared.slot.Stage.TheVariants as stages
+use Rattle.rb_connections.specs.declared.slot.Slot.{Slot}
+use Rattle.rb_connections.specs.declared.slot.Stage.{Stage}
+use Rattle.rb_connections.specs.declared.slot.Stage.TheVariants as stages
 use Rattle.rb_model.specs.State.{State, Phase, Connection, are_good}
 use Rattle.rb_model.specs.State.Phase.{Idle, Reading, Owing, Awaiting, Lost}
-use Rattle.rb_core.specs.StandsFor.{Source, StandsForPhase, StandsForConnection, Held, StandsFor, source_of}
+use Rattle.rb_connections.specs.StandsFor.{Source, StandsForPhase, StandsForConnection}
+use Rattle.rb_core.specs.StandsFor.{Held, StandsFor, source_of}
 use Rattle.rb_model.specs.Step.{Event, run, IsReached}
 use Rattle.rb_model.specs.Costs.{run_cost}
 use Rattle.rb_core.specs.Events.{shown, greatest_count}

@@ -1,24 +1,25 @@
 -- Replies that are given in the call that takes the end of their record: three events in one.
-use Rattle.std.specs.Prelude.{◌≡◌, ◌<◌, ◌≤◌, ℕ, ◌+◌, ◌==◌, nat_lt, Bool, true, false, not, ◌&&◌, ◌||◌, if◌then◌else◌, List, [], length, take, Option, Some, None, is_none, Result, Ok, Err}
+use Rattle.std.specs.Prelude.{◌≡◌, ℕ, ◌+◌, ◌==◌, nat_lt, Bool, true, false, not, ◌&&◌, ◌||◌, if◌then◌else◌, List, [], length, take, Option, Some, None, is_none, Result, Ok, Err}
 use Rattle.rb_xdr.specs.Kept.{Kept}
 use Rattle.rb_xdr.specs.Meter.{Meter, PaysAtMost}
-use Rattle.rb_rpc.specs.Records.{fragment_size, marked}
 use Rattle.rb_rpc.specs.declared.peer.Caller.TheVariants.{Tcp}
 use Rattle.rb_proto.specs.declared.books.Books.{Books}
 use Rattle.rb_proto.specs.declared.context.Context.{Context}
-use Rattle.rb_core.specs.declared.replies.Served.{Served}
-use Rattle.rb_core.specs.declared.replies.Served.TheVariants.{Told, Listed}
-use Rattle.rb_core.specs.declared.slot.Heard.{Heard}
+use Rattle.rb_connections.specs.declared.served.Served.{Served}
+use Rattle.rb_connections.specs.declared.served.Served.TheVariants.{Told, Listed}
+use Rattle.rb_connections.specs.declared.slot.Heard.{Heard}
 use Rattle.rb_model.specs.declared.types.CoreFault.{CoreFault}
 use Rattle.rb_core.specs.declared.types.Exchanged.{Exchanged}
-use Rattle.rb_core.specs.declared.types.Outcome.TheVariants as outcomes
+use Rattle.rb_connections.specs.declared.served.Outcome.TheVariants as outcomes
 use Rattle.rb_model.specs.declared.types.Taken.{Taken}
 use Rattle.rb_model.specs.State.{Owed, Phase, Connection, State}
 use Rattle.rb_model.specs.State.Phase.{Idle, Reading, Owing, Awaiting, Lost}
 use Rattle.rb_model.specs.Connections.{longest_fragment, when_given, live_connection, on_connection}
 use Rattle.rb_model.specs.Step.{bytes, pending, gave}
-use Rattle.rb_core.specs.StandsFor.{Table, Held, StandsFor}
-use Rattle.rb_core.specs.Slots.{Acts}
+use Rattle.rb_connections.specs.StandsFor.{Table}
+use Rattle.rb_core.specs.StandsFor.{Held, StandsFor}
+use Rattle.rb_connections.specs.Slots.{Acts}
+use Rattle.rb_connections.specs.Giving.{IsGivenWhole, whole_length, whole_cost}
 use Rattle.rb_core.specs.Core.{context_of, answering_heard}
 use Rattle.rb_core.specs.CallCosts.{bytes_cost, args_heard}
 
@@ -132,17 +133,6 @@ GivesFrom room context id heard arguments table books n =
 
 -- ---- a reply
 
--- A reply is one fragment, and is given whole: these are its bytes, marked (RFC 5531 section 11), and its buffer is empty.
-pub record IsGivenWhole (before after : Kept) (given : List ℕ) : Type 0 where
-  pub some : 0 < length before.bytes
-  pub few : length before.bytes ≤ fragment_size
-  pub is_marked : given ≡ marked before.bytes
-  pub is_empty : after ≡ record before { bytes = [] }
-
--- with how many bytes a reply of so many is given whole, where there is this room: 0 where it is not
-abbrev pub whole_length : ℕ → ℕ → ℕ
-whole_length room n = if not (nat_lt fragment_size n) && not (nat_lt room longest_fragment) then 4 + n else 0
-
 -- with how many what a message is answered with is given at once, where this is written
 abbrev pub count_at_once : ℕ → Served → List ℕ → ℕ
 count_at_once room (Told outcomes.Reply) reply = whole_length room (length reply)
@@ -155,11 +145,6 @@ count_at_once room (Listed xid listing) reply = 0
 pub record IsGivenAtOnce (served : Served) (before after : Kept) (given : List ℕ) : Type 0 where
   pub is_reply : served ≡ Told outcomes.Reply
   pub whole : IsGivenWhole before after given
-
--- what it costs to give n bytes so, where there is this room: the look at how many there are, they themselves, and the
--- buffer emptied
-abbrev pub whole_cost : ℕ → ℕ → ℕ
-whole_cost room n = if room == 0 then 0 else n + 2
 
 -- to take bytes, to answer the record that ends with them, and to give the reply where there is this room
 abbrev pub exchange_cost : Held → Held → ℕ → Result Exchanged CoreFault → ℕ → ℕ

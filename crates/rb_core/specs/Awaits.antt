@@ -1,66 +1,14 @@
--- Which connections could begin a forwarded call: those that are not open yet, and those that await none.
-use Rattle.std.specs.Prelude.{◌≡◌, ⊤, ℕ, ◌==◌, nat_lt, Bool, true, false, not, ◌&&◌, ◌||◌, if◌then◌else◌, length, Option, Some, None, IfSome, Result, IfOk}
-use Rattle.std.specs.List.{list_any}
-use Rattle.std.specs.Map.{values_of}
-use Rattle.rb_rpc.specs.declared.peer.Peer.{Peer}
+-- That each connection for which a call is forwarded awaits it.
+use Rattle.std.specs.Prelude.{◌≡◌, ⊤, ℕ, true, false}
 use Rattle.rb_forward.specs.StandsFor.{Table as Entries, slots_of}
 use Rattle.rb_forward.specs.Table.{is_waiting}
 use Rattle.rb_proto.specs.declared.books.Books.{Books}
 use Rattle.rb_proto.specs.declared.answers.Answer.{Answer}
 use Rattle.rb_proto.specs.declared.answers.Answer.TheVariants as answers
-use Rattle.rb_core.specs.declared.slot.Slot.{Slot}
-use Rattle.rb_core.specs.declared.slot.Stage.{Stage}
-use Rattle.rb_core.specs.declared.slot.Stage.TheVariants as stages
-use Rattle.rb_core.specs.declared.slot.Received.{Received}
-use Rattle.rb_model.specs.declared.types.CoreFault.{CoreFault}
-use Rattle.rb_core.specs.declared.types.Outcome.{Outcome}
-use Rattle.rb_core.specs.declared.types.Outcome.TheVariants as outcomes
-use Rattle.rb_core.specs.StandsFor.{Table}
-use Rattle.rb_core.specs.Slots.{is_idle_stage, StaysTable}
-use Rattle.rb_core.specs.Listings.{KeepsListing}
-
-abbrev pub is_awaiting_stage : Stage → Bool
-is_awaiting_stage stages.Awaiting = true
-is_awaiting_stage stages.Idle = false
-is_awaiting_stage (stages.Reading reader) = false
-is_awaiting_stage (stages.Giving giving) = false
-is_awaiting_stage stages.Lost = false
-
--- it has this number and awaits no forwarded call
-abbrev pub is_free_slot : ℕ → Slot → Bool
-is_free_slot id slot = slot.number == id && not (is_awaiting_stage slot.stage)
-
--- the connection of this number is not open yet, or awaits no forwarded call
-unfoldable pub is_free : ℕ → Table → Bool
-is_free id table = nat_lt table.given id || list_any (is_free_slot id) (values_of table.slots)
-
--- it is open and Idle
-abbrev pub is_idle_slot : ℕ → Slot → Bool
-is_idle_slot id slot = slot.number == id && is_idle_stage slot.stage
-
--- who sends a record that comes whole on it
-abbrev pub sender_on : ℕ → Slot → Option Peer
-sender_on id slot = if is_idle_slot id slot then Some slot.peer else None
-
-unfoldable pub has_idle : ℕ → Table → Bool
-has_idle id table = list_any (is_idle_slot id) (values_of table.slots)
-
--- it has this number, and is anything but Idle since this moment
-abbrev pub is_unsettled_slot : ℕ → ℕ → Slot → Bool
-is_unsettled_slot id clock slot = slot.number == id && not (is_idle_stage slot.stage && slot.since == clock)
-
--- The connection of this number, where there is one, is Idle since this moment.
-abbrev pub IsSettled : ℕ → ℕ → Table → Type 0
-IsSettled id clock table = list_any (is_unsettled_slot id clock) (values_of table.slots) ≡ false
-
--- It is there, and Idle since this moment.
-pub record IsIdleSince (id clock : ℕ) (table : Table) : Type 0 where
-  pub is_idle : has_idle id table ≡ true
-  pub is_settled : IsSettled id clock table
-
--- each that was Idle since a moment is so
-abbrev pub KeepsSettled : Table → Table → Type 0
-KeepsSettled old new = (id clock : ℕ) → IsSettled id clock old → IsSettled id clock new
+use Rattle.rb_connections.specs.declared.served.Outcome.{Outcome}
+use Rattle.rb_connections.specs.declared.served.Outcome.TheVariants as outcomes
+use Rattle.rb_connections.specs.StandsFor.{Table}
+use Rattle.rb_connections.specs.Awaits.{is_free}
 
 -- No connection is free for which a call is forwarded.
 abbrev pub AreAwaited : Entries → Table → Type 0
@@ -69,51 +17,6 @@ AreAwaited entries table = (id : ℕ) → is_waiting id (slots_of entries) ≡ t
 -- so it stays
 abbrev pub KeepsAwaited : Books → Table → Books → Table → Type 0
 KeepsAwaited old before new after = AreAwaited old.forwards before → AreAwaited new.forwards after
-
--- no connection is free that was not so before
-abbrev pub NoneIsFreed : Table → Table → Type 0
-NoneIsFreed old new = (id : ℕ) → is_free id old ≡ false → is_free id new ≡ false
-
--- Connections go on: each that gives a list can go on with it, and none is freed of its forwarded call.
-pub record GoOn (old new : Table) : Type 0 where
-  pub lists : KeepsListing old new
-  pub free : NoneIsFreed old new
-  pub stays : StaysTable old new
-
--- What stays of connections while those are closed whose lists are in the way of a row.
-pub record StayOpen (old new : Table) : Type 0 where
-  pub idle : (id : ℕ) → has_idle id old ≡ true → has_idle id new ≡ true
-  pub settled : KeepsSettled old new
-  pub free : NoneIsFreed old new
-  pub stays : StaysTable old new
-  pub as_many : length new.slots ≡ length old.slots
-
--- or it is the one of this number
-abbrev pub OnlyIsFreed : ℕ → Table → Table → Type 0
-OnlyIsFreed number old new = (id : ℕ) → (id == number) ≡ false → is_free id old ≡ false → is_free id new ≡ false
-
--- Where a call is forwarded for the connection of this number, which was Idle, it awaits that.
-abbrev pub AwaitsIfForwarded : Outcome → ℕ → Table → Table → Type 0
-AwaitsIfForwarded given id old new = given ≡ outcomes.Forwarded → has_idle id old ≡ true → is_free id new ≡ false
-
--- it is Idle since this moment
-abbrev pub IsIdleAt : ℕ → Slot → Type 0
-IsIdleAt clock slot = (is_idle_stage slot.stage ≡ true) × (slot.since ≡ clock)
-
--- A record ended on it: it awaited no forwarded call, and is Idle since this moment.
-pub record HearsSlot (clock : ℕ) (old new : Slot) : Type 0 where
-  pub awaited_none : is_awaiting_stage old.stage ≡ false
-  pub is_idle : is_idle_stage new.stage ≡ true
-  pub since : new.since ≡ clock
-
--- A record ended on a connection that was free, and is Idle since this moment.
-pub record HeardFrom (id clock : ℕ) (old new : Table) : Type 0 where
-  pub was_free : is_free id old ≡ true
-  pub is_idle : has_idle id new ≡ true
-  pub is_settled : IsSettled id clock new
-
-abbrev pub HearsFree : ℕ → ℕ → Table → Table → Result Received CoreFault → Type 0
-HearsFree id clock old new result = IfOk result (λ got. IfSome got.heard (λ heard. HeardFrom id clock old new))
 
 -- what the code says of an answer
 abbrev pub kind_of : Answer → Outcome

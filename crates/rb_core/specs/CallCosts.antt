@@ -1,63 +1,20 @@
 -- What calls cost at most, by what is held.
-use Rattle.std.specs.Prelude.{◌≡◌, ℕ, ◌+◌, ◌*◌, Bool, true, false, List, [], length, Option, Some, None, IfSome, Result, Ok, Err}
+use Rattle.std.specs.Prelude.{◌≡◌, ℕ, ◌+◌, ◌*◌, Bool, true, false, List, [], length, IfSome, Result, Ok, Err}
 use Rattle.rb_xdr.specs.Meter.{Meter, PaysAtMost}
-use Rattle.rb_registry.specs.Registry.{Registry, slots_of}
 use Rattle.rb_forward.specs.Costs.{unsent_cost}
 use Rattle.rb_proto.specs.declared.books.Books.{Books}
 use Rattle.rb_proto.specs.Costs.{statistics_cost}
-use Rattle.rb_core.specs.declared.giving.Rest.{Rest}
-use Rattle.rb_core.specs.declared.giving.Rest.TheVariants as rests
-use Rattle.rb_core.specs.declared.replies.Served.{Served}
-use Rattle.rb_core.specs.declared.replies.Served.TheVariants.{Told, Listed}
-use Rattle.rb_core.specs.declared.slot.Heard.{Heard}
-use Rattle.rb_core.specs.declared.slot.Received.{Received}
 use Rattle.rb_model.specs.declared.types.CoreFault.{CoreFault}
 use Rattle.rb_model.specs.declared.types.Taken.{Taken}
-use Rattle.rb_model.specs.Costs.{serve_cost, show_cost, listed_cost, recount_cost, given_cost, find_cost, take_cost, exchange_cost, read_cost, begin_list_cost, make_room_cost, answer_cost, entry_cost, ended_cost}
-use Rattle.rb_core.specs.StandsFor.{Table, Held, StandsFor}
+use Rattle.rb_model.specs.Costs.{serve_cost, recount_cost, given_cost, take_cost, read_cost, begin_list_cost, make_room_cost, answer_cost, entry_cost, ended_cost}
+use Rattle.rb_connections.specs.StandsFor.{Table}
+use Rattle.rb_core.specs.StandsFor.{Held, StandsFor}
 use Rattle.rb_model.specs.Connections.{Taking, taking, live_connection}
 use Rattle.rb_model.specs.Connections.Taking.{TakesNone, GoesOn, Ends}
 use Rattle.rb_model.specs.Calls.{longest_reply}
-use Rattle.rb_core.specs.Slots.{arguments_on}
+use Rattle.rb_connections.specs.Slots.{arguments_on}
+use Rattle.rb_connections.specs.Costs.{row_count, slot_count, look_cost}
 use Rattle.rb_model.specs.State.{State}
-
--- ---- on one connection
-
--- how many rows a registry keeps
-abbrev pub row_count : Registry → ℕ
-row_count registry = length (slots_of registry)
-
--- what it costs to show the next fragment of a reply
-abbrev pub next_cost : Registry → Rest → ℕ
-next_cost registry (rests.Held start) = show_cost
-next_cost registry (rests.Listed list) = listed_cost (row_count registry)
-
--- what it costs to begin what a message is answered with
-abbrev pub told_cost : Registry → Served → ℕ
-told_cost registry (Told given) = show_cost + 1
-told_cost registry (Listed xid listing) = listed_cost (row_count registry) + 1
-
--- the same on a connection that is found among so many
-abbrev pub settling_cost : ℕ → Registry → Served → ℕ
-settling_cost connections registry served = find_cost connections + told_cost registry served + recount_cost
-
--- what it costs to exchange the buffer of a record, where one ended
-abbrev pub heard_cost : Option Heard → ℕ
-heard_cost None = 0
-heard_cost (Some heard) = exchange_cost
-
--- what it costs to take so many bytes of a piece, and to exchange the buffer of the record that ended with them
-abbrev pub received_cost : Received → ℕ
-received_cost got = take_cost got.count + heard_cost got.heard
-
-abbrev pub taken_cost : Result Received CoreFault → ℕ
-taken_cost (Ok got) = received_cost got + recount_cost
-taken_cost (Err fault) = 0
-
--- what it costs to take bytes, nothing where the call was refused
-abbrev pub taking_cost : Result Taken CoreFault → ℕ
-taking_cost (Ok taken) = take_cost taken.count + recount_cost
-taking_cost (Err fault) = 0
 
 -- ---- by what is kept
 
@@ -73,13 +30,6 @@ put_results_cost books written = 4 * kept_count books + 72 + written + statistic
 -- reply of so many bytes is written
 abbrev pub serving_cost : Books → Books → ℕ → ℕ → ℕ
 serving_cost old new args written = serve_cost (kept_count old) (kept_count new) args written
-
--- how many connections are there, and what it costs to look one of them up
-abbrev pub slot_count : Table → ℕ
-slot_count table = length table.slots
-
-abbrev pub look_cost : Table → ℕ
-look_cost table = find_cost (slot_count table)
 
 -- what it costs to make room for a row
 abbrev pub room_cost : Table → Books → ℕ
@@ -106,6 +56,11 @@ datagram_cost old new count = 2 + message_cost old.connections old.books new.boo
 -- to count bytes as given
 abbrev pub gave_cost : Held → ℕ
 gave_cost held = look_cost held.connections + (given_cost (kept_count held.books) + recount_cost)
+
+-- what it costs to take bytes, nothing where the call was refused
+abbrev pub taking_cost : Result Taken CoreFault → ℕ
+taking_cost (Ok taken) = take_cost taken.count + recount_cost
+taking_cost (Err fault) = 0
 
 -- to take bytes where no record ends
 abbrev pub quiet_cost : Held → Result Taken CoreFault → ℕ

@@ -1,5 +1,5 @@
 -- What is true of all that a core holds, and what its calls answer.
-use Rattle.std.specs.Prelude.{◌≡◌, ◌≤◌, ℕ, Bool, List, [], length, None}
+use Rattle.std.specs.Prelude.{◌≡◌, ◌≤◌, ℕ, Bool, List, [], length}
 use Rattle.rb_xdr.specs.Kept.{Kept}
 use Rattle.rb_rpc.specs.declared.peer.Caller.{Caller}
 use Rattle.rb_rpc.specs.declared.peer.Caller.TheVariants.{Tcp}
@@ -7,15 +7,17 @@ use Rattle.rb_forward.specs.declared.types.Ended.{Ended}
 use Rattle.rb_proto.specs.declared.books.Books.{Books}
 use Rattle.rb_proto.specs.declared.context.Context.{Context}
 use Rattle.rb_proto.specs.Books.{AreTied}
-use Rattle.rb_core.specs.declared.types.Outcome as outcome
-use Rattle.rb_core.specs.declared.types.Outcome.TheVariants as outcomes
-use Rattle.rb_core.specs.declared.slot.Heard.{Heard}
+use Rattle.rb_connections.specs.declared.served.Outcome as outcome
+use Rattle.rb_connections.specs.declared.slot.Heard.{Heard}
 use Rattle.rb_model.specs.State.{Setting, State}
-use Rattle.rb_model.specs.Calls.{message_with, Outcome, Outcome as said, longest_reply}
-use Rattle.rb_core.specs.StandsFor.{Table, Held, StandsFor}
-use Rattle.rb_core.specs.Slots.{Acts, IsDraft}
+use Rattle.rb_model.specs.Calls.{message_with, Outcome, longest_reply}
+use Rattle.rb_connections.specs.StandsFor.{Table}
+use Rattle.rb_core.specs.StandsFor.{Held, StandsFor}
+use Rattle.rb_connections.specs.Slots.{Acts, IsDraft}
+use Rattle.rb_connections.specs.Settling.{outcome_with}
 use Rattle.rb_core.specs.Awaits.{AreAwaited}
-use Rattle.rb_core.specs.Listings.{CanListOn, source_in}
+use Rattle.rb_connections.specs.Listings.{CanListOn}
+use Rattle.rb_core.specs.Eviction.{source_in}
 use Rattle.rb_model.specs.declared.types.Told.{Told}
 use Rattle.rb_model.specs.Ending.{told_at, tell}
 use Rattle.rb_model.specs.Step.{serve_message, settled_in}
@@ -42,13 +44,6 @@ pub record IsCore (setting : Setting) (connections : Table) (books : Books) (rep
   pub has_arguments : IsDraft reply.tie arguments
 
 -- ---- what calls answer
-
--- what the code says of a message, with the reply that it wrote
-abbrev pub outcome_with : outcome.Outcome → List ℕ → Outcome
-outcome_with outcomes.NoCall reply = said.NoCall
-outcome_with outcomes.Reply reply = said.Reply reply None
-outcome_with outcomes.Forwarded reply = said.Forwarded
-outcome_with outcomes.Silent reply = said.Silent
 
 -- the same with the reply in this buffer
 abbrev pub given_in : outcome.Outcome → Kept → Outcome

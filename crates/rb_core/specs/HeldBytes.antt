@@ -5,9 +5,10 @@ use Rattle.rb_registry.specs.Registry.{slots_of as rows_of}
 use Rattle.rb_registry.specs.Slots.{held_in as held_of_rows}
 use Rattle.rb_stats.specs.Stats.{key_count}
 use Rattle.rb_forward.specs.StandsFor.{slots_of as calls_of, held_in as held_of_calls}
-use Rattle.rb_core.specs.StandsFor.{held_in as held_of_connections, Held, charge, StandsFor}
+use Rattle.rb_connections.specs.StandsFor.{held_in as held_of_connections, charge}
+use Rattle.rb_core.specs.StandsFor.{Held, StandsFor}
 use Rattle.std.specs.List.{AllZip}
-use Rattle.rb_core.specs.declared.slot.Slot.{Slot}
+use Rattle.rb_connections.specs.declared.slot.Slot.{Slot}
 use Rattle.rb_model.specs.State.{Connection, State}
 use Rattle.rb_model.specs.Connections.{fed_in}
 use Rattle.rb_model.specs.Calls.{longest_arguments}

@@ -1,12 +1,10 @@
 pub mod StandsFor
 pub mod HeldBytes
 pub mod Runs
-pub mod Slots
 pub mod AtOnce
 pub mod Awaits
-pub mod Reading
-pub mod Giving
-pub mod Listings
+pub mod Messages
+pub mod Eviction
 pub mod Core
 pub mod Serving
 pub mod CallCosts

@@ -12,7 +12,7 @@ use Rattle.rb_model.specs.Bounds.{bytes_bound, run_bound}
 use Rattle.rb_model.specs.Plain.{events_of}
 use Rattle.std.specs.List.{sum_by}
 use Rattle.std.specs.Map.{values_of}
-use Rattle.rb_core.specs.declared.slot.Slot.{Slot}
+use Rattle.rb_connections.specs.declared.slot.Slot.{Slot}
 use Rattle.rb_model.specs.WholeRuns.{whole_bound}
 
 -- ---- a run

@@ -1,14 +1,12 @@
 -- What the code answers a message with: a reply that is written, or a list that is streamed.
-use Rattle.std.specs.Prelude.{◌≡◌, ◌<◌, ◌≤◌, ⊤, ℕ, Bool, List, [], length, Option, Some, None}
+use Rattle.std.specs.Prelude.{◌≡◌, ◌≤◌, ⊤, ℕ, List, [], length, Option, Some, None}
 use Rattle.rb_rpc.specs.declared.call.CallHead.{CallHead}
 use Rattle.rb_rpc.specs.declared.call.Verdict.{Verdict}
 use Rattle.rb_rpc.specs.declared.peer.Caller.{Caller}
 use Rattle.rb_rpc.specs.declared.peer.Caller.TheVariants.{Tcp, Udp}
-use Rattle.rb_registry.specs.Registry.{rows_of}
 use Rattle.rb_proto.specs.declared.answers.Listing.{Listing}
 use Rattle.rb_proto.specs.declared.answers.Results.{Results}
 use Rattle.rb_proto.specs.declared.answers.Results.TheVariants as results
-use Rattle.rb_proto.specs.ListParts.{list_reply}
 use Rattle.rb_proto.specs.declared.answers.Answer.{Answer}
 use Rattle.rb_proto.specs.declared.books.Books.{Books}
 use Rattle.rb_proto.specs.declared.context.Context.{Context}
@@ -18,36 +16,19 @@ use Rattle.rb_forward.specs.Table.{IsNew}
 use Rattle.rb_proto.specs.Books.{ActsAs, AreTied, OnlyCallerWaits, SameFrame}
 use Rattle.rb_proto.specs.Results.{shown_of, result_bytes}
 use Rattle.rb_xdr.specs.Kept.{Kept}
-use Rattle.rb_core.specs.declared.replies.Served.{Served}
-use Rattle.rb_core.specs.declared.replies.Served.TheVariants.{Told, Listed}
-use Rattle.rb_core.specs.declared.types.Outcome.{Outcome as Written}
-use Rattle.rb_core.specs.declared.types.Outcome.TheVariants as outcomes
-use Rattle.rb_core.specs.StandsFor.{Source, Table, StandsForConnections}
+use Rattle.rb_connections.specs.declared.served.Served.{Served}
+use Rattle.rb_connections.specs.declared.served.Served.TheVariants.{Told, Listed}
+use Rattle.rb_connections.specs.StandsFor.{Table, StandsForConnections}
 use Rattle.rb_model.specs.State.{Connections}
 use Rattle.rb_model.specs.Losses.{crowding, evicting}
-use Rattle.rb_model.specs.Calls.{Outcome, Outcome as said, is_no_call, told_as, outcome, message_with, longest_reply}
-use Rattle.rb_core.specs.Core.{outcome_with}
-use Rattle.rb_core.specs.Slots.{SlotBecomesFrom, BecomesFrom, StaysTable}
-use Rattle.rb_core.specs.declared.giving.Giving.{Giving}
-use Rattle.rb_core.specs.declared.giving.Rest.{Rest}
-use Rattle.rb_core.specs.declared.slot.Stage.TheVariants as stages
-use Rattle.rb_core.specs.Giving.{ShowsNext}
+use Rattle.rb_model.specs.Calls.{Outcome, told_as, outcome, message_with, longest_reply}
+use Rattle.rb_connections.specs.Slots.{StaysTable}
+use Rattle.rb_connections.specs.Settling.{served_in, kind_in, IsWritten}
 use Rattle.rb_model.specs.declared.message.Message.{Message}
-use Rattle.rb_core.specs.declared.slot.Slot.{Slot}
-use Rattle.rb_model.specs.Connections.{settled, changed_at}
-use Rattle.rb_core.specs.Reading.{null_message}
-use Rattle.rb_core.specs.Listings.{CanListOn, source_in}
+use Rattle.rb_core.specs.Messages.{null_message}
+use Rattle.rb_connections.specs.Listings.{CanListOn}
+use Rattle.rb_core.specs.Eviction.{source_in}
 use Rattle.rb_core.specs.Awaits.{KeepsAwaited, StayUnlessForwarded}
-
--- a list under this xid of the rows that are live now
-abbrev pub listing_outcome : Source → ℕ → Listing → Outcome
-listing_outcome source xid listing =
-    said.Reply (list_reply source.host xid (rows_of source.registry) listing) (Some source.registry.stamp)
-
--- what the code answers a message with, where this is written
-abbrev pub served_in : Source → Served → List ℕ → Outcome
-served_in source (Told given) reply = outcome_with given reply
-served_in source (Listed xid listing) reply = listing_outcome source xid listing
 
 -- From each ledger that the books stand for, an answer is told so.
 abbrev pub TellsAnswer : Books → Context → ℕ → Answer → Served → List ℕ → Type 0
@@ -81,36 +62,6 @@ ServesVerdict context verdict arguments table old left new served out =
 abbrev pub ServesNull : CallHead → Books → Books → Served → Kept → Type 0
 ServesNull head old new served out =
     (context : Context) (arguments : List ℕ) → ServesMessage context (null_message head) arguments old new served out
-
--- The connection that a slot stands for goes on with what its record is answered with, where this is written.
-abbrev pub SlotSettles : Source → ℕ → Served → List ℕ → Slot → Slot → Type 0
-SlotSettles source clock served written old new = SlotBecomesFrom source (settled clock (served_in source served written)) old new
-
--- So does the live connection of the number.
-abbrev pub Settles : Source → ℕ → ℕ → Served → List ℕ → Table → Table → Type 0
-Settles source id clock served written old new =
-    BecomesFrom source (changed_at id (settled clock (served_in source served written))) old new
-
--- A slot gives on with the next fragment of a reply, whose bytes that were not shown yet are these.
-pub record SlotShowsNext (source : Source) (rest : Rest) (old new : Slot) : Type 0 where
-  pub giving : Giving
-  pub is : new ≡ record old { stage = stages.Giving giving; window = new.window }
-  pub shows : ShowsNext source old.buffer.bytes rest old.window new.window giving
-
-abbrev pub is_closed_by : Source → Served → List ℕ → Bool
-is_closed_by source served reply = is_no_call (served_in source served reply)
-
-abbrev pub kind_in : Served → Written
-kind_in (Told given) = given
-kind_in (Listed xid listing) = outcomes.Reply
-
--- a reply is written where it is to be, and else nothing
-abbrev pub IsWritten : Served → List ℕ → Type 0
-IsWritten (Told outcomes.Reply) reply = 0 < length reply
-IsWritten (Told outcomes.NoCall) reply = reply ≡ []
-IsWritten (Told outcomes.Forwarded) reply = reply ≡ []
-IsWritten (Told outcomes.Silent) reply = reply ≡ []
-IsWritten (Listed xid listing) reply = reply ≡ []
 
 abbrev pub IsNoListIn : Served → Type 0
 IsNoListIn (Told given) = ⊤

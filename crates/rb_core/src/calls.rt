@@ -5,19 +5,20 @@ ghost use Rattle.rb_rpc.specs.declared.peer.Caller.TheVariants.{Tcp};
 ghost use Rattle.rb_forward.specs.StandsFor.{slots_of};
 ghost use Rattle.rb_forward.specs.Table.{is_waiting};
 ghost use Rattle.rb_proto.specs.Books.{AreTied, SameFrame};
-ghost use Rattle.rb_core.specs.AtOnce.{AnswersFrom, GivesFrom, whole_cost};
-ghost use Rattle.rb_core.specs.Awaits.{IsIdleSince, StayOpen};
+ghost use Rattle.rb_core.specs.AtOnce.{AnswersFrom, GivesFrom};
+ghost use Rattle.rb_connections.specs.Giving.{whole_cost};
+ghost use Rattle.rb_connections.specs.Awaits.{IsIdleSince, StayOpen};
 ghost use Rattle.rb_core.specs.CallCosts.{message_cost, served_cost};
 ghost use Rattle.rb_model.specs.Calls.{longest_reply};
 ghost use Rattle.rb_core.specs.Serving.{CanServe, IsEmptyReply, LeavesBooks, PartsGoOn, ServesVerdict};
-ghost use Rattle.rb_core.specs.Listings.{CanListOn, source_in};
-ghost use Rattle.rb_core.specs.Slots.{IsEmptyDraft};
+ghost use Rattle.rb_connections.specs.Listings.{CanListOn};
+ghost use Rattle.rb_core.specs.Eviction.{source_in};
+ghost use Rattle.rb_connections.specs.Slots.{IsEmptyDraft};
 
-use crate::connections::Connections;
 use crate::eviction::make_room;
 use crate::message::procedure_of;
-use crate::replies::{Served, give_at_once, serve, serve_null};
-use crate::slot::Heard;
+use crate::replies::{give_at_once, serve, serve_null};
+use rb_connections::{Connections, Heard, Served};
 use rb_proto::{Books, Context};
 use rb_rpc::Verdict;
 use rb_xdr::{Kept, Meter};
@@ -63,7 +64,7 @@ pub fn serve_verdict(
 
 /// Answers what a record on the connection of the number says, which has these arguments, and lets the connection go on. It
 /// says whether it is Lost now, and how many bytes of the reply were given at once. The draft is empty before and after.
-#[tactic(auto, unfolding(rb_model::specs::Calls::longest_reply, rb_model::specs::Calls::longest_arguments, crate::specs::StandsFor::buffer_size))]
+#[tactic(auto, unfolding(rb_model::specs::Calls::longest_reply, rb_model::specs::Calls::longest_arguments, rb_connections::specs::StandsFor::buffer_size))]
 pub fn answer(
     connections: &mut Connections,
     books: &mut Books,

@@ -4,14 +4,14 @@ ghost use Rattle.rb_model.specs.State.{are_good};
 ghost use Rattle.rb_model.specs.Bounds.{bytes_bound};
 
 use crate::calls::{answer, serve_verdict};
-use crate::connections::{BUFFER_SIZE, Connections};
 use crate::events::LONGEST_CALL;
-use crate::giving::LONGEST_FRAGMENT;
-use crate::message::arguments_behind;
-use crate::reading::kept_arguments;
-use crate::replies::{LONGEST_REPLY, Served, put_end};
-use crate::slot::{Heard, Received, Whole};
-use crate::types::{Exchanged, Outcome};
+use crate::message::{arguments_behind, kept_arguments};
+use crate::replies::put_end;
+use crate::types::Exchanged;
+use rb_connections::{
+    BUFFER_SIZE, Connections, Heard, LONGEST_FRAGMENT, LONGEST_REPLY, Outcome, Received, Served,
+    Whole,
+};
 use rb_forward::{Ended, FwdId, Unsent};
 use rb_model::{CoreFault, Expired, Limits, Taken, Told};
 use rb_proto::{Books, Context, Listener};
@@ -159,24 +159,26 @@ impl Core {
     ghost use Rattle.rb_forward.specs.StandsFor.{slots_of, longest_call};
     ghost use Rattle.rb_forward.specs.Table.{seen, count_lent, is_waiting, IsNew};
     ghost use Rattle.rb_model.specs.Step.{datagram, open_connection, bytes, pending, gave, close_connection, next_lost, unsent_call, sent_call};
-    ghost use Rattle.rb_core.specs.Giving.{pending_count};
+    ghost use Rattle.rb_connections.specs.Giving.{pending_count};
     ghost use Rattle.rb_model.specs.Ending.{forward_reply, expire_connection, expire};
-    ghost use Rattle.rb_core.specs.Awaits.{IsIdleSince};
+    ghost use Rattle.rb_connections.specs.Awaits.{IsIdleSince};
     ghost use Rattle.rb_core.specs.HeldBytes.{held};
     ghost use Rattle.rb_model.specs.Bounds.{bytes_bound};
     ghost use Rattle.rb_core.specs.HeldBytes.{NeverPasses};
     ghost use Rattle.rb_core.specs.Events.{shown, OnlyBegins, BeginsAt, LendsFrom, TellsSteps, taken_by, lent_by, given_by, StaysWithinSteps, StaysCheapIfQuiet};
-    ghost use Rattle.rb_core.specs.Slots.{Acts, Shows, Lends, heard_in, kept_in};
+    ghost use Rattle.rb_connections.specs.Slots.{Acts, Shows, Lends, heard_in, kept_in};
     ghost use Rattle.rb_core.specs.StandsFor.{StandsFor};
     ghost use Rattle.rb_core.specs.Core.{ActsWithReply, TellsCaller, context_of, without_arguments};
-    ghost use Rattle.rb_core.specs.AtOnce.{AnswersGiving, Exchanges, GivesAtOnce, count_given, count_now, taken_in, whole_cost, PaysForBytes, PaysForExchange};
-    ghost use Rattle.rb_core.specs.CallCosts.{answering_cost, datagram_cost, gave_cost, closing_cost, lending_cost, ending_cost, IsCheapIfQuiet, look_cost, slot_count};
+    ghost use Rattle.rb_core.specs.AtOnce.{AnswersGiving, Exchanges, GivesAtOnce, count_given, count_now, taken_in, PaysForBytes, PaysForExchange};
+    ghost use Rattle.rb_connections.specs.Giving.{whole_cost};
+    ghost use Rattle.rb_core.specs.CallCosts.{answering_cost, datagram_cost, gave_cost, closing_cost, lending_cost, ending_cost, IsCheapIfQuiet};
+    ghost use Rattle.rb_connections.specs.Costs.{look_cost, slot_count};
     ghost use Rattle.rb_model.specs.Costs.{tell_cost, pending_cost};
 
     /// A core with the daemon's own rows alone, at the moment `now` (milliseconds since the start of 1970).
     /// `first_xid` is the number of the first call that it forwards. `BadLimits` where a limit is out of its
     /// range, else `NoMemory` where an allocation is refused.
-    #[tactic(auto, unfolding(rb_model::specs::Calls::longest_reply, rb_model::specs::Calls::longest_arguments, crate::specs::StandsFor::buffer_size))]
+    #[tactic(auto, unfolding(rb_model::specs::Calls::longest_reply, rb_model::specs::Calls::longest_arguments, rb_connections::specs::StandsFor::buffer_size))]
     pub fn new(
         alloc: Global,
         limits: Limits,
@@ -695,7 +697,7 @@ impl Core {
     }
 
     /// Tells the caller of a forwarded call how it ended; `message` is the datagram that ended it.
-    #[tactic(auto, unfolding(rb_model::specs::Calls::longest_reply, rb_model::specs::Calls::longest_arguments, crate::specs::StandsFor::buffer_size))]
+    #[tactic(auto, unfolding(rb_model::specs::Calls::longest_reply, rb_model::specs::Calls::longest_arguments, rb_connections::specs::StandsFor::buffer_size))]
     fn tell(&mut self, ended: &Ended, message: &[u8], meter: &mut Meter) -> Told
         requires tie { meter.old.tie ≡ self.old.tie }
         requires empty { self.old.reply ≡ [] }

@@ -7,13 +7,11 @@ ghost use Rattle.rb_core.specs.StandsFor.{StandsFor};
 ghost use Rattle.rb_model.specs.Plain.{event_of, output_of};
 ghost use Rattle.rb_core.specs.Events.{HasHappened, MayHappen, OnlyBegins};
 ghost use Rattle.rb_xdr.specs.Meter.{PaysAtMost};
-ghost use Rattle.rb_core.specs.Slots.{Shows};
-ghost use Rattle.rb_core.specs.CallCosts.{look_cost};
+ghost use Rattle.rb_connections.specs.Slots.{Shows};
+ghost use Rattle.rb_connections.specs.Costs.{look_cost};
 
 use crate::engine::Core;
-use crate::giving::LONGEST_FRAGMENT;
-use crate::replies::LONGEST_REPLY;
-use crate::types::Outcome;
+use rb_connections::{LONGEST_FRAGMENT, LONGEST_REPLY, Outcome};
 use rb_forward::FwdId;
 use rb_model::{Event, Expired, Output, Taken, Told, UnsentCall};
 use rb_rpc::Peer;

@@ -2,11 +2,12 @@
 ghost use Rattle.std.specs.Prelude.{◌≡◌, ◌≤◌, IsTrue};
 ghost use Rattle.rb_xdr.specs.Meter.{PaysAtMost};
 ghost use Rattle.rb_proto.specs.Books.{AreTied, HasPlaceLeft, SameFrame};
-ghost use Rattle.rb_core.specs.Awaits.{StayOpen};
-ghost use Rattle.rb_core.specs.Listings.{CanListOn, HasRoom, Evicts, source_in};
+ghost use Rattle.rb_connections.specs.Awaits.{StayOpen};
+ghost use Rattle.rb_connections.specs.Listings.{CanListOn};
+ghost use Rattle.rb_core.specs.Eviction.{HasRoom, Evicts, source_in};
 ghost use Rattle.rb_core.specs.CallCosts.{kept_count, room_cost};
 
-use crate::connections::Connections;
+use rb_connections::Connections;
 use rb_model::Message;
 use rb_proto::{Books, Context};
 use rb_registry::Registry;

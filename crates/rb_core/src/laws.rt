@@ -1,6 +1,7 @@
 //! What holds of the definitions and of what a core holds.
 ghost use Rattle.rb_core.specs.Headline.{RunsAreServedWithinBounds};
 ghost use Rattle.rb_core.specs.HeldBytes.{HeldBytesAreBounded};
+ghost use Rattle.rb_core.specs.Messages.{KeptSaysTheRecord};
 ghost use Rattle.rb_core.specs.WorkedHeld.{FreshCoreHolds};
 
 /// For every list of openings, arriving bytes in any cut, datagrams, moments, closings and refused or partial writes, each
@@ -19,4 +20,9 @@ pub fn held_bytes_are_bounded()
 /// The definition of held bytes gives what the worked example says.
 pub fn worked_held()
     ensures { FreshCoreHolds }
+{}
+
+/// The verdict on a record and the first 8,816 bytes behind the head of its call decide what it says.
+pub fn kept_bytes_say_the_record()
+    ensures { KeptSaysTheRecord }
 {}

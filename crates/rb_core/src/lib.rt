@@ -3,30 +3,26 @@
 #![tactic(auto)]
 
 mod calls;
-mod connections;
-mod deadlines;
 mod engine;
 mod events;
 mod eviction;
-mod giving;
-mod hints;
 mod laws;
 mod message;
-mod reading;
 mod replies;
 mod run;
 mod run_bound;
-mod slot;
 mod types;
 
 pub use engine::Core;
-pub use laws::{held_bytes_are_bounded, runs_are_served_within_bounds, worked_held};
+pub use laws::{
+    held_bytes_are_bounded, kept_bytes_say_the_record, runs_are_served_within_bounds, worked_held,
+};
+pub use rb_connections::Outcome;
 pub use rb_forward::{FwdId, Unsent};
 pub use rb_model::{CoreFault, Event, Expired, Limits, Output, Taken, Told, UnsentCall};
 pub use rb_proto::Listener;
 pub use rb_rpc::Peer;
 pub use rb_xdr::NoMemory;
-pub use reading::kept_bytes_say_the_record;
 pub use run::replay;
 pub use run_bound::whole_bound;
-pub use types::{Exchanged, Outcome};
+pub use types::Exchanged;

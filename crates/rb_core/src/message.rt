@@ -1,10 +1,11 @@
 //! What the data of a record, or a datagram, says: the order of refusals.
-ghost use Rattle.std.specs.Prelude.{◌≡◌, ◌≤◌, List, ℕ, length, IfOk, IfErr};
+ghost use Rattle.std.specs.Prelude.{◌≡◌, ◌≤◌, List, ℕ, length, take, min, IfOk, IfErr};
 ghost use Rattle.rb_rpc.specs.Verdict.{verdict as verdict_of, EndsWithin};
 ghost use Rattle.rb_feed.specs.Feeds.{arguments_of};
-ghost use Rattle.rb_model.specs.Calls.{is_served, call_of, message_with};
-ghost use Rattle.rb_core.specs.Reading.{AsksNothing, CallsProcedure};
+ghost use Rattle.rb_model.specs.Calls.{is_served, call_of, kept_of, message_with};
+ghost use Rattle.rb_core.specs.Messages.{AsksNothing, CallsProcedure};
 
+use rb_connections::LONGEST_ARGUMENTS;
 use rb_model::Message;
 use rb_proto::{Call, Procedure, VoidProcedure};
 use rb_registry::RPCB_PROG;
@@ -34,7 +35,7 @@ impl Called<'_> {
     ghost use Rattle.std.specs.Prelude.{◌≡◌, ◌↔◌, IsTrue};
     ghost use Rattle.rb_proto.specs.Arguments.{arguments as arguments_in};
     ghost use Rattle.rb_model.specs.Grammar.{HasArgsIn};
-    ghost use Rattle.rb_core.specs.Reading.{asked_of};
+    ghost use Rattle.rb_core.specs.Messages.{asked_of};
 
     /// Whether it is a call of NULL, which has neither arguments nor results (RFC 1833 sections 2.2 and 3.2).
     pub fn is_null(&self) -> bool
@@ -99,4 +100,15 @@ pub fn arguments_behind(verdict: Verdict, bytes: &[u8]) -> &[u8]
         Verdict::Call(_, place) => &bytes[place..],
         Verdict::NoCall | Verdict::RpcMismatch(_) | Verdict::AuthError(_, _) => &[],
     }
+}
+
+/// What is kept of a record that came whole, on whose data this is the verdict: the first 8,816 bytes of its call's arguments.
+#[tactic(auto, unfolding(rb_model::specs::Calls::longest_arguments))]
+pub fn kept_arguments(verdict: Verdict, content: &[u8]) -> &[u8]
+    requires verdict { verdict ≡ verdict_of content.now }
+    requires within { EndsWithin verdict (length content.now) }
+    ensures { result.now ≡ kept_of content.now }
+{
+    let arguments = arguments_behind(verdict, content);
+    &arguments[..LONGEST_ARGUMENTS.min(arguments.len())]
 }

@@ -11,22 +11,23 @@ ghost use Rattle.rb_forward.specs.Outcomes.{PassesWithin};
 ghost use Rattle.rb_forward.specs.StandsFor.{slots_of};
 ghost use Rattle.rb_forward.specs.Table.{IsNew};
 ghost use Rattle.rb_proto.specs.Forwarding.{forwarded_bytes};
-ghost use Rattle.rb_core.specs.declared.replies.Served.TheVariants.{Told};
-ghost use Rattle.rb_core.specs.declared.types.Outcome.TheVariants.{Reply};
+ghost use Rattle.rb_connections.specs.declared.served.Served.TheVariants.{Told};
+ghost use Rattle.rb_connections.specs.declared.served.Outcome.TheVariants.{Reply};
 ghost use Rattle.rb_model.specs.Calls.{reply_in, success, longest_reply};
 ghost use Rattle.rb_model.specs.Ending.{told_failed, told_at};
 ghost use Rattle.rb_model.specs.Grammar.{HasArgsIn};
 ghost use Rattle.rb_core.specs.Awaits.{kind_of, StayUnlessForwarded};
-ghost use Rattle.rb_core.specs.Listings.{HasRoom};
+ghost use Rattle.rb_core.specs.Eviction.{HasRoom};
 ghost use Rattle.rb_core.specs.Core.{given_in};
-ghost use Rattle.rb_core.specs.Serving.{TellsAnswer, ServesMessage, ServesNull, CanServe, IsEmptyReply, LeavesBooks, WritesReply, kind_in, IsWritten, IsStreamedTo, streamed};
-ghost use Rattle.rb_core.specs.AtOnce.{IsGivenAtOnce, count_at_once, whole_cost};
+ghost use Rattle.rb_core.specs.Serving.{TellsAnswer, ServesMessage, ServesNull, CanServe, IsEmptyReply, LeavesBooks, WritesReply, IsStreamedTo, streamed};
+ghost use Rattle.rb_connections.specs.Settling.{kind_in, IsWritten};
+ghost use Rattle.rb_core.specs.AtOnce.{IsGivenAtOnce, count_at_once};
+ghost use Rattle.rb_connections.specs.Giving.{whole_cost};
 ghost use Rattle.rb_core.specs.CallCosts.{put_results_cost, serving_cost};
-ghost use Rattle.rb_core.specs.Slots.{IsDraft};
+ghost use Rattle.rb_connections.specs.Slots.{IsDraft};
 ghost use Rattle.rb_model.specs.Costs.{put_end_cost};
 
-use crate::giving::give_whole;
-use crate::types::Outcome;
+use rb_connections::{LONGEST_REPLY, Outcome, Served, give_whole};
 use rb_forward::{Ended, Forward, Outcome as End};
 use rb_model::Message;
 use rb_proto::{
@@ -35,33 +36,8 @@ use rb_proto::{
 use rb_rpc::{CallHead, Caller, ReplyHead, ReplyStatus, put_reply};
 use rb_xdr::{Kept, Meter};
 
-/// The greatest length of a reply that is no streamed list, in bytes.
-pub const LONGEST_REPLY: usize = 9_000;
-
-/// What a message is answered with.
-#[derive(Clone, Copy, Debug, PartialEq, Eq)]
-pub enum Served {
-    /// A reply that is written, or none.
-    Told(Outcome),
-    /// A list under this xid that is streamed, of which nothing is written yet.
-    Listed(u32, Listing),
-}
-
-impl Served {
-    ghost use Rattle.std.specs.Prelude.{◌≡◌, ℕ, List};
-    ghost use Rattle.rb_core.specs.StandsFor.{Source};
-    ghost use Rattle.rb_core.specs.Serving.{is_closed_by};
-
-    /// Whether it is no call, so that a connection on which it came is Lost.
-    pub fn is_no_call(self) -> bool
-        ensures { (source : Source) (reply : List ℕ) → result ≡ is_closed_by source self reply }
-    {
-        matches!(self, Served::Told(Outcome::NoCall))
-    }
-}
-
 /// Writes the head of a reply into an empty buffer.
-#[tactic(auto, using(crate::proofs::ReplyHeads::short_head, crate::proofs::ReplyHeads::some_head), unfolding(rb_model::specs::Calls::longest_reply))]
+#[tactic(auto, using(rb_connections::proofs::ReplyHeads::short_head, rb_connections::proofs::ReplyHeads::some_head), unfolding(rb_model::specs::Calls::longest_reply))]
 fn put_head(out: &mut Kept, head: ReplyHead, meter: &mut Meter)
     requires out { IsEmptyReply meter.old.tie out.old }
     ensures written { out.new ≡ record out.old { bytes = reply_head head.xid head.status } }
@@ -101,7 +77,7 @@ fn put_system_err(xid: u32, out: &mut Kept, meter: &mut Meter)
 }
 
 /// Writes a whole reply into an empty buffer, or SYSTEM_ERR where it does not fit.
-#[tactic(auto, using(crate::proofs::ReplyHeads::some_fitting), unfolding(rb_model::specs::Calls::fitting, rb_model::specs::Calls::longest_reply))]
+#[tactic(auto, using(rb_connections::proofs::ReplyHeads::some_fitting), unfolding(rb_model::specs::Calls::fitting, rb_model::specs::Calls::longest_reply))]
 fn put_reply_with(
     results: &Results,
     xid: u32,
@@ -259,7 +235,7 @@ pub fn give_at_once(served: Served, draft: &mut Kept, room: &mut [u8], meter: &m
 }
 
 /// Writes the results that a target gave into an empty buffer, or SYSTEM_ERR where they do not fit.
-#[tactic(auto, using(crate::proofs::ReplyHeads::some_fitting), unfolding(rb_model::specs::Calls::fitting, rb_model::specs::Calls::longest_reply, rb_forward::specs::StandsFor::longest_arguments, rb_forward::specs::Forwards::longest_results))]
+#[tactic(auto, using(rb_connections::proofs::ReplyHeads::some_fitting), unfolding(rb_model::specs::Calls::fitting, rb_model::specs::Calls::longest_reply, rb_forward::specs::StandsFor::longest_arguments, rb_forward::specs::Forwards::longest_results))]
 fn put_passed(forward: &Forward, results: &[u8], out: &mut Kept, meter: &mut Meter)
     requires results { length results.now ≤ longest_results }
     requires out { IsEmptyReply meter.old.tie out.old }

@@ -12,7 +12,7 @@ use Rattle.rb_model.specs.Step.{Event, Output, step, after, bytes, pending, pend
 use Rattle.rb_model.specs.Step.Event.{Bytes, Pending, Gave}
 use Rattle.rb_model.specs.Step.Output.{IsPending, Done}
 use Rattle.rb_core.specs.AtOnce.{pending_bytes, count_now, without_front, exchanging, fits_at_once, at_once_in, at_once_on, at_once, owes}
-use Rattle.rb_core.specs.Slots.{Acts, Shows}
+use Rattle.rb_connections.specs.Slots.{Acts, Shows}
 use Rattle.rb_core.specs.StandsFor.{Held, StandsFor}
 use Rattle.rb_record.specs.Entries.{entry_text, run_text}
 use Rattle.rb_record.specs.Tapes.{Tape, Records}

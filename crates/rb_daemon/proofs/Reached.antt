@@ -20,10 +20,11 @@ use Rattle.rb_model.proofs.RunLaws.{after-append}
 use Rattle.rb_record.specs.Entries.{entry_text, run_text, options_text}
 use Rattle.rb_record.specs.Tapes.{Tape, Records}
 use Rattle.rb_record.proofs.RunTexts.{run_text-append, records_more, one_recorded}
-use Rattle.rb_core.specs.declared.types.Outcome as outcome
-use Rattle.rb_core.specs.declared.types.Outcome.TheVariants as outcome_kinds
-use Rattle.rb_core.specs.Core.{outcome_with, ActsWithReply}
-use Rattle.rb_core.specs.Slots.{Acts, Shows}
+use Rattle.rb_connections.specs.declared.served.Outcome as outcome
+use Rattle.rb_connections.specs.declared.served.Outcome.TheVariants as outcome_kinds
+use Rattle.rb_connections.specs.Settling.{outcome_with}
+use Rattle.rb_core.specs.Core.{ActsWithReply}
+use Rattle.rb_connections.specs.Slots.{Acts, Shows}
 use Rattle.rb_core.specs.StandsFor.{Held, StandsFor}
 use Rattle.rb_core.proofs.Begun.{began, stands_begun}
 use Rattle.rb_daemon.specs.Recording.{gift, sending_of, sending, given_or}

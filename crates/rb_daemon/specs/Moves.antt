@@ -9,7 +9,7 @@ use Rattle.rb_model.specs.Step.{Event, pending}
 use Rattle.rb_record.specs.Entries.{run_text}
 use Rattle.rb_record.specs.Tapes.{Records}
 use Rattle.rb_core.specs.AtOnce.{exchanging, taken_in}
-use Rattle.rb_core.specs.Slots.{Acts}
+use Rattle.rb_connections.specs.Slots.{Acts}
 use Rattle.rb_core.specs.StandsFor.{StandsFor}
 use Rattle.rb_daemon.specs.declared.engine.Engine.{Engine}
 use Rattle.rb_daemon.specs.declared.engine.Given.{Given}

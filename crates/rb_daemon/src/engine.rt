@@ -94,7 +94,7 @@ impl Engine {
     ghost use Rattle.rb_model.specs.State.{State, are_good};
     ghost use Rattle.rb_model.specs.Step.{open_connection, close_connection, next_lost};
     ghost use Rattle.rb_core.specs.StandsFor.{StandsFor};
-    ghost use Rattle.rb_core.specs.Slots.{Shows};
+    ghost use Rattle.rb_connections.specs.Slots.{Shows};
     ghost use Rattle.rb_core.specs.AtOnce.{Exchanges, count_given, count_now};
     ghost use Rattle.rb_daemon.specs.Served.{after_giving, answering, ready_of, replying, expiring, sending};
     ghost use Rattle.rb_daemon.specs.Moves.{BeginsAt, Moves, ActsNow, Gives, Recorded};

@@ -13,20 +13,23 @@ use Rattle.rb_model.specs.declared.message.Message.{Message}
 use Rattle.rb_model.specs.Connections.{settled, changed_at}
 use Rattle.rb_model.specs.Calls.{Outcome, message_with, is_no_call, longest_arguments, longest_reply}
 use Rattle.rb_model.specs.Calls.Outcome.{Silent}
-use Rattle.rb_core.specs.StandsFor.{Held, StandsFor, StandsForConnections, Source, Table, buffer_size}
+use Rattle.rb_core.specs.StandsFor.{Held, StandsFor}
+use Rattle.rb_connections.specs.StandsFor.{StandsForConnections, Source, Table, buffer_size}
 use Rattle.rb_model.specs.State.{State, Connections}
 use Rattle.rb_model.specs.Step.{settled_in, serve_message}
 use Rattle.rb_core.specs.Core.{context_of}
-use Rattle.rb_core.specs.Slots.{Acts, BecomesFrom, StaysTable}
-use Rattle.rb_core.specs.Awaits.{has_idle, AreAwaited}
-use Rattle.rb_core.specs.Listings.{source_in}
-use Rattle.rb_core.specs.Serving.{ServesInRoom, Settles, IsWritten, kind_in, served_in}
+use Rattle.rb_connections.specs.Slots.{Acts, BecomesFrom, StaysTable}
+use Rattle.rb_connections.specs.Awaits.{has_idle}
+use Rattle.rb_core.specs.Awaits.{AreAwaited}
+use Rattle.rb_core.specs.Eviction.{source_in}
+use Rattle.rb_core.specs.Serving.{ServesInRoom}
+use Rattle.rb_connections.specs.Settling.{Settles, IsWritten, kind_in, served_in}
 use Rattle.rb_core.specs.AtOnce.{IsGivenAtOnce, answered_giving, given_when_answered, with_parts}
 use Rattle.rb_core.proofs.Answering.{served_by}
 use Rattle.rb_core.proofs.Awaited.{awaited_when_answered}
 use Rattle.rb_core.proofs.AtOnce.{Leaves, leaves_none, leaves_all, answer_giving, answer_counts, counts_served, count_of}
 use Rattle.rb_core.proofs.Steps.{Served as ServedIn}
-use Rattle.rb_core.proofs.Settled.{settled_stays}
+use Rattle.rb_connections.proofs.Settled.{settled_stays}
 use Rattle.rb_core.proofs.Cores.{stays_twice}
 use Rattle.rb_core.proofs.calls.answer.Goals as goal
 

@@ -3,7 +3,7 @@ use Rattle.std.specs.List.{slice_range}
 use Rattle.std.proofs.lemmas.List.{take_all}
 use Rattle.rb_rpc.specs.declared.peer.Caller.TheVariants.{Tcp}
 use Rattle.rb_core.specs.contracts.engine.Core.{the_view}
-use Rattle.rb_core.specs.declared.slot.Heard.{Heard}
+use Rattle.rb_connections.specs.declared.slot.Heard.{Heard}
 use Rattle.rb_core.specs.StandsFor.{Held}
 use Rattle.rb_core.specs.Core.{context_of, without_arguments}
 use Rattle.rb_core.specs.AtOnce.{AnswersGiving, GivesAtOnce}

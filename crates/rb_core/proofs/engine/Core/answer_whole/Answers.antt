@@ -7,7 +7,7 @@ use Rattle.rb_core.specs.contracts.engine.Core.{the_view}
 use Rattle.rb_core.specs.StandsFor.{Held}
 use Rattle.rb_model.specs.Calls.{kept_of}
 use Rattle.rb_core.specs.Core.{context_of}
-use Rattle.rb_core.specs.Slots.{heard_of}
+use Rattle.rb_connections.specs.Slots.{heard_of}
 use Rattle.rb_core.specs.AtOnce.{AnswersGiving, GivesAtOnce}
 use Rattle.rb_core.proofs.Answering.{can_serve, lists_for_room, lists_for_view, sees}
 use Rattle.rb_core.proofs.Cores.{core_changed}

@@ -11,13 +11,15 @@ use Rattle.rb_proto.specs.declared.context.Context.{Context}
 use Rattle.rb_core.specs.contracts.engine.Core.{the_view}
 use Rattle.rb_model.specs.declared.message.Message.{Message}
 use Rattle.rb_model.specs.Calls.{Outcome, message_with, message_of, reply_in}
-use Rattle.rb_core.specs.Core.{outcome_with}
+use Rattle.rb_connections.specs.Settling.{outcome_with}
 use Rattle.rb_rpc.specs.declared.peer.Caller.TheVariants.{Udp}
-use Rattle.rb_core.specs.StandsFor.{Held, Table}
-use Rattle.rb_core.specs.declared.replies.Served.TheVariants.{Told}
-use Rattle.rb_core.specs.declared.types.Outcome.{Outcome as Written}
-use Rattle.rb_core.specs.declared.types.Outcome.TheVariants as outcomes
-use Rattle.rb_core.specs.Serving.{IsWritten, ServesInRoom}
+use Rattle.rb_core.specs.StandsFor.{Held}
+use Rattle.rb_connections.specs.StandsFor.{Table}
+use Rattle.rb_connections.specs.declared.served.Served.TheVariants.{Told}
+use Rattle.rb_connections.specs.declared.served.Outcome.{Outcome as Written}
+use Rattle.rb_connections.specs.declared.served.Outcome.TheVariants as outcomes
+use Rattle.rb_connections.specs.Settling.{IsWritten}
+use Rattle.rb_core.specs.Serving.{ServesInRoom}
 use Rattle.rb_core.proofs.Answering.{lists_for_room, lists_for_view, served_by}
 use Rattle.rb_core.proofs.Steps.{datagram_acts}
 use Rattle.rb_core.proofs.Begun.{began, acts_begun}

@@ -3,16 +3,18 @@ use Rattle.std.proofs.lemmas.Result.{err_from_is_err_and}
 use Rattle.rb_core.specs.contracts.engine.Core.{the_view}
 use Rattle.rb_xdr.specs.Meter.{PaysAtMost}
 use Rattle.rb_registry.specs.Registry.{slots_of}
-use Rattle.rb_core.specs.CallCosts.{args_heard, look_cost, slot_count, kept_count}
+use Rattle.rb_core.specs.CallCosts.{args_heard, kept_count}
+use Rattle.rb_connections.specs.Costs.{look_cost, slot_count}
 use Rattle.rb_model.specs.Costs.{take_cost, recount_cost, answer_cost}
-use Rattle.rb_core.specs.StandsFor.{Held, StandsFor, StandsForConnections, Table, source_of}
+use Rattle.rb_core.specs.StandsFor.{Held, StandsFor, source_of}
+use Rattle.rb_connections.specs.StandsFor.{StandsForConnections, Table}
 use Rattle.rb_core.proofs.Spending.{answered_cost, looked_first, at_most}
-use Rattle.rb_core.specs.Slots.{Acts, feeding, heard_in, kept_in, arguments_on}
+use Rattle.rb_connections.specs.Slots.{Acts, feeding, heard_in, kept_in, arguments_on}
 use Rattle.rb_model.specs.State.{State}
 use Rattle.rb_model.specs.Connections.{on_live}
 use Rattle.rb_core.proofs.Steps.{bytes_refused, quiet_acts, quiet_gives_none, nothing_heard, with_heard}
 use Rattle.rb_core.proofs.AtOnce.{plainly, counted, none_refused, by_count, exchange_heard, counted_heard, exchange_whole, counted_whole, whole_few}
-use Rattle.rb_core.specs.AtOnce.{whole_cost}
+use Rattle.rb_connections.specs.Giving.{whole_cost}
 use Rattle.rb_core.proofs.Begun.{began, acts_begun, shows_begun}
 use Rattle.rb_core.proofs.CallBounds.{look_within, quiet_within, exchange_within}
 use Rattle.rb_core.proofs.Cores.{core_moved, stays_twice}

@@ -1,5 +1,5 @@
 use Rattle.std.proofs.Common.{arith}
-use Rattle.rb_core.proofs.Holding.{parts_fit}
+use Rattle.rb_core.proofs.Parts.{parts_fit}
 use Rattle.rb_core.proofs.engine.Core.held.Goals as goal
 
 pub overflow_add-result : goal.overflow_add-result

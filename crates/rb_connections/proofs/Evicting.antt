@@ -1,0 +1,276 @@
+-- The connections whose lists began before a change become Lost, by their slots.
+use Rattle.std.proofs.Common.{◌≡◌, ◌≤◌, ◌<◌, ℕ, Bool, true, false, cond, eqb, nat_lt, ◌&&◌, ◌||◌, zero, suc, List, [], ◌∷◌, length, map, min, slice_index_or, Option, Some, None, refl, sym, ap, subst, ◌∙◌, arith, inl, inr}
+use Rattle.std.specs.Prelude.{All, Contains, filter_map}
+use Rattle.std.specs.List.{AllZip, list_any, list_all}
+use Rattle.std.specs.Map.{values_of}
+use Rattle.std.proofs.lemmas.Bool.{lt-ltb, ltb-true, ltb-false, cases_lt}
+use Rattle.std.proofs.lemmas.List.Elements.{All-head, All-tail, All-cons, All-nil, All-contains}
+use Rattle.std.proofs.lemmas.List.Sums.{AllPass-from_list_all, list_all-from_AllPass, sum_by-cons}
+use Rattle.rb_xdr.specs.Kept.{Kept}
+use Rattle.rb_xdr.specs.Pool.{Pool, value_at, HasDistinctKeys}
+use Rattle.rb_connections.specs.declared.slot.Slot.{Slot}
+use Rattle.rb_connections.specs.declared.slot.Buffers.{Buffers}
+use Rattle.rb_connections.specs.declared.slot.Stage.{Stage}
+use Rattle.rb_connections.specs.declared.slot.Stage.TheVariants as stages
+use Rattle.rb_model.specs.State.{Phase, Connection, Connections}
+use Rattle.rb_model.specs.State.Phase.{Lost}
+use Rattle.rb_model.specs.Losses.{began_in, began_before, evicted, evicting}
+use Rattle.rb_connections.specs.StandsFor.{Source, Table, StandsForPhase, StandsForConnection, StandsForConnections, charge, held_in, IsWithin}
+use Rattle.rb_connections.specs.Slots.{IsTable, StaysTable, HasBuffers, AreNumbered, is_numbered, is_idle_stage}
+use Rattle.rb_connections.specs.Awaits.{is_free_slot, is_free, is_idle_slot, has_idle, NoneIsFreed}
+use Rattle.rb_connections.specs.StandsFor.{stamp_in}
+use Rattle.rb_connections.specs.Listings.{began_stage, slot_began, SlotListsOn, IsOldest, earlier, IsEarliest, began_early, evicted_slot, with_evicted}
+use Rattle.rb_connections.proofs.Phases.{by_phase}
+
+-- ---- one slot
+
+pub began_alike : (source : Source) (stage : Stage) (buffer window : Kept) (phase : Phase) → StandsForPhase source stage buffer window phase → began_stage stage ≡ began_in phase
+began_alike source stage buffer window phase h =
+    by_phase source buffer window (λ s p. began_stage s ≡ began_in p) (λ z. refl) (λ reader fed z. refl) (λ giving o z. sym z.began) (λ z. refl) refl stage phase h
+
+-- before the earliest change is before all of them
+before_all : (changes : List ℕ) (earliest n : ℕ) → IsEarliest changes earliest → list_all (λ later. nat_lt n later) changes ≡ nat_lt n earliest
+before_all changes earliest n e = by_test (nat_lt n earliest) refl
+  where
+    by_test : (b : Bool) → nat_lt n earliest ≡ b → list_all (λ later. nat_lt n later) changes ≡ b
+    by_test true t =
+        let early : n < earliest = ltb-true n earliest t in
+        list_all-from_AllPass (λ later. nat_lt n later) changes (λ k d within. let low = e.all k d within in lt-ltb n _ (omega (arith, early, low)))
+    by_test false t = by_all (list_all (λ later. nat_lt n later) changes) refl
+      where
+        by_all : (a : Bool) → list_all (λ later. nat_lt n later) changes ≡ a → a ≡ false
+        by_all false p = refl
+        by_all true p =
+            let passes : nat_lt n earliest ≡ true = All-contains (λ later. nat_lt n later ≡ true) changes earliest (AllPass-from_list_all (λ later. nat_lt n later) changes p) e.one in
+            let clash : true ≡ false = sym passes ∙ t in
+            absurd cc
+
+none_within : (earliest : ℕ) → Contains [] earliest → ⊥
+none_within earliest c = absurd (omega (arith, c.1))
+
+pub before_earliest : (changes : List ℕ) (earliest : ℕ) (began : Option ℕ) → IsEarliest changes earliest → began_before changes began ≡ began_early earliest began
+before_earliest [] earliest began e = absurd (none_within earliest e.one)
+before_earliest (change ∷ changes) earliest None e = refl
+before_earliest (change ∷ changes) earliest (Some n) e = before_all (change ∷ changes) earliest n e
+
+pub evicted_stands : (source : Source) (changes : List ℕ) (earliest : ℕ) (slot : Slot) (c : Connection) → IsEarliest changes earliest → StandsForConnection source slot c
+    → StandsForConnection source (evicted_slot earliest slot) (evicted changes c)
+unfolding evicted
+evicted_stands source changes earliest slot c e h =
+    let same : began_before changes (began_in c.phase) ≡ began_early earliest (slot_began slot) =
+    before_earliest changes earliest (began_in c.phase) e ∙ ap (began_early earliest) (sym (began_alike source slot.stage slot.buffer slot.window c.phase h.phase)) in
+    rw same (by_test (began_early earliest (slot_began slot)))
+  where
+    by_test : (b : Bool) → StandsForConnection source (cond b (record slot { stage = stages.Lost }) slot) (cond b (record c { phase = Lost }) c)
+    by_test true = record { number = h.number; peer = h.peer; since = h.since; phase = tt }
+    by_test false = h
+
+pub marked_is : (earliest : ℕ) (slot gone : Slot) → gone ≡ slot → began_early earliest (slot_began slot) ≡ true → record gone { stage = stages.Lost } ≡ evicted_slot earliest slot
+marked_is earliest slot gone same early = rw (same, early) refl
+
+pub not_marked : (earliest : ℕ) (slot : Slot) → began_early earliest (slot_began slot) ≡ false → evicted_slot earliest slot ≡ slot
+not_marked earliest slot early = rw early refl
+
+-- ---- all of them
+
+abbrev pub all_evicted : ℕ → List (ℕ × Slot) → List (ℕ × Slot)
+all_evicted earliest es = map (λ e. (e.0, evicted_slot earliest e.1)) es
+
+all_stand : (source : Source) (changes : List ℕ) (earliest : ℕ) → IsEarliest changes earliest → (es : List (ℕ × Slot)) (all : List Connection) → AllZip (StandsForConnection source) (values_of es) all
+    → AllZip (StandsForConnection source) (values_of (all_evicted earliest es)) (map (evicted changes) all)
+all_stand source changes earliest e [] [] z = tt
+all_stand source changes earliest e [] (c ∷ all) z = absurd z
+all_stand source changes earliest e (s ∷ es) [] z = absurd z
+all_stand source changes earliest e (s ∷ es) (c ∷ all) z = (evicted_stands source changes earliest s.1 c e z.0, all_stand source changes earliest e es all z.1)
+
+pub table_evicts : (source : Source) (changes : List ℕ) (earliest : ℕ) (table : Table) (c : Connections) → IsEarliest changes earliest → StandsForConnections source table c
+    → StandsForConnections source (record table { slots = all_evicted earliest table.slots }) (evicting changes c)
+table_evicts source changes earliest table c e z = record { all = all_stand source changes earliest e table.slots c.all z.all; next = z.next }
+
+module _ (P : Slot → Type 0) (earliest : ℕ) (keeps : (slot : Slot) → P slot → P (evicted_slot earliest slot)) where
+  pub all_keep : (es : List (ℕ × Slot)) → All P (values_of es) → All P (values_of (all_evicted earliest es))
+  all_keep [] h = All-nil P
+  all_keep (e ∷ es) h = All-cons P _ _ (keeps e.1 (All-head P e.1 (values_of es) h)) (all_keep es (All-tail P e.1 (values_of es) h))
+
+pub lists_evicted : (source : Source) (earliest : ℕ) (slot : Slot) → SlotListsOn source slot → SlotListsOn source (evicted_slot earliest slot)
+lists_evicted source earliest slot told = by_test (began_early earliest (slot_began slot))
+  where
+    by_test : (b : Bool) → SlotListsOn source (cond b (record slot { stage = stages.Lost }) slot)
+    by_test true = tt
+    by_test false = told
+
+buffers_evicted : (tie earliest : ℕ) (slot : Slot) → HasBuffers tie slot → HasBuffers tie (evicted_slot earliest slot)
+buffers_evicted tie earliest slot h = by_test (began_early earliest (slot_began slot))
+  where
+    by_test : (b : Bool) → HasBuffers tie (cond b (record slot { stage = stages.Lost }) slot)
+    by_test true = h
+    by_test false = h
+
+charge_evicted : (earliest : ℕ) (slot : Slot) → charge (evicted_slot earliest slot) ≡ charge slot
+charge_evicted earliest slot = by_test (began_early earliest (slot_began slot))
+  where
+    by_test : (b : Bool) → charge (cond b (record slot { stage = stages.Lost }) slot) ≡ charge slot
+    by_test true = refl
+    by_test false = refl
+
+within_evicted : (earliest : ℕ) (slot : Slot) → IsWithin slot → IsWithin (evicted_slot earliest slot)
+within_evicted earliest slot within = omega (arith, within, charge_evicted earliest slot)
+
+held_evicted : (earliest : ℕ) (es : List (ℕ × Slot)) → held_in (values_of (all_evicted earliest es)) ≡ held_in (values_of es)
+held_evicted earliest [] = refl
+held_evicted earliest (e ∷ es) =
+    let one = sum_by-cons charge (evicted_slot earliest e.1) (values_of (all_evicted earliest es)) in
+    let was = sum_by-cons charge e.1 (values_of es) in
+    omega (arith, one, was, charge_evicted earliest e.1, held_evicted earliest es)
+
+pub stays_evicted : (earliest : ℕ) (view now : Table) → view ≡ now → StaysTable now (record view { slots = all_evicted earliest view.slots })
+stays_evicted earliest view now is =
+    rw (← is) (record { conns = refl; tie = refl; within = λ within. all_keep IsWithin earliest (within_evicted earliest) view.slots within })
+
+number_evicted : (earliest : ℕ) (slot : Slot) → (evicted_slot earliest slot).number ≡ slot.number
+number_evicted earliest slot = by_test (began_early earliest (slot_began slot))
+  where
+    by_test : (b : Bool) → (cond b (record slot { stage = stages.Lost }) slot).number ≡ slot.number
+    by_test true = refl
+    by_test false = refl
+
+any_numbered : (earliest number : ℕ) (es : List (ℕ × Slot)) → list_any (is_numbered number) (values_of (all_evicted earliest es)) ≡ list_any (is_numbered number) (values_of es)
+any_numbered earliest number [] = refl
+any_numbered earliest number (e ∷ es) = rw (number_evicted earliest e.1, any_numbered earliest number es) refl
+
+numbered_evicted : (given earliest : ℕ) (es : List (ℕ × Slot)) → AreNumbered given (values_of es) → AreNumbered given (values_of (all_evicted earliest es))
+numbered_evicted given earliest [] n = tt
+numbered_evicted given earliest (e ∷ es) n =
+    (rw (number_evicted earliest e.1) n.0, rw (number_evicted earliest e.1) (any_numbered earliest e.1.number es ∙ n.1), numbered_evicted given earliest es n.2)
+
+pub length_evicted : (earliest : ℕ) (es : List (ℕ × Slot)) → length (all_evicted earliest es) ≡ length es
+length_evicted earliest [] = refl
+length_evicted earliest (e ∷ es) = ap suc (length_evicted earliest es)
+
+missing : (earliest key : ℕ) (es : List (ℕ × Slot)) → value_at es key ≡ None → value_at (all_evicted earliest es) key ≡ None
+missing earliest key [] h = refl
+missing earliest key (e ∷ es) h = by_key (eqb e.0 key) refl (missing earliest key es)
+  where
+    by_key : (b : Bool) → eqb e.0 key ≡ b → (value_at es key ≡ None → value_at (all_evicted earliest es) key ≡ None) → value_at (all_evicted earliest (e ∷ es)) key ≡ None
+    by_key true t further = let clash : Some e.1 ≡ None = rw t at h in absurd cc
+    by_key false t further = rw t (further (rw t at h))
+
+distinct_evicted : (earliest : ℕ) (es : List (ℕ × Slot)) → HasDistinctKeys es → HasDistinctKeys (all_evicted earliest es)
+distinct_evicted earliest [] d = tt
+distinct_evicted earliest (e ∷ es) d = (missing earliest e.0 es d.0, distinct_evicted earliest es d.1)
+
+pub table_evicted : (slots : Pool Slot) (spare : Pool Buffers) (given conns held earliest : ℕ) → IsTable slots spare given conns held → IsTable (with_evicted earliest slots) spare given conns held
+table_evicted slots spare given conns held earliest t = record {
+  distinct = distinct_evicted earliest slots.entries t.distinct;
+  spare_distinct = t.spare_distinct;
+  room = rw (length_evicted earliest slots.entries) t.room;
+  cap = t.cap;
+  spare_cap = t.spare_cap;
+  tie = t.tie;
+  buffers = all_keep (HasBuffers slots.tie) earliest (buffers_evicted slots.tie earliest) slots.entries t.buffers;
+  spare_buffers = t.spare_buffers;
+  numbers = numbered_evicted given earliest slots.entries t.numbers;
+  few = t.few;
+  within = all_keep IsWithin earliest (within_evicted earliest) slots.entries t.within;
+  is_held = t.is_held ∙ sym (held_evicted earliest slots.entries);
+}
+
+-- those that are left began later
+pub later_evicted : (earliest : ℕ) (slots : List (ℕ × Slot)) → All (λ stamp. earliest ≤ stamp) (filter_map slot_began (values_of (all_evicted earliest slots)))
+later_evicted earliest [] = All-nil (λ stamp. earliest ≤ stamp)
+later_evicted earliest (e ∷ es) = by_began (slot_began e.1) refl (later_evicted earliest es)
+  where
+    by_began : (began : Option ℕ) → slot_began e.1 ≡ began → All (λ stamp. earliest ≤ stamp) (filter_map slot_began (values_of (all_evicted earliest es)))
+        → All (λ stamp. earliest ≤ stamp) (filter_map slot_began (values_of (all_evicted earliest (e ∷ es))))
+    by_began None b later = rw (b, b) later
+    by_began (Some n) b later = by_test (nat_lt n earliest) refl
+      where
+        by_test : (t : Bool) → nat_lt n earliest ≡ t → All (λ stamp. earliest ≤ stamp) (filter_map slot_began (values_of (all_evicted earliest (e ∷ es))))
+        by_test true t = rw (b, t) later
+        by_test false t = rw (b, t, b) (All-cons (λ stamp. earliest ≤ stamp) n _ (ltb-false n earliest t) later)
+
+-- ---- the table as a whole
+
+idle_stays : (earliest id : ℕ) (slot : Slot) → is_idle_slot id slot ≡ true → is_idle_slot id (evicted_slot earliest slot) ≡ true
+idle_stays earliest id slot idle = by_stage slot.stage refl
+  where
+    and_true : (a b : Bool) → (a && b) ≡ true → b ≡ true
+    and_true true b e = e
+    and_true false b e = absurd cc
+
+    by_stage : (stage : Stage) → slot.stage ≡ stage → is_idle_slot id (evicted_slot earliest slot) ≡ true
+    by_stage stages.Idle is = rw is (rw is at idle)
+    by_stage (stages.Reading reader) is = let clash : false ≡ true = rw is at (and_true (eqb slot.number id) (is_idle_stage slot.stage) idle) in absurd cc
+    by_stage (stages.Giving giving) is = let clash : false ≡ true = rw is at (and_true (eqb slot.number id) (is_idle_stage slot.stage) idle) in absurd cc
+    by_stage stages.Awaiting is = let clash : false ≡ true = rw is at (and_true (eqb slot.number id) (is_idle_stage slot.stage) idle) in absurd cc
+    by_stage stages.Lost is = let clash : false ≡ true = rw is at (and_true (eqb slot.number id) (is_idle_stage slot.stage) idle) in absurd cc
+
+any_idle : (earliest id : ℕ) (es : List (ℕ × Slot)) → list_any (is_idle_slot id) (values_of es) ≡ true → list_any (is_idle_slot id) (values_of (all_evicted earliest es)) ≡ true
+any_idle earliest id [] h = h
+any_idle earliest id (e ∷ es) h = by_test (is_idle_slot id e.1) refl (any_idle earliest id es)
+  where
+    by_test : (b : Bool) → is_idle_slot id e.1 ≡ b → (list_any (is_idle_slot id) (values_of es) ≡ true → list_any (is_idle_slot id) (values_of (all_evicted earliest es)) ≡ true)
+        → list_any (is_idle_slot id) (values_of (all_evicted earliest (e ∷ es))) ≡ true
+    by_test true t further = rw (idle_stays earliest id e.1 t) refl
+    by_test false t further = elim (is_idle_slot id (evicted_slot earliest e.1)) as (λ b. (b || list_any (is_idle_slot id) (values_of (all_evicted earliest es))) ≡ true) [ true ↦ refl | false ↦ further (rw t at h) ]
+
+pub idle_evicted : (earliest id : ℕ) (table : Table) → has_idle id table ≡ true → has_idle id (record table { slots = all_evicted earliest table.slots }) ≡ true
+unfolding has_idle
+idle_evicted earliest id table h = any_idle earliest id table.slots h
+
+free_alike : (earliest id : ℕ) (slot : Slot) → is_free_slot id (evicted_slot earliest slot) ≡ is_free_slot id slot
+free_alike earliest id slot = by_stage slot.stage refl
+  where
+    by_stage : (stage : Stage) → slot.stage ≡ stage → is_free_slot id (evicted_slot earliest slot) ≡ is_free_slot id slot
+    by_stage stages.Idle is = rw is refl
+    by_stage (stages.Reading reader) is = rw is refl
+    by_stage (stages.Giving giving) is = by_test (began_early earliest (stamp_in giving.rest)) refl
+      where
+        by_test : (b : Bool) → began_early earliest (stamp_in giving.rest) ≡ b → is_free_slot id (evicted_slot earliest slot) ≡ is_free_slot id slot
+        by_test true t = rw (is, t) refl
+        by_test false t = rw (is, t) refl
+    by_stage stages.Awaiting is = rw is refl
+    by_stage stages.Lost is = rw is refl
+
+any_free : (earliest id : ℕ) (es : List (ℕ × Slot)) → list_any (is_free_slot id) (values_of (all_evicted earliest es)) ≡ list_any (is_free_slot id) (values_of es)
+any_free earliest id [] = refl
+any_free earliest id (e ∷ es) = rw (free_alike earliest id e.1, any_free earliest id es) refl
+
+pub none_freed_by_eviction : (earliest : ℕ) (table : Table) → NoneIsFreed table (record table { slots = all_evicted earliest table.slots })
+unfolding is_free
+none_freed_by_eviction earliest table = λ id none. rw (any_free earliest id table.slots) none
+
+-- ---- the oldest list
+
+abbrev joined : Option ℕ → List ℕ → List ℕ
+joined None ns = ns
+joined (Some n) ns = n ∷ ns
+
+least_of_two : (a b : ℕ) (ns : List ℕ) (oldest : Option ℕ) → IsOldest (min a b ∷ ns) oldest → IsOldest (a ∷ b ∷ ns) oldest
+least_of_two a b ns None h = absurd cc
+least_of_two a b ns (Some k) h =
+    let low : k ≤ min a b = All-head (λ n. k ≤ n) (min a b) ns h.1 in
+    (one h.0.0 h.0.1 h.0.2, All-cons (λ n. k ≤ n) a (b ∷ ns) (omega (arith, low)) (All-cons (λ n. k ≤ n) b ns (omega (arith, low)) (All-tail (λ n. k ≤ n) (min a b) ns h.1)))
+  where
+    one : (i : ℕ) → i < length (min a b ∷ ns) → slice_index_or (min a b ∷ ns) i k ≡ k → Contains (a ∷ b ∷ ns) k
+    one zero lt e = elim (cases_lt b a) [ inl less ↦ (1, omega arith, omega (arith, e, less)) | inr more ↦ (0, omega arith, omega (arith, e, more)) ]
+    one (suc i) lt e = (suc (suc i), omega arith, e)
+
+abbrev pub oldest_from : Option ℕ → List Slot → Option ℕ
+oldest_from oldest [] = oldest
+oldest_from oldest (slot ∷ slots) = oldest_from (earlier oldest (slot_began slot)) slots
+
+oldest_is : (oldest : Option ℕ) (slots : List Slot) → IsOldest (joined oldest (filter_map slot_began slots)) (oldest_from oldest slots)
+oldest_is None [] = refl
+oldest_is (Some n) [] = ((0, omega arith, refl), All-cons (λ m. n ≤ m) n [] (omega arith) (All-nil (λ m. n ≤ m)))
+oldest_is oldest (slot ∷ slots) = by_began oldest (slot_began slot) refl (λ o. oldest_is o slots)
+  where
+    by_began : (oldest : Option ℕ) (began : Option ℕ) → slot_began slot ≡ began → ((o : Option ℕ) → IsOldest (joined o (filter_map slot_began slots)) (oldest_from o slots))
+        → IsOldest (joined oldest (filter_map slot_began (slot ∷ slots))) (oldest_from oldest (slot ∷ slots))
+    by_began None None b further = rw b (further None)
+    by_began None (Some m) b further = rw b (further (Some m))
+    by_began (Some n) None b further = rw b (further (Some n))
+    by_began (Some n) (Some m) b further = rw b (least_of_two n m _ _ (further (Some (min n m))))
+
+pub oldest_found : (slots : List Slot) (oldest : Option ℕ) → oldest ≡ oldest_from None slots → IsOldest (filter_map slot_began slots) oldest
+oldest_found slots oldest is = subst (IsOldest (filter_map slot_began slots)) (sym is) (oldest_is None slots)

@@ -1,0 +1,85 @@
+-- How many bytes are held of connections.
+use Rattle.std.proofs.Common.{◌≡◌, ℕ, ◌+◌, ◌*◌, ◌^◌, ◌≤◌, ◌<◌, eqb, Some, List, [], ◌∷◌, ◌++◌, refl, ap, length, ◌∙◌, arith}
+use Rattle.std.specs.Prelude.{All, unwrap_or, option_map}
+use Rattle.std.specs.Map.{values_of}
+use Rattle.std.proofs.Math.Nat.{mul-le-mul_right}
+use Rattle.std.proofs.lemmas.List.Sums.{sum_by-le, sum_by_push}
+use Rattle.std.proofs.lemmas.List.Elements.{All-push}
+use Rattle.std.proofs.lemmas.Map.Entries.{length-values_of, sum_by-remove_entry}
+use Rattle.rb_xdr.specs.Meter.{Meter, Pays, PaysAtMost}
+use Rattle.rb_xdr.specs.Pool.{Pool, value_at, without, with_value}
+use Rattle.rb_xdr.proofs.PoolLemmas.{All-value_at, All-with_value}
+use Rattle.rb_connections.specs.declared.slot.Slot.{Slot}
+use Rattle.rb_connections.specs.declared.slot.Buffers.{Buffers}
+use Rattle.rb_model.specs.Calls.{longest_reply}
+use Rattle.rb_model.specs.Connections.{longest_fragment}
+use Rattle.rb_model.specs.Calls.{longest_arguments}
+use Rattle.rb_connections.specs.StandsFor.{buffer_size, Table, charge, held_in, most_charge, IsWithin}
+use Rattle.rb_connections.specs.Slots.{StaysTable, IsTable, HasBuffers}
+
+module _ (slots : Pool Slot) (spare : Pool Buffers) (given conns held : ℕ) (t : IsTable slots spare given conns held) where
+  turned : (a b : ℕ) → b * a ≡ a * b
+  turned a b = omega arith
+
+  pub held_within : held ≤ most_charge * conns
+  held_within =
+      let sum = sum_by-le charge most_charge (values_of slots.entries) t.within in
+      let few : held ≤ length slots.entries * most_charge = rw (t.is_held, ← length-values_of slots.entries) sum in
+      let le : length slots.entries ≤ conns = omega (arith, t.room) in
+      let more = mul-le-mul_right most_charge le in
+      omega (arith, few, more, turned most_charge conns)
+
+  pub held_few : held ≤ 256 * most_charge
+  held_few =
+      let within = held_within in
+      let more = mul-le-mul_right most_charge t.few in
+      omega (arith, within, more, turned most_charge conns)
+
+  pub room_for_one : held + 128 < 2 ^ 64
+  unfolding longest_reply longest_arguments buffer_size longest_fragment
+  room_for_one = let few = held_few in omega (arith, few)
+
+  module _ (k : ℕ) (slot : Slot) (found : value_at slots.entries k ≡ Some slot) where
+    pub held_without : held_in (values_of (without slots.entries k)) + charge slot ≡ held
+    held_without =
+        let sum = sum_by-remove_entry charge (λ n. eqb n k) slots.entries in
+        let its = ap (λ m. unwrap_or (option_map charge m) 0) found in
+        omega (arith, sum, its, t.is_held)
+
+    pub charge_fits : charge slot ≤ held
+    charge_fits = let sum = held_without in omega (arith, sum)
+
+    -- it has buffers that this meter counts
+    pub its_buffers : (meter : Meter) → meter.tie ≡ slots.tie → HasBuffers meter.tie slot
+    its_buffers meter tie = rw tie (All-value_at (HasBuffers slots.tie) slots.entries k slot t.buffers found)
+
+-- a slot whose buffers are empty, behind the others
+module _ (slots : List Slot) (slot : Slot) (buffer : slot.buffer.bytes ≡ []) (window : slot.window.bytes ≡ []) where
+  empty_charge : charge slot ≡ 128
+  empty_charge = rw (buffer, window) refl
+
+  pub within_pushed : All IsWithin slots → All IsWithin (slots ++ slot ∷ [])
+  within_pushed within = All-push IsWithin slots slot within (let few = empty_charge in omega (arith, few))
+
+  pub held_pushed : (held : ℕ) → held ≡ held_in slots → held + 128 ≡ held_in (slots ++ slot ∷ [])
+  held_pushed held is = let few = empty_charge in omega (arith, few, sum_by_push charge slots slot, is)
+
+-- the table with a slot changed
+pub stays_changed : (view now : Table) (k : ℕ) (new : Slot) → view ≡ now → IsWithin new → StaysTable now (record view { slots = with_value view.slots k new })
+stays_changed view now k new is fits = rw (← is) (record { conns = refl; tie = refl; within = λ within. All-with_value IsWithin view.slots k new within fits })
+
+-- a slot is looked up and counted, an act on it is paid for, and it is counted again
+pub recounted_cost : (m0 m1 m2 m3 m4 m5 : Meter) (look act : ℕ) → PaysAtMost m0 m1 look → Pays m1 m2 1 → Pays m2 m3 2 → PaysAtMost m3 m4 act → Pays m4 m5 2
+    → (most : ℕ) → look + act + 5 ≤ most → PaysAtMost m0 m5 most
+recounted_cost m0 m1 m2 m3 m4 m5 look act looks gets counts acts recounts most enough =
+    let gets = ap (λ (m : Meter). m.steps) gets in
+    let counts = ap (λ (m : Meter). m.steps) counts in
+    let recounts = ap (λ (m : Meter). m.steps) recounts in
+    record {
+      rises = omega (arith, looks.rises, gets, counts, acts.rises, recounts);
+      steps = omega (arith, looks.steps, gets, counts, acts.steps, recounts, enough);
+      tie = ties;
+    }
+  where
+    ties : m5.tie ≡ m0.tie
+    ties = ap (λ (m : Meter). m.tie) recounts ∙ acts.tie ∙ ap (λ (m : Meter). m.tie) counts ∙ ap (λ (m : Meter). m.tie) gets ∙ looks.tie

@@ -1,0 +1,17 @@
+pub mod ReplyHeads
+pub mod KeptArguments
+pub mod Feeding
+pub mod Phases
+pub mod Fragments
+pub mod Progress
+pub mod DueSlots
+pub mod Slots
+pub mod Expiring
+pub mod Listings
+pub mod Evicting
+pub mod Freed
+pub mod ByHint
+pub mod OneSlot
+pub mod Holding
+pub mod GoingOn
+pub mod Settled

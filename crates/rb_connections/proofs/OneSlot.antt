@@ -1,0 +1,185 @@
+-- One connection's slot beside the connection that it stands for.
+use Rattle.std.proofs.Common.{◌≡◌, ℕ, ◌+◌, ◌-◌, ◌<◌, ◌≤◌, false, eqb, List, [], ◌∷◌, ◌++◌, length, Option, Some, None, refl, sym, ap, subst, ◌∙◌, arith}
+use Rattle.std.specs.Prelude.{min, take}
+use Rattle.std.proofs.lemmas.Bool.{lt-ltb, le-ltb}
+use Rattle.std.proofs.lemmas.Bool.Decides.{nat_tests}
+use Rattle.rb_xdr.specs.Kept.{Kept}
+use Rattle.rb_rpc.specs.declared.peer.Peer.{Peer}
+use Rattle.rb_rpc.specs.Records.{first_record, data_of, BeginsWithRecord}
+use Rattle.rb_rpc.specs.Verdict.{verdict}
+use Rattle.rb_rpc.specs.declared.call.Verdict.{Verdict}
+use Rattle.rb_connections.specs.declared.slot.Slot.{Slot}
+use Rattle.rb_connections.specs.declared.slot.Stage.{Stage}
+use Rattle.rb_connections.specs.declared.slot.Stage.TheVariants as stages
+use Rattle.rb_connections.specs.declared.slot.Received.{Received}
+use Rattle.rb_model.specs.State.{Owed, Phase, Connection}
+use Rattle.rb_model.specs.State.Phase.{Idle, Reading, Owing, Awaiting, Lost}
+use Rattle.rb_model.specs.Connections.{Taking, taking, taking_on, taking_up_to, since_when_fed, fed_in, pending_in, phase_when_given, when_given, giving, pending_of}
+use Rattle.rb_model.specs.Connections.Taking.{TakesNone, Ends}
+use Rattle.rb_connections.specs.StandsFor.{IsGiving, IsReading, Source, StandsForPhase, StandsForConnection}
+use Rattle.rb_connections.specs.Reading.{Fed, Reader, fed_until}
+use Rattle.rb_connections.specs.declared.giving.Giving.{Giving}
+use Rattle.rb_connections.specs.Slots.{Acts, received, fed_with, feeding, arguments_after, arguments_heard}
+use Rattle.rb_connections.proofs.Phases.{by_phase}
+
+-- ---- the phase by the stage
+
+pub idle_phase : (source : Source) (stage : Stage) (buffer window : Kept) (phase : Phase) → stage ≡ stages.Idle → StandsForPhase source stage buffer window phase
+    → (phase ≡ Idle) × (buffer.bytes ≡ []) × (window.bytes ≡ [])
+idle_phase source stage buffer window phase is h =
+    by_phase source buffer window (λ s p. s ≡ stages.Idle → (p ≡ Idle) × (buffer.bytes ≡ []) × (window.bytes ≡ []))
+    (λ z e. (refl, z.0, z.1)) (λ reader fed z e. absurd cc) (λ g o z e. absurd cc) (λ z e. absurd cc) (λ e. absurd cc) stage phase h is
+
+pub reading_phase : (source : Source) (reader : Reader) (stage : Stage) (buffer window : Kept) (phase : Phase) → stage ≡ stages.Reading reader → StandsForPhase source stage buffer window phase
+    → (fed : List ℕ) × (phase ≡ Reading fed) × IsReading reader buffer fed × (window.bytes ≡ [])
+reading_phase source reader stage buffer window phase is h =
+    by_phase source buffer window (λ s p. s ≡ stages.Reading reader → (fed : List ℕ) × (p ≡ Reading fed) × IsReading reader buffer fed × (window.bytes ≡ []))
+    (λ z e. absurd cc) (λ r fed z e. let same : r ≡ reader = cc in (fed, refl, subst (λ (x : Reader). IsReading x buffer fed) same z.0, z.1))
+    (λ g o z e. absurd cc) (λ z e. absurd cc) (λ e. absurd cc) stage phase h is
+
+pub giving_phase : (source : Source) (giving : Giving) (stage : Stage) (buffer window : Kept) (phase : Phase) → stage ≡ stages.Giving giving → StandsForPhase source stage buffer window phase
+    → (o : Owed) × (phase ≡ Owing o) × IsGiving source giving buffer.bytes window o
+giving_phase source giving stage buffer window phase is h =
+    by_phase source buffer window (λ s p. s ≡ stages.Giving giving → (o : Owed) × (p ≡ Owing o) × IsGiving source giving buffer.bytes window o)
+    (λ z e. absurd cc) (λ reader fed z e. absurd cc)
+    (λ g o z e. let same : g ≡ giving = cc in (o, refl, subst (λ (x : Giving). IsGiving source x buffer.bytes window o) same z)) (λ z e. absurd cc) (λ e. absurd cc) stage phase h is
+
+pub lost_phase : (source : Source) (stage : Stage) (buffer window : Kept) (phase : Phase) → stage ≡ stages.Lost → StandsForPhase source stage buffer window phase → phase ≡ Lost
+lost_phase source stage buffer window phase is h =
+    by_phase source buffer window (λ s p. s ≡ stages.Lost → p ≡ Lost) (λ z e. absurd cc) (λ reader fed z e. absurd cc) (λ g o z e. absurd cc) (λ z e. absurd cc) (λ e. refl) stage phase h is
+
+pub awaiting_phase : (source : Source) (stage : Stage) (buffer window : Kept) (phase : Phase) → stage ≡ stages.Awaiting → StandsForPhase source stage buffer window phase → phase ≡ Awaiting
+awaiting_phase source stage buffer window phase is h =
+    by_phase source buffer window (λ s p. s ≡ stages.Awaiting → p ≡ Awaiting) (λ z e. absurd cc) (λ reader fed z e. absurd cc) (λ g o z e. absurd cc) (λ z e. refl) (λ e. absurd cc) stage phase h is
+
+-- ---- a piece that is taken
+
+-- What a piece comes to on the connections that a slot stands for.
+pub record Took (source : Source) (old new : Slot) (clock : ℕ) (piece : List ℕ) (result : Received) (c : Connection) : Type 0 where
+  pub taken : Taking
+  pub is : taking c.phase piece ≡ taken
+  pub gives : result ≡ received piece c taken
+  pub stands : StandsForConnection source new (fed_with clock c taken)
+
+pub feeding_acts : (source : Source) (old new : Slot) (clock : ℕ) (piece : List ℕ) (result : Received)
+    → ((c : Connection) → StandsForConnection source old c → Took source old new clock piece result c) → Acts (StandsForConnection source) (feeding clock piece) old new result
+unfolding feeding
+feeding_acts source old new clock piece result took = record {
+  gives = λ c h. let t = took c h in t.gives ∙ ap (received piece c) (sym t.is);
+  stands = λ c h. let t = took c h in subst (λ (x : Taking). StandsForConnection source new (fed_with clock c x)) (sym t.is) t.stands;
+}
+
+-- with what is held of arguments after it
+pub taken_arguments : (before after piece : List ℕ) (c : Connection) (t : Taking) → taking c.phase piece ≡ t → after ≡ arguments_after before t → after ≡ arguments_heard before piece c
+taken_arguments before after piece c t is kept = kept ∙ ap (arguments_after before) (sym is)
+
+-- nothing is taken of nothing
+pub nothing_of_nothing : (phase : Phase) → taking phase [] ≡ TakesNone
+unfolding taking
+nothing_of_nothing Idle = refl
+nothing_of_nothing (Reading fed) = refl
+nothing_of_nothing (Owing o) = refl
+nothing_of_nothing Awaiting = refl
+nothing_of_nothing Lost = refl
+
+pub nothing_where_owing : (phase : Phase) (o : Owed) (piece : List ℕ) → phase ≡ Owing o → taking phase piece ≡ TakesNone
+unfolding taking
+nothing_where_owing phase o piece is = rw is refl
+
+pub nothing_where_awaiting : (phase : Phase) (piece : List ℕ) → phase ≡ Awaiting → taking phase piece ≡ TakesNone
+unfolding taking
+nothing_where_awaiting phase piece is = rw is refl
+
+pub nothing_where_lost : (phase : Phase) (piece : List ℕ) → phase ≡ Lost → taking phase piece ≡ TakesNone
+unfolding taking
+nothing_where_lost phase piece is = rw is refl
+
+pub some_where_fed : (phase : Phase) (fed piece : List ℕ) → fed_in phase ≡ Some fed → (piece ≡ [] → ⊥) → taking phase piece ≡ taking_on fed piece
+unfolding taking
+some_where_fed phase fed [] is some = absurd (some refl)
+some_where_fed phase fed (byte ∷ piece) is some = rw is refl
+
+-- a record that is one fragment is taken whole
+pub taken_whole : (content piece : List ℕ) → BeginsWithRecord content piece → taking_on [] piece ≡ Ends (4 + length content) content
+taken_whole content piece begins =
+    let count : 4 + length content - 0 ≡ 4 + length content = omega arith in
+    ap (λ (r : Option ℕ). taking_up_to [] piece r) begins.ends
+    ∙ ap (λ (n : ℕ). Ends n (data_of (take (4 + length content) piece))) count
+    ∙ ap (λ (xs : List ℕ). Ends (4 + length content) xs) begins.content_is
+
+-- ---- how a record ends in a piece
+
+pub not_ended : (fed piece : List ℕ) (m : Option ℕ) (r : Fed) → r ≡ fed_until fed piece m → r.verdict ≡ None → m ≡ None
+not_ended fed piece None r is ended = refl
+not_ended fed piece (Some n) r is ended = let clash : None ≡ Some (verdict (data_of (take n (fed ++ piece)))) = sym ended ∙ ap (λ (f : Fed). f.verdict) is in absurd cc
+
+-- with this verdict on its data
+pub record EndsAt (fed piece : List ℕ) (m : Option ℕ) (said : Verdict) : Type 0 where
+  pub at : ℕ
+  pub is : m ≡ Some at
+  pub says : said ≡ verdict (data_of (take at (fed ++ piece)))
+
+same_verdict : (a b : Verdict) → Some a ≡ Some b → a ≡ b
+same_verdict a b e = cc
+
+pub has_ended : (fed piece : List ℕ) (m : Option ℕ) (r : Fed) (said : Verdict) → r ≡ fed_until fed piece m → r.verdict ≡ Some said → EndsAt fed piece m said
+has_ended fed piece None r said is ended = let clash : Some said ≡ None = sym ended ∙ ap (λ (f : Fed). f.verdict) is in absurd cc
+has_ended fed piece (Some n) r said is ended = record { at = n; is = refl; says = same_verdict said _ (sym ended ∙ ap (λ (f : Fed). f.verdict) is) }
+
+pub counts_all : (fed piece : List ℕ) (m : Option ℕ) (r : Fed) → r ≡ fed_until fed piece m → m ≡ None → r.count ≡ length piece
+counts_all fed piece m r is none = ap (λ (f : Fed). f.count) (is ∙ ap (fed_until fed piece) none)
+
+pub counts_to : (fed piece : List ℕ) (n : ℕ) (m : Option ℕ) (r : Fed) → r ≡ fed_until fed piece m → m ≡ Some n → r.count ≡ n - length fed
+counts_to fed piece n m r is some = ap (λ (f : Fed). f.count) (is ∙ ap (fed_until fed piece) some)
+
+pub heard_then : (fed piece : List ℕ) (c : Connection) (count n : ℕ) (peer : Peer) (said : Verdict) → first_record (fed ++ piece) ≡ Some n → count ≡ n - length fed → peer ≡ c.peer
+    → said ≡ verdict (data_of (take n (fed ++ piece))) → record { count = count; heard = Some (record { peer = peer; verdict = said }) } ≡ received piece c (taking_on fed piece)
+heard_then fed piece c count n peer said is counts from says = rw (is, counts, from, says) refl
+
+pub since_of_idle : (clock since : ℕ) (phase : Phase) → phase ≡ Idle → since_when_fed clock since phase ≡ clock
+since_of_idle clock since phase is = rw is refl
+
+pub since_of_reading : (clock since : ℕ) (phase : Phase) (fed : List ℕ) → phase ≡ Reading fed → since_when_fed clock since phase ≡ since
+since_of_reading clock since phase fed is = rw is refl
+
+-- ---- bytes that are given
+
+-- No byte is given.
+pub none_given : (source : Source) (old : Slot) (clock n : ℕ) → ((c : Connection) → StandsForConnection source old c → min n (length (pending_in c.phase)) ≡ 0) → Acts (StandsForConnection source) (giving clock n) old old tt
+unfolding giving when_given
+none_given source old clock n none = record {
+  gives = λ c h. refl;
+  stands = λ c h. rw (none c h) h;
+}
+
+-- nothing is pending but where a reply is owed
+pub nothing_pending : (source : Source) (stage : Stage) (buffer window : Kept) (phase : Phase) → ((x : Giving) → stage ≡ stages.Giving x → ⊥) → StandsForPhase source stage buffer window phase → pending_in phase ≡ []
+nothing_pending source stage buffer window phase other h =
+    by_phase source buffer window (λ s p. ((x : Giving) → s ≡ stages.Giving x → ⊥) → pending_in p ≡ [])
+    (λ z not. refl) (λ reader fed z not. refl) (λ g o z not. absurd (not g refl)) (λ z not. refl) (λ not. refl) stage phase h other
+
+pub goes_on_giving : (source : Source) (giving : Giving) (buffer window : Kept) (more : ℕ) (o : Owed) → IsGiving source giving buffer.bytes window (record o { given = o.given + more })
+    → StandsForPhase source (stages.Giving giving) buffer window (phase_when_given more (Owing o))
+goes_on_giving source giving buffer window more o g = rw (lt-ltb (o.given + more) (length o.marked) g.shows.owes) g
+
+pub is_given : (source : Source) (buffer window : Kept) (more : ℕ) (o : Owed) → length o.marked ≤ o.given + more → buffer.bytes ≡ [] → window.bytes ≡ []
+    → StandsForPhase source stages.Idle buffer window (phase_when_given more (Owing o))
+is_given source buffer window more o all b w = rw (le-ltb (o.given + more) (length o.marked) all) (b, w)
+
+module _ (source : Source) (old new : Slot) (clock n more : ℕ) (giving_is : Giving)
+    (stage : old.stage ≡ stages.Giving giving_is)
+    (counted : (o : Owed) → IsGiving source giving_is old.buffer.bytes old.window o → more ≡ min n (length (pending_of o)))
+    (some : 0 < more)
+    (number : new.number ≡ old.number) (peer : new.peer ≡ old.peer) (since : new.since ≡ clock)
+    (goes_on : (o : Owed) → IsGiving source giving_is old.buffer.bytes old.window o → StandsForPhase source new.stage new.buffer new.window (phase_when_given more (Owing o))) where
+  pub some_given : Acts (StandsForConnection source) (giving clock n) old new tt
+  unfolding giving when_given
+  some_given = record {
+    gives = λ c h. refl;
+    stands = λ c h.
+        let w = giving_phase source giving_is old.stage old.buffer old.window c.phase stage h.phase in
+        let m : more ≡ min n (length (pending_in c.phase)) = rw w.1 (counted w.0 w.2) in
+        let test : eqb more 0 ≡ false = grind (arith, nat_tests) in
+        let phase = goes_on w.0 w.2 in
+        rw (← m) (rw test (record { number = number ∙ h.number; peer = peer ∙ h.peer; since = since; phase = rw w.1 phase }));
+  }

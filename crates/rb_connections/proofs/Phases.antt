@@ -1,0 +1,44 @@
+-- The stage of a slot beside the phase that it stands for.
+use Rattle.rb_xdr.specs.Kept.{Kept}
+use Rattle.rb_connections.specs.Reading.{Reader}
+use Rattle.std.proofs.Common.{ℕ, List}
+use Rattle.rb_connections.specs.declared.giving.Giving.{Giving}
+use Rattle.rb_connections.specs.declared.slot.Stage.{Stage}
+use Rattle.rb_connections.specs.declared.slot.Stage.TheVariants as stages
+use Rattle.rb_model.specs.State.{Owed, Phase}
+use Rattle.rb_model.specs.State.Phase.{Idle, Reading, Owing, Awaiting, Lost}
+use Rattle.rb_connections.specs.StandsFor.{Source, StandsForPhase, IsGiving}
+
+-- What holds where both are alike holds of each stage and the phase that it stands for.
+module _ (source : Source) (buffer window : Kept) (P : Stage → Phase → Type 0)
+    (idle : StandsForPhase source stages.Idle buffer window Idle → P stages.Idle Idle)
+    (reading : (reader : Reader) (fed : List ℕ) → StandsForPhase source (stages.Reading reader) buffer window (Reading fed) → P (stages.Reading reader) (Reading fed))
+    (giving : (g : Giving) (o : Owed) → IsGiving source g buffer.bytes window o → P (stages.Giving g) (Owing o))
+    (awaiting : StandsForPhase source stages.Awaiting buffer window Awaiting → P stages.Awaiting Awaiting)
+    (lost : P stages.Lost Lost) where
+  pub by_phase : (stage : Stage) (phase : Phase) → StandsForPhase source stage buffer window phase → P stage phase
+  by_phase stages.Idle Idle h = idle h
+  by_phase stages.Idle (Reading fed) h = absurd h
+  by_phase stages.Idle (Owing o) h = absurd h
+  by_phase stages.Idle Awaiting h = absurd h
+  by_phase stages.Idle Lost h = absurd h
+  by_phase (stages.Reading reader) Idle h = absurd h
+  by_phase (stages.Reading reader) (Reading fed) h = reading reader fed h
+  by_phase (stages.Reading reader) (Owing o) h = absurd h
+  by_phase (stages.Reading reader) Awaiting h = absurd h
+  by_phase (stages.Reading reader) Lost h = absurd h
+  by_phase (stages.Giving g) Idle h = absurd h
+  by_phase (stages.Giving g) (Reading fed) h = absurd h
+  by_phase (stages.Giving g) (Owing o) h = giving g o h
+  by_phase (stages.Giving g) Awaiting h = absurd h
+  by_phase (stages.Giving g) Lost h = absurd h
+  by_phase stages.Awaiting Idle h = absurd h
+  by_phase stages.Awaiting (Reading fed) h = absurd h
+  by_phase stages.Awaiting (Owing o) h = absurd h
+  by_phase stages.Awaiting Awaiting h = awaiting h
+  by_phase stages.Awaiting Lost h = absurd h
+  by_phase stages.Lost Idle h = absurd h
+  by_phase stages.Lost (Reading fed) h = absurd h
+  by_phase stages.Lost (Owing o) h = absurd h
+  by_phase stages.Lost Awaiting h = absurd h
+  by_phase stages.Lost Lost h = lost

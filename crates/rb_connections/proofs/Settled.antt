@@ -1,0 +1,171 @@
+-- Connections that are Idle since a moment, and records that come whole on them.
+use Rattle.std.proofs.Common.{◌≡◌, ℕ, ◌+◌, Bool, true, false, not, ◌&&◌, ◌||◌, eqb, List, [], ◌∷◌, length, Some, None, refl, sym, ap, subst, ◌∙◌}
+use Rattle.std.specs.Prelude.{All, option_map, Ok}
+use Rattle.std.specs.List.{AllZip, list_any}
+use Rattle.std.specs.Map.{values_of}
+use Rattle.std.proofs.lemmas.Bool.{and_parts, eqb-true, eq-eqb}
+use Rattle.rb_xdr.specs.Pool.{Pool, value_at, with_value, HasDistinctKeys}
+use Rattle.rb_xdr.proofs.PoolLemmas.{All-value_at, with_value-same}
+use Rattle.rb_rpc.specs.Records.{BeginsWithRecord, first_record}
+use Rattle.rb_connections.specs.declared.slot.Slot.{Slot}
+use Rattle.rb_connections.specs.declared.slot.Buffers.{Buffers}
+use Rattle.rb_connections.specs.declared.slot.Stage.{Stage}
+use Rattle.rb_connections.specs.declared.slot.Stage.TheVariants as stages
+use Rattle.rb_connections.specs.declared.slot.Wanted.TheVariants as wanted
+use Rattle.rb_model.specs.State.{Phase, Connection, Connections}
+use Rattle.rb_model.specs.State.Phase.{Idle}
+use Rattle.rb_model.specs.Calls.Outcome.{Silent}
+use Rattle.rb_model.specs.Connections.{taking, fed_in, is_lost, is_live, settled, change_first, changed_at, on_live}
+use Rattle.rb_model.specs.Connections.Taking.{Ends}
+use Rattle.rb_connections.specs.StandsFor.{IsWithin, Source, Table, StandsForConnection, StandsForConnections}
+use Rattle.rb_model.specs.Calls.{kept_of}
+use Rattle.rb_connections.specs.Slots.{Acts, Shows, AreNumbered, HasBuffers, IsTable, feeding, arguments_heard, arguments_on, heard_whole, is_idle_stage, is_wanted_slot, wanted_slot}
+use Rattle.rb_connections.specs.Awaits.{GoOn, is_awaiting_stage, is_unsettled_slot, IsSettled, HeardFrom}
+use Rattle.rb_connections.specs.StandsFor.{stamp_in}
+use Rattle.rb_connections.specs.Listings.{SlotListsOn, began_early, evicted_slot}
+use Rattle.rb_connections.proofs.Evicting.{all_evicted}
+use Rattle.rb_connections.proofs.Freed.{heard_on}
+use Rattle.rb_connections.proofs.ByHint.{distinct_numbers, first_by_hint}
+use Rattle.rb_connections.proofs.Slots.{live_acts, live_arguments, table_changed}
+use Rattle.rb_connections.proofs.GoingOn.{goes_on_changed}
+use Rattle.rb_connections.proofs.OneSlot.{idle_phase, feeding_acts, some_where_fed, taken_whole, taken_arguments}
+
+either-false : (a b : Bool) → (a || b) ≡ false → (a ≡ false) × (b ≡ false)
+either-false true b e = absurd cc
+either-false false b e = (refl, e)
+
+-- ---- those whose lists are in the way of a row are others
+
+unsettled_alike : (earliest id clock : ℕ) (slot : Slot) → is_unsettled_slot id clock slot ≡ false → is_unsettled_slot id clock (evicted_slot earliest slot) ≡ false
+unsettled_alike earliest id clock slot none = by_stage slot.stage refl
+  where
+    by_stage : (stage : Stage) → slot.stage ≡ stage → is_unsettled_slot id clock (evicted_slot earliest slot) ≡ false
+    by_stage stages.Idle is = rw is (rw is at none)
+    by_stage (stages.Reading reader) is = rw is (rw is at none)
+    by_stage (stages.Giving giving) is = by_test (began_early earliest (stamp_in giving.rest)) refl
+      where
+        by_test : (b : Bool) → began_early earliest (stamp_in giving.rest) ≡ b → is_unsettled_slot id clock (evicted_slot earliest slot) ≡ false
+        by_test true t = rw (is, t) (rw is at none)
+        by_test false t = rw (is, t) (rw is at none)
+    by_stage stages.Awaiting is = rw is (rw is at none)
+    by_stage stages.Lost is = rw is (rw is at none)
+
+none_unsettled : (earliest id clock : ℕ) (es : List (ℕ × Slot)) → list_any (is_unsettled_slot id clock) (values_of es) ≡ false → list_any (is_unsettled_slot id clock) (values_of (all_evicted earliest es)) ≡ false
+none_unsettled earliest id clock [] h = h
+none_unsettled earliest id clock (e ∷ es) h =
+    let p = either-false (is_unsettled_slot id clock e.1) (list_any (is_unsettled_slot id clock) (values_of es)) h in
+    rw (unsettled_alike earliest id clock e.1 p.0) (none_unsettled earliest id clock es p.1)
+
+pub settled_evicted : (earliest id clock : ℕ) (table : Table) → IsSettled id clock table → IsSettled id clock (record table { slots = all_evicted earliest table.slots })
+settled_evicted earliest id clock table h = none_unsettled earliest id clock table.slots h
+
+-- ---- nothing is left to do for one that is so
+
+stage_is_idle : (stage : Stage) → is_idle_stage stage ≡ true → stage ≡ stages.Idle
+stage_is_idle stages.Idle e = refl
+stage_is_idle (stages.Reading reader) e = absurd cc
+stage_is_idle (stages.Giving giving) e = absurd cc
+stage_is_idle stages.Awaiting e = absurd cc
+stage_is_idle stages.Lost e = absurd cc
+
+both-true : (a b : Bool) → not (a && b) ≡ false → (a ≡ true) × (b ≡ true)
+both-true true true e = (refl, refl)
+both-true true false e = absurd cc
+both-true false b e = absurd cc
+
+settled_is_same : (source : Source) (id clock : ℕ) (slot : Slot) (c : Connection) → StandsForConnection source slot c → is_unsettled_slot id clock slot ≡ false → is_live id c ≡ true → settled clock Silent c ≡ c
+unfolding is_live settled
+settled_is_same source id clock slot c h none live =
+    let number : eqb slot.number id ≡ true = ap (λ (n : ℕ). eqb n id) h.number ∙ (and_parts (eqb c.number id) (not (is_lost c.phase)) live).0 in
+    let idle = both-true (is_idle_stage slot.stage) (eqb slot.since clock) (rw number at none) in
+    let phase : c.phase ≡ Idle = (idle_phase source slot.stage slot.buffer slot.window c.phase (stage_is_idle slot.stage idle.0) h.phase).0 in
+    let since : c.since ≡ clock = sym h.since ∙ eqb-true slot.since clock idle.1 in
+    ap (λ (p : Phase). record c { phase = p; since = clock }) (sym phase) ∙ ap (λ (m : ℕ). record c { since = m }) (sym since)
+
+settled_among : (source : Source) (id clock : ℕ) (slots : List Slot) (all : List Connection) → AllZip (StandsForConnection source) slots all → list_any (is_unsettled_slot id clock) slots ≡ false
+    → change_first (is_live id) (settled clock Silent) all ≡ all
+settled_among source id clock [] [] zip none = refl
+settled_among source id clock [] (c ∷ all) zip none = absurd zip
+settled_among source id clock (slot ∷ slots) [] zip none = refl
+settled_among source id clock (slot ∷ slots) (c ∷ all) zip none =
+    let p = either-false (is_unsettled_slot id clock slot) (list_any (is_unsettled_slot id clock) slots) none in
+    by_live (is_live id c) refl p.0 (settled_among source id clock slots all zip.1 p.1)
+  where
+    by_live : (b : Bool) → is_live id c ≡ b → is_unsettled_slot id clock slot ≡ false → change_first (is_live id) (settled clock Silent) all ≡ all → change_first (is_live id) (settled clock Silent) (c ∷ all) ≡ c ∷ all
+    by_live true t one further = rw t (ap (λ (x : Connection). x ∷ all) (settled_is_same source id clock slot c zip.0 one t))
+    by_live false t one further = rw t (ap (λ (xs : List Connection). c ∷ xs) further)
+
+pub settled_stays : (source : Source) (id clock : ℕ) (table : Table) (c : Connections) → IsSettled id clock table → StandsForConnections source table c → changed_at id (settled clock Silent) c ≡ c
+settled_stays source id clock table c none h = ap (λ (xs : List Connection). record c { all = xs }) (settled_among source id clock (values_of table.slots) c.all h.all none)
+
+-- ---- a record comes whole
+
+module _ (source : Source) (slot : Slot) (piece content : List ℕ) (idle : slot.stage ≡ stages.Idle) (begins : BeginsWithRecord content piece) where
+  some_piece : piece ≡ [] → ⊥
+  unfolding first_record
+  some_piece none = let clash : None ≡ Some (4 + length content) = rw none at begins.ends in absurd cc
+
+  takes_whole : (c : Connection) → StandsForConnection source slot c → taking c.phase piece ≡ Ends (4 + length content) content
+  takes_whole c h =
+      let p = idle_phase source slot.stage slot.buffer slot.window c.phase idle h.phase in
+      some_where_fed c.phase [] piece (ap fed_in p.0) some_piece ∙ taken_whole content piece begins
+
+  pub hears_whole : (clock : ℕ) → Acts (StandsForConnection source) (feeding clock piece) slot (record slot { since = clock }) (heard_whole slot.peer content)
+  hears_whole clock = feeding_acts source slot (record slot { since = clock }) clock piece (heard_whole slot.peer content) (λ c h.
+      let p = idle_phase source slot.stage slot.buffer slot.window c.phase idle h.phase in
+      record {
+        taken = Ends (4 + length content) content;
+        is = takes_whole c h;
+        gives = ap (λ peer. heard_whole peer content) h.peer;
+        stands = record { number = h.number; peer = h.peer; since = refl; phase = rw idle (p.1, p.2) };
+      })
+
+  pub keeps_whole : (before : List ℕ) → Shows (StandsForConnection source) (arguments_heard before piece) slot (kept_of content)
+  keeps_whole before c h = taken_arguments before (kept_of content) piece c (Ends (4 + length content) content) (takes_whole c h) refl
+
+-- Of a slot `since` is another after it, and nothing else.
+module _ (k : ℕ) (table : Table) (old new : Slot) (there : value_at table.slots k ≡ Some old) (kept : new ≡ record old { since = new.since }) where
+  pub since_within : All IsWithin (values_of table.slots) → IsWithin new
+  since_within within = subst IsWithin (sym kept) (All-value_at IsWithin table.slots k old within there)
+
+  pub since_goes_on : (now : Table) → table ≡ now → All IsWithin (values_of table.slots) → GoOn now (record table { slots = with_value table.slots k new })
+  since_goes_on now is within =
+      goes_on_changed table now is k old new there (λ source told. subst (λ (s : Slot). SlotListsOn source s) (sym kept) told)
+      (ap (λ (s : Slot). s.number) kept) (ap (λ (s : Slot). is_awaiting_stage s.stage) kept) (since_within within)
+
+  pub since_stays : new ≡ old → record table { slots = with_value table.slots k new } ≡ table
+  since_stays is = rw is (ap (λ (es : List (ℕ × Slot)). record table { slots = es }) (with_value-same table.slots k old there))
+
+pub since_table : (slots : Pool Slot) (spare : Pool Buffers) (given conns held : ℕ) → IsTable slots spare given conns held → (k : ℕ) (old new : Slot) → value_at slots.entries k ≡ Some old
+    → new ≡ record old { since = new.since } → IsTable (record slots { entries = with_value slots.entries k new }) spare given conns held
+since_table slots spare given conns held t k old new there kept =
+    table_changed slots spare given conns held k old new t there (ap (λ (s : Slot). s.number) kept)
+    (subst (λ (s : Slot). HasBuffers slots.tie s) (sym kept) (All-value_at (HasBuffers slots.tie) slots.entries k old t.buffers there))
+    held (rw kept refl) (subst IsWithin (sym kept) (All-value_at IsWithin slots.entries k old t.within there))
+
+-- It is that of the connection of the number, which was Idle, and is so since this moment.
+module _ (id clock k : ℕ) (table : Table) (old new : Slot) (distinct : HasDistinctKeys table.slots) (numbers : AreNumbered table.given (values_of table.slots)) (there : value_at table.slots k ≡ Some old)
+    (kept : new ≡ record old { since = new.since }) (number : old.number ≡ id) (idle : old.stage ≡ stages.Idle) (since : new.since ≡ clock) where
+  abbrev with_new : Table
+  with_new = record table { slots = with_value table.slots k new }
+
+  found : option_map (λ e. e.0) (wanted_slot (wanted.Live id) table.slots) ≡ Some k
+  unfolding wanted_slot is_wanted_slot
+  found = first_by_hint (wanted.Live id) table.slots k old (distinct_numbers table.given (values_of table.slots) numbers) there refl (rw (eq-eqb old.number id number, idle) refl)
+
+  is_marked : new ≡ record old { since = clock }
+  is_marked = kept ∙ ap (λ (m : ℕ). record old { since = m }) since
+
+  pub takes_whole_on : (source : Source) (piece content : List ℕ) → BeginsWithRecord content piece
+      → Acts (StandsForConnections source) (on_live id (feeding clock piece)) table with_new (Ok (heard_whole old.peer content))
+  takes_whole_on source piece content begins =
+      rw is_marked (live_acts source id (feeding clock piece) table k old (record old { since = clock }) (heard_whole old.peer content) distinct found there (hears_whole source old piece content idle begins clock))
+
+  pub keeps_whole_on : (source : Source) (before piece content : List ℕ) → BeginsWithRecord content piece → Shows (StandsForConnections source) (arguments_on id before piece) table (kept_of content)
+  keeps_whole_on source before piece content begins =
+      live_arguments source id before piece table k old (kept_of content) distinct found there (keeps_whole source old piece content idle begins before)
+
+  pub heard_whole_on : HeardFrom id clock table with_new
+  heard_whole_on =
+      let still : is_idle_stage new.stage ≡ true = ap (λ (s : Slot). is_idle_stage s.stage) kept ∙ ap is_idle_stage idle in
+      heard_on table id clock k old new numbers there number (ap (λ (s : Slot). s.number) kept) (record { awaited_none = rw idle refl; is_idle = still; since = since })

@@ -1,0 +1,433 @@
+-- A table of slots beside the connections that they stand for.
+use Rattle.std.proofs.Common.{◌≡◌, ℕ, suc, ◌+◌, ◌≤◌, Bool, true, false, not, cond, eqb, zero, ◌<◌, nat_lt, take, Ok, Err, List, [], ◌∷◌, ◌++◌, Some, None, refl, sym, ap, subst, ◌∙◌, length, eq-eqb, arith}
+use Rattle.std.specs.Prelude.{find, filter, option_map}
+use Rattle.std.specs.List.{AllZip, list_any}
+use Rattle.std.specs.Map.{values_of}
+use Rattle.std.proofs.lemmas.Bool.{eqb-true, le-ltb}
+use Rattle.std.proofs.lemmas.Bool.Decides.{nat_tests}
+use Rattle.rb_xdr.specs.Kept.{Kept}
+use Rattle.rb_rpc.specs.Marks.{StandsForFed}
+use Rattle.rb_rpc.specs.Records.{data_of}
+use Rattle.rb_rpc.specs.Verdict.{verdict}
+use Rattle.rb_feed.specs.Feeds.{StandsForCall, arguments_of}
+use Rattle.rb_model.specs.declared.types.CoreFault.TheVariants.{Full, Spent, Gone}
+use Rattle.rb_connections.specs.Reading.{Reader}
+use Rattle.rb_model.specs.Calls.{longest_arguments, kept_of}
+use Rattle.rb_connections.specs.StandsFor.{buffer_size, IsReading, Source, StandsForConnection, StandsForPhase, StandsForConnections, Table, charge, IsWithin}
+use Rattle.std.proofs.lemmas.Map.Entries.{length-values_of, sum_by-set_value}
+use Rattle.rb_xdr.specs.Search.{key_of}
+use Rattle.rb_xdr.proofs.PoolLemmas.{All-with_value, distinct-with, length-with}
+use Rattle.rb_connections.specs.declared.slot.Buffers.{Buffers}
+use Rattle.rb_xdr.specs.Pool.{Pool, value_at, without, with_value, HasDistinctKeys}
+use Rattle.rb_connections.specs.declared.slot.Slot.{Slot}
+use Rattle.rb_connections.specs.declared.slot.Wanted.{Wanted}
+use Rattle.rb_connections.specs.declared.slot.Wanted.TheVariants as wanted
+use Rattle.rb_model.specs.State.{Phase, Connection, Connections, greatest_number}
+use Rattle.rb_model.specs.State.Phase.{Idle}
+use Rattle.rb_model.specs.Connections.{change_first, changed_at, is_lost, is_live, live_connection, on_live, has_number, number_for, opening_of, is_there, without_number, closing_of}
+use Rattle.rb_connections.specs.Slots.{Acts, Shows, is_lost_stage, is_wanted_slot, is_wanted, wanted_slot, IsFound, is_numbered, AreNumbered, IsTable, HasBuffers, arguments_heard, arguments_on}
+use Rattle.rb_connections.specs.declared.slot.Stage.{Stage}
+use Rattle.rb_connections.proofs.DueSlots.{due_alike}
+use Rattle.rb_rpc.specs.declared.peer.Peer.{Peer}
+use Rattle.rb_model.proofs.Found.{all_kept, none_any, none_some, some_any}
+use Rattle.rb_connections.proofs.Phases.{by_phase}
+
+some_is : {X : Type 0} (x y : X) → Some x ≡ Some y → x ≡ y
+some_is x y h = cc
+
+module _ {A : Type 0} (p : A → Bool) where
+  pub has_key : (es : List (ℕ × A)) (k : ℕ) → key_of p es ≡ Some k → value_at es k ≡ None → ⊥
+  has_key [] k h n = none_some k h
+  has_key (e ∷ es) k h n = by_cases (p e.1) refl (has_key es k)
+    where
+      by_cases : (t : Bool) → p e.1 ≡ t → (key_of p es ≡ Some k → value_at es k ≡ None → ⊥) → ⊥
+      by_cases true t further =
+          let here : e.0 ≡ k = some_is e.0 k (rw t at h) in
+          let test : eqb e.0 k ≡ true = eq-eqb e.0 k here in
+          none_some e.1 (sym (rw test at n))
+      by_cases false t further = by_key (eqb e.0 k) refl
+        where
+          by_key : (b : Bool) → eqb e.0 k ≡ b → ⊥
+          by_key true b = none_some e.1 (sym (rw b at n))
+          by_key false b = further (rw t at h) (rw b at n)
+
+module _ {A B : Type 0} (R : A → B → Type 0) (p : A → Bool) (q : B → Bool) (same : (a : A) (b : B) → R a b → p a ≡ q b) where
+  -- the value that was found, beside the one that was found in the other list
+  pub record Located (es : List (ℕ × A)) (bs : List B) (k : ℕ) (a : A) : Type 0 where
+    pub value : B
+    pub found : find q bs ≡ Some value
+    pub related : R a value
+    pub changed : (b : A) (change : B → B) → R b (change value) → AllZip R (values_of (with_value es k b)) (change_first q change bs)
+
+  pub locate : (es : List (ℕ × A)) (bs : List B) (k : ℕ) (a : A) → HasDistinctKeys es → AllZip R (values_of es) bs → key_of p es ≡ Some k → value_at es k ≡ Some a → Located es bs k a
+  locate [] bs k a d z h v = absurd (none_some k h)
+  locate (e ∷ es) [] k a d z h v = absurd z
+  locate (e ∷ es) (b ∷ bs) k a d z h v = by_cases (p e.1) refl (locate es bs k a d.1 z.1)
+    where
+      by_cases : (t : Bool) → p e.1 ≡ t → (key_of p es ≡ Some k → value_at es k ≡ Some a → Located es bs k a) → Located (e ∷ es) (b ∷ bs) k a
+      by_cases true t further =
+          let here : e.0 ≡ k = some_is e.0 k (rw t at h) in
+          let test : eqb e.0 k ≡ true = eq-eqb e.0 k here in
+          let is : e.1 ≡ a = some_is e.1 a (rw test at v) in
+          let other : q b ≡ true = sym (same e.1 b z.0) ∙ t in
+          record {
+            value = b;
+            found = rw other refl;
+            related = rw (← is) z.0;
+            changed = λ c change r. rw (test, other) (r, z.1);
+          }
+      by_cases false t further =
+          let other : q b ≡ false = sym (same e.1 b z.0) ∙ t in
+          let in_rest : key_of p es ≡ Some k = rw t at h in
+          by_key (eqb e.0 k) refl in_rest other
+        where
+          by_key : (same_key : Bool) → eqb e.0 k ≡ same_key → key_of p es ≡ Some k → q b ≡ false → Located (e ∷ es) (b ∷ bs) k a
+          by_key true y in_rest other =
+              let key : e.0 ≡ k = eqb-true e.0 k y in
+              absurd (has_key p es k in_rest (rw key at d.0))
+          by_key false y in_rest other =
+              let l = further in_rest (rw y at v) in
+              record {
+                value = l.value;
+                found = rw other l.found;
+                related = l.related;
+                changed = λ c change r. rw (y, other) (z.0, l.changed c change r);
+              }
+
+  pub not_located : (es : List (ℕ × A)) (bs : List B) → AllZip R (values_of es) bs → key_of p es ≡ None → find q bs ≡ None
+  not_located [] [] z h = refl
+  not_located [] (b ∷ bs) z h = absurd z
+  not_located (e ∷ es) [] z h = absurd z
+  not_located (e ∷ es) (b ∷ bs) z h = by_cases (p e.1) refl (not_located es bs z.1)
+    where
+      by_cases : (t : Bool) → p e.1 ≡ t → (key_of p es ≡ None → find q bs ≡ None) → find q (b ∷ bs) ≡ None
+      by_cases true t further = absurd (none_some e.0 (sym (rw t at h)))
+      by_cases false t further =
+          let other : q b ≡ false = sym (same e.1 b z.0) ∙ t in
+          rw other (further (rw t at h))
+
+module _ {A B : Type 0} (R : A → B → Type 0) where
+  pub same_length_of : (xs : List A) (bs : List B) → AllZip R xs bs → length xs ≡ length bs
+  same_length_of [] [] z = refl
+  same_length_of [] (b ∷ bs) z = absurd z
+  same_length_of (a ∷ xs) [] z = absurd z
+  same_length_of (a ∷ xs) (b ∷ bs) z = ap suc (same_length_of xs bs z.1)
+
+  pub one_more_each : (xs : List A) (bs : List B) (a : A) (b : B) → AllZip R xs bs → R a b → AllZip R (xs ++ a ∷ []) (bs ++ b ∷ [])
+  one_more_each [] [] a b z r = (r, tt)
+  one_more_each [] (y ∷ bs) a b z r = absurd z
+  one_more_each (x ∷ xs) [] a b z r = absurd z
+  one_more_each (x ∷ xs) (y ∷ bs) a b z r = (z.0, one_more_each xs bs a b z.1 r)
+
+-- ---- slots and connections
+
+lost_as_stage : (source : Source) (stage : Stage) (buffer window : Kept) (phase : Phase) → StandsForPhase source stage buffer window phase → is_lost_stage stage ≡ is_lost phase
+lost_as_stage source stage buffer window phase h =
+    by_phase source buffer window (λ s p. is_lost_stage s ≡ is_lost p) (λ z. refl) (λ reader fed z. refl) (λ giving o z. refl) (λ z. refl) refl stage phase h
+
+pub wanted_alike : (source : Source) (sought : Wanted) (slot : Slot) (c : Connection) → StandsForConnection source slot c → is_wanted_slot sought slot ≡ is_wanted sought c
+unfolding is_wanted_slot is_wanted is_live
+wanted_alike source (wanted.Live id) slot c h = rw (h.number, lost_as_stage source slot.stage slot.buffer slot.window c.phase h.phase) refl
+wanted_alike source (wanted.Numbered id) slot c h = rw h.number refl
+wanted_alike source wanted.AnyLost slot c h = lost_as_stage source slot.stage slot.buffer slot.window c.phase h.phase
+wanted_alike source (wanted.Due clock) slot c h = due_alike source clock slot c h
+
+module _ (source : Source) (sought : Wanted) (entries : List (ℕ × Slot)) (all : List Connection) where
+  pub found_slot : (k : ℕ) (slot : Slot) → HasDistinctKeys entries → AllZip (StandsForConnection source) (values_of entries) all
+      → option_map (λ e. e.0) (wanted_slot sought entries) ≡ Some k → value_at entries k ≡ Some slot → IsFound source sought all slot
+  unfolding wanted_slot
+  found_slot k slot d z h v =
+      let l = locate (StandsForConnection source) (is_wanted_slot sought) (is_wanted sought) (wanted_alike source sought) entries all k slot d z h v in
+      record { connection = l.value; found = l.found; stands = l.related }
+
+  pub no_slot : AllZip (StandsForConnection source) (values_of entries) all → option_map (λ e. e.0) (wanted_slot sought entries) ≡ None → find (is_wanted sought) all ≡ None
+  unfolding wanted_slot
+  no_slot z h = not_located (StandsForConnection source) (is_wanted_slot sought) (is_wanted sought) (wanted_alike source sought) entries all z h
+
+module _ (sought : Wanted) (entries : List (ℕ × Slot)) (all : List Connection) where
+  pub slot_is_there : (k : ℕ) → option_map (λ e. e.0) (wanted_slot sought entries) ≡ Some k → value_at entries k ≡ None → ⊥
+  unfolding wanted_slot
+  slot_is_there k h n = has_key (is_wanted_slot sought) entries k h n
+
+-- ---- tables with one entry less
+
+pub any-without : (test : Slot → Bool) (es : List (ℕ × Slot)) (k : ℕ) → list_any test (values_of es) ≡ false → list_any test (values_of (without es k)) ≡ false
+any-without test [] k h = refl
+any-without test (e ∷ es) k h = by_cases (test e.1) refl (any-without test es k)
+  where
+    by_cases : (b : Bool) → test e.1 ≡ b → (list_any test (values_of es) ≡ false → list_any test (values_of (without es k)) ≡ false) → list_any test (values_of (without (e ∷ es) k)) ≡ false
+    by_cases true t further = let clash : true ≡ false = rw t at h in absurd cc
+    by_cases false t further =
+        elim (eqb e.0 k) as (λ b. list_any test (values_of (cond b es (e ∷ without es k))) ≡ false)
+        [ true ↦ rw t at h | false ↦ rw t (further (rw t at h)) ]
+
+pub numbered-without : (given : ℕ) (es : List (ℕ × Slot)) (k : ℕ) → AreNumbered given (values_of es) → AreNumbered given (values_of (without es k))
+numbered-without given [] k n = tt
+numbered-without given (e ∷ es) k n =
+    elim (eqb e.0 k) as (λ b. AreNumbered given (values_of (cond b es (e ∷ without es k))))
+    [ true ↦ n.2 | false ↦ (n.0, any-without (is_numbered e.1.number) es k n.1, numbered-without given es k n.2) ]
+
+-- ---- a slot changed
+
+any-with : (number : ℕ) (es : List (ℕ × Slot)) (k : ℕ) (old new : Slot) → value_at es k ≡ Some old → new.number ≡ old.number
+    → list_any (is_numbered number) (values_of (with_value es k new)) ≡ list_any (is_numbered number) (values_of es)
+any-with number [] k old new h same = refl
+any-with number (e ∷ es) k old new h same = by_cases (eqb e.0 k) refl (any-with number es k old new)
+  where
+    by_cases : (b : Bool) → eqb e.0 k ≡ b → (value_at es k ≡ Some old → new.number ≡ old.number → list_any (is_numbered number) (values_of (with_value es k new)) ≡ list_any (is_numbered number) (values_of es))
+        → list_any (is_numbered number) (values_of (with_value (e ∷ es) k new)) ≡ list_any (is_numbered number) (values_of (e ∷ es))
+    by_cases true t further =
+        let is : e.1 ≡ old = some_is e.1 old (rw t at h) in
+        let number_is : new.number ≡ e.1.number = same ∙ ap (λ (s : Slot). s.number) (sym is) in
+        rw (t, number_is) refl
+    by_cases false t further = rw (t, further (rw t at h) same) refl
+
+pub numbered-with : (given : ℕ) (es : List (ℕ × Slot)) (k : ℕ) (old new : Slot) → value_at es k ≡ Some old → new.number ≡ old.number → AreNumbered given (values_of es) → AreNumbered given (values_of (with_value es k new))
+numbered-with given [] k old new h same n = tt
+numbered-with given (e ∷ es) k old new h same n = by_cases (eqb e.0 k) refl (numbered-with given es k old new)
+  where
+    by_cases : (b : Bool) → eqb e.0 k ≡ b → (value_at es k ≡ Some old → new.number ≡ old.number → AreNumbered given (values_of es) → AreNumbered given (values_of (with_value es k new)))
+        → AreNumbered given (values_of (with_value (e ∷ es) k new))
+    by_cases true t further =
+        let is : e.1 ≡ old = some_is e.1 old (rw t at h) in
+        let number_is : new.number ≡ e.1.number = same ∙ ap (λ (s : Slot). s.number) (sym is) in
+        rw t (rw number_is n.0, rw number_is n.1, n.2)
+    by_cases false t further =
+        let rest = rw t at h in
+        rw t (n.0, any-with e.1.number es k old new rest same ∙ n.1, further rest same n.2)
+
+-- the live connection of a number, and its slot
+pub record IsLiveSlot (source : Source) (id : ℕ) (entries : List (ℕ × Slot)) (all : List Connection) (k : ℕ) (slot : Slot) : Type 0 where
+  pub connection : Connection
+  pub there : live_connection id all ≡ Some connection
+  pub stands : StandsForConnection source slot connection
+  pub changed : (new : Slot) (change : Connection → Connection) → StandsForConnection source new (change connection) → AllZip (StandsForConnection source) (values_of (with_value entries k new)) (change_first (is_live id) change all)
+
+module _ (source : Source) (id : ℕ) (entries : List (ℕ × Slot)) (all : List Connection) where
+  pub live_slot : (k : ℕ) (slot : Slot) → HasDistinctKeys entries → AllZip (StandsForConnection source) (values_of entries) all
+      → option_map (λ e. e.0) (wanted_slot (wanted.Live id) entries) ≡ Some k → value_at entries k ≡ Some slot → IsLiveSlot source id entries all k slot
+  unfolding wanted_slot is_wanted live_connection
+  live_slot k slot d z h v =
+      let l = locate (StandsForConnection source) (is_wanted_slot (wanted.Live id)) (is_wanted (wanted.Live id)) (wanted_alike source (wanted.Live id)) entries all k slot d z h v in
+      record { connection = l.value; there = l.found; stands = l.related; changed = l.changed }
+
+  pub not_live : AllZip (StandsForConnection source) (values_of entries) all → option_map (λ e. e.0) (wanted_slot (wanted.Live id) entries) ≡ None → live_connection id all ≡ None
+  unfolding is_wanted live_connection
+  not_live z h = no_slot source (wanted.Live id) entries all z h
+
+-- the same of a table by its other name
+pub acts_from : {A : Type 0} (source : Source) (act : Connections → A × Connections) (view now new : Table) (x : A) → view ≡ now
+    → Acts (StandsForConnections source) act view new x → Acts (StandsForConnections source) act now new x
+acts_from source act view now new x is acts = subst (λ (t : Table). Acts (StandsForConnections source) act t new x) is acts
+
+-- An act on the slot of the live connection is that on the connection.
+module _ {A : Type 0} (source : Source) (id : ℕ) (act : Connection → A × Connection) (table : Table) where
+  pub live_acts : (k : ℕ) (slot new : Slot) (x : A) → HasDistinctKeys table.slots
+      → option_map (λ e. e.0) (wanted_slot (wanted.Live id) table.slots) ≡ Some k → value_at table.slots k ≡ Some slot
+      → Acts (StandsForConnection source) act slot new x → Acts (StandsForConnections source) (on_live id act) table (record table { slots = with_value table.slots k new }) (Ok x)
+  live_acts k slot new x d h v acts = record {
+    gives = λ c z.
+        let l = live_slot source id table.slots c.all k slot d z.all h v in
+        rw l.there (ap Ok (acts.gives l.connection l.stands));
+    stands = λ c z.
+        let l = live_slot source id table.slots c.all k slot d z.all h v in
+        rw l.there (record { all = l.changed new (λ y. (act y).1) (acts.stands l.connection l.stands); next = z.next });
+  }
+
+  pub gone_acts : option_map (λ e. e.0) (wanted_slot (wanted.Live id) table.slots) ≡ None → Acts (StandsForConnections source) (on_live id act) table table (Err Gone)
+  gone_acts h = record {
+    gives = λ c z. rw (not_live source id table.slots c.all z.all h) refl;
+    stands = λ c z. rw (not_live source id table.slots c.all z.all h) z;
+  }
+
+-- What is held of arguments after a piece is what the live connection took.
+module _ (source : Source) (id : ℕ) (before piece : List ℕ) (table : Table) where
+  pub live_arguments : (k : ℕ) (slot : Slot) (after : List ℕ) → HasDistinctKeys table.slots
+      → option_map (λ e. e.0) (wanted_slot (wanted.Live id) table.slots) ≡ Some k → value_at table.slots k ≡ Some slot
+      → Shows (StandsForConnection source) (arguments_heard before piece) slot after → Shows (StandsForConnections source) (arguments_on id before piece) table after
+  live_arguments k slot after d h v shows c z =
+      let l = live_slot source id table.slots c.all k slot d z.all h v in
+      rw l.there (shows l.connection l.stands)
+
+  pub gone_arguments : option_map (λ e. e.0) (wanted_slot (wanted.Live id) table.slots) ≡ None → Shows (StandsForConnections source) (arguments_on id before piece) table before
+  gone_arguments h c z = rw (not_live source id table.slots c.all z.all h) refl
+
+module _ (source : Source) (id : ℕ) (change : Connection → Connection) (table : Table) where
+  pub live_changed : (k : ℕ) (slot new : Slot) → HasDistinctKeys table.slots
+      → option_map (λ e. e.0) (wanted_slot (wanted.Live id) table.slots) ≡ Some k → value_at table.slots k ≡ Some slot
+      → ((c : Connection) → StandsForConnection source slot c → StandsForConnection source new (change c))
+      → (c : Connections) → StandsForConnections source table c → StandsForConnections source (record table { slots = with_value table.slots k new }) (changed_at id change c)
+  live_changed k slot new d h v stands c z =
+      let l = live_slot source id table.slots c.all k slot d z.all h v in
+      record { all = l.changed new change (stands l.connection l.stands); next = z.next }
+
+  none_changes : (all : List Connection) → live_connection id all ≡ None → change_first (is_live id) change all ≡ all
+  unfolding live_connection
+  none_changes [] h = refl
+  none_changes (c ∷ all) h = by_cases (is_live id c) refl (none_changes all)
+    where
+      by_cases : (b : Bool) → is_live id c ≡ b → (find (is_live id) all ≡ None → change_first (is_live id) change all ≡ all) → change_first (is_live id) change (c ∷ all) ≡ c ∷ all
+      by_cases true t further = absurd (none_some c (sym (rw t at h)))
+      by_cases false t further = rw t (ap (λ (cs : List Connection). c ∷ cs) (further (rw t at h)))
+
+  pub gone_stays : option_map (λ e. e.0) (wanted_slot (wanted.Live id) table.slots) ≡ None
+      → (c : Connections) → StandsForConnections source table c → StandsForConnections source table (changed_at id change c)
+  gone_stays h c z = rw (none_changes c.all (not_live source id table.slots c.all z.all h)) z
+
+-- ---- a slot more
+
+any-more : (number : ℕ) (slots : List Slot) (slot : Slot) → list_any (is_numbered number) slots ≡ false → eqb slot.number number ≡ false → list_any (is_numbered number) (slots ++ slot ∷ []) ≡ false
+any-more number [] slot h other = rw other refl
+any-more number (first ∷ slots) slot h other = by_cases (eqb first.number number) refl (any-more number slots slot)
+  where
+    by_cases : (b : Bool) → eqb first.number number ≡ b → (list_any (is_numbered number) slots ≡ false → eqb slot.number number ≡ false → list_any (is_numbered number) (slots ++ slot ∷ []) ≡ false)
+        → list_any (is_numbered number) ((first ∷ slots) ++ slot ∷ []) ≡ false
+    by_cases true t further = let clash : true ≡ false = rw t at h in absurd cc
+    by_cases false t further = rw t (further (rw t at h) other)
+
+pub numbered-more : (given : ℕ) (slots : List Slot) (slot : Slot) → AreNumbered given slots → slot.number ≡ given + 1 → AreNumbered (given + 1) (slots ++ slot ∷ [])
+numbered-more given [] slot n is = (omega arith, refl, tt)
+numbered-more given (first ∷ slots) slot n is =
+    let other : eqb slot.number first.number ≡ false = differ slot.number first.number is n.0 in
+    (omega (arith, n.0), any-more first.number slots slot n.1 other, numbered-more given slots slot n.2 is)
+  where
+    differ : (a b : ℕ) → a ≡ given + 1 → b ≤ given → eqb a b ≡ false
+    differ a b is le = grind (arith, nat_tests)
+
+pub any_alike : (source : Source) (id : ℕ) (slots : List Slot) (all : List Connection) → AllZip (StandsForConnection source) slots all → list_any (is_numbered id) slots ≡ list_any (has_number id) all
+any_alike source id [] [] z = refl
+any_alike source id [] (c ∷ all) z = absurd z
+any_alike source id (s ∷ slots) [] z = absurd z
+any_alike source id (s ∷ slots) (c ∷ all) z = rw (z.0.number, any_alike source id slots all z.1) refl
+
+removed : (source : Source) (id given : ℕ) (es : List (ℕ × Slot)) (all : List Connection) (k : ℕ) (slot : Slot) → HasDistinctKeys es → AreNumbered given (values_of es) → AllZip (StandsForConnection source) (values_of es) all
+    → key_of (is_numbered id) es ≡ Some k → AllZip (StandsForConnection source) (values_of (without es k)) (filter (λ (c : Connection). not (has_number id c)) all)
+removed source id given [] all k slot d n z h = absurd (none_some k h)
+removed source id given (e ∷ es) [] k slot d n z h = absurd z
+removed source id given (e ∷ es) (c ∷ all) k slot d n z h = by_cases (eqb e.1.number id) refl (removed source id given es all k slot d.1 n.2 z.1)
+  where
+    by_cases : (t : Bool) → eqb e.1.number id ≡ t → (key_of (is_numbered id) es ≡ Some k → AllZip (StandsForConnection source) (values_of (without es k)) (filter (λ (c : Connection). not (has_number id c)) all))
+        → AllZip (StandsForConnection source) (values_of (without (e ∷ es) k)) (filter (λ (c : Connection). not (has_number id c)) (c ∷ all))
+    by_cases true t further =
+        let here : e.0 ≡ k = some_is e.0 k (rw t at h) in
+        let test : eqb e.0 k ≡ true = eq-eqb e.0 k here in
+        let number : e.1.number ≡ id = eqb-true e.1.number id t in
+        let other : eqb c.number id ≡ true = rw (← z.0.number) t in
+        let alone : list_any (has_number id) all ≡ false = sym (any_alike source id (values_of es) all z.1) ∙ (rw number at n.1) in
+        rw (test, other, all_kept (has_number id) all alone) z.1
+    by_cases false t further =
+        let in_rest : key_of (is_numbered id) es ≡ Some k = rw t at h in
+        let other : eqb c.number id ≡ false = rw (← z.0.number) t in
+        by_key (eqb e.0 k) refl in_rest other
+      where
+        by_key : (b : Bool) → eqb e.0 k ≡ b → key_of (is_numbered id) es ≡ Some k → eqb c.number id ≡ false
+            → AllZip (StandsForConnection source) (values_of (without (e ∷ es) k)) (filter (λ (c : Connection). not (has_number id c)) (c ∷ all))
+        by_key true y in_rest other =
+            let key : e.0 ≡ k = eqb-true e.0 k y in
+            absurd (has_key (is_numbered id) es k in_rest (rw key at d.0))
+        by_key false y in_rest other = rw (y, other) (z.0, further in_rest)
+
+module _ (source : Source) (id : ℕ) (table : Table) where
+  pub none_closed : option_map (λ e. e.0) (wanted_slot (wanted.Numbered id) table.slots) ≡ None → Acts (StandsForConnections source) (closing_of id) table table (Err Gone)
+  unfolding closing_of is_there is_wanted
+  none_closed h = record {
+    gives = λ c z. rw (none_any (has_number id) c.all (no_slot source (wanted.Numbered id) table.slots c.all z.all h)) refl;
+    stands = λ c z. rw (none_any (has_number id) c.all (no_slot source (wanted.Numbered id) table.slots c.all z.all h)) z;
+  }
+
+  pub one_closed : (k : ℕ) (slot : Slot) → HasDistinctKeys table.slots → AreNumbered table.given (values_of table.slots)
+      → option_map (λ e. e.0) (wanted_slot (wanted.Numbered id) table.slots) ≡ Some k → value_at table.slots k ≡ Some slot
+      → Acts (StandsForConnections source) (closing_of id) table (record table { slots = without table.slots k }) (Ok tt)
+  unfolding closing_of is_there is_wanted wanted_slot is_wanted_slot without_number
+  one_closed k slot d n h v = record {
+    gives = λ c z. rw (there c z) refl;
+    stands = λ c z. rw (there c z) (record { all = removed source id table.given table.slots c.all k slot d n z.all h; next = z.next });
+  }
+    where
+      there : (c : Connections) → StandsForConnections source table c → list_any (has_number id) c.all ≡ true
+      there c z =
+          let f = found_slot source (wanted.Numbered id) table.slots c.all k slot d z.all h v in
+          some_any (has_number id) c.all f.connection f.found
+
+-- ---- a new connection
+
+take_nothing : (n : ℕ) → take {A = ℕ} n [] ≡ []
+take_nothing zero = refl
+take_nothing (suc n) = refl
+
+nothing_kept : kept_of (data_of []) ≡ []
+unfolding data_of arguments_of verdict
+nothing_kept = take_nothing longest_arguments
+
+no_data : data_of [] ≡ []
+unfolding data_of
+no_data = refl
+
+-- an emptied buffer, between two records
+pub reads_nothing : (reader : Reader) (kept : Kept) → StandsForFed reader.marks [] → StandsForCall reader.head [] → kept.bytes ≡ [] → kept.cap ≡ buffer_size → IsReading reader kept []
+reads_nothing reader kept m h e c = record { marks_are = m; data_is = record { head_is = rw no_data h; kept_is = e ∙ sym nothing_kept; cap = c } }
+
+pub as_many : (source : Source) (es : List (ℕ × Slot)) (all : List Connection) → AllZip (StandsForConnection source) (values_of es) all → length all ≡ length es
+as_many source es all z = sym (same_length_of (StandsForConnection source) (values_of es) all z) ∙ length-values_of es
+
+module _ (source : Source) (conns : ℕ) (peer : Peer) (clock : ℕ) (table : Table) where
+  pub full_acts : conns ≤ length table.slots → Acts (StandsForConnections source) (opening_of conns peer clock) table table (Err Full)
+  unfolding opening_of number_for
+  full_acts full = record {
+    gives = λ c z. rw (no_room c z) refl;
+    stands = λ c z. rw (no_room c z) z;
+  }
+    where
+      no_room : (c : Connections) → StandsForConnections source table c → nat_lt (length c.all) conns ≡ false
+      no_room c z = let many = as_many source table.slots c.all z.all in grind (arith, nat_tests)
+
+  pub spent_acts : length table.slots < conns → table.given ≡ greatest_number → Acts (StandsForConnections source) (opening_of conns peer clock) table table (Err Spent)
+  unfolding opening_of number_for
+  spent_acts room spent = record {
+    gives = λ c z. rw (has_room c z, no_number c z) refl;
+    stands = λ c z. rw (has_room c z, no_number c z) z;
+  }
+    where
+      has_room : (c : Connections) → StandsForConnections source table c → nat_lt (length c.all) conns ≡ true
+      has_room c z = let many = as_many source table.slots c.all z.all in grind (arith, nat_tests)
+
+      no_number : (c : Connections) → StandsForConnections source table c → nat_lt greatest_number c.next ≡ true
+      no_number c z = let next = z.next in grind (arith, nat_tests)
+
+  pub opened_acts : (slot : Slot) (new : Table) → length table.slots < conns → table.given < greatest_number
+      → values_of new.slots ≡ values_of table.slots ++ slot ∷ [] → new.given ≡ table.given + 1
+      → StandsForConnection source slot (record { number = table.given + 1; peer = peer; phase = Idle; since = clock })
+      → Acts (StandsForConnections source) (opening_of conns peer clock) table new (Ok (table.given + 1))
+  unfolding opening_of number_for
+  opened_acts slot new room left more given stands = record {
+    gives = λ c z. rw (has_room c z, has_number_left c z) (ap Ok (sym z.next));
+    stands = λ c z. rw (has_room c z, has_number_left c z) (record {
+      all = rw more (one_more_each (StandsForConnection source) (values_of table.slots) c.all slot _ z.all (rw z.next stands));
+      next = rw (given, z.next) refl;
+    });
+  }
+    where
+      has_room : (c : Connections) → StandsForConnections source table c → nat_lt (length c.all) conns ≡ true
+      has_room c z = let many = as_many source table.slots c.all z.all in grind (arith, nat_tests)
+
+      has_number_left : (c : Connections) → StandsForConnections source table c → nat_lt greatest_number c.next ≡ false
+      has_number_left c z = let next = z.next in le-ltb greatest_number c.next (omega (arith, next, left))
+
+-- ---- the table with a slot changed
+
+pub table_changed : (slots : Pool Slot) (spare : Pool Buffers) (given conns held k : ℕ) (old new : Slot) → IsTable slots spare given conns held → value_at slots.entries k ≡ Some old → new.number ≡ old.number → HasBuffers slots.tie new
+    → (now : ℕ) → now + charge old ≡ held + charge new → IsWithin new → IsTable (record slots { entries = with_value slots.entries k new }) spare given conns now
+table_changed slots spare given conns held k old new t found same buffers now sum fits = record {
+  distinct = distinct-with slots.entries k new t.distinct;
+  spare_distinct = t.spare_distinct;
+  room = rw (length-with slots.entries k new) t.room;
+  cap = t.cap;
+  spare_cap = t.spare_cap;
+  tie = t.tie;
+  buffers = All-with_value (HasBuffers slots.tie) slots.entries k new t.buffers buffers;
+  spare_buffers = t.spare_buffers;
+  numbers = numbered-with given slots.entries k old new found same t.numbers;
+  few = t.few;
+  within = All-with_value IsWithin slots.entries k new t.within fits;
+  is_held = let sums = sum_by-set_value charge (λ n. eqb n k) slots.entries old new found in omega (arith, sum, sums, t.is_held);
+}

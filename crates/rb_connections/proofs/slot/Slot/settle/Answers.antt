@@ -1,0 +1,44 @@
+use Rattle.std.proofs.Common.{ℕ, Some, None, refl, ap}
+use Rattle.rb_xdr.specs.Kept.{Kept}
+use Rattle.rb_model.specs.Connections.{settled}
+use Rattle.rb_connections.proofs.Progress.{slot_lists_on, slot_begins}
+use Rattle.rb_connections.proofs.ReplyHeads.{fresh_is_some}
+use Rattle.rb_connections.proofs.slot.Slot.settle.Goals as goal
+
+pub returns-in-Told-NoCall-clause-stands : goal.returns-in-Told-NoCall-clause-stands
+unfolding settled
+returns-in-Told-NoCall-clause-stands c = λ x h. rw (c.in-Told-NoCall.is, rw c.in-Told-NoCall.is at c.in-Told-NoCall.field-0-is) (record { number = h.number; peer = h.peer; since = refl; phase = tt })
+
+pub returns-in-Told-Forwarded-clause-stands : goal.returns-in-Told-Forwarded-clause-stands
+unfolding settled
+returns-in-Told-Forwarded-clause-stands c = λ x h.
+    rw (c.in-Told-Forwarded.is, rw c.in-Told-Forwarded.is at c.in-Told-Forwarded.field-0-is, c.empty.ensures.emptied) (record { number = h.number; peer = h.peer; since = refl; phase = (refl, refl) })
+
+pub returns-in-Told-Silent-clause-stands : goal.returns-in-Told-Silent-clause-stands
+unfolding settled
+returns-in-Told-Silent-clause-stands c = λ x h.
+    rw (c.in-Told-Silent.is, rw c.in-Told-Silent.is at c.in-Told-Silent.field-0-is, c.empty-in-Told-Silent.ensures.emptied) (record { number = h.number; peer = h.peer; since = refl; phase = (refl, refl) })
+
+pub returns-in-Told-Reply-clause-stands : goal.returns-in-Told-Reply-clause-stands
+unfolding settled
+returns-in-Told-Reply-clause-stands c = λ x h.
+    rw (c.in-Told-Reply.is, rw c.in-Told-Reply.is at c.in-Told-Reply.field-0-is)
+    (slot_begins _ _ _ c.show.new.self c.show.ensures.shows c.args.clock x c.args.draft.now.bytes None h.number h.peer refl c.requires.buffers.window_cap
+    (ap (λ (k : Kept). k.bytes) c.swap.ensures.x_after) refl)
+
+pub returns-in-Told-Reply-clause-lists : goal.returns-in-Told-Reply-clause-lists
+returns-in-Told-Reply-clause-lists c = slot_lists_on _ _ _ c.show.new.self c.show.ensures.shows
+
+pub show-requires-in-Listed-clause-some : goal.show-requires-in-Listed-clause-some
+show-requires-in-Listed-clause-some c =
+    fresh_is_some c.args.host c.args.registry.now c.in-Listed.xid c.in-Listed.listing c.new-list.result c.new-list.ensures.rest
+
+pub returns-in-Listed-clause-stands : goal.returns-in-Listed-clause-stands
+unfolding settled
+returns-in-Listed-clause-stands c = λ x h.
+    rw c.in-Listed.is
+    (slot_begins _ _ _ c.show-in-Listed.new.self c.show-in-Listed.ensures.shows c.args.clock x _ _ h.number h.peer refl c.requires.buffers.window_cap
+    (c.new-list.ensures.rest c.args.host) (ap (λ (n : ℕ). Some n) c.new-list.ensures.stamp))
+
+pub returns-in-Listed-clause-lists : goal.returns-in-Listed-clause-lists
+returns-in-Listed-clause-lists c = slot_lists_on _ _ _ c.show-in-Listed.new.self c.show-in-Listed.ensures.shows

@@ -1,0 +1,62 @@
+-- How a reply is given fragment by fragment.
+use Rattle.std.specs.Prelude.{◌≡◌, ◌<◌, ◌≤◌, ⊤, ℕ, ◌+◌, ◌==◌, nat_le, nat_lt, false, not, ◌&&◌, if◌then◌else◌, List, [], length, take, drop, Result, Ok, Err}
+use Rattle.rb_xdr.specs.Kept.{Kept}
+use Rattle.rb_rpc.specs.Records.{fragment_size, marked}
+use Rattle.rb_proto.specs.ListReplies.{longest_part}
+use Rattle.rb_proto.specs.ListParts.{IsTold}
+use Rattle.rb_model.specs.declared.types.CoreFault.{CoreFault}
+use Rattle.rb_connections.specs.declared.giving.Giving.{Giving}
+use Rattle.rb_connections.specs.declared.giving.Rest.{Rest}
+use Rattle.rb_connections.specs.declared.giving.Rest.TheVariants as rests
+use Rattle.rb_model.specs.Connections.{longest_fragment}
+use Rattle.rb_connections.specs.StandsFor.{Source, rest_in, stamp_in}
+use Rattle.rb_connections.specs.declared.slot.Stage.TheVariants as stages
+use Rattle.rb_connections.specs.declared.slot.Slot.{Slot}
+
+-- The source can make what is not shown yet, where that is of a list.
+abbrev pub CanTell : Source → Rest → Type 0
+CanTell source (rests.Held start) = ⊤
+CanTell source (rests.Listed list) = IsTold source.registry list
+
+-- It can make what is behind the fragment that is shown, which is something unless that is the last one.
+pub record GoesOnBy (source : Source) (buffer : List ℕ) (giving : Giving) : Type 0 where
+  pub told : CanTell source giving.rest
+  pub some : giving.last ≡ false → 0 < length (rest_in source buffer giving.rest)
+
+-- The next fragment of a reply is shown, whose bytes that were not shown yet are these, and so the giving goes on.
+pub record ShowsNext (source : Source) (buffer : List ℕ) (rest : Rest) (before shown : Kept) (giving : Giving) : Type 0 where
+  pub fragment : shown ≡ record before { bytes = take longest_fragment (marked (rest_in source buffer rest)) }
+  pub rest_is : rest_in source buffer giving.rest ≡ drop longest_part (rest_in source buffer rest)
+  pub last : giving.last ≡ nat_le (length (rest_in source buffer rest)) longest_part
+  pub place : giving.place ≡ 0
+  pub stamp : stamp_in giving.rest ≡ stamp_in rest
+  pub told : CanTell source giving.rest
+
+-- how many bytes are pending
+abbrev pub pending_count : Result (List ℕ) CoreFault → Result ℕ CoreFault
+pending_count (Ok bytes) = Ok (length bytes)
+pending_count (Err fault) = Err fault
+
+-- A slot gives on with the next fragment of a reply, whose bytes that were not shown yet are these.
+pub record SlotShowsNext (source : Source) (rest : Rest) (old new : Slot) : Type 0 where
+  pub giving : Giving
+  pub is : new ≡ record old { stage = stages.Giving giving; window = new.window }
+  pub shows : ShowsNext source old.buffer.bytes rest old.window new.window giving
+
+-- ---- a reply that is given whole
+
+-- A reply is one fragment, and is given whole: these are its bytes, marked (RFC 5531 section 11), and its buffer is empty.
+pub record IsGivenWhole (before after : Kept) (given : List ℕ) : Type 0 where
+  pub some : 0 < length before.bytes
+  pub few : length before.bytes ≤ fragment_size
+  pub is_marked : given ≡ marked before.bytes
+  pub is_empty : after ≡ record before { bytes = [] }
+
+-- with how many bytes a reply of so many is given whole, where there is this room: 0 where it is not
+abbrev pub whole_length : ℕ → ℕ → ℕ
+whole_length room n = if not (nat_lt fragment_size n) && not (nat_lt room longest_fragment) then 4 + n else 0
+
+-- what it costs to give n bytes so, where there is this room: the look at how many there are, they themselves, and the
+-- buffer emptied
+abbrev pub whole_cost : ℕ → ℕ → ℕ
+whole_cost room n = if room == 0 then 0 else n + 2

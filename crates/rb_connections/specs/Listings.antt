@@ -1,0 +1,93 @@
+-- The lists that are given on the connections of a table, and the connections that are lost with them.
+use Rattle.std.specs.Prelude.{◌≡◌, ◌≤◌, ⊤, ℕ, nat_lt, min, Bool, false, if◌then◌else◌, List, [], map, filter_map, All, Contains, Option, Some, None}
+use Rattle.std.specs.Map.{values_of}
+use Rattle.rb_xdr.specs.Pool.{Pool}
+use Rattle.rb_connections.specs.declared.slot.Stage.{Stage}
+use Rattle.rb_connections.specs.declared.slot.Stage.TheVariants as stages
+use Rattle.rb_connections.specs.declared.slot.Slot.{Slot}
+use Rattle.rb_connections.specs.StandsFor.{Source, stamp_in, Table}
+use Rattle.rb_connections.specs.Giving.{GoesOnBy}
+use Rattle.rb_model.specs.Losses.{evicting}
+use Rattle.rb_connections.specs.Slots.{TableBecomes}
+
+-- ---- one slot
+
+-- after how many changes the list began that is given on it
+abbrev pub began_stage : Stage → Option ℕ
+began_stage (stages.Giving giving) = stamp_in giving.rest
+began_stage stages.Idle = None
+began_stage (stages.Reading reader) = None
+began_stage stages.Awaiting = None
+began_stage stages.Lost = None
+
+abbrev pub slot_began : Slot → Option ℕ
+slot_began slot = began_stage slot.stage
+
+-- the source can tell the rest of the reply that is given in this stage
+abbrev pub StageListsOn : Source → List ℕ → Stage → Type 0
+StageListsOn source buffer (stages.Giving giving) = GoesOnBy source buffer giving
+StageListsOn source buffer stages.Idle = ⊤
+StageListsOn source buffer (stages.Reading reader) = ⊤
+StageListsOn source buffer stages.Awaiting = ⊤
+StageListsOn source buffer stages.Lost = ⊤
+
+abbrev pub SlotListsOn : Source → Slot → Type 0
+SlotListsOn source slot = StageListsOn source slot.buffer.bytes slot.stage
+
+-- whatever lists are made from
+abbrev pub SlotListsOnByAll : Slot → Type 0
+SlotListsOnByAll slot = (source : Source) → SlotListsOn source slot
+
+-- where a source could tell the rest of the old list, it can tell that of the new one
+abbrev pub SlotKeepsListing : Slot → Slot → Type 0
+SlotKeepsListing old new = (source : Source) → SlotListsOn source old → SlotListsOn source new
+
+-- ---- all of them
+
+abbrev pub CanListOn : Source → Table → Type 0
+CanListOn source table = All (SlotListsOn source) (values_of table.slots)
+
+abbrev pub KeepsListing : Table → Table → Type 0
+KeepsListing old new = (source : Source) → CanListOn source old → CanListOn source new
+
+-- after how many changes the lists began that are given
+abbrev pub stamps_in : List (ℕ × Slot) → List ℕ
+stamps_in slots = filter_map slot_began (values_of slots)
+
+abbrev pub stamps_of : Table → List ℕ
+stamps_of table = stamps_in table.slots
+
+-- It is the least of these numbers, None where there is none.
+abbrev pub IsOldest : List ℕ → Option ℕ → Type 0
+IsOldest numbers None = numbers ≡ []
+IsOldest numbers (Some oldest) = Contains numbers oldest × All (λ n. oldest ≤ n) numbers
+
+-- the lesser of two numbers, as far as they are there
+abbrev pub earlier : Option ℕ → Option ℕ → Option ℕ
+earlier None b = b
+earlier (Some a) None = Some a
+earlier (Some a) (Some b) = Some (min a b)
+
+-- ---- eviction
+
+-- it is the earliest of these changes
+pub record IsEarliest (changes : List ℕ) (earliest : ℕ) : Type 0 where
+  pub one : Contains changes earliest
+  pub all : All (λ change. earliest ≤ change) changes
+
+-- a list that began before this change
+abbrev pub began_early : ℕ → Option ℕ → Bool
+began_early earliest None = false
+began_early earliest (Some n) = nat_lt n earliest
+
+-- The connections become Lost whose lists began before these changes, of which the earliest is this one.
+abbrev pub EvictsBefore : ℕ → Table → Table → Type 0
+EvictsBefore earliest old new =
+    (changes : List ℕ) → IsEarliest changes earliest → TableBecomes (evicting changes) old new
+
+-- a slot after it, Lost where its list began before the change
+abbrev pub evicted_slot : ℕ → Slot → Slot
+evicted_slot earliest slot = if began_early earliest (slot_began slot) then record slot { stage = stages.Lost } else slot
+
+abbrev pub with_evicted : ℕ → Pool Slot → Pool Slot
+with_evicted earliest slots = record slots { entries = map (λ e. (e.0, evicted_slot earliest e.1)) slots.entries }

@@ -1,0 +1,328 @@
+-- What calls do with the slots of connections, and what is true of them.
+use Rattle.std.specs.Prelude.{◌≡◌, ◌≤◌, ⊤, ℕ, ◌+◌, ◌==◌, Bool, true, false, not, ◌&&◌, List, [], ◌∷◌, length, find, All, Option, Some, None, MatchOption, Result, Ok, Err, MatchResult}
+use Rattle.std.specs.Borrow.{Bor}
+use Rattle.std.specs.Option.{option_map_or}
+use Rattle.std.specs.List.{list_any}
+use Rattle.std.specs.Map.{values_of}
+use Rattle.rb_xdr.specs.Kept.{Kept}
+use Rattle.rb_xdr.specs.Pool.{Pool, HasDistinctKeys}
+use Rattle.rb_rpc.specs.Verdict.{verdict}
+use Rattle.rb_rpc.specs.declared.peer.Peer.{Peer}
+use Rattle.rb_model.specs.declared.types.CoreFault.{CoreFault}
+use Rattle.rb_connections.specs.declared.slot.Slot.{Slot}
+use Rattle.rb_connections.specs.declared.reading.Reader.{Reader}
+use Rattle.rb_connections.specs.declared.slot.Heard.{Heard}
+use Rattle.rb_connections.specs.declared.slot.Received.{Received}
+use Rattle.rb_connections.specs.declared.slot.Stage.{Stage}
+use Rattle.rb_connections.specs.declared.slot.Stage.TheVariants as stages
+use Rattle.rb_connections.specs.declared.slot.Wanted.{Wanted}
+use Rattle.rb_connections.specs.declared.slot.Whole.{Whole}
+use Rattle.rb_connections.specs.declared.slot.Wanted.TheVariants as wanted
+use Rattle.rb_connections.specs.declared.slot.Buffers.{Buffers}
+use Rattle.rb_model.specs.State.{Phase, Connection, Connections}
+use Rattle.rb_connections.specs.StandsFor.{buffer_size, IsReading, Source, StandsForConnection, Table, StandsForConnections, held_in, AreWithin}
+use Rattle.rb_model.specs.Calls.{kept_of}
+use Rattle.rb_model.specs.Connections.{longest_fragment, Taking, taking_on, taking, since_when_fed, reading, giving, is_lost, has_number, is_live, live_connection, on_live}
+use Rattle.rb_model.specs.Connections.Taking.{TakesNone, GoesOn, Ends}
+use Rattle.rb_model.specs.State.Phase.{Idle, Reading, Owing, Awaiting, Lost}
+use Rattle.rb_model.specs.Losses.{deadline, has_come, is_due}
+
+-- An act on what something stands for, which gives a result: from whatever the old one stood for, this result came,
+-- and the new one stands for what is there after the act.
+pub record Acts {Held Plain Result : Type 0} (StandsFor : Held → Plain → Type 0) (act : Plain → Result × Plain) (old new : Held) (result : Result) : Type 0 where
+  pub gives : (x : Plain) → StandsFor old x → result ≡ (act x).0
+  pub stands : (x : Plain) → StandsFor old x → StandsFor new (act x).1
+
+-- From whatever it stands for, this is what it shows.
+abbrev pub Shows : {Held Plain Result : Type 0} → (Held → Plain → Type 0) → (Plain → Result) → Held → Result → Type 0
+Shows {Held} {Plain} {Result} StandsFor show held result = (x : Plain) → StandsFor held x → result ≡ show x
+
+-- The same of bytes that are lent, or refused.
+abbrev pub Lends : {Held Plain : Type 0} → (Held → Plain → Type 0) → (Plain → Result (List ℕ) CoreFault) → Held → Result (Bor (List ℕ)) CoreFault → Type 0
+Lends {Held} {Plain} StandsFor show held result =
+    (x : Plain) → StandsFor held x → MatchResult result (λ bytes. show x ≡ Ok bytes.now) (λ fault. show x ≡ Err fault)
+
+-- ---- one slot
+
+-- an act on the connection that a slot stands for, whatever lists are made from
+abbrev pub SlotActs : {Result : Type 0} → (Connection → Result × Connection) → Slot → Slot → Result → Type 0
+SlotActs act old new result = (source : Source) → Acts (StandsForConnection source) act old new result
+
+-- From whatever connection the old slot stood for, the new one stands for what it becomes.
+abbrev pub SlotBecomesFrom : Source → (Connection → Connection) → Slot → Slot → Type 0
+SlotBecomesFrom source change old new =
+    (c : Connection) → StandsForConnection source old c → StandsForConnection source new (change c)
+
+-- n bytes that are pending are given on the connection that a slot stands for, or as many as there are
+abbrev pub SlotGives : Source → ℕ → ℕ → Slot → Slot → Type 0
+SlotGives source clock n old new = Acts (StandsForConnection source) (giving clock n) old new tt
+
+-- with its buffers emptied
+abbrev pub emptied_slot : Slot → Slot
+emptied_slot slot =
+    record slot { buffer = record slot.buffer { bytes = [] }; window = record slot.window { bytes = [] } }
+
+-- what a slot shows, whatever lists are made from
+abbrev pub SlotShows : {Result : Type 0} → (Connection → Result) → Slot → Result → Type 0
+SlotShows show slot result = (source : Source) → Shows (StandsForConnection source) show slot result
+
+-- The slot is about to be fed a piece behind these bytes of a record.
+pub record IsBeforePiece (slot : Slot) (reader : Reader) (clock : ℕ) (c : Connection) (fed : List ℕ) : Type 0 where
+  pub number : slot.number ≡ c.number
+  pub peer : slot.peer ≡ c.peer
+  pub since : slot.since ≡ since_when_fed clock c.since c.phase
+  pub reads : IsReading reader slot.buffer fed
+  pub window : slot.window.bytes ≡ []
+
+-- what is heard by a record with this data from a peer
+abbrev pub heard_of : Peer → List ℕ → Heard
+heard_of peer content = record { peer = peer; verdict = verdict content }
+
+-- what the core is told of a piece that a connection takes
+abbrev pub received : List ℕ → Connection → Taking → Received
+received piece c TakesNone = record { count = 0; heard = None }
+received piece c (GoesOn fed) = record { count = length piece; heard = None }
+received piece c (Ends n content) = record { count = n; heard = Some (heard_of c.peer content) }
+
+-- what the core is told of a record that is one fragment with this data
+abbrev pub heard_whole : Peer → List ℕ → Received
+heard_whole peer content = record { count = 4 + length content; heard = Some (heard_of peer content) }
+
+-- the arguments that the core has after it: those that are kept of the record that ended, or what it had before
+abbrev pub arguments_after : List ℕ → Taking → List ℕ
+arguments_after before TakesNone = before
+arguments_after before (GoesOn fed) = before
+arguments_after before (Ends n content) = kept_of content
+
+-- the connection meanwhile: it is Idle until the record that ended is answered
+abbrev pub fed_with : ℕ → Connection → Taking → Connection
+fed_with clock c TakesNone = c
+fed_with clock c (GoesOn fed) = reading clock fed c
+fed_with clock c (Ends n content) = record c { phase = Idle; since = clock }
+
+-- Whatever the slot is fed behind, this is what the core is told of a piece.
+abbrev pub ReceivesPiece : Slot → Reader → ℕ → List ℕ → Received → Type 0
+ReceivesPiece slot reader clock piece result =
+    (c : Connection) (fed : List ℕ) → IsBeforePiece slot reader clock c fed → result ≡ received piece c (taking_on fed piece)
+
+-- the new slot stands for the connection meanwhile
+abbrev pub StandsBehindPiece : Slot → Slot → Reader → ℕ → List ℕ → Type 0
+StandsBehindPiece old new reader clock piece =
+    (source : Source) (c : Connection) (fed : List ℕ) → IsBeforePiece old reader clock c fed
+    → StandsForConnection source new (fed_with clock c (taking_on fed piece))
+
+-- the core has these arguments after it, in the buffer that it hands in
+abbrev pub HearsPiece : Slot → Reader → ℕ → List ℕ → Kept → Kept → Type 0
+HearsPiece slot reader clock piece before after =
+    (c : Connection) (fed : List ℕ) → IsBeforePiece slot reader clock c fed
+    → after.bytes ≡ arguments_after before.bytes (taking_on fed piece)
+
+-- a piece is taken, and what it says is not answered yet
+unfoldable pub feeding : ℕ → List ℕ → Connection → Received × Connection
+feeding clock piece c = (received piece c (taking c.phase piece), fed_with clock c (taking c.phase piece))
+
+-- the arguments that the core has once a piece was taken
+abbrev pub arguments_heard : List ℕ → List ℕ → Connection → List ℕ
+arguments_heard before piece c = arguments_after before (taking c.phase piece)
+
+-- so in the buffer that it hands in
+abbrev pub SlotHears : List ℕ → Slot → Kept → Kept → Type 0
+SlotHears piece slot before after = SlotShows (arguments_heard before.bytes piece) slot after.bytes
+
+-- ---- the table
+
+-- an act on the connections, whatever lists are made from
+abbrev pub TableActs : {Result : Type 0} → (Connections → Result × Connections) → Table → Table → Result → Type 0
+TableActs act old new result = (source : Source) → Acts (StandsForConnections source) act old new result
+
+-- what a table shows of them, whatever lists are made from
+abbrev pub TableShows : {Result : Type 0} → (Connections → Result) → Table → Result → Type 0
+TableShows show table result = (source : Source) → Shows (StandsForConnections source) show table result
+
+-- the bytes that a table lends of them, or refuses, whatever lists are made from
+abbrev pub TableLends : (Connections → Result (List ℕ) CoreFault) → Table → Result (Bor (List ℕ)) CoreFault → Type 0
+TableLends show table result = (source : Source) → Lends (StandsForConnections source) show table result
+
+-- From whatever connections the old table stood for, the new one stands for what they become.
+abbrev pub BecomesFrom : Source → (Connections → Connections) → Table → Table → Type 0
+BecomesFrom source change old new =
+    (c : Connections) → StandsForConnections source old c → StandsForConnections source new (change c)
+
+-- the same whatever lists are made from
+abbrev pub TableBecomes : (Connections → Connections) → Table → Table → Type 0
+TableBecomes change old new = (source : Source) → BecomesFrom source change old new
+
+-- the arguments that the core has once a piece for the connection of a number was taken
+abbrev pub arguments_on : ℕ → List ℕ → List ℕ → Connections → List ℕ
+arguments_on id before piece connections = option_map_or (arguments_heard before piece) (live_connection id connections.all) before
+
+-- so in the buffer that it hands in
+abbrev pub TableHears : ℕ → List ℕ → Table → Kept → Kept → Type 0
+TableHears id piece table before after = TableShows (arguments_on id before.bytes piece) table after.bytes
+
+-- so many bytes of a piece were taken on the live connection of the number, and this was heard
+abbrev pub TableTakes : ℕ → ℕ → List ℕ → Table → Table → Received → Type 0
+TableTakes id clock piece old new got = TableActs (on_live id (feeding clock piece)) old new (Ok got)
+
+-- what is heard by a record that came whole,
+abbrev pub heard_in : Whole → Heard
+heard_in whole = heard_of whole.peer whole.content.now
+
+-- and which arguments are kept of it
+abbrev pub kept_in : Whole → List ℕ
+kept_in whole = kept_of whole.content.now
+
+-- it was taken on the live connection of the number,
+abbrev pub TakesWhole : ℕ → ℕ → List ℕ → Whole → Table → Table → Type 0
+TakesWhole id clock piece whole old new = TableTakes id clock piece old new (heard_whole whole.peer whole.content.now)
+
+-- where the core has its arguments after it
+abbrev pub KeepsWhole : ℕ → List ℕ → Whole → Table → Type 0
+KeepsWhole id piece whole old = (before : List ℕ) → TableShows (arguments_on id before piece) old (kept_in whole)
+
+-- n bytes that are pending are given on the live connection of the number, or as many as there are
+abbrev pub TableGives : Source → ℕ → ℕ → ℕ → Table → Table → Result (Unit {0}) CoreFault → Type 0
+TableGives source id clock n old new result =
+    Acts (StandsForConnections source) (on_live id (giving clock n)) old new result
+
+-- of at most so many connections, counted by this meter
+abbrev pub empty_table : ℕ → ℕ → Table
+empty_table conns tie = record { slots = []; given = 0; conns = conns; tie = tie }
+
+-- ---- what is looked for
+
+-- a phase of this stage, whatever else there is to know of it
+abbrev pub phase_like : Stage → Phase
+phase_like stages.Idle = Idle
+phase_like (stages.Reading reader) = Reading []
+phase_like (stages.Giving giving) = Owing (record { marked = []; given = 0; began = None })
+phase_like stages.Awaiting = Awaiting
+phase_like stages.Lost = Lost
+
+unfoldable pub is_due_slot : ℕ → Slot → Bool
+is_due_slot clock slot = has_come clock (deadline slot.since (phase_like slot.stage))
+
+abbrev pub is_lost_stage : Stage → Bool
+is_lost_stage stages.Lost = true
+is_lost_stage stages.Idle = false
+is_lost_stage (stages.Reading reader) = false
+is_lost_stage (stages.Giving giving) = false
+is_lost_stage stages.Awaiting = false
+
+abbrev pub is_idle_stage : Stage → Bool
+is_idle_stage stages.Idle = true
+is_idle_stage stages.Lost = false
+is_idle_stage (stages.Reading reader) = false
+is_idle_stage (stages.Giving giving) = false
+is_idle_stage stages.Awaiting = false
+
+unfoldable pub is_wanted_slot : Wanted → Slot → Bool
+is_wanted_slot (wanted.Live id) slot = slot.number == id && not (is_lost_stage slot.stage)
+is_wanted_slot (wanted.Numbered id) slot = slot.number == id
+is_wanted_slot wanted.AnyLost slot = is_lost_stage slot.stage
+is_wanted_slot (wanted.Due clock) slot = is_due_slot clock slot
+
+unfoldable pub is_wanted : Wanted → Connection → Bool
+is_wanted (wanted.Live id) c = is_live id c
+is_wanted (wanted.Numbered id) c = has_number id c
+is_wanted wanted.AnyLost c = is_lost c.phase
+is_wanted (wanted.Due clock) c = is_due clock c
+
+-- it is wanted by its number, which no other connection has
+abbrev pub is_by_number : Wanted → Bool
+is_by_number (wanted.Live id) = true
+is_by_number (wanted.Numbered id) = true
+is_by_number wanted.AnyLost = false
+is_by_number (wanted.Due clock) = false
+
+-- by which, and else by 0, which none has
+abbrev pub number_wanted : Wanted → ℕ
+number_wanted (wanted.Live id) = id
+number_wanted (wanted.Numbered id) = id
+number_wanted wanted.AnyLost = 0
+number_wanted (wanted.Due clock) = 0
+
+-- the key and the slot of the first connection that is wanted
+unfoldable pub wanted_slot : Wanted → List (ℕ × Slot) → Option (ℕ × Slot)
+wanted_slot sought slots = find (λ (e : ℕ × Slot). is_wanted_slot sought e.1) slots
+
+-- the first connection that is wanted, and its slot
+pub record IsFound (source : Source) (sought : Wanted) (all : List Connection) (slot : Slot) : Type 0 where
+  pub connection : Connection
+  pub found : find (is_wanted sought) all ≡ Some connection
+  pub stands : StandsForConnection source slot connection
+
+-- The first connection that is wanted was found, or there is none.
+abbrev pub Finds : Wanted → Table → Option (Bor Slot) → Type 0
+Finds sought table result =
+    (source : Source) (c : Connections) → StandsForConnections source table c
+    → MatchOption result (find (is_wanted sought) c.all ≡ None) (λ slot. IsFound source sought c.all slot.now)
+
+-- ---- what is true of all slots and buffers
+
+abbrev pub is_numbered : ℕ → Slot → Bool
+is_numbered id slot = slot.number == id
+
+-- no two slots have one number, and each number was given
+abbrev pub AreNumbered : ℕ → List Slot → Type 0
+AreNumbered given [] = ⊤
+AreNumbered given (slot ∷ rest) = (slot.number ≤ given) × (list_any (is_numbered slot.number) rest ≡ false) × AreNumbered given rest
+
+-- no two slots have one number
+abbrev pub HasDistinctNumbers : List Slot → Type 0
+HasDistinctNumbers [] = ⊤
+HasDistinctNumbers (slot ∷ rest) = (list_any (is_numbered slot.number) rest ≡ false) × HasDistinctNumbers rest
+
+-- the buffers of a connection, made with this meter
+pub record AreBuffers (tie : ℕ) (buffer window : Kept) : Type 0 where
+  pub buffer_tie : buffer.tie ≡ tie
+  pub window_tie : window.tie ≡ tie
+  pub buffer_cap : buffer.cap ≡ buffer_size
+  pub window_cap : window.cap ≡ longest_fragment
+
+abbrev pub HasBuffers : ℕ → Slot → Type 0
+HasBuffers tie slot = AreBuffers tie slot.buffer slot.window
+
+-- buffers that no connection has are empty
+pub record AreSpare (tie : ℕ) (b : Buffers) : Type 0 where
+  pub buffers : AreBuffers tie b.buffer b.window
+  pub buffer_empty : b.buffer.bytes ≡ []
+  pub window_empty : b.window.bytes ≡ []
+
+-- a buffer to write a reply in, which a connection takes in exchange for its own
+pub record IsDraft (tie : ℕ) (kept : Kept) : Type 0 where
+  pub tie_is : kept.tie ≡ tie
+  pub cap : kept.cap ≡ buffer_size
+
+-- the same, and it is empty
+pub record IsEmptyDraft (tie : ℕ) (kept : Kept) : Type 0 where
+  pub is_draft : IsDraft tie kept
+  pub empty : kept.bytes ≡ []
+
+-- the slot goes on having its number, and buffers of this meter
+pub record StaysSlot (tie : ℕ) (old new : Slot) : Type 0 where
+  pub number : new.number ≡ old.number
+  pub buffers : HasBuffers tie new
+
+-- as many connections as before may be there, counted by the same meter, and none comes to hold more than its buffers have
+-- room for
+pub record StaysTable (old new : Table) : Type 0 where
+  pub conns : new.conns ≡ old.conns
+  pub tie : new.tie ≡ old.tie
+  pub within : AreWithin old.slots → AreWithin new.slots
+
+-- What is true of all that is kept of connections: each connection that is not open has its buffers spare, and the number of
+-- bytes that are held is counted.
+pub record IsTable (slots : Pool Slot) (spare : Pool Buffers) (given conns held : ℕ) : Type 0 where
+  pub distinct : HasDistinctKeys slots.entries
+  pub spare_distinct : HasDistinctKeys spare.entries
+  pub room : length slots.entries + length spare.entries ≡ conns
+  pub cap : slots.cap ≡ conns
+  pub spare_cap : spare.cap ≡ conns
+  pub tie : spare.tie ≡ slots.tie
+  pub buffers : All (HasBuffers slots.tie) (values_of slots.entries)
+  pub spare_buffers : All (AreSpare slots.tie) (values_of spare.entries)
+  pub numbers : AreNumbered given (values_of slots.entries)
+  pub few : conns ≤ 256
+  pub within : AreWithin slots.entries
+  pub is_held : held ≡ held_in (values_of slots.entries)

@@ -1,0 +1,125 @@
+-- What is held of connections, and the connections that it stands for.
+use Rattle.std.specs.Prelude.{◌≡◌, ◌<◌, ◌≤◌, ⊤, ℕ, ◌+◌, ◌*◌, ◌/◌, ◌%◌, nat_le, max, List, [], length, take, drop, All, Option, Some, None}
+use Rattle.std.specs.List.{AllZip, sum_by}
+use Rattle.std.specs.Map.{values_of}
+use Rattle.rb_xdr.specs.Kept.{Kept}
+use Rattle.rb_rpc.specs.Marks.{StandsForFed}
+use Rattle.rb_rpc.specs.Records.{data_of, marked}
+use Rattle.rb_feed.specs.declared.feed.CallFeed.{CallFeed}
+use Rattle.rb_feed.specs.Feeds.{StandsForCall}
+use Rattle.rb_registry.specs.Registry.{Registry}
+use Rattle.rb_proto.specs.ListReplies.{longest_part, rest_of}
+use Rattle.rb_connections.specs.declared.reading.Reader.{Reader}
+use Rattle.rb_connections.specs.declared.giving.Giving.{Giving}
+use Rattle.rb_connections.specs.declared.giving.Rest.{Rest}
+use Rattle.rb_connections.specs.declared.giving.Rest.TheVariants as rests
+use Rattle.rb_connections.specs.declared.slot.Stage.{Stage}
+use Rattle.rb_connections.specs.declared.slot.Stage.TheVariants as stages
+use Rattle.rb_connections.specs.declared.slot.Slot.{Slot}
+use Rattle.rb_model.specs.Calls.{longest_reply, kept_of, longest_arguments}
+use Rattle.rb_model.specs.State.{Owed, Phase, Connection, Connections}
+use Rattle.rb_model.specs.Connections.{longest_fragment}
+use Rattle.rb_model.specs.State.Phase.{Idle, Reading, Owing, Awaiting, Lost}
+
+-- a connection's buffer has the arguments of the call that is read, and later the reply to it
+unfoldable pub buffer_size : ℕ
+buffer_size = max longest_arguments longest_reply
+
+-- The head and the buffer stand for this data of a record.
+pub record IsHeld (head : CallFeed) (kept : Kept) (content : List ℕ) : Type 0 where
+  pub head_is : StandsForCall head content
+  pub kept_is : kept.bytes ≡ kept_of content
+  pub cap : kept.cap ≡ buffer_size
+
+-- The marking state besides stands for the bytes fed since the last record's end.
+pub record IsReading (reader : Reader) (kept : Kept) (fed : List ℕ) : Type 0 where
+  pub marks_are : StandsForFed reader.marks fed
+  pub data_is : IsHeld reader.head kept (data_of fed)
+
+-- ---- a reply that is given
+
+-- the whole fragment in which the giving stands
+unfoldable pub window : Owed → List ℕ
+window o = take longest_fragment (drop (longest_fragment * (o.given / longest_fragment)) o.marked)
+
+-- A window shows the fragment of this reply in which the giving stands.
+pub record IsShown (reply : List ℕ) (shown : Kept) (o : Owed) : Type 0 where
+  pub marked : o.marked ≡ marked reply
+  pub owes : o.given < length o.marked
+  pub shown_is : shown.bytes ≡ window o
+  pub cap : shown.cap ≡ longest_fragment
+
+-- what lists are made from: the host that they show, and the rows
+pub record Source : Type 0 where
+  pub host : List ℕ
+  pub registry : Registry
+
+abbrev pub source_for : List ℕ → Registry → Source
+source_for host registry = record { host = host; registry = registry }
+
+-- the bytes that are not shown yet: those of the buffer from a place on, or those of a list, as its source makes them
+abbrev pub rest_in : Source → List ℕ → Rest → List ℕ
+rest_in source buffer (rests.Held start) = drop start buffer
+rest_in source buffer (rests.Listed list) = rest_of source.host source.registry list
+
+-- after how many changes the reply began, where it is a list
+abbrev pub stamp_in : Rest → Option ℕ
+stamp_in (rests.Held start) = None
+stamp_in (rests.Listed list) = Some list.stamp
+
+-- The window and the rest behind it stand for what is owed: so many bytes of the fragment that is shown were given.
+pub record IsGiving (source : Source) (giving : Giving) (buffer : List ℕ) (shown : Kept) (o : Owed) : Type 0 where
+  pub reply : List ℕ
+  pub shows : IsShown reply shown o
+  pub began : o.began ≡ stamp_in giving.rest
+  pub place : giving.place ≡ o.given % longest_fragment
+  pub rest : rest_in source buffer giving.rest ≡ drop (longest_part * (o.given / longest_fragment + 1)) reply
+  pub last : giving.last ≡ nat_le (length reply) (longest_part * (o.given / longest_fragment + 1))
+
+-- ---- one connection
+
+-- The stage and the buffers hold what there is to know of the phase, but for the rest of a list, which is made from its source.
+abbrev pub StandsForPhase : Source → Stage → Kept → Kept → Phase → Type 0
+StandsForPhase source stages.Idle buffer window Idle = (buffer.bytes ≡ []) × (window.bytes ≡ [])
+StandsForPhase source (stages.Reading reader) buffer window (Reading fed) = IsReading reader buffer fed × (window.bytes ≡ [])
+StandsForPhase source (stages.Giving giving) buffer window (Owing o) = IsGiving source giving buffer.bytes window o
+StandsForPhase source stages.Awaiting buffer window Awaiting = (buffer.bytes ≡ []) × (window.bytes ≡ [])
+StandsForPhase source stages.Lost buffer window Lost = ⊤
+StandsForPhase source stage buffer window phase = ⊥
+
+pub record StandsForConnection (source : Source) (slot : Slot) (c : Connection) : Type 0 where
+  pub number : slot.number ≡ c.number
+  pub peer : slot.peer ≡ c.peer
+  pub since : slot.since ≡ c.since
+  pub phase : StandsForPhase source slot.stage slot.buffer slot.window c.phase
+
+-- the bytes of its buffer and its window count, and 128 for its fixed part
+abbrev pub charge : Slot → ℕ
+charge slot = 128 + length slot.buffer.bytes + length slot.window.bytes
+
+-- with a full buffer and a full window
+abbrev pub most_charge : ℕ
+most_charge = 128 + buffer_size + longest_fragment
+
+abbrev pub IsWithin : Slot → Type 0
+IsWithin slot = charge slot ≤ most_charge
+
+-- ---- all connections
+
+-- the slots of connections with their keys, in order of opening, how many numbers were given, how many connections
+-- there may be, and the number of the meter that counts the calls
+pub record Table : Type 0 where
+  pub slots : List (ℕ × Slot)
+  pub given : ℕ
+  pub conns : ℕ
+  pub tie : ℕ
+
+pub record StandsForConnections (source : Source) (table : Table) (connections : Connections) : Type 0 where
+  pub all : AllZip (StandsForConnection source) (values_of table.slots) connections.all
+  pub next : connections.next ≡ table.given + 1
+
+abbrev pub held_in : List Slot → ℕ
+held_in slots = sum_by charge slots
+
+abbrev pub AreWithin : List (ℕ × Slot) → Type 0
+AreWithin slots = All IsWithin (values_of slots)

@@ -1,0 +1,564 @@
+//! The connections that are open, in the order of their openings.
+ghost use Rattle.std.specs.Prelude.{◌≡◌, ◌<◌, ◌≤◌, ◌+◌, ◌*◌, ◌++◌, ◌∷◌, [], All, length, IfOk};
+ghost use Rattle.std.specs.Option.{option_map};
+ghost use Rattle.std.specs.Map.{values_of};
+ghost use Rattle.rb_xdr.specs.Meter.{Pays, PaysAtMost};
+ghost use Rattle.rb_xdr.specs.Pool.{HasDistinctKeys};
+ghost use Rattle.rb_connections.specs.Slots.{wanted_slot, AreBuffers, AreSpare, HasBuffers, HasDistinctNumbers};
+ghost use Rattle.rb_connections.specs.StandsFor.{charge, most_charge, IsWithin};
+ghost use Rattle.rb_connections.specs.Listings.{earlier, began_early, with_evicted, stamps_in, IsOldest};
+ghost use Rattle.rb_model.specs.Costs.{oldest_cost, evict_cost};
+
+use crate::giving::LONGEST_FRAGMENT;
+use crate::hints::Hints;
+use crate::reading::LONGEST_ARGUMENTS;
+use crate::served::{LONGEST_REPLY, Served};
+use crate::slot::{Buffers, CHARGE, Received, Slot, Stage, Wanted, Whole};
+use rb_model::CoreFault;
+use rb_registry::Registry;
+use rb_rpc::{Peer, one_fragment};
+use rb_xdr::{Kept, Meter, NoMemory, Pool};
+use std::alloc::Global;
+use std::marker::Model;
+
+/// The size of a buffer: it has the arguments of the call that is read, and later the reply to it.
+pub const BUFFER_SIZE: usize = if LONGEST_ARGUMENTS < LONGEST_REPLY {
+    LONGEST_REPLY
+} else {
+    LONGEST_ARGUMENTS
+};
+
+/// The connections that are open, in the order of their openings, and the buffers of those that are not.
+#[derive(Drop)]
+pub struct Connections {
+    slots: Pool<Slot>,
+    spare: Pool<Buffers>,
+    given: u64,
+    conns: usize,
+    held: u64,
+    hints: Hints,
+}
+
+/// A core keeps its bytes in pools and buffers alone. A further field would not compile here: it
+/// belongs in the table of charges of docs/RULES.md first.
+fn layout(connections: &Connections) {
+    let Connections {
+        slots,
+        spare,
+        given,
+        conns,
+        held,
+        hints,
+    } = connections;
+    let _: &Pool<Slot> = slots;
+    let _: &Pool<Buffers> = spare;
+    let _: (u64, usize, u64, Hints) = (*given, *conns, *held, *hints);
+}
+
+impl Model for Connections {
+    ghost use Rattle.rb_connections.specs.StandsFor.{Table};
+    ghost use Rattle.rb_connections.specs.Slots.{IsTable};
+
+    ghost Value = { Table };
+
+    ghost view = { λ c. record { slots = c.slots.entries; given = c.given; conns = c.conns; tie = c.slots.tie } };
+
+    ghost invariant = { λ c. IsTable c.slots c.spare c.given c.conns c.held };
+}
+
+/// Takes the first spare buffers out.
+fn take_buffers(spare: &mut Pool<Buffers>, meter: &mut Meter) -> Buffers
+    requires tie { meter.old.tie ≡ spare.old.tie }
+    requires some { 0 < length spare.old.entries }
+    requires buffers { All (AreSpare spare.old.tie) (values_of spare.old.entries) }
+    requires distinct { HasDistinctKeys spare.old.entries }
+    ensures fewer { length spare.old.entries ≡ length spare.new.entries + 1 }
+    ensures buffers { All (AreSpare spare.old.tie) (values_of spare.new.entries) }
+    ensures distinct { HasDistinctKeys spare.new.entries }
+    ensures made { AreSpare spare.old.tie result }
+    ensures cap { spare.new.cap ≡ spare.old.cap }
+    ensures tie { spare.new.tie ≡ spare.old.tie }
+    ensures cost { PaysAtMost meter.old meter.new 2 }
+{
+    let Some(key) = spare.first(meter) else {
+        unreachable!()
+    };
+    let Some(buffers) = spare.remove(key, meter) else {
+        unreachable!()
+    };
+    buffers
+}
+
+/// Adds buffers to the spare ones, emptied.
+fn put_buffers(spare: &mut Pool<Buffers>, mut buffers: Buffers, meter: &mut Meter)
+    requires tie { meter.old.tie ≡ spare.old.tie }
+    requires room { length spare.old.entries < spare.old.cap }
+    requires buffers { All (AreSpare spare.old.tie) (values_of spare.old.entries) }
+    requires made { AreBuffers spare.old.tie buffers.buffer buffers.window }
+    requires distinct { HasDistinctKeys spare.old.entries }
+    ensures more { length spare.new.entries ≡ length spare.old.entries + 1 }
+    ensures buffers { All (AreSpare spare.old.tie) (values_of spare.new.entries) }
+    ensures distinct { HasDistinctKeys spare.new.entries }
+    ensures cap { spare.new.cap ≡ spare.old.cap }
+    ensures tie { spare.new.tie ≡ spare.old.tie }
+    ensures cost { PaysAtMost meter.old meter.new 3 }
+{
+    buffers.buffer.clear(meter);
+    buffers.window.clear(meter);
+    let Ok(_) = spare.insert(buffers, meter) else {
+        unreachable!()
+    };
+}
+
+/// Adds a slot behind the others, and gives its key.
+fn put_slot(slots: &mut Pool<Slot>, slot: Slot, meter: &mut Meter) -> usize
+    requires tie { meter.old.tie ≡ slots.old.tie }
+    requires room { length slots.old.entries < slots.old.cap }
+    requires distinct { HasDistinctKeys slots.old.entries }
+    ensures last { values_of slots.new.entries ≡ values_of slots.old.entries ++ slot ∷ [] }
+    ensures more { length slots.new.entries ≡ length slots.old.entries + 1 }
+    ensures distinct { HasDistinctKeys slots.new.entries }
+    ensures cap { slots.new.cap ≡ slots.old.cap }
+    ensures tie { slots.new.tie ≡ slots.old.tie }
+    ensures cost { PaysAtMost meter.old meter.new 1 }
+{
+    let Ok(key) = slots.insert(slot, meter) else {
+        unreachable!()
+    };
+    key
+}
+
+/// The smaller of two optional numbers.
+fn earlier(a: Option<u64>, b: Option<u64>) -> Option<u64>
+    ensures { result ≡ earlier a b }
+{
+    match (a, b) {
+        (Some(a), Some(b)) => Some(a.min(b)),
+        (Some(a), None) => Some(a),
+        (None, b) => b,
+    }
+}
+
+/// The least number of changes after which a list began that is being given.
+fn oldest_in(slots: &Pool<Slot>, meter: &mut Meter) -> Option<u64>
+    requires tie { meter.old.tie ≡ slots.now.tie }
+    ensures oldest { IsOldest (stamps_in slots.now.entries) result }
+    ensures cost { PaysAtMost meter.old meter.new (oldest_cost (length slots.now.entries)) }
+{
+    let mut oldest = None;
+    let mut place = None;
+    'slots: while let Some((key, slot)) = slots.entry_after(place, meter) {
+        oldest = earlier(oldest, slot.began());
+        place = Some(key);
+    }
+    oldest
+}
+
+/// Whether a list that began after so many changes did so before a change.
+fn is_early(began: Option<u64>, earliest: u64) -> bool
+    ensures { result ≡ began_early earliest began }
+{
+    match began {
+        Some(stamp) => stamp < earliest,
+        None => false,
+    }
+}
+
+/// Each slot becomes Lost whose list began before a change.
+fn evict_slots(slots: &mut Pool<Slot>, earliest: u64, meter: &mut Meter)
+    requires tie { meter.old.tie ≡ slots.old.tie }
+    requires distinct { HasDistinctKeys slots.old.entries }
+    ensures evicted { slots.new ≡ with_evicted earliest slots.old }
+    ensures cost { PaysAtMost meter.old meter.new (evict_cost (length slots.old.entries)) }
+{
+    let mut place = None;
+    'slots: while let Some((key, slot)) = slots.entry_after(place, meter) {
+        if is_early(slot.began(), earliest) {
+            let Some(reader) = slots.get_mut(key, meter) else {
+                unreachable!()
+            };
+            reader.stage = Stage::Lost;
+        }
+        place = Some(key);
+    }
+}
+
+/// As many buffers as there may be connections.
+#[tactic(auto, unfolding(rb_model::specs::Calls::longest_arguments, crate::specs::StandsFor::buffer_size, rb_model::specs::Calls::longest_reply, rb_model::specs::Connections::longest_fragment))]
+fn make_spare(alloc: Global, conns: usize, meter: &mut Meter) -> Result<Pool<Buffers>, NoMemory>
+    ensures distinct { IfOk result (λ spare. HasDistinctKeys spare.entries) }
+    ensures all { IfOk result (λ spare. length spare.entries ≡ conns) }
+    ensures cap { IfOk result (λ spare. spare.cap ≡ conns) }
+    ensures tie { IfOk result (λ spare. spare.tie ≡ meter.old.tie) }
+    ensures buffers { IfOk result
+        (λ spare. All (AreSpare meter.old.tie) (values_of spare.entries)) }
+    ensures cost { PaysAtMost meter.old meter.new (3 * conns) }
+{
+    let mut spare = Pool::new(alloc, conns, meter)?;
+    for _i in 0..conns {
+        let buffer = Kept::new(alloc, BUFFER_SIZE, meter)?;
+        let window = Kept::new(alloc, LONGEST_FRAGMENT, meter)?;
+        put_buffers(&mut spare, Buffers { buffer, window }, meter);
+    }
+    Ok(spare)
+}
+
+/// The key of the first slot that is wanted. One that is wanted by its number is looked for under the hint first.
+///
+/// It is inlined, since each caller knows what kind is wanted, and each call over TCP looks its connection up more
+/// than once.
+#[tactic(auto, unfolding(crate::specs::Slots::wanted_slot))]
+#[inline(always)]
+fn wanted_key(slots: &Pool<Slot>, hints: &Hints, wanted: Wanted, meter: &mut Meter) -> Option<usize>
+    requires tie { meter.old.tie ≡ slots.now.tie }
+    requires numbers { HasDistinctNumbers (values_of slots.now.entries) }
+    ensures key { result ≡ option_map (λ e. e.0) (wanted_slot wanted slots.now.entries) }
+    ensures cost { PaysAtMost meter.old meter.new (2 * length slots.now.entries + 2) }
+{
+    let hint = hints.key(wanted);
+    match slots.get(hint, meter) {
+        Some(slot) if wanted.is_by_number() && slot.is_wanted(wanted) => Some(hint),
+        _ => slots.find_key(|slot| slot.is_wanted(wanted), meter),
+    }
+}
+
+/// The bytes that all connections hold after a change of one, which counted as `before` until then.
+#[tactic(auto, unfolding(rb_model::specs::Calls::longest_reply, rb_model::specs::Calls::longest_arguments, crate::specs::StandsFor::buffer_size, rb_model::specs::Connections::longest_fragment))]
+fn recounted(held: u64, before: u64, slot: &Slot, meter: &mut Meter) -> u64
+    requires buffers { HasBuffers meter.old.tie slot.now }
+    requires before { before ≤ held }
+    requires few { held ≤ 256 * most_charge }
+    ensures held { result + before ≡ held + charge slot.now }
+    ensures within { IsWithin slot.now }
+    ensures cost { Pays meter.old meter.new 2 }
+{
+    held - before + slot.charge(meter)
+}
+
+impl Connections {
+    ghost use Rattle.std.specs.Prelude.{◌≡◌, ◌≤◌, ◌<◌, ◌+◌, ◌*◌, [], true, false, ℕ, length, Some, OnErr, IfOk, IfSome, IfNone, All};
+    ghost use Rattle.rb_model.specs.Connections.{on_live, opening_of, closing_of, first_lost, longest_fragment};
+    ghost use Rattle.rb_connections.specs.Giving.{pending_count};
+    ghost use Rattle.rb_connections.specs.Settling.{Settles, kind_in, IsWritten};
+    ghost use Rattle.rb_connections.specs.Listings.{CanListOn, KeepsListing, EvictsBefore, stamps_of, IsOldest};
+    ghost use Rattle.rb_model.specs.Losses.{expiring};
+    ghost use Rattle.rb_connections.specs.Slots.{Finds, TableActs, TableGives, TableHears, TableLends, TableShows, TakesWhole, KeepsWhole, StaysTable, IsDraft, IsEmptyDraft, empty_table, feeding, HasBuffers};
+    ghost use Rattle.rb_model.specs.Step.{pending_at};
+    ghost use Rattle.rb_connections.specs.Costs.{slot_count, look_cost, received_cost, taken_cost, settling_cost, row_count};
+    ghost use Rattle.rb_model.specs.Costs.{given_cost, recount_cost, pending_cost, oldest_cost, evict_cost};
+    ghost use Rattle.rb_connections.specs.Awaits.{AwaitsIfForwarded, NoneIsFreed, OnlyIsFreed, HeardFrom, HearsFree, GoOn, StayOpen};
+    ghost use Rattle.rb_connections.specs.StandsFor.{held_in, most_charge, source_for};
+    ghost use Rattle.std.specs.Map.{values_of};
+
+    /// An empty table of at most `conns` connections, whose memory is all allocated here.
+    pub fn new(alloc: Global, conns: usize, meter: &mut Meter) -> Result<Connections, NoMemory>
+        requires { conns ≤ 256 }
+        ensures empty { IfOk result (λ c. c ≡ empty_table conns meter.old.tie) }
+        ensures cost { PaysAtMost meter.old meter.new (3 * conns) }
+    {
+        let spare = make_spare(alloc, conns, meter)?;
+        Ok(Connections {
+            slots: Pool::written(alloc, conns, || Slot::blank(alloc), meter)?,
+            spare,
+            given: 0,
+            conns,
+            held: 0,
+            hints: Hints::new(),
+        })
+    }
+
+    /// Opens a connection, and gives its number: `Full` where there are as many as there may be, lost ones among
+    /// them, else `Spent` where no number is left.
+    pub fn open(&mut self, clock: u64, peer: Peer, meter: &mut Meter) -> Result<u64, CoreFault>
+        requires { meter.old.tie ≡ self.old.tie }
+        ensures acts { TableActs (opening_of self.old.conns peer clock) self.old self.new result }
+        ensures goes_on { GoOn self.old self.new }
+        ensures refused { OnErr result (self.new ≡ self.old) }
+        ensures cost { PaysAtMost meter.old meter.new 4 }
+    {
+        if self.slots.len(meter) >= self.conns {
+            return Err(CoreFault::Full);
+        }
+        if self.given == u64::MAX {
+            return Err(CoreFault::Spent);
+        }
+        let Buffers { buffer, window } = take_buffers(&mut self.spare, meter);
+        self.given += 1;
+        self.held += CHARGE;
+        let slot = Slot {
+            number: self.given,
+            peer,
+            stage: Stage::Idle,
+            since: clock,
+            buffer,
+            window,
+        };
+        let key = put_slot(&mut self.slots, slot, meter);
+        self.hints.note(self.given, key);
+        Ok(self.given)
+    }
+
+    /// Removes the connection of the number, live or Lost: `Gone` where there is none.
+    pub fn close(&mut self, id: u64, meter: &mut Meter) -> Result<(), CoreFault>
+        requires { meter.old.tie ≡ self.old.tie }
+        ensures acts { TableActs (closing_of id) self.old self.new result }
+        ensures goes_on { GoOn self.old self.new }
+        ensures refused { OnErr result (self.new ≡ self.old) }
+        ensures cost { PaysAtMost meter.old meter.new (look_cost self.old + 5) }
+    {
+        let Some(key) = wanted_key(&self.slots, &self.hints, Wanted::Numbered(id), meter) else {
+            return Err(CoreFault::Gone);
+        };
+        let Some(slot) = self.slots.remove(key, meter) else {
+            unreachable!()
+        };
+        self.held -= slot.charge(meter);
+        let Slot { buffer, window, .. } = slot;
+        put_buffers(&mut self.spare, Buffers { buffer, window }, meter);
+        Ok(())
+    }
+
+    /// Takes a record that is one fragment and lies whole in the piece, as most do, where the live connection of the
+    /// number is Idle and under its hint. The connection is Idle until it is settled. `None` where it is not so, and
+    /// then nothing changed.
+    pub fn hear<'a>(
+        &mut self,
+        id: u64,
+        piece: &'a [u8],
+        clock: u64,
+        meter: &mut Meter,
+    ) -> Option<Whole<'a>>
+        requires { meter.old.tie ≡ self.old.tie }
+        ensures acts { IfSome result (λ whole. TakesWhole id clock piece.now whole self.old self.new) }
+        ensures arguments { IfSome result (λ whole. KeepsWhole id piece.now whole self.old) }
+        ensures from { IfSome result (λ whole. HeardFrom id clock self.old self.new) }
+        ensures within { IfSome result (λ whole. 4 + length whole.content.now ≤ length piece.now) }
+        ensures refused { IfNone result (self.new ≡ self.old) }
+        ensures goes_on { GoOn self.old self.new }
+        ensures as_many { length self.new.slots ≡ length self.old.slots }
+        ensures cost { PaysAtMost meter.old meter.new 1 }
+    {
+        let content = one_fragment(piece)?;
+        let slot = self.slots.get_mut(self.hints.key(Wanted::Live(id)), meter)?;
+        let peer = slot.hear_whole(id, clock)?;
+        Some(Whole { peer, content })
+    }
+
+    /// Takes bytes that arrive on the live connection of the number, up to the end of a record, and says what the
+    /// record is, whose arguments go into the buffer: `Gone` where there is no such connection.
+    pub fn take(
+        &mut self,
+        id: u64,
+        piece: &[u8],
+        clock: u64,
+        arguments: &mut Kept,
+        meter: &mut Meter,
+    ) -> Result<Received, CoreFault>
+        requires tie { meter.old.tie ≡ self.old.tie }
+        requires arguments { IsDraft meter.old.tie arguments.old }
+        ensures acts { TableActs (on_live id (feeding clock piece.now)) self.old self.new result }
+        ensures arguments { TableHears id piece.now self.old arguments.old arguments.new }
+        ensures goes_on { GoOn self.old self.new }
+        ensures hears { HearsFree id clock self.old self.new result }
+        ensures within { IfOk result (λ got. got.count ≤ length piece.now) }
+        ensures refused { OnErr result (self.new ≡ self.old) }
+        ensures kept { OnErr result (arguments.new ≡ arguments.old) }
+        ensures draft { IsDraft meter.old.tie arguments.new }
+        ensures as_many { length self.new.slots ≡ length self.old.slots }
+        ensures cost { PaysAtMost meter.old meter.new
+            (2 * slot_count self.old + 3 + taken_cost result) }
+    {
+        let Some(key) = wanted_key(&self.slots, &self.hints, Wanted::Live(id), meter) else {
+            return Err(CoreFault::Gone);
+        };
+        self.hints.note(id, key);
+        let Some(slot) = self.slots.get_mut(key, meter) else {
+            unreachable!()
+        };
+        let before = slot.charge(meter);
+        let received = slot.take(piece, clock, arguments, meter);
+        self.held = recounted(self.held, before, slot, meter);
+        Ok(received)
+    }
+
+    /// The live connection of the number goes on as its record is answered, or its call that was forwarded. It owes a
+    /// reply, for which it gives an empty buffer, or a list, whose first fragment is made in this one; or it is
+    /// Awaiting, Idle or Lost.
+    pub fn settle(
+        &mut self,
+        id: u64,
+        served: Served,
+        clock: u64,
+        host: [u8; 4],
+        registry: &Registry,
+        draft: &mut Kept,
+        meter: &mut Meter,
+    )
+        requires registry { meter.old.tie ≡ registry.now.tie }
+        requires tie { meter.old.tie ≡ self.old.tie }
+        requires draft { IsDraft meter.old.tie draft.old }
+        requires written { IsWritten served draft.old.bytes }
+        requires lists { CanListOn (source_for host registry.now) self.old }
+        ensures stands { Settles
+            (source_for host registry.now) id clock served draft.old.bytes self.old self.new }
+        ensures lists { CanListOn (source_for host registry.now) self.new }
+        ensures others { OnlyIsFreed id self.old self.new }
+        ensures awaits { AwaitsIfForwarded (kind_in served) id self.old self.new }
+        ensures stays { StaysTable self.old self.new }
+        ensures draft { IsEmptyDraft meter.old.tie draft.new }
+        ensures cost { PaysAtMost meter.old meter.new
+            (settling_cost (slot_count self.old) registry.now served) }
+    {
+        let Some(key) = wanted_key(&self.slots, &self.hints, Wanted::Live(id), meter) else {
+            draft.clear(meter);
+            return;
+        };
+        self.hints.note(id, key);
+        let Some(slot) = self.slots.get_mut(key, meter) else {
+            unreachable!()
+        };
+        let before = slot.charge(meter);
+        slot.settle(served, clock, host, registry, draft, meter);
+        self.held = recounted(self.held, before, slot, meter);
+    }
+
+    /// Counts n of the pending bytes of the live connection of the number as given, or as many as there are: `Gone`
+    /// where there is none. The next fragment of a list is made in a buffer that is empty before and after.
+    pub fn give(
+        &mut self,
+        id: u64,
+        n: usize,
+        clock: u64,
+        host: [u8; 4],
+        registry: &Registry,
+        scratch: &mut Kept,
+        meter: &mut Meter,
+    ) -> Result<(), CoreFault>
+        requires registry { meter.old.tie ≡ registry.now.tie }
+        requires tie { meter.old.tie ≡ self.old.tie }
+        requires scratch { IsEmptyDraft meter.old.tie scratch.old }
+        requires lists { CanListOn (source_for host registry.now) self.old }
+        ensures acts { TableGives
+            (source_for host registry.now) id clock n self.old self.new result }
+        ensures lists { CanListOn (source_for host registry.now) self.new }
+        ensures free { NoneIsFreed self.old self.new }
+        ensures refused { OnErr result (self.new ≡ self.old) }
+        ensures stays { StaysTable self.old self.new }
+        ensures draft { IsEmptyDraft meter.old.tie scratch.new }
+        ensures cost { PaysAtMost meter.old meter.new
+            (look_cost self.old + (given_cost (row_count registry.now) + recount_cost)) }
+    {
+        let Some(key) = wanted_key(&self.slots, &self.hints, Wanted::Live(id), meter) else {
+            return Err(CoreFault::Gone);
+        };
+        self.hints.note(id, key);
+        let Some(slot) = self.slots.get_mut(key, meter) else {
+            unreachable!()
+        };
+        let before = slot.charge(meter);
+        slot.give(n, clock, host, registry, scratch, meter);
+        self.held = recounted(self.held, before, slot, meter);
+        Ok(())
+    }
+
+    /// The least number of changes after which a list began that is being given.
+    pub fn oldest(&self, meter: &mut Meter) -> Option<u64>
+        requires { meter.old.tie ≡ self.now.tie }
+        ensures oldest { IsOldest (stamps_of self.now) result }
+        ensures cost { PaysAtMost meter.old meter.new (oldest_cost (slot_count self.now)) }
+    {
+        oldest_in(&self.slots, meter)
+    }
+
+    /// Each connection becomes Lost whose list began before a change.
+    pub fn evict(&mut self, earliest: u64, meter: &mut Meter)
+        requires { meter.old.tie ≡ self.old.tie }
+        ensures evicts { EvictsBefore earliest self.old self.new }
+        ensures lists { KeepsListing self.old self.new }
+        ensures later { All (λ stamp. earliest ≤ stamp) (stamps_of self.new) }
+        ensures open { StayOpen self.old self.new }
+        ensures cost { PaysAtMost meter.old meter.new (evict_cost (slot_count self.old)) }
+    {
+        evict_slots(&mut self.slots, earliest, meter);
+    }
+
+    /// The connection of least number whose deadline has come becomes Lost.
+    pub fn expire(&mut self, clock: u64, meter: &mut Meter) -> Option<u64>
+        requires { meter.old.tie ≡ self.old.tie }
+        ensures acts { TableActs (expiring clock) self.old self.new result }
+        ensures goes_on { GoOn self.old self.new }
+        ensures cost { PaysAtMost meter.old meter.new (look_cost self.old) }
+    {
+        let Some(key) = wanted_key(&self.slots, &self.hints, Wanted::Due(clock), meter) else {
+            return None;
+        };
+        let Some(slot) = self.slots.get_mut(key, meter) else {
+            unreachable!()
+        };
+        slot.stage = Stage::Lost;
+        Some(slot.number)
+    }
+
+    /// How many bytes are held: those of the buffers of each connection, Lost ones too, and 128 for the rest of each.
+    pub fn held(&self) -> u64
+        ensures held { result ≡ held_in (values_of self.now.slots) }
+        ensures bound { result ≤ most_charge * self.now.conns }
+    {
+        self.held
+    }
+
+    /// The first connection that is wanted.
+    #[inline(always)]
+    fn first(&self, wanted: Wanted, meter: &mut Meter) -> Option<&Slot>
+        requires { meter.old.tie ≡ self.now.tie }
+        ensures found { Finds wanted self.now result }
+        ensures buffers { IfSome result (λ slot. HasBuffers self.now.tie slot.now) }
+        ensures cost { PaysAtMost meter.old meter.new (look_cost self.now) }
+    {
+        let Some(key) = wanted_key(&self.slots, &self.hints, wanted, meter) else {
+            return None;
+        };
+        match self.slots.get(key, meter) {
+            Some(slot) => Some(slot),
+            None => None,
+        }
+    }
+
+    /// How many bytes are pending on the live connection of the number: `Gone` where there is none.
+    pub fn pending_len(&self, id: u64, meter: &mut Meter) -> Result<usize, CoreFault>
+        requires { meter.old.tie ≡ self.now.tie }
+        ensures len { TableShows (λ c. pending_count (pending_at id c)) self.now result }
+        ensures cost { PaysAtMost meter.old meter.new (look_cost self.now + 1) }
+    {
+        let Some(slot) = self.first(Wanted::Live(id), meter) else {
+            return Err(CoreFault::Gone);
+        };
+        Ok(slot.pending_len(meter))
+    }
+
+    /// The rest of the current fragment of the reply that the live connection of the number owes, empty where it owes
+    /// none: `Gone` where there is no such connection.
+    pub fn pending(&self, id: u64, meter: &mut Meter) -> Result<&[u8], CoreFault>
+        requires { meter.old.tie ≡ self.now.tie }
+        ensures lent { TableLends (pending_at id) self.now result }
+        ensures few { IfOk result (λ bytes. length bytes.now ≤ longest_fragment) }
+        ensures cost { PaysAtMost meter.old meter.new (look_cost self.now + pending_cost) }
+    {
+        let Some(slot) = self.first(Wanted::Live(id), meter) else {
+            return Err(CoreFault::Gone);
+        };
+        Ok(slot.pending(meter))
+    }
+
+    /// The least number of those that are Lost.
+    pub fn next_lost(&self, meter: &mut Meter) -> Option<u64>
+        requires { meter.old.tie ≡ self.now.tie }
+        ensures lost { TableShows first_lost self.now result }
+        ensures cost { PaysAtMost meter.old meter.new (look_cost self.now) }
+    {
+        match self.first(Wanted::AnyLost, meter) {
+            Some(slot) => Some(slot.number),
+            None => None,
+        }
+    }
+}

@@ -1,0 +1,212 @@
+//! A reply that is given fragment by fragment (RFC 5531 section 11).
+//!
+//! A window shows its current fragment, marked. What is behind that is in the connection's buffer, unmarked, or it is
+//! a list, which is held nowhere as a whole: its next fragment is made from the registry once this one was given.
+ghost use Rattle.std.specs.Prelude.{◌≡◌, ◌+◌, ◌<◌, ◌≤◌, ◌++◌, ℕ, List, [], length, take};
+ghost use Rattle.rb_xdr.specs.Meter.{PaysAtMost};
+ghost use Rattle.rb_xdr.specs.Puts.{Appends, HasRoom};
+ghost use Rattle.rb_model.specs.Connections.{longest_fragment};
+ghost use Rattle.rb_connections.specs.StandsFor.{Source, rest_in, source_for};
+ghost use Rattle.rb_connections.specs.Giving.{CanTell, ShowsNext};
+ghost use Rattle.rb_rpc.specs.Records.{fragment_header};
+ghost use Rattle.rb_proto.specs.ListReplies.{longest_part};
+ghost use Rattle.rb_connections.specs.Slots.{IsDraft, IsEmptyDraft};
+ghost use Rattle.rb_model.specs.Costs.{listed_cost, show_cost};
+ghost use Rattle.rb_connections.specs.Costs.{next_cost, row_count};
+ghost use Rattle.rb_connections.specs.Giving.{IsGivenWhole, whole_cost, whole_length};
+ghost use Rattle.rb_connections.specs.declared.giving.Rest.TheVariants.{Held, Listed};
+
+use rb_proto::{LONGEST_PART, ListReply};
+use rb_registry::Registry;
+use rb_rpc::{FRAGMENT_HEADER, fragment_header};
+use rb_xdr::{Kept, Meter};
+
+/// The length of a whole marked fragment of a reply, of which each has as many data bytes but the last, which has 1
+/// to as many.
+pub const LONGEST_FRAGMENT: usize = FRAGMENT_HEADER + LONGEST_PART;
+
+/// What of a reply was not shown yet.
+#[derive(Clone, Copy, Debug, PartialEq, Eq)]
+pub enum Rest {
+    /// The bytes of the buffer from this place on.
+    Held(usize),
+    /// The bytes of a list, which are made from the registry.
+    Listed(ListReply),
+}
+
+impl Rest {
+    ghost use Rattle.std.specs.Prelude.{◌≡◌};
+    ghost use Rattle.rb_connections.specs.StandsFor.{stamp_in};
+
+    /// After how many changes the reply began, where it is a list.
+    pub fn stamp(self) -> Option<u64>
+        ensures { result ≡ stamp_in self }
+    {
+        match self {
+            Rest::Held(_) => None,
+            Rest::Listed(list) => Some(list.stamp()),
+        }
+    }
+}
+
+/// A reply that is given.
+#[derive(Clone, Copy, Debug, PartialEq, Eq)]
+pub struct Giving {
+    /// What is behind the fragment that is shown.
+    pub rest: Rest,
+    /// How many bytes of the fragment were given.
+    pub place: usize,
+    /// Whether it is the last one.
+    pub last: bool,
+}
+
+/// A core keeps its bytes in pools and buffers alone. A further field would not compile here: it
+/// belongs in the table of charges of docs/RULES.md first.
+fn layout(giving: &Giving) {
+    let Giving { rest, place, last } = *giving;
+    let _: (usize, bool) = (place, last);
+    match rest {
+        Rest::Held(start) => {
+            let _: usize = start;
+        }
+        Rest::Listed(list) => {
+            let _: ListReply = list;
+        }
+    }
+}
+
+/// Appends bytes where there is room for them.
+fn put(window: &mut Kept, bytes: &[u8], meter: &mut Meter)
+    requires tie { meter.old.tie ≡ window.old.tie }
+    requires room { HasRoom bytes.now window.old }
+    ensures written { Appends bytes.now window.old window.new }
+    ensures cost { PaysAtMost meter.old meter.new (length bytes.now) }
+{
+    let Ok(()) = window.extend(bytes, meter) else {
+        unreachable!()
+    };
+}
+
+/// Shows a fragment with this data.
+#[tactic(auto, unfolding(rb_model::specs::Connections::longest_fragment))]
+fn show(part: &[u8], last: bool, window: &mut Kept, meter: &mut Meter)
+    requires tie { meter.old.tie ≡ window.old.tie }
+    requires some { 0 < length part.now }
+    requires few { length part.now ≤ longest_part }
+    requires cap { window.old.cap ≡ longest_fragment }
+    ensures shown { window.new
+        ≡ record window.old { bytes = fragment_header (length part.now) last ++ part.now } }
+    ensures cost { PaysAtMost meter.old meter.new (5 + length part.now) }
+{
+    window.clear(meter);
+    put(window, &fragment_header(part.len(), last), meter);
+    put(window, part, meter);
+}
+
+/// Shows the fragment of a reply that begins at this place of the buffer.
+fn show_held(start: usize, buffer: &Kept, window: &mut Kept, meter: &mut Meter) -> Giving
+    requires buffer_tie { meter.old.tie ≡ buffer.now.tie }
+    requires window_tie { meter.old.tie ≡ window.old.tie }
+    requires start { start < length buffer.now.bytes }
+    requires cap { window.old.cap ≡ longest_fragment }
+    ensures shows { (source : Source) → ShowsNext source buffer.now.bytes (Held start)
+        window.old window.new result }
+    ensures cost { PaysAtMost meter.old meter.new show_cost }
+{
+    let left = buffer.len(meter) - start;
+    let end = start + left.min(LONGEST_PART);
+    let last = left <= LONGEST_PART;
+    show(buffer.lend(start..end, meter), last, window, meter);
+    Giving {
+        rest: Rest::Held(end),
+        place: 0,
+        last,
+    }
+}
+
+/// Shows the next fragment of a list, made in a buffer that is empty before and after.
+#[tactic(auto, unfolding(rb_model::specs::Connections::longest_fragment, rb_model::specs::Calls::longest_arguments, crate::specs::StandsFor::buffer_size, rb_model::specs::Calls::longest_reply))]
+fn show_list(
+    mut list: ListReply,
+    registry: &Registry,
+    host: [u8; 4],
+    window: &mut Kept,
+    scratch: &mut Kept,
+    meter: &mut Meter,
+) -> Giving
+    requires registry { meter.old.tie ≡ registry.now.tie }
+    requires window_tie { meter.old.tie ≡ window.old.tie }
+    requires scratch { IsDraft meter.old.tie scratch.old }
+    requires cap { window.old.cap ≡ longest_fragment }
+    requires told { CanTell (source_for host registry.now) (Listed list) }
+    requires some { 0 < length (rest_in (source_for host registry.now) [] (Listed list)) }
+    ensures shows { (buffer : List ℕ) → ShowsNext (source_for host registry.now) buffer
+        (Listed list) window.old window.new result }
+    ensures draft { IsEmptyDraft meter.old.tie scratch.new }
+    ensures cost { PaysAtMost meter.old meter.new (listed_cost (row_count registry.now)) }
+{
+    let part = list.next_part(registry, host, scratch, meter);
+    let data = scratch.lend(part.start..part.end, meter);
+    show(data, part.last, window, meter);
+    scratch.clear(meter);
+    Giving {
+        rest: Rest::Listed(list),
+        place: 0,
+        last: part.last,
+    }
+}
+
+/// Shows the next fragment of a reply, of which this was not shown yet: of what the buffer has, or of a list, whose
+/// fragment is made in another buffer, which is empty before and after.
+pub fn show_next(
+    rest: Rest,
+    buffer: &Kept,
+    registry: &Registry,
+    host: [u8; 4],
+    window: &mut Kept,
+    scratch: &mut Kept,
+    meter: &mut Meter,
+) -> Giving
+    requires registry { meter.old.tie ≡ registry.now.tie }
+    requires buffer_tie { meter.old.tie ≡ buffer.now.tie }
+    requires window_tie { meter.old.tie ≡ window.old.tie }
+    requires scratch { IsEmptyDraft meter.old.tie scratch.old }
+    requires cap { window.old.cap ≡ longest_fragment }
+    requires told { CanTell (source_for host registry.now) rest }
+    requires some { 0 < length (rest_in (source_for host registry.now) buffer.now.bytes rest) }
+    ensures shows { ShowsNext (source_for host registry.now) buffer.now.bytes rest
+        window.old window.new result }
+    ensures draft { IsEmptyDraft meter.old.tie scratch.new }
+    ensures cost { PaysAtMost meter.old meter.new (next_cost registry.now rest) }
+{
+    match rest {
+        Rest::Held(start) => show_held(start, buffer, window, meter),
+        Rest::Listed(list) => show_list(list, registry, host, window, scratch, meter),
+    }
+}
+
+/// Gives a reply of one fragment whole, marked, where there is room for the longest: its buffer is empty then. It
+/// says how many bytes were given, 0 where none were.
+#[tactic(auto, unfolding(rb_model::specs::Connections::longest_fragment))]
+pub fn give_whole(reply: &mut Kept, room: &mut [u8], meter: &mut Meter) -> usize
+    requires tie { meter.old.tie ≡ reply.old.tie }
+    requires some { 0 < length reply.old.bytes }
+    ensures count { result ≡ whole_length (length room.old) (length reply.old.bytes) }
+    ensures stays { result ≡ 0 → reply.new ≡ reply.old }
+    ensures whole { 0 < result → IsGivenWhole reply.old reply.new (take result room.new) }
+    ensures within { result ≤ length room.new }
+    ensures cost { PaysAtMost meter.old meter.new (whole_cost (length room.old) result) }
+{
+    if room.len() < LONGEST_FRAGMENT {
+        return 0;
+    }
+    let len = reply.len(meter);
+    if len > LONGEST_PART {
+        return 0;
+    }
+    room[..FRAGMENT_HEADER].copy_from_slice(&fragment_header(len, true));
+    let end = FRAGMENT_HEADER + len;
+    room[FRAGMENT_HEADER..end].copy_from_slice(reply.lend(0..len, meter));
+    reply.clear(meter);
+    end
+}

@@ -1,0 +1,44 @@
+//! Where to start searching for a connection.
+ghost use Rattle.std.specs.Prelude.{◌≡◌, ◌%◌};
+ghost use Rattle.std.specs.List.{slice_index};
+ghost use Rattle.rb_connections.specs.Slots.{number_wanted};
+
+use crate::slot::Wanted;
+
+/// The key under which a connection was opened or found last, by the last byte of its number. A hint may be wrong: a
+/// look-up tries it, and then walks the table.
+#[derive(Clone, Copy, Debug, PartialEq, Eq)]
+pub struct Hints {
+    keys: [u8; 256],
+}
+
+/// A core keeps its bytes in pools and buffers alone. A further field would not compile here: it
+/// belongs in the table of charges of docs/RULES.md first.
+fn layout(hints: &Hints) {
+    let Hints { keys } = *hints;
+    let _: [u8; 256] = keys;
+}
+
+impl Hints {
+    pub fn new() -> Hints {
+        Hints { keys: [0; 256] }
+    }
+
+    /// The key to try first for the wanted connection, which is wanted by a number or by something else.
+    pub fn key(&self, wanted: Wanted) -> usize
+        ensures { result ≡ slice_index self.now.keys (number_wanted wanted % 256) }
+    {
+        let number = match wanted {
+            Wanted::Live(id) | Wanted::Numbered(id) => id,
+            Wanted::AnyLost | Wanted::Due(_) => 0,
+        };
+        usize::from(self.keys[(number % 256) as usize])
+    }
+
+    /// Records that the connection of this number is under this key.
+    pub fn note(&mut self, id: u64, key: usize)
+        ensures { slice_index self.new.keys (id % 256) ≡ key % 256 }
+    {
+        self.keys[(id % 256) as usize] = (key % 256) as u8;
+    }
+}

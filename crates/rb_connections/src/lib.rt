@@ -1,0 +1,17 @@
+//! What is held of each connection over TCP: the record that is read, or the reply that is given; and the table of
+//! all connections, with their deadlines.
+#![tactic(auto)]
+
+mod connections;
+mod deadlines;
+mod giving;
+mod hints;
+mod reading;
+mod served;
+mod slot;
+
+pub use connections::{BUFFER_SIZE, Connections};
+pub use giving::{LONGEST_FRAGMENT, give_whole};
+pub use reading::LONGEST_ARGUMENTS;
+pub use served::{LONGEST_REPLY, Outcome, Served};
+pub use slot::{Heard, Received, Whole};

@@ -1,0 +1,40 @@
+//! What a message is answered with.
+use rb_proto::Listing;
+
+/// The greatest length of a reply that is no streamed list, in bytes.
+pub const LONGEST_REPLY: usize = 9_000;
+
+/// What a message is answered with.
+#[derive(Clone, Copy, Debug, PartialEq, Eq)]
+pub enum Outcome {
+    /// Nothing: it is no call. A connection on which it came is Lost.
+    NoCall,
+    /// A reply, which is written.
+    Reply,
+    /// It is a call that is forwarded. A connection on which it came is Awaiting.
+    Forwarded,
+    /// Nothing: it is a call that stays without a reply.
+    Silent,
+}
+
+/// What a connection goes on with once its record was answered, or its forwarded call ended.
+#[derive(Clone, Copy, Debug, PartialEq, Eq)]
+pub enum Served {
+    /// A reply that is written, or none.
+    Told(Outcome),
+    /// A list under this xid that is streamed, of which nothing is written yet.
+    Listed(u32, Listing),
+}
+
+impl Served {
+    ghost use Rattle.std.specs.Prelude.{◌≡◌, ℕ, List};
+    ghost use Rattle.rb_connections.specs.StandsFor.{Source};
+    ghost use Rattle.rb_connections.specs.Settling.{is_closed_by};
+
+    /// Whether it is no call, so that a connection on which it came is Lost.
+    pub fn is_no_call(self) -> bool
+        ensures { (source : Source) (reply : List ℕ) → result ≡ is_closed_by source self reply }
+    {
+        matches!(self, Served::Told(Outcome::NoCall))
+    }
+}

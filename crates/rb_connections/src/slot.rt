@@ -1,0 +1,481 @@
+//! The slot of a connection: bytes that arrive on it, and bytes that are given on it.
+ghost use Rattle.std.specs.Prelude.{◌≡◌, ◌+◌, [], Some, None};
+ghost use Rattle.rb_xdr.specs.Meter.{Pays, PaysAtMost};
+
+use crate::deadlines::time_in;
+use crate::giving::{Giving, Rest, show_next};
+use crate::reading::{Fed, Reader};
+use crate::served::{Outcome, Served};
+use rb_proto::ListReply;
+use rb_registry::Registry;
+use rb_rpc::{Peer, Verdict};
+use rb_xdr::{Kept, Meter, NoMemory};
+use std::alloc::Global;
+use std::mem;
+
+/// What the fixed part of a connection counts as, in bytes.
+pub const CHARGE: u64 = 128;
+
+/// What a connection is about.
+#[derive(Clone, Copy, Debug, PartialEq, Eq)]
+pub enum Stage {
+    /// Between a reply and the next record.
+    Idle,
+    /// In the middle of a record.
+    Reading(Reader),
+    /// A reply is being given.
+    Giving(Giving),
+    /// Its call is forwarded, and takes its reply from there.
+    Awaiting,
+    /// It takes and gives nothing more, and waits to be closed.
+    Lost,
+}
+
+/// Which connection is looked for.
+#[derive(Clone, Copy, Debug, PartialEq, Eq)]
+pub enum Wanted {
+    /// The one of this number, unless it is Lost.
+    Live(u64),
+    /// The one of this number.
+    Numbered(u64),
+    /// The first that is Lost.
+    AnyLost,
+    /// The first whose deadline has come at this moment.
+    Due(u64),
+}
+
+impl Wanted {
+    ghost use Rattle.std.specs.Prelude.{◌≡◌};
+    ghost use Rattle.rb_connections.specs.Slots.{is_by_number};
+
+    /// Whether it is wanted by its number, which no other connection has.
+    pub fn is_by_number(self) -> bool
+        ensures { result ≡ is_by_number self }
+    {
+        matches!(self, Wanted::Live(_) | Wanted::Numbered(_))
+    }
+}
+
+/// The verdict on a record, and who sent it.
+#[derive(Clone, Copy, Debug, PartialEq, Eq)]
+pub struct Heard {
+    pub peer: Peer,
+    pub verdict: Verdict,
+}
+
+/// What came of a piece of bytes: how many of them were taken, and what was heard by the record that ended with the
+/// last.
+#[derive(Clone, Copy, Debug, PartialEq, Eq)]
+pub struct Received {
+    pub count: usize,
+    pub heard: Option<Heard>,
+}
+
+/// A record that is one fragment and came whole: who sent it, and its data.
+#[derive(Clone, Copy, Debug, PartialEq, Eq)]
+pub struct Whole<'a> {
+    pub peer: Peer,
+    pub content: &'a [u8],
+}
+
+/// What is kept of a connection.
+#[derive(Drop)]
+pub struct Slot {
+    pub number: u64,
+    pub peer: Peer,
+    pub stage: Stage,
+    /// The moment of its last progress, from which its deadline counts.
+    pub since: u64,
+    /// The first bytes of the arguments of the call that is read, or the whole reply that is given, where that is no
+    /// list.
+    pub buffer: Kept,
+    /// The marked fragment of the reply that is being given.
+    pub window: Kept,
+}
+
+/// The buffers of a connection that is not open.
+#[derive(Drop)]
+pub struct Buffers {
+    pub buffer: Kept,
+    pub window: Kept,
+}
+
+/// A core keeps its bytes in pools and buffers alone. A further field would not compile here: it
+/// belongs in the table of charges of docs/RULES.md first.
+fn layout(slot: &Slot, spare: &Buffers) {
+    let Slot {
+        number,
+        peer,
+        stage,
+        since,
+        buffer,
+        window,
+    } = slot;
+    let _: (u64, Peer, u64) = (*number, *peer, *since);
+    match *stage {
+        Stage::Idle | Stage::Awaiting | Stage::Lost => {}
+        Stage::Reading(reader) => {
+            let _: Reader = reader;
+        }
+        Stage::Giving(giving) => {
+            let _: Giving = giving;
+        }
+    }
+    let _: &Kept = buffer;
+    let _: &Kept = window;
+    let Buffers { buffer, window } = spare;
+    let _: &Kept = buffer;
+    let _: &Kept = window;
+}
+
+fn nothing() -> Received
+    ensures { result ≡ record { count = 0; heard = None } }
+{
+    Received {
+        count: 0,
+        heard: None,
+    }
+}
+
+impl Slot {
+    /// What is written to a place before any connection has it: its buffers have no memory.
+    pub fn blank(alloc: Global) -> Result<Slot, NoMemory> {
+        let meter = &mut Meter::new();
+        Ok(Slot {
+            number: 0,
+            peer: Peer {
+                host: [0; 4],
+                port: 0,
+            },
+            stage: Stage::Idle,
+            since: 0,
+            buffer: Kept::new(alloc, 0, meter)?,
+            window: Kept::new(alloc, 0, meter)?,
+        })
+    }
+
+    ghost use Rattle.std.specs.Prelude.{◌≡◌, ◌≤◌, ◌<◌, ◌+◌, ℕ, List, [], true, false, length, Some, IfSome, IfNone};
+    ghost use Rattle.rb_model.specs.State.{Connection};
+    ghost use Rattle.rb_model.specs.Connections.{pending_in, longest_fragment};
+    ghost use Rattle.rb_connections.specs.Slots.{is_due_slot, SlotActs, SlotGives, SlotHears, SlotShows, emptied_slot, ReceivesPiece, StandsBehindPiece, HearsPiece, HasBuffers, IsDraft, IsEmptyDraft, StaysSlot, feeding, heard_whole, is_lost_stage, is_idle_stage, is_wanted_slot};
+    ghost use Rattle.rb_connections.specs.StandsFor.{StandsForConnection, charge, most_charge, rest_in, source_for};
+    ghost use Rattle.rb_model.specs.Calls.{kept_of};
+    ghost use Rattle.rb_connections.specs.Listings.{slot_began, SlotListsOn, SlotKeepsListing, SlotListsOnByAll};
+    ghost use Rattle.rb_connections.specs.Giving.{CanTell};
+    ghost use Rattle.rb_connections.specs.Settling.{SlotSettles, IsWritten, kind_in};
+    ghost use Rattle.rb_connections.specs.Giving.{SlotShowsNext};
+    ghost use Rattle.rb_connections.specs.Awaits.{is_awaiting_stage, sender_on, HearsSlot, IsIdleAt};
+    ghost use Rattle.rb_connections.specs.Costs.{received_cost, next_cost, row_count, told_cost};
+    ghost use Rattle.rb_model.specs.Costs.{given_cost, pending_cost};
+
+    #[tactic(auto, unfolding(crate::specs::Slots::is_wanted_slot))]
+    pub fn is_wanted(&self, wanted: Wanted) -> bool
+        ensures { result ≡ is_wanted_slot wanted self.now }
+    {
+        match wanted {
+            Wanted::Live(id) => self.number == id && !self.is_lost(),
+            Wanted::Numbered(id) => self.number == id,
+            Wanted::AnyLost => self.is_lost(),
+            Wanted::Due(clock) => self.is_due(clock),
+        }
+    }
+
+    fn is_lost(&self) -> bool
+        ensures { result ≡ is_lost_stage self.now.stage }
+    {
+        matches!(self.stage, Stage::Lost)
+    }
+
+    /// After how many changes the list began that is being given.
+    pub fn began(&self) -> Option<u64>
+        ensures { result ≡ slot_began self.now }
+    {
+        match self.stage {
+            Stage::Giving(giving) => giving.rest.stamp(),
+            Stage::Idle | Stage::Reading(_) | Stage::Awaiting | Stage::Lost => None,
+        }
+    }
+
+    /// Whether its deadline has come.
+    #[tactic(auto, unfolding(crate::specs::Slots::is_due_slot, rb_forward::specs::Forwards::later))]
+    fn is_due(&self, clock: u64) -> bool
+        ensures { result ≡ is_due_slot clock self.now }
+    {
+        match time_in(&self.stage) {
+            Some(time) => self.since.saturating_add(time) <= clock,
+            None => false,
+        }
+    }
+
+    /// Feeds the piece to the record that is read, up to the end of the record, whose arguments go into this buffer.
+    fn feed(
+        &mut self,
+        mut reader: Reader,
+        piece: &[u8],
+        clock: u64,
+        arguments: &mut Kept,
+        meter: &mut Meter,
+    ) -> Received
+        requires buffers { HasBuffers meter.old.tie self.old }
+        requires arguments { IsDraft meter.old.tie arguments.old }
+        ensures received { ReceivesPiece self.old reader clock piece.now result }
+        ensures stands { StandsBehindPiece self.old self.new reader clock piece.now }
+        ensures stage { is_awaiting_stage self.new.stage ≡ false }
+        ensures lists { SlotListsOnByAll self.new }
+        ensures heard { IfSome result.heard (λ heard. IsIdleAt clock self.new) }
+        ensures arguments { HearsPiece self.old reader clock piece.now arguments.old arguments.new }
+        ensures within { result.count ≤ length piece.now }
+        ensures stays { StaysSlot meter.old.tie self.old self.new }
+        ensures draft { IsDraft meter.old.tie arguments.new }
+        ensures cost { PaysAtMost meter.old meter.new (received_cost result) }
+    {
+        let Fed { count, verdict } = reader.feed(&mut self.buffer, piece, meter);
+        let Some(verdict) = verdict else {
+            self.stage = Stage::Reading(reader);
+            return Received { count, heard: None };
+        };
+        self.stage = Stage::Idle;
+        self.since = clock;
+        arguments.clear(meter);
+        mem::swap(&mut self.buffer, arguments);
+        let peer = self.peer;
+        Received {
+            count,
+            heard: Some(Heard { peer, verdict }),
+        }
+    }
+
+    /// Goes on as a record comes whole at this moment, where it is the connection of the number and Idle, and says
+    /// who sends it: it stays Idle, until it is settled. `None` where it is not so, and nothing changed.
+    pub fn hear_whole(&mut self, id: u64, clock: u64) -> Option<Peer>
+        ensures idle { IfSome result (λ peer. self.old.stage ≡ Stage.Idle) }
+        ensures number { IfSome result (λ peer. self.old.number ≡ id) }
+        ensures since { IfSome result (λ peer. self.new.since ≡ clock) }
+        ensures kept { self.new ≡ record self.old { since = self.new.since } }
+        ensures peer { IfSome result (λ peer. peer ≡ self.old.peer) }
+        ensures sender { result ≡ sender_on id self.old }
+        ensures stays { IfNone result (self.new ≡ self.old) }
+    {
+        if self.number != id || !matches!(self.stage, Stage::Idle) {
+            return None;
+        }
+        self.since = clock;
+        Some(self.peer)
+    }
+
+    /// Takes bytes of the piece up to the one that ends a record, or all, and says what the record is: its arguments
+    /// go into the buffer, in exchange for its own. Nothing is taken while a reply is owed or awaited. From the end
+    /// of a record on the connection is Idle, until it is settled.
+    pub fn take(
+        &mut self,
+        piece: &[u8],
+        clock: u64,
+        arguments: &mut Kept,
+        meter: &mut Meter,
+    ) -> Received
+        requires buffers { HasBuffers meter.old.tie self.old }
+        requires arguments { IsDraft meter.old.tie arguments.old }
+        ensures acts { SlotActs (feeding clock piece.now) self.old self.new result }
+        ensures arguments { SlotHears piece.now self.old arguments.old arguments.new }
+        ensures awaits { is_awaiting_stage self.new.stage ≡ is_awaiting_stage self.old.stage }
+        ensures lists { SlotKeepsListing self.old self.new }
+        ensures heard { IfSome result.heard (λ heard. HearsSlot clock self.old self.new) }
+        ensures within { result.count ≤ length piece.now }
+        ensures stays { StaysSlot meter.old.tie self.old self.new }
+        ensures draft { IsDraft meter.old.tie arguments.new }
+        ensures cost { PaysAtMost meter.old meter.new (received_cost result) }
+    {
+        if piece.is_empty() {
+            return nothing();
+        }
+        match self.stage {
+            Stage::Idle => {
+                self.since = clock;
+                self.feed(Reader::new(), piece, clock, arguments, meter)
+            }
+            Stage::Reading(reader) => self.feed(reader, piece, clock, arguments, meter),
+            Stage::Giving(_) | Stage::Awaiting | Stage::Lost => nothing(),
+        }
+    }
+
+    /// Empties its buffers, and that for a reply.
+    fn empty(&mut self, reply: &mut Kept, meter: &mut Meter)
+        requires buffers { HasBuffers meter.old.tie self.old }
+        requires draft { IsDraft meter.old.tie reply.old }
+        ensures emptied { self.new ≡ emptied_slot self.old }
+        ensures empty { reply.new ≡ record reply.old { bytes = [] } }
+        ensures cost { PaysAtMost meter.old meter.new 3 }
+    {
+        self.buffer.clear(meter);
+        self.window.clear(meter);
+        reply.clear(meter);
+    }
+
+    /// Goes on as its record is answered, or its call that was forwarded. It owes a reply, which it takes in exchange
+    /// for its own buffer, or a list, whose fragments are made in this one; or it is Awaiting, Idle or Lost. The
+    /// buffer that it is handed is empty after it.
+    pub fn settle(
+        &mut self,
+        served: Served,
+        clock: u64,
+        host: [u8; 4],
+        registry: &Registry,
+        draft: &mut Kept,
+        meter: &mut Meter,
+    )
+        requires registry { meter.old.tie ≡ registry.now.tie }
+        requires buffers { HasBuffers meter.old.tie self.old }
+        requires draft { IsDraft meter.old.tie draft.old }
+        requires written { IsWritten served draft.old.bytes }
+        ensures stands { SlotSettles
+            (source_for host registry.now) clock served draft.old.bytes self.old self.new }
+        ensures awaits { kind_in served ≡ Outcome.Forwarded
+            → is_awaiting_stage self.new.stage ≡ true }
+        ensures lists { SlotListsOn (source_for host registry.now) self.new }
+        ensures stays { StaysSlot meter.old.tie self.old self.new }
+        ensures draft { IsEmptyDraft meter.old.tie draft.new }
+        ensures cost { PaysAtMost meter.old meter.new (told_cost registry.now served) }
+    {
+        self.since = clock;
+        match served {
+            Served::Told(Outcome::NoCall) => {
+                self.stage = Stage::Lost;
+                draft.clear(meter);
+            }
+            Served::Told(Outcome::Forwarded) => {
+                self.stage = Stage::Awaiting;
+                self.empty(draft, meter);
+            }
+            Served::Told(Outcome::Silent) => {
+                self.stage = Stage::Idle;
+                self.empty(draft, meter);
+            }
+            Served::Told(Outcome::Reply) => {
+                self.buffer.clear(meter);
+                mem::swap(&mut self.buffer, draft);
+                self.show(Rest::Held(0), host, registry, draft, meter);
+            }
+            Served::Listed(xid, listing) => {
+                self.buffer.clear(meter);
+                let list = ListReply::new(xid, listing, registry);
+                self.show(Rest::Listed(list), host, registry, draft, meter);
+            }
+        }
+    }
+
+    /// Goes on giving, with the next fragment of a reply, of which this was not shown yet.
+    fn show(
+        &mut self,
+        rest: Rest,
+        host: [u8; 4],
+        registry: &Registry,
+        scratch: &mut Kept,
+        meter: &mut Meter,
+    )
+        requires registry { meter.old.tie ≡ registry.now.tie }
+        requires buffers { HasBuffers meter.old.tie self.old }
+        requires scratch { IsEmptyDraft meter.old.tie scratch.old }
+        requires told { CanTell (source_for host registry.now) rest }
+        requires some { 0 < length (rest_in (source_for host registry.now)
+            self.old.buffer.bytes rest) }
+        ensures shows { SlotShowsNext (source_for host registry.now) rest self.old self.new }
+        ensures draft { IsEmptyDraft meter.old.tie scratch.new }
+        ensures cost { PaysAtMost meter.old meter.new (next_cost registry.now rest) }
+    {
+        let giving = show_next(
+            rest,
+            &self.buffer,
+            registry,
+            host,
+            &mut self.window,
+            scratch,
+            meter,
+        );
+        self.stage = Stage::Giving(giving);
+    }
+
+    /// Counts n of the pending bytes as given, or as many as there are: with the last byte of its reply the
+    /// connection is Idle again. The next fragment of a list is made in a buffer that is empty before and after.
+    pub fn give(
+        &mut self,
+        n: usize,
+        clock: u64,
+        host: [u8; 4],
+        registry: &Registry,
+        scratch: &mut Kept,
+        meter: &mut Meter,
+    )
+        requires registry { meter.old.tie ≡ registry.now.tie }
+        requires buffers { HasBuffers meter.old.tie self.old }
+        requires scratch { IsEmptyDraft meter.old.tie scratch.old }
+        requires lists { SlotListsOn (source_for host registry.now) self.old }
+        ensures acts { SlotGives (source_for host registry.now) clock n self.old self.new }
+        ensures awaits { is_awaiting_stage self.new.stage ≡ is_awaiting_stage self.old.stage }
+        ensures lists { SlotListsOn (source_for host registry.now) self.new }
+        ensures stays { StaysSlot meter.old.tie self.old self.new }
+        ensures draft { IsEmptyDraft meter.old.tie scratch.new }
+        ensures cost { PaysAtMost meter.old meter.new (given_cost (row_count registry.now)) }
+    {
+        let Stage::Giving(giving) = self.stage else {
+            return;
+        };
+        let shown = self.window.len(meter);
+        let more = n.min(shown.saturating_sub(giving.place));
+        if more == 0 {
+            return;
+        }
+        self.since = clock;
+        let place = giving.place + more;
+        if place < shown {
+            self.stage = Stage::Giving(Giving { place, ..giving });
+        } else if giving.last {
+            self.stage = Stage::Idle;
+            self.buffer.clear(meter);
+            self.window.clear(meter);
+        } else {
+            self.show(giving.rest, host, registry, scratch, meter);
+        }
+    }
+
+    /// How many bytes are held of it: those of its buffer and its window, and 128 for the rest.
+    #[tactic(auto, unfolding(rb_model::specs::Calls::longest_reply, rb_model::specs::Calls::longest_arguments, crate::specs::StandsFor::buffer_size, rb_model::specs::Connections::longest_fragment))]
+    pub fn charge(&self, meter: &mut Meter) -> u64
+        requires { HasBuffers meter.old.tie self.now }
+        ensures charge { result ≡ charge self.now }
+        ensures within { result ≤ most_charge }
+        ensures cost { Pays meter.old meter.new 2 }
+    {
+        CHARGE + self.buffer.len(meter) as u64 + self.window.len(meter) as u64
+    }
+
+    /// How many bytes are pending.
+    pub fn pending_len(&self, meter: &mut Meter) -> usize
+        requires { HasBuffers meter.old.tie self.now }
+        ensures len { SlotShows (λ c. length (pending_in c.phase)) self.now result }
+        ensures cost { PaysAtMost meter.old meter.new 1 }
+    {
+        match self.stage {
+            Stage::Giving(giving) => self.window.len(meter).saturating_sub(giving.place),
+            Stage::Idle | Stage::Reading(_) | Stage::Awaiting | Stage::Lost => 0,
+        }
+    }
+
+    /// The rest of the current fragment of the reply that is owed, empty where none is.
+    #[tactic(auto, unfolding(rb_model::specs::Connections::longest_fragment))]
+    pub fn pending(&self, meter: &mut Meter) -> &[u8]
+        requires { HasBuffers meter.old.tie self.now }
+        ensures pending { SlotShows (λ c. pending_in c.phase) self.now result.now }
+        ensures few { length result.now ≤ longest_fragment }
+        ensures cost { PaysAtMost meter.old meter.new pending_cost }
+    {
+        match self.stage {
+            Stage::Giving(giving) => {
+                let end = self.window.len(meter);
+                self.window.lend(end.min(giving.place)..end, meter)
+            }
+            Stage::Idle | Stage::Reading(_) | Stage::Awaiting | Stage::Lost => {
+                self.window.lend(0..0, meter)
+            }
+        }
+    }
+}

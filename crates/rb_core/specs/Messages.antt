@@ -1,0 +1,48 @@
+-- What a message says by its verdict, and that what is kept of a record says enough.
+use Rattle.std.specs.Prelude.{◌≡◌, ⊤, ℕ, List, Option, Some, None}
+use Rattle.rb_rpc.specs.declared.call.CallHead.{CallHead}
+use Rattle.rb_rpc.specs.declared.call.Verdict.{Verdict}
+use Rattle.rb_rpc.specs.Verdict.{verdict}
+use Rattle.rb_feed.specs.Feeds.{arguments_of}
+use Rattle.rb_proto.specs.declared.context.Context.{Context}
+use Rattle.rb_proto.specs.declared.procedure.Procedure.{Procedure}
+use Rattle.rb_proto.specs.declared.procedure.VoidProcedure.TheVariants as voids
+use Rattle.rb_proto.specs.declared.request.Request.TheVariants as requests
+use Rattle.rb_proto.specs.declared.request.Request.{Request}
+use Rattle.rb_proto.specs.Arguments.{arguments}
+use Rattle.rb_proto.specs.Ledger.{Ledger}
+use Rattle.rb_model.specs.declared.message.Message.{Message}
+use Rattle.rb_model.specs.declared.message.Message.TheVariants as says
+use Rattle.rb_model.specs.Calls.{kept_of, message_with, message_of, outcome}
+
+-- ---- what is called
+
+-- what a call says by what was read of its arguments, None where they are unreadable
+abbrev pub asked_of : CallHead → Option Request → Message
+asked_of head (Some request) = says.Asked (record { head = head; request = request })
+asked_of head None = says.Garbage head
+
+-- A message of this verdict calls this procedure, whatever bytes follow its head.
+abbrev pub CallsProcedure : Verdict → CallHead → Procedure → Type 0
+CallsProcedure verdict head procedure = (bytes : List ℕ) → message_with verdict bytes ≡ asked_of head (arguments procedure bytes)
+
+abbrev pub AsksNothing : Message → Type 0
+AsksNothing (says.Asked call) = ⊥
+AsksNothing says.NoCall = ⊤
+AsksNothing (says.Refused head) = ⊤
+AsksNothing (says.Garbage head) = ⊤
+
+-- a call of NULL
+abbrev pub null_message : CallHead → Message
+null_message head = says.Asked (record { head = head; request = requests.Void voids.Null })
+
+-- ---- what is kept says enough
+
+-- The verdict on a record and what is kept of it say what the record says, and it is answered alike.
+pub record SaysTheRecord (content : List ℕ) : Type 0 where
+  pub says : message_with (verdict content) (kept_of content) ≡ message_of content
+  pub answered : (context : Context) (ledger : Ledger)
+      → outcome context (message_of content) (kept_of content) ledger ≡ outcome context (message_of content) (arguments_of content) ledger
+
+abbrev pub KeptSaysTheRecord : Type 0
+KeptSaysTheRecord = (content : List ℕ) → SaysTheRecord content
