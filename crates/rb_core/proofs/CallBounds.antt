@@ -1,56 +1,58 @@
 -- What a call pays is within the bound on its steps.
-use Rattle.std.proofs.Common.{◌≡◌, ◌≤◌, ℕ, ◌+◌, max, cond, true, false, eqb, List, [], length, Option, Some, None, Result, Ok, Err, refl, sym, ap, ◌∙◌, arith}
+use Rattle.std.proofs.Common.{◌≡◌, ◌≤◌, ℕ, ◌+◌, ◌*◌, max, cond, true, false, eqb, List, [], ◌∷◌, ◌++◌, length, Option, Some, None, Result, Ok, Err, refl, sym, ap, ◌∙◌, arith}
+use Rattle.std.specs.Prelude.{IfSome}
 use Rattle.rb_xdr.specs.Meter.{Meter, PaysAtMost}
 use Rattle.rb_rpc.specs.declared.peer.Peer.{Peer}
 use Rattle.rb_forward.specs.Costs.{sent_cost, unsent_cost}
 use Rattle.rb_forward.specs.StandsFor.{longest_arguments as longest_args}
 use Rattle.rb_model.specs.Calls.{Outcome, longest_reply}
 use Rattle.rb_model.specs.Calls.{longest_arguments}
-use Rattle.rb_connections.specs.StandsFor.{buffer_size}
 use Rattle.rb_core.specs.StandsFor.{Held, StandsFor}
-use Rattle.rb_model.specs.State.{State, Setting, Connection, Connections}
+use Rattle.rb_connections.specs.StandsFor.{buffer_size}
+use Rattle.rb_model.specs.State.{State, Setting, Connection, Connections, at_moment}
 use Rattle.rb_model.specs.declared.types.CoreFault.{CoreFault}
-use Rattle.rb_model.specs.Connections.{on_live, giving, live_connection, Taking, taking}
+use Rattle.rb_model.specs.Connections.{on_live, giving, live_connection, Taking, fed_in, taking, taking_behind}
 use Rattle.rb_model.specs.Connections.Taking.{TakesNone, GoesOn, Ends}
-use Rattle.std.specs.Option.{option_map_or}
 use Rattle.std.proofs.lemmas.List.{length-take}
 use Rattle.rb_feed.specs.Feeds.{arguments_of}
 use Rattle.rb_core.specs.AtOnce.{without_front, exchanging}
-use Rattle.rb_model.specs.Step.{datagram, bytes, gave, moved, show_taken, step, IsReached}
+use Rattle.rb_model.specs.Step.{datagram, bytes, bytes_to, when_taken, gave, moved, show_taken, step, IsReached}
 use Rattle.rb_model.specs.declared.types.Taken.{Taken}
 use Rattle.rb_model.specs.Step.Event.{Bytes, Datagram}
-use Rattle.rb_connections.specs.Slots.{Acts, arguments_after, arguments_heard}
-use Rattle.rb_core.specs.CallCosts.{args_heard, kept_count, gave_cost, closing_cost, ending_cost, datagram_cost, IsCheapIfQuiet}
-use Rattle.rb_connections.specs.Costs.{look_cost, slot_count}
-use Rattle.rb_model.specs.Costs.{pending_cost, take_cost, recount_cost, answer_cost}
-use Rattle.rb_core.specs.Events.{StaysCheapIfQuiet, StaysWithinSteps}
+use Rattle.rb_connections.specs.Slots.{Acts}
+use Rattle.rb_core.specs.CallCosts.{sizes_of, PaysForBytes, PaysForDatagram}
+use Rattle.rb_connections.specs.Costs.{look_cost}
+use Rattle.rb_model.specs.Costs.{Sizes, find_cost, pending_cost, take_cost, recount_cost, gave_cost, close_cost, ended_cost, datagram_cost, bytes_cost, count_taken, record_cost}
+use Rattle.rb_model.specs.Laws.{NoRecordEnds}
+use Rattle.rb_model.specs.Bounds.{steps_bound}
+use Rattle.rb_registry.specs.Registry.{slots_of}
+use Rattle.rb_rpc.specs.Records.{first_record}
+use Rattle.rb_core.specs.Events.{StaysCheapIfQuiet, StaysWithinSteps, taken_by}
 use Rattle.rb_model.proofs.EntriesKept.{step-follows}
 use Rattle.rb_model.proofs.Room.{reached-room}
+use Rattle.rb_model.proofs.StepBounds.{taken-counts}
 use Rattle.rb_core.proofs.RunSteps.{datagram_shown, same_state}
 use Rattle.rb_core.proofs.Spending.{at_most, connections_held, rows_held}
 
--- no more arguments are kept than a call may have
-heard_few : (id : ℕ) (piece : List ℕ) (s : State) → args_heard id piece s ≤ longest_arguments
-heard_few id piece s = by_there (live_connection id s.connections.all)
+-- where no record ends, there is none to be answered
+no_record : (sizes : Sizes) (c : Connection) (piece : List ℕ) → IfSome (fed_in c.phase) (λ fed. first_record (fed ++ piece) ≡ None) → record_cost sizes (taking c.phase piece) ≡ 0
+unfolding taking
+no_record sizes c piece none = by_fed (fed_in c.phase) piece none
   where
-    by_taking : (t : Taking) → length (arguments_after [] t) ≤ longest_arguments
-    by_taking TakesNone = omega arith
-    by_taking (GoesOn fed) = omega arith
-    by_taking (Ends n content) = omega (arith, length-take longest_arguments (arguments_of content))
-
-    by_there : (m : Option Connection) → length (option_map_or (arguments_heard [] piece) m []) ≤ longest_arguments
-    by_there None = omega arith
-    by_there (Some c) = by_taking (taking c.phase piece)
+    by_fed : (o : Option (List ℕ)) (xs : List ℕ) → IfSome o (λ fed. first_record (fed ++ xs) ≡ None) → record_cost sizes (taking_behind o xs) ≡ 0
+    by_fed None xs e = refl
+    by_fed (Some fed) [] e = refl
+    by_fed (Some fed) (x ∷ xs) e = rw e refl
 
 module _ (core : Held) (a b : Meter) where
   module _ (s : State) (h : StandsFor core s) where
-    few_connections : IsReached s → slot_count core.connections ≤ core.setting.limits.conns
+    few_connections : IsReached s → length core.connections.slots ≤ core.setting.limits.conns
     few_connections reached =
         let room = reached-room s reached in
         let same : core.setting.limits.conns ≡ s.setting.limits.conns = ap (λ (x : Setting). x.limits.conns) h.setting in
         omega (arith, room, same, connections_held core s h)
 
-    few_rows : kept_count core.books ≤ core.setting.limits.rows
+    few_rows : length (slots_of core.books.registry) ≤ core.setting.limits.rows
     few_rows =
         let same : core.setting.limits.rows ≡ s.setting.limits.rows = ap (λ (x : Setting). x.limits.rows) h.setting in
         omega (arith, same, rows_held core s h)
@@ -67,11 +69,11 @@ module _ (core : Held) (a b : Meter) where
   pub pending_within : (given : ℕ) → PaysAtMost a b (look_cost core.connections + pending_cost) → StaysWithinSteps core 0 given a b
   pending_within given pays = record { within = λ s h reached. at_most a b (look_cost core.connections + pending_cost) _ (omega (arith, few_connections s h reached)) pays }
 
-  pub gave_within : (given : ℕ) → PaysAtMost a b (gave_cost core) → StaysWithinSteps core 0 given a b
-  gave_within given pays = record { within = λ s h reached. at_most a b (gave_cost core) _ (omega (arith, few_connections s h reached, few_rows s h)) pays }
+  pub gave_within : (given : ℕ) → PaysAtMost a b (gave_cost (sizes_of core core)) → StaysWithinSteps core 0 given a b
+  gave_within given pays = record { within = λ s h reached. at_most a b (gave_cost (sizes_of core core)) _ (omega (arith, few_connections s h reached, few_rows s h)) pays }
 
-  pub closed_within : PaysAtMost a b (closing_cost core) → StaysWithinSteps core 0 0 a b
-  closed_within pays = record { within = λ s h reached. at_most a b (closing_cost core) _ (omega (arith, few_connections s h reached, entries s h)) pays }
+  pub closed_within : PaysAtMost a b (close_cost (sizes_of core core)) → StaysWithinSteps core 0 0 a b
+  closed_within pays = record { within = λ s h reached. at_most a b (close_cost (sizes_of core core)) _ (omega (arith, few_connections s h reached, entries s h)) pays }
 
   pub sent_within : PaysAtMost a b (sent_cost core.books.forwards.cap) → StaysWithinSteps core 0 0 a b
   sent_within pays = record { within = λ s h reached. at_most a b (sent_cost core.books.forwards.cap) _ (omega (arith, entries s h)) pays }
@@ -82,30 +84,27 @@ module _ (core : Held) (a b : Meter) where
   pub reply_within : (given : ℕ) → PaysAtMost a b (1 + given) → StaysWithinSteps core 0 given a b
   reply_within given pays = record { within = λ s h reached. at_most a b (1 + given) _ (omega arith) pays }
 
-  pub ending_within : (taken : ℕ) → PaysAtMost a b (ending_cost core) → StaysWithinSteps core taken 0 a b
+  pub ending_within : (taken : ℕ) → PaysAtMost a b (ended_cost (sizes_of core core)) → StaysWithinSteps core taken 0 a b
   unfolding longest_reply longest_arguments buffer_size longest_args
-  ending_within taken pays = record { within = λ s h reached. at_most a b (ending_cost core) _ (omega (arith, few_connections s h reached, entries s h)) pays }
+  ending_within taken pays = record { within = λ s h reached. at_most a b (ended_cost (sizes_of core core)) _ (omega (arith, few_connections s h reached, entries s h)) pays }
 
   -- ---- calls that serve a message
 
   -- the rows that are left where what is held stands for a state of the same limits
-  rows_left : (new : Held) (s t : State) → StandsFor core s → StandsFor new t → t.setting ≡ s.setting → kept_count new.books ≤ core.setting.limits.rows
+  rows_left : (new : Held) (s t : State) → StandsFor core s → StandsFor new t → t.setting ≡ s.setting → length (slots_of new.books.registry) ≤ core.setting.limits.rows
   rows_left new s t h k same =
       let limit : t.setting.limits.rows ≡ core.setting.limits.rows = ap (λ (x : Setting). x.limits.rows) (same ∙ sym h.setting) in
       omega (arith, limit, rows_held new t k)
 
   pub datagram_within : (new : Held) (now : ℕ) (peer : Peer) (content : List ℕ) (given : Outcome) → Acts StandsFor (λ s. datagram s now peer content) core new given
-      → PaysAtMost a b (datagram_cost core new (length content)) → StaysWithinSteps core (length content) 0 a b
+      → PaysForDatagram core new content a b → StaysWithinSteps core (length content) 0 a b
   unfolding step longest_reply longest_arguments buffer_size longest_args
   datagram_within new now peer content given acts pays = record {
     within = λ s h reached.
         let shows = datagram_shown core new (λ t. datagram t now peer content) given acts s h in
         let left = rows_left new s _ h shows.1 (step-follows s (Datagram now peer content)).setting in
-        at_most a b (datagram_cost core new (length content)) _ (omega (arith, few_connections s h reached, few_rows s h, left, shows.1.short)) pays;
+        at_most a b (datagram_cost (sizes_of core new) (length content) (length new.reply)) _ (omega (arith, few_connections s h reached, few_rows s h, left, shows.1.short)) pays;
   }
-
-  pub quiet_within : (taken : ℕ) → PaysAtMost a b (look_cost core.connections + (take_cost taken + recount_cost)) → StaysWithinSteps core taken 0 a b
-  quiet_within taken pays = record { within = λ s h reached. at_most a b (look_cost core.connections + (take_cost taken + recount_cost)) _ (omega (arith, few_connections s h reached)) pays }
 
   -- the state keeps its setting where bytes are given
   kept_setting : (now n id : ℕ) (s : State) → (without_front now n id s).setting ≡ s.setting
@@ -116,22 +115,52 @@ module _ (core : Held) (a b : Meter) where
       by_result (Err fault, c) = refl
       by_result (Ok u, c) = refl
 
-  pub exchange_within : (new : Held) (now id room n more : ℕ) (piece : List ℕ) (taken : Taken) (given : List ℕ) → Acts StandsFor (exchanging now id piece room) core new (Ok taken, given) → more ≤ n + 2
-      → ((s : State) → StandsFor core s → PaysAtMost a b (look_cost core.connections + (take_cost taken.count + recount_cost) + answer_cost (slot_count core.connections) (kept_count core.books) (kept_count new.books) (args_heard id piece s) + more))
-      → StaysWithinSteps core taken.count n a b
-  unfolding step longest_reply longest_arguments buffer_size longest_args
-  exchange_within new now id room n more piece taken given acts few pays = record {
-    within = λ s h reached.
-        let same =
-        kept_setting now _ id (bytes s now id piece).1
-        ∙ ap (λ (t : State). t.setting) (sym (same_state show_taken (λ t. bytes t now id piece) core new (bytes s now id piece))) ∙ (step-follows s (Bytes now id piece)).setting in
-        let left = rows_left new s _ h (acts.stands s h) same in
-        let args = heard_few id piece s in
-        at_most a b (look_cost core.connections + (take_cost taken.count + recount_cost) + answer_cost (slot_count core.connections) (kept_count core.books) (kept_count new.books) (args_heard id piece s) + more) _
-        (omega (arith, few, few_connections s h reached, few_rows s h, left, args)) (pays s h);
-  }
+  module _ (now id : ℕ) (piece : List ℕ) where
+    abbrev ok : Taken → Result Taken CoreFault
+    ok taken = Ok taken
 
-  -- where no record ends, a piece costs a step for each byte that is taken, two for each connection, and 9
-  pub cheap_within : (id : ℕ) (piece : List ℕ) (result : Result Taken CoreFault) → IsCheapIfQuiet core id piece result a b → StaysCheapIfQuiet core id piece result a b
-  cheap_within id piece (Ok taken) cheap = λ s h reached none. at_most a b (look_cost core.connections + (take_cost taken.count + recount_cost)) _ (omega (arith, few_connections s h reached)) (cheap s h none)
-  cheap_within id piece (Err fault) cheap = λ s h reached none. at_most a b (look_cost core.connections + 0) _ (omega (arith, few_connections s h reached)) (cheap s h none)
+    same_taken : (x y : Taken) → ok x ≡ ok y → x.count ≡ y.count
+    same_taken x y e = cc
+
+    -- as many bytes are taken of it as the model says
+    counts : (s : State) (c : Connection) (result : Result Taken CoreFault) → live_connection id s.connections.all ≡ Some c → result ≡ (bytes s now id piece).0 → taken_by result ≡ count_taken piece (taking c.phase piece)
+    unfolding bytes
+    counts s c (Err fault) there gives = let clash = rw there at gives in absurd cc
+    counts s c (Ok taken) there gives =
+        let same : ok taken ≡ (bytes_to s now id piece (Some c)).0 = rw there at gives in
+        same_taken taken (when_taken (at_moment now s) id piece c (taking c.phase piece)).0 same ∙ taken-counts (at_moment now s) id piece c (taking c.phase piece)
+
+    pub exchange_within : (new : Held) (room n more : ℕ) (result : Result Taken CoreFault) (given : List ℕ) → Acts StandsFor (exchanging now id piece room) core new (result, given) → more ≤ n + 2
+        → ((s : State) → StandsFor core s → PaysAtMost a b (bytes_cost (sizes_of core new) piece (live_connection id s.connections.all) + more)) → StaysWithinSteps core (taken_by result) n a b
+    unfolding step longest_reply longest_arguments buffer_size longest_args
+    exchange_within new room n more result given acts few pays = record { within = λ s h reached. by_there s h reached (live_connection id s.connections.all) refl (pays s h) }
+      where
+        left : (s : State) → StandsFor core s → length (slots_of new.books.registry) ≤ core.setting.limits.rows
+        left s h =
+            let same =
+            kept_setting now _ id (bytes s now id piece).1
+            ∙ ap (λ (t : State). t.setting) (sym (same_state show_taken (λ t. bytes t now id piece) core new (bytes s now id piece))) ∙ (step-follows s (Bytes now id piece)).setting in
+            rows_left new s _ h (acts.stands s h) same
+
+        by_taking : (s : State) → StandsFor core s → IsReached s → (t : Taking) → taken_by result ≡ count_taken piece t
+            → PaysAtMost a b (find_cost (length core.connections.slots) + take_cost (count_taken piece t) + recount_cost + record_cost (sizes_of core new) t + more) → PaysAtMost a b (steps_bound core.setting.limits (taken_by result) n)
+        by_taking s h reached TakesNone k paid = at_most a b (find_cost (length core.connections.slots) + take_cost 0 + recount_cost + 0 + more) _ (omega (arith, few, few_connections s h reached)) paid
+        by_taking s h reached (GoesOn fed) k paid = at_most a b (find_cost (length core.connections.slots) + take_cost (length piece) + recount_cost + 0 + more) _ (omega (arith, few, few_connections s h reached, k)) paid
+        by_taking s h reached (Ends m content) k paid =
+            at_most a b (find_cost (length core.connections.slots) + take_cost m + recount_cost + record_cost (sizes_of core new) (Ends m content) + more) _
+            (omega (arith, few, few_connections s h reached, few_rows s h, left s h, k, length-take longest_arguments (arguments_of content))) paid
+
+        by_there : (s : State) → StandsFor core s → IsReached s → (m : Option Connection) → live_connection id s.connections.all ≡ m → PaysAtMost a b (bytes_cost (sizes_of core new) piece m + more) → PaysAtMost a b (steps_bound core.setting.limits (taken_by result) n)
+        by_there s h reached None there paid = at_most a b (find_cost (length core.connections.slots) + more) _ (omega (arith, few, few_connections s h reached)) paid
+        by_there s h reached (Some c) there paid = by_taking s h reached (taking c.phase piece) (counts s c result there (ap (λ (x : Result Taken CoreFault × List ℕ). x.0) (acts.gives s h))) paid
+
+    -- where no record ends, a piece costs a step for each byte that is taken, two for each connection, and 9
+    pub cheap_within : (new : Held) (result : Result Taken CoreFault) → Acts StandsFor (λ s. bytes s now id piece) core new result → PaysForBytes core new id piece a b → StaysCheapIfQuiet core id piece result a b
+    cheap_within new result acts pays = λ s h reached none. by_there s h reached none (live_connection id s.connections.all) refl (pays s h)
+      where
+        by_there : (s : State) → StandsFor core s → IsReached s → NoRecordEnds s id piece → (m : Option Connection) → live_connection id s.connections.all ≡ m → PaysAtMost a b (bytes_cost (sizes_of core new) piece m)
+            → PaysAtMost a b (8 * taken_by result + 64 * core.setting.limits.conns + 64)
+        by_there s h reached none None there paid = at_most a b (find_cost (length core.connections.slots)) _ (omega (arith, few_connections s h reached)) paid
+        by_there s h reached none (Some c) there paid =
+            let quiet : record_cost (sizes_of core new) (taking c.phase piece) ≡ 0 = no_record (sizes_of core new) c piece (rw there at none) in
+            at_most a b (bytes_cost (sizes_of core new) piece (Some c)) _ (omega (arith, few_connections s h reached, quiet, counts s c result there (acts.gives s h))) paid

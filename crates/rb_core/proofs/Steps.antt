@@ -1,6 +1,6 @@
 -- A core that stands for a state before a call stands for the state after it.
 use Rattle.std.proofs.Common.{◌≡◌, ◌≤◌, ℕ, Bool, true, false, cond, List, [], ◌∷◌, map, Option, Some, None, Result, Ok, Err, length, eqb, refl, sym, ap, subst, ◌∙◌, max, arith}
-use Rattle.std.specs.Prelude.{find, not, ◌||◌, IfSome}
+use Rattle.std.specs.Prelude.{find, not, ◌||◌}
 use Rattle.std.specs.Option.{option_map_or}
 use Rattle.std.proofs.lemmas.Bool.{and_parts}
 use Rattle.rb_rpc.specs.declared.peer.Peer.{Peer}
@@ -32,7 +32,6 @@ use Rattle.rb_model.specs.Connections.Taking.{TakesNone, GoesOn, Ends}
 use Rattle.rb_connections.specs.Slots.{Acts, Shows, StaysTable, received, fed_with, feeding, arguments_after, arguments_heard, arguments_on}
 use Rattle.rb_model.specs.Step.{context_in, with_ledger, with_reply, settled_in, serve_message, serve, answering, with_count, when_taken, bytes_to, bytes, datagram, gave, open_connection, close_connection, moved, dropped_with, unsent_call, sent_call}
 use Rattle.rb_model.specs.declared.types.Taken.{Taken}
-use Rattle.rb_core.specs.CallCosts.{NoRecordEnds, has_ended}
 use Rattle.rb_core.specs.Core.{context_of, answering_heard}
 use Rattle.rb_core.specs.AtOnce.{at_once, at_once_in, owes}
 use Rattle.rb_core.specs.Eviction.{source_in}
@@ -424,7 +423,7 @@ module _ (old : Held) (now clock id : ℕ) (piece : List ℕ) (is : clock ≡ ma
   nobody : (x : Heard) → Some x ≡ None → ⊥
   nobody x h = absurd cc
 
-  fed_by : (got : Received) → Acts (StandsForConnections (source_of old)) (on_live id (feeding clock piece)) old.connections table (Ok got) → (s : State) → StandsFor old s → Fed old clock id piece table got s
+  pub fed_by : (got : Received) → Acts (StandsForConnections (source_of old)) (on_live id (feeding clock piece)) old.connections table (Ok got) → (s : State) → StandsFor old s → Fed old clock id piece table got s
   unfolding feeding
   fed_by got acts s h = by_there (live_connection id s.connections.all) refl (acts.gives s.connections h.connections) (acts.stands s.connections h.connections)
     where
@@ -447,7 +446,7 @@ module _ (old : Held) (now clock id : ℕ) (piece : List ℕ) (is : clock ≡ ma
       (change_alike (is_live id) (λ x. fed_with clock x (taking x.phase piece)) change s.connections.all c there (ap (fed_with clock c) takes ∙ same))
 
   -- the arguments that are held after it
-  held_after : (s : State) (c : Connection) (t : Taking) → StandsFor old s → live_connection id s.connections.all ≡ Some c → taking c.phase piece ≡ t → arguments ≡ arguments_after old.arguments t
+  pub held_after : (s : State) (c : Connection) (t : Taking) → StandsFor old s → live_connection id s.connections.all ≡ Some c → taking c.phase piece ≡ t → arguments ≡ arguments_after old.arguments t
   held_after s c t h there takes =
       holds s.connections h.connections ∙ ap (λ (o : Option Connection). option_map_or (arguments_heard old.arguments piece) o old.arguments) there ∙ ap (arguments_after old.arguments) takes
 
@@ -569,9 +568,6 @@ unheard fault = Err fault
 fault_is : (a b : CoreFault) → unheard a ≡ unheard b → a ≡ b
 fault_is a b e = cc
 
-abbrev ok_received : Received → Result Received CoreFault
-ok_received got = Ok got
-
 -- a connection that is not there takes nothing
 pub bytes_refused : (old : Held) (now clock id : ℕ) (piece : List ℕ) (table : Table) (f : CoreFault) → Acts (StandsForConnections (source_of old)) (on_live id (feeding clock piece)) old.connections table (Err f)
     → Acts StandsFor (λ s. bytes s now id piece) old old (Err f)
@@ -593,31 +589,6 @@ bytes_refused old now clock id piece table f acts = record {
 pub with_heard : (source : Source) (id clock : ℕ) (piece : List ℕ) (old table : Table) (got : Received) (said : Option Heard) → got.heard ≡ said
     → Acts (StandsForConnections source) (on_live id (feeding clock piece)) old table (Ok got) → Acts (StandsForConnections source) (on_live id (feeding clock piece)) old table (Ok (record { count = got.count; heard = said }))
 with_heard source id clock piece old table got said is acts = subst (λ (m : Option Heard). Acts (StandsForConnections source) (on_live id (feeding clock piece)) old table (Ok (record { count = got.count; heard = m }))) is acts
-
--- No piece that ends no record says anything.
-pub nothing_heard : (clock id count : ℕ) (piece : List ℕ) (said : Heard) (old : Held) (table : Table) → Acts (StandsForConnections (source_of old)) (on_live id (feeding clock piece)) old.connections table (Ok (record { count = count; heard = Some said }))
-    → (s : State) → StandsFor old s → NoRecordEnds s id piece → ⊥
-unfolding feeding
-nothing_heard clock id count piece said old table acts s h none = by_there (live_connection id s.connections.all) refl (acts.gives s.connections h.connections) none
-  where
-    by_taking : (c : Connection) (t : Taking) → has_ended t ≡ false → record { count = count; heard = Some said } ≡ received piece c t → ⊥
-    by_taking c TakesNone e g = some_none said (ap (λ (r : Received). r.heard) g)
-      where
-        some_none : (x : Heard) → Some x ≡ None → ⊥
-        some_none x h = absurd cc
-    by_taking c (GoesOn fed) e g = some_none said (ap (λ (r : Received). r.heard) g)
-      where
-        some_none : (x : Heard) → Some x ≡ None → ⊥
-        some_none x h = absurd cc
-    by_taking c (Ends n content) e g = let clash : true ≡ false = e in absurd cc
-
-    by_there : (m : Option Connection) → live_connection id s.connections.all ≡ m → Ok (record { count = count; heard = Some said }) ≡ (on_live id (feeding clock piece) s.connections).0
-        → IfSome (live_connection id s.connections.all) (λ c. has_ended (taking c.phase piece) ≡ false) → ⊥
-    by_there None e g n = let clash = rw e at g in absurd cc
-    by_there (Some c) e g n = by_taking c (taking c.phase piece) (rw e at n) (same (record { count = count; heard = Some said }) (received piece c (taking c.phase piece)) (rw e at g))
-      where
-        same : (a b : Received) → ok_received a ≡ ok_received b → a ≡ b
-        same a b e = cc
 
 -- ---- forwarded calls
 

@@ -1,10 +1,8 @@
--- Replies that are given in the call that takes the end of their record: three events in one.
-use Rattle.std.specs.Prelude.{◌≡◌, ℕ, ◌+◌, ◌==◌, nat_lt, Bool, true, false, not, ◌&&◌, ◌||◌, if◌then◌else◌, List, [], length, take, Option, Some, None, is_none, Result, Ok, Err}
+-- Replies that are given in the call that takes the end of their record: two events in one.
+use Rattle.std.specs.Prelude.{◌≡◌, ◌<◌, ◌≤◌, ℕ, ◌+◌, ◌==◌, nat_lt, Bool, true, false, not, ◌&&◌, ◌||◌, if◌then◌else◌, List, [], length, take, Option, Some, None, is_none, Result, Ok, Err}
+use Rattle.std.specs.Borrow.{Bor}
 use Rattle.rb_xdr.specs.Kept.{Kept}
-use Rattle.rb_xdr.specs.Meter.{Meter, PaysAtMost}
-use Rattle.rb_rpc.specs.declared.peer.Caller.TheVariants.{Tcp}
-use Rattle.rb_proto.specs.declared.books.Books.{Books}
-use Rattle.rb_proto.specs.declared.context.Context.{Context}
+use Rattle.rb_rpc.specs.Records.{fragment_size, marked}
 use Rattle.rb_connections.specs.declared.served.Served.{Served}
 use Rattle.rb_connections.specs.declared.served.Served.TheVariants.{Told, Listed}
 use Rattle.rb_connections.specs.declared.slot.Heard.{Heard}
@@ -16,14 +14,11 @@ use Rattle.rb_model.specs.State.{Owed, Phase, Connection, State}
 use Rattle.rb_model.specs.State.Phase.{Idle, Reading, Owing, Awaiting, Lost}
 use Rattle.rb_model.specs.Connections.{longest_fragment, when_given, live_connection, on_connection}
 use Rattle.rb_model.specs.Step.{bytes, pending, gave}
-use Rattle.rb_connections.specs.StandsFor.{Table}
 use Rattle.rb_core.specs.StandsFor.{Held, StandsFor}
 use Rattle.rb_connections.specs.Slots.{Acts}
-use Rattle.rb_connections.specs.Giving.{IsGivenWhole, whole_length, whole_cost}
-use Rattle.rb_core.specs.Core.{context_of, answering_heard}
-use Rattle.rb_core.specs.CallCosts.{bytes_cost, args_heard}
+use Rattle.rb_core.specs.Core.{arguments_in, answering_heard, without_arguments}
 
--- ---- three events
+-- ---- two events
 
 -- the bytes that are pending, none where there is no such connection
 abbrev pub pending_bytes : Result (List ℕ) CoreFault → List ℕ
@@ -107,29 +102,19 @@ given_when_answered room id (closed, s) = if closed then 0 else at_once_on room 
 abbrev pub answered_giving : ℕ → ℕ → Bool × State → (Bool × List ℕ) × State
 answered_giving id n (closed, s) = ((closed, front n id s), on_connection id (when_given s.clock n) s)
 
--- A record on the connection of a number that said this is answered, with these arguments, and these bytes of the reply are given.
-abbrev pub AnswersGiving : ℕ → Heard → List ℕ → Held → Held → Bool → List ℕ → Type 0
-AnswersGiving id heard arguments old new closed given =
-    Acts StandsFor (λ s. answered_giving id (length given) (answering_heard id heard arguments s)) old new (closed, given)
+-- The record on a connection of a number that said this is answered, with its arguments, and the first n bytes in this room
+-- are given of the reply. No arguments are held after it.
+abbrev pub AnswersGiving : ℕ → Heard → Option (Bor (List ℕ)) → Held → Held → Bool × ℕ → List ℕ → Type 0
+AnswersGiving id heard arguments old new (closed, n) room =
+    Acts StandsFor
+    (λ s. answered_giving id (length (take n room)) (answering_heard id heard (arguments_in arguments old.arguments) s))
+    (without_arguments old) new (closed, take n room)
 
 -- They are as many as are given at once where there is this room.
-abbrev pub GivesAtOnce : ℕ → ℕ → Heard → List ℕ → Held → ℕ → Type 0
+abbrev pub GivesAtOnce : List ℕ → ℕ → Heard → Option (Bor (List ℕ)) → Held → ℕ → Type 0
 GivesAtOnce room id heard arguments old n =
-    (s : State) → StandsFor old s → n ≡ given_when_answered room id (answering_heard id heard arguments s)
-
--- a core with these connections and books
-abbrev pub with_parts : Held → Table → Books → Held
-with_parts held connections books = record held { connections = connections; books = books }
-
--- Such a record is answered so from these connections and books, in any core in which a call on that connection sees this.
-abbrev pub AnswersFrom : Context → ℕ → Heard → List ℕ → Table → Books → Table → Books → Bool → List ℕ → Type 0
-AnswersFrom context id heard arguments table books left after closed given =
-    (held : Held) → context ≡ context_of held (Tcp id heard.peer)
-    → AnswersGiving id heard arguments (with_parts held table books) (with_parts held left after) closed given
-
-abbrev pub GivesFrom : ℕ → Context → ℕ → Heard → List ℕ → Table → Books → ℕ → Type 0
-GivesFrom room context id heard arguments table books n =
-    (held : Held) → context ≡ context_of held (Tcp id heard.peer) → GivesAtOnce room id heard arguments (with_parts held table books) n
+    (s : State) → StandsFor (without_arguments old) s
+    → n ≡ given_when_answered (length room) id (answering_heard id heard (arguments_in arguments old.arguments) s)
 
 -- ---- a reply
 
@@ -145,17 +130,3 @@ count_at_once room (Listed xid listing) reply = 0
 pub record IsGivenAtOnce (served : Served) (before after : Kept) (given : List ℕ) : Type 0 where
   pub is_reply : served ≡ Told outcomes.Reply
   pub whole : IsGivenWhole before after given
-
--- to take bytes, to answer the record that ends with them, and to give the reply where there is this room
-abbrev pub exchange_cost : Held → Held → ℕ → Result Exchanged CoreFault → ℕ → ℕ
-exchange_cost old new room result args = bytes_cost old new (taken_in result) args + whole_cost room (count_given result)
-
--- So much is paid for it at most, from whatever state was held.
-abbrev pub PaysForExchange : Held → Held → ℕ → List ℕ → ℕ → Result Exchanged CoreFault → Meter → Meter → Type 0
-PaysForExchange old new id piece room result before now =
-    (s : State) → StandsFor old s → PaysAtMost before now (exchange_cost old new room result (args_heard id piece s))
-
--- the same where there is no room for a reply
-abbrev pub PaysForBytes : Held → Held → ℕ → List ℕ → Result Taken CoreFault → Meter → Meter → Type 0
-PaysForBytes old new id piece result before now =
-    (s : State) → StandsFor old s → PaysAtMost before now (bytes_cost old new result (args_heard id piece s))

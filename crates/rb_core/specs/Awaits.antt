@@ -2,7 +2,6 @@
 use Rattle.std.specs.Prelude.{◌≡◌, ⊤, ℕ, true, false}
 use Rattle.rb_forward.specs.StandsFor.{Table as Entries, slots_of}
 use Rattle.rb_forward.specs.Table.{is_waiting}
-use Rattle.rb_proto.specs.declared.books.Books.{Books}
 use Rattle.rb_proto.specs.declared.answers.Answer.{Answer}
 use Rattle.rb_proto.specs.declared.answers.Answer.TheVariants as answers
 use Rattle.rb_connections.specs.declared.served.Outcome.{Outcome}
@@ -13,10 +12,6 @@ use Rattle.rb_connections.specs.Awaits.{is_free}
 -- No connection is free for which a call is forwarded.
 abbrev pub AreAwaited : Entries → Table → Type 0
 AreAwaited entries table = (id : ℕ) → is_waiting id (slots_of entries) ≡ true → is_free id table ≡ false
-
--- so it stays
-abbrev pub KeepsAwaited : Books → Table → Books → Table → Type 0
-KeepsAwaited old before new after = AreAwaited old.forwards before → AreAwaited new.forwards after
 
 -- what the code says of an answer
 abbrev pub kind_of : Answer → Outcome

@@ -1,5 +1,6 @@
 -- What is true of all that a core holds, and what its calls answer.
-use Rattle.std.specs.Prelude.{◌≡◌, ◌≤◌, ℕ, Bool, List, [], length}
+use Rattle.std.specs.Prelude.{◌≡◌, ◌≤◌, ℕ, Bool, List, [], length, Option, Some, None, Result, Ok, Err, IfOk}
+use Rattle.std.specs.Borrow.{Bor}
 use Rattle.rb_xdr.specs.Kept.{Kept}
 use Rattle.rb_rpc.specs.declared.peer.Caller.{Caller}
 use Rattle.rb_rpc.specs.declared.peer.Caller.TheVariants.{Tcp}
@@ -8,13 +9,16 @@ use Rattle.rb_proto.specs.declared.books.Books.{Books}
 use Rattle.rb_proto.specs.declared.context.Context.{Context}
 use Rattle.rb_proto.specs.Books.{AreTied}
 use Rattle.rb_connections.specs.declared.served.Outcome as outcome
+use Rattle.rb_connections.specs.declared.served.Outcome.TheVariants as outcomes
+use Rattle.rb_core.specs.declared.calls.Piece.{Piece}
 use Rattle.rb_connections.specs.declared.slot.Heard.{Heard}
+use Rattle.rb_connections.specs.declared.slot.Received.{Received}
+use Rattle.rb_model.specs.declared.types.CoreFault.{CoreFault}
 use Rattle.rb_model.specs.State.{Setting, State}
-use Rattle.rb_model.specs.Calls.{message_with, Outcome, longest_reply}
-use Rattle.rb_connections.specs.StandsFor.{Table}
+use Rattle.rb_model.specs.Calls.{message_with, Outcome, Outcome as said, longest_reply}
 use Rattle.rb_core.specs.StandsFor.{Held, StandsFor}
-use Rattle.rb_connections.specs.Slots.{Acts, IsDraft}
-use Rattle.rb_connections.specs.Settling.{outcome_with}
+use Rattle.rb_connections.specs.StandsFor.{Table}
+use Rattle.rb_connections.specs.Slots.{Acts, TableShows, arguments_on, IsDraft}
 use Rattle.rb_core.specs.Awaits.{AreAwaited}
 use Rattle.rb_connections.specs.Listings.{CanListOn}
 use Rattle.rb_core.specs.Eviction.{source_in}
@@ -58,6 +62,21 @@ context_of held caller = record {
   clock = held.clock;
   caller = caller;
 }
+
+-- what was received of a piece of bytes, or that there is no such connection
+abbrev pub received_in : Result Piece CoreFault → Result Received CoreFault
+received_in (Ok piece) = Ok piece.received
+received_in (Err fault) = Err fault
+
+-- the arguments of a record: those in the piece where it came whole, else those that are held
+abbrev pub arguments_in : Option (Bor (List ℕ)) → List ℕ → List ℕ
+arguments_in (Some lent) held = lent.now
+arguments_in None held = held
+
+-- They are there after a piece for the connection of the number, where the buffer for them was this one and is that one.
+abbrev pub HasArguments : ℕ → List ℕ → Table → Kept → Kept → Result Piece CoreFault → Type 0
+HasArguments id piece table before after result =
+    IfOk result (λ got. TableShows (arguments_on id before.bytes piece) table (arguments_in got.arguments after.bytes))
 
 -- what a record says of this verdict and these arguments is answered
 abbrev pub answering_heard : ℕ → Heard → List ℕ → State → Bool × State

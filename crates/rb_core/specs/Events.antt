@@ -14,7 +14,7 @@ use Rattle.rb_model.specs.Plain.{output_of}
 use Rattle.rb_model.specs.Costs.{event_cost}
 use Rattle.rb_core.specs.contracts.engine.Core.{the_row}
 use Rattle.rb_model.specs.Bounds.{steps_bound}
-use Rattle.rb_core.specs.CallCosts.{NoRecordEnds}
+use Rattle.rb_model.specs.Laws.{NoRecordEnds}
 use Rattle.rb_model.specs.WholeRuns.{whole_bound}
 use Rattle.rb_model.specs.declared.types.Limits.{Limits}
 

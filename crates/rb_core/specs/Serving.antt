@@ -21,14 +21,19 @@ use Rattle.rb_connections.specs.declared.served.Served.TheVariants.{Told, Listed
 use Rattle.rb_connections.specs.StandsFor.{Table, StandsForConnections}
 use Rattle.rb_model.specs.State.{Connections}
 use Rattle.rb_model.specs.Losses.{crowding, evicting}
-use Rattle.rb_model.specs.Calls.{Outcome, told_as, outcome, message_with, longest_reply}
-use Rattle.rb_connections.specs.Slots.{StaysTable}
-use Rattle.rb_connections.specs.Settling.{served_in, kind_in, IsWritten}
+use Rattle.rb_model.specs.Calls.{Outcome, Outcome as said, is_no_call, told_as, outcome, message_with, longest_reply}
+use Rattle.rb_connections.specs.Settling.{outcome_with}
+use Rattle.rb_connections.specs.Slots.{SlotBecomesFrom, BecomesFrom}
+use Rattle.rb_connections.specs.declared.giving.Giving.{Giving}
+use Rattle.rb_connections.specs.declared.giving.Rest.{Rest}
+use Rattle.rb_connections.specs.declared.slot.Stage.TheVariants as stages
+use Rattle.rb_connections.specs.Giving.{ShowsNext}
 use Rattle.rb_model.specs.declared.message.Message.{Message}
+use Rattle.rb_connections.specs.declared.slot.Slot.{Slot}
+use Rattle.rb_model.specs.Connections.{settled, changed_at}
 use Rattle.rb_core.specs.Messages.{null_message}
-use Rattle.rb_connections.specs.Listings.{CanListOn}
 use Rattle.rb_core.specs.Eviction.{source_in}
-use Rattle.rb_core.specs.Awaits.{KeepsAwaited, StayUnlessForwarded}
+use Rattle.rb_core.specs.Awaits.{StayUnlessForwarded}
 
 -- From each ledger that the books stand for, an answer is told so.
 abbrev pub TellsAnswer : Books → Context → ℕ → Answer → Served → List ℕ → Type 0
@@ -101,13 +106,6 @@ pub record LeavesBooks (context : Context) (old new : Books) (served : Served) (
   pub quiet : StayUnlessForwarded (kind_in served) old.forwards new.forwards
   pub waiting : OnlyCallerWaits context.caller old new
   pub frame : SameFrame old new
-
--- Connections and books go on once a record on a connection was answered.
-pub record PartsGoOn (host : List ℕ) (connections : Table) (books : Books) (left : Table) (after : Books) : Type 0 where
-  pub awaited : KeepsAwaited books connections after left
-  pub lists : CanListOn (source_in host after) left
-  pub frame : SameFrame books after
-  pub stays : StaysTable connections left
 
 -- the list that is streamed to a caller, where results are one
 abbrev pub streamed : Caller → Results → Option Listing

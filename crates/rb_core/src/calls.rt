@@ -1,27 +1,90 @@
-//! Answers what a record on a connection, or a datagram, says.
-ghost use Rattle.std.specs.Prelude.{◌≡◌, ◌≤◌, ◌+◌, ℕ, true, false, [], length, take};
+//! What comes of a piece of bytes on a connection, and how a record or a datagram is served.
+ghost use Rattle.std.specs.Prelude.{◌≡◌, ◌≤◌, ◌+◌, None, length, IfOk, OnErr};
 ghost use Rattle.rb_xdr.specs.Meter.{PaysAtMost};
-ghost use Rattle.rb_rpc.specs.declared.peer.Caller.TheVariants.{Tcp};
-ghost use Rattle.rb_forward.specs.StandsFor.{slots_of};
-ghost use Rattle.rb_forward.specs.Table.{is_waiting};
-ghost use Rattle.rb_proto.specs.Books.{AreTied, SameFrame};
-ghost use Rattle.rb_core.specs.AtOnce.{AnswersFrom, GivesFrom};
-ghost use Rattle.rb_connections.specs.Giving.{whole_cost};
-ghost use Rattle.rb_connections.specs.Awaits.{IsIdleSince, StayOpen};
-ghost use Rattle.rb_core.specs.CallCosts.{message_cost, served_cost};
-ghost use Rattle.rb_model.specs.Calls.{longest_reply};
-ghost use Rattle.rb_core.specs.Serving.{CanServe, IsEmptyReply, LeavesBooks, PartsGoOn, ServesVerdict};
+ghost use Rattle.rb_model.specs.Connections.{on_live};
+ghost use Rattle.rb_connections.specs.Awaits.{GoOn, HearsFree, StayOpen};
+ghost use Rattle.rb_core.specs.CallCosts.{PaysInRoom};
+ghost use Rattle.rb_connections.specs.Costs.{look_cost, taken_cost};
+ghost use Rattle.rb_core.specs.Core.{arguments_in, received_in, HasArguments};
+ghost use Rattle.rb_core.specs.Serving.{CanServe, IsEmptyReply, LeavesBooks, ServesVerdict};
 ghost use Rattle.rb_connections.specs.Listings.{CanListOn};
 ghost use Rattle.rb_core.specs.Eviction.{source_in};
-ghost use Rattle.rb_connections.specs.Slots.{IsEmptyDraft};
+ghost use Rattle.rb_connections.specs.Slots.{feeding, IsDraft, TableActs};
 
 use crate::eviction::make_room;
-use crate::message::procedure_of;
-use crate::replies::{give_at_once, serve, serve_null};
-use rb_connections::{Connections, Heard, Served};
+use crate::message::{kept_arguments, procedure_of};
+use crate::replies::{serve, serve_null};
+use rb_connections::{Connections, Heard, Received, Served};
+use rb_model::CoreFault;
 use rb_proto::{Books, Context};
-use rb_rpc::Verdict;
+use rb_rpc::{FRAGMENT_HEADER, Verdict, read_call};
 use rb_xdr::{Kept, Meter};
+
+/// What came of a piece of bytes. The arguments of the record that ended with it lie in the piece where that came whole, and
+/// else in the buffer that was handed in for them.
+#[derive(Clone, Copy, Debug, PartialEq, Eq)]
+pub struct Piece<'a> {
+    pub received: Received,
+    pub arguments: Option<&'a [u8]>,
+}
+
+/// Takes bytes that arrive on the live connection of the number, at most up to the end of a record. A record that comes whole
+/// on an Idle connection is read where it lies (RFC 5531 section 11). `Gone` where there is no such connection, or it is Lost.
+pub fn take_piece<'a>(
+    connections: &mut Connections,
+    id: u64,
+    piece: &'a [u8],
+    clock: u64,
+    arguments: &mut Kept,
+    meter: &mut Meter,
+) -> Result<Piece<'a>, CoreFault>
+    requires tie { meter.old.tie ≡ connections.old.tie }
+    requires arguments { IsDraft meter.old.tie arguments.old }
+    ensures acts { TableActs (on_live id (feeding clock piece.now))
+        connections.old connections.new (received_in result) }
+    ensures arguments { HasArguments id piece.now connections.old arguments.old arguments.new result }
+    ensures none { IfOk result (λ got. got.received.heard ≡ None → got.arguments ≡ None) }
+    ensures goes_on { GoOn connections.old connections.new }
+    ensures hears { HearsFree id clock connections.old connections.new (received_in result) }
+    ensures within { IfOk result (λ got. got.received.count ≤ length piece.now) }
+    ensures refused { OnErr result (connections.new ≡ connections.old) }
+    ensures kept { OnErr result (arguments.new ≡ arguments.old) }
+    ensures draft { IsDraft meter.old.tie arguments.new }
+    ensures as_many { length connections.new.slots ≡ length connections.old.slots }
+    ensures cost { PaysAtMost meter.old meter.new
+        (look_cost connections.old + taken_cost (received_in result)) }
+{
+    if let Some(whole) = connections.hear(id, piece, clock, meter) {
+        let verdict = read_call(whole.content);
+        let peer = whole.peer;
+        let count = FRAGMENT_HEADER + whole.content.len();
+        let heard = Some(Heard { peer, verdict });
+        return Ok(Piece {
+            received: Received { count, heard },
+            arguments: Some(kept_arguments(verdict, whole.content)),
+        });
+    }
+    let received = connections.take(id, piece, clock, arguments, meter)?;
+    Ok(Piece {
+        received,
+        arguments: None,
+    })
+}
+
+/// The arguments of a record: those in the piece, where it came whole, else those in the buffer.
+pub fn lend_arguments<'a>(piece: Option<&'a [u8]>, buffer: &'a Kept, meter: &mut Meter) -> &'a [u8]
+    requires { meter.old.tie ≡ buffer.now.tie }
+    ensures value { result.now ≡ arguments_in piece.entry buffer.now.bytes }
+    ensures cost { PaysAtMost meter.old meter.new (1 + length result.now) }
+{
+    match piece {
+        Some(arguments) => arguments,
+        None => {
+            let len = buffer.len(meter);
+            buffer.lend(0..len, meter)
+        }
+    }
+}
 
 /// Serves what the data on which this is the verdict says, behind whose head are these bytes, once there is room for the row
 /// that it adds. The reply is written into an empty buffer, unless it is a list that is streamed.
@@ -46,9 +109,8 @@ pub fn serve_verdict(
     ensures leaves { LeavesBooks context.now books.old books.new result out.old out.new }
     ensures lists { CanListOn (source_in context.now.listener.host books.new) connections.new }
     ensures open { StayOpen connections.old connections.new }
-    ensures cost { PaysAtMost meter.old meter.new
-        (message_cost connections.old books.old books.new (length arguments.now)
-        (length out.new.bytes)) }
+    ensures cost { PaysInRoom
+        connections.old books.old books.new arguments.now out.new meter.old meter.new }
 {
     let called = match procedure_of(verdict) {
         Ok(called) => called,
@@ -60,56 +122,4 @@ pub fn serve_verdict(
     let message = &called.message(arguments);
     make_room(connections, books, context, message, meter);
     serve(books, context, message, arguments, out, meter)
-}
-
-/// Answers what a record on the connection of the number says, which has these arguments, and lets the connection go on. It
-/// says whether it is Lost now, and how many bytes of the reply were given at once. The draft is empty before and after.
-#[tactic(auto, unfolding(rb_model::specs::Calls::longest_reply, rb_model::specs::Calls::longest_arguments, rb_connections::specs::StandsFor::buffer_size))]
-pub fn answer(
-    connections: &mut Connections,
-    books: &mut Books,
-    draft: &mut Kept,
-    context: &Context,
-    id: u64,
-    heard: &Heard,
-    arguments: &[u8],
-    room: &mut [u8],
-    meter: &mut Meter,
-) -> (bool, usize)
-    requires context { context.now.caller ≡ Tcp id heard.now.peer }
-    requires can { CanServe meter.old.tie context.now books.old }
-    requires tie { meter.old.tie ≡ connections.old.tie }
-    requires draft { IsEmptyDraft meter.old.tie draft.old }
-    requires lists { CanListOn (source_in context.now.listener.host books.old) connections.old }
-    requires idle { IsIdleSince id context.now.clock connections.old }
-    ensures acts { AnswersFrom context.now id heard.now arguments.now connections.old books.old
-        connections.new books.new result.0 (take result.1 room.new) }
-    ensures count { GivesFrom (length room.old) context.now id heard.now arguments.now
-        connections.old books.old result.1 }
-    ensures within { result.1 ≤ length room.new }
-    ensures goes_on { PartsGoOn context.now.listener.host connections.old books.old
-        connections.new books.new }
-    ensures draft { IsEmptyDraft meter.old.tie draft.new }
-    ensures cost { PaysAtMost meter.old meter.new
-        (served_cost connections.old books.old books.new (length arguments.now)
-        + whole_cost (length room.old) result.1) }
-{
-    let served = serve_verdict(
-        connections,
-        books,
-        context,
-        &heard.verdict,
-        arguments,
-        draft,
-        meter,
-    );
-    let given = give_at_once(served, draft, room, meter);
-    if given > 0 {
-        // It is Idle since this moment, and stays so.
-        return (false, given);
-    }
-    let host = context.listener.host;
-    let clock = context.clock;
-    connections.settle(id, served, clock, host, &books.registry, draft, meter);
-    (served.is_no_call(), 0)
 }

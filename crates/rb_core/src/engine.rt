@@ -3,19 +3,18 @@ ghost use Rattle.std.specs.Prelude.{◌≡◌, ◌≤◌, IsTrue};
 ghost use Rattle.rb_model.specs.State.{are_good};
 ghost use Rattle.rb_model.specs.Bounds.{bytes_bound};
 
-use crate::calls::{answer, serve_verdict};
+use crate::calls::{Piece, lend_arguments, serve_verdict, take_piece};
 use crate::events::LONGEST_CALL;
-use crate::message::{arguments_behind, kept_arguments};
-use crate::replies::put_end;
+use crate::message::arguments_behind;
+use crate::replies::{give_at_once, put_end};
 use crate::types::Exchanged;
 use rb_connections::{
     BUFFER_SIZE, Connections, Heard, LONGEST_FRAGMENT, LONGEST_REPLY, Outcome, Received, Served,
-    Whole,
 };
 use rb_forward::{Ended, FwdId, Unsent};
 use rb_model::{CoreFault, Expired, Limits, Taken, Told};
 use rb_proto::{Books, Context, Listener};
-use rb_rpc::{Caller, FRAGMENT_HEADER, Peer, read_call};
+use rb_rpc::{Caller, Peer, read_call};
 use rb_xdr::{Kept, Meter};
 use std::alloc::Global;
 use std::marker::Model;
@@ -166,14 +165,13 @@ impl Core {
     ghost use Rattle.rb_model.specs.Bounds.{bytes_bound};
     ghost use Rattle.rb_core.specs.HeldBytes.{NeverPasses};
     ghost use Rattle.rb_core.specs.Events.{shown, OnlyBegins, BeginsAt, LendsFrom, TellsSteps, taken_by, lent_by, given_by, StaysWithinSteps, StaysCheapIfQuiet};
-    ghost use Rattle.rb_connections.specs.Slots.{Acts, Shows, Lends, heard_in, kept_in};
+    ghost use Rattle.rb_connections.specs.Slots.{Acts, Shows, Lends};
     ghost use Rattle.rb_core.specs.StandsFor.{StandsFor};
-    ghost use Rattle.rb_core.specs.Core.{ActsWithReply, TellsCaller, context_of, without_arguments};
-    ghost use Rattle.rb_core.specs.AtOnce.{AnswersGiving, Exchanges, GivesAtOnce, count_given, count_now, taken_in, PaysForBytes, PaysForExchange};
-    ghost use Rattle.rb_connections.specs.Giving.{whole_cost};
-    ghost use Rattle.rb_core.specs.CallCosts.{answering_cost, datagram_cost, gave_cost, closing_cost, lending_cost, ending_cost, IsCheapIfQuiet};
+    ghost use Rattle.rb_core.specs.Core.{ActsWithReply, TellsCaller, context_of};
+    ghost use Rattle.rb_core.specs.AtOnce.{AnswersGiving, Exchanges, GivesAtOnce, count_given, count_now, taken_in};
+    ghost use Rattle.rb_core.specs.CallCosts.{sizes_of, PaysForBytes, PaysForDatagram, PaysForExchange, PaysToAnswer, lending_cost};
     ghost use Rattle.rb_connections.specs.Costs.{look_cost, slot_count};
-    ghost use Rattle.rb_model.specs.Costs.{tell_cost, pending_cost};
+    ghost use Rattle.rb_model.specs.Costs.{close_cost, ended_cost, gave_cost, tell_cost, pending_cost};
 
     /// A core with the daemon's own rows alone, at the moment `now` (milliseconds since the start of 1970).
     /// `first_xid` is the number of the first call that it forwards. `BadLimits` where a limit is out of its
@@ -253,8 +251,7 @@ impl Core {
         ensures begun { self.new.begun ≡ shown meter.old }
         ensures held { NeverPasses self.new }
         ensures short { length self.new.reply ≤ longest_reply }
-        ensures cost { PaysAtMost meter.old meter.new
-            (datagram_cost self.old self.new (length content.now)) }
+        ensures cost { PaysForDatagram self.old self.new content.now meter.old meter.new }
         ensures bound { StaysWithinSteps self.old (length content.now) 0 meter.old meter.new }
     {
         self.begun = meter.count();
@@ -332,9 +329,8 @@ impl Core {
         ensures begun { self.new.begun ≡ shown meter.old }
         ensures held { NeverPasses self.new }
         ensures same_meter { meter.new.tie ≡ meter.old.tie }
-        ensures cost { PaysForBytes self.old self.new id piece.now result meter.old meter.new }
+        ensures cost { PaysForBytes self.old self.new id piece.now meter.old meter.new }
         ensures bound { StaysWithinSteps self.old (taken_by result) 0 meter.old meter.new }
-        ensures cheap { IsCheapIfQuiet self.old id piece.now result meter.old meter.new }
         ensures quiet { StaysCheapIfQuiet self.old id piece.now result meter.old meter.new }
     {
         let Exchanged { taken, given: _ } = self.exchange(now, id, piece, &mut [], meter)?;
@@ -364,28 +360,20 @@ impl Core {
         ensures begun { self.new.begun ≡ shown meter.old }
         ensures held { NeverPasses self.new }
         ensures same_meter { meter.new.tie ≡ meter.old.tie }
-        ensures cost { PaysForExchange self.old self.new id piece.now (length room.old) result
-            meter.old meter.new }
+        ensures cost { PaysForExchange
+            self.old self.new id piece.now room.old (count_given result) meter.old meter.new }
         ensures bound { StaysWithinSteps
             self.old (taken_by (taken_in result)) (count_given result) meter.old meter.new }
-        ensures cheap { IsCheapIfQuiet
-            self.old id piece.now (taken_in result) meter.old meter.new }
     {
         self.begun = meter.count();
         let clock = self.clock.max(now);
-        if let Some(whole) = self.connections.hear(id, piece, clock, meter) {
-            self.clock = clock;
-            let (closed, given) = self.answer_whole(id, whole, room, meter);
-            let count = FRAGMENT_HEADER + whole.content.len();
-            return Ok(Exchanged {
-                taken: Taken { count, closed },
-                given,
-            });
-        }
-        let Received { count, heard } = self
-            .connections
-            .take(id, piece, clock, &mut self.arguments, meter)?;
+        let buffer = &mut self.arguments;
+        let got = take_piece(&mut self.connections, id, piece, clock, buffer, meter)?;
         self.clock = clock;
+        let Piece {
+            received: Received { count, heard },
+            arguments,
+        } = got;
         let Some(heard) = heard else {
             let closed = false;
             return Ok(Exchanged {
@@ -393,92 +381,63 @@ impl Core {
                 given: 0,
             });
         };
-        let (closed, given) = self.answer_held(id, heard, room, meter);
+        let (closed, given) = self.answer(id, heard, arguments, room, meter);
         Ok(Exchanged {
             taken: Taken { count, closed },
             given,
         })
     }
 
-    /// Answers a record that came whole on a connection, and settles the connection. Returns whether it is Lost now, and how
-    /// many bytes of the reply were given at once.
-    fn answer_whole(
-        &mut self,
-        id: u64,
-        whole: Whole<'_>,
-        room: &mut [u8],
-        meter: &mut Meter,
-    ) -> (bool, usize)
-        requires tie { meter.old.tie ≡ self.old.tie }
-        requires idle { IsIdleSince id self.old.clock self.old.connections }
-        requires caller { is_waiting id (slots_of self.old.books.forwards) ≡ false }
-        ensures acts { AnswersGiving id (heard_in whole.entry) (kept_in whole.entry)
-            self.old self.new result.0 (take result.1 room.new) }
-        ensures within { result.1 ≤ length room.new }
-        ensures count { GivesAtOnce (length room.old) id (heard_in whole.entry)
-            (kept_in whole.entry) self.old result.1 }
-        ensures tie { self.new.tie ≡ self.old.tie }
-        ensures begun { self.new.begun ≡ self.old.begun }
-        ensures cost { PaysAtMost meter.old meter.new
-            (answering_cost self.old self.new (length (kept_in whole.entry))
-            + whole_cost (length room.old) result.1) }
-    {
-        let Whole { peer, content } = whole;
-        let verdict = read_call(content);
-        let arguments = kept_arguments(verdict, content);
-        let heard = Heard { peer, verdict };
-        let context = self.context(Caller::Tcp(id, peer));
-        answer(
-            &mut self.connections,
-            &mut self.books,
-            &mut self.draft,
-            &context,
-            id,
-            &heard,
-            arguments,
-            room,
-            meter,
-        )
-    }
-
-    /// Does the same for a record that came in pieces, whose arguments the core holds. It lets them go.
-    fn answer_held(
+    /// Answers the record that ended on a connection, and lets the connection go on. Its arguments lie in the piece, or else in
+    /// the core's buffer, which is empty after it. Returns whether the connection is Lost now, and how many bytes of the reply
+    /// were given at once.
+    #[tactic(auto, unfolding(rb_model::specs::Calls::longest_reply, rb_model::specs::Calls::longest_arguments, crate::specs::StandsFor::buffer_size))]
+    fn answer(
         &mut self,
         id: u64,
         heard: Heard,
+        arguments: Option<&[u8]>,
         room: &mut [u8],
         meter: &mut Meter,
     ) -> (bool, usize)
         requires tie { meter.old.tie ≡ self.old.tie }
         requires idle { IsIdleSince id self.old.clock self.old.connections }
         requires caller { is_waiting id (slots_of self.old.books.forwards) ≡ false }
-        ensures acts { AnswersGiving id heard self.old.arguments
-            (without_arguments self.old) self.new result.0 (take result.1 room.new) }
+        ensures acts { AnswersGiving id heard arguments.entry self.old self.new result room.new }
         ensures within { result.1 ≤ length room.new }
-        ensures count { GivesAtOnce (length room.old) id heard self.old.arguments
-            (without_arguments self.old) result.1 }
+        ensures count { GivesAtOnce room.old id heard arguments.entry self.old result.1 }
         ensures tie { self.new.tie ≡ self.old.tie }
         ensures begun { self.new.begun ≡ self.old.begun }
-        ensures cost { PaysAtMost meter.old meter.new
-            (answering_cost self.old self.new (length self.old.arguments)
-            + whole_cost (length room.old) result.1) }
+        ensures cost { PaysToAnswer
+            self.old self.new arguments.entry room.old result.1 meter.old meter.new }
     {
         let context = self.context(Caller::Tcp(id, heard.peer));
-        let len = self.arguments.len(meter);
-        let arguments = self.arguments.lend(0..len, meter);
-        let done = answer(
+        let arguments = lend_arguments(arguments, &self.arguments, meter);
+        let served = serve_verdict(
             &mut self.connections,
             &mut self.books,
-            &mut self.draft,
             &context,
-            id,
-            &heard,
+            &heard.verdict,
             arguments,
-            room,
+            &mut self.draft,
             meter,
         );
         self.arguments.clear(meter);
-        done
+        let given = give_at_once(served, &mut self.draft, room, meter);
+        if given > 0 {
+            // It is Idle since this moment, and stays so.
+            return (false, given);
+        }
+        self.connections.settle(
+            id,
+            served,
+            self.clock,
+            self.listener.host,
+            &self.books.registry,
+            &mut self.draft,
+            meter,
+        );
+        (served.is_no_call(), 0)
     }
 
     /// The number of bytes that are pending on a connection. `Gone` where there is no such connection, or it is Lost.
@@ -515,7 +474,7 @@ impl Core {
         ensures tie { self.new.tie ≡ self.old.tie }
         ensures begun { self.new.begun ≡ shown meter.old }
         ensures held { NeverPasses self.new }
-        ensures cost { PaysAtMost meter.old meter.new (gave_cost self.old) }
+        ensures cost { PaysAtMost meter.old meter.new (gave_cost (sizes_of self.old self.new)) }
         ensures bound { StaysWithinSteps self.old 0 (given_by result n) meter.old meter.new }
     {
         self.begun = meter.count();
@@ -543,7 +502,7 @@ impl Core {
         ensures tie { self.new.tie ≡ self.old.tie }
         ensures begun { self.new.begun ≡ shown meter.old }
         ensures held { NeverPasses self.new }
-        ensures cost { PaysAtMost meter.old meter.new (closing_cost self.old) }
+        ensures cost { PaysAtMost meter.old meter.new (close_cost (sizes_of self.old self.new)) }
         ensures bound { StaysWithinSteps self.old 0 0 meter.old meter.new }
     {
         self.begun = meter.count();
@@ -616,7 +575,7 @@ impl Core {
         ensures begun { self.new.begun ≡ shown meter.old }
         ensures held { NeverPasses self.new }
         ensures short { length self.new.reply ≤ longest_reply }
-        ensures cost { PaysAtMost meter.old meter.new (ending_cost self.old) }
+        ensures cost { PaysAtMost meter.old meter.new (ended_cost (sizes_of self.old self.new)) }
         ensures bound { StaysWithinSteps self.old (length bytes.now) 0 meter.old meter.new }
     {
         self.begun = meter.count();
@@ -639,7 +598,7 @@ impl Core {
         ensures begun { self.new.begun ≡ shown meter.old }
         ensures held { NeverPasses self.new }
         ensures short { length self.new.reply ≤ longest_reply }
-        ensures cost { PaysAtMost meter.old meter.new (ending_cost self.old) }
+        ensures cost { PaysAtMost meter.old meter.new (ended_cost (sizes_of self.old self.new)) }
         ensures bound { StaysWithinSteps self.old 0 0 meter.old meter.new }
     {
         self.begun = meter.count();

@@ -5,7 +5,8 @@ ghost use Rattle.rb_proto.specs.Books.{AreTied, HasPlaceLeft, SameFrame};
 ghost use Rattle.rb_connections.specs.Awaits.{StayOpen};
 ghost use Rattle.rb_connections.specs.Listings.{CanListOn};
 ghost use Rattle.rb_core.specs.Eviction.{HasRoom, Evicts, source_in};
-ghost use Rattle.rb_core.specs.CallCosts.{kept_count, room_cost};
+ghost use Rattle.rb_core.specs.CallCosts.{kept_count, sizes};
+ghost use Rattle.rb_model.specs.Costs.{room_cost};
 
 use rb_connections::Connections;
 use rb_model::Message;
@@ -53,7 +54,8 @@ pub fn make_room(
     ensures forwards { books.new.forwards ≡ books.old.forwards }
     ensures frame { SameFrame books.old books.new }
     ensures fewer { kept_count books.new ≤ kept_count books.old }
-    ensures cost { PaysAtMost meter.old meter.new (room_cost connections.old books.old) }
+    ensures cost { PaysAtMost meter.old meter.new
+        (room_cost (sizes connections.old books.old books.new)) }
 {
     let Message::Asked(call) = message else {
         return;

@@ -23,7 +23,7 @@ ghost use Rattle.rb_core.specs.Serving.{TellsAnswer, ServesMessage, ServesNull, 
 ghost use Rattle.rb_connections.specs.Settling.{kind_in, IsWritten};
 ghost use Rattle.rb_core.specs.AtOnce.{IsGivenAtOnce, count_at_once};
 ghost use Rattle.rb_connections.specs.Giving.{whole_cost};
-ghost use Rattle.rb_core.specs.CallCosts.{put_results_cost, serving_cost};
+ghost use Rattle.rb_core.specs.CallCosts.{PaysForResults, PaysToServe};
 ghost use Rattle.rb_connections.specs.Slots.{IsDraft};
 ghost use Rattle.rb_model.specs.Costs.{put_end_cost};
 
@@ -93,8 +93,7 @@ fn put_reply_with(
     ensures shows { (l : Ledger) → StandsForLedger books.now l
         → shown_in books.now ≡ shown_of l }
     ensures some { 0 < length out.new.bytes }
-    ensures cost { PaysAtMost meter.old meter.new
-        (put_results_cost books.now (length out.new.bytes)) }
+    ensures cost { PaysForResults books.now out.new meter.old meter.new }
 {
     put_success(xid, out, meter);
     if put_results(results, books, listener, LONGEST_REPLY, out, meter).is_err() {
@@ -132,8 +131,7 @@ fn put_answer(
     ensures list { IsStreamedTo context.now.caller result }
     ensures written { IsWritten result out.new.bytes }
     ensures out { WritesReply out.old out.new }
-    ensures cost { PaysAtMost meter.old meter.new
-        (put_results_cost books.now (length out.new.bytes)) }
+    ensures cost { PaysForResults books.now out.new meter.old meter.new }
 {
     match answer {
         Answer::Results(results) => {
@@ -173,8 +171,7 @@ pub fn serve(
     ensures cursors { GoesOn books.old.registry books.new.registry }
     ensures floor { books.new.registry.floor ≡ books.old.registry.floor }
     ensures leaves { LeavesBooks context.now books.old books.new result out.old out.new }
-    ensures cost { PaysAtMost meter.old meter.new
-        (serving_cost books.old books.new (length arguments.now) (length out.new.bytes)) }
+    ensures cost { PaysToServe books.old books.new arguments.now out.new meter.old meter.new }
 {
     match message {
         Message::NoCall => Served::Told(Outcome::NoCall),

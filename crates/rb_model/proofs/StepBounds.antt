@@ -1,10 +1,10 @@
 -- What an event costs is within the bound on its steps.
-use Rattle.std.proofs.Common.{◌≡◌, ℕ, Bool, List, refl, ◌≤◌, ◌+◌, true, false, cond, Option, Some, None, [], ◌∷◌, ◌++◌, sym, ap, ◌∙◌, arith}
+use Rattle.std.proofs.Common.{◌≡◌, ℕ, Bool, List, length, refl, ◌≤◌, ◌+◌, true, false, cond, Option, Some, None, [], ◌∷◌, ◌++◌, sym, ap, ◌∙◌, arith}
 use Rattle.rb_model.specs.State.{State, Connection, at_moment, opening, are_good}
 use Rattle.rb_model.specs.Connections.{Taking, taking, live_connection}
 use Rattle.rb_model.specs.Connections.Taking.{TakesNone, GoesOn, Ends}
 use Rattle.rb_model.specs.Step.{answering, with_count, when_taken, Event, Output, Taken, bytes_to, bytes, output_or, show_taken, step, after, IsReached}
-use Rattle.rb_model.specs.Costs.{count_taken, connection_count, piece_cost, record_cost, find_cost, event_cost}
+use Rattle.rb_model.specs.Costs.{sizes_in, count_taken, record_cost, bytes_cost, find_cost, event_cost}
 use Rattle.rb_forward.specs.StandsFor.{longest_arguments as longest_args}
 use Rattle.std.proofs.lemmas.List.{length-take}
 use Rattle.rb_feed.specs.Feeds.{arguments_of}
@@ -36,7 +36,7 @@ reached-step s r event =
     record { limits = r.limits; listener = r.listener; first_xid = r.first_xid; now = r.now; events = r.events ++ event ∷ []; is = is }
 
 module _ (s : State) (reached : IsReached s) (good : are_good s.setting.limits ≡ true) where
-  pub conns_few : connection_count s ≤ s.setting.limits.conns
+  pub conns_few : length s.connections.all ≤ s.setting.limits.conns
   conns_few = reached-room s reached
 
   -- ---- a piece of bytes
@@ -46,13 +46,13 @@ module _ (s : State) (reached : IsReached s) (good : are_good s.setting.limits �
     shows t = elim t.closed as (λ b. count_in (cond b (Output.TookAndClosed t.count) (Output.Took t.count)) ≡ t.count) [ true ↦ refl | false ↦ refl ]
 
     piece_within : (m : Option Connection) → live_connection id s.connections.all ≡ m
-        → find_cost (connection_count s) + piece_cost s piece m ≤ steps_bound s.setting.limits (count_in (output_or show_taken (bytes_to s now id piece m)).0) 0
+        → bytes_cost (sizes_in s) piece m ≤ steps_bound s.setting.limits (count_in (output_or show_taken (bytes_to s now id piece m)).0) 0
     unfolding longest_reply longest_arguments longest_args
     piece_within None e = omega (arith, conns_few)
     piece_within (Some c) e = by_taking (taking c.phase piece) (shows (when_taken (at_moment now s) id piece c (taking c.phase piece)).0 ∙ taken-counts (at_moment now s) id piece c (taking c.phase piece))
       where
         by_taking : (t : Taking) → count_in (show_taken (when_taken (at_moment now s) id piece c t).0) ≡ count_taken piece t
-            → find_cost (connection_count s) + (count_taken piece t + 1 + 4 + record_cost s t) ≤ steps_bound s.setting.limits (count_in (show_taken (when_taken (at_moment now s) id piece c t).0)) 0
+            → find_cost (length s.connections.all) + (count_taken piece t + 1) + 4 + record_cost (sizes_in s) t ≤ steps_bound s.setting.limits (count_in (show_taken (when_taken (at_moment now s) id piece c t).0)) 0
         by_taking TakesNone k = omega (arith, conns_few, k)
         by_taking (GoesOn fed) k = omega (arith, conns_few, k)
         by_taking (Ends n content) k = omega (arith, conns_few, k, length-take longest_arguments (arguments_of content))

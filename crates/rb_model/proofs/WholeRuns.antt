@@ -15,7 +15,7 @@ use Rattle.rb_model.specs.Step.{Event, Output, answering, with_count, when_taken
 use Rattle.rb_model.specs.Step.Event.{Open, Bytes, Pending, Gave, Closed, NextLost, Datagram, Unsent, Sent, Forward, Expire}
 use Rattle.rb_model.specs.Step.Output.{Refused, Done, UnsentIs}
 use Rattle.rb_model.specs.Bounds.{count_in, bytes_in, bytes_out}
-use Rattle.rb_model.specs.Costs.{connection_count, count_taken, piece_cost, record_cost, find_cost, event_cost, run_cost}
+use Rattle.rb_model.specs.Costs.{sizes_in, count_taken, record_cost, bytes_cost, find_cost, event_cost, run_cost}
 use Rattle.rb_model.specs.WholeRuns.{args_in, args_waiting, total_in, total_out, bytes_told, event_allowance, EventsArePaidAhead, WholeRunsAreBounded}
 use Rattle.rb_model.specs.Losses.{began_in}
 use Rattle.rb_model.proofs.ExactTaking.{fed-none}
@@ -84,7 +84,7 @@ counted : (n : ℕ) (r : Bool × State) → waiting (with_count n r).1 ≡ waiti
 counted n (closed, u) = refl
 
 module _ (s : State) (reached : IsReached s) (good : are_good s.setting.limits ≡ true) where
-  few : connection_count s ≤ s.setting.limits.conns
+  few : length s.connections.all ≤ s.setting.limits.conns
   few = conns_few s reached good
 
   module _ (now id : ℕ) (piece : List ℕ) where
@@ -92,7 +92,7 @@ module _ (s : State) (reached : IsReached s) (good : are_good s.setting.limits �
     abbrev IsPaid : Option Connection → Type 0
     IsPaid m =
         let end : Output × State = output_or show_taken (bytes_to s now id piece m) in
-        find_cost (connection_count s) + piece_cost s piece m + 2 * waiting end.1 ≤ 2 * waiting s + 16 * count_in end.0 + event_allowance s.setting.limits
+        bytes_cost (sizes_in s) piece m + 2 * waiting end.1 ≤ 2 * waiting s + 16 * count_in end.0 + event_allowance s.setting.limits
 
     piece_paid : (m : Option Connection) → live_connection id s.connections.all ≡ m → IsPaid m
     unfolding live_connection longest_reply
@@ -102,7 +102,7 @@ module _ (s : State) (reached : IsReached s) (good : are_good s.setting.limits �
         (shows s reached good now id piece (when_taken (at_moment now s) id piece c (taking c.phase piece)).0 ∙ taken-counts (at_moment now s) id piece c (taking c.phase piece))
       where
         by_taking : (t : Taking) → taking c.phase piece ≡ t → IsWithin c.phase piece t → count_in (show_taken (when_taken (at_moment now s) id piece c t).0) ≡ count_taken piece t
-            → find_cost (connection_count s) + (count_taken piece t + 1 + 4 + record_cost s t) + 2 * waiting (when_taken (at_moment now s) id piece c t).1
+            → find_cost (length s.connections.all) + (count_taken piece t + 1) + 4 + record_cost (sizes_in s) t + 2 * waiting (when_taken (at_moment now s) id piece c t).1
             ≤ 2 * waiting s + 16 * count_in (show_taken (when_taken (at_moment now s) id piece c t).0) + event_allowance s.setting.limits
         by_taking TakesNone is within k = omega (arith, few, k)
         by_taking (GoesOn fed) is within k =

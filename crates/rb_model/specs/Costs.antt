@@ -12,13 +12,37 @@ use Rattle.rb_model.specs.Connections.Taking.{TakesNone, GoesOn, Ends}
 use Rattle.rb_model.specs.Step.{Event, unsent_call, step}
 use Rattle.rb_model.specs.Step.Event.{Open, Bytes, Pending, Gave, Closed, NextLost, Datagram, Unsent, Sent, Forward, Expire}
 
+-- ---- by what costs grow
+
+-- how many connections there are, Lost ones too; how many rows are kept, live or retained, before a call and after it; and
+-- how many forwarded calls there may be
+pub record Sizes : Type 0 where
+  pub connections : ℕ
+  pub rows : ℕ
+  pub left : ℕ
+  pub forwards : ℕ
+
+-- those of a state: of rows there are at most as many as there may be
+abbrev pub sizes_in : State → Sizes
+sizes_in s = record {
+  connections = length s.connections.all;
+  rows = s.setting.limits.rows;
+  left = s.setting.limits.rows;
+  forwards = s.setting.limits.forwards;
+}
+
 -- ---- parts of calls
 
+-- what it costs to put results of so many rows: those of a list are walked twice, a reply of so many bytes is written, and
+-- the statistics are shown
+abbrev pub results_cost : ℕ → ℕ → ℕ
+results_cost rows written = 4 * rows + 72 + written + statistics_cost
+
 -- what it costs to serve a message over so many rows, where so many are left: the procedure walks the rows, twice for
--- an UNSET, those of a list are walked twice, a reply of so many bytes is written, a look-up is noted, the statistics are
--- shown, and what is forwarded is kept, of so many bytes of arguments
+-- an UNSET, results are put in a reply of so many bytes, a look-up is noted, and what is forwarded is kept, of so many bytes
+-- of arguments
 abbrev pub serve_cost : ℕ → ℕ → ℕ → ℕ → ℕ
-serve_cost rows left args written = 6 * rows + 4 * left + 76 + written + note_cost + statistics_cost + forward_cost args
+serve_cost rows left args written = 6 * rows + results_cost left written + 4 + note_cost + forward_cost args
 
 -- what it costs to show a fragment: the window is emptied, and a header of 4 bytes and at most 1,024 of data are written
 abbrev pub show_cost : ℕ
@@ -58,14 +82,6 @@ exchange_cost = 1
 abbrev pub read_cost : ℕ → ℕ
 read_cost args = args + 2
 
--- what it costs to begin a reply on a connection that is found among so many
-abbrev pub settle_cost : ℕ → ℕ
-settle_cost connections = find_cost connections + show_cost + 1 + recount_cost
-
--- what it costs to begin a list on it, of so many rows
-abbrev pub begin_list_cost : ℕ → ℕ → ℕ
-begin_list_cost connections rows = find_cost connections + listed_cost rows + 1 + recount_cost
-
 -- what it costs to look for the oldest of the lists that are given on so many connections
 abbrev pub oldest_cost : ℕ → ℕ
 oldest_cost connections = 2 * connections + 1
@@ -74,57 +90,74 @@ oldest_cost connections = 2 * connections + 1
 abbrev pub evict_cost : ℕ → ℕ
 evict_cost connections = 3 * connections + 1
 
--- what it costs to look whether there is room, whether a row wants it among so many, and to make it
-abbrev pub make_room_cost : ℕ → ℕ → ℕ
-make_room_cost connections rows = 14 * rows + 2 * oldest_cost connections + evict_cost connections + 12
+-- what it costs to look whether there is room, whether a row wants it among those that are kept, and to make it
+abbrev pub room_cost : Sizes → ℕ
+room_cost sizes = 14 * sizes.rows + 2 * oldest_cost sizes.connections + evict_cost sizes.connections + 12
 
--- what it costs to answer the record that ended with so many bytes of arguments, among so many connections and rows
-abbrev pub answer_cost : ℕ → ℕ → ℕ → ℕ → ℕ
-answer_cost connections rows left args =
-    exchange_cost + read_cost args + make_room_cost connections rows + serve_cost rows left args longest_reply
-    + begin_list_cost connections left
+-- what it costs to serve a message with so many bytes of arguments, once there is room for the row that it adds, where a
+-- reply of so many bytes is written
+abbrev pub message_cost : Sizes → ℕ → ℕ → ℕ
+message_cost sizes args written = room_cost sizes + serve_cost sizes.rows sizes.left args written
 
--- what it costs to end one of so many entries, and to note its outcome
+-- what it costs to begin a list on a connection, of the rows that are left, or a reply
+abbrev pub begin_cost : Sizes → ℕ
+begin_cost sizes = find_cost sizes.connections + listed_cost sizes.left + 1 + recount_cost
+
+-- what it costs to answer a record of whose arguments so many bytes are kept: they are read, it is served, and its connection
+-- goes on
+abbrev pub answer_cost : Sizes → ℕ → ℕ
+answer_cost sizes args = read_cost args + message_cost sizes args longest_reply + begin_cost sizes
+
+-- what it costs to end one of so many forwarded calls, and to note its outcome
 abbrev pub entry_cost : ℕ → ℕ
 entry_cost forwards = end_cost forwards + 2 + note_cost
 
--- what it costs to write what the caller of an entry is told: a reply of so many bytes
+-- what it costs to write what its caller is told: a reply of so many bytes
 abbrev pub put_end_cost : ℕ → ℕ
 put_end_cost written = 68 + written
 
 -- what it costs to tell it to one of so many connections, or over UDP
 abbrev pub tell_cost : ℕ → ℕ
-tell_cost connections = put_end_cost longest_reply + settle_cost connections
+tell_cost connections = put_end_cost longest_reply + find_cost connections + show_cost + 1 + recount_cost
 
--- what it costs to end one of so many entries and to tell its caller, with the last reply emptied before
-abbrev pub ended_cost : ℕ → ℕ → ℕ
-ended_cost forwards connections = 1 + entry_cost forwards + tell_cost connections
+-- ---- calls
 
--- ---- events
-
--- how many rows there may be, live or retained, and how many connections are there, Lost ones too
-abbrev pub row_limit : State → ℕ
-row_limit s = s.setting.limits.rows
-
-abbrev pub connection_count : State → ℕ
-connection_count s = length s.connections.all
-
-abbrev pub record_cost : State → Taking → ℕ
-record_cost s TakesNone = 0
-record_cost s (GoesOn fed) = 0
-record_cost s (Ends n content) = answer_cost (connection_count s) (row_limit s) (row_limit s) (length (kept_of content))
-
--- how many bytes of the piece are taken
+-- to take bytes on a connection that is found: so many of them
 abbrev pub count_taken : List ℕ → Taking → ℕ
 count_taken piece TakesNone = 0
 count_taken piece (GoesOn fed) = length piece
 count_taken piece (Ends n content) = n
 
--- by how many bytes are taken, and whether a record ended
-abbrev pub piece_cost : State → List ℕ → Option Connection → ℕ
-piece_cost s piece None = 0
-piece_cost s piece (Some c) =
-    take_cost (count_taken piece (taking c.phase piece)) + recount_cost + record_cost s (taking c.phase piece)
+-- and to answer the record that ends with them
+abbrev pub record_cost : Sizes → Taking → ℕ
+record_cost sizes TakesNone = 0
+record_cost sizes (GoesOn fed) = 0
+record_cost sizes (Ends n content) = exchange_cost + answer_cost sizes (length (kept_of content))
+
+-- to take bytes where this is the connection, if there is one
+abbrev pub bytes_cost : Sizes → List ℕ → Option Connection → ℕ
+bytes_cost sizes piece None = find_cost sizes.connections
+bytes_cost sizes piece (Some c) =
+    find_cost sizes.connections + take_cost (count_taken piece (taking c.phase piece)) + recount_cost
+    + record_cost sizes (taking c.phase piece)
+
+-- to count bytes as given
+abbrev pub gave_cost : Sizes → ℕ
+gave_cost sizes = find_cost sizes.connections + given_cost sizes.rows + recount_cost
+
+-- to close a connection, and to end the call that was forwarded for it
+abbrev pub close_cost : Sizes → ℕ
+close_cost sizes = find_cost sizes.connections + 5 + entry_cost sizes.forwards
+
+-- to answer a datagram of so many bytes by a reply of so many
+abbrev pub datagram_cost : Sizes → ℕ → ℕ → ℕ
+datagram_cost sizes count written = message_cost sizes count written + 2
+
+-- to end a forwarded call and to tell its caller, with the last reply emptied before
+abbrev pub ended_cost : Sizes → ℕ
+ended_cost sizes = 1 + entry_cost sizes.forwards + tell_cost sizes.connections
+
+-- ---- events
 
 -- how many bytes the reply over UDP has that is held after an event
 abbrev pub reply_count : State → Event → ℕ
@@ -142,20 +175,18 @@ unsent_count (Some unsent) = length unsent.call
 -- what an event costs from a state
 abbrev pub event_cost : State → Event → ℕ
 event_cost s (Open now peer) = 4
-event_cost s (Bytes now id piece) =
-    find_cost (connection_count s) + piece_cost s piece (live_connection id s.connections.all)
-event_cost s (Pending id) = find_cost (connection_count s) + pending_cost
-event_cost s (Gave now id n) = 2 * find_cost (connection_count s) + 1 + given_cost (row_limit s) + recount_cost
-event_cost s (Closed id) = find_cost (connection_count s) + 5 + entry_cost s.setting.limits.forwards
-event_cost s NextLost = find_cost (connection_count s)
+event_cost s (Bytes now id piece) = bytes_cost (sizes_in s) piece (live_connection id s.connections.all)
+event_cost s (Pending id) = find_cost (length s.connections.all) + pending_cost
+event_cost s (Gave now id n) = find_cost (length s.connections.all) + 1 + gave_cost (sizes_in s)
+event_cost s (Closed id) = close_cost (sizes_in s)
+event_cost s NextLost = find_cost (length s.connections.all)
 event_cost s (Datagram now peer content) =
-    make_room_cost (connection_count s) (row_limit s) + serve_cost (row_limit s) (row_limit s) (length content) (reply_count s (Datagram now peer content)) + 2
+    datagram_cost (sizes_in s) (length content) (reply_count s (Datagram now peer content))
     + reply_cost s (Datagram now peer content)
 event_cost s Unsent = unsent_cost s.setting.limits.forwards (unsent_count (unsent_call s))
 event_cost s (Sent number) = sent_cost s.setting.limits.forwards
-event_cost s (Forward now from message) =
-    ended_cost s.setting.limits.forwards (connection_count s) + reply_cost s (Forward now from message)
-event_cost s (Expire now) = ended_cost s.setting.limits.forwards (connection_count s) + reply_cost s (Expire now)
+event_cost s (Forward now from message) = ended_cost (sizes_in s) + reply_cost s (Forward now from message)
+event_cost s (Expire now) = ended_cost (sizes_in s) + reply_cost s (Expire now)
 
 -- the sum of what each event costs from the state that it meets
 abbrev pub run_cost : State → List Event → ℕ

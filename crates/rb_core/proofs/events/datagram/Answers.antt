@@ -6,10 +6,11 @@ use Rattle.rb_model.specs.Step.{step, datagram}
 use Rattle.rb_model.specs.Step.Event.{Datagram}
 use Rattle.rb_model.specs.Step.Output.{Silent, Replied}
 use Rattle.rb_connections.specs.Settling.{outcome_with}
-use Rattle.rb_core.specs.CallCosts.{datagram_cost}
+use Rattle.rb_model.specs.Costs.{datagram_cost}
+use Rattle.rb_core.specs.CallCosts.{sizes_of}
 use Rattle.rb_model.proofs.EntriesKept.{step-follows}
 use Rattle.rb_core.proofs.RunSteps.{datagram_shown, shown_of, one_then_other}
-use Rattle.rb_core.proofs.Spending.{datagram_paid, at_most}
+use Rattle.rb_core.proofs.Spending.{datagram_paid, sizes_held}
 use Rattle.rb_core.proofs.Begun.{stands_begun, same_tie}
 use Rattle.rb_core.proofs.events.datagram.Goals as goal
 
@@ -25,8 +26,7 @@ returns-in-NoCall-clause-ok c = record {
       (is_silent c.datagram.result c.datagram.new.self.reply c.in-NoCall.is ∙ d.0, d.1);
   cost = λ s h.
       let d = datagram_shown c.args.core.now c.datagram.new.self (λ t. datagram t c.args.now c.args.peer c.args.data.now) _ c.datagram.ensures.acts s h in
-      datagram_paid c.args.core.now c.datagram.new.self s _ _ _ (length c.args.data.now) 0 h d.1 (step-follows s (Datagram c.args.now c.args.peer c.args.data.now)).setting (omega arith)
-      (at_most _ _ (datagram_cost c.args.core.now c.datagram.new.self (length c.args.data.now)) _ (omega arith) c.datagram.ensures.cost);
+      datagram_paid _ _ (sizes_held c.args.core.now c.datagram.new.self s _ h d.1 (step-follows s (Datagram c.args.now c.args.peer c.args.data.now)).setting) _ _ _ (length c.args.data.now) _ _ (omega (arith, ap length d.1.reply)) c.datagram.ensures.cost;
   tie = c.datagram.ensures.tie;
   meter = c.datagram.ensures.cost.tie;
 }
@@ -39,8 +39,7 @@ returns-in-Forwarded-clause-ok c = record {
       (rw c.in-Forwarded.is at d.0, d.1);
   cost = λ s h.
       let d = datagram_shown c.args.core.now c.datagram.new.self (λ t. datagram t c.args.now c.args.peer c.args.data.now) _ c.datagram.ensures.acts s h in
-      datagram_paid c.args.core.now c.datagram.new.self s _ _ _ (length c.args.data.now) 0 h d.1 (step-follows s (Datagram c.args.now c.args.peer c.args.data.now)).setting (omega arith)
-      (at_most _ _ (datagram_cost c.args.core.now c.datagram.new.self (length c.args.data.now)) _ (omega arith) c.datagram.ensures.cost);
+      datagram_paid _ _ (sizes_held c.args.core.now c.datagram.new.self s _ h d.1 (step-follows s (Datagram c.args.now c.args.peer c.args.data.now)).setting) _ _ _ (length c.args.data.now) _ _ (omega (arith, ap length d.1.reply)) c.datagram.ensures.cost;
   tie = c.datagram.ensures.tie;
   meter = c.datagram.ensures.cost.tie;
 }
@@ -53,7 +52,7 @@ returns-in-Reply-clause-ok c = record {
       (ap Replied (search rules) ∙ (rw c.in-Reply.is at d.0), stands_begun c.datagram.new.self _ _ c.udp_reply.follows.holds-at-none _ d.1);
   cost = λ s h.
       let d = datagram_shown c.args.core.now c.datagram.new.self (λ t. datagram t c.args.now c.args.peer c.args.data.now) _ c.datagram.ensures.acts s h in
-      datagram_paid c.args.core.now c.datagram.new.self s _ _ _ (length c.args.data.now) (1 + length c.datagram.new.self.reply) h d.1 (step-follows s (Datagram c.args.now c.args.peer c.args.data.now)).setting (omega (arith, ap length d.1.reply))
+      datagram_paid _ _ (sizes_held c.args.core.now c.datagram.new.self s _ h d.1 (step-follows s (Datagram c.args.now c.args.peer c.args.data.now)).setting) _ _ (datagram_cost (sizes_of c.args.core.now c.datagram.new.self) (length c.args.data.now) (length c.datagram.new.self.reply) + (1 + length c.datagram.new.self.reply)) (length c.args.data.now) _ _ (omega (arith, ap length d.1.reply))
       (one_then_other _ _ _ _ _ c.datagram.ensures.cost (record { steps = omega (arith, ap (λ (m : Meter). m.steps) c.udp_reply.ensures.cost); rises = omega (arith, ap (λ (m : Meter). m.steps) c.udp_reply.ensures.cost); tie = ap (λ (m : Meter). m.tie) c.udp_reply.ensures.cost }));
   tie = same_tie c.datagram.new.self _ _ c.udp_reply.follows.holds-at-none ∙ c.datagram.ensures.tie;
   meter = ap (λ (m : Meter). m.tie) c.udp_reply.ensures.cost ∙ c.datagram.ensures.cost.tie;
