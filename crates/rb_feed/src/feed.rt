@@ -5,7 +5,7 @@ use crate::stage::Stage;
 use rb_rpc::{Verdict, read_call};
 
 /// Reads the head of a call piece by piece (RFC 5531 section 9). It keeps sixteen words on which the verdict depends,
-/// and no bytes of credentials, verifiers or arguments.
+/// and of credentials and verifiers at most the three bytes of a word whose fourth has not come.
 #[derive(Clone, Copy, PartialEq, Eq, Debug)]
 pub struct CallFeed {
     /// So many bytes of the next word have come, and they spell this number as far as they go.
@@ -108,37 +108,11 @@ impl CallFeed {
             number,
             stage,
         } = *self;
-        let [
-            kind,
-            xid,
-            prog,
-            vers,
-            proc,
-            flavor,
-            len,
-            left,
-            said,
-            uid,
-            more,
-        ] = stage_words(stage);
-        [
-            u32::from(seen),
-            number,
-            kind,
-            xid,
-            prog,
-            vers,
-            proc,
-            flavor,
-            len,
-            left,
-            said,
-            uid,
-            more,
-            0,
-            0,
-            0,
-        ]
+        let mut words = [0; 16];
+        words[0] = u32::from(seen);
+        words[1] = number;
+        words[2..13].copy_from_slice(&stage_words(stage));
+        words
     }
 
     /// The feed for which `save` gave these words. Words that `save` never gave make some feed, and it is not said
@@ -147,30 +121,10 @@ impl CallFeed {
     pub fn load(words: [u32; 16]) -> CallFeed
         ensures { result ≡ loaded words }
     {
-        let [
-            seen,
-            number,
-            kind,
-            xid,
-            prog,
-            vers,
-            proc,
-            flavor,
-            len,
-            left,
-            said,
-            uid,
-            more,
-            _,
-            _,
-            _,
-        ] = words;
         CallFeed {
-            seen: (seen % 256) as u8,
-            number,
-            stage: stage_saved_as(&[
-                kind, xid, prog, vers, proc, flavor, len, left, said, uid, more,
-            ]),
+            seen: (words[0] % 256) as u8,
+            number: words[1],
+            stage: stage_saved_as(&words[2..13]),
         }
     }
 }

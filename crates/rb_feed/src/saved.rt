@@ -1,14 +1,35 @@
-//! A stage as eleven words: its number, xid, prog, vers and proc, the flavor, a length or the
-//! arguments' place, the bytes left of a body, and three words on the credential.
-ghost use Rattle.std.specs.Prelude.{◌≡◌, ℕ, [], ◌∷◌, List};
-ghost use Rattle.rb_feed.specs.declared.stage.Stage.TheVariants.{CredentialBody, Arguments};
-ghost use Rattle.rb_feed.specs.Saved.{field_saved_as, credential_saved_as, claim_saved_as, call_words_in, stage_words, body_in, arguments_in, stage_saved_as};
+//! A stage as eleven words: its number, what is called, the credential's flavor, a length, the bytes left of a body, and
+//! three words on how far the credential's body was read.
+ghost use Rattle.std.specs.Prelude.{◌≡◌, length};
+ghost use Rattle.rb_feed.specs.Stages.{claim_of};
+ghost use Rattle.rb_feed.specs.Saved.{field_saved_as, stage_of, stage_saved_as};
 
-use crate::stage::{CallWords, Claim, Stage, head_of};
+use crate::stage::{CallWords, Claim, Stage, claim_of, stage_behind};
 use crate::sys::SysField;
-use rb_rpc::{CallHead, Credential};
+use rb_rpc::{AUTH_NONE, AUTH_SYS, Credential};
 
-pub(crate) type StageWords = [u32; 11];
+type StageWords = [u32; 11];
+
+// Up to seven a stage's number says how many words of the head have come.
+const CREDENTIAL_BODY: u32 = 8;
+
+const VERIFIER_FLAVOR: u32 = 9;
+
+const VERIFIER_LENGTH: u32 = 10;
+
+const VERIFIER_BODY: u32 = 11;
+
+const ARGUMENTS: u32 = 12;
+
+const NO_CALL: u32 = 13;
+
+const RPC_MISMATCH: u32 = 14;
+
+const BAD_CREDENTIAL: u32 = 15;
+
+const REJECTED_CREDENTIAL: u32 = 16;
+
+const BAD_VERIFIER: u32 = 17;
 
 /// A field's number, the uid, and what is left of a name or of gids.
 #[tactic(auto, unfolding(crate::specs::Saved::field_saved_as))]
@@ -45,209 +66,102 @@ fn field_saved_as(number: u32, uid: u32, left: u32) -> SysField
     }
 }
 
-/// A credential's number, and its uid.
-#[tactic(auto, unfolding(crate::specs::Saved::credential_saved_as))]
-fn credential_words(cred: Credential) -> (u32, u32)
-    ensures { credential_saved_as result.0 result.1 ≡ cred }
-{
-    match cred {
-        Credential::None => (0, 0),
-        Credential::Sys(uid) => (1, uid),
-    }
-}
-
-#[tactic(auto, unfolding(crate::specs::Saved::credential_saved_as))]
-fn credential_saved_as(number: u32, uid: u32) -> Credential
-    ensures { result ≡ credential_saved_as number uid }
-{
-    match number {
-        1 => Credential::Sys(uid),
-        _ => Credential::None,
-    }
-}
-
-/// A claim's number, and its uid.
-#[tactic(auto, unfolding(crate::specs::Saved::claim_saved_as, crate::specs::Saved::credential_saved_as))]
-fn claim_words(claim: Claim) -> (u32, u32, u32)
-    ensures { claim_saved_as result.0 result.1 ≡ claim }
+/// A flavor and the field behind its body that claim as much.
+#[tactic(auto, unfolding(crate::specs::Stages::claim_of))]
+fn claimed(claim: Claim) -> (u32, SysField)
+    ensures { claim_of result.0 result.1 ≡ claim }
 {
     match claim {
-        Claim::Taken {
-            cred: Credential::None,
-        } => (0, 0, 0),
-        Claim::Taken {
-            cred: Credential::Sys(uid),
-        } => (1, uid, 0),
-        Claim::Unreadable => (2, 0, 0),
-        Claim::Rejected => (3, 0, 0),
-    }
-}
-
-#[tactic(auto, unfolding(crate::specs::Saved::claim_saved_as))]
-fn claim_saved_as(number: u32, uid: u32) -> Claim
-    ensures { result ≡ claim_saved_as number uid }
-{
-    match number {
-        2 => Claim::Unreadable,
-        3 => Claim::Rejected,
-        _ => Claim::Taken {
-            cred: credential_saved_as(number, uid),
+        Claim::Taken { cred } => match cred {
+            Credential::None => (AUTH_NONE, SysField::Stamp),
+            Credential::Sys(uid) => (AUTH_SYS, SysField::Whole { uid }),
         },
+        Claim::Unreadable => (AUTH_SYS, SysField::Unreadable),
+        Claim::Rejected => (u32::MAX, SysField::Stamp),
     }
 }
 
-/// All the words of a stage: its number, what is called, the flavor, a length or place, the bytes
-/// left of a body, and the credential.
-fn words_of(
-    number: u32,
-    call: CallWords,
-    body: (u32, u32, u32),
-    credential: (u32, u32, u32),
-) -> StageWords
-    ensures { result ≡ stage_words number call body credential }
+/// The words of a stage behind the procedure's number.
+#[tactic(auto, unfolding(crate::specs::Saved::stage_saved_as))]
+fn parts(number: u32, call: CallWords, cred: (u32, SysField), len: u32, left: u16) -> StageWords
+    ensures { stage_saved_as result ≡ stage_of number call cred.0 len left cred.1 }
 {
-    let CallWords {
-        xid,
-        prog,
-        vers,
-        proc,
-    } = call;
-    let (flavor, len, left) = body;
-    let (said, uid, more) = credential;
+    let (flavor, field) = cred;
+    let (part, uid, more) = field_words(field);
+    let left = u32::from(left);
     [
-        number, xid, prog, vers, proc, flavor, len, left, said, uid, more,
+        number, call.xid, call.prog, call.vers, call.proc, flavor, len, left, part, uid, more,
     ]
 }
 
-/// Of a stage that says so much alone.
-fn first_words(number: u32, xid: u32, prog: u32, vers: u32) -> StageWords
-    ensures { result ≡ number ∷ xid ∷ prog ∷ vers ∷ 0 ∷ 0 ∷ 0 ∷ 0 ∷ 0 ∷ 0 ∷ 0 ∷ [] }
-{
-    [number, xid, prog, vers, 0, 0, 0, 0, 0, 0, 0]
-}
-
-/// Within a credential's body.
-#[tactic(auto, unfolding(crate::specs::Saved::stage_saved_as))]
-fn body_words(call: CallWords, flavor: u32, len: u16, left: u16, field: SysField) -> StageWords
-    ensures { stage_saved_as result ≡ CredentialBody call flavor len left field }
-{
-    let CallWords {
-        xid,
-        prog,
-        vers,
-        proc,
-    } = call;
-    let (said, uid, more) = field_words(field);
-    let len = u32::from(len);
-    let left = u32::from(left);
-    [8, xid, prog, vers, proc, flavor, len, left, said, uid, more]
-}
-
-/// Behind the head.
-#[tactic(auto, unfolding(crate::specs::Saved::stage_saved_as))]
-fn arguments_words(head: CallHead, place: u32) -> StageWords
-    ensures { stage_saved_as result ≡ Arguments head place }
-{
-    let CallHead {
-        xid,
-        prog,
-        vers,
-        proc,
-        cred,
-    } = head;
-    let (said, uid) = credential_words(cred);
-    [12, xid, prog, vers, proc, 0, place, 0, said, uid, 0]
-}
-
 /// The words of a stage.
-#[tactic(auto, unfolding(crate::specs::Saved::stage_saved_as))]
+#[tactic(auto, unfolding(crate::specs::Saved::stage_saved_as, crate::specs::Saved::stage_of, crate::specs::Stages::stage_behind))]
 pub(crate) fn stage_words(stage: Stage) -> StageWords
     ensures { stage_saved_as result ≡ stage }
 {
     match stage {
-        Stage::Xid => first_words(0, 0, 0, 0),
-        Stage::MessageType { xid } => first_words(1, xid, 0, 0),
-        Stage::RpcVersion { xid } => first_words(2, xid, 0, 0),
-        Stage::Prog { xid } => first_words(3, xid, 0, 0),
-        Stage::Vers { xid, prog } => first_words(4, xid, prog, 0),
-        Stage::Proc { xid, prog, vers } => first_words(5, xid, prog, vers),
-        Stage::CredentialFlavor { call } => words_of(6, call, (0, 0, 0), (0, 0, 0)),
-        Stage::CredentialLength { call, flavor } => words_of(7, call, (flavor, 0, 0), (0, 0, 0)),
+        Stage::Xid => [0; 11],
+        Stage::MessageType { xid } => [1, xid, 0, 0, 0, 0, 0, 0, 0, 0, 0],
+        Stage::RpcVersion { xid } => [2, xid, 0, 0, 0, 0, 0, 0, 0, 0, 0],
+        Stage::Prog { xid } => [3, xid, 0, 0, 0, 0, 0, 0, 0, 0, 0],
+        Stage::Vers { xid, prog } => [4, xid, prog, 0, 0, 0, 0, 0, 0, 0, 0],
+        Stage::Proc { xid, prog, vers } => [5, xid, prog, vers, 0, 0, 0, 0, 0, 0, 0],
+        Stage::CredentialFlavor { call } => parts(6, call, (0, SysField::Stamp), 0, 0),
+        Stage::CredentialLength { call, flavor } => parts(7, call, (flavor, SysField::Stamp), 0, 0),
         Stage::CredentialBody {
             call,
             flavor,
             len,
             left,
             field,
-        } => { body_words(call, flavor, len, left, field) }
+        } => { parts(CREDENTIAL_BODY, call, (flavor, field), u32::from(len), left) }
         Stage::VerifierFlavor { call, claim, len } => {
-            words_of(9, call, (0, u32::from(len), 0), claim_words(claim))
+            parts(VERIFIER_FLAVOR, call, claimed(claim), u32::from(len), 0)
         }
         Stage::VerifierLength { call, claim, len } => {
-            words_of(10, call, (0, u32::from(len), 0), claim_words(claim))
+            parts(VERIFIER_LENGTH, call, claimed(claim), u32::from(len), 0)
         }
         Stage::VerifierBody {
             call,
             claim,
             place,
             left,
-        } => { words_of(11, call, (0, place, u32::from(left)), claim_words(claim)) }
-        Stage::Arguments { head, place } => arguments_words(head, place),
-        Stage::NoCall => first_words(13, 0, 0, 0),
-        Stage::RpcMismatch { xid } => first_words(14, xid, 0, 0),
-        Stage::BadCredential { xid } => first_words(15, xid, 0, 0),
-        Stage::RejectedCredential { xid } => first_words(16, xid, 0, 0),
-        Stage::BadVerifier { xid } => first_words(17, xid, 0, 0),
-    }
-}
-
-/// What is called.
-fn call_words_in(words: &StageWords) -> CallWords
-    ensures { result ≡ call_words_in words.now }
-{
-    CallWords {
-        xid: words[1],
-        prog: words[2],
-        vers: words[3],
-        proc: words[4],
-    }
-}
-
-/// Within a credential's body.
-fn body_in(words: &StageWords) -> Stage
-    ensures { result ≡ body_in words.now }
-{
-    Stage::CredentialBody {
-        call: call_words_in(words),
-        flavor: words[5],
-        len: (words[6] % 65536) as u16,
-        left: (words[7] % 65536) as u16,
-        field: field_saved_as(words[8], words[9], words[10]),
-    }
-}
-
-/// Behind the head.
-fn arguments_in(words: &StageWords) -> Stage
-    ensures { result ≡ arguments_in words.now }
-{
-    Stage::Arguments {
-        head: head_of(
-            call_words_in(words),
-            credential_saved_as(words[8], words[9]),
-        ),
-        place: words[6],
+        } => { parts(VERIFIER_BODY, call, claimed(claim), place, left) }
+        Stage::Arguments { head, place } => {
+            let call = CallWords {
+                xid: head.xid,
+                prog: head.prog,
+                vers: head.vers,
+                proc: head.proc,
+            };
+            let claim = Claim::Taken { cred: head.cred };
+            parts(ARGUMENTS, call, claimed(claim), place, 0)
+        }
+        Stage::NoCall => [NO_CALL, 0, 0, 0, 0, 0, 0, 0, 0, 0, 0],
+        Stage::RpcMismatch { xid } => [RPC_MISMATCH, xid, 0, 0, 0, 0, 0, 0, 0, 0, 0],
+        Stage::BadCredential { xid } => [BAD_CREDENTIAL, xid, 0, 0, 0, 0, 0, 0, 0, 0, 0],
+        Stage::RejectedCredential { xid } => [REJECTED_CREDENTIAL, xid, 0, 0, 0, 0, 0, 0, 0, 0, 0],
+        Stage::BadVerifier { xid } => [BAD_VERIFIER, xid, 0, 0, 0, 0, 0, 0, 0, 0, 0],
     }
 }
 
 /// The stage that was saved as these words; of other words some stage.
-#[tactic(auto, unfolding(crate::specs::Saved::stage_saved_as))]
-pub(crate) fn stage_saved_as(words: &StageWords) -> Stage
+#[tactic(auto, unfolding(crate::specs::Saved::stage_saved_as, crate::specs::Saved::stage_of))]
+pub(crate) fn stage_saved_as(words: &[u32]) -> Stage
+    requires { length words.now ≡ 11 }
     ensures { result ≡ stage_saved_as words.now }
 {
-    let [number, xid, prog, vers] = [words[0], words[1], words[2], words[3]];
-    let call = call_words_in(words);
-    let claim = claim_saved_as(words[8], words[9]);
-    let len = (words[6] % 65536) as u16;
+    let [number, xid, prog, vers, proc] = [words[0], words[1], words[2], words[3], words[4]];
+    let [flavor, place] = [words[5], words[6]];
+    let call = CallWords {
+        xid,
+        prog,
+        vers,
+        proc,
+    };
+    let field = field_saved_as(words[8], words[9], words[10]);
+    let claim = claim_of(flavor, field);
+    let len = (place % 65536) as u16;
     let left = (words[7] % 65536) as u16;
     match number {
         0 => Stage::Xid,
@@ -257,24 +171,27 @@ pub(crate) fn stage_saved_as(words: &StageWords) -> Stage
         4 => Stage::Vers { xid, prog },
         5 => Stage::Proc { xid, prog, vers },
         6 => Stage::CredentialFlavor { call },
-        7 => Stage::CredentialLength {
+        7 => Stage::CredentialLength { call, flavor },
+        CREDENTIAL_BODY => Stage::CredentialBody {
             call,
-            flavor: words[5],
+            flavor,
+            len,
+            left,
+            field,
         },
-        8 => body_in(words),
-        9 => Stage::VerifierFlavor { call, claim, len },
-        10 => Stage::VerifierLength { call, claim, len },
-        11 => Stage::VerifierBody {
+        VERIFIER_FLAVOR => Stage::VerifierFlavor { call, claim, len },
+        VERIFIER_LENGTH => Stage::VerifierLength { call, claim, len },
+        VERIFIER_BODY => Stage::VerifierBody {
             call,
             claim,
-            place: words[6],
+            place,
             left,
         },
-        12 => arguments_in(words),
-        14 => Stage::RpcMismatch { xid },
-        15 => Stage::BadCredential { xid },
-        16 => Stage::RejectedCredential { xid },
-        17 => Stage::BadVerifier { xid },
+        ARGUMENTS => stage_behind(call, claim, place),
+        RPC_MISMATCH => Stage::RpcMismatch { xid },
+        BAD_CREDENTIAL => Stage::BadCredential { xid },
+        REJECTED_CREDENTIAL => Stage::RejectedCredential { xid },
+        BAD_VERIFIER => Stage::BadVerifier { xid },
         _ => Stage::NoCall,
     }
 }

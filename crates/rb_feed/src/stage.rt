@@ -5,7 +5,10 @@ ghost use Rattle.rb_feed.specs.declared.stage.Stage.TheVariants.{MessageType, Rp
 ghost use Rattle.rb_feed.specs.Stages.{claim_of, credential_before, credential_after, head_of, stage_behind, verifier_before, verifier_after, stage_after};
 
 use crate::sys::{SysField, ends_in_zeros, part};
-use rb_rpc::{AuthStat, CallHead, Credential, Verdict};
+use rb_rpc::{
+    AUTH_NONE, AUTH_SYS, AuthStat, CALL, CallHead, Credential, MAX_AUTH_BODY, RPC_VERSION, Verdict,
+};
+use rb_xdr::residue;
 
 /// The words of a call that say what is called.
 #[derive(Clone, Copy, PartialEq, Eq, Debug)]
@@ -157,17 +160,6 @@ fn layout_of_words(claim: &Claim, call: &CallWords) {
     let _: [u32; 4] = [xid, prog, vers, proc];
 }
 
-const CALL: u32 = 0;
-
-const RPC_VERSION: u32 = 2;
-
-const AUTH_NONE: u32 = 0;
-
-const AUTH_SYS: u32 = 1;
-
-/// The greatest body of a credential or verifier, in bytes (section 8.2).
-const MAX_BODY: u32 = 400;
-
 /// Behind the message type.
 #[tactic(auto, unfolding(crate::specs::Stages::stage_after))]
 fn message_type_after(xid: u32, word: u32) -> Stage
@@ -209,7 +201,7 @@ fn proc_after(xid: u32, prog: u32, vers: u32, proc: u32) -> Stage
 
 /// What a whole credential says.
 #[tactic(auto, unfolding(crate::specs::Stages::claim_of))]
-fn claim_of(flavor: u32, field: SysField) -> Claim
+pub(crate) fn claim_of(flavor: u32, field: SysField) -> Claim
     ensures { result ≡ claim_of flavor field }
 {
     if flavor == AUTH_NONE {
@@ -232,7 +224,7 @@ fn claim_of(flavor: u32, field: SysField) -> Claim
 fn credential_before(call: CallWords, flavor: u32, len: u32) -> Stage
     ensures { result ≡ credential_before call flavor len }
 {
-    if len > MAX_BODY {
+    if len > MAX_AUTH_BODY {
         return Stage::BadCredential { xid: call.xid };
     }
     let len = len as u16;
@@ -280,7 +272,7 @@ fn credential_after(
     Stage::VerifierFlavor { call, claim, len }
 }
 
-pub(crate) fn head_of(call: CallWords, cred: Credential) -> CallHead
+fn head_of(call: CallWords, cred: Credential) -> CallHead
     ensures { result ≡ head_of call cred }
 {
     let CallWords {
@@ -300,7 +292,7 @@ pub(crate) fn head_of(call: CallWords, cred: Credential) -> CallHead
 
 /// Behind the verifier, where the arguments begin at this place.
 #[tactic(auto, unfolding(crate::specs::Stages::stage_behind))]
-fn stage_behind(call: CallWords, claim: Claim, place: u32) -> Stage
+pub(crate) fn stage_behind(call: CallWords, claim: Claim, place: u32) -> Stage
     ensures { result ≡ stage_behind call claim place }
 {
     match claim {
@@ -317,8 +309,7 @@ fn stage_behind(call: CallWords, claim: Claim, place: u32) -> Stage
 fn padded(len: u16) -> u32
     ensures { result ≡ len + residue len }
 {
-    let len = u32::from(len);
-    len + (4 - len % 4) % 4
+    u32::from(len) + residue(len as usize) as u32
 }
 
 /// Behind the verifier's length word.
@@ -326,7 +317,7 @@ fn padded(len: u16) -> u32
 fn verifier_before(call: CallWords, claim: Claim, len: u16, verifier_len: u32) -> Stage
     ensures { result ≡ verifier_before call claim len verifier_len }
 {
-    if verifier_len > MAX_BODY {
+    if verifier_len > MAX_AUTH_BODY {
         return Stage::BadVerifier { xid: call.xid };
     }
     let left = verifier_len as u16;

@@ -1,7 +1,9 @@
 //! The body of an AUTH_SYS credential word by word: authsys_parms of RFC 5531 appendix A.
 ghost use Rattle.std.specs.Prelude.{◌≡◌, ◌≤◌};
-ghost use Rattle.rb_xdr.specs.Xdr.{are_zero};
 ghost use Rattle.rb_feed.specs.SysFields.{ends_in_zeros, name_before, name_after, gids_before, field_after};
+
+use rb_rpc::{MAX_GIDS, MAX_MACHINE};
+use rb_xdr::are_zero;
 
 /// Which field comes next, and what those before it say that matters.
 #[derive(Clone, Copy, PartialEq, Eq, Debug)]
@@ -39,12 +41,6 @@ fn layout(field: &SysField) {
     }
 }
 
-/// The greatest machinename, in bytes.
-const MAX_MACHINE: u32 = 255;
-
-/// The most gids.
-const MAX_GIDS: u32 = 16;
-
 /// Whether the bytes of a word behind so many of them are zeros, as residual bytes are (RFC 4506
 /// section 3).
 #[tactic(auto, unfolding(crate::specs::SysFields::ends_in_zeros, rb_xdr::specs::Xdr::number))]
@@ -54,12 +50,6 @@ pub(crate) fn ends_in_zeros(content: usize, word: u32) -> bool
 {
     let bytes = word.to_be_bytes();
     are_zero(&bytes[content..])
-}
-
-fn are_zero(bytes: &[u8]) -> bool
-    ensures { result ≡ are_zero bytes.now }
-{
-    bytes.iter().all(|byte| *byte == 0)
 }
 
 /// Behind the length word of machinename.

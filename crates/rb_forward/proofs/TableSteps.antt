@@ -9,7 +9,8 @@ use Rattle.rb_forward.specs.declared.entries.Slot.{Slot}
 use Rattle.rb_xdr.specs.Pool.{Pool}
 use Rattle.rb_xdr.specs.Kept.{Kept}
 use Rattle.rb_forward.specs.Table.{IsTable, IsBuffer, HasBuffer, IsSpare, wanted_slot, is_wanted_slot, IsNew, emptied}
-use Rattle.rb_forward.specs.StandsFor.{longest_arguments, longest_call}
+use Rattle.rb_forward.specs.Forwards.{longest_arguments}
+use Rattle.rb_forward.specs.StandsFor.{longest_call}
 use Rattle.std.specs.Prelude.{option_map, find}
 use Rattle.rb_xdr.specs.Pool.{HasDistinctKeys, value_at, without, with_value}
 use Rattle.rb_xdr.proofs.PoolLemmas.{All-value_at, All-with_value, All-without}

@@ -37,6 +37,10 @@ no_forwards = record { next = 1; all = [] }
 
 -- ---- what a target is asked
 
+-- the most bytes of a call's arguments: the limit of args
+unfoldable pub longest_arguments : ℕ
+longest_arguments = 8800
+
 -- the xid of the entry of a number
 unfoldable pub xid_of : ℕ → ℕ → ℕ
 xid_of first_xid number = (first_xid + number - 1) % 2 ^ 32
@@ -51,6 +55,7 @@ question first_xid e = call_bytes (head_of first_xid e.number e.forward) ++ e.ar
 
 -- ---- what a target says
 
+-- the most bytes of results that pass: the limit of res and of results
 unfoldable pub longest_results : ℕ
 longest_results = 8800
 

@@ -3,7 +3,7 @@ ghost use Rattle.std.specs.Prelude.{◌≡◌, ◌+◌, ◌*◌, ◌%◌, ◌^�
 ghost use Rattle.std.specs.Map.{values_of};
 ghost use Rattle.rb_forward.specs.Forwards.{head_of};
 
-use crate::buffers::{make_spare, put_buffer, take_buffer, write_call};
+use crate::buffers::{HEAD, make_spare, put_buffer, take_buffer, write_call};
 use crate::entries::{Slot, Wanted, put_slot, wanted_key};
 use crate::outcome::{outcome_of, xid_of};
 use crate::types::{Ended, Forward, FwdId, Gone, Outcome, Unsent};
@@ -14,9 +14,6 @@ use std::marker::Model;
 
 /// What the fixed part of an entry counts as, in bytes.
 const CHARGE: u64 = 128;
-
-/// A call's head with AUTH_NONE, in bytes.
-const HEAD: u64 = 40;
 
 /// A target's time to answer, in milliseconds.
 const PATIENCE: u64 = 5000;
@@ -84,9 +81,9 @@ impl Forwards {
     ghost use Rattle.std.specs.Map.{values_of};
     ghost use Rattle.rb_xdr.specs.Meter.{PaysAtMost};
     ghost use Rattle.rb_forward.specs.Costs.{start_cost, end_cost, sent_cost, unsent_cost};
-    ghost use Rattle.rb_forward.specs.Forwards.{no_forwards, reply, due, drop_caller, can_start, started, can_be_sent, sent, unsent, held, without_first};
+    ghost use Rattle.rb_forward.specs.Forwards.{no_forwards, reply, due, drop_caller, can_start, started, can_be_sent, sent, unsent, held, longest_arguments, without_first};
     ghost use Rattle.rb_forward.specs.Outcomes.{PassesWithin};
-    ghost use Rattle.rb_forward.specs.StandsFor.{StandsForForwards, slots_of, longest_arguments, longest_call, held_in};
+    ghost use Rattle.rb_forward.specs.StandsFor.{StandsForForwards, slots_of, longest_call, held_in};
     ghost use Rattle.rb_forward.specs.Table.{Whatever, Becomes, GivenBy, LeftBy, end_of, IsNew, NoneWaitsAnew, OnlyWaitsAnew, is_waiting, AreOfDistinctCallers, is_wanted_slot, seen, count_lent};
 
     /// An empty table for at most `cap` entries; the first one will have the xid `first_xid`. It takes the memory for
@@ -152,7 +149,7 @@ impl Forwards {
         let head = head_of(self.first_xid, self.given, forward);
         write_call(&mut call, &head, args, meter);
         self.given += 1;
-        self.held += CHARGE + HEAD + args.len() as u64;
+        self.held += CHARGE + HEAD as u64 + args.len() as u64;
         let slot = Slot {
             number: self.given,
             forward: *forward,

@@ -1,4 +1,5 @@
-//! Calls that are forwarded to their targets (RFC 1833 sections 2.2.1 and 3.2), each ended once, by its own target, by its deadline or with its caller.
+//! Calls that are forwarded to their targets (RFC 1833 sections 2.2.1 and 3.2), each ended once: by its own target, by
+//! its deadline or with its caller.
 #![tactic(auto)]
 
 mod buffers;
@@ -9,7 +10,9 @@ mod outcome;
 mod types;
 mod worked;
 
+pub use buffers::{LONGEST_ARGUMENTS, LONGEST_CALL};
 pub use forwards::Forwards;
 pub use laws::{calls_end_the_first, each_entry_ends_once};
+pub use outcome::LONGEST_RESULTS;
 pub use types::{Ended, Forward, FwdId, Gone, Kind, Outcome, Unsent};
 pub use worked::worked_examples;

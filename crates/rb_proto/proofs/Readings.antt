@@ -14,7 +14,7 @@ use Rattle.rb_proto.specs.declared.mapping.Mapping.{Mapping}
 use Rattle.rb_proto.specs.declared.rpcb.Rpcb.{Rpcb}
 use Rattle.rb_proto.specs.declared.netbuf.Netbuf.{Netbuf}
 use Rattle.rb_proto.specs.declared.entry.Entry.{Entry}
-use Rattle.rb_forward.specs.StandsFor.{longest_arguments}
+use Rattle.rb_forward.specs.Forwards.{longest_arguments}
 use Rattle.rb_proto.specs.declared.remote.RemoteCall.{RemoteCall}
 use Rattle.rb_proto.specs.Arguments.{value_of, front}
 use Rattle.rb_proto.specs.Remote.{read_remote, args_of, SpellsRemote}

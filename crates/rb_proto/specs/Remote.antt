@@ -1,7 +1,7 @@
 -- The argument of the procedures that forward a call (RFC 1833 sections 2.1, rpcb_rmtcallargs, and 3.1, call_args).
 use Rattle.std.specs.Prelude.{◌≡◌, ◌≤◌, ℕ, ◌+◌, List, ◌++◌, length, slice_range}
 use Rattle.rb_xdr.specs.Xdr.{number, opaque, Reader, ◌>>=◌, give, read_number, read_opaque, IsNumber, IsContent}
-use Rattle.rb_forward.specs.StandsFor.{longest_arguments}
+use Rattle.rb_forward.specs.Forwards.{longest_arguments}
 use Rattle.rb_proto.specs.declared.remote.RemoteCall.{RemoteCall}
 
 -- prog, vers, proc, args<8800>: of args only the number of its bytes is kept

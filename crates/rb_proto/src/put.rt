@@ -16,14 +16,11 @@ use crate::answers::{Listing, Results, Value};
 use crate::books::Books;
 use crate::listener::Listener;
 use crate::rows::{room_after_rows, write_rows};
-use rb_forward::{Forward, Kind};
+use rb_forward::{Forward, Kind, LONGEST_RESULTS};
 use rb_registry::Registry;
 use rb_stats::Stats;
 use rb_uaddr::Uaddr;
 use rb_xdr::{Full, Kept, Meter, Opaque, Text, Xdr};
-
-/// So many bytes of results pass.
-const LONGEST_RESULTS: usize = 8800;
 
 /// Puts a value, unless the buffer would then have more than `limit` bytes.
 fn put_within<T: Xdr>(

@@ -3,10 +3,8 @@ ghost use Rattle.std.specs.Prelude.{◌≡◌, IfSome};
 ghost use Rattle.rb_proto.specs.Arguments.{front};
 ghost use Rattle.rb_proto.specs.Remote.{HasContent, read_remote, args_of};
 
+use rb_forward::LONGEST_ARGUMENTS;
 use rb_xdr::{Xdr, XdrFault, take_opaque};
-
-/// The most bytes of args.
-const LONGEST_ARGUMENTS: usize = 8800;
 
 /// Where the content of args begins, behind three numbers and its count.
 const CONTENT: usize = 16;
@@ -35,7 +33,7 @@ impl RemoteCall {
     }
 
     /// The same with where it ends, or the first fault.
-    #[tactic(auto, unfolding(crate::specs::Remote::read_remote, rb_forward::specs::StandsFor::longest_arguments))]
+    #[tactic(auto, unfolding(crate::specs::Remote::read_remote, rb_forward::specs::Forwards::longest_arguments))]
     fn read_front(bytes: &[u8]) -> Result<(RemoteCall, usize), XdrFault>
         ensures { result ≡ read_remote bytes.now }
     {

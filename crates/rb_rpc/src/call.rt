@@ -66,9 +66,11 @@ pub enum Verdict {
 /// Where the credential begins, behind six words.
 const CREDENTIAL: usize = 24;
 
-const CALL: u32 = 0;
+/// The message type of a call (RFC 5531 section 9).
+pub const CALL: u32 = 0;
 
-const RPC_VERSION: u32 = 2;
+/// The version of RPC that is spoken (RFC 5531 section 9).
+pub const RPC_VERSION: u32 = 2;
 
 /// The uid of the credential's body as one of AUTH_SYS.
 #[tactic(auto, unfolding(crate::specs::Verdict::sys_uid, crate::specs::Verdict::auth_end))]

@@ -13,7 +13,7 @@ mod sys;
 mod worked;
 
 pub use auth::AuthStat;
-pub use call::{CallHead, Credential, Verdict, put_call, read_call};
+pub use call::{CALL, CallHead, Credential, RPC_VERSION, Verdict, put_call, read_call};
 pub use laws::{
     data_is_joined, fed_bytes_have_no_record, first_record_is_least, first_record_of_more,
     no_record_begins_another, records_are_unique, refusals_are_of_the_grammar, replies_are_marked,
@@ -21,6 +21,8 @@ pub use laws::{
     written_replies_are_read,
 };
 pub use marks::{FRAGMENT_HEADER, Marks, Part, fragment_header, one_fragment};
+pub use opaque_auth::{AUTH_NONE, AUTH_SYS, MAX_AUTH_BODY};
 pub use peer::{Caller, Peer};
 pub use reply::{BadReply, ReplyHead, ReplyStatus, put_reply, read_reply};
+pub use sys::{MAX_GIDS, MAX_MACHINE};
 pub use worked::{worked_calls, worked_records, worked_replies};

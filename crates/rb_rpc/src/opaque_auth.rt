@@ -1,30 +1,19 @@
 //! Credentials and verifiers at a place: a flavor, a length word, a body and its residual bytes
 //! (RFC 5531 section 8.2).
 ghost use Rattle.std.specs.Prelude.{◌≡◌, ◌+◌, ◌^◌, ◌<◌, ◌≤◌, length, take, drop, not, IsTrue, option_copied};
-ghost use Rattle.rb_xdr.specs.Xdr.{residue, are_zero};
 ghost use Rattle.rb_rpc.specs.Verdict.{body_length, auth_end, is_over_long, is_broken};
 
 use crate::integers::number_at;
+use rb_xdr::{are_zero, residue};
 
-// flavors
-pub(crate) const AUTH_NONE: u32 = 0;
+/// The flavor of no authentication (RFC 5531 section 8.2).
+pub const AUTH_NONE: u32 = 0;
 
-pub(crate) const AUTH_SYS: u32 = 1;
+/// The flavor whose body says the caller's uid (RFC 5531 section 8.2 and appendix A).
+pub const AUTH_SYS: u32 = 1;
 
-const MAX_BODY: usize = 400;
-
-/// How many residual bytes follow so many.
-fn residue(count: usize) -> usize
-    ensures { result ≡ residue count }
-{
-    (4 - count % 4) % 4
-}
-
-fn are_zero(bytes: &[u8]) -> bool
-    ensures { result ≡ are_zero bytes.now }
-{
-    bytes.iter().all(|byte| *byte == 0)
-}
+/// The greatest body of a credential or verifier, in bytes (RFC 5531 section 8.2).
+pub const MAX_AUTH_BODY: u32 = 400;
 
 /// What the length word says.
 #[tactic(auto, unfolding(crate::specs::Verdict::body_length))]
@@ -52,7 +41,7 @@ pub(crate) fn is_over_long(bytes: &[u8], place: usize) -> bool
     requires { place ≤ length bytes.now }
     ensures { result ≡ is_over_long place bytes.now }
 {
-    bytes.len() >= place + 8 && body_length(bytes, place) > MAX_BODY
+    bytes.len() >= place + 8 && body_length(bytes, place) > MAX_AUTH_BODY as usize
 }
 
 /// Something is cut short, or a residual byte isn't zero.

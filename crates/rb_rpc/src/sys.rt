@@ -6,9 +6,11 @@ ghost use Rattle.rb_rpc.specs.Messages.{max_gids, body_of_sys, uid_of};
 
 use rb_xdr::{Xdr, XdrFault, take_opaque};
 
-const MAX_MACHINE: usize = 255;
+/// The greatest machinename of AUTH_SYS, in bytes (RFC 5531 appendix A).
+pub const MAX_MACHINE: u32 = 255;
 
-const MAX_GIDS: u32 = 16;
+/// The most gids of AUTH_SYS beside its own (RFC 5531 appendix A).
+pub const MAX_GIDS: u32 = 16;
 
 /// Whether there is an array of at most 16 numbers.
 fn has_gids(bytes: &[u8]) -> bool
@@ -26,7 +28,7 @@ pub(crate) fn uid_of(body: &[u8]) -> Result<u32, XdrFault>
 {
     let (_stamp, used) = u32::take(body)?;
     let (_, body) = body.split_at(used);
-    let (_machine, used) = take_opaque(body, MAX_MACHINE)?;
+    let (_machine, used) = take_opaque(body, MAX_MACHINE as usize)?;
     let (_, body) = body.split_at(used);
     let (uid, used) = u32::take(body)?;
     let (_, body) = body.split_at(used);

@@ -20,10 +20,6 @@ IsOnlyRead {A} is_value spelling bytes result = (x : A) (n : ℕ) → BeginsWith
 abbrev pub BeginsWithNone : {A : Type 0} → (A → Type 0) → (A → List ℕ) → List ℕ → Type 0
 BeginsWithNone {A} is_value spelling bytes = (x : A) (n : ℕ) → ¬ BeginsWith is_value spelling bytes (x, n)
 
--- a value has one spelling
-abbrev pub HasOneSpelling : {A : Type 0} → (A → Type 0) → (A → List ℕ) → Type 0
-HasOneSpelling {A} is_value spelling = (x : A) (a b : List ℕ) → Spells is_value spelling x a → Spells is_value spelling x b → a ≡ b
-
 -- a text spells one value
 abbrev pub SpellsOneValue : {A : Type 0} → (A → Type 0) → (A → List ℕ) → Type 0
 SpellsOneValue {A} is_value spelling = (x y : A) (text : List ℕ) → Spells is_value spelling x text → Spells is_value spelling y text → x ≡ y

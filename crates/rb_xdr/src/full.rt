@@ -5,5 +5,6 @@ use thiserror::Error;
 #[derive(PartialEq, Eq, Debug, Drop, Error)]
 #[error("there is no room")]
 pub struct Full<T = ()> {
+    /// The value that was handed in.
     pub value: T,
 }

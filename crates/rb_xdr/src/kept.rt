@@ -11,7 +11,8 @@ use std::marker::Model;
 use std::ops::Range;
 use std::snapshot::Snapshot;
 
-/// A buffer of at most `cap` bytes. `new` takes and writes all of its memory; no later call takes any.
+/// A buffer of at most `cap` bytes. `new` takes and writes all of its memory, and no later call changes how much it
+/// has.
 ///
 /// Each call adds its cost in steps to the meter, which has to be the one that the buffer was made with.
 #[derive(Drop)]
@@ -65,7 +66,7 @@ impl Kept {
         })
     }
 
-    /// Adds a byte at the end, in 1 step.
+    /// Adds a byte at the end, or nothing: `Full` where there are `cap` bytes. It costs 1 step in both cases.
     pub fn push(&mut self, byte: u8, meter: &mut Meter) -> Result<(), Full>
         requires { meter.old.tie ≡ self.old.tie }
         ensures puts { Puts (byte ∷ []) self.old.cap self.old self.new result }

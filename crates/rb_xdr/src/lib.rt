@@ -24,7 +24,7 @@ pub use kept::Kept;
 pub use laws::{spelling_laws, types_are_read_exactly};
 pub use memory::NoMemory;
 pub use meter::Meter;
-pub use opaque::{Opaque, take_opaque, write_opaque};
+pub use opaque::{Opaque, are_zero, residue, take_opaque, write_opaque};
 pub use pool::Pool;
 pub use text::Text;
 pub use worked::worked_examples;

@@ -17,8 +17,9 @@ use std::alloc::AllocError;
 use std::fmt;
 use std::marker::Model;
 
-// How many residual bytes follow so many.
-fn residue_of(count: usize) -> usize
+/// How many residual bytes follow `count` bytes of opaque data, so that both together are a multiple of four (RFC 4506
+/// section 3): 0 to 3.
+pub fn residue(count: usize) -> usize
     ensures { result ≡ residue count }
 {
     (4 - count % 4) % 4
@@ -28,7 +29,7 @@ fn residue_of(count: usize) -> usize
 fn zeros_after(count: usize) -> &'static [u8]
     ensures { result.now ≡ replicate (residue count) 0 }
 {
-    match residue_of(count) {
+    match residue(count) {
         0 => &[],
         1 => &[0],
         2 => &[0, 0],
@@ -36,10 +37,11 @@ fn zeros_after(count: usize) -> &'static [u8]
     }
 }
 
-fn all_zero(bytes: &[u8]) -> bool
+/// Whether each of the bytes is zero, as residual bytes have to be (RFC 4506 section 3).
+pub fn are_zero(bytes: &[u8]) -> bool
     ensures { result ≡ are_zero bytes.now }
 {
-    bytes.iter().all(|b| *b == 0)
+    bytes.iter().all(|byte| *byte == 0)
 }
 
 // So much content and its residual bytes.
@@ -49,11 +51,11 @@ fn take_content(bytes: &[u8], count: usize) -> Result<(&[u8], usize), XdrFault>
     ensures exact { lent result ≡ read_content count bytes.now }
     ensures within { IfOk result (λ read. read.1 ≤ length bytes.now) }
 {
-    let padded = count + residue_of(count);
+    let padded = count + residue(count);
     if bytes.len() < padded {
         return Err(XdrFault::Short);
     }
-    if !all_zero(&bytes[count..padded]) {
+    if !are_zero(&bytes[count..padded]) {
         return Err(XdrFault::BadPadding);
     }
     Ok((&bytes[..count], padded))
@@ -102,7 +104,7 @@ pub fn write_opaque(content: &[u8], out: &mut Kept, meter: &mut Meter)
     let _ = out.extend(zeros_after(content.len()), meter);
 }
 
-/// Bytes, at most `N` of them and fewer than 2^32.
+/// Opaque data (RFC 4506 section 4.10): bytes, at most `N` of them and fewer than 2^32.
 #[derive(Drop)]
 pub struct Opaque<const N: usize> {
     bytes: ArrayVec<u8, N>,
@@ -120,7 +122,7 @@ impl<const N: usize> Model for Opaque<N> {
 }
 
 impl<const N: usize> Opaque<N> {
-    /// A copy of these bytes.
+    /// A copy of these bytes, of which there are at most `N` and fewer than 2^32.
     pub fn new(bytes: &[u8]) -> Opaque<N>
         requires limit { length bytes.now ≤ N }
         requires count { length bytes.now < 2 ^ 32 }
@@ -160,7 +162,7 @@ impl<const N: usize> Xdr for Opaque<N> {
         let count = self.as_slice().len();
         room.checked_sub(4)?
             .checked_sub(count)?
-            .checked_sub(residue_of(count))
+            .checked_sub(residue(count))
     }
 
     fn write(&self, out: &mut Kept, meter: &mut Meter) {

@@ -17,7 +17,7 @@ use std::marker::Model;
 use std::snapshot::Snapshot;
 
 /// A table of at most `cap` values, each under a key of its own, in order of insertion. `new` or `written` takes all
-/// of its memory; no later call takes any.
+/// of its memory, and no later call changes how much it has. What the values themselves own is not counted in it.
 ///
 /// Each call costs 1 step, but for `entry_after` and `find_key`, and wants the meter that the table was made with.
 #[derive(Drop)]
@@ -50,7 +50,8 @@ impl<T> Model for Pool<T> {
 impl<T> Pool<T> {
     ghost use Rattle.rb_xdr.specs.PoolLends.{lends_entry, lends_value};
 
-    /// An empty table for at most `cap` values, whose calls this meter counts. It costs nothing.
+    /// An empty table for at most `cap` values, whose calls this meter counts, or `NoMemory` where an allocation is
+    /// refused. It costs nothing.
     pub fn new(alloc: Global, cap: usize, meter: &mut Meter) -> Result<Pool<T>, NoMemory>
     where
         T: Drop,
@@ -113,7 +114,7 @@ impl<T> Pool<T> {
     }
 
     /// Adds a value at the end of the order and returns its key, which was free. `Full`, with the value, where there
-    /// are `cap` values.
+    /// are `cap` values. It costs 1 step in both cases.
     pub fn insert(&mut self, value: T, meter: &mut Meter) -> Result<usize, Full<T>>
         requires { meter.old.tie ≡ self.old.tie }
         ensures room { IsOk result ↔ (length self.old.entries < self.old.cap) }
@@ -135,7 +136,7 @@ impl<T> Pool<T> {
         Ok(key)
     }
 
-    /// The value under `key`.
+    /// The value under `key`, or `None` where there is none, in 1 step.
     pub fn get(&self, key: usize, meter: &mut Meter) -> Option<&T>
         requires { meter.old.tie ≡ self.now.tie }
         ensures value { option_copied result ≡ value_at self.now.entries key }
@@ -145,7 +146,7 @@ impl<T> Pool<T> {
         self.values.get(key)
     }
 
-    /// The value under `key`, for writing.
+    /// The value under `key`, for writing, or `None` where there is none, in 1 step.
     pub fn get_mut(&mut self, key: usize, meter: &mut Meter) -> Option<&mut T>
         requires { meter.old.tie ≡ self.old.tie }
         ensures* writes_back { sem 𝓛 (lends_entry T.row self.entry key result) }
@@ -181,7 +182,8 @@ impl<T> Pool<T> {
         &self.values[key]
     }
 
-    /// Removes the value under `key` and returns it, or `None` where there is none.
+    /// Removes the value under `key` and returns it, or `None` where there is none, in 1 step. The other keys stay in
+    /// their order.
     pub fn remove(&mut self, key: usize, meter: &mut Meter) -> Option<T>
         requires { meter.old.tie ≡ self.old.tie }
         ensures value { result ≡ value_at self.old.entries key }
@@ -194,7 +196,7 @@ impl<T> Pool<T> {
         Some(value)
     }
 
-    /// The key that was inserted first, of those that are there.
+    /// The key that was inserted first, of those that are there, or `None` where the table is empty, in 1 step.
     pub fn first(&self, meter: &mut Meter) -> Option<usize>
         requires { meter.old.tie ≡ self.now.tie }
         ensures key { result ≡ first_key self.now.entries }
@@ -263,7 +265,7 @@ impl<T> Pool<T> {
         None
     }
 
-    /// How many values there are.
+    /// How many values there are, in 1 step.
     pub fn len(&self, meter: &mut Meter) -> usize
         requires { meter.old.tie ≡ self.now.tie }
         ensures len { result ≡ length self.now.entries }

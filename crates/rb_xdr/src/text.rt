@@ -11,7 +11,7 @@ use crate::xdr::Xdr;
 use std::fmt;
 use std::marker::Model;
 
-/// A text of at most `N` bytes and fewer than 2^32, in no given character set.
+/// A string (RFC 4506 section 4.11): a text of at most `N` bytes and fewer than 2^32, in no given character set.
 #[derive(Clone, PartialEq, Eq, Drop)]
 pub struct Text<const N: usize> {
     content: Opaque<N>,
@@ -28,7 +28,7 @@ impl<const N: usize> Model for Text<N> {
 }
 
 impl<const N: usize> Text<N> {
-    /// A copy of these bytes.
+    /// A copy of these bytes, of which there are at most `N` and fewer than 2^32.
     pub fn new(bytes: &[u8]) -> Text<N>
         requires limit { length bytes.now ≤ N }
         requires count { length bytes.now < 2 ^ 32 }

@@ -6,7 +6,7 @@ use Rattle.rb_registry.specs.Rows.{is_netid, is_among, may_remove, covers, is_on
 use Rattle.rb_stats.specs.Statistics.{number_of, is_key, is_in, keys_of, items_of, stat, item_spelling, stat_spelling, statistics}
 use Rattle.rb_proto.specs.Ledger.{version_of, called}
 use Rattle.rb_proto.specs.Remote.{read_remote}
-use Rattle.rb_forward.specs.StandsFor.{longest_arguments}
+use Rattle.rb_forward.specs.Forwards.{longest_arguments}
 use Rattle.rb_proto.specs.Types.{read_mapping, read_rpcb, read_netbuf}
 use Rattle.rb_proto.specs.Arguments.{procedure_at, is_known, arguments, request}
 use Rattle.rb_proto.specs.Netids.{netid_named, which_of, transport_of_prot, address_in, is_address}
