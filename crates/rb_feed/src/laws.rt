@@ -1,3 +1,4 @@
+//! What holds of every call's head.
 ghost use Rattle.rb_feed.specs.Laws.{CallsStay, HeadsEndAtThePlace};
 
 /// A call stays the same call whatever follows it. Its head has at most 840 bytes, and with fewer

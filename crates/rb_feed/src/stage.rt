@@ -320,16 +320,16 @@ fn verifier_before(call: CallWords, claim: Claim, len: u16, verifier_len: u32) -
     if verifier_len > MAX_AUTH_BODY {
         return Stage::BadVerifier { xid: call.xid };
     }
-    let left = verifier_len as u16;
-    let place = 40 + padded(len) + padded(left);
-    if left == 0 {
+    let verifier_len = verifier_len as u16;
+    let place = 40 + padded(len) + padded(verifier_len);
+    if verifier_len == 0 {
         return stage_behind(call, claim, place);
     }
     Stage::VerifierBody {
         call,
         claim,
         place,
-        left,
+        left: verifier_len,
     }
 }
 

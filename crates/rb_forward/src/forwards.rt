@@ -162,7 +162,7 @@ impl Forwards {
         Ok(FwdId { number: self.given })
     }
 
-    /// The unsent entry of least number, whether or not its deadline has come.
+    /// The unsent entry of least number, whether or not its deadline has come, or `None` where all were sent.
     pub fn unsent(&self, meter: &mut Meter) -> Option<Unsent<'_>>
         requires { meter.old.tie ≡ self.now.tie }
         ensures unsent { Whatever self.now (λ f. seen result ≡ unsent self.now.first_xid f) }
@@ -237,7 +237,8 @@ impl Forwards {
         self.end(Wanted::Answered(xid, from, clock), outcome_of(bytes), meter)
     }
 
-    /// The entry of least number whose deadline has come at this moment ends, as Failed.
+    /// The entry of least number whose deadline has come at the moment `clock`, in milliseconds, ends, as `Failed`. Where
+    /// there is none, nothing changes, and the answer is `None`.
     pub fn due(&mut self, clock: u64, meter: &mut Meter) -> Option<Ended>
         requires { meter.old.tie ≡ self.old.tie }
         ensures ended { GivenBy (due clock) self.old result }
@@ -254,7 +255,8 @@ impl Forwards {
         self.end(Wanted::Due(clock), Outcome::Failed, meter)
     }
 
-    /// The entry of the connection of this number ends, as Dropped.
+    /// The entry of the connection of this number ends, as `Dropped`. Where there is none, nothing changes, and the
+    /// answer is `None`.
     pub fn drop_caller(&mut self, id: u64, meter: &mut Meter) -> Option<Ended>
         requires { meter.old.tie ≡ self.old.tie }
         ensures ended { GivenBy (drop_caller id) self.old result }

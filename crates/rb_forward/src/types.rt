@@ -18,16 +18,21 @@ pub enum Kind {
 /// What is asked of which target, and what its caller is told.
 #[derive(Clone, Copy, PartialEq, Eq, Debug)]
 pub struct Forward {
+    /// Who asked for it, and gets its answer.
     pub caller: Caller,
     /// The xid of the caller's own call.
     pub xid: u32,
+    /// The procedure by which it was asked for, which says what the answer shows.
     pub kind: Kind,
     /// Where the call is sent, and whence its reply comes.
     pub target: Peer,
     /// The host and the port that the answer shows.
     pub shown: Peer,
+    /// The program that the target is asked for.
     pub prog: u32,
+    /// Its version.
     pub vers: u32,
+    /// The procedure that is called.
     pub proc: u32,
 }
 
@@ -54,13 +59,16 @@ fn layout(forward: &Forward) {
 /// The number of an entry, from 1. It never recurs.
 #[derive(Clone, Copy, PartialEq, Eq, Debug)]
 pub struct FwdId {
+    /// The number itself.
     pub number: u64,
 }
 
 /// A call that is yet to be sent.
 #[derive(Clone, Copy)]
 pub struct Unsent<'a> {
+    /// The entry's number, by which `sent` is told of it.
     pub id: FwdId,
+    /// Where it is to be sent.
     pub target: Peer,
     /// The datagram: the call's head and its arguments, at most 8,840 bytes.
     pub call: &'a [u8],
@@ -82,7 +90,9 @@ pub enum Outcome {
 /// The end of a forwarded call.
 #[derive(Clone, Copy, PartialEq, Eq, Debug)]
 pub struct Ended {
+    /// The call that was forwarded.
     pub forward: Forward,
+    /// How it ended.
     pub outcome: Outcome,
 }
 

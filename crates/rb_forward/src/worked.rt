@@ -1,3 +1,4 @@
+//! Worked examples of the definitions.
 ghost use Rattle.rb_forward.specs.Worked.{IsAsked, ArgumentsFollow, SentOnce, XidsWrap, OnePlace, NumbersAreSpent, OtherHost, OtherPort, OtherXid, ThreeBytes, BeforeItIsSent, AtTheDeadline, InTime, EndsAtTheDeadline, TargetRefuses, TargetDenies, FourBytes, LongResultsPass, LongerResultsFail, CallerGoesAway, WhatIsHeld};
 
 /// The definitions give what the worked examples say.

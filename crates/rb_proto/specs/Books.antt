@@ -1,23 +1,27 @@
 -- What calls on the books say of the ledger, and what of the books stays.
-use Rattle.std.specs.Prelude.{◌≡◌, ◌<◌, ⊤, ℕ, ◌+◌, Bool, true, List, length, Option}
+use Rattle.std.specs.Prelude.{◌≡◌, ◌<◌, ◌↔◌, ⊤, ℕ, ◌+◌, Bool, true, IsTrue, List, length, Option, Result, IsOk}
 use Rattle.std.specs.List.{filter_map}
 use Rattle.rb_rpc.specs.declared.peer.Caller.{Caller}
+use Rattle.rb_rpc.specs.declared.peer.Peer.{Peer}
 use Rattle.rb_registry.specs.declared.row.Row.{Row}
 use Rattle.rb_registry.specs.Slots.{slots_from}
-use Rattle.rb_registry.specs.Registry.{Registry, rows_of, dead_count}
+use Rattle.rb_registry.specs.Registry.{Registry, rows_of, dead_count, removals_of}
 use Rattle.rb_stats.specs.Statistics.{Note}
 use Rattle.rb_forward.specs.StandsFor.{Table, slots_of}
 use Rattle.rb_forward.specs.Table.{OnlyWaitsAnew}
 use Rattle.rb_forward.specs.Forwards.{Unsent, unsent}
+use Rattle.rb_forward.specs.declared.types.Kind.{Kind}
+use Rattle.rb_forward.specs.declared.types.Ended.{Ended}
 use Rattle.rb_proto.specs.declared.books.Books.{Books}
 use Rattle.rb_proto.specs.declared.call.Call.{Call}
 use Rattle.rb_proto.specs.declared.context.Context.{Context}
 use Rattle.rb_proto.specs.declared.forwarding.Asked.{Asked}
+use Rattle.rb_proto.specs.declared.remote.RemoteCall.{RemoteCall}
 use Rattle.rb_proto.specs.declared.answers.Answer.{Answer}
 use Rattle.rb_proto.specs.declared.answers.Answer.TheVariants as answers
 use Rattle.rb_proto.specs.Ledger.{Ledger, StandsForLedger}
 use Rattle.rb_proto.specs.Answers.{adds, adds_row}
-use Rattle.rb_proto.specs.Forwarding.{outcome_note}
+use Rattle.rb_proto.specs.Forwarding.{outcome_note, forward_call, replied}
 
 -- the changes behind the first n that removed rows, in the order of these rows
 abbrev pub removals_after : ℕ → Ledger → List ℕ
@@ -38,6 +42,10 @@ pub record ActsAs {A : Type 0} (act : Ledger → A × Ledger) (old new : Books) 
 abbrev pub BooksShow : {A : Type 0} → (Ledger → A) → Books → A → Type 0
 BooksShow show books result = (l : Ledger) → StandsForLedger books l → result ≡ show l
 
+-- Of each ledger that the books stand for, the result is Ok exactly where this holds of it.
+abbrev pub IsOkWhere : {A E : Type 0} → (Ledger → Bool) → Books → Result A E → Type 0
+IsOkWhere holds books result = (l : Ledger) → StandsForLedger books l → IsOk result ↔ IsTrue (holds l)
+
 -- Of all callers this one alone may have a forwarded call that it had not before.
 abbrev pub OnlyCallerWaits : Caller → Books → Books → Type 0
 OnlyCallerWaits caller old new = OnlyWaitsAnew caller (slots_of old.forwards) (slots_of new.forwards)
@@ -56,6 +64,10 @@ pub record SameFrame (old new : Books) : Type 0 where
   pub registry : new.registry.tie ≡ old.registry.tie
   pub stats : new.stats.tie ≡ old.stats.tie
   pub forwards : new.forwards.tie ≡ old.forwards.tie
+
+-- the changes that removed the rows which are retained
+abbrev pub removals_in : Books → List ℕ
+removals_in books = removals_of books.registry
 
 -- ---- room for a row
 
@@ -86,6 +98,15 @@ StayUnlessForwarded (answers.Results results) old new = new ≡ old
 StayUnlessForwarded (answers.Refused status) old new = new ≡ old
 StayUnlessForwarded answers.Forwarded old new = ⊤
 StayUnlessForwarded answers.Silent old new = new ≡ old
+
+-- the arguments of a call are forwarded, or it is refused
+abbrev pub ForwardsAs : Context → ℕ → Kind → RemoteCall → List ℕ → Books → Books → Answer → Type 0
+ForwardsAs context xid kind remote arguments old new result =
+    ActsAs (forward_call context xid kind remote arguments) old new result
+
+-- what a datagram does, where the books number the entries
+abbrev pub reply_to : Books → ℕ → Peer → List ℕ → Ledger → Option Ended × Ledger
+reply_to books clock from bytes = replied books.forwards.first_xid clock from bytes
 
 -- the call that is to be sent next, where the books number the entries
 abbrev pub unsent_of : Books → Ledger → Option Unsent

@@ -2,7 +2,7 @@
 use Rattle.std.specs.Prelude.{ℕ, ◌+◌, ◌-◌, ◌*◌, length}
 use Rattle.rb_xdr.specs.Kept.{Kept}
 use Rattle.rb_registry.specs.Registry.{Registry, slots_of}
-use Rattle.rb_forward.specs.Costs.{end_cost}
+use Rattle.rb_forward.specs.Costs.{end_cost, unsent_cost}
 use Rattle.rb_proto.specs.declared.books.Books.{Books}
 use Rattle.rb_proto.specs.Costs.{note_cost, forward_cost, statistics_cost}
 use Rattle.rb_proto.specs.ListReplies.{part_room}
@@ -11,7 +11,7 @@ use Rattle.rb_proto.specs.ListReplies.{part_room}
 abbrev pub put_cost : Kept → Kept → ℕ
 put_cost old new = 1 + (length new.bytes - length old.bytes)
 
--- a walk over the rows, live or dead, and one step for each byte that was put
+-- a walk over the rows, live or retained, and one step for each byte that was put
 abbrev pub write_cost : Registry → Kept → Kept → ℕ
 write_cost kept old new = 2 * length (slots_of kept) + 2 + (length new.bytes - length old.bytes)
 
@@ -27,13 +27,21 @@ lookup_cost books = 2 * length (slots_of books.registry) + 3 + note_cost
 abbrev pub call_cost : Books → ℕ → ℕ
 call_cost books args = 3 * length (slots_of books.registry) + 4 + note_cost + forward_cost args
 
--- two walks over the rows, which count the live ones and look for one
+-- a walk that looks for a row, and one step for the number of the live ones
 abbrev pub room_cost : Books → ℕ
-room_cost books = 4 * length (slots_of books.registry) + 4
+room_cost books = 2 * length (slots_of books.registry) + 2
 
 -- a walk over the rows, with a look at how much is written behind each, and what is written in the room of a part
 abbrev pub part_cost : Registry → ℕ
 part_cost kept = 3 * length (slots_of kept) + part_room + 6
+
+-- a walk over the rows, with a look at how much is written behind each, and what is written
+abbrev pub fill_cost : Registry → Kept → ℕ
+fill_cost kept out = 3 * length (slots_of kept) + length out.bytes + 5
+
+-- an unsent entry is looked for, and so many bytes of its call are lent
+abbrev pub lending_cost : Books → ℕ → ℕ
+lending_cost books count = unsent_cost books.forwards.cap count
 
 -- an entry is looked for and ends, and that is noted
 abbrev pub ending_cost : Books → ℕ

@@ -7,6 +7,7 @@ use rb_xdr::Text;
 /// What a call is answered.
 #[derive(PartialEq, Eq, Debug, Drop)]
 pub enum Answer {
+    /// These results (RFC 5531 section 9, SUCCESS).
     Results(Results),
     /// The call itself is refused (RFC 5531 section 9).
     Refused(ReplyStatus),
@@ -19,6 +20,7 @@ pub enum Answer {
 /// The results of a procedure.
 #[derive(PartialEq, Eq, Debug, Drop)]
 pub enum Results {
+    /// A value, which is there whole.
     Value(Value),
     /// Rows of the registry, which are yet to be shown.
     Rows(Listing),
@@ -29,11 +31,15 @@ pub enum Results {
 /// Results that are no list.
 #[derive(PartialEq, Eq, Debug, Drop)]
 pub enum Value {
+    /// No bytes.
     Void,
+    /// Whether a SET or UNSET changed anything.
     Bool(bool),
+    /// A port, or a number of seconds.
     Number(u32),
     /// The text of an address, or the empty text.
     Text(Text<MAX_TEXT>),
+    /// The transport form of an address, or an empty netbuf.
     Netbuf(AddressBuf),
 }
 

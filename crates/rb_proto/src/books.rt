@@ -19,8 +19,11 @@ use std::alloc::Global;
 /// the steps on all of it.
 #[derive(Drop)]
 pub struct Books {
+    /// The rows that calls set.
     pub registry: Registry,
+    /// What was called.
     pub stats: Stats,
+    /// The calls that wait for their targets.
     pub forwards: Forwards,
 }
 
@@ -62,16 +65,16 @@ pub(crate) fn owner_of(cred: Credential) -> Owner
 impl Books {
     ghost use Rattle.std.specs.Prelude.{◌≡◌, ◌<◌, ◌≤◌, ◌↔◌, ◌+◌, ◌*◌, [], false, length, IfOk, IsErrOf, IfSome, IsOk, IsTrue, OnOk, OnErr};
     ghost use Rattle.rb_xdr.specs.Meter.{PaysAtMost};
-    ghost use Rattle.rb_forward.specs.Costs.{sent_cost, unsent_cost};
+    ghost use Rattle.rb_forward.specs.Costs.{sent_cost};
     ghost use Rattle.rb_forward.specs.Forwards.{can_be_sent};
     ghost use Rattle.rb_forward.specs.Outcomes.{PassesWithin};
     ghost use Rattle.rb_forward.specs.StandsFor.{slots_of, longest_call};
     ghost use Rattle.rb_forward.specs.Table.{seen, count_lent, is_waiting, IsNew, NoneWaitsAnew};
-    ghost use Rattle.rb_proto.specs.Forwarding.{replied, fell_due, caller_dropped, call_sent};
-    ghost use Rattle.rb_proto.specs.Books.{unsent_of, wants_room_in, BooksShow, ActsAs, Becomes, AreTied, SameFrame};
-    ghost use Rattle.rb_proto.specs.Puts.{ending_cost, room_cost};
+    ghost use Rattle.rb_proto.specs.Forwarding.{fell_due, caller_dropped, call_sent};
+    ghost use Rattle.rb_proto.specs.Books.{unsent_of, reply_to, removals_in, wants_room_in, BooksShow, IsOkWhere, ActsAs, Becomes, AreTied, SameFrame};
+    ghost use Rattle.rb_proto.specs.Puts.{ending_cost, lending_cost, room_cost};
     ghost use Rattle.rb_proto.specs.Answers.{wants_room};
-    ghost use Rattle.rb_registry.specs.Registry.{rows_of, slots_of as row_slots, removals_of};
+    ghost use Rattle.rb_registry.specs.Registry.{rows_of, slots_of as row_slots};
     ghost use Rattle.rb_registry.specs.Table.{floor_told, later_than};
     ghost use Rattle.rb_registry.specs.Cursors.{GoesOn};
     ghost use Rattle.rb_proto.specs.Callers.{own_rows};
@@ -120,7 +123,7 @@ impl Books {
         self.stats.note_call(version_of(head.vers), head.proc);
     }
 
-    /// Whether the call is a SET that is accepted: then there has to be room for its row.
+    /// Returns whether the call is a SET that is accepted: then there has to be room for its row.
     #[tactic(auto, unfolding(crate::specs::Answers::adds_row))]
     pub fn wants_room(&self, context: &Context, call: &Call, meter: &mut Meter) -> bool
         requires tied { AreTied meter.old.tie self.now }
@@ -140,8 +143,7 @@ impl Books {
     pub fn trim(&mut self, oldest: Option<u64>, meter: &mut Meter)
         requires { AreTied meter.old.tie self.old }
         ensures stands { Becomes (λ l. l) self.old self.new }
-        ensures dropped { removals_of self.new.registry
-            ≡ later_than oldest (removals_of self.old.registry) }
+        ensures dropped { removals_in self.new ≡ later_than oldest (removals_in self.old) }
         ensures fewer { length (row_slots self.new.registry) ≤ length (row_slots self.old.registry) }
         ensures rows { rows_of self.new.registry ≡ rows_of self.old.registry }
         ensures stamp { self.new.registry.stamp ≡ self.old.registry.stamp }
@@ -155,13 +157,13 @@ impl Books {
         self.registry.trim(oldest, meter);
     }
 
-    /// The unsent forwarded call of least number, whether or not its deadline has come. It has at most 8,840 bytes.
+    /// The unsent forwarded call of least number, whether or not its deadline has come, or `None` where all were sent. It
+    /// has at most 8,840 bytes.
     pub fn unsent(&self, meter: &mut Meter) -> Option<Unsent<'_>>
         requires { AreTied meter.old.tie self.now }
         ensures unsent { BooksShow (unsent_of self.now) self.now (seen result) }
         ensures few { IfSome result (λ lent. length lent.call.now ≤ longest_call) }
-        ensures cost { PaysAtMost meter.old meter.new
-            (unsent_cost self.now.forwards.cap (count_lent result)) }
+        ensures cost { PaysAtMost meter.old meter.new (lending_cost self.now (count_lent result)) }
     {
         self.forwards.unsent(meter)
     }
@@ -171,8 +173,7 @@ impl Books {
     #[tactic(auto, unfolding(crate::specs::Forwarding::call_sent))]
     pub fn sent(&mut self, id: FwdId, meter: &mut Meter) -> Result<(), Gone>
         requires { AreTied meter.old.tie self.old }
-        ensures there { (l : Ledger) → StandsForLedger self.old l
-            → IsOk result ↔ IsTrue (can_be_sent id.number l.forwards) }
+        ensures there { IsOkWhere (λ l. can_be_sent id.number l.forwards) self.old result }
         ensures sent { OnOk result (Becomes (call_sent id.number) self.old self.new) }
         ensures err { OnErr result (self.new ≡ self.old) }
         ensures registry { self.new.registry ≡ self.old.registry }
@@ -183,8 +184,9 @@ impl Books {
         self.forwards.sent(id, meter)
     }
 
-    /// Takes a datagram that came from there at this moment. Where it is a reply to forwarded calls, that of least number
-    /// ends, and its outcome is noted. Any other datagram changes nothing.
+    /// Takes a datagram that came from the peer `from` at the moment `clock`, in milliseconds. Where it is a reply to
+    /// forwarded calls, that of least number ends, and its outcome is noted. Any other datagram changes nothing, and the
+    /// answer is `None`.
     #[tactic(auto, unfolding(crate::specs::Forwarding::replied))]
     pub fn reply(
         &mut self,
@@ -194,8 +196,7 @@ impl Books {
         meter: &mut Meter,
     ) -> Option<Ended>
         requires { AreTied meter.old.tie self.old }
-        ensures acts { ActsAs (replied self.old.forwards.first_xid clock from bytes.now)
-            self.old self.new result }
+        ensures acts { ActsAs (reply_to self.old clock from bytes.now) self.old self.new result }
         ensures registry { self.new.registry ≡ self.old.registry }
         ensures within { IfSome result (λ ended. PassesWithin ended.outcome (length bytes.now)) }
         ensures alone { IfSome result
@@ -209,7 +210,8 @@ impl Books {
         Some(ended)
     }
 
-    /// The forwarded call of least number whose deadline has come at this moment ends, as Failed, and that is noted.
+    /// The forwarded call of least number whose deadline has come at the moment `clock`, in milliseconds, ends, as
+    /// `Failed`, and that is noted. Where there is none, nothing changes, and the answer is `None`.
     #[tactic(auto, unfolding(crate::specs::Forwarding::fell_due))]
     pub fn due(&mut self, clock: u64, meter: &mut Meter) -> Option<Ended>
         requires { AreTied meter.old.tie self.old }

@@ -25,7 +25,9 @@ use rb_xdr::Meter;
 /// A call of a procedure that is served, with arguments that could be read.
 #[derive(Drop)]
 pub struct Call<'a> {
+    /// Its head.
     pub head: CallHead,
+    /// What it asks for.
     pub request: Request<'a>,
 }
 

@@ -10,6 +10,7 @@ use rb_rpc::{Caller, Peer};
 /// What the answer to a call depends on beside the books: the listener, the limits, the moment and the caller.
 #[derive(Clone, Copy, PartialEq, Eq, Debug)]
 pub struct Context {
+    /// Where the daemon listens.
     pub listener: Listener,
     /// The greatest number of rows.
     pub limit: usize,
@@ -17,6 +18,7 @@ pub struct Context {
     pub forwards: u32,
     /// Milliseconds since the start of 1970.
     pub clock: u64,
+    /// Who called, over which transport.
     pub caller: Caller,
 }
 
@@ -39,7 +41,7 @@ pub(crate) fn transport_of_caller(caller: &Caller) -> Transport
 }
 
 impl Context {
-    /// Whether the caller is on this machine.
+    /// Returns whether the caller is on this machine.
     #[tactic(auto, unfolding(crate::specs::Answers::comes_from_here))]
     pub(crate) fn comes_from_here(&self) -> bool
         ensures { result ≡ comes_from_here self.now }

@@ -8,10 +8,13 @@ use rb_xdr::{Kept, Meter, Text, Xdr, XdrFault};
 pub struct Entry {
     /// The universal address, with the listener's host in place of 0.0.0.0.
     pub maddr: Text<128>,
+    /// The name of the netid.
     pub netid: Text<32>,
     /// 1 for datagrams, 3 for a stream of bytes.
     pub semantics: u32,
+    /// The protocol family: inet, inet6 or loopback.
     pub protofmly: Text<32>,
+    /// The protocol: tcp, udp, or - where there is none.
     pub proto: Text<32>,
 }
 

@@ -5,9 +5,9 @@ ghost use Rattle.rb_registry.specs.Registry.{rows_of, slots_of as row_slots};
 ghost use Rattle.rb_stats.specs.Counting.{HasNoted};
 ghost use Rattle.rb_forward.specs.StandsFor.{slots_of};
 ghost use Rattle.rb_forward.specs.Table.{IsNew};
-ghost use Rattle.rb_proto.specs.Books.{ActsAs, AreTied, OnlyCallerWaits, SameFrame, StayUnlessForwarded, note_asked};
+ghost use Rattle.rb_proto.specs.Books.{ActsAs, ForwardsAs, AreTied, OnlyCallerWaits, SameFrame, StayUnlessForwarded, note_asked};
 ghost use Rattle.rb_proto.specs.Remote.{HasContent};
-ghost use Rattle.rb_proto.specs.Forwarding.{version_of_kind, is_indirect, is_pass, peer_at, peer_of_row, peer_to_forward, merged_peer, forward_of, refusal, refuse, forward_call, end_note};
+ghost use Rattle.rb_proto.specs.Forwarding.{version_of_kind, is_indirect, is_pass, peer_at, peer_of_row, peer_to_forward, merged_peer, forward_of, refusal, refuse, end_note};
 ghost use Rattle.rb_proto.specs.Costs.{note_cost};
 ghost use Rattle.rb_proto.specs.Puts.{call_cost};
 
@@ -163,7 +163,8 @@ fn forward_of(
     }
 }
 
-/// What the caller of a forwarded call is told that failed so: INDIRECT answers, and CALLIT and BCAST are silent.
+/// What the caller of a forwarded call is told that failed so: INDIRECT is refused with this status (RFC 1833 section
+/// 2.2.1), and CALLIT and BCAST are silent.
 pub fn refusal(kind: Kind, status: ReplyStatus) -> Answer
     ensures { result ≡ refusal kind status }
 {
@@ -216,8 +217,7 @@ pub(crate) fn forward_call(
     requires forwards { books.old.forwards.cap ≡ context.now.forwards }
     requires caller { IsNew context.now.caller (slots_of books.old.forwards) }
     requires content { HasContent remote.now arguments.now }
-    ensures acts { ActsAs (forward_call context.now xid kind remote.now arguments.now)
-        books.old books.new result }
+    ensures acts { ForwardsAs context.now xid kind remote.now arguments.now books.old books.new result }
     ensures quiet { StayUnlessForwarded result books.old.forwards books.new.forwards }
     ensures waiting { OnlyCallerWaits context.now.caller books.old books.new }
     ensures registry { books.new.registry ≡ books.old.registry }

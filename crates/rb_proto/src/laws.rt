@@ -1,3 +1,4 @@
+//! What holds of every request, and of every forwarded call.
 ghost use Rattle.rb_proto.specs.ForwardLaws.{ForwardsGoToRows, ForwardsAreNotedOnce};
 ghost use Rattle.rb_proto.specs.Grammar.{RequestsAreOfTheGrammar};
 ghost use Rattle.rb_proto.specs.ListParts.{ListRepliesGoOn};

@@ -90,24 +90,28 @@ impl<'a> LentRpcb<'a> {
         ))
     }
 
+    /// The program's number.
     pub fn prog(&self) -> u32
         ensures { result ≡ self.now.prog }
     {
         self.prog
     }
 
+    /// The program's version.
     pub fn vers(&self) -> u32
         ensures { result ≡ self.now.vers }
     {
         self.vers
     }
 
+    /// The name of the netid, of at most 32 bytes.
     pub fn netid(&self) -> &'a [u8]
         ensures { result.now ≡ self.now.netid }
     {
         self.netid.as_slice()
     }
 
+    /// The text of the address, of at most 128 bytes.
     pub fn addr(&self) -> &'a [u8]
         ensures bytes { result.now ≡ self.now.addr }
         ensures content { IsContent 128 self.now.addr }
@@ -143,6 +147,7 @@ impl<'a> LentNetbuf<'a> {
         Ok((LentNetbuf { maxlen, buf }, first + second))
     }
 
+    /// The bytes of the transport form, of which there are at most 128.
     pub fn buf(&self) -> &'a [u8]
         ensures { result.now ≡ self.now.buf }
     {

@@ -6,7 +6,7 @@ ghost use Rattle.rb_registry.specs.Registry.{slots_of};
 ghost use Rattle.rb_registry.specs.Cursors.{StandsIn};
 ghost use Rattle.rb_proto.specs.ListReplies.{longest_part, longest_row, part_room, head_unless, rest_of};
 ghost use Rattle.rb_proto.specs.ListParts.{ListsRows, IsNextPart, IsBehindPart, IsTold, Fills};
-ghost use Rattle.rb_proto.specs.Puts.{part_cost};
+ghost use Rattle.rb_proto.specs.Puts.{fill_cost, part_cost};
 
 use crate::answers::Listing;
 use crate::rows::write_row;
@@ -47,13 +47,16 @@ fn layout(reply: &ListReply) {
 /// Where a part stands in the buffer that it was made in, and whether the reply ends with it.
 #[derive(Clone, Copy, PartialEq, Eq, Debug)]
 pub struct ListPart {
+    /// The place of its first byte.
     pub start: usize,
+    /// The place behind its last byte.
     pub end: usize,
+    /// Whether the reply ends with it.
     pub last: bool,
 }
 
 impl ListReply {
-    /// A reply under this xid, of which nothing was given, with the rows that are live now.
+    /// A reply under this xid, of which nothing was given, with the rows that are live now. It costs nothing.
     pub fn new(xid: u32, list: Listing, registry: &Registry) -> ListReply
         ensures rest { ListsRows xid list registry.now result }
         ensures told { IsTold registry.now result }
@@ -76,7 +79,8 @@ impl ListReply {
         self.stamp
     }
 
-    /// Makes the next part in a buffer, whose bytes are cleared before, and says where it stands there.
+    /// Makes the next part in a buffer, whose bytes are cleared before, and says where it stands there. It has 1,024
+    /// bytes, and the last part 1 to 1,024. `host` is shown in place of 0.0.0.0 where the list shows addresses of entries.
     pub fn next_part(
         &mut self,
         registry: &Registry,
@@ -155,8 +159,7 @@ impl ListReply {
         ensures fills { Fills host registry.now self.old self.new most out.new.bytes result }
         ensures cap { out.new.cap ≡ out.old.cap }
         ensures tie { out.new.tie ≡ out.old.tie }
-        ensures cost { PaysAtMost meter.old meter.new
-            (3 * length (slots_of registry.now) + length out.new.bytes + 5) }
+        ensures cost { PaysAtMost meter.old meter.new (fill_cost registry.now out.new) }
     {
         out.clear(meter);
         self.put_head(out, meter);

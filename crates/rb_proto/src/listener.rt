@@ -10,7 +10,9 @@ use rb_uaddr::Uaddr;
 /// The host and the port of the daemon's own TCP and UDP sockets.
 #[derive(Clone, Copy, PartialEq, Eq, Debug)]
 pub struct Listener {
+    /// The IPv4 host, its most significant byte first; 0.0.0.0 stands for every address of the machine.
     pub host: [u8; 4],
+    /// The port of both.
     pub port: u16,
 }
 
@@ -50,7 +52,7 @@ pub(crate) fn own_rows(listener: &Listener) -> [Row; 6]
     ]
 }
 
-/// Whether the caller's host is in 127.0.0.0/8 or the listener's own.
+/// Returns whether the caller's host is in 127.0.0.0/8 or the listener's own.
 #[tactic(auto, unfolding(crate::specs::Callers::is_local))]
 pub(crate) fn is_local(listener: &Listener, peer: &Peer) -> bool
     ensures { result ≡ is_local listener.now peer.now.host }

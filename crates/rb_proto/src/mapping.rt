@@ -6,9 +6,13 @@ use rb_xdr::{Kept, Meter, Xdr, XdrFault};
 /// The port where a version of a program is reached by a protocol, 6 for TCP and 17 for UDP.
 #[derive(Clone, Copy, PartialEq, Eq, Debug)]
 pub struct Mapping {
+    /// The program's number.
     pub prog: u32,
+    /// The program's version.
     pub vers: u32,
+    /// The protocol's number: 6 or 17 where it is one of these transports.
     pub prot: u32,
+    /// The port, at most 65,535 in a result.
     pub port: u32,
 }
 

@@ -10,6 +10,7 @@ use std::marker::Model;
 pub struct Netbuf {
     /// Of a result the length of `buf`. Of an argument it says nothing.
     pub maxlen: u32,
+    /// The bytes of that form, at most 128.
     pub buf: Opaque<128>,
 }
 

@@ -13,39 +13,56 @@ use rb_xdr::{Xdr, XdrFault};
 /// A procedure without arguments.
 #[derive(Clone, Copy, PartialEq, Eq, Debug)]
 pub enum VoidProcedure {
+    /// Procedure 0 of each version: nothing is done.
     Null,
-    /// DUMP of version 2.
+    /// DUMP of version 2: the rows of tcp and udp as mappings.
     PmapDump,
+    /// DUMP of versions 3 and 4: the rows as rpcbs.
     Dump,
+    /// GETTIME: the seconds since the start of 1970.
     Gettime,
+    /// GETSTAT of version 4: the statistics.
     Getstat,
 }
 
 /// A procedure of a mapping. They are of version 2.
 #[derive(Clone, Copy, PartialEq, Eq, Debug)]
 pub enum MappingProcedure {
+    /// PMAPPROC_SET: adds a row.
     Set,
+    /// PMAPPROC_UNSET: removes the rows of a version of a program on tcp and udp.
     Unset,
+    /// PMAPPROC_GETPORT: the port of a row.
     Getport,
 }
 
 /// A procedure of an rpcb.
 #[derive(Clone, Copy, PartialEq, Eq, Debug)]
 pub enum RpcbProcedure {
+    /// RPCBPROC_SET: adds a row.
     Set,
+    /// RPCBPROC_UNSET: removes the rows of a version of a program, on one netid or on all.
     Unset,
+    /// RPCBPROC_GETADDR: the address of a row, of another version where the one that is asked for has none.
     Getaddr,
+    /// RPCBPROC_GETVERSADDR of version 4: the address of a row of exactly this version.
     Getversaddr,
+    /// RPCBPROC_GETADDRLIST of version 4: the addresses of a version of a program on each netid.
     Getaddrlist,
 }
 
 /// A procedure, under the type of its argument.
 #[derive(Clone, Copy, PartialEq, Eq, Debug)]
 pub enum Procedure {
+    /// One that has no argument.
     Void(VoidProcedure),
+    /// One that takes a mapping.
     Mapping(MappingProcedure),
+    /// One that takes an rpcb.
     Rpcb(RpcbProcedure),
+    /// RPCBPROC_UADDR2TADDR, which takes a string.
     Uaddr2taddr,
+    /// RPCBPROC_TADDR2UADDR, which takes a netbuf.
     Taddr2uaddr,
     /// A procedure that has another one called.
     Forward(Kind),

@@ -13,14 +13,19 @@ const CONTENT: usize = 16;
 /// called, and how many bytes of arguments it is to be given, at most 8,800. Those stay where they came.
 #[derive(Clone, Copy, PartialEq, Eq, Debug)]
 pub struct RemoteCall {
+    /// The program's number.
     pub prog: u32,
+    /// The program's version.
     pub vers: u32,
+    /// The procedure's number.
     pub proc: u32,
+    /// How many bytes the content of args has.
     pub count: usize,
 }
 
 impl RemoteCall {
-    /// The call that the front of the bytes asks for. What follows it counts for nothing.
+    /// The call that the front of the bytes asks for, or `None` where none is spelled there or args has more than 8,800
+    /// bytes. What follows it counts for nothing.
     #[tactic(auto, using(crate::proofs::Remotes::content_is_there))]
     pub fn read(bytes: &[u8]) -> Option<RemoteCall>
         ensures call { result ≡ front read_remote bytes.now }

@@ -6,10 +6,15 @@ use rb_xdr::{Kept, Meter, Text, Xdr, XdrFault};
 /// The universal address at which a version of a program is reached on a netid, and who set it.
 #[derive(PartialEq, Eq, Debug, Drop)]
 pub struct Rpcb {
+    /// The program's number.
     pub prog: u32,
+    /// The program's version.
     pub vers: u32,
+    /// The name of the netid.
     pub netid: Text<32>,
+    /// The text of the address.
     pub addr: Text<128>,
+    /// Who set it, as DUMP shows owners.
     pub owner: Text<128>,
 }
 

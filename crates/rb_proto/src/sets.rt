@@ -77,7 +77,7 @@ pub(crate) fn accepts(registry: &Registry, context: &Context, row: &Row, meter: 
     requires limit { registry.now.limit ≡ context.now.limit }
     ensures value { result
         ≡ accepts context.now (rows_of registry.now) registry.now.stamp row.now }
-    ensures cost { PaysAtMost meter.old meter.new (4 * length (slots_of registry.now) + 4) }
+    ensures cost { PaysAtMost meter.old meter.new (2 * length (slots_of registry.now) + 2) }
 {
     if !context.comes_from_here() || !can_be_set(row) {
         return false;

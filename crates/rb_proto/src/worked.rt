@@ -1,3 +1,4 @@
+//! Worked examples of the definitions.
 ghost use Rattle.rb_proto.specs.Worked.{DumpOwnRows, SetGetportSetAgain, GetportGreatestVersion, SetAtRowLimit, VersionTwoRefuses, OwnersRemove, UnsetByOwner, OtherAddressesRefused, GetaddrByTransport, Getaddrlist, AddressTransportForm, LocalityAndGettime, RefusalsOfAcceptedCalls, GetstatFirstCall, GetstatAfterCalls, GetstatOfOtherCalls, GetstatFirstKeys, LongDump, LongPmapDump};
 ghost use Rattle.rb_proto.specs.WorkedForwards.{ProceduresAreKnown, GreatestArguments, WithoutRow, WithOtherRows, PortmapperIsNotCalled, TableIsFull, FailuresAreCounted, AnyHostIsThisMachine, OtherHostsStay, EndsAreNoted, OthersAreNotNoted, PlacesAreShown};
 ghost use Rattle.rb_proto.specs.WorkedNetids.{AddressesGoByNetid, TextsStay, OthersAreNotSeen, VersionTwoListsNone, Ipv6TransportForm};

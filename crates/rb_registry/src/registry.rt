@@ -87,8 +87,8 @@ impl Registry {
 
     /// A registry of these rows, with room for `cap` rows in all, for calls that this meter counts.
     ///
-    /// The own rows are of the portmapper's program, so nobody removes them. BadLimits where they are
-    /// more than `cap`, else NoMemory where the memory for `cap` rows is refused.
+    /// The own rows are of the portmapper's program, so nobody removes them. `BadLimits` where they are more than
+    /// `cap`, else `NoMemory` where the memory for `cap` rows is refused.
     pub fn new(
         alloc: Global,
         cap: usize,
@@ -135,7 +135,7 @@ impl Registry {
     }
 
     /// Adds the row at the end and answers true (RFC 1833 section 2.2.1, RPCBPROC_SET), unless a live
-    /// row of its program, version and netid is there, the live and the dead rows reach the limit, or
+    /// row of its program, version and netid is there, the live and the retained rows reach the limit, or
     /// 2^64 - 1 changes were accepted: then nothing changes.
     ///
     /// It checks neither who sets the row nor whether the address fits the netid.
@@ -173,7 +173,7 @@ impl Registry {
 
     /// Removes the rows of the program's version on these netids that a caller of this owner may
     /// remove (RFC 1833 section 2.2.1, RPCBPROC_UNSET), and answers whether there was one. Where
-    /// 2^64 - 1 changes were accepted, none is removed. They are kept as dead rows.
+    /// 2^64 - 1 changes were accepted, none is removed. Removed rows are retained until `trim` drops them.
     pub fn unset(
         &mut self,
         prog: u32,
@@ -213,8 +213,8 @@ impl Registry {
         true
     }
 
-    /// The row of exactly this version, else that of the greatest version that the program has on the
-    /// netid (RFC 1833 sections 2.2.1, RPCBPROC_GETADDR, and 3.2, PMAPPROC_GETPORT).
+    /// The live row of exactly this version, else that of the greatest version that the program has on the netid, or
+    /// `None` where it has none there (RFC 1833 sections 2.2.1, RPCBPROC_GETADDR, and 3.2, PMAPPROC_GETPORT).
     pub fn find(&self, prog: u32, vers: u32, netid: Netid, meter: &mut Meter) -> Option<&Row>
         requires { meter.old.tie ≡ self.now.tie }
         ensures found { option_copied result ≡ find_row prog vers netid (rows_of self.now) }
@@ -223,8 +223,8 @@ impl Registry {
         find_row(&self.slots, self.changes, prog, vers, netid, meter)
     }
 
-    /// The row of exactly this version of the program on the netid (RFC 1833 section 2.2.2,
-    /// RPCBPROC_GETVERSADDR).
+    /// The live row of exactly this version of the program on the netid, or `None` where there is none (RFC 1833
+    /// section 2.2.2, RPCBPROC_GETVERSADDR).
     pub fn find_exact(&self, prog: u32, vers: u32, netid: Netid, meter: &mut Meter) -> Option<&Row>
         requires { meter.old.tie ≡ self.now.tie }
         ensures found { option_copied result ≡ find_exact prog vers netid (rows_of self.now) }
@@ -246,7 +246,7 @@ impl Registry {
         self.slots.len(meter) - self.dead
     }
 
-    /// How many dead rows are still there.
+    /// How many removed rows are retained, for no step.
     pub fn dead(&self) -> usize
         ensures count { result ≡ dead_count self.now }
     {
@@ -303,7 +303,7 @@ impl Registry {
         self.floor = self.floor.max(told);
     }
 
-    /// How many bytes are held: those of the address text of each row, live or dead, and 32 for the rest of it.
+    /// How many bytes are held: those of the address text of each row, live or retained, and 32 for the rest of it.
     pub fn held(&self) -> u64
         ensures held { result ≡ held_in (slots_of self.now) }
         ensures bound { result ≤ (32 + 128) * self.now.limit }

@@ -1,4 +1,4 @@
-//! Walks over the rows, live and dead, in their order.
+//! Walks over the rows, live and retained, in their order.
 ghost use Rattle.std.specs.Prelude.{◌≡◌, ◌+◌, ◌*◌, ◌^◌, ◌<◌, length, IfSome, Some, option_copied};
 ghost use Rattle.std.specs.List.{list_any};
 ghost use Rattle.rb_xdr.specs.Meter.{PaysAtMost};
@@ -114,8 +114,8 @@ pub(crate) struct Dropped {
     pub(crate) bytes: u64,
 }
 
-/// Takes out, of so many dead rows, those that were removed by that change or one before it, all where none is named.
-/// Where no row is dead, none is looked at.
+/// Takes out, of so many retained rows, those that were removed by that change or one before it, all where none is
+/// named. Where no row is retained, none is looked at.
 pub(crate) fn drop_dead(
     slots: &mut Pool<Slot>,
     dead: usize,

@@ -15,19 +15,24 @@ use rb_xdr::{Full, Kept, Meter};
 /// Who calls, as the credential says (RFC 5531 section 8.2). Nothing authenticates it.
 #[derive(Clone, Copy, PartialEq, Eq, Debug)]
 pub enum Credential {
-    /// AUTH_NONE (section 10.1)
+    /// AUTH_NONE (section 10.1).
     None,
-    /// The uid of AUTH_SYS (appendix A)
+    /// The uid of AUTH_SYS (appendix A).
     Sys(u32),
 }
 
 /// The head of a call (RFC 5531 section 9). Of the credential the uid of AUTH_SYS is kept, of the verifier nothing.
 #[derive(Clone, Copy, PartialEq, Eq, Debug)]
 pub struct CallHead {
+    /// The number by which the caller knows the reply.
     pub xid: u32,
+    /// The program's number.
     pub prog: u32,
+    /// The program's version.
     pub vers: u32,
+    /// The procedure's number.
     pub proc: u32,
+    /// Who calls.
     pub cred: Credential,
 }
 
@@ -82,18 +87,13 @@ fn sys_uid(bytes: &[u8]) -> Option<u32>
     uid_of(&bytes[body..body + body_length(bytes, CREDENTIAL)]).ok()
 }
 
-/// What the words and the credential say. It is inlined, so that the words go into the verdict one by one.
+/// What the words say, beside the credential that was read. It is inlined, so that the words go into the verdict one by
+/// one.
 #[inline(always)]
-fn head_of(bytes: &[u8]) -> CallHead
-    requires header { 32 ≤ length bytes.now }
-    requires whole { auth_end 24 bytes.now ≤ length bytes.now }
-    ensures { result ≡ head_of bytes.now }
+fn head_with(bytes: &[u8], cred: Credential) -> CallHead
+    requires { 32 ≤ length bytes.now }
+    ensures { result ≡ record (head_of bytes.now) { cred = cred } }
 {
-    let cred = if number_at(bytes, CREDENTIAL) == AUTH_NONE {
-        Credential::None
-    } else {
-        sys_uid(bytes).map_or(Credential::None, Credential::Sys)
-    };
     CallHead {
         xid: number_at(bytes, 0),
         prog: number_at(bytes, 12),
@@ -103,7 +103,9 @@ fn head_of(bytes: &[u8]) -> CallHead
     }
 }
 
-/// The verdict on a message: the first refusal that holds of all its bytes, else the call.
+/// The verdict on a message: the first refusal that holds of all its bytes, else the call. The order is: no call; another
+/// version of RPC; a head that is cut short; a credential of over 400 bytes; a credential that is cut short or has a
+/// residual byte that is not zero; the same of the verifier; a flavor that is not taken; an AUTH_SYS that cannot be read.
 ///
 /// It is inlined, so that its words stay where they are wanted.
 #[tactic(auto, unfolding(crate::specs::Verdict::verdict, crate::specs::Verdict::credential_end, crate::specs::Verdict::verifier_end))]
@@ -135,19 +137,20 @@ pub fn read_call(bytes: &[u8]) -> Verdict
     if is_broken(bytes, verifier) {
         return Verdict::NoCall;
     }
-    let flavor = number_at(bytes, CREDENTIAL);
-    if flavor > AUTH_SYS {
-        return Verdict::AuthError(xid, AuthStat::RejectedCredential);
-    }
-    if flavor == AUTH_SYS && sys_uid(bytes).is_none() {
-        return Verdict::AuthError(xid, AuthStat::BadCredential);
-    }
-    Verdict::Call(head_of(bytes), auth_end(bytes, verifier))
+    let cred = match number_at(bytes, CREDENTIAL) {
+        AUTH_NONE => Credential::None,
+        AUTH_SYS => match sys_uid(bytes) {
+            Some(uid) => Credential::Sys(uid),
+            None => return Verdict::AuthError(xid, AuthStat::BadCredential),
+        },
+        _ => return Verdict::AuthError(xid, AuthStat::RejectedCredential),
+    };
+    Verdict::Call(head_with(bytes, cred), auth_end(bytes, verifier))
 }
 
 /// Writes the head of a call at the end of a buffer: 40 bytes with AUTH_NONE; 60 with AUTH_SYS, whose stamp is 0, its
 /// name empty, its gid 0 and its gids none. The verifier is AUTH_NONE, empty. `Full`, with the buffer as it was,
-/// where the head does not fit.
+/// where the head does not fit. It costs 1 step and one for each byte, and 1 step where it is refused.
 #[tactic(auto, unfolding(crate::specs::CallBytes::call_bytes, rb_xdr::specs::Xdr::number, rb_xdr::specs::Xdr::opaque))]
 pub fn put_call(head: &CallHead, out: &mut Kept, meter: &mut Meter) -> Result<(), Full>
     requires { meter.old.tie ≡ out.old.tie }

@@ -1,3 +1,4 @@
+//! What holds of every message, and of records in a stream.
 ghost use Rattle.rb_rpc.specs.RecordLaws.{FirstRecordIsLeast, NoneWhereNoFrontIsOne, RecordsStay, RecordsEndLater, RecordsAreFirstOnes, RecordsEnd, RecordsAreUnique, DataIsJoined, NoRecordBeginsAnother, RepliesAreMarked};
 ghost use Rattle.rb_rpc.specs.Streams.{NoRecordEnded};
 ghost use Rattle.rb_rpc.specs.Grammar.{VerdictIsOfTheGrammar, MismatchesAreOfTheGrammar, AuthErrorsAreOfTheGrammar, TheRestIsNoCall, RepliesAreOfTheGrammar, WrittenRepliesAreRead, WrittenCallsAreRead};

@@ -32,7 +32,7 @@ pub const FRAGMENT_HEADER: usize = 4;
 
 const START: Place = Place::Header { seen: 0, number: 0 };
 
-/// Reads marked records byte by byte. It keeps the place in the record, and no bytes.
+/// Reads marked records byte by byte (RFC 5531 section 11). It keeps the place in the record, and no bytes.
 #[derive(Clone, Copy, PartialEq, Eq, Debug)]
 pub struct Marks {
     place: Place,
@@ -151,7 +151,8 @@ pub fn one_fragment(bytes: &[u8]) -> Option<&[u8]>
     Some(&bytes[FRAGMENT_HEADER..end])
 }
 
-/// The header of a fragment of so many bytes of data (1 to 1,024), the last of its record or not.
+/// The header of a fragment of `len` bytes of data, which are 1 to 1,024, and whether it is the last of its record (RFC
+/// 5531 section 11).
 #[tactic(auto, unfolding(crate::specs::Records::fragment_header, rb_xdr::specs::Xdr::number))]
 pub fn fragment_header(len: usize, last: bool) -> [u8; 4]
     requires some { 1 ≤ len }

@@ -4,7 +4,9 @@ use std::fmt;
 /// An IPv4 host and a port.
 #[derive(Clone, Copy, PartialEq, Eq, Debug)]
 pub struct Peer {
+    /// The host, its most significant byte first.
     pub host: [u8; 4],
+    /// The port of TCP or UDP.
     pub port: u16,
 }
 
@@ -28,7 +30,9 @@ impl fmt::Display for Peer {
 /// Where a call came from: a connection, by its number, or a datagram.
 #[derive(Clone, Copy, PartialEq, Eq, Debug)]
 pub enum Caller {
+    /// A connection, by its number, and the peer at its other end.
     Tcp(u64, Peer),
+    /// A datagram, by its sender.
     Udp(Peer),
 }
 

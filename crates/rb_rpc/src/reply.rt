@@ -18,21 +18,28 @@ use thiserror::Error;
 pub enum ReplyStatus {
     /// The results follow.
     Success,
+    /// PROG_UNAVAIL: there is no such program.
     ProgUnavail,
-    /// The least and the greatest version of the program.
+    /// PROG_MISMATCH: the least and the greatest version of the program.
     ProgMismatch(u32, u32),
+    /// PROC_UNAVAIL: the version has no such procedure.
     ProcUnavail,
+    /// GARBAGE_ARGS: the arguments cannot be read.
     GarbageArgs,
+    /// SYSTEM_ERR: something failed, as an allocation.
     SystemErr,
-    /// The least and the greatest version of RPC.
+    /// RPC_MISMATCH: the least and the greatest version of RPC.
     RpcMismatch(u32, u32),
+    /// AUTH_ERROR: why the credential or the verifier is refused.
     AuthError(AuthStat),
 }
 
 /// The head of a reply. Its verifier isn't kept.
 #[derive(Clone, Copy, PartialEq, Eq, Debug)]
 pub struct ReplyHead {
+    /// The number of the call that it answers.
     pub xid: u32,
+    /// What became of the call.
     pub status: ReplyStatus,
 }
 
@@ -105,8 +112,8 @@ fn put_accepted(xid: u32, stat: u32, out: &mut Kept, meter: &mut Meter) -> Resul
     out.extend(&head, meter)
 }
 
-/// Writes the head of a reply at the end of a buffer; the verifier of an accepted one is AUTH_NONE, empty. `Full`,
-/// with the buffer as it was, where it does not fit.
+/// Writes the head of a reply at the end of a buffer (RFC 5531 section 9); the verifier of an accepted one is AUTH_NONE,
+/// empty. It costs 1 step and one for each byte. `Full`, with the buffer as it was, where it does not fit: 1 step.
 #[tactic(auto, unfolding(crate::specs::Replies::reply_head, rb_xdr::specs::Xdr::number, rb_xdr::specs::Xdr::opaque))]
 pub fn put_reply(head: &ReplyHead, out: &mut Kept, meter: &mut Meter) -> Result<(), Full>
     requires { meter.old.tie ≡ out.old.tie }
@@ -228,8 +235,9 @@ fn read_denied(bytes: &[u8]) -> Result<(ReplyHead, usize), BadReply>
     }
 }
 
-/// Reads the head of a reply from the front of the bytes, and says where its results begin, or
-/// where it ends. A verifier may have any flavor and at most 400 bytes.
+/// Reads the head of a reply from the front of the bytes (RFC 5531 section 9), and says where its results begin, or
+/// where it ends. A verifier may have any flavor and at most 400 bytes. `BadReply` where no front of the bytes is the
+/// head of a reply.
 #[tactic(auto, unfolding(crate::specs::ReadReplies::read_reply))]
 pub fn read_reply(bytes: &[u8]) -> Result<(ReplyHead, usize), BadReply>
     ensures read { result_ok result ≡ read_reply bytes.now }

@@ -8,8 +8,11 @@ use rb_registry::Transport;
 /// rpcb_stat_byvers).
 #[derive(Clone, Copy, PartialEq, Eq, Debug)]
 pub enum Version {
+    /// Version 2, of the portmapper.
     Two,
+    /// Version 3 of rpcbind.
     Three,
+    /// Version 4 of rpcbind.
     Four,
 }
 
@@ -31,8 +34,11 @@ pub(crate) enum Info {
 /// A version of a program on a transport.
 #[derive(Clone, Copy, PartialEq, Eq, Debug)]
 pub struct Target {
+    /// The program's number.
     pub prog: u32,
+    /// The program's version.
     pub vers: u32,
+    /// How it is reached.
     pub transport: Transport,
 }
 

@@ -61,7 +61,7 @@ impl Stats {
     ghost use Rattle.rb_stats.specs.Stats.{StandsForHistory, key_count, most_keys};
     ghost use Rattle.rb_stats.specs.Counting.{HasNoted, SpellsHistory, spelling, put_cost, calls_at};
 
-    /// Nothing was called. NoMemory where the memory for the keys is refused.
+    /// Nothing was called. `NoMemory` where the memory for the 192 keys is refused. It costs nothing.
     pub fn new(alloc: Global, meter: &mut Meter) -> Result<Stats, NoMemory>
         ensures made { IfOk result (λ made. StandsForHistory made []) }
         ensures tie { IfOk result (λ made. made.tie ≡ meter.old.tie) }
@@ -77,7 +77,7 @@ impl Stats {
 
     /// Notes a call of a procedure of the version, whatever its arguments.
     ///
-    /// A procedure above 12 is in no count; a count of 2^31 - 1 stays.
+    /// A procedure above 12 is in no count; a count of 2^31 - 1 stays. It costs nothing.
     pub fn note_call(&mut self, version: Version, proc: u32)
         ensures history { HasNoted (Called version proc) self.old self.new }
         ensures full { calls_at version proc self.old ≡ greatest_int → self.new ≡ self.old }
@@ -91,7 +91,7 @@ impl Stats {
         }
     }
 
-    /// Notes a SET of the version that answered TRUE.
+    /// Notes a SET of the version that answered TRUE; a count of 2^31 - 1 stays. It costs nothing.
     pub fn note_set(&mut self, version: Version)
         ensures history { HasNoted (WasSet version) self.old self.new }
         ensures memory { self.new.memory ≡ self.old.memory }
@@ -104,7 +104,7 @@ impl Stats {
         }
     }
 
-    /// Notes an UNSET of the version that answered TRUE.
+    /// Notes an UNSET of the version that answered TRUE; a count of 2^31 - 1 stays. It costs nothing.
     pub fn note_unset(&mut self, version: Version)
         ensures history { HasNoted (WasUnset version) self.old self.new }
         ensures memory { self.new.memory ≡ self.old.memory }
@@ -168,8 +168,7 @@ impl Stats {
     /// Puts the statistics of versions 2, 3 and 4 behind what the buffer has (RFC 1833 section
     /// 2.2.2, RPCBPROC_GETSTAT).
     ///
-    /// They are refused where the buffer would then have more than `limit` bytes, and nothing is
-    /// put. It costs at most 6 steps for each key, the number of bytes put, and 4.
+    /// `Full`, with the buffer as it was, where it would then have more than `limit` bytes. It costs at most 6 steps for each key, the number of bytes put, and 4.
     pub fn put(&self, limit: usize, out: &mut Kept, meter: &mut Meter) -> Result<(), Full>
         requires tie { meter.old.tie ≡ self.now.tie }
         requires out { meter.old.tie ≡ out.old.tie }
@@ -222,7 +221,7 @@ impl Stats {
         write_stat(&self.four, &lists.four, out, meter);
     }
 
-    /// The bytes that are held: 48 for each key, at most 9,216.
+    /// How many bytes are held: 48 for each key, at most 9,216.
     pub fn held(&self) -> u64
         ensures held { result ≡ 48 * key_count self.now }
         ensures within { result ≤ 48 * 192 }

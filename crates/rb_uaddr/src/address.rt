@@ -1,3 +1,4 @@
+//! Universal addresses of TCP and UDP (RFC 5665 section 5.2.3).
 ghost use Rattle.std.specs.Prelude.{◌≡◌, ◌+◌, ◌*◌, slice_index};
 ghost use Rattle.rb_uaddr.specs.Uaddr.{any_host, port_bytes, port_of, merged, merged_host};
 

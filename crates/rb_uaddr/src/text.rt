@@ -1,3 +1,4 @@
+//! Texts that are kept as they were given, beside the address that they spell.
 ghost use Rattle.std.specs.Prelude.{◌≡◌, ◌≤◌, length};
 ghost use Rattle.rb_uaddr.specs.Uaddr.{parse, parse_ipv4, parse_ipv6, is_local_text, ipv4_alone, ipv6_alone};
 

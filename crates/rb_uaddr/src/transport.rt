@@ -1,3 +1,4 @@
+//! The transport form of an address, as a netbuf has it (RFC 1833 section 2.1).
 ghost use Rattle.std.specs.Prelude.{◌≡◌, ◌≤◌, length, Some};
 ghost use Rattle.std.specs.Result.{result_ok};
 ghost use Rattle.rb_uaddr.specs.Uaddr.{transport_of, from_transport};
