@@ -1,9 +1,7 @@
 -- The first of a list of asks, and the others.
-use Rattle.std.proofs.Common.{◌≡◌, ◌≤◌, ◌<◌, ◌++◌, ℕ, true, false, List, [], ◌∷◌, length, slice_index_or, drop, take, slice_set, arith, sym, refl, ap, ◌∙◌, eq-eqb}
-use Rattle.std.specs.Cmp.Derive.{both_true}
-use Rattle.std.proofs.lemmas.Slice.Eq.{bytes_eq-Decides}
+use Rattle.std.proofs.Common.{◌≡◌, ◌≤◌, ◌<◌, ◌++◌, ◌-◌, ℕ, true, false, List, [], ◌∷◌, length, slice_index_or, drop, take, slice_set, arith, sym, refl, ap, ◌∙◌}
 use Rattle.std.proofs.lemmas.Bool.{cond-true, cond-false}
-use Rattle.std.proofs.lemmas.List.{drop_all, take_all, append-nil}
+use Rattle.std.proofs.lemmas.List.{drop_all, take_all, append-nil, length-drop}
 use Rattle.rb_rpc.specs.declared.peer.Peer.{Peer}
 use Rattle.rb_policy.specs.declared.asked.Ask.{Ask}
 use Rattle.rb_policy.specs.Asked.{socket_in, is_same_peer}
@@ -16,12 +14,24 @@ pub older_is : (asks : List Ask) (peer : Peer) (other : Ask) → 1 ≤ length as
 older_is [] peer other some other_is = absurd (omega (arith, some))
 older_is (ask ∷ older) peer other some other_is = sym (cond-false _ _ _ other_is)
 
-same_self : (peer : Peer) → is_same_peer peer peer ≡ true
-same_self peer = both_true ((bytes_eq-Decides peer.host peer.host).1 refl) (eq-eqb peer.port peer.port refl)
+one_in_front : (front older : List Ask) (ask : Ask) → length front ≡ 1 → slice_set (front ++ older) 0 ask ≡ ask ∷ older
+one_in_front [] older ask one = absurd (omega (arith, one))
+one_in_front (last ∷ []) older ask one = refl
+one_in_front (last ∷ more ∷ others) older ask one = absurd (omega (arith, one))
 
-pub put_first : (asks : List Ask) (ask : Ask) → 0 < length asks → socket_in (slice_set asks 0 ask) ask.peer ≡ ask.socket
-put_first [] ask some = absurd (omega (arith, some))
-put_first (first ∷ older) ask some = cond-true (is_same_peer ask.peer ask.peer) _ _ (same_self ask.peer)
+-- the last of them goes to the front, and is replaced there
+pub put_first : (old turned : List Ask) (ask : Ask) → 0 < length old → turned ≡ drop (length old - 1) old ++ take (length old - 1) old → slice_set turned 0 ask ≡ ask ∷ take (length old - 1) old
+put_first old turned ask some is =
+    ap (λ (asks : List Ask). slice_set asks 0 ask) is
+    ∙ one_in_front (drop (length old - 1) old) (take (length old - 1) old) ask (omega (arith, some, length-drop (length old - 1) old))
+
+-- of 64 the first 63 stay
+pub oldest_forgotten : (shown items now new : List Ask) (ask : Ask) → new ≡ ask ∷ take (length shown - 1) shown → shown ≡ items → items ≡ now → length items ≡ 64 → new ≡ ask ∷ take 63 now
+oldest_forgotten shown items now new ask is same view all =
+    let count : length shown - 1 ≡ 63 = omega (arith, ap (λ (xs : List Ask). length xs) same, all) in
+    is
+    ∙ ap (λ (n : ℕ). ask ∷ take n shown) count
+    ∙ ap (λ (xs : List Ask). ask ∷ take 63 xs) (same ∙ view)
 
 pub whole : (n : ℕ) (new old : List Ask) → length new ≡ n → length old ≡ n → take n (new ++ drop (length new) old) ≡ new
 whole n new old new_is old_is =

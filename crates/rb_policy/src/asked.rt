@@ -1,5 +1,5 @@
 //! On which socket a caller over UDP asked.
-ghost use Rattle.std.specs.Prelude.{◌≡◌, ◌<◌, length};
+ghost use Rattle.std.specs.Prelude.{◌≡◌, ◌<◌, ◌-◌, ◌∷◌, length, take};
 ghost use Rattle.rb_policy.specs.Asked.{socket_in};
 
 use rb_rpc::Peer;
@@ -34,30 +34,29 @@ impl Model for Asked {
 }
 
 impl Asked {
-    ghost use Rattle.std.specs.Prelude.{◌≡◌, ◌∷◌, IfOk, take, length};
+    ghost use Rattle.std.specs.Prelude.{◌≡◌, ◌∷◌, IfOk, take, replicate};
+    ghost use Rattle.rb_policy.specs.Asked.{nobodys};
 
-    /// None was forwarded yet: what stands there is nobody's.
+    /// None was forwarded yet: each entry is nobody's, at 0.0.0.0 and port 0. An error where the allocation is refused.
     pub fn new(alloc: Global) -> Result<Asked, AllocError>
-        ensures { IfOk result (λ asked. length asked ≡ 64) }
+        ensures { IfOk result (λ asked. asked ≡ replicate 64 nobodys) }
     {
-        let mut entries = Vec::with_capacity(alloc, ENTRIES)?;
         let nobody = Peer {
-            host: [0; 4],
+            host: [0, 0, 0, 0],
             port: 0,
         };
-        entries.resize(
-            ENTRIES,
-            Ask {
-                peer: nobody,
-                socket: 0,
-            },
-        )?;
+        let nobodys = Ask {
+            peer: nobody,
+            socket: 0,
+        };
+        let mut entries = Vec::with_capacity(alloc, ENTRIES)?;
+        entries.resize(ENTRIES, nobodys)?;
         Ok(Asked { entries })
     }
 
-    /// A call of this caller is forwarded. The oldest is forgotten.
+    /// A call of this caller is forwarded. The oldest of the 64 is forgotten.
     pub fn note(&mut self, ask: Ask)
-        ensures { socket_in self.new ask.peer ≡ ask.socket }
+        ensures { self.new ≡ ask ∷ take 63 self.old }
     {
         put_first(self.entries.as_mut_slice(), ask);
     }
@@ -73,7 +72,7 @@ impl Asked {
 /// Puts one in front, in place of the last.
 fn put_first(asks: &mut [Ask], ask: Ask)
     requires { 0 < length asks.old }
-    ensures { socket_in asks.new ask.peer ≡ ask.socket }
+    ensures { asks.new ≡ ask ∷ take (length asks.old - 1) asks.old }
 {
     asks.rotate_right(1);
     asks[0] = ask;

@@ -1,5 +1,5 @@
 //! Who gets a place for a connection, and who is given up for it where all are taken.
-ghost use Rattle.std.specs.Prelude.{◌≡◌, ◌<◌, length, position, MatchOption};
+ghost use Rattle.std.specs.Prelude.{◌≡◌, ◌<◌, length, position, IfNone, IfSome};
 ghost use Rattle.rb_policy.specs.Door.{is_free, held_by, is_held_by, share, may_hold_more, is_within_share, IsGivenUp, IsAdmitted, origin_of, phase_of, is_stuck, ends_record};
 ghost use Rattle.rb_policy.specs.Standings.{candidate, sooner, NobodyMayBeGivenUp};
 
@@ -147,9 +147,8 @@ fn is_free(place: &Option<Holder>) -> bool
 
 /// The place of the connection that is given up for a newcomer, if one may be.
 fn given_up(places: &[Option<Holder>], newcomer: &Origin, now: u64) -> Option<usize>
-    ensures { MatchOption result
-        (NobodyMayBeGivenUp places.now newcomer.now)
-        (λ place. IsGivenUp places.now newcomer.now now place) }
+    ensures none { IfNone result (NobodyMayBeGivenUp places.now newcomer.now) }
+    ensures some { IfSome result (λ place. IsGivenUp places.now newcomer.now now place) }
 {
     let may_be_any = may_hold_more(places, newcomer);
     let mut first = None;

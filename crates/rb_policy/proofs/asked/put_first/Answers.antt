@@ -1,6 +1,5 @@
-use Rattle.std.proofs.Common.{arith}
 use Rattle.rb_policy.proofs.Asks.{put_first}
 use Rattle.rb_policy.proofs.asked.put_first.Goals as goal
 
 pub returns : goal.returns
-returns c = put_first c.rotate_right.new.self c.args.ask (omega (arith, c.rotate_right.ensures.len, c.requires))
+returns c = put_first c.args.asks.now c.rotate_right.new.self c.args.ask c.requires c.rotate_right.ensures.after

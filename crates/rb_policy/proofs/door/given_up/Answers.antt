@@ -12,12 +12,12 @@ loop-place-preserved c =
           (step f c.loop-place.place c.loop-place.first c.loop-place.invariant.1),
     )
 
-pub returns-in-Some : goal.returns-in-Some
-returns-in-Some c =
+pub returns-in-Some-clause-some : goal.returns-in-Some-clause-some
+returns-in-Some-clause-some c =
     somebody c.args.places.now c.args.newcomer.now c.args.now c.in-Some.standing
     (at_end _ _ _ _ _ c.loop-place-test.false c.loop-place.auto.place-end c.in-Some.is c.loop-place.invariant.1)
 
-pub returns-in-None : goal.returns-in-None
-returns-in-None c =
+pub returns-in-None-clause-none : goal.returns-in-None-clause-none
+returns-in-None-clause-none c =
     nobody c.args.places.now c.args.newcomer.now c.args.now
     (at_end _ _ _ _ _ c.loop-place-test.false c.loop-place.auto.place-end c.in-None.is c.loop-place.invariant.1)
