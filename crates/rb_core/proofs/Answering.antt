@@ -22,7 +22,7 @@ use Rattle.rb_model.specs.Losses.{asks_room}
 use Rattle.rb_core.specs.Serving.{CanServe, ServesInRoom}
 use Rattle.rb_proto.specs.Ledger.{Ledger}
 use Rattle.rb_core.proofs.Crowding.{lists_on, stands_on, stamps_low}
-use Rattle.rb_model.proofs.Crowding.{none_evicted, not_asked}
+use Rattle.rb_laws.proofs.Crowding.{none_evicted, not_asked}
 use Rattle.rb_core.proofs.Steps.{Served, same_source}
 
 -- what a call sees, of what is held by its other name

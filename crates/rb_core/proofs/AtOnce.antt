@@ -36,7 +36,7 @@ use Rattle.rb_core.specs.Core.{context_of, answering_heard}
 use Rattle.rb_model.specs.Step.{settled_in, serve_message, bytes, pending, pending_at, pending_on, gave, with_count}
 use Rattle.rb_core.specs.AtOnce.{pending_bytes, at_once_in, at_once_on, at_once, owes, count_at_once, given_when_answered, front, without_front, then_giving, exchanging, answered_giving, IsGivenAtOnce}
 use Rattle.rb_connections.specs.Giving.{whole_length, whole_cost}
-use Rattle.rb_model.proofs.Cuts.{IsFeeding, find-changed, changed-twice}
+use Rattle.rb_laws.proofs.Cuts.{IsFeeding, find-changed, changed-twice}
 use Rattle.rb_model.proofs.Fragments.{length-short, length-long, some-marked}
 use Rattle.rb_core.proofs.Steps.{Served, serve_gives, serve_stands, serve_connections, crowd_in, change_alike, change_nothing, RecordEnded, ended_by, taken_of}
 

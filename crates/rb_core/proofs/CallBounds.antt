@@ -28,9 +28,9 @@ use Rattle.rb_model.specs.Bounds.{steps_bound}
 use Rattle.rb_registry.specs.Registry.{slots_of}
 use Rattle.rb_rpc.specs.Records.{first_record}
 use Rattle.rb_core.specs.Events.{StaysCheapIfQuiet, StaysWithinSteps, taken_by}
-use Rattle.rb_model.proofs.EntriesKept.{step-follows}
-use Rattle.rb_model.proofs.Room.{reached-room}
-use Rattle.rb_model.proofs.StepBounds.{taken-counts}
+use Rattle.rb_laws.proofs.EntriesKept.{step-follows}
+use Rattle.rb_laws.proofs.Room.{reached-room}
+use Rattle.rb_laws.proofs.StepBounds.{taken-counts}
 use Rattle.rb_core.proofs.RunSteps.{datagram_shown, same_state}
 use Rattle.rb_core.proofs.Spending.{at_most, connections_held, rows_held}
 

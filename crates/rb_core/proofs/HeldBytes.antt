@@ -36,9 +36,9 @@ use Rattle.rb_model.specs.State.{Phase, Connection}
 use Rattle.rb_model.specs.State.Phase.{Idle, Reading, Owing, Awaiting, Lost}
 use Rattle.rb_model.specs.Bounds.{greatest_call}
 use Rattle.rb_core.specs.HeldBytes.{takes_bytes, HoldsArguments, unheld_share, HeldBytesAreBounded, NeverPasses}
-use Rattle.rb_model.proofs.EntriesKept.{HasShortArgs, reached-kept}
-use Rattle.rb_model.proofs.Ledgers.{IsShortChange, reached-short}
-use Rattle.rb_model.proofs.Room.{reached-room}
+use Rattle.rb_laws.proofs.EntriesKept.{HasShortArgs, reached-kept}
+use Rattle.rb_laws.proofs.Ledgers.{IsShortChange, reached-short}
+use Rattle.rb_laws.proofs.Room.{reached-room}
 use Rattle.rb_uaddr.specs.declared.address.Uaddr.TheVariants.{V4}
 use Rattle.rb_uaddr.specs.Uaddr.{any_host, text_of}
 use Rattle.rb_uaddr.proofs.ShortTexts.{own_short}

@@ -18,7 +18,7 @@ use Rattle.rb_proto.specs.Types.{read_mapping, read_rpcb, read_netbuf}
 use Rattle.rb_proto.specs.Arguments.{procedure_at, is_known, value_of, front, arguments, request, or_garbage, read_request, HasArgs}
 use Rattle.rb_proto.specs.declared.answers.Answer.{Answer}
 use Rattle.rb_proto.proofs.Remotes.{answer_of_front}
-use Rattle.rb_model.proofs.AskedArgs.{message_has}
+use Rattle.rb_laws.proofs.AskedArgs.{message_has}
 use Rattle.rb_proto.specs.declared.context.Context.{Context}
 use Rattle.rb_proto.specs.Ledger.{Ledger, called}
 use Rattle.rb_model.specs.declared.message.Message.{Message}

@@ -8,7 +8,7 @@ use Rattle.rb_xdr.specs.Meter.{Meter, PaysAtMost}
 use Rattle.rb_model.specs.Costs.{event_cost, run_cost}
 use Rattle.rb_model.specs.State.{State}
 use Rattle.rb_model.specs.Step.{Event, Output, step, run, after}
-use Rattle.rb_model.proofs.RunLaws.{run-append, after-append}
+use Rattle.rb_laws.proofs.RunLaws.{run-append, after-append}
 use Rattle.rb_core.specs.StandsFor.{Held, StandsFor}
 use Rattle.rb_model.specs.Plain.{event_of, output_of, events_of, outputs_of}
 use Rattle.rb_core.specs.Runs.{answered_events, Happened}

@@ -38,7 +38,7 @@ use Rattle.rb_core.specs.Eviction.{source_in}
 use Rattle.rb_core.specs.Serving.{ServesInRoom}
 use Rattle.rb_model.specs.Losses.{began_in, crowding, evicted, evicting, with_room}
 use Rattle.rb_registry.specs.Registry.{Registry}
-use Rattle.rb_model.proofs.Crowds.{begins_changed, evicted_changed, crowding_alike}
+use Rattle.rb_laws.proofs.Crowds.{begins_changed, evicted_changed, crowding_alike}
 use Rattle.rb_model.specs.declared.types.Told.{Told}
 use Rattle.rb_model.specs.declared.types.Told.TheVariants.{TcpReady}
 use Rattle.rb_model.specs.declared.types.Expired.TheVariants as Expires

@@ -19,7 +19,7 @@ use Rattle.rb_core.specs.Events.{shown, greatest_count}
 use Rattle.rb_model.specs.WholeRuns.{args_in, args_waiting, whole_bound}
 use Rattle.rb_core.specs.Runs.{buffer_bytes}
 use Rattle.rb_core.proofs.Spending.{at_most}
-use Rattle.rb_model.proofs.WholeRuns.{whole_runs_are_bounded}
+use Rattle.rb_laws.proofs.WholeRuns.{whole_runs_are_bounded}
 
 -- ---- what waits is in the buffers
 

@@ -16,7 +16,7 @@ use Rattle.rb_model.specs.Ending.{forward_reply, expire}
 use Rattle.rb_model.specs.Step.{Event, Output, step, after, open_connection, pending, gave, close_connection, next_lost, datagram, unsent_call, sent_call, output_or, show_done, show_outcome, show_told, show_end, show_expired, is_too_much}
 use Rattle.rb_model.specs.Step.Event.{Open, Pending, Gave, Closed, NextLost, Datagram, Unsent, Sent, Forward, Expire}
 use Rattle.rb_model.specs.Step.Output.{Opened, TooMuch, IsPending, Done, LostIs, Replied, Forwarded as OutForwarded, Silent, UnsentIs, Ignored, Nothing, ConnectionClosed}
-use Rattle.rb_model.proofs.RunLaws.{after-append}
+use Rattle.rb_laws.proofs.RunLaws.{after-append}
 use Rattle.rb_record.specs.Entries.{entry_text, run_text, options_text}
 use Rattle.rb_record.specs.Tapes.{Tape, Records}
 use Rattle.rb_record.proofs.RunTexts.{run_text-append, records_more, one_recorded}

@@ -8,7 +8,7 @@ use Rattle.rb_model.specs.Step.Output.{Silent, Replied}
 use Rattle.rb_connections.specs.Settling.{outcome_with}
 use Rattle.rb_model.specs.Costs.{datagram_cost}
 use Rattle.rb_core.specs.CallCosts.{sizes_of}
-use Rattle.rb_model.proofs.EntriesKept.{step-follows}
+use Rattle.rb_laws.proofs.EntriesKept.{step-follows}
 use Rattle.rb_core.proofs.RunSteps.{datagram_shown, shown_of, one_then_other}
 use Rattle.rb_core.proofs.Spending.{datagram_paid, sizes_held}
 use Rattle.rb_core.proofs.Begun.{stands_begun, same_tie}

@@ -1,0 +1,563 @@
+-- While a connection is Awaiting, one entry is of it, and no other connection has one.
+use Rattle.std.proofs.Common.{◌≡◌, ◌⊎◌, inl, inr, ◌≤◌, ℕ, ◌+◌, max, min, Bool, true, false, cond, eqb, nat_lt, Option, Some, None, Result, Ok, Err, List, [], ◌∷◌, ◌++◌, length, take, refl, sym, ap, subst, ◌∙◌, arith}
+use Rattle.std.specs.Prelude.{find, map, option_map, ◌&&◌}
+use Rattle.std.specs.List.{list_any, sum_by}
+use Rattle.std.proofs.lemmas.List.Sums.{sum_by-cons, sum_by_push}
+use Rattle.std.proofs.lemmas.Bool.{eqb-true, eq-eqb}
+use Rattle.rb_rpc.specs.declared.peer.Peer.{Peer}
+use Rattle.rb_rpc.specs.declared.peer.Caller.{Caller}
+use Rattle.rb_rpc.specs.declared.peer.Caller.TheVariants.{Tcp, Udp}
+use Rattle.rb_proto.specs.declared.listener.Listener.{Listener}
+use Rattle.rb_forward.specs.declared.types.Forward.{Forward as Asked}
+use Rattle.rb_forward.specs.declared.types.Outcome as target
+use Rattle.rb_forward.specs.declared.types.Ended.{Ended as EntryEnd}
+use Rattle.rb_forward.specs.Forwards.{Entry, Forwards, is_connection, is_of_connection, is_unsent, as_sent, change_first as change_entry, sent, can_be_sent, next_entry, started, without_first, ended_by, with_end, counts_for, is_due, outcome_of, reply, drop_caller}
+use Rattle.rb_forward.specs.declared.types.Outcome.TheVariants.{Failed}
+use Rattle.rb_forward.proofs.Tables.{all_stay, sum-without}
+use Rattle.rb_proto.specs.declared.context.Context.{Context}
+use Rattle.rb_proto.specs.Ledger.{Ledger}
+use Rattle.rb_proto.specs.Forwarding.{replied, caller_dropped, call_sent}
+use Rattle.rb_model.specs.declared.types.CoreFault.{CoreFault}
+use Rattle.rb_model.specs.declared.types.CoreFault.TheVariants.{Gone}
+use Rattle.rb_model.specs.declared.types.Limits.{Limits}
+use Rattle.rb_model.specs.declared.types.Told.{Told}
+use Rattle.rb_model.specs.Calls.{Outcome, is_no_call}
+use Rattle.rb_model.specs.Calls.Outcome.{NoCall, Reply, Forwarded, Silent}
+use Rattle.rb_model.specs.State.{State, Phase, Connection, Connections, at_moment, opening}
+use Rattle.rb_model.specs.State.Phase.{Idle, Reading, Owing, Awaiting, Lost}
+use Rattle.rb_model.specs.Laws.{is_awaiting}
+use Rattle.rb_model.specs.Connections.{is_live, live_connection, fed_in, pending_in, phase_when_given, when_given, giving, reading, settled, change_first, changed_at, on_found, is_there, without_number, closing_of, opening_as, opening_of, number_for, on_connection}
+use Rattle.rb_model.specs.Ending.{told_at, tell, tell_end, at_fresh_moment, forward_reply, expire}
+use Rattle.rb_model.specs.Step.{Event, Output, context_in, serve, bytes, moved, gave, is_too_much, pending, pending_on, open_connection, dropped_with, close_connection, sent_call, with_reply, datagram, output_or, show_taken, show_done, show_outcome, show_end, show_expired, step, after, IsReached}
+use Rattle.rb_model.specs.declared.types.Taken.{Taken}
+use Rattle.rb_model.specs.Step.Event.{Open, Bytes, Pending, Gave, Closed, NextLost, Datagram, Unsent, Sent, Forward, Expire}
+use Rattle.rb_model.specs.Step.Output.{Opened, TooMuch, IsPending}
+use Rattle.rb_rpc.specs.Records.{data_of}
+use Rattle.rb_model.specs.Sessions.{IsFinal}
+use Rattle.rb_model.specs.ForwardLaws.{count_awaiting, ConnectionsAwait}
+use Rattle.rb_model.specs.declared.types.Expired.{Expired}
+use Rattle.rb_model.specs.Losses.{is_due as due_connection, lost, began_in, began_before, evicted, evicting}
+use Rattle.rb_model.proofs.Expiring.{due-one, due-awaits-none}
+use Rattle.rb_laws.proofs.FewDue.{live-found}
+use Rattle.rb_laws.proofs.DueThings.{end_of, Expiry, expiry}
+use Rattle.rb_laws.proofs.DueThings.Expiry.{EntryEnds, ConnectionEnds, NothingDue}
+use Rattle.rb_laws.proofs.Closings.{sound-apart}
+use Rattle.rb_laws.proofs.Crowds.{none_before, plain_lives, stays_dead}
+use Rattle.rb_laws.proofs.Cuts.{IsFeeding, number-is, find-changed, find-holds, reading-feeds}
+use Rattle.rb_laws.proofs.Entering.{is_forwarded, Entering, serve-enters}
+use Rattle.rb_laws.proofs.Entering.Entering.{Same, Begins}
+use Rattle.rb_laws.proofs.Happenings.{Arriving, arriving, said_in, answered_in, crowd_at, told-final, has_entry}
+use Rattle.rb_laws.proofs.Happenings.Arriving.{NotThere, NotTaken, ReadOn, Ended}
+use Rattle.rb_laws.proofs.Live.{without, changed-other, closed-other, find-before, none-above, closed-gone, lost-gone, timed-out-gone, answering-feeds, giving-feeds}
+use Rattle.rb_laws.proofs.Reached.{AreSound, SoundIn, IsSound, mapped, settled-keeps, giving-keeps, evicted-keeps, step-sound}
+
+-- ---- counts
+
+abbrev one_at : ℕ → Entry → ℕ
+one_at id e = cond (is_of_connection id e) 1 0
+
+abbrev pub present : ℕ → Forwards → ℕ
+present id f = sum_by (one_at id) f.all
+
+abbrev pub awaits : ℕ → List Connection → ℕ
+awaits id all = count_awaiting (live_connection id all)
+
+abbrev pub AwaitIn : Forwards → Connections → Type 0
+AwaitIn f c = (id : ℕ) → present id f ≡ awaits id c.all
+
+abbrev pub Await : State → Type 0
+Await s = AwaitIn s.ledger.forwards s.connections
+
+abbrev if_one : Bool → ℕ
+if_one b = cond b 1 0
+
+-- an entry that begins
+pushed : (id clock : ℕ) (forward : Asked) (args : List ℕ) (f : Forwards) → present id (started clock forward args f) ≡ present id f + if_one (is_connection id forward.caller)
+unfolding started next_entry
+pushed id clock forward args f = sum_by_push (one_at id) f.all (next_entry clock forward args f)
+
+-- an entry that is sent
+kept : (id number : ℕ) (all : List Entry) → sum_by (one_at id) (change_entry (is_unsent number) as_sent all) ≡ sum_by (one_at id) all
+kept id number [] = refl
+kept id number (e ∷ all) = by_cases (is_unsent number e) refl (kept id number all)
+  where
+    by_cases : (t : Bool) → is_unsent number e ≡ t → sum_by (one_at id) (change_entry (is_unsent number) as_sent all) ≡ sum_by (one_at id) all
+        → sum_by (one_at id) (change_entry (is_unsent number) as_sent (e ∷ all)) ≡ sum_by (one_at id) (e ∷ all)
+    by_cases true t further = rw t (sum_by-cons (one_at id) (as_sent e) all ∙ sym (sum_by-cons (one_at id) e all))
+    by_cases false t further =
+        rw t (sum_by-cons (one_at id) e (change_entry (is_unsent number) as_sent all) ∙ ap (λ n. one_at id e + n) further ∙ sym (sum_by-cons (one_at id) e all))
+
+-- where none is of it
+none-present : (id : ℕ) (all : List Entry) → find (is_of_connection id) all ≡ None → sum_by (one_at id) all ≡ 0
+none-present id [] h = refl
+none-present id (e ∷ all) h = by_cases (is_of_connection id e) refl (none-present id all)
+  where
+    by_cases : (t : Bool) → is_of_connection id e ≡ t → (find (is_of_connection id) all ≡ None → sum_by (one_at id) all ≡ 0) → sum_by (one_at id) (e ∷ all) ≡ 0
+    by_cases true t further = let clash : Some e ≡ None = rw t at h in absurd cc
+    by_cases false t further =
+        let rest = further (rw t at h) in
+        let more = sum_by-cons (one_at id) e all in
+        let none : one_at id e ≡ 0 = ap if_one t in
+        omega (arith, rest, more, none)
+
+-- where one is there, it counts
+some-present : (id : ℕ) (all : List Entry) → list_any (is_of_connection id) all ≡ true → 1 ≤ sum_by (one_at id) all
+some-present id [] h = absurd cc
+some-present id (e ∷ all) h = by_cases (is_of_connection id e) refl (some-present id all)
+  where
+    by_cases : (t : Bool) → is_of_connection id e ≡ t → (list_any (is_of_connection id) all ≡ true → 1 ≤ sum_by (one_at id) all) → 1 ≤ sum_by (one_at id) (e ∷ all)
+    by_cases true t further =
+        let more = sum_by-cons (one_at id) e all in
+        let here : one_at id e ≡ 1 = ap if_one t in
+        omega (arith, more, here)
+    by_cases false t further =
+        let rest = further (rw t at h) in
+        let more = sum_by-cons (one_at id) e all in
+        omega (arith, rest, more)
+
+-- ---- one connection
+
+one-at-most : (o : Option Connection) → count_awaiting o ≤ 1
+one-at-most None = omega arith
+one-at-most (Some c) = elim (is_awaiting c.phase) as (λ b. cond b 1 0 ≤ 1) [ true ↦ omega arith | false ↦ omega arith ]
+
+pub fed-awaits : (p : Phase) (fed : List ℕ) → fed_in p ≡ Some fed → is_awaiting p ≡ false
+fed-awaits Idle fed is = refl
+fed-awaits (Reading xs) fed is = refl
+fed-awaits (Owing o) fed is = refl
+fed-awaits Awaiting fed is = absurd cc
+fed-awaits Lost fed is = refl
+
+fed-plain : (p : Phase) (fed : List ℕ) → fed_in p ≡ Some fed → began_in p ≡ None
+fed-plain Idle fed is = refl
+fed-plain (Reading xs) fed is = refl
+fed-plain (Owing o) fed is = absurd cc
+fed-plain Awaiting fed is = refl
+fed-plain Lost fed is = refl
+
+given-awaits : (n : ℕ) (p : Phase) → is_awaiting (phase_when_given n p) ≡ is_awaiting p
+given-awaits n Idle = refl
+given-awaits n (Reading fed) = refl
+given-awaits n Awaiting = refl
+given-awaits n Lost = refl
+given-awaits n (Owing o) = elim (nat_lt (o.given + n) (length o.marked)) as (λ b. is_awaiting (cond b (Owing (record o { given = o.given + n })) Idle) ≡ false) [ true ↦ refl | false ↦ refl ]
+
+pub giving-awaits : (clock n : ℕ) (c : Connection) → is_awaiting (giving clock n c).1.phase ≡ is_awaiting c.phase
+unfolding giving when_given
+giving-awaits clock n c =
+    let k : ℕ = min n (length (pending_in c.phase)) in
+    elim (eqb k 0) as (λ z. is_awaiting (cond z c (record c { phase = phase_when_given k c.phase; since = clock })).phase ≡ is_awaiting c.phase) [ true ↦ refl | false ↦ given-awaits k c.phase ]
+
+pub settled-awaiting : (clock : ℕ) (said : Outcome) (c : Connection) → is_awaiting (settled clock said c).phase ≡ is_forwarded said
+unfolding settled
+settled-awaiting clock NoCall c = refl
+settled-awaiting clock (Reply reply began) c = refl
+settled-awaiting clock Forwarded c = refl
+settled-awaiting clock Silent c = refl
+
+-- ---- all connections
+
+module _ (k : ℕ) (all : List Connection) (c : Connection) (there : live_connection k all ≡ Some c) where
+  found : find (is_live k) all ≡ Some c
+  unfolding live_connection
+  found = there
+
+  -- the connection of the number is changed, and goes on being live
+  changed-awaits : (f : Connection → Connection) → IsFeeding k f → ((d : Connection) → (f d).number ≡ d.number) → (id : ℕ) → awaits id (change_first (is_live k) f all) ≡ cond (eqb k id) (if_one (is_awaiting (f c).phase)) (awaits id all)
+  unfolding live_connection
+  changed-awaits f feeds keeps id = by_number (eqb k id) refl
+    where
+      by_number : (b : Bool) → eqb k id ≡ b → count_awaiting (find (is_live id) (change_first (is_live k) f all)) ≡ cond b (if_one (is_awaiting (f c).phase)) (count_awaiting (find (is_live id) all))
+      by_number false e = ap count_awaiting (changed-other id k f keeps e all)
+      by_number true e =
+          ap (λ (j : ℕ). count_awaiting (find (is_live j) (change_first (is_live k) f all))) (sym (eqb-true k id e)) ∙ ap count_awaiting (find-changed k f feeds all c found)
+
+  kept-awaits : (f : Connection → Connection) → IsFeeding k f → ((d : Connection) → (f d).number ≡ d.number) → is_awaiting (f c).phase ≡ is_awaiting c.phase → (id : ℕ) → awaits id (change_first (is_live k) f all) ≡ awaits id all
+  kept-awaits f feeds keeps same id = changed-awaits f feeds keeps id ∙ by_number (eqb k id) refl
+    where
+      by_number : (b : Bool) → eqb k id ≡ b → cond b (if_one (is_awaiting (f c).phase)) (awaits id all) ≡ awaits id all
+      by_number false e = refl
+      by_number true e =
+          ap if_one same ∙ sym (ap count_awaiting there) ∙ ap (λ (j : ℕ). awaits j all) (eqb-true k id e)
+
+  -- its record is answered, or its forwarded call ends
+  settled-awaits : (clock next : ℕ) (said : Outcome) → AreSound 0 next all → (id : ℕ) → awaits id (change_first (is_live k) (settled clock said) all) ≡ cond (eqb k id) (if_one (is_forwarded said)) (awaits id all)
+  unfolding live_connection
+  settled-awaits clock next said sound id = by_said said refl
+    where
+      lives : (o : Outcome) → is_no_call o ≡ false → awaits id (change_first (is_live k) (settled clock o) all) ≡ cond (eqb k id) (if_one (is_forwarded o)) (awaits id all)
+      lives o plain = changed-awaits (settled clock o) (answering-feeds k clock o plain) (settled-keeps clock o).number id ∙ ap (λ (b : Bool). cond (eqb k id) (if_one b) (awaits id all)) (settled-awaiting clock o c)
+
+      is-gone : (b : Bool) → eqb k id ≡ b → awaits id (change_first (is_live k) (settled clock NoCall) all) ≡ cond b 0 (awaits id all)
+      is-gone false e = ap count_awaiting (changed-other id k (settled clock NoCall) (settled-keeps clock NoCall).number e all)
+      is-gone true e =
+          ap (λ (j : ℕ). count_awaiting (find (is_live j) (change_first (is_live k) (settled clock NoCall) all))) (sym (eqb-true k id e)) ∙ ap count_awaiting (lost-gone k clock 0 next all sound)
+
+      by_said : (o : Outcome) → said ≡ o → awaits id (change_first (is_live k) (settled clock o) all) ≡ cond (eqb k id) (if_one (is_forwarded o)) (awaits id all)
+      by_said NoCall e = is-gone (eqb k id) refl
+      by_said (Reply reply began) e = lives (Reply reply began) refl
+      by_said Forwarded e = lives Forwarded refl
+      by_said Silent e = lives Silent refl
+
+none-kept : (k clock : ℕ) (said : Outcome) (all : List Connection) → live_connection k all ≡ None → (id : ℕ) → (eqb k id ≡ true) ⊎ (awaits id (change_first (is_live k) (settled clock said) all) ≡ awaits id all)
+unfolding live_connection
+none-kept k clock said all none id = by_number (eqb k id) refl
+  where
+    by_number : (b : Bool) → eqb k id ≡ b → (b ≡ true) ⊎ (count_awaiting (find (is_live id) (change_first (is_live k) (settled clock said) all)) ≡ count_awaiting (find (is_live id) all))
+    by_number true e = inl refl
+    by_number false e = inr (ap count_awaiting (changed-other id k (settled clock said) (settled-keeps clock said).number e all))
+
+opened-awaits : (id : ℕ) (all : List Connection) (new : Connection) → is_awaiting new.phase ≡ false → awaits id (all ++ new ∷ []) ≡ awaits id all
+unfolding live_connection
+opened-awaits id all new idle = by_value (find (is_live id) all) refl
+  where
+    by_value : (o : Option Connection) → find (is_live id) all ≡ o → count_awaiting (find (is_live id) (all ++ new ∷ [])) ≡ count_awaiting o
+    by_value (Some c) e = ap count_awaiting (find-before (is_live id) all c new e)
+    by_value None e = behind all e
+      where
+        last : (b : Bool) → count_awaiting (cond b (Some new) None) ≡ 0
+        last true = ap if_one idle
+        last false = refl
+
+        behind : (xs : List Connection) → find (is_live id) xs ≡ None → count_awaiting (find (is_live id) (xs ++ new ∷ [])) ≡ 0
+        behind [] h = last (is_live id new)
+        behind (x ∷ xs) h = by_test (is_live id x) h (behind xs)
+          where
+            by_test : (b : Bool) → cond b (Some x) (find (is_live id) xs) ≡ None → (find (is_live id) xs ≡ None → count_awaiting (find (is_live id) (xs ++ new ∷ [])) ≡ 0) → count_awaiting (cond b (Some x) (find (is_live id) (xs ++ new ∷ []))) ≡ 0
+            by_test true h later = absurd cc
+            by_test false h later = later h
+
+-- ---- room for a row
+
+-- a connection whose list is in the way awaits nothing
+list-awaits : (changes : List ℕ) (p : Phase) → began_before changes (began_in p) ≡ true → is_awaiting p ≡ false
+list-awaits changes Idle t = refl
+list-awaits changes (Reading fed) t = refl
+list-awaits changes (Owing o) t = refl
+list-awaits changes Lost t = refl
+list-awaits changes Awaiting t = let clash : true ≡ false = sym t ∙ none_before changes in absurd cc
+
+never : (b : Bool) → (b && false) ≡ false
+never true = refl
+never false = refl
+
+lost-dead : (id : ℕ) (c : Connection) → is_live id (lost c) ≡ false
+unfolding is_live
+lost-dead id c = never (eqb c.number id)
+
+-- those that become Lost awaited nothing, and the others stay
+evicted-awaits : (changes : List ℕ) (id least next : ℕ) (all : List Connection) → AreSound least next all → awaits id (map (evicted changes) all) ≡ awaits id all
+unfolding live_connection evicted
+evicted-awaits changes id least next [] sound = refl
+evicted-awaits changes id least next (x ∷ all) sound = by_live (is_live id x) refl (evicted-awaits changes id (x.number + 1) next all sound.2)
+  where
+    by_began : is_live id x ≡ true → (b : Bool) → began_before changes (began_in x.phase) ≡ b → count_awaiting (find (is_live id) (map (evicted changes) (x ∷ all))) ≡ count_awaiting (find (is_live id) (x ∷ all))
+    by_began live false t = rw (t, live) refl
+    by_began live true t =
+        let number : x.number ≡ id = number-is id x live in
+        let rest = mapped (evicted changes) (evicted-keeps changes) (x.number + 1) next all sound.2 in
+        let none : find (is_live id) (map (evicted changes) all) ≡ None = none-above id (x.number + 1) next (map (evicted changes) all) rest (omega (arith, number)) in
+        rw (t, lost-dead id x, none, live) (sym (ap if_one (list-awaits changes x.phase t)))
+
+    by_live : (b : Bool) → is_live id x ≡ b → count_awaiting (find (is_live id) (map (evicted changes) all)) ≡ count_awaiting (find (is_live id) all)
+        → count_awaiting (find (is_live id) (map (evicted changes) (x ∷ all))) ≡ count_awaiting (find (is_live id) (x ∷ all))
+    by_live true t later = by_began t (began_before changes (began_in x.phase)) refl
+    by_live false t later = let dead : is_live id (evicted changes x) ≡ false = stays_dead id changes x t in rw (dead, t) later
+
+-- ---- events
+
+of-other : (k id : ℕ) (caller : Caller) → is_connection k caller ≡ true → eqb k id ≡ false → is_connection id caller ≡ false
+of-other k id (Tcp number peer) of apart = ap (λ (n : ℕ). eqb n id) (eqb-true number k of) ∙ apart
+of-other k id (Udp peer) of apart = absurd cc
+
+module _ (old : Forwards) (cs : Connections) (sound : SoundIn cs) (h : AwaitIn old cs) where
+  -- a record on a live connection is answered
+  ended-awaits : (clock k : ℕ) (c : Connection) (peer : Peer) (context : Context) (said : Outcome) (new : Forwards) → live_connection k cs.all ≡ Some c → is_awaiting c.phase ≡ false → context.caller ≡ Tcp k peer
+      → Entering context old new (is_forwarded said) → AwaitIn new (changed_at k (settled clock said) cs)
+  ended-awaits clock k c peer context said new there plain from (Same e same) = λ id.
+      ap (present id) same ∙ h id ∙ by_number id (eqb k id) refl ∙ ap (λ (b : Bool). cond (eqb k id) (if_one b) (awaits id cs.all)) (sym e) ∙ sym (settled-awaits k cs.all c there clock cs.next said sound id)
+    where
+      by_number : (id : ℕ) (b : Bool) → eqb k id ≡ b → awaits id cs.all ≡ cond b 0 (awaits id cs.all)
+      by_number id false e = refl
+      by_number id true e = ap (λ (j : ℕ). awaits j cs.all) (sym (eqb-true k id e)) ∙ ap count_awaiting there ∙ ap if_one plain
+  ended-awaits clock k c peer context said new there plain from (Begins e forward args by can more) = λ id.
+      ap (present id) more ∙ pushed id context.clock forward args old
+      ∙ ap (λ (x : Caller). present id old + if_one (is_connection id x)) (by ∙ from)
+      ∙ ap (λ (n : ℕ). n + if_one (eqb k id)) (h id)
+      ∙ by_number id (eqb k id) refl ∙ ap (λ (b : Bool). cond (eqb k id) (if_one b) (awaits id cs.all)) (sym e) ∙ sym (settled-awaits k cs.all c there clock cs.next said sound id)
+    where
+      by_number : (id : ℕ) (b : Bool) → eqb k id ≡ b → awaits id cs.all + if_one b ≡ cond b 1 (awaits id cs.all)
+      by_number id false e = omega arith
+      by_number id true e =
+          let none : awaits id cs.all ≡ 0 = ap (λ (j : ℕ). awaits j cs.all) (sym (eqb-true k id e)) ∙ ap count_awaiting there ∙ ap if_one plain in
+          omega (arith, none)
+
+module _ (s : State) (sound : IsSound s) (h : Await s) where
+  abbrev Keeps : Output × State → Type 0
+  Keeps r = Await r.1
+
+  -- once there is room for a row
+  room-sound : (changes : List ℕ) → SoundIn (evicting changes s.connections)
+  room-sound changes = mapped (evicted changes) (evicted-keeps changes) 0 s.connections.next s.connections.all sound
+
+  room-awaits : (changes : List ℕ) → AwaitIn s.ledger.forwards (evicting changes s.connections)
+  room-awaits changes = λ id. h id ∙ sym (evicted-awaits changes id 0 s.connections.next s.connections.all sound)
+
+  still-there : (changes : List ℕ) (k : ℕ) (c : Connection) → live_connection k s.connections.all ≡ Some c → began_in c.phase ≡ None → live_connection k (map (evicted changes) s.connections.all) ≡ Some c
+  unfolding live_connection
+  still-there changes k c there no_list = plain_lives k changes s.connections.all c there no_list
+
+  open-awaits : (at : ℕ) (peer : Peer) (r : Result ℕ CoreFault) → Keeps (output_or Opened (moved at s (opening_as peer (max s.clock at) s.connections r)))
+  open-awaits at peer (Err fault) = h
+  open-awaits at peer (Ok number) = λ id. h id ∙ sym (opened-awaits id s.connections.all _ refl)
+
+  bytes-await : (at k : ℕ) (piece : List ℕ) (r : Result Taken CoreFault × State) → Arriving s at k piece r → Keeps (output_or show_taken r)
+  unfolding reading serve
+  bytes-await at k piece r (NotThere none is) = rw is h
+  bytes-await at k piece r (NotTaken c there why is) = rw is h
+  bytes-await at k piece r (ReadOn c fed there feeds none is) = rw is (λ id.
+      h id ∙ sym (kept-awaits k s.connections.all c there (reading (max s.clock at) (fed ++ piece)) (reading-feeds k (max s.clock at) (fed ++ piece)) (λ d. refl) (sym (fed-awaits c.phase fed feeds)) id))
+  bytes-await at k piece r (Ended c fed n there feeds some is) = rw is (answered-awaits at k c (take n (fed ++ piece)) there (fed-plain c.phase fed feeds) (fed-awaits c.phase fed feeds))
+    where
+      answered-awaits : (at k : ℕ) (c : Connection) (record_bytes : List ℕ) → live_connection k s.connections.all ≡ Some c → began_in c.phase ≡ None → is_awaiting c.phase ≡ false
+          → Await (on_connection k (settled (max s.clock at) (said_in s at k c record_bytes)) (answered_in s at k c record_bytes))
+      answered-awaits at k c record_bytes there no_list plain =
+          let changes : List ℕ = crowd_at s at (Tcp k c.peer) (data_of record_bytes) in
+          ended-awaits s.ledger.forwards (evicting changes s.connections) (room-sound changes) (room-awaits changes) (max s.clock at) k c c.peer (context_in (at_moment at s) (Tcp k c.peer)) (said_in s at k c record_bytes) _
+          (still-there changes k c there no_list) plain refl (serve-enters (at_moment at s) (Tcp k c.peer) _)
+
+  gave-awaits : (at k n : ℕ) (o : Option Connection) → live_connection k s.connections.all ≡ o
+      → Keeps (cond (is_too_much n (pending_on o)) (TooMuch, s) (output_or show_done (moved at s (on_found k (giving (max s.clock at) n) s.connections o))))
+  gave-awaits at k n None e = h
+  gave-awaits at k n (Some c) e = by_test (is_too_much n (pending_on (Some c)))
+    where
+      by_test : (b : Bool) → Keeps (cond b (TooMuch, s) (output_or show_done (moved at s (on_found k (giving (max s.clock at) n) s.connections (Some c)))))
+      by_test true = h
+      by_test false = λ id.
+          h id ∙ sym (kept-awaits k s.connections.all c e (λ x. (giving (max s.clock at) n x).1) (giving-feeds k (max s.clock at) n) (giving-keeps (max s.clock at) n).number (giving-awaits (max s.clock at) n c) id)
+
+  -- an entry of a connection ends, if there is one
+  dropped-present : (k : ℕ) (id : ℕ) → present id (drop_caller k s.ledger.forwards).1 ≡ cond (eqb k id) 0 (present id s.ledger.forwards)
+  unfolding drop_caller
+  dropped-present k id = by_found (find (is_of_connection k) s.ledger.forwards.all) refl (eqb k id) refl
+    where
+      by_found : (o : Option Entry) → find (is_of_connection k) s.ledger.forwards.all ≡ o → (b : Bool) → eqb k id ≡ b
+          → sum_by (one_at id) (without_first (is_of_connection k) s.ledger.forwards.all) ≡ cond b 0 (present id s.ledger.forwards)
+      by_found None e false n = ap (sum_by (one_at id)) (all_stay (is_of_connection k) s.ledger.forwards.all e)
+      by_found None e true n =
+          ap (sum_by (one_at id)) (all_stay (is_of_connection k) s.ledger.forwards.all e)
+          ∙ none-present id s.ledger.forwards.all (ap (λ (j : ℕ). find (is_of_connection j) s.ledger.forwards.all) (sym (eqb-true k id n)) ∙ e)
+      by_found (Some x) e b n =
+          let sum = sum-without (is_of_connection k) (one_at id) s.ledger.forwards.all x e in
+          let of : is_of_connection k x ≡ true = passes (is_of_connection k) s.ledger.forwards.all x e in
+          by_number b n sum of
+        where
+          passes : (p : Entry → Bool) (xs : List Entry) (y : Entry) → find p xs ≡ Some y → p y ≡ true
+          passes p [] y is = absurd cc
+          passes p (z ∷ xs) y is = by_test (p z) refl is (passes p xs y)
+            where
+              by_test : (t : Bool) → p z ≡ t → cond t (Some z) (find p xs) ≡ Some y → (find p xs ≡ Some y → p y ≡ true) → p y ≡ true
+              by_test true e is later = let same : z ≡ y = cc in ap p (sym same) ∙ e
+              by_test false e is later = later is
+
+          by_number : (b : Bool) → eqb k id ≡ b → sum_by (one_at id) s.ledger.forwards.all ≡ one_at id x + sum_by (one_at id) (without_first (is_of_connection k) s.ledger.forwards.all) → is_of_connection k x ≡ true
+              → sum_by (one_at id) (without_first (is_of_connection k) s.ledger.forwards.all) ≡ cond b 0 (present id s.ledger.forwards)
+          by_number false n sum of =
+              let other : one_at id x ≡ 0 = ap if_one (of-other k id x.forward.caller of n) in
+              omega (arith, sum, other)
+          by_number true n sum of =
+              let here : one_at id x ≡ 1 = ap if_one (ap (λ (j : ℕ). is_of_connection j x) (sym (eqb-true k id n)) ∙ of) in
+              let few = one-at-most (live_connection id s.connections.all) in
+              let is = h id in
+              omega (arith, sum, here, few, is)
+
+  closed-await : (k : ℕ) (b : Bool) → is_there k s.connections ≡ b → Keeps (output_or show_done (dropped_with s k (cond b (Ok tt, without_number k s.connections) (Err Gone, s.connections))))
+  unfolding caller_dropped without_number live_connection
+  closed-await k false e = h
+  closed-await k true e = λ id. dropped-present k id ∙ by_number id (eqb k id) refl
+    where
+      by_number : (id : ℕ) (b : Bool) → eqb k id ≡ b → cond b 0 (present id s.ledger.forwards) ≡ awaits id (without k s.connections.all)
+      by_number id false n = h id ∙ sym (ap count_awaiting (closed-other id k n s.connections.all))
+      by_number id true n = sym (ap (λ (j : ℕ). awaits id (without j s.connections.all)) (eqb-true k id n) ∙ ap count_awaiting (closed-gone id s.connections.all))
+
+  datagram-awaits : (context : Context) (peer : Peer) (changes : List ℕ) (t : State) (said : Outcome) → t.connections ≡ evicting changes s.connections → context.caller ≡ Udp peer → Entering context s.ledger.forwards t.ledger.forwards (is_forwarded said) → Keeps (show_outcome (with_reply (said, t)))
+  datagram-awaits context peer changes t said same from enters = by_said said
+    where
+      holds : Await t
+      holds = by_entering enters
+        where
+          by_entering : Entering context s.ledger.forwards t.ledger.forwards (is_forwarded said) → Await t
+          by_entering (Same e new) = λ id. ap (present id) new ∙ room-awaits changes id ∙ ap (λ (c : Connections). awaits id c.all) (sym same)
+          by_entering (Begins e forward args by can more) = λ id.
+              ap (present id) more ∙ pushed id context.clock forward args s.ledger.forwards
+              ∙ ap (λ (x : Caller). present id s.ledger.forwards + if_one (is_connection id x)) (by ∙ from) ∙ omega arith
+              ∙ room-awaits changes id ∙ ap (λ (c : Connections). awaits id c.all) (sym same)
+
+      by_said : (o : Outcome) → Keeps (show_outcome (with_reply (o, t)))
+      by_said NoCall = holds
+      by_said (Reply reply began) = holds
+      by_said Forwarded = holds
+      by_said Silent = holds
+
+  sent-await : (number : ℕ) (b : Bool) → Keeps (output_or show_done (cond b (Ok tt, record s { ledger = call_sent number s.ledger }) (Err Gone, s)))
+  unfolding call_sent sent
+  sent-await number true = λ id. kept id number s.ledger.forwards.all ∙ h id
+  sent-await number false = h
+
+  -- an entry ends by a datagram or at its deadline, if one does
+  end-awaits : (at : ℕ) (message : List ℕ) (test : Entry → Bool) (outcome : target.Outcome) (r : Option EntryEnd × Ledger) → r.0 ≡ (with_end test outcome s.ledger.forwards).0 → r.1.forwards ≡ (with_end test outcome s.ledger.forwards).1
+      → Await (tell_end message (at_fresh_moment at s) r).1
+  end-awaits at message test outcome (None, l) gave left = by_found (find test s.ledger.forwards.all) refl gave
+    where
+      by_found : (o : Option Entry) → find test s.ledger.forwards.all ≡ o → None ≡ option_map (ended_by outcome) o → AwaitIn l.forwards s.connections
+      by_found None e gave = λ id. ap (present id) left ∙ ap (sum_by (one_at id)) (all_stay test s.ledger.forwards.all e) ∙ h id
+      by_found (Some x) e gave = absurd cc
+  end-awaits at message test outcome (Some ended, l) gave left = by_found (find test s.ledger.forwards.all) refl gave
+    where
+      counts : (x : Entry) → find test s.ledger.forwards.all ≡ Some x → (id : ℕ) → present id s.ledger.forwards ≡ one_at id x + present id l.forwards
+      counts x e id = sum-without test (one_at id) s.ledger.forwards.all x e ∙ ap (λ (f : Forwards). one_at id x + present id f) (sym left)
+
+      by_caller : (x : Entry) → find test s.ledger.forwards.all ≡ Some x → (caller : Caller) → x.forward.caller ≡ caller → Await (tell caller (told_at message ended) (record (at_fresh_moment at s) { ledger = l })).1
+      by_caller x e (Udp peer) from = λ id.
+          let none : one_at id x ≡ 0 = ap (λ (c : Caller). if_one (is_connection id c)) from in
+          let count = counts x e id in
+          let is = h id in
+          omega (arith, none, count, is)
+      by_caller x e (Tcp k peer) from = told (live_connection k s.connections.all) refl
+        where
+          one : (id : ℕ) → one_at id x ≡ if_one (eqb k id)
+          one id = ap (λ (c : Caller). if_one (is_connection id c)) from
+
+          told : (o : Option Connection) → live_connection k s.connections.all ≡ o → AwaitIn l.forwards (changed_at k (settled (max s.clock at) (told_at message ended)) s.connections)
+          told None there =
+              let here : one_at k x ≡ 1 = one k ∙ ap if_one (eq-eqb k k refl) in
+              let count = counts x e k in
+              let is : present k s.ledger.forwards ≡ 0 = h k ∙ ap count_awaiting there in
+              absurd (omega (arith, here, count, is))
+          told (Some c) there = λ id.
+              by_number id (eqb k id) refl
+              ∙ ap (λ (b : Bool). cond (eqb k id) (if_one b) (awaits id s.connections.all)) (sym (plain (told_at message ended) (told-final message ended)))
+              ∙ sym (settled-awaits k s.connections.all c there (max s.clock at) s.connections.next (told_at message ended) sound id)
+            where
+              plain : (said : Outcome) → IsFinal said → is_forwarded said ≡ false
+              plain NoCall f = absurd f
+              plain (Reply reply began) f = refl
+              plain Forwarded f = absurd f
+              plain Silent f = refl
+
+              by_number : (id : ℕ) (b : Bool) → eqb k id ≡ b → present id l.forwards ≡ cond b 0 (awaits id s.connections.all)
+              by_number id false n =
+                  let none : one_at id x ≡ 0 = one id ∙ ap if_one n in
+                  let count = counts x e id in
+                  let is = h id in
+                  omega (arith, none, count, is)
+              by_number id true n =
+                  let here : one_at id x ≡ 1 = one id ∙ ap if_one n in
+                  let count = counts x e id in
+                  let few = one-at-most (live_connection id s.connections.all) in
+                  let is = h id in
+                  omega (arith, here, count, few, is)
+
+      by_found : (o : Option Entry) → find test s.ledger.forwards.all ≡ o → Some ended ≡ option_map (ended_by outcome) o → Await (tell ended.forward.caller (told_at message ended) (record (at_fresh_moment at s) { ledger = l })).1
+      by_found None e gave = absurd cc
+      by_found (Some x) e gave =
+          let same : ended ≡ ended_by outcome x = cc in
+          by_caller x e ended.forward.caller (ap (λ (y : EntryEnd). y.forward.caller) (sym same))
+
+  shown-end : (r : Option Told × State) → Await r.1 → Keeps (show_end r)
+  shown-end (None, t) k = k
+  shown-end (Some told, t) k = k
+
+  forward-awaits : (at : ℕ) (from : Peer) (message : List ℕ) → Await (tell_end message (at_fresh_moment at s) (replied s.setting.first_xid (max s.clock at) from message s.ledger)).1
+  unfolding replied reply
+  forward-awaits at from message =
+      end-awaits at message (counts_for s.setting.first_xid (max s.clock at) from message) (outcome_of message) (replied s.setting.first_xid (max s.clock at) from message s.ledger) refl refl
+
+  -- the connection that is due awaits none
+  timed-out-awaits : (clock : ℕ) (c : Connection) → find (due_connection clock) s.connections.all ≡ Some c → AwaitIn s.ledger.forwards (changed_at c.number lost s.connections)
+  unfolding live_connection
+  timed-out-awaits clock c found = λ id. h id ∙ by_number id (eqb c.number id) refl
+    where
+      here : find (is_live c.number) s.connections.all ≡ Some c
+      here =
+          let live = live-found clock s.connections.all c found in
+          live.1 ∙ ap Some (due-one clock s.connections.all live.0 c (sound-apart 0 s.connections.next s.connections.all sound) found live.1)
+
+      by_number : (id : ℕ) (b : Bool) → eqb c.number id ≡ b → awaits id s.connections.all ≡ awaits id (change_first (is_live c.number) lost s.connections.all)
+      by_number id false e = ap count_awaiting (sym (changed-other id c.number lost (λ x. refl) e s.connections.all))
+      by_number id true e =
+          let number : c.number ≡ id = eqb-true c.number id e in
+          let before : awaits c.number s.connections.all ≡ 0 = ap count_awaiting here ∙ ap if_one (due-awaits-none clock c (find-holds (due_connection clock) s.connections.all c found)) in
+          let after : awaits c.number (change_first (is_live c.number) lost s.connections.all) ≡ 0 = ap count_awaiting (timed-out-gone c.number 0 s.connections.next s.connections.all sound) in
+          subst (λ (k : ℕ). awaits k s.connections.all ≡ awaits k (change_first (is_live c.number) lost s.connections.all)) number (before ∙ sym after)
+
+  expire-awaits : (at : ℕ) (r : Expired × State) → Expiry s (max s.clock at) (at_fresh_moment at s) r → Await (show_expired r).1
+  expire-awaits at r (NothingDue none free is) = rw is h
+  expire-awaits at r (ConnectionEnds none c found is) = rw is (timed-out-awaits (max s.clock at) c found)
+  expire-awaits at r (EntryEnds e found ledger left is) =
+      rw is (end-awaits at [] (is_due (max s.clock at)) Failed (Some (end_of e), ledger) (ap (option_map (ended_by Failed)) (sym found)) left)
+
+  shown-pending : (r : Result (List ℕ) CoreFault) → Keeps (output_or IsPending (r, s))
+  shown-pending (Ok xs) = h
+  shown-pending (Err fault) = h
+
+  pub step-awaits : (event : Event) → Await (step s event).1
+  unfolding step open_connection opening_of pending gave close_connection closing_of datagram sent_call forward_reply serve
+  step-awaits (Open at peer) = open-awaits at peer (number_for s.setting.limits.conns s.connections)
+  step-awaits (Bytes at id piece) = bytes-await at id piece (bytes s at id piece) (arriving s at id piece)
+  step-awaits (Pending id) = shown-pending (pending s id)
+  step-awaits (Gave at id n) = gave-awaits at id n (live_connection id s.connections.all) refl
+  step-awaits (Closed id) = closed-await id (is_there id s.connections) refl
+  step-awaits NextLost = h
+  step-awaits (Datagram at peer content) =
+      datagram-awaits (context_in (at_moment at s) (Udp peer)) peer (crowd_at s at (Udp peer) content) (serve (at_moment at s) (Udp peer) content).1 (serve (at_moment at s) (Udp peer) content).0 (same at peer content) refl (serve-enters (at_moment at s) (Udp peer) content)
+    where
+      same : (at : ℕ) (peer : Peer) (content : List ℕ) → (serve (at_moment at s) (Udp peer) content).1.connections ≡ evicting (crowd_at s at (Udp peer) content) s.connections
+      same at peer content = refl
+  step-awaits Unsent = h
+  step-awaits (Sent number) = sent-await number (can_be_sent number s.ledger.forwards)
+  step-awaits (Forward at from message) = shown-end _ (forward-awaits at from message)
+  step-awaits (Expire at) = expire-awaits at (expire s at) (expiry s at)
+
+-- ---- runs
+
+after-awaits : (s : State) (events : List Event) → IsSound s → Await s → Await (after s events)
+after-awaits s [] sound h = h
+after-awaits s (event ∷ events) sound h = after-awaits (step s event).1 events (step-sound s event sound) (step-awaits s sound h event)
+
+pub opening-awaits : (limits : Limits) (listener : Listener) (first_xid now : ℕ) → Await (opening limits listener first_xid now)
+unfolding live_connection
+opening-awaits limits listener first_xid now = λ id. refl
+
+pub reached-awaits : (s : State) → IsReached s → Await s
+reached-awaits s r =
+    let start : State = opening r.limits r.listener r.first_xid r.now in
+    subst (λ (t : State). Await t) (sym r.is) (after-awaits start r.events (omega arith) (opening-awaits r.limits r.listener r.first_xid r.now))
+
+pub connections_await : ConnectionsAwait
+connections_await s reached id = reached-awaits s reached id
+
+-- a connection that has an entry is live, and awaits its end
+pub record IsWaiting (id : ℕ) (all : List Connection) : Type 0 where
+  pub connection : Connection
+  pub there : live_connection id all ≡ Some connection
+  pub phase : connection.phase ≡ Awaiting
+
+pub entry-waits : (s : State) (id : ℕ) → Await s → has_entry id s ≡ true → IsWaiting id s.connections.all
+entry-waits s id h has = by_live (live_connection id s.connections.all) refl
+  where
+    some : 1 ≤ present id s.ledger.forwards
+    some = some-present id s.ledger.forwards.all has
+
+    by_phase : (c : Connection) → live_connection id s.connections.all ≡ Some c → (p : Phase) → c.phase ≡ p → 1 ≤ if_one (is_awaiting p) → IsWaiting id s.connections.all
+    by_phase c there Awaiting e one = record { connection = c; there = there; phase = e }
+    by_phase c there Idle e one = absurd (omega (arith, one))
+    by_phase c there (Reading fed) e one = absurd (omega (arith, one))
+    by_phase c there (Owing o) e one = absurd (omega (arith, one))
+    by_phase c there Lost e one = absurd (omega (arith, one))
+
+    by_live : (o : Option Connection) → live_connection id s.connections.all ≡ o → IsWaiting id s.connections.all
+    by_live None there = let is : present id s.ledger.forwards ≡ 0 = h id ∙ ap count_awaiting there in absurd (omega (arith, is, some))
+    by_live (Some c) there =
+        let is : present id s.ledger.forwards ≡ if_one (is_awaiting c.phase) = h id ∙ ap count_awaiting there in
+        by_phase c there c.phase refl (omega (arith, is, some))

@@ -1,0 +1,330 @@
+-- What an event does to the entries of forwarded calls, and what holds of them in each state that a run reaches.
+use Rattle.std.proofs.Common.{◌≡◌, ℕ, suc, ◌+◌, ◌-◌, ◌≤◌, ◌<◌, max, Bool, true, false, cond, ◌&&◌, nat_lt, nat_le, Option, Some, None, Result, Ok, Err, List, [], ◌∷◌, ◌++◌, length, refl, sym, ap, subst, ◌∙◌, arith}
+use Rattle.std.specs.Prelude.{All, drop}
+use Rattle.std.proofs.lemmas.Bool.{ltb-true}
+use Rattle.std.proofs.lemmas.List.{length-take}
+use Rattle.std.proofs.lemmas.List.Elements.{All-nil, All-cons, All-head, All-tail, All-push}
+use Rattle.rb_rpc.specs.declared.peer.Caller.{Caller}
+use Rattle.rb_rpc.specs.declared.peer.Caller.TheVariants.{Tcp, Udp}
+use Rattle.rb_rpc.specs.declared.call.CallHead.{CallHead}
+use Rattle.rb_rpc.specs.declared.peer.Peer.{Peer}
+use Rattle.rb_registry.specs.declared.row.Row.{Row}
+use Rattle.rb_registry.specs.declared.row.Transport.{Transport}
+use Rattle.rb_registry.specs.declared.row.Which.{Which}
+use Rattle.rb_forward.specs.declared.types.Forward.{Forward}
+use Rattle.rb_forward.specs.declared.types.Kind.{Kind}
+use Rattle.rb_forward.specs.declared.types.Ended.{Ended}
+use Rattle.rb_forward.specs.Forwards.{Entry, Forwards, greatest_number, can_start, started, next_entry, sent, can_be_sent, without_first, change_first, as_sent, is_unsent, reply, due, drop_caller, counts_for, is_due, is_of_connection}
+use Rattle.rb_proto.specs.declared.context.Context.{Context}
+use Rattle.rb_proto.specs.declared.mapping.Mapping.{Mapping}
+use Rattle.rb_proto.specs.declared.remote.RemoteCall.{RemoteCall}
+use Rattle.rb_proto.specs.declared.procedure.MappingProcedure.TheVariants as mappings
+use Rattle.rb_proto.specs.declared.procedure.RpcbProcedure.TheVariants as rpcbs
+use Rattle.rb_proto.specs.declared.request.Request.{Request}
+use Rattle.rb_proto.specs.declared.request.Request.TheVariants as requests
+use Rattle.rb_proto.specs.Ledger.{Ledger, rows_in, called}
+use Rattle.rb_proto.specs.Netids.{transport_of_prot}
+use Rattle.rb_proto.specs.Remote.{args_of, HasContent}
+use Rattle.rb_proto.specs.Arguments.{HasArgs}
+use Rattle.rb_forward.specs.StandsFor.{longest_arguments}
+use Rattle.rb_rpc.specs.Verdict.{verdict}
+use Rattle.rb_feed.specs.Feeds.{arguments_of}
+use Rattle.rb_model.specs.Grammar.{HasArgsIn}
+use Rattle.rb_laws.proofs.AskedArgs.{message_has}
+use Rattle.rb_proto.specs.Forwarding.{peer_to_forward, forward_of, forward_to, forward_call, replied, fell_due, caller_dropped, call_sent}
+use Rattle.rb_proto.specs.Answers.{set_row, unset_rows, port_on, getport, getaddr, getversaddr, answer_to, answer}
+use Rattle.rb_model.specs.declared.message.Message.{Message}
+use Rattle.rb_model.specs.declared.message.Message.TheVariants as says
+use Rattle.rb_model.specs.declared.types.CoreFault.{CoreFault}
+use Rattle.rb_model.specs.declared.types.CoreFault.TheVariants.{Gone}
+use Rattle.rb_model.specs.declared.types.Told.{Told}
+use Rattle.rb_model.specs.declared.types.Expired.{Expired}
+use Rattle.rb_model.specs.declared.types.Expired.TheVariants as expired
+use Rattle.rb_model.specs.Calls.{Outcome, Outcome as outcomes, message_of, outcome}
+use Rattle.rb_model.specs.State.{Setting, State, Connection, Connections, at_moment, opening}
+use Rattle.rb_model.specs.Connections.{Taking, taking, live_connection, closing_of}
+use Rattle.rb_model.specs.Connections.Taking.{TakesNone, GoesOn, Ends}
+use Rattle.rb_model.specs.Ending.{told_at, tell, tell_end, at_fresh_moment, forward_reply, expire_connection, expired_as, expire}
+use Rattle.rb_model.specs.Step.{Event, Output, context_in, serve, answering, moved, when_taken, bytes_to, bytes, pending, gave, is_too_much, open_connection, dropped_with, close_connection, with_reply, datagram, sent_call, output_or, show_taken, show_done, show_outcome, show_end, show_expired, step, after, IsReached}
+use Rattle.rb_model.specs.Step.Event.{Open, Bytes, Pending, Gave, Closed, NextLost, Datagram, Unsent, Sent, Forward as ForwardCame, Expire}
+use Rattle.rb_model.specs.Step.Output.{Opened, TooMuch, IsPending}
+
+-- ---- what a call leaves of them
+
+-- They are as they were, or one more began, for which there is room and whose arguments are short; or a call was sent; or one ended.
+pub data Goes (cap : ℕ) (old new : Forwards) : Type 0 where
+  Same : new ≡ old → Goes cap old new
+  Begins : (clock : ℕ) (forward : Forward) (args : List ℕ) → length args ≤ longest_arguments → can_start cap old ≡ true → new ≡ started clock forward args old → Goes cap old new
+  IsSent : (number : ℕ) → new ≡ sent number old → Goes cap old new
+  Ends1 : (test : Entry → Bool) → new ≡ record old { all = without_first test old.all } → Goes cap old new
+
+change-stays : (cap : ℕ) (l : Ledger) (b : Bool) (x y : Ledger) → x.forwards ≡ l.forwards → y.forwards ≡ l.forwards → Goes cap l.forwards (cond b x y).forwards
+change-stays cap l true x y p q = Same p
+change-stays cap l false x y p q = Same q
+
+set-stays : (cap : ℕ) (context : Context) (head : CallHead) (o : Option Row) (l : Ledger) → Goes cap l.forwards (set_row context head o l).1.forwards
+unfolding set_row
+set-stays cap context head None l = Same refl
+set-stays cap context head (Some row) l = Same refl
+
+unset-stays : (cap : ℕ) (context : Context) (head : CallHead) (prog vers : ℕ) (o : Option Which) (l : Ledger) → Goes cap l.forwards (unset_rows context head prog vers o l).1.forwards
+unfolding unset_rows
+unset-stays cap context head prog vers None l = Same refl
+unset-stays cap context head prog vers (Some which) l = Same refl
+
+getport-stays : (cap : ℕ) (head : CallHead) (m : Mapping) (l : Ledger) → Goes cap l.forwards (getport head m l).1.forwards
+unfolding getport
+getport-stays cap head m l = by_transport (transport_of_prot m.prot)
+  where
+    by_transport : (o : Option Transport) → Goes cap l.forwards (port_on head m o l).1.forwards
+    by_transport None = Same refl
+    by_transport (Some transport) = Same refl
+
+args-short : (remote : RemoteCall) (arguments : List ℕ) → HasContent remote arguments → length (args_of remote arguments) ≤ longest_arguments
+args-short remote arguments has = let few = length-take (16 + remote.count - 16) (drop 16 arguments) in omega (arith, few, has.few)
+
+forward-goes : (context : Context) (xid : ℕ) (kind : Kind) (remote : RemoteCall) (arguments : List ℕ) (l : Ledger) → HasContent remote arguments → Goes context.forwards l.forwards (forward_call context xid kind remote arguments l).1.forwards
+unfolding forward_call
+forward-goes context xid kind remote arguments l has = by_peer (peer_to_forward remote.prog remote.vers (rows_in l))
+  where
+    args : List ℕ
+    args = args_of remote arguments
+
+    by_peer : (o : Option Peer) → Goes context.forwards l.forwards (forward_to context xid kind remote args o l).1.forwards
+    by_peer None = Same refl
+    by_peer (Some peer) = by_room (can_start context.forwards l.forwards) refl
+      where
+        by_room : (b : Bool) → can_start context.forwards l.forwards ≡ b → Goes context.forwards l.forwards (forward_to context xid kind remote args (Some peer) l).1.forwards
+        by_room true e = rw e (Begins context.clock (forward_of context xid kind remote peer) args (args-short remote arguments has) e refl)
+        by_room false e = rw e (Same refl)
+
+answer-goes : (context : Context) (head : CallHead) (request : Request) (arguments : List ℕ) (l : Ledger) → HasArgs request arguments → Goes context.forwards l.forwards (answer_to context head request arguments l).1.forwards
+unfolding getaddr getversaddr
+answer-goes context head (requests.Mapping mappings.Set m) arguments l has = set-stays context.forwards context head _ l
+answer-goes context head (requests.Mapping mappings.Unset m) arguments l has = unset-stays context.forwards context head m.prog m.vers _ l
+answer-goes context head (requests.Mapping mappings.Getport m) arguments l has = getport-stays context.forwards head m l
+answer-goes context head (requests.Rpcb rpcbs.Set r) arguments l has = set-stays context.forwards context head _ l
+answer-goes context head (requests.Rpcb rpcbs.Unset r) arguments l has = unset-stays context.forwards context head r.prog r.vers _ l
+answer-goes context head (requests.Rpcb rpcbs.Getaddr r) arguments l has = Same refl
+answer-goes context head (requests.Rpcb rpcbs.Getversaddr r) arguments l has = Same refl
+answer-goes context head (requests.Rpcb rpcbs.Getaddrlist r) arguments l has = Same refl
+answer-goes context head (requests.Void procedure) arguments l has = Same refl
+answer-goes context head (requests.Uaddr2taddr text) arguments l has = Same refl
+answer-goes context head (requests.Taddr2uaddr netbuf) arguments l has = Same refl
+answer-goes context head (requests.Forward kind remote) arguments l has = forward-goes context head.xid kind remote arguments l has
+
+outcome-goes : (context : Context) (message : Message) (arguments : List ℕ) (l : Ledger) → HasArgsIn message arguments → Goes context.forwards l.forwards (outcome context message arguments l).1.forwards
+unfolding outcome answer called
+outcome-goes context says.NoCall arguments l has = Same refl
+outcome-goes context (says.Refused head) arguments l has = Same refl
+outcome-goes context (says.Garbage head) arguments l has = Same refl
+outcome-goes context (says.Asked call) arguments l has = answer-goes context call.head call.request arguments (called call.head l) has
+
+-- ---- what an event leaves of them
+
+pub record Follows (s u : State) : Type 0 where
+  pub setting : u.setting ≡ s.setting
+  pub goes : Goes s.setting.limits.forwards s.ledger.forwards u.ledger.forwards
+
+stays : (s : State) → Follows s s
+stays s = record { setting = refl; goes = Same refl }
+
+serve-follows : (s : State) (now : ℕ) (caller : Caller) (content : List ℕ) → Follows s (serve (at_moment now s) caller content).1
+unfolding serve message_of
+serve-follows s now caller content =
+    record { setting = refl; goes = outcome-goes (context_in (at_moment now s) caller) (message_of content) _ s.ledger (message_has (verdict content) (arguments_of content)) }
+
+moved-follows : {A : Type 0} (s : State) (now : ℕ) (show : A → Output) (r : Result A CoreFault × Connections) → Follows s (output_or show (moved now s r)).1
+moved-follows s now show (Ok x, c) = record { setting = refl; goes = Same refl }
+moved-follows s now show (Err fault, c) = stays s
+
+bytes-follow : (s : State) (now id : ℕ) (piece : List ℕ) (o : Option Connection) → Follows s (output_or show_taken (bytes_to s now id piece o)).1
+unfolding answering
+bytes-follow s now id piece None = stays s
+bytes-follow s now id piece (Some c) = by_taking (taking c.phase piece)
+  where
+    by_taking : (t : Taking) → Follows s (when_taken (at_moment now s) id piece c t).1
+    by_taking TakesNone = record { setting = refl; goes = Same refl }
+    by_taking (GoesOn fed) = record { setting = refl; goes = Same refl }
+    by_taking (Ends n content) =
+        let f = serve-follows s now (Tcp id c.peer) content in
+        record { setting = f.setting; goes = f.goes }
+
+shown-follows : {A : Type 0} (s : State) (show : A → Output) (r : Result A CoreFault) (u : State) → Follows s u → Follows s (output_or show (r, u)).1
+shown-follows s show (Ok x) u f = f
+shown-follows s show (Err fault) u f = f
+
+outcome-follows : (s : State) (r : Outcome × State) → Follows s r.1 → Follows s (show_outcome (with_reply r)).1
+outcome-follows s (outcomes.NoCall, u) f = record { setting = f.setting; goes = f.goes }
+outcome-follows s (outcomes.Reply reply began, u) f = record { setting = f.setting; goes = f.goes }
+outcome-follows s (outcomes.Forwarded, u) f = record { setting = f.setting; goes = f.goes }
+outcome-follows s (outcomes.Silent, u) f = record { setting = f.setting; goes = f.goes }
+
+either : (s : State) (b : Bool) (x y : Output × State) → Follows s x.1 → Follows s y.1 → Follows s (cond b x y).1
+either s true x y left right = left
+either s false x y left right = right
+
+closed-follows : (s : State) (id : ℕ) (r : Result (Unit {0}) CoreFault × Connections) → Follows s (output_or show_done (dropped_with s id r)).1
+unfolding caller_dropped drop_caller
+closed-follows s id (Ok u, c) = record { setting = refl; goes = Ends1 (is_of_connection id) refl }
+closed-follows s id (Err fault, c) = stays s
+
+tell-follows : (s u : State) (caller : Caller) (said : Outcome) → Follows s u → Follows s (tell caller said u).1
+tell-follows s u (Tcp id peer) said f = record { setting = f.setting; goes = f.goes }
+tell-follows s u (Udp peer) said f = record { setting = f.setting; goes = f.goes }
+
+told-follows : (message : List ℕ) (s u : State) (o : Option Ended) (ledger : Ledger) → u.setting ≡ s.setting → Goes s.setting.limits.forwards s.ledger.forwards ledger.forwards → Follows s (tell_end message u (o, ledger)).1
+told-follows message s u None ledger same goes = record { setting = same; goes = goes }
+told-follows message s u (Some ended) ledger same goes =
+    tell-follows s (record u { ledger = ledger }) ended.forward.caller (told_at message ended) (record { setting = same; goes = goes })
+
+end-follows : (s : State) (r : Option Told × State) → Follows s r.1 → Follows s (show_end r).1
+end-follows s (None, u) f = f
+end-follows s (Some told, u) f = f
+
+expired-follows : (s : State) (r : Option Told × State) → Follows s r.1 → Follows s (show_expired (expired_as r)).1
+unfolding expire_connection
+expired-follows s (Some told, u) f = f
+expired-follows s (None, u) f = by_found (expire_connection u) (record { setting = f.setting; goes = f.goes })
+  where
+    by_found : (r : Expired × State) → Follows s r.1 → Follows s (show_expired r).1
+    by_found (e, t) g = elim e as (λ x. Follows s (show_expired (x, t)).1) [ expired.Nothing ↦ g | expired.Ended told ↦ g | expired.ConnectionClosed id ↦ g ]
+
+pub step-follows : (s : State) (event : Event) → Follows s (step s event).1
+unfolding step open_connection bytes gave close_connection datagram sent_call forward_reply expire replied fell_due call_sent reply due
+step-follows s (Open now peer) = moved-follows s now Opened _
+step-follows s (Bytes now id piece) = bytes-follow s now id piece (live_connection id s.connections.all)
+step-follows s (Pending id) = shown-follows s IsPending (pending s id) s (stays s)
+step-follows s (Gave now id n) = either s (is_too_much n (pending s id)) (TooMuch, s) (output_or show_done (gave s now id n)) (stays s) (moved-follows s now show_done _)
+step-follows s (Closed id) = closed-follows s id (closing_of id s.connections)
+step-follows s NextLost = stays s
+step-follows s (Datagram now peer content) = outcome-follows s (serve (at_moment now s) (Udp peer) content) (serve-follows s now (Udp peer) content)
+step-follows s Unsent = stays s
+step-follows s (Sent number) = by_there (can_be_sent number s.ledger.forwards)
+  where
+    by_there : (b : Bool) → Follows s (output_or show_done (cond b (Ok tt, record s { ledger = call_sent number s.ledger }) (Err Gone, s))).1
+    by_there true = record { setting = refl; goes = IsSent number refl }
+    by_there false = stays s
+step-follows s (ForwardCame now from message) =
+    end-follows s (forward_reply s now from message) (told-follows message s (at_fresh_moment now s) (reply s.setting.first_xid (max s.clock now) from message s.ledger.forwards).0 _ refl
+    (Ends1 (counts_for s.setting.first_xid (max s.clock now) from message) refl))
+step-follows s (Expire now) =
+    expired-follows s _ (told-follows [] s (at_fresh_moment now s) (due (max s.clock now) s.ledger.forwards).0 _ refl (Ends1 (is_due (max s.clock now)) refl))
+
+-- ---- what holds of them
+
+-- their numbers rise from `least` on, and are below `next`
+abbrev pub AreRising : ℕ → ℕ → List Entry → Type 0
+AreRising least next [] = least ≤ next
+AreRising least next (e ∷ all) = (least ≤ e.number) × AreRising (e.number + 1) next all
+
+abbrev pub HasShortArgs : Entry → Type 0
+HasShortArgs e = length e.args ≤ longest_arguments
+
+pub record AreKept (cap : ℕ) (f : Forwards) : Type 0 where
+  pub order : AreRising 1 f.next f.all
+  pub few : length f.all ≤ cap
+  pub short : All HasShortArgs f.all
+
+lower : (low least next : ℕ) (all : List Entry) → low ≤ least → AreRising least next all → AreRising low next all
+lower low least next [] le s = omega arith
+lower low least next (e ∷ all) le s = (omega (arith, s.0), s.1)
+
+pushed : (least next : ℕ) (all : List Entry) (e : Entry) → e.number ≡ next → AreRising least next all → AreRising least (next + 1) (all ++ e ∷ [])
+pushed least next [] e is s = (omega arith, omega arith)
+pushed least next (d ∷ all) e is s = (s.0, pushed (d.number + 1) next all e is s.1)
+
+pushed-length : (all : List Entry) (e : Entry) → length (all ++ e ∷ []) ≡ length all + 1
+pushed-length [] e = refl
+pushed-length (d ∷ all) e = let rest = pushed-length all e in omega (arith, rest)
+
+marked : (number least next : ℕ) (all : List Entry) → AreRising least next all → AreRising least next (change_first (is_unsent number) as_sent all)
+marked number least next [] s = s
+marked number least next (e ∷ all) s = by_test (is_unsent number e) (marked number (e.number + 1) next all s.1)
+  where
+    by_test : (b : Bool) → AreRising (e.number + 1) next (change_first (is_unsent number) as_sent all) → AreRising least next (cond b (as_sent e ∷ all) (e ∷ change_first (is_unsent number) as_sent all))
+    by_test true later = s
+    by_test false later = (s.0, later)
+
+marked-length : (number : ℕ) (all : List Entry) → length (change_first (is_unsent number) as_sent all) ≡ length all
+marked-length number [] = refl
+marked-length number (e ∷ all) = by_test (is_unsent number e) (marked-length number all)
+  where
+    by_test : (b : Bool) → length (change_first (is_unsent number) as_sent all) ≡ length all → length (cond b (as_sent e ∷ all) (e ∷ change_first (is_unsent number) as_sent all)) ≡ suc (length all)
+    by_test true rest = refl
+    by_test false rest = ap suc rest
+
+ended : (test : Entry → Bool) (least next : ℕ) (all : List Entry) → AreRising least next all → AreRising least next (without_first test all)
+ended test least next [] s = s
+ended test least next (e ∷ all) s = by_test (test e) (ended test (e.number + 1) next all s.1)
+  where
+    by_test : (b : Bool) → AreRising (e.number + 1) next (without_first test all) → AreRising least next (cond b all (e ∷ without_first test all))
+    by_test true later = lower least (e.number + 1) next all (omega (arith, s.0)) s.1
+    by_test false later = (s.0, later)
+
+ended-length : (test : Entry → Bool) (all : List Entry) → length (without_first test all) ≤ length all
+ended-length test [] = omega arith
+ended-length test (e ∷ all) = by_test (test e) (ended-length test all)
+  where
+    by_test : (b : Bool) → length (without_first test all) ≤ length all → length (cond b all (e ∷ without_first test all)) ≤ suc (length all)
+    by_test true rest = omega arith
+    by_test false rest = omega (arith, rest)
+
+marked-short : (number : ℕ) (all : List Entry) → All HasShortArgs all → All HasShortArgs (change_first (is_unsent number) as_sent all)
+marked-short number [] s = s
+marked-short number (e ∷ all) s = by_test (is_unsent number e) (marked-short number all (All-tail HasShortArgs e all s))
+  where
+    by_test : (b : Bool) → All HasShortArgs (change_first (is_unsent number) as_sent all) → All HasShortArgs (cond b (as_sent e ∷ all) (e ∷ change_first (is_unsent number) as_sent all))
+    by_test true rest = All-cons HasShortArgs (as_sent e) all (All-head HasShortArgs e all s) (All-tail HasShortArgs e all s)
+    by_test false rest = All-cons HasShortArgs e (change_first (is_unsent number) as_sent all) (All-head HasShortArgs e all s) rest
+
+ended-short : (test : Entry → Bool) (all : List Entry) → All HasShortArgs all → All HasShortArgs (without_first test all)
+ended-short test [] s = s
+ended-short test (e ∷ all) s = by_test (test e) (ended-short test all (All-tail HasShortArgs e all s))
+  where
+    by_test : (b : Bool) → All HasShortArgs (without_first test all) → All HasShortArgs (cond b all (e ∷ without_first test all))
+    by_test true rest = All-tail HasShortArgs e all s
+    by_test false rest = All-cons HasShortArgs e (without_first test all) (All-head HasShortArgs e all s) rest
+
+room : (cap : ℕ) (f : Forwards) → can_start cap f ≡ true → length f.all < cap
+unfolding can_start
+room cap f e = ltb-true (length f.all) cap (first (nat_lt (length f.all) cap) (nat_le f.next greatest_number) e)
+  where
+    first : (a b : Bool) → (a && b) ≡ true → a ≡ true
+    first true b e = refl
+    first false b e = absurd cc
+
+goes-kept : (cap : ℕ) (old new : Forwards) → Goes cap old new → AreKept cap old → AreKept cap new
+unfolding started next_entry sent
+goes-kept cap old new (Same is) k = subst (AreKept cap) (sym is) k
+goes-kept cap old new (Begins clock forward args short can is) k =
+    let free = room cap old can in
+    let more = pushed-length old.all (next_entry clock forward args old) in
+    subst (AreKept cap) (sym is) (record { order = pushed 1 old.next old.all _ refl k.order; few = omega (arith, free, more); short = All-push HasShortArgs old.all _ k.short short })
+goes-kept cap old new (IsSent number is) k =
+    let same = marked-length number old.all in
+    subst (AreKept cap) (sym is) (record { order = marked number 1 old.next old.all k.order; few = omega (arith, same, k.few); short = marked-short number old.all k.short })
+goes-kept cap old new (Ends1 test is) k =
+    let less = ended-length test old.all in
+    subst (AreKept cap) (sym is) (record { order = ended test 1 old.next old.all k.order; few = omega (arith, less, k.few); short = ended-short test old.all k.short })
+
+abbrev pub HasKept : State → Type 0
+HasKept s = AreKept s.setting.limits.forwards s.ledger.forwards
+
+step-kept : (s : State) (event : Event) → HasKept s → HasKept (step s event).1
+step-kept s event k =
+    let f = step-follows s event in
+    subst (λ (x : Setting). AreKept x.limits.forwards (step s event).1.ledger.forwards) (sym f.setting) (goes-kept _ _ _ f.goes k)
+
+after-kept : (s : State) (events : List Event) → HasKept s → HasKept (after s events)
+after-kept s [] k = k
+after-kept s (event ∷ events) k = after-kept (step s event).1 events (step-kept s event k)
+
+pub after-setting : (s : State) (events : List Event) → (after s events).setting ≡ s.setting
+after-setting s [] = refl
+after-setting s (event ∷ events) = after-setting (step s event).1 events ∙ (step-follows s event).setting
+
+pub reached-kept : (s : State) → IsReached s → HasKept s
+reached-kept s r =
+    let start : State = opening r.limits r.listener r.first_xid r.now in
+    subst HasKept (sym r.is) (after-kept start r.events (record { order = omega arith; few = omega arith; short = All-nil HasShortArgs }))

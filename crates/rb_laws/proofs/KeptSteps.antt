@@ -1,0 +1,411 @@
+-- In each state that a run reaches, the live rows and the kept ones are together no more than there may be.
+use Rattle.std.proofs.Common.{◌≡◌, ◌≤◌, ◌<◌, ℕ, ◌+◌, max, Bool, true, false, cond, nat_lt, eqb, not, min, Option, Some, None, Result, Ok, Err, List, [], ◌∷◌, ◌++◌, length, map, refl, sym, ap, subst, ◌∙◌, append-nil, arith}
+use Rattle.std.specs.Prelude.{filter, take, ⊤}
+use Rattle.std.specs.List.{list_any}
+use Rattle.std.proofs.lemmas.Bool.{ltb-true, ltb-false}
+use Rattle.rb_rpc.specs.declared.call.CallHead.{CallHead}
+use Rattle.rb_rpc.specs.declared.peer.Peer.{Peer}
+use Rattle.rb_rpc.specs.declared.peer.Caller.{Caller}
+use Rattle.rb_rpc.specs.declared.peer.Caller.TheVariants.{Tcp, Udp}
+use Rattle.rb_rpc.specs.declared.reply.ReplyStatus.TheVariants as replies
+use Rattle.rb_rpc.specs.Records.{data_of}
+use Rattle.rb_feed.specs.Feeds.{arguments_of}
+use Rattle.rb_registry.specs.declared.row.Row.{Row}
+use Rattle.rb_registry.specs.declared.row.Which.{Which}
+use Rattle.rb_registry.specs.declared.row.Owner.{Owner}
+use Rattle.rb_registry.specs.declared.row.Transport.{Transport}
+use Rattle.rb_registry.specs.Rows.Change.{Added, Removed}
+use Rattle.rb_registry.specs.Rows.{Change}
+use Rattle.rb_stats.specs.Statistics.Note.{WasSet, WasUnset}
+use Rattle.rb_forward.specs.declared.types.Kind.{Kind}
+use Rattle.rb_forward.specs.declared.types.Outcome as target
+use Rattle.rb_forward.specs.declared.types.Outcome.TheVariants as ends
+use Rattle.rb_forward.specs.declared.types.Ended.{Ended as EntryEnd}
+use Rattle.rb_forward.specs.Forwards.{can_start, started, can_be_sent}
+use Rattle.rb_proto.specs.declared.answers.Answer.{Answer}
+use Rattle.rb_proto.specs.declared.answers.Answer.TheVariants as answers
+use Rattle.rb_proto.specs.declared.answers.Results.{Results}
+use Rattle.rb_proto.specs.declared.answers.Results.TheVariants as results
+use Rattle.rb_proto.specs.declared.context.Context.{Context}
+use Rattle.rb_proto.specs.declared.mapping.Mapping.{Mapping}
+use Rattle.rb_proto.specs.declared.procedure.MappingProcedure.TheVariants as mappings
+use Rattle.rb_proto.specs.declared.procedure.RpcbProcedure.TheVariants as rpcbs
+use Rattle.rb_proto.specs.declared.remote.RemoteCall.{RemoteCall}
+use Rattle.rb_proto.specs.declared.request.Request.{Request}
+use Rattle.rb_proto.specs.declared.request.Request.TheVariants as requests
+use Rattle.rb_proto.specs.Answers.{accepts, accepts_row, accepts_removal, adds, adds_row, row_asked, row_to_set, removal_of, change_if, set_row, unset_rows, port_on, getport, getaddr, getversaddr, answer_to, answer}
+use Rattle.rb_proto.specs.Callers.{own_rows, owner_of}
+use Rattle.rb_proto.specs.Forwarding.{peer_to_forward, forward_of, forward_to, forward_call, refuse, refusal, replied, fell_due, caller_dropped, call_sent}
+use Rattle.rb_proto.specs.Ledger.{Ledger, rows_in, version_of, called}
+use Rattle.rb_proto.specs.Netids.{transport_of_prot}
+use Rattle.rb_proto.specs.Remote.{args_of}
+use Rattle.rb_model.specs.declared.message.Message.{Message}
+use Rattle.rb_model.specs.declared.message.Message.TheVariants as says
+use Rattle.rb_model.specs.declared.types.CoreFault.{CoreFault}
+use Rattle.rb_model.specs.declared.types.CoreFault.TheVariants.{Gone}
+use Rattle.rb_model.specs.declared.types.Told.{Told}
+use Rattle.rb_model.specs.Calls.{Outcome, Outcome as outcomes, told_results, told_as, message_of, outcome}
+use Rattle.rb_model.specs.Calls.Outcome.{NoCall, Reply, Forwarded, Silent}
+use Rattle.rb_model.specs.State.{Setting, State, Phase, Connection, Connections, at_moment, opening}
+use Rattle.rb_model.specs.State.Phase.{Idle, Reading, Owing, Awaiting, Lost}
+use Rattle.rb_model.specs.Connections.{change_first, is_live, live_connection, pending_in, phase_when_given, when_given, giving, reading, settled, on_found, number_for, opening_as, opening_of, is_there, without_number, closing_of}
+use Rattle.rb_model.specs.Losses.{asks_room, began_in, began_before, begins, crowding, evicted, first_due, is_retained_for, retained_removals, lost, removals_by, with_lost, expiring}
+use Rattle.rb_model.specs.Ending.{told_at, told_of, refused_by, tell, tell_end, at_fresh_moment, closed_as, expire_connection, expired_as, forward_reply, expire}
+use Rattle.rb_model.specs.Step.{Event, Output, context_in, serve, bytes, pending, gave, is_too_much, moved, open_connection, dropped_with, close_connection, with_reply, datagram, sent_call, output_or, show_taken, show_done, show_outcome, show_end, show_expired, step, after, IsReached}
+use Rattle.rb_model.specs.declared.types.Taken.{Taken}
+use Rattle.rb_model.specs.Step.Event.{Open, Bytes, Pending, Gave, Closed, NextLost, Datagram, Unsent, Sent, Forward, Expire}
+use Rattle.rb_model.specs.Step.Output.{Opened, TooMuch, IsPending}
+use Rattle.rb_laws.proofs.Closings.{asks-within}
+use Rattle.rb_laws.proofs.Crowding.{none_evicted, not_crowded, crowded}
+use Rattle.rb_laws.proofs.EntriesKept.{after-setting}
+use Rattle.rb_laws.proofs.Happenings.{Arriving, arriving}
+use Rattle.rb_laws.proofs.Happenings.Arriving.{NotThere, NotTaken, ReadOn, Ended}
+use Rattle.rb_laws.proofs.KeptRows.{keeps, is_before, retained_by, KeepsLess, KeepsNoMore, same-kept, changed-kept, mapped-kept, filtered-kept, one-more-kept, total, total-is, total-more, Least, least-of, none-keep, one-fewer}
+
+-- ---- what a call leaves behind
+
+-- its changes as they were, or one more: a row is added where the call asks for room
+data Effect (asks : Bool) (l new : Ledger) : Type 0 where
+  Same : new.own ≡ l.own → new.changes ≡ l.changes → Effect asks l new
+  Set : (row : Row) → asks ≡ true → new.own ≡ l.own → new.changes ≡ l.changes ++ Added row ∷ [] → Effect asks l new
+  Unset : (prog vers : ℕ) (which : Which) (owner : Owner) → new.own ≡ l.own → new.changes ≡ l.changes ++ Removed prog vers which owner ∷ [] → Effect asks l new
+
+set-effect : (context : Context) (head : CallHead) (o : Option Row) (l : Ledger) → Effect (adds context (rows_in l) (length l.changes) o) l (set_row context head o l).1
+unfolding set_row accepts_row
+set-effect context head None l = Same refl refl
+set-effect context head (Some row) l = by_test (accepts context (rows_in l) (length l.changes) row)
+  where
+    by_test : (b : Bool) → Effect b l (change_if b (Added row) (WasSet (version_of head.vers)) l).1
+    by_test true = Set row refl refl refl
+    by_test false = Same refl refl
+
+unset-effect : (context : Context) (head : CallHead) (prog vers : ℕ) (o : Option Which) (l : Ledger) → Effect false l (unset_rows context head prog vers o l).1
+unfolding unset_rows
+unset-effect context head prog vers None l = Same refl refl
+unset-effect context head prog vers (Some which) l = by_test (accepts_removal context l (removal_of head prog vers which))
+  where
+    by_test : (b : Bool) → Effect false l (change_if b (removal_of head prog vers which) (WasUnset (version_of head.vers)) l).1
+    by_test true = Unset prog vers which (owner_of head.cred) refl refl
+    by_test false = Same refl refl
+
+getport-effect : (head : CallHead) (m : Mapping) (l : Ledger) → Effect false l (getport head m l).1
+unfolding getport
+getport-effect head m l = by_transport (transport_of_prot m.prot)
+  where
+    by_transport : (o : Option Transport) → Effect false l (port_on head m o l).1
+    by_transport None = Same refl refl
+    by_transport (Some transport) = Same refl refl
+
+forward-effect : (context : Context) (xid : ℕ) (kind : Kind) (remote : RemoteCall) (arguments : List ℕ) (l : Ledger) → Effect false l (forward_call context xid kind remote arguments l).1
+unfolding forward_call
+forward-effect context xid kind remote arguments l = by_peer (peer_to_forward remote.prog remote.vers (rows_in l))
+  where
+    by_room : (peer : Peer) (b : Bool) → Effect false l
+        (cond b (answers.Forwarded, record l { forwards = started context.clock (forward_of context xid kind remote peer) (args_of remote arguments) l.forwards }) (refuse context kind remote replies.SystemErr l)).1
+    by_room peer true = Same refl refl
+    by_room peer false = Same refl refl
+
+    by_peer : (o : Option Peer) → Effect false l (forward_to context xid kind remote (args_of remote arguments) o l).1
+    by_peer None = Same refl refl
+    by_peer (Some peer) = by_room peer (can_start context.forwards l.forwards)
+
+answer-effect : (context : Context) (head : CallHead) (request : Request) (arguments : List ℕ) (l : Ledger)
+    → Effect (adds context (rows_in l) (length l.changes) (row_asked head request)) l (answer_to context head request arguments l).1
+unfolding getaddr getversaddr
+answer-effect context head (requests.Mapping mappings.Set m) arguments l = set-effect context head _ l
+answer-effect context head (requests.Mapping mappings.Unset m) arguments l = unset-effect context head m.prog m.vers _ l
+answer-effect context head (requests.Mapping mappings.Getport m) arguments l = getport-effect head m l
+answer-effect context head (requests.Rpcb rpcbs.Set r) arguments l = set-effect context head _ l
+answer-effect context head (requests.Rpcb rpcbs.Unset r) arguments l = unset-effect context head r.prog r.vers _ l
+answer-effect context head (requests.Rpcb rpcbs.Getaddr r) arguments l = Same refl refl
+answer-effect context head (requests.Rpcb rpcbs.Getversaddr r) arguments l = Same refl refl
+answer-effect context head (requests.Rpcb rpcbs.Getaddrlist r) arguments l = Same refl refl
+answer-effect context head (requests.Void procedure) arguments l = Same refl refl
+answer-effect context head (requests.Uaddr2taddr text) arguments l = Same refl refl
+answer-effect context head (requests.Taddr2uaddr netbuf) arguments l = Same refl refl
+answer-effect context head (requests.Forward kind remote) arguments l = forward-effect context head.xid kind remote arguments l
+
+outcome-effect : (context : Context) (message : Message) (arguments : List ℕ) (l : Ledger) → Effect (asks_room context message l) l (outcome context message arguments l).1
+unfolding outcome answer called adds_row row_to_set
+outcome-effect context says.NoCall arguments l = Same refl refl
+outcome-effect context (says.Refused head) arguments l = Same refl refl
+outcome-effect context (says.Garbage head) arguments l = Same refl refl
+outcome-effect context (says.Asked call) arguments l =
+    by_effect (answer_to context call.head call.request arguments (called call.head l)).1 (answer-effect context call.head call.request arguments (called call.head l))
+  where
+    by_effect : (new : Ledger) → Effect (adds context (rows_in l) (length l.changes) (row_asked call.head call.request)) (called call.head l) new
+        → Effect (adds context (rows_in l) (length l.changes) (row_asked call.head call.request)) l new
+    by_effect new (Same own same) = Same own same
+    by_effect new (Set row asks own same) = Set row asks own same
+    by_effect new (Unset prog vers which owner own same) = Unset prog vers which owner own same
+
+-- ---- a list begins after all changes
+
+abbrev IsStamped : ℕ → Outcome → Type 0
+IsStamped n (Reply reply (Some began)) = began ≡ n
+IsStamped n (Reply reply None) = ⊤
+IsStamped n NoCall = ⊤
+IsStamped n Forwarded = ⊤
+IsStamped n Silent = ⊤
+
+results-stamped : (caller : Caller) (n xid : ℕ) (bytes : List ℕ) (r : Results) → IsStamped n (told_results caller n xid bytes r)
+results-stamped (Tcp id peer) n xid bytes (results.Rows list) = refl
+results-stamped (Udp peer) n xid bytes (results.Rows list) = tt
+results-stamped (Tcp id peer) n xid bytes (results.Value value) = tt
+results-stamped (Udp peer) n xid bytes (results.Value value) = tt
+results-stamped (Tcp id peer) n xid bytes results.Statistics = tt
+results-stamped (Udp peer) n xid bytes results.Statistics = tt
+
+answer-stamped : (caller : Caller) (n xid : ℕ) (bytes_of : Results → List ℕ) (given : Answer) → IsStamped n (told_as caller n xid bytes_of given)
+answer-stamped caller n xid bytes_of (answers.Results r) = results-stamped caller n xid (bytes_of r) r
+answer-stamped caller n xid bytes_of (answers.Refused status) = tt
+answer-stamped caller n xid bytes_of answers.Forwarded = tt
+answer-stamped caller n xid bytes_of answers.Silent = tt
+
+outcome-stamped : (context : Context) (message : Message) (arguments : List ℕ) (l : Ledger)
+    → IsStamped (length (outcome context message arguments l).1.changes) (outcome context message arguments l).0
+unfolding outcome
+outcome-stamped context says.NoCall arguments l = tt
+outcome-stamped context (says.Refused head) arguments l = tt
+outcome-stamped context (says.Garbage head) arguments l = tt
+outcome-stamped context (says.Asked call) arguments l = answer-stamped context.caller _ call.head.xid _ (answer context call arguments (called call.head l)).0
+
+refused-stamped : (n xid : ℕ) (given : Answer) → IsStamped n (refused_by xid given)
+refused-stamped n xid (answers.Refused status) = tt
+refused-stamped n xid (answers.Results r) = tt
+refused-stamped n xid answers.Forwarded = tt
+refused-stamped n xid answers.Silent = tt
+
+ended-stamped : (n : ℕ) (message : List ℕ) (ended : EntryEnd) → IsStamped n (told_at message ended)
+ended-stamped n message ended = by_outcome ended.outcome
+  where
+    by_outcome : (o : target.Outcome) → IsStamped n (told_of ended.forward message o)
+    by_outcome (ends.Passed place) = tt
+    by_outcome (ends.Refused status) = refused-stamped n ended.forward.xid (refusal ended.forward.kind status)
+    by_outcome ends.Failed = refused-stamped n ended.forward.xid (refusal ended.forward.kind replies.SystemErr)
+    by_outcome ends.Dropped = tt
+
+-- ---- what a connection keeps after it
+
+reading-keeps : (most clock : ℕ) (fed : List ℕ) → KeepsNoMore most (reading clock fed)
+unfolding reading
+reading-keeps most clock fed change few c is = absurd cc
+
+lost-keeps : (most : ℕ) → KeepsNoMore most lost
+lost-keeps most change few c is = absurd cc
+
+settled-keeps : (n clock : ℕ) (said : Outcome) → IsStamped n said → KeepsNoMore n (settled clock said)
+unfolding settled
+settled-keeps n clock NoCall stamped change few c is = absurd cc
+settled-keeps n clock (Reply reply None) stamped change few c is = absurd cc
+settled-keeps n clock (Reply reply (Some began)) stamped change few c is = absurd (omega (arith, ltb-true began change is, stamped, few))
+settled-keeps n clock Forwarded stamped change few c is = absurd cc
+settled-keeps n clock Silent stamped change few c is = absurd cc
+
+given-keeps : (n change : ℕ) (p : Phase) → is_before change (began_in (phase_when_given n p)) ≡ true → is_before change (began_in p) ≡ true
+given-keeps n change Idle is = is
+given-keeps n change (Reading fed) is = is
+given-keeps n change Awaiting is = is
+given-keeps n change Lost is = is
+given-keeps n change (Owing o) is = by_test (nat_lt (o.given + n) (length o.marked)) is
+  where
+    by_test : (b : Bool) → is_before change (began_in (cond b (Owing (record o { given = o.given + n })) Idle)) ≡ true → is_before change o.began ≡ true
+    by_test true e = e
+    by_test false e = absurd cc
+
+giving-keeps : (most clock n : ℕ) → KeepsNoMore most (λ c. (giving clock n c).1)
+unfolding giving when_given
+giving-keeps most clock n change few c is = by_test (eqb (min n (length (pending_in c.phase))) 0) is
+  where
+    by_test : (b : Bool) → keeps change (cond b c (record c { phase = phase_when_given (min n (length (pending_in c.phase))) c.phase; since = clock })) ≡ true → keeps change c ≡ true
+    by_test true e = e
+    by_test false e = given-keeps (min n (length (pending_in c.phase))) change c.phase e
+
+evicted-keeps : (most : ℕ) (changes : List ℕ) → KeepsNoMore most (evicted changes)
+unfolding evicted
+evicted-keeps most changes change few c is = by_test (began_before changes (began_in c.phase)) is
+  where
+    by_test : (b : Bool) → keeps change (cond b (lost c) c) ≡ true → keeps change c ≡ true
+    by_test true e = absurd cc
+    by_test false e = e
+
+-- ---- a call is answered, once there is room for what it adds
+
+module _ (context : Context) (message : Message) (all : List Connection) (l : Ledger) (fits : total all l.own l.changes ≤ context.limit) where
+  abbrev left : List Connection
+  left = map (evicted (crowding context message all l)) all
+
+  -- where those connections are evicted whose lists are in the way
+  evicted-fits : (change : ℕ) (changes : List ℕ) → retained_removals all l ≡ change ∷ changes → total (map (evicted (change ∷ changes)) all) l.own l.changes < context.limit
+  unfolding retained_removals
+  evicted-fits change changes is =
+      let now : List Connection = map (evicted (change ∷ changes)) all in
+      let least : Least (change ∷ changes) = least-of change changes in
+      let also : (n : ℕ) → is_retained_for (begins now) n ≡ true → is_retained_for (begins all) n ≡ true =
+      λ n kept. retained_by n all ∙ mapped-kept n (evicted (change ∷ changes)) (evicted-keeps n (change ∷ changes)) all n (omega arith) (sym (retained_by n now) ∙ kept) in
+      let out : is_retained_for (begins now) least.value ≡ false = retained_by least.value now ∙ none-keep change changes least.value least.low all in
+      let there : list_any (λ n. eqb n least.value) (retained_removals all l) ≡ true = ap (λ (xs : List ℕ). list_any (λ n. eqb n least.value) xs) is ∙ least.there in
+      let fewer = one-fewer (is_retained_for (begins now)) (is_retained_for (begins all)) also least.value out (removals_by l) there in
+      omega (arith, fits, fewer, total-is all l, total-is now l)
+
+  made-room : asks_room context message l ≡ true → total left l.own l.changes < context.limit
+  made-room asks = by_room (nat_lt (length (rows_in l) + length (retained_removals all l)) context.limit) refl
+    where
+      left-is : (changes : List ℕ) → crowding context message all l ≡ changes → total left l.own l.changes ≡ total (map (evicted changes) all) l.own l.changes
+      left-is changes is = ap (λ (xs : List ℕ). total (map (evicted xs) all) l.own l.changes) is
+
+      by_kept : (changes : List ℕ) → retained_removals all l ≡ changes → context.limit ≤ length (rows_in l) + length (retained_removals all l) → total left l.own l.changes < context.limit
+      by_kept [] is full = absurd (omega (arith, full, asks-within context message l asks, ap (λ (xs : List ℕ). length xs) is))
+      by_kept (change ∷ changes) is full =
+          omega (arith, left-is (change ∷ changes) (crowded context message all l asks full ∙ is), evicted-fits change changes is)
+
+      by_room : (b : Bool) → nat_lt (length (rows_in l) + length (retained_removals all l)) context.limit ≡ b → total left l.own l.changes < context.limit
+      by_room true t =
+          let room = ltb-true _ _ t in
+          let none = left-is [] (not_crowded context message all l room) in
+          let same : total (map (evicted []) all) l.own l.changes ≡ total all l.own l.changes =
+          ap (λ (c : Connections). total c.all l.own l.changes) (none_evicted (record { next = 0; all = all })) in
+          omega (arith, room, none, same, total-is all l)
+      by_room false t = by_kept (retained_removals all l) refl (ltb-false _ _ t)
+
+  served-fits : (new : Ledger) → Effect (asks_room context message l) l new → total left new.own new.changes ≤ context.limit
+  served-fits new (Same own same) =
+      let less : KeepsLess (length l.changes) left all = mapped-kept (length l.changes) _ (evicted-keeps (length l.changes) _) all in
+      let more = total-more (length l.changes) left all less [] l.own l.changes new.changes (omega arith) (same ∙ sym (append-nil l.changes)) in
+      omega (arith, fits, more, ap (λ (rows : List Row). total left rows new.changes) own)
+  served-fits new (Set row asks own same) =
+      let more = total-more (length l.changes) left left (same-kept (length l.changes) left) (Added row ∷ []) l.own l.changes new.changes (omega arith) same in
+      omega (arith, made-room asks, more, ap (λ (rows : List Row). total left rows new.changes) own)
+  served-fits new (Unset prog vers which owner own same) =
+      let less : KeepsLess (length l.changes) left all = mapped-kept (length l.changes) _ (evicted-keeps (length l.changes) _) all in
+      let more = total-more (length l.changes) left all less (Removed prog vers which owner ∷ []) l.own l.changes new.changes (omega arith) same in
+      omega (arith, fits, more, ap (λ (rows : List Row). total left rows new.changes) own)
+
+-- ---- events
+
+abbrev pub Fits : State → Type 0
+Fits s = total s.connections.all s.ledger.own s.ledger.changes ≤ s.setting.limits.rows
+
+-- no connection keeps more
+kept-fits : (s : State) → Fits s → (all : List Connection) → KeepsLess (length s.ledger.changes) all s.connections.all → total all s.ledger.own s.ledger.changes ≤ s.setting.limits.rows
+kept-fits s fits all less =
+    let more = total-more (length s.ledger.changes) all s.connections.all less [] s.ledger.own s.ledger.changes s.ledger.changes (omega arith) (sym (append-nil s.ledger.changes)) in
+    omega (arith, fits, more)
+
+-- so on one connection alone
+one-fits : (s : State) → Fits s → (id : ℕ) (f : Connection → Connection) → KeepsNoMore (length s.ledger.changes) f → total (change_first (is_live id) f s.connections.all) s.ledger.own s.ledger.changes ≤ s.setting.limits.rows
+one-fits s fits id f no_more = kept-fits s fits (change_first (is_live id) f s.connections.all) (changed-kept (length s.ledger.changes) (is_live id) f no_more s.connections.all)
+
+same-rows : (all : List Connection) (l k : Ledger) → l.own ≡ k.own → l.changes ≡ k.changes → total all l.own l.changes ≡ total all k.own k.changes
+same-rows all l k own changes = ap (λ (rows : List Row). total all rows l.changes) own ∙ ap (λ (cs : List Change). total all k.own cs) changes
+
+module _ (s : State) (fits : Fits s) where
+  serve-fits : (now : ℕ) (caller : Caller) (content : List ℕ) → Fits (serve (at_moment now s) caller content).1
+  unfolding serve
+  serve-fits now caller content =
+      served-fits (context_in (at_moment now s) caller) (message_of content) s.connections.all s.ledger fits _
+      (outcome-effect (context_in (at_moment now s) caller) (message_of content) (arguments_of content) s.ledger)
+
+  serve-stamped : (now : ℕ) (caller : Caller) (content : List ℕ)
+      → IsStamped (length (serve (at_moment now s) caller content).1.ledger.changes) (serve (at_moment now s) caller content).0
+  unfolding serve
+  serve-stamped now caller content = outcome-stamped (context_in (at_moment now s) caller) (message_of content) (arguments_of content) s.ledger
+
+  output-fits : {A : Type 0} (show : A → Output) (r : Result A CoreFault) (u : State) → Fits u → Fits (output_or show (r, u)).1
+  output-fits show (Ok x) u f = f
+  output-fits show (Err fault) u f = f
+
+  bytes-fit : (now id : ℕ) (piece : List ℕ) (r : Result Taken CoreFault × State) → Arriving s now id piece r → Fits (output_or show_taken r).1
+  bytes-fit now id piece r (NotThere none is) = rw is fits
+  bytes-fit now id piece r (NotTaken c there why is) = rw is fits
+  bytes-fit now id piece r (ReadOn c fed there feeds none is) =
+      rw is (one-fits s fits id (reading (max s.clock now) (fed ++ piece)) (reading-keeps (length s.ledger.changes) (max s.clock now) (fed ++ piece)))
+  bytes-fit now id piece r (Ended c fed n there feeds some is) =
+      let content : List ℕ = data_of (take n (fed ++ piece)) in
+      let u : Outcome × State = serve (at_moment now s) (Tcp id c.peer) content in
+      rw is (one-fits u.1 (serve-fits now (Tcp id c.peer) content) id (settled (max s.clock now) u.0) (settled-keeps (length u.1.ledger.changes) (max s.clock now) u.0 (serve-stamped now (Tcp id c.peer) content)))
+
+  gave-fits : (now id n : ℕ) (o : Option Connection) → Fits (output_or show_done (moved now s (on_found id (giving (max s.clock now) n) s.connections o))).1
+  gave-fits now id n None = fits
+  gave-fits now id n (Some c) = one-fits s fits id (λ x. (giving (max s.clock now) n x).1) (giving-keeps (length s.ledger.changes) (max s.clock now) n)
+
+  opened-fits : (now : ℕ) (peer : Peer) (r : Result ℕ CoreFault) → Fits (output_or Opened (moved now s (opening_as peer (max s.clock now) s.connections r))).1
+  opened-fits now peer (Err fault) = fits
+  opened-fits now peer (Ok number) =
+      let new : Connection = record { number = s.connections.next; peer = peer; phase = Idle; since = max s.clock now } in
+      kept-fits s fits (s.connections.all ++ new ∷ []) (one-more-kept (length s.ledger.changes) s.connections.all new refl)
+
+  closed-fits : (id : ℕ) (b : Bool) → Fits (output_or show_done (dropped_with s id (cond b (Ok tt, without_number id s.connections) (Err Gone, s.connections)))).1
+  unfolding without_number caller_dropped
+  closed-fits id true =
+      let others : Connection → Bool = λ x. not (eqb x.number id) in
+      kept-fits s fits (filter others s.connections.all) (filtered-kept (length s.ledger.changes) others s.connections.all)
+  closed-fits id false = fits
+
+  sent-fits : (number : ℕ) (b : Bool) → Fits (output_or show_done (cond b (Ok tt, record s { ledger = call_sent number s.ledger }) (Err Gone, s))).1
+  unfolding call_sent
+  sent-fits number true = fits
+  sent-fits number false = fits
+
+  outcome-fits : (r : Outcome × State) → Fits r.1 → Fits (show_outcome (with_reply r)).1
+  outcome-fits (outcomes.NoCall, u) f = f
+  outcome-fits (outcomes.Reply reply began, u) f = f
+  outcome-fits (outcomes.Forwarded, u) f = f
+  outcome-fits (outcomes.Silent, u) f = f
+
+  either-fits : (b : Bool) (x y : Output × State) → Fits x.1 → Fits y.1 → Fits (cond b x y).1
+  either-fits true x y one other = one
+  either-fits false x y one other = other
+
+  -- an end of an entry leaves a note alone
+  told-fits : (now : ℕ) (message : List ℕ) (r : Option EntryEnd × Ledger) → r.1.own ≡ s.ledger.own → r.1.changes ≡ s.ledger.changes → Fits (tell_end message (at_fresh_moment now s) r).1
+  told-fits now message (None, l) own changes = omega (arith, fits, same-rows s.connections.all l s.ledger own changes)
+  told-fits now message (Some ended, l) own changes = by_caller ended.forward.caller
+    where
+      by_caller : (caller : Caller) → Fits (tell caller (told_at message ended) (record (at_fresh_moment now s) { ledger = l })).1
+      by_caller (Tcp id peer) =
+          let goes_on : Connection → Connection = settled (max s.clock now) (told_at message ended) in
+          let one = one-fits s fits id goes_on (settled-keeps (length s.ledger.changes) (max s.clock now) (told_at message ended) (ended-stamped (length s.ledger.changes) message ended)) in
+          omega (arith, one, same-rows (change_first (is_live id) goes_on s.connections.all) l s.ledger own changes)
+      by_caller (Udp peer) = omega (arith, fits, same-rows s.connections.all l s.ledger own changes)
+
+  end-fits : (r : Option Told × State) → Fits r.1 → Fits (show_end r).1
+  end-fits (None, u) f = f
+  end-fits (Some told, u) f = f
+
+  expired-fits : (r : Option Told × State) → Fits r.1 → Fits (show_expired (expired_as r)).1
+  unfolding expire_connection expiring
+  expired-fits (Some told, u) f = f
+  expired-fits (None, u) f = by_due (first_due u.clock u.connections)
+    where
+      by_due : (o : Option ℕ) → Fits (show_expired (closed_as o, record u { connections = with_lost o u.connections })).1
+      by_due None = f
+      by_due (Some id) = one-fits u f id lost (lost-keeps (length u.ledger.changes))
+
+  step-fits : (event : Event) → Fits (step s event).1
+  unfolding step open_connection opening_of gave close_connection closing_of datagram sent_call forward_reply expire replied fell_due
+  step-fits (Open now peer) = opened-fits now peer (number_for s.setting.limits.conns s.connections)
+  step-fits (Bytes now id piece) = bytes-fit now id piece (bytes s now id piece) (arriving s now id piece)
+  step-fits (Pending id) = output-fits IsPending (pending s id) s fits
+  step-fits (Gave now id n) = either-fits (is_too_much n (pending s id)) (TooMuch, s) (output_or show_done (gave s now id n)) fits (gave-fits now id n (live_connection id s.connections.all))
+  step-fits (Closed id) = closed-fits id (is_there id s.connections)
+  step-fits NextLost = fits
+  step-fits (Datagram now peer content) = outcome-fits (serve (at_moment now s) (Udp peer) content) (serve-fits now (Udp peer) content)
+  step-fits Unsent = fits
+  step-fits (Sent number) = sent-fits number (can_be_sent number s.ledger.forwards)
+  step-fits (Forward now from message) = end-fits _ (told-fits now message (replied s.setting.first_xid (max s.clock now) from message s.ledger) refl refl)
+  step-fits (Expire now) = expired-fits _ (told-fits now [] (fell_due (max s.clock now) s.ledger) refl refl)
+
+after-fits : (s : State) (events : List Event) → Fits s → Fits (after s events)
+after-fits s [] fits = fits
+after-fits s (event ∷ events) fits = after-fits (step s event).1 events (step-fits s fits event)
+
+-- The own rows are six.
+pub reached-fits : (s : State) → IsReached s → 6 ≤ s.setting.limits.rows → Fits s
+unfolding own_rows
+reached-fits s r few =
+    let start : State = opening r.limits r.listener r.first_xid r.now in
+    let setting : s.setting ≡ start.setting = ap (λ (t : State). t.setting) r.is ∙ after-setting start r.events in
+    let rows : s.setting.limits.rows ≡ r.limits.rows = ap (λ (x : Setting). x.limits.rows) setting in
+    let six : Fits start = omega (arith, few, rows) in
+    subst Fits (sym r.is) (after-fits start r.events six)

@@ -1,0 +1,347 @@
+-- What is remembered of the calls, in each state that a run reaches.
+use Rattle.std.proofs.Common.{◌≡◌, ℕ, ◌≤◌, max, Bool, true, false, cond, ◌&&◌, nat_le, Option, Some, None, Result, Ok, Err, List, [], ◌∷◌, ◌++◌, length, refl, sym, subst, ◌∙◌, arith}
+use Rattle.std.proofs.lemmas.Bool.{leb-true}
+use Rattle.rb_rpc.specs.declared.peer.Caller.{Caller}
+use Rattle.rb_rpc.specs.declared.peer.Caller.TheVariants.{Tcp, Udp}
+use Rattle.rb_rpc.specs.declared.peer.Peer.{Peer}
+use Rattle.rb_rpc.specs.declared.reply.ReplyStatus.TheVariants as replies
+use Rattle.rb_feed.specs.Feeds.{arguments_of}
+use Rattle.rb_forward.specs.declared.types.Kind.{Kind}
+use Rattle.rb_forward.specs.declared.types.Ended.{Ended as EntryEnd}
+use Rattle.rb_forward.specs.Forwards.{can_start, started, can_be_sent}
+use Rattle.rb_proto.specs.declared.answers.Answer.TheVariants as answers
+use Rattle.rb_proto.specs.declared.remote.RemoteCall.{RemoteCall}
+use Rattle.rb_proto.specs.Remote.{args_of}
+use Rattle.rb_proto.specs.Forwarding.{peer_to_forward, forward_of, refuse, forward_to, forward_call, replied, fell_due, caller_dropped, call_sent}
+use Rattle.rb_model.specs.declared.types.Told.{Told}
+use Rattle.rb_model.specs.declared.types.CoreFault.TheVariants.{Gone}
+use Rattle.rb_model.specs.Losses.{first_due, with_lost, expiring}
+use Rattle.rb_model.specs.Ending.{told_at, tell, tell_end, at_fresh_moment, forward_reply, closed_as, expire_connection, expired_as, expire}
+use Rattle.rb_registry.specs.declared.row.Row.{Row}
+use Rattle.rb_registry.specs.declared.row.Which.{Which}
+use Rattle.rb_registry.specs.Rows.{Change, is_netid, is_on, is_row, are_distinct, has_place, removes_some}
+use Rattle.rb_registry.specs.Rows.Change.{Added, Removed}
+use Rattle.rb_registry.specs.Registry.{AreOwn}
+use Rattle.rb_registry.specs.Laws.{is_accepted, are_accepted}
+use Rattle.rb_registry.proofs.RowLaws.{accepted_more, keys_are_distinct, live_rows_fit}
+use Rattle.rb_proto.specs.declared.listener.Listener.{Listener}
+use Rattle.rb_proto.specs.declared.context.Context.{Context}
+use Rattle.rb_rpc.specs.declared.call.CallHead.{CallHead}
+use Rattle.rb_proto.specs.declared.procedure.MappingProcedure.TheVariants as mappings
+use Rattle.rb_proto.specs.declared.procedure.RpcbProcedure.TheVariants as rpcbs
+use Rattle.rb_proto.specs.declared.request.Request.{Request}
+use Rattle.rb_proto.specs.declared.request.Request.TheVariants as requests
+use Rattle.rb_proto.specs.Callers.{own_rows}
+use Rattle.rb_proto.specs.Ledger.{Ledger, rows_in, version_of, called}
+use Rattle.rb_stats.specs.Statistics.{Note}
+use Rattle.rb_stats.specs.Statistics.Note.{WasSet, WasUnset}
+use Rattle.rb_registry.specs.declared.row.Transport.{Transport}
+use Rattle.rb_proto.specs.declared.mapping.Mapping.{Mapping}
+use Rattle.rb_proto.specs.Netids.{transport_of_prot, is_address}
+use Rattle.rb_proto.specs.Answers.{comes_from_here, can_be_set, accepts_row, set_row, accepts_removal, removal_of, unset_rows, change_if, port_on, getport, getaddr, getversaddr, answer_to, answer}
+use Rattle.rb_model.specs.declared.message.Message.{Message}
+use Rattle.rb_model.specs.declared.message.Message.TheVariants as says
+use Rattle.rb_model.specs.declared.types.CoreFault.{CoreFault}
+use Rattle.rb_model.specs.declared.types.Limits.{Limits}
+use Rattle.rb_model.specs.Calls.{Outcome, Outcome as outcomes, message_of, outcome}
+use Rattle.rb_model.specs.State.{State, Connections, at_moment, opening, are_good}
+use Rattle.rb_model.specs.Connections.{closing_of}
+use Rattle.rb_model.specs.Step.{Event, Output, context_in, serve, dropped_with, sent_call, show_end, show_expired, moved, bytes, pending, gave, is_too_much, open_connection, close_connection, with_reply, datagram, output_or, show_taken, show_done, show_outcome, step, after, IsReached}
+use Rattle.rb_model.specs.declared.types.Taken.{Taken}
+use Rattle.rb_model.specs.Step.Event.{Open, Bytes, Pending, Gave, Closed, NextLost, Datagram, Unsent, Sent, Forward, Expire}
+use Rattle.rb_model.specs.Step.Output.{Opened, TooMuch, IsPending}
+use Rattle.rb_model.specs.Laws.{LedgersAreWellKept}
+use Rattle.rb_proto.proofs.Addresses.{address_short}
+use Rattle.std.proofs.lemmas.List.Elements.{All-nil, All-push}
+use Rattle.std.specs.Prelude.{All, ⊤}
+use Rattle.rb_laws.proofs.KeptRows.{total-is}
+use Rattle.rb_laws.proofs.KeptSteps.{reached-fits}
+use Rattle.rb_laws.proofs.Happenings.{Arriving, arriving}
+use Rattle.rb_laws.proofs.Happenings.Arriving.{NotThere, NotTaken, ReadOn, Ended}
+
+both : (a b : Bool) → (a && b) ≡ true → (a ≡ true) × (b ≡ true)
+both true true e = (refl, refl)
+both true false e = absurd cc
+both false b e = absurd cc
+
+-- ---- what a call leaves behind
+
+-- a row with an address text of at most 128 bytes, or a removal
+abbrev pub IsShortChange : Change → Type 0
+IsShortChange (Added row) = length row.addr ≤ 128
+IsShortChange (Removed prog vers which owner) = ⊤
+
+-- its changes as they were, or one more, which was accepted
+data Grows (limit : ℕ) (old new : Ledger) : Type 0 where
+  Same : new.own ≡ old.own → new.changes ≡ old.changes → Grows limit old new
+  More : (change : Change) → is_accepted limit old.own old.changes change ≡ true → IsShortChange change → new.own ≡ old.own → new.changes ≡ old.changes ++ change ∷ [] → Grows limit old new
+
+change-grows : (limit : ℕ) (change : Change) (note : Note) (l : Ledger) (b : Bool) → (b ≡ true → is_accepted limit l.own l.changes change ≡ true) → (b ≡ true → IsShortChange change) → Grows limit l (change_if b change note l).1
+change-grows limit change note l true accepted short = More change (accepted refl) (short refl) refl refl
+change-grows limit change note l false accepted short = Same refl refl
+
+-- its address may be set on its netid
+settable-short : (row : Row) → can_be_set row ≡ true → length row.addr ≤ 128
+unfolding can_be_set
+settable-short row e = address_short row.netid row.addr (both _ (is_address row.netid row.addr) e).1
+
+set-grows : (context : Context) (head : CallHead) (o : Option Row) (l : Ledger) → Grows context.limit l (set_row context head o l).1
+unfolding set_row accepts_row
+set-grows context head None l = Same refl refl
+set-grows context head (Some row) l = change-grows context.limit (Added row) (WasSet (version_of head.vers)) l (accepts_row context l row) (λ e. last (comes_from_here context) (can_be_set row) (has_place context.limit (rows_in l) (length l.changes) row) e)
+    (λ e. settable-short row (middle (comes_from_here context) (can_be_set row) (has_place context.limit (rows_in l) (length l.changes) row) e))
+  where
+    middle : (a b c : Bool) → (a && b && c) ≡ true → b ≡ true
+    middle true true c e = refl
+    middle true false c e = absurd cc
+    middle false b c e = absurd cc
+
+    last : (a b c : Bool) → (a && b && c) ≡ true → c ≡ true
+    last true true true e = refl
+    last true true false e = absurd cc
+    last true false c e = absurd cc
+    last false b c e = absurd cc
+
+unset-grows : (context : Context) (head : CallHead) (prog vers : ℕ) (o : Option Which) (l : Ledger) → Grows context.limit l (unset_rows context head prog vers o l).1
+unfolding unset_rows accepts_removal
+unset-grows context head prog vers None l = Same refl refl
+unset-grows context head prog vers (Some which) l =
+    change-grows context.limit (removal_of head prog vers which) (WasUnset (version_of head.vers)) l (accepts_removal context l (removal_of head prog vers which))
+    (λ e. (both (comes_from_here context) (removes_some (rows_in l) (length l.changes) (removal_of head prog vers which)) e).1) (λ e. tt)
+
+getport-grows : (limit : ℕ) (head : CallHead) (m : Mapping) (l : Ledger) → Grows limit l (getport head m l).1
+unfolding getport
+getport-grows limit head m l = by_transport (transport_of_prot m.prot)
+  where
+    by_transport : (o : Option Transport) → Grows limit l (port_on head m o l).1
+    by_transport None = Same refl refl
+    by_transport (Some transport) = Same refl refl
+
+forward-grows : (context : Context) (xid : ℕ) (kind : Kind) (remote : RemoteCall) (arguments : List ℕ) (l : Ledger) → Grows context.limit l (forward_call context xid kind remote arguments l).1
+unfolding forward_call
+forward-grows context xid kind remote arguments l = by_peer (peer_to_forward remote.prog remote.vers (rows_in l))
+  where
+    by_room : (peer : Peer) (b : Bool) → Grows context.limit l
+        (cond b (answers.Forwarded, record l { forwards = started context.clock (forward_of context xid kind remote peer) (args_of remote arguments) l.forwards }) (refuse context kind remote replies.SystemErr l)).1
+    by_room peer true = Same refl refl
+    by_room peer false = Same refl refl
+
+    by_peer : (o : Option Peer) → Grows context.limit l (forward_to context xid kind remote (args_of remote arguments) o l).1
+    by_peer None = Same refl refl
+    by_peer (Some peer) = by_room peer (can_start context.forwards l.forwards)
+
+answer-grows : (context : Context) (head : CallHead) (request : Request) (arguments : List ℕ) (l : Ledger) → Grows context.limit l (answer_to context head request arguments l).1
+unfolding getaddr getversaddr
+answer-grows context head (requests.Mapping mappings.Set m) arguments l = set-grows context head _ l
+answer-grows context head (requests.Mapping mappings.Unset m) arguments l = unset-grows context head m.prog m.vers _ l
+answer-grows context head (requests.Mapping mappings.Getport m) arguments l = getport-grows context.limit head m l
+answer-grows context head (requests.Rpcb rpcbs.Set r) arguments l = set-grows context head _ l
+answer-grows context head (requests.Rpcb rpcbs.Unset r) arguments l = unset-grows context head r.prog r.vers _ l
+answer-grows context head (requests.Rpcb rpcbs.Getaddr r) arguments l = Same refl refl
+answer-grows context head (requests.Rpcb rpcbs.Getversaddr r) arguments l = Same refl refl
+answer-grows context head (requests.Rpcb rpcbs.Getaddrlist r) arguments l = Same refl refl
+answer-grows context head (requests.Void procedure) arguments l = Same refl refl
+answer-grows context head (requests.Uaddr2taddr text) arguments l = Same refl refl
+answer-grows context head (requests.Taddr2uaddr netbuf) arguments l = Same refl refl
+answer-grows context head (requests.Forward kind remote) arguments l = forward-grows context head.xid kind remote arguments l
+
+outcome-grows : (context : Context) (message : Message) (arguments : List ℕ) (l : Ledger) → Grows context.limit l (outcome context message arguments l).1
+unfolding outcome answer called
+outcome-grows context says.NoCall arguments l = Same refl refl
+outcome-grows context (says.Refused head) arguments l = Same refl refl
+outcome-grows context (says.Garbage head) arguments l = Same refl refl
+outcome-grows context (says.Asked call) arguments l = by_growth (answer_to context call.head call.request arguments (called call.head l)).1 (answer-grows context call.head call.request arguments (called call.head l))
+  where
+    by_growth : (new : Ledger) → Grows context.limit (called call.head l) new → Grows context.limit l new
+    by_growth new (Same own same) = Same own same
+    by_growth new (More change accepted short own same) = More change accepted short own same
+
+-- ---- what an event leaves behind
+
+record Follows (s u : State) : Type 0 where
+  setting : u.setting ≡ s.setting
+  grows : Grows s.setting.limits.rows s.ledger u.ledger
+
+stays : (s : State) → Follows s s
+stays s = record { setting = refl; grows = Same refl refl }
+
+serve-follows : (s : State) (now : ℕ) (caller : Caller) (content : List ℕ) → Follows s (serve (at_moment now s) caller content).1
+unfolding serve
+serve-follows s now caller content = record { setting = refl; grows = outcome-grows (context_in (at_moment now s) caller) (message_of content) (arguments_of content) s.ledger }
+
+moved-follows : {A : Type 0} (s : State) (now : ℕ) (show : A → Output) (r : Result A CoreFault × Connections) → Follows s (output_or show (moved now s r)).1
+moved-follows s now show (Ok x, c) = record { setting = refl; grows = Same refl refl }
+moved-follows s now show (Err fault, c) = stays s
+
+bytes-follow : (s : State) (now id : ℕ) (piece : List ℕ) (r : Result Taken CoreFault × State) → Arriving s now id piece r → Follows s (output_or show_taken r).1
+unfolding serve
+bytes-follow s now id piece r (NotThere none is) = rw is (stays s)
+bytes-follow s now id piece r (NotTaken c there why is) = rw is (record { setting = refl; grows = Same refl refl })
+bytes-follow s now id piece r (ReadOn c fed there feeds none is) = rw is (record { setting = refl; grows = Same refl refl })
+bytes-follow s now id piece r (Ended c fed n there feeds some is) = rw is (record { setting = refl; grows = outcome-grows _ _ _ s.ledger })
+
+shown-follows : {A : Type 0} (s : State) (show : A → Output) (r : Result A CoreFault) (u : State) → Follows s u → Follows s (output_or show (r, u)).1
+shown-follows s show (Ok x) u f = f
+shown-follows s show (Err fault) u f = f
+
+outcome-follows : (s : State) (r : Outcome × State) → Follows s r.1 → Follows s (show_outcome (with_reply r)).1
+outcome-follows s (outcomes.NoCall, u) f = record { setting = f.setting; grows = f.grows }
+outcome-follows s (outcomes.Reply reply began, u) f = record { setting = f.setting; grows = f.grows }
+outcome-follows s (outcomes.Forwarded, u) f = record { setting = f.setting; grows = f.grows }
+outcome-follows s (outcomes.Silent, u) f = record { setting = f.setting; grows = f.grows }
+
+closed-follows : (s : State) (id : ℕ) (r : Result (Unit {0}) CoreFault × Connections) → Follows s (output_or show_done (dropped_with s id r)).1
+unfolding caller_dropped
+closed-follows s id (Ok u, c) = record { setting = refl; grows = Same refl refl }
+closed-follows s id (Err fault, c) = stays s
+
+sent-follows : (s : State) (number : ℕ) (b : Bool) → Follows s (output_or show_done (cond b (Ok tt, record s { ledger = call_sent number s.ledger }) (Err Gone, s))).1
+unfolding call_sent
+sent-follows s number true = record { setting = refl; grows = Same refl refl }
+sent-follows s number false = stays s
+
+-- an end of an entry leaves a note alone
+record Ends (l : Ledger) (r : Option EntryEnd × Ledger) : Type 0 where
+  own : r.1.own ≡ l.own
+  changes : r.1.changes ≡ l.changes
+
+tell-follows : (s : State) (at : ℕ) (message : List ℕ) (r : Option EntryEnd × Ledger) → Ends s.ledger r → Follows s (tell_end message (at_fresh_moment at s) r).1
+tell-follows s at message (None, l) e = record { setting = refl; grows = Same e.own e.changes }
+tell-follows s at message (Some ended, l) e = by_caller ended.forward.caller
+  where
+    by_caller : (caller : Caller) → Follows s (tell caller (told_at message ended) (record (at_fresh_moment at s) { ledger = l })).1
+    by_caller (Tcp id peer) = record { setting = refl; grows = Same e.own e.changes }
+    by_caller (Udp peer) = record { setting = refl; grows = Same e.own e.changes }
+
+end-follows : (s : State) (r : Option Told × State) → Follows s r.1 → Follows s (show_end r).1
+end-follows s (None, t) f = f
+end-follows s (Some told, t) f = f
+
+expired-follows : (s : State) (r : Option Told × State) → Follows s r.1 → Follows s (show_expired (expired_as r)).1
+unfolding expire_connection expiring
+expired-follows s (Some told, t) f = f
+expired-follows s (None, t) f = by_found (first_due t.clock t.connections)
+  where
+    by_found : (o : Option ℕ) → Follows s (show_expired (closed_as o, record t { connections = with_lost o t.connections })).1
+    by_found None = record { setting = f.setting; grows = f.grows }
+    by_found (Some id) = record { setting = f.setting; grows = f.grows }
+
+replied-ends : (l : Ledger) (first_xid clock : ℕ) (from : Peer) (message : List ℕ) → Ends l (replied first_xid clock from message l)
+unfolding replied
+replied-ends l first_xid clock from message = record { own = refl; changes = refl }
+
+due-ends : (l : Ledger) (clock : ℕ) → Ends l (fell_due clock l)
+unfolding fell_due
+due-ends l clock = record { own = refl; changes = refl }
+
+either : (s : State) (b : Bool) (x y : Output × State) → Follows s x.1 → Follows s y.1 → Follows s (cond b x y).1
+either s true x y left right = left
+either s false x y left right = right
+
+step-follows : (s : State) (event : Event) → Follows s (step s event).1
+unfolding step open_connection gave close_connection datagram sent_call forward_reply expire
+step-follows s (Open now peer) = moved-follows s now Opened _
+step-follows s (Bytes now id piece) = bytes-follow s now id piece (bytes s now id piece) (arriving s now id piece)
+step-follows s (Pending id) = shown-follows s IsPending (pending s id) s (stays s)
+step-follows s (Gave now id n) = either s (is_too_much n (pending s id)) (TooMuch, s) (output_or show_done (gave s now id n)) (stays s) (moved-follows s now show_done _)
+step-follows s (Closed id) = closed-follows s id (closing_of id s.connections)
+step-follows s NextLost = stays s
+step-follows s (Datagram now peer content) =
+    outcome-follows s (serve (at_moment now s) (Udp peer) content) (serve-follows s now (Udp peer) content)
+step-follows s Unsent = stays s
+step-follows s (Sent number) = sent-follows s number (can_be_sent number s.ledger.forwards)
+step-follows s (Forward now from message) =
+    end-follows s (tell_end message (at_fresh_moment now s) (replied s.setting.first_xid (max s.clock now) from message s.ledger))
+    (tell-follows s now message (replied s.setting.first_xid (max s.clock now) from message s.ledger) (replied-ends s.ledger s.setting.first_xid (max s.clock now) from message))
+step-follows s (Expire now) =
+    expired-follows s (tell_end [] (at_fresh_moment now s) (fell_due (max s.clock now) s.ledger))
+    (tell-follows s now [] (fell_due (max s.clock now) s.ledger) (due-ends s.ledger (max s.clock now)))
+
+-- no event changes the setting
+pub step-setting : (s : State) (event : Event) → (step s event).1.setting ≡ s.setting
+step-setting s event = (step-follows s event).setting
+
+-- ---- what stays so
+
+-- the own rows
+are-own : (listener : Listener) → AreOwn (own_rows listener)
+unfolding own_rows
+are-own listener = refl
+
+own-distinct : (listener : Listener) → are_distinct (own_rows listener) ≡ true
+unfolding own_rows is_row is_on is_netid
+own-distinct listener = refl
+
+six-own : (listener : Listener) → length (own_rows listener) ≡ 6
+unfolding own_rows
+six-own listener = refl
+
+-- what holds of the ledger
+record KeepsLedger (limit : ℕ) (listener : Listener) (l : Ledger) : Type 0 where
+  own : l.own ≡ own_rows listener
+  accepted : are_accepted limit l.own [] l.changes ≡ true
+  short : All IsShortChange l.changes
+
+grown : (limit : ℕ) (listener : Listener) (old new : Ledger) → Grows limit old new → KeepsLedger limit listener old → KeepsLedger limit listener new
+grown limit listener old new (Same own same) k = record {
+  own = own ∙ k.own;
+  accepted = rw (own, same) k.accepted;
+  short = rw same k.short;
+}
+grown limit listener old new (More change accepted short own same) k = record {
+  own = own ∙ k.own;
+  accepted = rw (own, same) (accepted_more limit old.own [] old.changes change k.accepted accepted);
+  short = rw same (All-push IsShortChange old.changes change k.short short);
+}
+
+abbrev KeepsIn : State → Type 0
+KeepsIn s = KeepsLedger s.setting.limits.rows s.setting.listener s.ledger
+
+step-keeps : (s : State) (event : Event) → KeepsIn s → KeepsIn (step s event).1
+step-keeps s event k =
+    let f = step-follows s event in
+    rw f.setting (grown s.setting.limits.rows s.setting.listener s.ledger (step s event).1.ledger f.grows k)
+
+after-keeps : (s : State) (events : List Event) → KeepsIn s → KeepsIn (after s events)
+after-keeps s [] k = k
+after-keeps s (event ∷ events) k = after-keeps (step s event).1 events (step-keeps s event k)
+
+opening-keeps : (limits : Limits) (listener : Listener) (first_xid now : ℕ) → KeepsIn (opening limits listener first_xid now)
+opening-keeps limits listener first_xid now = record {
+  own = refl;
+  accepted = refl;
+  short = All-nil IsShortChange;
+}
+
+eight : (limits : Limits) → are_good limits ≡ true → 6 ≤ limits.rows
+eight limits good =
+    let a = both _ (nat_le limits.forwards 64) good in
+    let b = both _ (nat_le limits.rows 4096) a.0 in
+    let c = both _ (nat_le 8 limits.rows) b.0 in
+    let more : 8 ≤ limits.rows = leb-true 8 limits.rows c.1 in
+    omega (arith, more)
+
+reached-keeps : (s : State) → IsReached s → KeepsIn s
+reached-keeps s r =
+    let start : State = opening r.limits r.listener r.first_xid r.now in
+    subst KeepsIn (sym r.is) (after-keeps start r.events (opening-keeps r.limits r.listener r.first_xid r.now))
+
+-- the own rows are the listener's, and each change is short
+pub reached-short : (s : State) → IsReached s → (s.ledger.own ≡ own_rows s.setting.listener) × All IsShortChange s.ledger.changes
+reached-short s r = let k = reached-keeps s r in (k.own, k.short)
+
+pub ledgers_are_well_kept : LedgersAreWellKept
+ledgers_are_well_kept s r =
+    let k = reached-keeps s r in
+    let distinct : are_distinct s.ledger.own ≡ true = rw k.own (own-distinct s.setting.listener) in
+    let own : AreOwn s.ledger.own = subst AreOwn (sym k.own) (are-own s.setting.listener) in
+    record {
+      own = k.own;
+      accepted = k.accepted;
+      own_distinct = distinct;
+      distinct = keys_are_distinct s.setting.limits.rows s.ledger.own s.ledger.changes own distinct k.accepted;
+      fit = λ good.
+          let six : length s.ledger.own ≡ 6 = rw k.own (six-own s.setting.listener) in
+          live_rows_fit s.setting.limits.rows s.ledger.own s.ledger.changes own (omega (arith, six, eight s.setting.limits good)) k.accepted;
+      kept_fit = λ good. omega (arith, reached-fits s r (eight s.setting.limits good), total-is s.connections.all s.ledger);
+    }

@@ -1,0 +1,50 @@
+-- The numbers of connections only go up.
+use Rattle.std.proofs.Common.{◌≡◌, ℕ, ◌+◌, true, false, cond, Option, Some, None, List, [], ◌∷◌, refl, sym, ap, subst, ◌∙◌, arith}
+use Rattle.std.specs.Prelude.{filter_map}
+use Rattle.std.specs.List.{cons_option}
+use Rattle.rb_model.specs.State.{State, Connections}
+use Rattle.rb_model.specs.Connections.{without_number}
+use Rattle.rb_model.specs.Step.{Event, Output, show_taken, step, run}
+use Rattle.rb_model.specs.declared.types.Taken.{Taken}
+use Rattle.rb_model.specs.Step.Output.{Took, TookAndClosed}
+use Rattle.rb_model.specs.Laws.{number_given, AreRisingFrom}
+use Rattle.rb_laws.proofs.Happenings.{Happening, happening}
+use Rattle.rb_laws.proofs.Happenings.Happening.{Stays, Evicts, Opens, Reads, Ends, Gives, Closes, Tells, TimesOut}
+
+-- a number that is given is the next one, and no other event moves it
+abbrev pub GivesNext : Option ℕ → ℕ → ℕ → Type 0
+GivesNext None old new = new ≡ old
+GivesNext (Some id) old new = (id ≡ old) × (new ≡ old + 1)
+
+taken-plain : (t : Taken) → number_given (show_taken t) ≡ None
+taken-plain t = elim (t.closed) as (λ b. number_given (cond b (TookAndClosed t.count) (Took t.count)) ≡ None) [ true ↦ refl | false ↦ refl ]
+
+none_given : (output : Output) (old : ℕ) (now : Connections) → number_given output ≡ None → now.next ≡ old → GivesNext (number_given output) old now.next
+none_given output old now none same = subst (λ (o : Option ℕ). GivesNext o old now.next) (sym none) same
+
+pub happening-next : (s : State) (event : Event) (output : Output) (now : Connections) → Happening s event output now → GivesNext (number_given output) s.connections.next now.next
+unfolding without_number
+happening-next s event output now (Stays q same) = none_given output s.connections.next now q.no_number (ap (λ (c : Connections). c.next) same)
+happening-next s event output now (Evicts at peer content is q same) = none_given output s.connections.next now q.no_number (ap (λ (c : Connections). c.next) same)
+happening-next s event output now (Opens at peer is out same) =
+    subst (λ (o : Option ℕ). GivesNext o s.connections.next now.next) (sym (ap number_given out)) (refl, ap (λ (c : Connections). c.next) same)
+happening-next s event output now (Reads at id piece c fed is there feeds none out same) = none_given output s.connections.next now (ap number_given out) (ap (λ (c : Connections). c.next) same)
+happening-next s event output now (Ends at id piece c fed n is there feeds some out same) =
+    none_given output s.connections.next now (ap number_given out ∙ taken-plain _) (ap (λ (c : Connections). c.next) same)
+happening-next s event output now (Gives at id n c is there few out same) = none_given output s.connections.next now (ap number_given out) (ap (λ (c : Connections). c.next) same)
+happening-next s event output now (Tells at id said is q final told there same) = none_given output s.connections.next now q.no_number (ap (λ (c : Connections). c.next) same)
+happening-next s event output now (TimesOut at c is q none found same) = none_given output s.connections.next now q.no_number (ap (λ (c : Connections). c.next) same)
+happening-next s event output now (Closes id is out there same) = none_given output s.connections.next now (ap number_given out) (ap (λ (c : Connections). c.next) same)
+
+pub step-next : (s : State) (event : Event) → GivesNext (number_given (step s event).0) s.connections.next (step s event).1.connections.next
+step-next s event = happening-next s event (step s event).0 (step s event).1.connections (happening s event)
+
+rising : (o : Option ℕ) (old new : ℕ) (rest : List ℕ) → GivesNext o old new → AreRisingFrom new rest → AreRisingFrom old (cons_option o rest)
+rising None old new rest e later = subst (λ n. AreRisingFrom n rest) e later
+rising (Some id) old new rest (is, e) later =
+    let up : new ≡ id + 1 = omega arith in
+    (omega arith, subst (λ n. AreRisingFrom n rest) up later)
+
+pub numbers_rise : (s : State) (events : List Event) → AreRisingFrom s.connections.next (filter_map number_given (run s events))
+numbers_rise s [] = tt
+numbers_rise s (event ∷ events) = rising (number_given (step s event).0) s.connections.next (step s event).1.connections.next _ (step-next s event) (numbers_rise (step s event).1 events)

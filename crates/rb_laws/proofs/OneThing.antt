@@ -1,0 +1,96 @@
+-- 'expire' does one thing, the due one of least number.
+use Rattle.std.proofs.Common.{◌≡◌, ℕ, ◌+◌, ◌≤◌, max, Option, Some, None, List, [], ◌∷◌, ◌++◌, refl, sym, ap, subst, ◌∙◌, arith}
+use Rattle.std.specs.Prelude.{All, find, option_map}
+use Rattle.std.proofs.lemmas.List.Elements.{All-nil, All-cons, All-weaker}
+use Rattle.rb_rpc.specs.declared.peer.Caller.{Caller}
+use Rattle.rb_rpc.specs.declared.peer.Caller.TheVariants.{Tcp, Udp}
+use Rattle.rb_rpc.specs.declared.reply.ReplyStatus.TheVariants.{SystemErr}
+use Rattle.rb_forward.specs.declared.types.Forward.{Forward}
+use Rattle.rb_forward.specs.declared.types.Ended as entry
+use Rattle.rb_forward.specs.declared.types.Outcome.TheVariants.{Failed}
+use Rattle.rb_forward.specs.Forwards.{Entry, is_due as entry_is_due, without_first, ended_by}
+use Rattle.rb_forward.specs.Ends.{NoneIs, IsFirst, EndsFirst}
+use Rattle.rb_forward.proofs.Ends.{ends_first, due_means, due_tested}
+use Rattle.rb_model.specs.declared.types.Expired.{Expired}
+use Rattle.rb_model.specs.Calls.{Outcome}
+use Rattle.rb_model.specs.State.{State, Connection}
+use Rattle.rb_model.specs.Losses.{is_due}
+use Rattle.rb_model.specs.Ending.{told_failed, told_at, tell, at_fresh_moment, expire}
+use Rattle.rb_model.specs.Step.{IsReached}
+use Rattle.rb_model.specs.Laws.{IsLeast}
+use Rattle.rb_model.specs.DeadlineLaws.{clock_at, EntryIsDue, DoesOneThing, ExpireDoesOneThing}
+use Rattle.rb_laws.proofs.Reached.{reached-sound}
+use Rattle.rb_laws.proofs.LeastLost.{first-least}
+use Rattle.rb_laws.proofs.EntriesKept.{AreRising, reached-kept}
+use Rattle.rb_laws.proofs.DueThings.{end_of, Expiry, expiry}
+use Rattle.rb_laws.proofs.DueThings.Expiry.{EntryEnds, ConnectionEnds, NothingDue}
+
+-- ---- entries
+
+from-least : (least next : ℕ) (all : List Entry) → AreRising least next all → All (λ (e : Entry). least ≤ e.number) all
+from-least least next [] s = All-nil (λ (e : Entry). least ≤ e.number)
+from-least least next (e ∷ all) s =
+    let P : Entry → Type 0 = λ d. least ≤ d.number in
+    All-cons P e all s.0
+    (All-weaker (λ (d : Entry). e.number + 1 ≤ d.number) P (λ d above. omega (arith, above, s.0)) all (from-least (e.number + 1) next all s.1))
+
+-- those before the first are none
+split-least : (Is : Entry → Type 0) (least next : ℕ) (before behind : List Entry) (e : Entry) → AreRising least next (before ++ e ∷ behind) → NoneIs Is before
+    → All (λ (d : Entry). Is d → e.number ≤ d.number) (before ++ e ∷ behind)
+split-least Is least next [] behind e s none =
+    All-cons (λ (d : Entry). Is d → e.number ≤ d.number) e behind (λ is. omega arith)
+    (All-weaker (λ (d : Entry). e.number + 1 ≤ d.number) (λ (d : Entry). Is d → e.number ≤ d.number) (λ d above is. omega (arith, above)) behind (from-least (e.number + 1) next behind s.1))
+split-least Is least next (x ∷ before) behind e s none =
+    All-cons (λ (d : Entry). Is d → e.number ≤ d.number) x (before ++ e ∷ behind) (λ is. absurd (none.0 is))
+    (split-least Is (x.number + 1) next before behind e s.1 none.1)
+
+first-is-least : (Is : Entry → Type 0) (next : ℕ) (all rest : List Entry) (e : Entry) → AreRising 1 next all → IsFirst Is all e rest → All (λ (d : Entry). Is d → e.number ≤ d.number) all
+first-is-least Is next all rest e rising first =
+    subst (λ (xs : List Entry). All (λ (d : Entry). Is d → e.number ≤ d.number) xs) (sym first.all_are)
+    (split-least Is 1 next first.before first.behind e (subst (AreRising 1 next) first.all_are rising) first.is_first)
+
+tell-told : (s u : State) (caller : Caller) (said : Outcome) → (tell caller said u).0 ≡ (tell caller said s).0
+tell-told s u (Tcp id peer) said = refl
+tell-told s u (Udp peer) said = refl
+
+tell-ledger : (u : State) (caller : Caller) (said : Outcome) → (tell caller said u).1.ledger ≡ u.ledger
+tell-ledger u (Tcp id peer) said = refl
+tell-ledger u (Udp peer) said = refl
+
+-- ---- one thing
+
+module _ (s : State) (reached : IsReached s) (now : ℕ) where
+  abbrev clock : ℕ
+  clock = max s.clock now
+
+  ending : (o : Option Entry) → find (entry_is_due clock) s.ledger.forwards.all ≡ o
+      → EndsFirst (EntryIsDue (clock_at now s)) Failed s.ledger.forwards (option_map (ended_by Failed) o) (record s.ledger.forwards { all = without_first (entry_is_due clock) s.ledger.forwards.all })
+  ending o is =
+      subst (λ (x : Option Entry). EndsFirst (EntryIsDue (clock_at now s)) Failed s.ledger.forwards (option_map (ended_by Failed) x) (record s.ledger.forwards { all = without_first (entry_is_due clock) s.ledger.forwards.all })) is
+      (ends_first (EntryIsDue (clock_at now s)) (entry_is_due clock) (due_means clock) (due_tested clock) Failed s.ledger.forwards)
+
+  least-found : (o : Option Connection) → find (is_due clock) s.connections.all ≡ o → IsLeast (is_due clock) s.connections.all (option_map (λ (c : Connection). c.number) o)
+  least-found o is =
+      subst (λ (x : Option Connection). IsLeast (is_due clock) s.connections.all (option_map (λ (c : Connection). c.number) x)) is
+      (first-least (is_due clock) 0 s.connections.next s.connections.all (reached-sound s reached))
+
+  by_case : (r : Expired × State) → Expiry s clock (at_fresh_moment now s) r → DoesOneThing now s r
+  by_case r (EntryEnds e found ledger left is) =
+      let ends = ending (Some e) found in
+      let same : e.forward ≡ ends.0.forward = ap (λ (x : entry.Ended). x.forward) ends.2 in
+      let mid : State = record (at_fresh_moment now s) { ledger = ledger } in
+      let said : Outcome = told_at [] (end_of e) in
+      subst (DoesOneThing now s) (sym is) (record {
+        entry = ends.0;
+        ends = subst (λ l. IsFirst (EntryIsDue (clock_at now s)) s.ledger.forwards.all ends.0 l.forwards.all) (sym (tell-ledger mid e.forward.caller said))
+            (subst (λ f. IsFirst (EntryIsDue (clock_at now s)) s.ledger.forwards.all ends.0 f.all) (sym left) ends.1);
+        least = first-is-least (EntryIsDue (clock_at now s)) s.ledger.forwards.next s.ledger.forwards.all _ ends.0 (reached-kept s reached).order ends.1;
+        tells = tell-told s mid e.forward.caller said ∙ ap (λ (f : Forward). (tell f.caller (told_failed f SystemErr) s).0) same;
+      })
+  by_case r (ConnectionEnds none c found is) =
+      subst (DoesOneThing now s) (sym is) (record { entries = (ending None none).0; least = least-found (Some c) found; loses = refl })
+  by_case r (NothingDue none found is) =
+      subst (DoesOneThing now s) (sym is) (record { entries = (ending None none).0; connections = least-found None found; same = refl })
+
+pub expire_does_one_thing : ExpireDoesOneThing
+expire_does_one_thing s reached now = by_case s reached now (expire s now) (expiry s now)

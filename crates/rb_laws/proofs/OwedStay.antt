@@ -1,0 +1,98 @@
+-- A reply that is owed stays so until its bytes are given or its connection is closed.
+use Rattle.std.proofs.Common.{◌≡◌, ℕ, max, Bool, true, false, eqb, Some, List, ◌++◌, map, take, refl, sym, ap, ◌∙◌, ◌⊎◌, inl, inr}
+use Rattle.std.proofs.lemmas.Bool.{eqb-true}
+use Rattle.rb_model.specs.State.{State, Phase, Connection, Connections}
+use Rattle.rb_model.specs.State.Phase.{Idle, Reading, Owing, Awaiting, Lost}
+use Rattle.rb_model.specs.Connections.{is_live, live_connection, fed_in, change_first, changed_at, reading, settled, giving, without_number}
+use Rattle.rb_model.specs.Step.{Event, Output, step}
+use Rattle.rb_model.specs.Laws.{IsLive, is_owing, gives_or_closes, OwedRepliesStay}
+use Rattle.rb_rpc.specs.declared.peer.Caller.TheVariants.{Tcp, Udp}
+use Rattle.rb_rpc.specs.Records.{data_of}
+use Rattle.rb_model.specs.Losses.{evicted, evicting, lost}
+use Rattle.rb_laws.proofs.Crowds.{live_or_lost, lost_stays}
+use Rattle.rb_laws.proofs.Happenings.{Happening, happening, said_in, crowd_at}
+use Rattle.rb_laws.proofs.Happenings.Happening.{Stays, Evicts, Opens, Reads, Ends, Gives, Closes, Tells, TimesOut}
+use Rattle.rb_laws.proofs.Closings.{lost_in, now-lost, timing-out}
+use Rattle.rb_laws.proofs.Live.{changed-other, closed-other, find-before}
+use Rattle.rb_laws.proofs.Entries.{Await, IsWaiting, entry-waits, reached-awaits}
+use Rattle.rb_laws.proofs.Reached.{giving-keeps}
+
+owing-takes : (p : Phase) (fed : List ℕ) → is_owing p ≡ true → fed_in p ≡ Some fed → ⊥
+owing-takes Idle fed is feeds = absurd cc
+owing-takes (Reading xs) fed is feeds = absurd cc
+owing-takes (Owing o) fed is feeds = absurd cc
+owing-takes Awaiting fed is feeds = absurd cc
+owing-takes Lost fed is feeds = absurd cc
+
+module _ (s : State) (waits : Await s) (event : Event) (id : ℕ) (c : Connection) (there : IsLive s id c) (is : is_owing c.phase ≡ true) where
+  -- a connection that is fed has another number
+  other : (k : ℕ) (d : Connection) (fed : List ℕ) → live_connection k s.connections.all ≡ Some d → fed_in d.phase ≡ Some fed → eqb k id ≡ false
+  other k d fed here feeds = by_test (eqb k id) refl
+    where
+      by_test : (b : Bool) → eqb k id ≡ b → eqb k id ≡ false
+      by_test false e = e
+      by_test true e =
+          let one : Some d ≡ Some c = sym here ∙ ap (λ (j : ℕ). live_connection j s.connections.all) (eqb-true k id e) ∙ there in
+          let same : d ≡ c = cc in
+          absurd (owing-takes c.phase fed is (ap (λ (x : Connection). fed_in x.phase) (sym same) ∙ feeds))
+
+  -- so has one that awaits the end of a forwarded call
+  other-waits : (k : ℕ) → IsWaiting k s.connections.all → eqb k id ≡ false
+  other-waits k w = by_test (eqb k id) refl
+    where
+      by_test : (b : Bool) → eqb k id ≡ b → eqb k id ≡ false
+      by_test false e = e
+      by_test true e =
+          let one : Some w.connection ≡ Some c = sym w.there ∙ ap (λ (j : ℕ). live_connection j s.connections.all) (eqb-true k id e) ∙ there in
+          let same : w.connection ≡ c = cc in
+          let clash : true ≡ false = sym is ∙ ap (λ (x : Connection). is_owing x.phase) (sym same) ∙ ap is_owing w.phase in
+          absurd cc
+
+  changed : (k : ℕ) (f : Connection → Connection) (now : Connections) → ((d : Connection) → (f d).number ≡ d.number) → eqb k id ≡ false → now ≡ changed_at k f s.connections
+      → live_connection id now.all ≡ Some c
+  unfolding live_connection
+  changed k f now keeps e same = ap (λ (x : Connections). live_connection id x.all) same ∙ changed-other id k f keeps e s.connections.all ∙ there
+
+  -- where it is in the way of a row it is Lost, and else it stays; so too where another goes on then
+  in-the-way : (changes : List ℕ) (now : Connections) → now ≡ evicting changes s.connections → (live_connection id now.all ≡ Some c) ⊎ (lost_in id now.all ≡ true)
+  unfolding live_connection
+  in-the-way changes now same = elim (live_or_lost id changes s.connections.all c there) [
+    | inl stays ↦ inl (ap (λ (x : Connections). live_connection id x.all) same ∙ stays.1)
+    | inr goes ↦ inr (ap (λ (x : Connections). lost_in id x.all) same ∙ goes.1)
+  ]
+
+  another-goes-on : (changes : List ℕ) (k : ℕ) (f : Connection → Connection) (now : Connections) → ((d : Connection) → (f d).number ≡ d.number) → eqb k id ≡ false → now ≡ changed_at k f (evicting changes s.connections)
+      → (live_connection id now.all ≡ Some c) ⊎ (lost_in id now.all ≡ true)
+  unfolding live_connection
+  another-goes-on changes k f now keeps e same = elim (live_or_lost id changes s.connections.all c there) [
+    | inl stays ↦ inl (ap (λ (x : Connections). live_connection id x.all) same ∙ changed-other id k f keeps e (map (evicted changes) s.connections.all) ∙ stays.1)
+    | inr goes ↦ inr (ap (λ (x : Connections). lost_in id x.all) same ∙ lost_stays id k f keeps e (map (evicted changes) s.connections.all) goes.1)
+  ]
+
+  by_case : (output : Output) (now : Connections) → gives_or_closes id event ≡ false → Happening s event output now → (live_connection id now.all ≡ Some c) ⊎ (lost_in id now.all ≡ true)
+  unfolding live_connection reading settled without_number
+  by_case output now not_it (Stays q same) = inl (ap (λ (x : Connections). live_connection id x.all) same ∙ there)
+  by_case output now not_it (Evicts at peer content e q same) = in-the-way (crowd_at s at (Udp peer) content) now same
+  by_case output now not_it (Opens at peer e out same) =
+      inl (ap (λ (x : Connections). live_connection id x.all) same
+      ∙ find-before (is_live id) s.connections.all c (record { number = s.connections.next; peer = peer; phase = Idle; since = max s.clock at }) there)
+  by_case output now not_it (Reads at k piece d fed e here feeds none out same) =
+      inl (changed k (reading (max s.clock at) (fed ++ piece)) now (λ x. refl) (other k d fed here feeds) same)
+  by_case output now not_it (Ends at k piece d fed n e here feeds some out same) =
+      another-goes-on (crowd_at s at (Tcp k d.peer) (data_of (take n (fed ++ piece)))) k (settled (max s.clock at) (said_in s at k d (take n (fed ++ piece)))) now (λ x. refl) (other k d fed here feeds) same
+  by_case output now not_it (Gives at k n d e here few out same) =
+      inl (changed k (λ x. (giving (max s.clock at) n x).1) now (giving-keeps (max s.clock at) n).number (ap (gives_or_closes id) (sym e) ∙ not_it) same)
+  by_case output now not_it (Tells at k said e q final told has same) =
+      inl (changed k (settled (max s.clock at) said) now (λ x. refl) (other-waits k (entry-waits s k waits has)) same)
+  by_case output now not_it (Closes k e out here same) =
+      inl (ap (λ (x : Connections). live_connection id x.all) same ∙ closed-other id k (ap (gives_or_closes id) (sym e) ∙ not_it) s.connections.all ∙ there)
+  by_case output now not_it (TimesOut at d e q none found same) = by_number (eqb d.number id) refl
+    where
+      by_number : (b : Bool) → eqb d.number id ≡ b → (live_connection id now.all ≡ Some c) ⊎ (lost_in id now.all ≡ true)
+      by_number false other = inl (changed d.number lost now (λ x. refl) other same)
+      by_number true mine =
+          inr (ap (λ (x : Connections). lost_in id x.all) same ∙ ap (λ (k : ℕ). lost_in id (change_first (is_live k) lost s.connections.all)) (eqb-true d.number id mine)
+          ∙ (now-lost id lost timing-out s.connections.all c there).0)
+
+pub owed_replies_stay : OwedRepliesStay
+owed_replies_stay s reached event id not_it c there is = by_case s (reached-awaits s reached) event id c there is (step s event).0 (step s event).1.connections not_it (happening s event)

@@ -1,0 +1,171 @@
+-- There are no more connections than there may be.
+use Rattle.std.proofs.Common.{◌≡◌, ℕ, suc, ◌+◌, ◌≤◌, max, Bool, true, false, cond, not, nat_lt, eqb, Option, Some, None, Result, Ok, Err, List, [], ◌∷◌, ◌++◌, length, refl, sym, ap, subst, arith}
+use Rattle.std.specs.Prelude.{filter}
+use Rattle.std.proofs.lemmas.List.{length-map}
+use Rattle.rb_model.specs.Losses.{crowding, evicted, lost}
+use Rattle.std.proofs.lemmas.Bool.{ltb-true}
+use Rattle.rb_rpc.specs.declared.peer.Peer.{Peer}
+use Rattle.rb_rpc.specs.declared.peer.Caller.{Caller}
+use Rattle.rb_rpc.specs.declared.peer.Caller.TheVariants.{Tcp, Udp}
+use Rattle.rb_forward.specs.declared.types.Ended.{Ended}
+use Rattle.rb_proto.specs.Ledger.{Ledger}
+use Rattle.rb_proto.specs.Forwarding.{replied, call_sent}
+use Rattle.rb_forward.specs.Forwards.{can_be_sent}
+use Rattle.rb_model.specs.declared.types.CoreFault.{CoreFault}
+use Rattle.rb_model.specs.declared.types.CoreFault.TheVariants.{Full, Spent, Gone}
+use Rattle.rb_model.specs.declared.types.Told.{Told}
+use Rattle.rb_model.specs.declared.types.Expired.{Expired}
+use Rattle.rb_model.specs.declared.types.Expired.TheVariants as expiries
+use Rattle.rb_model.specs.Calls.{Outcome, Outcome as outcomes, message_of}
+use Rattle.rb_model.specs.State.{State, Connection, at_moment, greatest_number, opening}
+use Rattle.rb_model.specs.Connections.{Taking, taking, reading, settled, change_first, is_live, live_connection, giving, on_found, number_for, opening_as, opening_of, is_there, without_number, closing_of}
+use Rattle.rb_model.specs.State.Phase.{Idle}
+use Rattle.rb_model.specs.Connections.Taking.{TakesNone, GoesOn, Ends}
+use Rattle.rb_model.specs.Ending.{told_at, tell, tell_end, at_fresh_moment, forward_reply, expire}
+use Rattle.rb_model.specs.Step.{Event, Output, context_in, serve, answering, moved, when_taken, bytes_to, bytes, pending, gave, is_too_much, open_connection, dropped_with, close_connection, with_reply, datagram, sent_call, output_or, show_taken, show_done, show_outcome, show_end, show_expired, step, after, IsReached}
+use Rattle.rb_model.specs.Step.Event.{Open, Bytes, Pending, Gave, Closed, NextLost, Datagram, Unsent, Sent, Forward as ForwardCame, Expire}
+use Rattle.rb_model.specs.Step.Output.{Opened, TooMuch, IsPending}
+use Rattle.rb_laws.proofs.EntriesKept.{step-follows}
+use Rattle.rb_laws.proofs.DueThings.{end_of, Expiry, expiry}
+use Rattle.rb_laws.proofs.DueThings.Expiry.{EntryEnds, ConnectionEnds, NothingDue}
+
+changed-length : (test : Connection → Bool) (f : Connection → Connection) (all : List Connection) → length (change_first test f all) ≡ length all
+changed-length test f [] = refl
+changed-length test f (c ∷ all) = by_test (test c) (changed-length test f all)
+  where
+    by_test : (b : Bool) → length (change_first test f all) ≡ length all → length (cond b (f c ∷ all) (c ∷ change_first test f all)) ≡ suc (length all)
+    by_test true rest = refl
+    by_test false rest = ap suc rest
+
+filtered-length : (p : Connection → Bool) (all : List Connection) → length (filter p all) ≤ length all
+filtered-length p [] = omega arith
+filtered-length p (c ∷ all) = by_test (p c) (filtered-length p all)
+  where
+    by_test : (b : Bool) → length (filter p all) ≤ length all → length (cond b (c ∷ filter p all) (filter p all)) ≤ suc (length all)
+    by_test true rest = omega (arith, rest)
+    by_test false rest = omega (arith, rest)
+
+pushed-length : (all : List Connection) (c : Connection) → length (all ++ c ∷ []) ≡ length all + 1
+pushed-length [] c = refl
+pushed-length (d ∷ all) c = let rest = pushed-length all c in omega (arith, rest)
+
+abbrev count : State → ℕ
+count s = length s.connections.all
+
+-- no more than before
+module _ (s : State) where
+  output-few : {A : Type 0} (show : A → Output) (r : Result A CoreFault) (u : State) → count u ≤ count s → count (output_or show (r, u)).1 ≤ count s
+  output-few show (Ok x) u few = few
+  output-few show (Err fault) u few = few
+
+  serve-few : (now : ℕ) (caller : Caller) (content : List ℕ) → count (serve (at_moment now s) caller content).1 ≤ count s
+  unfolding serve
+  serve-few now caller content = let same = length-map s.connections.all (evicted (crowding (context_in (at_moment now s) caller) (message_of content) s.connections.all s.ledger)) in omega (arith, same)
+
+  bytes-few : (now id : ℕ) (piece : List ℕ) (o : Option Connection) → count (output_or show_taken (bytes_to s now id piece o)).1 ≤ count s
+  unfolding answering
+  bytes-few now id piece None = omega arith
+  bytes-few now id piece (Some c) = by_taking (taking c.phase piece)
+    where
+      by_taking : (t : Taking) → count (when_taken (at_moment now s) id piece c t).1 ≤ count s
+      by_taking TakesNone = omega arith
+      by_taking (GoesOn fed) = let same = changed-length (is_live id) (reading (max s.clock now) fed) s.connections.all in omega (arith, same)
+      by_taking (Ends n content) =
+          let few = serve-few now (Tcp id c.peer) content in
+          let after : Outcome × State = serve (at_moment now s) (Tcp id c.peer) content in
+          let same = changed-length (is_live id) (settled after.1.clock after.0) after.1.connections.all in
+          omega (arith, same, few)
+
+  gave-few : (now id n : ℕ) (o : Option Connection) → count (output_or show_done (moved now s (on_found id (giving (max s.clock now) n) s.connections o))).1 ≤ count s
+  gave-few now id n None = omega arith
+  gave-few now id n (Some c) = let same = changed-length (is_live id) (λ x. (giving (max s.clock now) n x).1) s.connections.all in omega (arith, same)
+
+  closed-few : (id : ℕ) (b : Bool) → count (output_or show_done (dropped_with s id (cond b (Ok tt, without_number id s.connections) (Err Gone, s.connections)))).1 ≤ count s
+  unfolding without_number
+  closed-few id true = filtered-length (λ (x : Connection). not (eqb x.number id)) s.connections.all
+  closed-few id false = omega arith
+
+  tell-few : (u : State) (caller : Caller) (said : Outcome) → count u ≤ count s → count (tell caller said u).1 ≤ count s
+  tell-few u (Tcp id peer) said few = let same = changed-length (is_live id) (settled u.clock said) u.connections.all in omega (arith, same, few)
+  tell-few u (Udp peer) said few = few
+
+  told-few : (message : List ℕ) (u : State) (r : Option Ended × Ledger) → count u ≤ count s → count (tell_end message u r).1 ≤ count s
+  told-few message u (None, ledger) few = few
+  told-few message u (Some ended, ledger) few = tell-few (record u { ledger = ledger }) ended.forward.caller (told_at message ended) few
+
+  end-few : (r : Option Told × State) → count r.1 ≤ count s → count (show_end r).1 ≤ count s
+  end-few (None, u) few = few
+  end-few (Some told, u) few = few
+
+  expired-few : (r : Expired × State) → count r.1 ≤ count s → count (show_expired r).1 ≤ count s
+  expired-few (expiries.Nothing, u) few = few
+  expired-few (expiries.Ended told, u) few = few
+  expired-few (expiries.ConnectionClosed id, u) few = few
+
+  expire-few : (now : ℕ) (r : Expired × State) → Expiry s (max s.clock now) (at_fresh_moment now s) r → count r.1 ≤ count s
+  expire-few now r (EntryEnds e found ledger left is) = rw is (tell-few (record (at_fresh_moment now s) { ledger = ledger }) e.forward.caller (told_at [] (end_of e)) (omega arith))
+  expire-few now r (ConnectionEnds none c found is) = rw is (let same = changed-length (is_live c.number) lost s.connections.all in omega (arith, same))
+  expire-few now r (NothingDue none found is) = rw is (omega arith)
+
+  outcome-few : (r : Outcome × State) → count r.1 ≤ count s → count (show_outcome (with_reply r)).1 ≤ count s
+  outcome-few (outcomes.NoCall, u) few = few
+  outcome-few (outcomes.Reply reply began, u) few = few
+  outcome-few (outcomes.Forwarded, u) few = few
+  outcome-few (outcomes.Silent, u) few = few
+
+  sent-few : (number : ℕ) (b : Bool) → count (output_or show_done (cond b (Ok tt, record s { ledger = call_sent number s.ledger }) (Err Gone, s))).1 ≤ count s
+  sent-few number true = omega arith
+  sent-few number false = omega arith
+
+  either : (b : Bool) (x y : Output × State) → count x.1 ≤ count s → count y.1 ≤ count s → count (cond b x y).1 ≤ count s
+  either true x y left right = left
+  either false x y left right = right
+
+-- ---- there is room for one more where it is opened
+
+abbrev HasRoom : State → Type 0
+HasRoom s = count s ≤ s.setting.limits.conns
+
+opened-room : (s : State) (now : ℕ) (peer : Peer) → HasRoom s → count (step s (Open now peer)).1 ≤ s.setting.limits.conns
+unfolding step open_connection opening_of number_for
+opened-room s now peer few = by_room (nat_lt (count s) s.setting.limits.conns) refl (nat_lt greatest_number s.connections.next)
+  where
+    by_room : (b : Bool) → nat_lt (count s) s.setting.limits.conns ≡ b → (spent : Bool)
+        → count (output_or Opened (moved now s (opening_as peer (max s.clock now) s.connections (cond (not b) (Err Full) (cond spent (Err Spent) (Ok s.connections.next)))))).1 ≤ s.setting.limits.conns
+    by_room false e spent = few
+    by_room true e true = few
+    by_room true e false =
+        let free = ltb-true (count s) s.setting.limits.conns e in
+        let more = pushed-length s.connections.all (record { number = s.connections.next; peer = peer; phase = Idle; since = max s.clock now }) in
+        omega (arith, free, more)
+
+within : (s : State) (n : ℕ) → HasRoom s → n ≤ count s → n ≤ s.setting.limits.conns
+within s n few less = omega (arith, few, less)
+
+step-few : (s : State) (event : Event) → HasRoom s → count (step s event).1 ≤ s.setting.limits.conns
+unfolding step bytes gave close_connection closing_of datagram sent_call forward_reply
+step-few s (Open now peer) few = opened-room s now peer few
+step-few s (Bytes now id piece) few = within s _ few (bytes-few s now id piece (live_connection id s.connections.all))
+step-few s (Pending id) few = within s _ few (output-few s IsPending (pending s id) s (omega arith))
+step-few s (Gave now id n) few =
+    within s _ few (either s (is_too_much n (pending s id)) (TooMuch, s) (output_or show_done (gave s now id n)) (omega arith) (gave-few s now id n (live_connection id s.connections.all)))
+step-few s (Closed id) few = within s _ few (closed-few s id (is_there id s.connections))
+step-few s NextLost few = few
+step-few s (Datagram now peer content) few = within s _ few (outcome-few s (serve (at_moment now s) (Udp peer) content) (serve-few s now (Udp peer) content))
+step-few s Unsent few = few
+step-few s (Sent number) few = within s _ few (sent-few s number (can_be_sent number s.ledger.forwards))
+step-few s (ForwardCame now from message) few =
+    within s _ few (end-few s (forward_reply s now from message) (told-few s message (at_fresh_moment now s) (replied s.setting.first_xid (max s.clock now) from message s.ledger) (omega arith)))
+step-few s (Expire now) few = within s _ few (expired-few s (expire s now) (expire-few s now (expire s now) (expiry s now)))
+
+step-room : (s : State) (event : Event) → HasRoom s → HasRoom (step s event).1
+step-room s event few = rw ((step-follows s event).setting) (step-few s event few)
+
+after-room : (s : State) (events : List Event) → HasRoom s → HasRoom (after s events)
+after-room s [] few = few
+after-room s (event ∷ events) few = after-room (step s event).1 events (step-room s event few)
+
+pub reached-room : (s : State) → IsReached s → length s.connections.all ≤ s.setting.limits.conns
+reached-room s r =
+    let start : State = opening r.limits r.listener r.first_xid r.now in
+    subst HasRoom (sym r.is) (after-room start r.events (omega arith))

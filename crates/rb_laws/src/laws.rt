@@ -1,0 +1,134 @@
+//! What holds of the definitions.
+ghost use Rattle.rb_model.specs.Grammar.{AskedMessagesAreOfTheGrammar, RefusedMessagesAreOfTheGrammar, GarbageMessagesAreOfTheGrammar, NoCallsAreOfTheGrammar};
+ghost use Rattle.rb_model.specs.State.{State};
+ghost use Rattle.rb_model.specs.Laws.{RunsAppend, StatesAppend, RefusedEventsChangeNothing, NumbersNeverRecur, CutsDoNotMatter, NextLostIsLeast, BytesAreTakenExactly, RepliesAreGivenWhole, OwedRepliesStay, LedgersAreWellKept};
+ghost use Rattle.rb_model.specs.Closings.{ConnectionsCloseExactly};
+ghost use Rattle.rb_model.specs.ForwardLaws.{ConnectionsAwait, RepliesEndTheirOwn, DeadlinesEndOne, UdpCallersAreTold, EventsChangeAtMostOne, EntriesEndOnce};
+ghost use Rattle.rb_model.specs.Sessions.{SessionsAreWhole};
+ghost use Rattle.rb_model.specs.DeadlineLaws.{ExpireDoesOneThing, NothingIsDueSoon};
+ghost use Rattle.rb_model.specs.BoundLaws.{StepsAreBounded, RunsAreBounded};
+ghost use Rattle.rb_model.specs.WholeRuns.{EventsArePaidAhead, WholeRunsAreBounded};
+
+/// For each connection in each run: the bytes taken on it are the marked records of its calls and an unfinished rest;
+/// those given on it, and then those still owed, are the marked replies to these calls, joined in order; and no byte is
+/// taken while a reply is owed or awaited. Of one that is Lost or gone, those given are a front of the replies.
+pub fn sessions_are_whole()
+    ensures { SessionsAreWhole }
+{}
+
+/// A message asks for a procedure exactly where its bytes begin with a call of it and its arguments. It is refused with each
+/// status exactly where they begin with what that status is for. Its arguments are garbage exactly where they begin with a
+/// call of a procedure that there is, and then with the arguments of no request. It is no call exactly where they begin with
+/// no call and with nothing that RPC refuses.
+pub fn messages_are_of_the_grammar()
+    ensures asked { AskedMessagesAreOfTheGrammar }
+    ensures refused { RefusedMessagesAreOfTheGrammar }
+    ensures garbage { GarbageMessagesAreOfTheGrammar }
+    ensures no_call { NoCallsAreOfTheGrammar }
+{}
+
+/// A run of two lists of events is the run of the first, and then of the second.
+pub fn runs_append()
+    ensures outputs { RunsAppend }
+    ensures states { StatesAppend }
+{}
+
+/// A refused event leaves the state, its clock too.
+pub fn refused_events_change_nothing()
+    ensures { RefusedEventsChangeNothing }
+{}
+
+/// The numbers that a run gives to connections only go up.
+pub fn numbers_never_recur()
+    ensures { NumbersNeverRecur }
+{}
+
+/// Bytes in two pieces do what they do in one, where no record ends in the first.
+pub fn cuts_do_not_matter()
+    ensures { CutsDoNotMatter }
+{}
+
+/// In each state that a run reaches, the look for a Lost connection finds the one of the least number.
+pub fn next_lost_is_least()
+    ensures { NextLostIsLeast }
+{}
+
+/// In each state that a run reaches, bytes are taken up to the end of the first record, which is answered, or all where
+/// there is none: by cases, how many, and what the connection is about from then on.
+pub fn bytes_are_taken_exactly()
+    ensures { BytesAreTakenExactly }
+{}
+
+/// In each state that a run reaches, what is pending of a reply comes next in it, and what was given is given no more.
+pub fn replies_are_given_whole()
+    ensures { RepliesAreGivenWhole }
+{}
+
+/// Only bytes given on its connection, or the close of it, change what is owed, unless the connection is Lost.
+pub fn owed_replies_stay()
+    ensures { OwedRepliesStay }
+{}
+
+/// In each state that a run reaches, a live connection becomes Lost exactly by the end of a record that is no call; or at
+/// its deadline, when no forwarded call is due and no connection of lesser number is; or where a SET wants room, by the list
+/// that is given on it. It is gone exactly by its close.
+pub fn connections_close_exactly()
+    ensures { ConnectionsCloseExactly }
+{}
+
+/// In each state that a run reaches, a connection is Awaiting exactly while one forwarded call is its own, and no other
+/// connection has one.
+pub fn connections_await()
+    ensures { ConnectionsAwait }
+{}
+
+/// A datagram ends the first forwarded call that was sent to the host and port that it comes from, by its xid and before its
+/// deadline, and its caller is told what the datagram says; a deadline ends the first whose it is. Every other datagram
+/// leaves all but the clock and the last reply over UDP.
+pub fn calls_end_by_their_own()
+    ensures replies { RepliesEndTheirOwn }
+    ensures deadlines { DeadlinesEndOne }
+    ensures over_udp { (s : State) → UdpCallersAreTold s }
+{}
+
+/// From every state, an event ends one of the forwarded calls, or begins one behind them, with the next number, or does
+/// neither. In every run from an opening, each that has begun has ended with exactly one event, or is still there, once.
+pub fn entries_end_once()
+    ensures events { EventsChangeAtMostOne }
+    ensures runs { EntriesEndOnce }
+{}
+
+/// In each state that a run reaches, for every listener: each change was accepted, no two live rows are of one program,
+/// version and netid, and at good limits at most `limits.rows` rows are live.
+pub fn ledgers_are_well_kept()
+    ensures { LedgersAreWellKept }
+{}
+
+/// In each state that a run reaches, at most as many calls of `expire` at one moment as there may be connections and
+/// forwarded calls reach one at which nothing is due.
+pub fn nothing_is_due_soon()
+    ensures { NothingIsDueSoon }
+{}
+
+/// In each state that a run reaches, `expire` ends the due forwarded call of least number; where none is due, the due
+/// connection of least number is Lost; and where none is due either, it changes nothing but the clock and the last reply.
+pub fn expire_does_one_thing()
+    ensures { ExpireDoesOneThing }
+{}
+
+/// In each state that a run reaches at good limits, an event costs at most 8 steps for each byte that it takes, lends or tells
+/// that it was given, 64 for each connection, row, key and forwarded call that there may be, and 16 for each byte of the
+/// longest call; and so over each run from there.
+pub fn steps_are_bounded()
+    ensures events { StepsAreBounded }
+    ensures runs { RunsAreBounded }
+{}
+
+/// In each state that a run reaches at good limits, a run from there costs at most 16 steps for each byte that it takes or
+/// gives and for each byte of arguments that waits as it begins, and for each event 64 for each connection, row, key of the
+/// statistics and forwarded call that there may be, and 4,096. What the end of a record reads was paid by the events that
+/// brought it.
+pub fn whole_runs_are_bounded()
+    ensures events { EventsArePaidAhead }
+    ensures runs { WholeRunsAreBounded }
+{}

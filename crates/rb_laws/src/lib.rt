@@ -1,0 +1,15 @@
+//! The laws of the port mapper: what holds of every state that a run reaches, and of every run, by the definitions of
+//! the model.
+//!
+//! Each law is a function with an empty body, whose contract is the law.
+#![tactic(auto)]
+
+mod laws;
+
+pub use laws::{
+    bytes_are_taken_exactly, calls_end_by_their_own, connections_await, connections_close_exactly,
+    cuts_do_not_matter, entries_end_once, expire_does_one_thing, ledgers_are_well_kept,
+    messages_are_of_the_grammar, next_lost_is_least, nothing_is_due_soon, numbers_never_recur,
+    owed_replies_stay, refused_events_change_nothing, replies_are_given_whole, runs_append,
+    sessions_are_whole, steps_are_bounded, whole_runs_are_bounded,
+};

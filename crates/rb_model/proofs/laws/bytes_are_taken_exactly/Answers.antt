@@ -1,5 +1,0 @@
-use Rattle.rb_model.proofs.ExactTaking.{bytes_are_taken_exactly}
-use Rattle.rb_model.proofs.laws.bytes_are_taken_exactly.Goals as goal
-
-pub returns : goal.returns
-returns c = bytes_are_taken_exactly

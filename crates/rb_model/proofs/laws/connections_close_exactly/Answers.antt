@@ -1,5 +1,0 @@
-use Rattle.rb_model.proofs.Closings.{connections_close_exactly}
-use Rattle.rb_model.proofs.laws.connections_close_exactly.Goals as goal
-
-pub returns : goal.returns
-returns c = connections_close_exactly

@@ -1,5 +1,0 @@
-use Rattle.rb_model.proofs.Ledgers.{ledgers_are_well_kept}
-use Rattle.rb_model.proofs.laws.ledgers_are_well_kept.Goals as goal
-
-pub returns : goal.returns
-returns c = ledgers_are_well_kept

@@ -1,5 +1,0 @@
-use Rattle.rb_model.proofs.LeastLost.{next_lost_is_least}
-use Rattle.rb_model.proofs.laws.next_lost_is_least.Goals as goal
-
-pub returns : goal.returns
-returns c = next_lost_is_least

@@ -1,5 +1,0 @@
-use Rattle.rb_model.proofs.Numbers.{numbers_rise}
-use Rattle.rb_model.proofs.laws.numbers_never_recur.Goals as goal
-
-pub returns : goal.returns
-returns c = numbers_rise

@@ -1,5 +1,0 @@
-use Rattle.rb_model.proofs.OwedStay.{owed_replies_stay}
-use Rattle.rb_model.proofs.laws.owed_replies_stay.Goals as goal
-
-pub returns : goal.returns
-returns c = owed_replies_stay

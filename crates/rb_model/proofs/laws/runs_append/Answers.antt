@@ -1,8 +1,0 @@
-use Rattle.rb_model.proofs.RunLaws.{run-append, after-append}
-use Rattle.rb_model.proofs.laws.runs_append.Goals as goal
-
-pub returns-clause-outputs : goal.returns-clause-outputs
-returns-clause-outputs c = run-append
-
-pub returns-clause-states : goal.returns-clause-states
-returns-clause-states c = after-append

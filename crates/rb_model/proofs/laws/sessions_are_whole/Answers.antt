@@ -1,5 +1,0 @@
-use Rattle.rb_model.proofs.WholeSessions.{sessions_are_whole}
-use Rattle.rb_model.proofs.laws.sessions_are_whole.Goals as goal
-
-pub returns : goal.returns
-returns c = sessions_are_whole

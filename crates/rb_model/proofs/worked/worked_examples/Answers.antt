@@ -1,0 +1,113 @@
+-- The definitions compute what the examples say.
+use Rattle.std.proofs.Common.{refl}
+use Rattle.rb_xdr.specs.Xdr.{number, number_at, boolean, opaque, array, listed, read_number, read_bool, read_content, read_opaque, read_array}
+use Rattle.rb_xdr.specs.XdrTypes.{signed, optional, read_signed, read_pair, read_optional}
+use Rattle.rb_rpc.specs.Messages.{body_of_sys, auth_stat_of}
+use Rattle.rb_rpc.specs.CallBytes.{call_bytes}
+use Rattle.rb_rpc.specs.Records.{fragment_header, first_record, data_of, reply_fragments, marked}
+use Rattle.rb_rpc.specs.Replies.{reply_head}
+use Rattle.rb_rpc.specs.ReadReplies.{read_prog_mismatch, read_accept_stat, read_accepted, read_rpc_mismatch, read_denied, read_reply}
+use Rattle.rb_rpc.specs.Verdict.{body_length, auth_end, is_over_long, is_broken, credential_end, verifier_end, sys_uid, verdict}
+use Rattle.rb_feed.specs.Feeds.{arguments_of}
+use Rattle.rb_uaddr.specs.Uaddr.{port_of, port_bytes, text_of, octet, ipv4_of_parts, ipv6_of_parts, parts_of, parse_ipv4, parse_ipv6, parse, is_local_text, merged_host, merged, transport_of, from_transport}
+use Rattle.rb_registry.specs.Rows.{is_netid, is_among, may_remove, covers, is_on, is_row, is_change_left, has_place, removes_some, find_exact, versions, greatest, find_row}
+use Rattle.rb_stats.specs.Statistics.{number_of, is_key, is_in, keys_of, items_of, stat, item_spelling, stat_spelling, statistics}
+use Rattle.rb_proto.specs.Ledger.{version_of, called}
+use Rattle.rb_proto.specs.Answers.{comes_from_here, row_of_mapping, row_of_rpcb, can_be_set, accepts_row, set_row, accepts_removal, unset_rows, shown_address, shown_text, shown_port, getport, getaddr, getversaddr, seconds, taddr_of, uaddr_of, answer, row_to_set, adds_row}
+use Rattle.rb_proto.specs.Arguments.{procedure_at, is_known, arguments, request}
+use Rattle.rb_proto.specs.Callers.{own_rows, is_local, owner_text}
+use Rattle.rb_proto.specs.Netids.{netid_named, which_of, transport_of_prot, address_in, is_address}
+use Rattle.rb_proto.specs.Results.{result_bytes, row_bytes}
+use Rattle.rb_proto.specs.Types.{read_mapping, read_rpcb, read_netbuf, read_entry}
+use Rattle.rb_forward.specs.StandsFor.{longest_arguments}
+use Rattle.rb_forward.specs.Forwards.{xid_of, question, longest_results, outcome_of, is_same_peer, is_answered, reply, due, drop_caller, later, can_start, next_entry, started, unsent, can_be_sent, sent}
+use Rattle.rb_proto.specs.Remote.{read_remote}
+use Rattle.rb_proto.specs.Forwarding.{outcome_note, peer_to_forward, forward_of, forward_call, end_note, replied, fell_due, caller_dropped, call_sent, forwarded_bytes}
+use Rattle.rb_model.specs.Losses.{begins, retained_removals, crowding, evicted}
+use Rattle.rb_model.specs.Ending.{forward_reply, expire}
+use Rattle.rb_model.specs.Calls.{is_served, request_of, call_of, message_of, longest_reply, fitting, outcome}
+use Rattle.rb_model.specs.Connections.{taking, reading, settled, when_given, giving, is_live, live_connection, number_for, opening_of, first_lost, is_there, without_number, closing_of, longest_fragment, pending_of}
+use Rattle.rb_model.specs.Laws.{owed}
+use Rattle.rb_model.specs.Step.{serve, answering, bytes, pending, gave, open_connection, close_connection, next_lost, datagram, unsent_call, sent_call, step}
+use Rattle.std.specs.Fmt.{digits}
+use Rattle.rb_model.specs.Worked.{NullIsAnswered, SetThenAskThenSetAgain, GreatestVersionElse, OwnRowsAreAsked, LimitIsReached, LocalCallersSet, NothingIsSilent, NullBySys, OtherRpcVersion, TooShort, GreatestCredential, OverlongCredential, SysBodyCutShort, OverlongVerifier, BadResidue, GoodResidue, GssBeforeProgram, OtherVersion, UnknownProcedure, GarbageArguments, OtherProgram, NullOfThree, NullOfFour, GetstatFirstCall, GetstatOfRefusals}
+use Rattle.rb_model.proofs.worked.worked_examples.Goals as goal
+
+examples : NullIsAnswered × SetThenAskThenSetAgain × GreatestVersionElse × OwnRowsAreAsked × LimitIsReached × LocalCallersSet × NothingIsSilent × NullBySys × OtherRpcVersion × TooShort × GreatestCredential × OverlongCredential × SysBodyCutShort × OverlongVerifier × BadResidue × GoodResidue × GssBeforeProgram × OtherVersion × UnknownProcedure × GarbageArguments × OtherProgram × NullOfThree × NullOfFour × GetstatFirstCall × GetstatOfRefusals
+unfolding number number_at signed boolean opaque array optional listed read_number read_signed read_bool read_content read_opaque read_pair read_optional read_array call_bytes body_of_sys auth_stat_of fragment_header first_record data_of reply_fragments marked reply_head read_prog_mismatch read_accept_stat read_accepted read_rpc_mismatch read_denied read_reply body_length auth_end is_over_long is_broken credential_end verifier_end sys_uid verdict port_of port_bytes text_of octet ipv4_of_parts ipv6_of_parts parts_of parse_ipv4 parse_ipv6 parse is_local_text merged_host merged transport_of from_transport is_netid is_among may_remove covers is_on is_row is_change_left has_place removes_some find_exact versions greatest find_row comes_from_here row_of_mapping row_of_rpcb can_be_set accepts_row set_row accepts_removal unset_rows shown_address shown_text shown_port getport getaddr getversaddr seconds taddr_of uaddr_of answer procedure_at is_known arguments request own_rows is_local owner_text netid_named which_of transport_of_prot address_in is_address result_bytes row_bytes read_mapping read_rpcb read_netbuf read_entry is_served request_of call_of message_of longest_reply fitting outcome taking reading settled when_given giving is_live live_connection number_for opening_of first_lost is_there without_number closing_of longest_fragment owed pending_of serve answering bytes pending gave open_connection close_connection next_lost datagram step digits number_of is_key is_in keys_of items_of stat item_spelling stat_spelling statistics version_of called arguments_of xid_of question longest_results outcome_of is_same_peer is_answered reply due drop_caller later can_start next_entry started unsent can_be_sent sent read_remote outcome_note peer_to_forward forward_of forward_call end_note replied fell_due caller_dropped call_sent forwarded_bytes forward_reply expire unsent_call sent_call longest_arguments row_to_set adds_row begins retained_removals crowding evicted
+examples = (refl, refl, refl, refl, refl, refl, refl, refl, refl, refl, refl, refl, refl, refl, refl, refl, refl, refl, refl, refl, refl, refl, refl, refl, refl)
+
+pub returns-clause-null_reply : goal.returns-clause-null_reply
+returns-clause-null_reply c = examples.0
+
+pub returns-clause-set_getport_set_again : goal.returns-clause-set_getport_set_again
+returns-clause-set_getport_set_again c = examples.1
+
+pub returns-clause-getport_greatest_version : goal.returns-clause-getport_greatest_version
+returns-clause-getport_greatest_version c = examples.2
+
+pub returns-clause-own_rows : goal.returns-clause-own_rows
+returns-clause-own_rows c = examples.3
+
+pub returns-clause-set_at_row_limit : goal.returns-clause-set_at_row_limit
+returns-clause-set_at_row_limit c = examples.4
+
+pub returns-clause-locality : goal.returns-clause-locality
+returns-clause-locality c = examples.5
+
+pub returns-clause-empty_datagram : goal.returns-clause-empty_datagram
+returns-clause-empty_datagram c = examples.6
+
+pub returns-clause-null_by_sys : goal.returns-clause-null_by_sys
+returns-clause-null_by_sys c = examples.7
+
+pub returns-clause-rpc_version_mismatch : goal.returns-clause-rpc_version_mismatch
+returns-clause-rpc_version_mismatch c = examples.8
+
+pub returns-clause-too_short : goal.returns-clause-too_short
+returns-clause-too_short c = examples.9
+
+pub returns-clause-credential_of_400_bytes : goal.returns-clause-credential_of_400_bytes
+returns-clause-credential_of_400_bytes c = examples.10
+
+pub returns-clause-credential_of_401_bytes : goal.returns-clause-credential_of_401_bytes
+returns-clause-credential_of_401_bytes c = examples.11
+
+pub returns-clause-sys_body_cut_short : goal.returns-clause-sys_body_cut_short
+returns-clause-sys_body_cut_short c = examples.12
+
+pub returns-clause-verifier_of_401_bytes : goal.returns-clause-verifier_of_401_bytes
+returns-clause-verifier_of_401_bytes c = examples.13
+
+pub returns-clause-residual_byte_not_zero : goal.returns-clause-residual_byte_not_zero
+returns-clause-residual_byte_not_zero c = examples.14
+
+pub returns-clause-residual_byte_zero : goal.returns-clause-residual_byte_zero
+returns-clause-residual_byte_zero c = examples.15
+
+pub returns-clause-gss_is_rejected_before_program : goal.returns-clause-gss_is_rejected_before_program
+returns-clause-gss_is_rejected_before_program c = examples.16
+
+pub returns-clause-other_version : goal.returns-clause-other_version
+returns-clause-other_version c = examples.17
+
+pub returns-clause-unknown_procedure : goal.returns-clause-unknown_procedure
+returns-clause-unknown_procedure c = examples.18
+
+pub returns-clause-garbage_arguments : goal.returns-clause-garbage_arguments
+returns-clause-garbage_arguments c = examples.19
+
+pub returns-clause-other_program : goal.returns-clause-other_program
+returns-clause-other_program c = examples.20
+
+pub returns-clause-null_of_version_3 : goal.returns-clause-null_of_version_3
+returns-clause-null_of_version_3 c = examples.21
+
+pub returns-clause-null_of_version_4 : goal.returns-clause-null_of_version_4
+returns-clause-null_of_version_4 c = examples.22
+
+pub returns-clause-getstat_first_call : goal.returns-clause-getstat_first_call
+returns-clause-getstat_first_call c = examples.23
+
+pub returns-clause-getstat_of_refusals : goal.returns-clause-getstat_of_refusals
+returns-clause-getstat_of_refusals c = examples.24
