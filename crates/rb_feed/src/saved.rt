@@ -1,5 +1,5 @@
-//! A stage as eleven words: its number, what is called, the credential's flavor, a length, the bytes left of a body, and
-//! three words on how far the credential's body was read.
+//! A stage as eleven words: its number, in the order of the stages; what is called; the credential's flavor; a length or
+//! the arguments' place; the bytes left of a body; and three words on how far the credential's body was read.
 ghost use Rattle.std.specs.Prelude.{◌≡◌, length};
 ghost use Rattle.rb_feed.specs.Stages.{claim_of};
 ghost use Rattle.rb_feed.specs.Saved.{field_saved_as, stage_of, stage_saved_as};
@@ -9,27 +9,6 @@ use crate::sys::SysField;
 use rb_rpc::{AUTH_NONE, AUTH_SYS, Credential};
 
 type StageWords = [u32; 11];
-
-// Up to seven a stage's number says how many words of the head have come.
-const CREDENTIAL_BODY: u32 = 8;
-
-const VERIFIER_FLAVOR: u32 = 9;
-
-const VERIFIER_LENGTH: u32 = 10;
-
-const VERIFIER_BODY: u32 = 11;
-
-const ARGUMENTS: u32 = 12;
-
-const NO_CALL: u32 = 13;
-
-const RPC_MISMATCH: u32 = 14;
-
-const BAD_CREDENTIAL: u32 = 15;
-
-const REJECTED_CREDENTIAL: u32 = 16;
-
-const BAD_VERIFIER: u32 = 17;
 
 /// A field's number, the uid, and what is left of a name or of gids.
 #[tactic(auto, unfolding(crate::specs::Saved::field_saved_as))]
@@ -114,19 +93,19 @@ pub(crate) fn stage_words(stage: Stage) -> StageWords
             len,
             left,
             field,
-        } => { parts(CREDENTIAL_BODY, call, (flavor, field), u32::from(len), left) }
+        } => { parts(8, call, (flavor, field), u32::from(len), left) }
         Stage::VerifierFlavor { call, claim, len } => {
-            parts(VERIFIER_FLAVOR, call, claimed(claim), u32::from(len), 0)
+            parts(9, call, claimed(claim), u32::from(len), 0)
         }
         Stage::VerifierLength { call, claim, len } => {
-            parts(VERIFIER_LENGTH, call, claimed(claim), u32::from(len), 0)
+            parts(10, call, claimed(claim), u32::from(len), 0)
         }
         Stage::VerifierBody {
             call,
             claim,
             place,
             left,
-        } => { parts(VERIFIER_BODY, call, claimed(claim), place, left) }
+        } => { parts(11, call, claimed(claim), place, left) }
         Stage::Arguments { head, place } => {
             let call = CallWords {
                 xid: head.xid,
@@ -135,13 +114,13 @@ pub(crate) fn stage_words(stage: Stage) -> StageWords
                 proc: head.proc,
             };
             let claim = Claim::Taken { cred: head.cred };
-            parts(ARGUMENTS, call, claimed(claim), place, 0)
+            parts(12, call, claimed(claim), place, 0)
         }
-        Stage::NoCall => [NO_CALL, 0, 0, 0, 0, 0, 0, 0, 0, 0, 0],
-        Stage::RpcMismatch { xid } => [RPC_MISMATCH, xid, 0, 0, 0, 0, 0, 0, 0, 0, 0],
-        Stage::BadCredential { xid } => [BAD_CREDENTIAL, xid, 0, 0, 0, 0, 0, 0, 0, 0, 0],
-        Stage::RejectedCredential { xid } => [REJECTED_CREDENTIAL, xid, 0, 0, 0, 0, 0, 0, 0, 0, 0],
-        Stage::BadVerifier { xid } => [BAD_VERIFIER, xid, 0, 0, 0, 0, 0, 0, 0, 0, 0],
+        Stage::NoCall => [13, 0, 0, 0, 0, 0, 0, 0, 0, 0, 0],
+        Stage::RpcMismatch { xid } => [14, xid, 0, 0, 0, 0, 0, 0, 0, 0, 0],
+        Stage::BadCredential { xid } => [15, xid, 0, 0, 0, 0, 0, 0, 0, 0, 0],
+        Stage::RejectedCredential { xid } => [16, xid, 0, 0, 0, 0, 0, 0, 0, 0, 0],
+        Stage::BadVerifier { xid } => [17, xid, 0, 0, 0, 0, 0, 0, 0, 0, 0],
     }
 }
 
@@ -172,26 +151,26 @@ pub(crate) fn stage_saved_as(words: &[u32]) -> Stage
         5 => Stage::Proc { xid, prog, vers },
         6 => Stage::CredentialFlavor { call },
         7 => Stage::CredentialLength { call, flavor },
-        CREDENTIAL_BODY => Stage::CredentialBody {
+        8 => Stage::CredentialBody {
             call,
             flavor,
             len,
             left,
             field,
         },
-        VERIFIER_FLAVOR => Stage::VerifierFlavor { call, claim, len },
-        VERIFIER_LENGTH => Stage::VerifierLength { call, claim, len },
-        VERIFIER_BODY => Stage::VerifierBody {
+        9 => Stage::VerifierFlavor { call, claim, len },
+        10 => Stage::VerifierLength { call, claim, len },
+        11 => Stage::VerifierBody {
             call,
             claim,
             place,
             left,
         },
-        ARGUMENTS => stage_behind(call, claim, place),
-        RPC_MISMATCH => Stage::RpcMismatch { xid },
-        BAD_CREDENTIAL => Stage::BadCredential { xid },
-        REJECTED_CREDENTIAL => Stage::RejectedCredential { xid },
-        BAD_VERIFIER => Stage::BadVerifier { xid },
+        12 => stage_behind(call, claim, place),
+        14 => Stage::RpcMismatch { xid },
+        15 => Stage::BadCredential { xid },
+        16 => Stage::RejectedCredential { xid },
+        17 => Stage::BadVerifier { xid },
         _ => Stage::NoCall,
     }
 }

@@ -74,7 +74,7 @@ removals_in books = removals_of books.registry
 abbrev pub wants_room_in : Context → Call → Registry → Bool
 wants_room_in context call kept = adds_row context call (rows_of kept) kept.stamp
 
--- one row more is within the limit, beside the live rows and the dead ones
+-- one row more is within the limit, beside the live rows and the retained ones
 abbrev pub HasPlaceLeft : Registry → Type 0
 HasPlaceLeft kept = length (rows_of kept) + dead_count kept < kept.limit
 

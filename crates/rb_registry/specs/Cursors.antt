@@ -31,7 +31,7 @@ IsAtEnd kept stamp cursor = rows_passed kept stamp cursor ≡ length (rows_at ke
 abbrev pub row_behind : Registry → ℕ → Option ℕ → Option Row
 row_behind kept stamp cursor = slice_get (rows_at kept stamp) (rows_passed kept stamp cursor)
 
--- how many rows, live or dead, are behind it: a walk pays 2 steps for each
+-- how many rows, live or retained, are behind it: a walk pays 2 steps for each
 abbrev pub slots_left : Registry → Option ℕ → ℕ
 slots_left kept cursor = count_left kept.entries cursor
 

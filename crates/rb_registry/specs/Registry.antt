@@ -18,7 +18,7 @@ table_at n (e ∷ rest) = if is_live_at n e.1 then (e.0, e.1.row) ∷ table_at n
 abbrev pub live_at : ℕ → List (ℕ × Slot) → List Row
 live_at n entries = values_of (table_at n entries)
 
--- the changes that removed the dead ones of these, in the order of the rows
+-- the changes that removed the retained ones of these, in the order of the rows
 abbrev pub removals : List (ℕ × Slot) → List ℕ
 removals entries = filter_map (λ slot. slot.removed) (values_of entries)
 
@@ -35,7 +35,7 @@ pub record Registry : Type 0 where
   pub floor : ℕ
   pub tie : ℕ
 
--- the live rows, and the dead ones that are still there
+-- the live rows, and the retained ones
 abbrev pub slots_of : Registry → List Slot
 slots_of kept = values_of kept.entries
 
@@ -50,7 +50,7 @@ rows_at kept stamp = live_at stamp kept.entries
 abbrev pub rows_of : Registry → List Row
 rows_of kept = rows_at kept kept.stamp
 
--- the changes that removed the dead rows that are still there, and how many these rows are
+-- the changes that removed the retained rows, and how many these rows are
 abbrev pub removals_of : Registry → List ℕ
 removals_of kept = removals kept.entries
 
@@ -67,7 +67,7 @@ abbrev pub AreOwn : List Row → Type 0
 AreOwn rows = IsTrue (list_all (λ (row : Row). row.prog == rpcb_prog) rows)
 
 -- A registry that keeps this stands for its own rows and these changes: it has the rows that they leave, and from the
--- floor on those that the first n of them left. The dead rows are those that they removed after the floor, and with the
+-- floor on those that the first n of them left. The retained rows are those that they removed after the floor, and with the
 -- live ones they are within the limit.
 pub record StandsForChanges (kept : Registry) (own : List Row) (changes : List Change) : Type 0 where
   pub are_own : AreOwn own

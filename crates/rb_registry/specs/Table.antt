@@ -13,11 +13,11 @@ use Rattle.rb_registry.specs.Rows.{Change, covers, has_place}
 
 -- ---- what a registry counts
 
--- how many of these rows are dead
+-- how many of these rows are retained
 abbrev pub count_dead : List (ℕ × Slot) → ℕ
 count_dead entries = length (removals entries)
 
--- the bytes that they hold, live and dead
+-- the bytes that they hold, live and retained
 abbrev pub count_held : List (ℕ × Slot) → ℕ
 count_held entries = held_in (values_of entries)
 
@@ -31,7 +31,7 @@ abbrev pub AreStamped : ℕ → List (ℕ × Slot) → Type 0
 AreStamped stamp [] = Unit {0}
 AreStamped stamp (e ∷ rest) = IsStamped stamp e.1 × AreStamped stamp rest
 
--- What is true of a registry between two calls, where it counts so many bytes as held, and so many rows as dead.
+-- What is true of a registry between two calls, where it counts so many bytes as held, and so many rows as retained.
 pub record IsTable (stamp floor limit held dead : ℕ) (entries : List (ℕ × Slot)) : Type 0 where
   pub distinct : HasDistinctKeys entries
   pub stamped : AreStamped stamp entries
@@ -70,7 +70,7 @@ abbrev pub IsNextLive : ℕ → List (ℕ × Slot) → Option ℕ → Option (�
 IsNextLive n entries place None = table_at n (to_come entries place) ≡ []
 IsNextLive n entries place (Some next) = table_at n (to_come entries place) ≡ (next.0, next.1.now) ∷ table_at n (to_come entries (Some next.0))
 
--- how many rows, live or dead, are behind a place
+-- how many rows, live or retained, are behind a place
 abbrev pub count_left : List (ℕ × Slot) → Option ℕ → ℕ
 count_left entries place = length (to_come entries place)
 
@@ -78,7 +78,7 @@ count_left entries place = length (to_come entries place)
 abbrev pub PaysFor : List (ℕ × Slot) → Option ℕ → Option ℕ → Meter → Meter → Type 0
 PaysFor entries place next old new = new.steps + 2 * count_left entries next ≤ old.steps + 2 * count_left entries place
 
--- ---- the least of the changes that removed the dead rows
+-- ---- the least of the changes that removed the retained rows
 
 abbrev pub lesser : Option ℕ → ℕ → ℕ
 lesser None number = number
@@ -99,7 +99,7 @@ later_than oldest numbers = filter (λ number. not (removed_by (Some number) old
 
 -- ---- what calls leave
 
--- the row may be set, and there is room for it beside the live and the dead rows
+-- the row may be set, and there is room for it beside the live and the retained rows
 abbrev pub takes : Registry → Row → Bool
 takes kept row =
     has_place kept.limit (rows_of kept) kept.stamp row && nat_lt (length (rows_of kept) + dead_count kept) kept.limit

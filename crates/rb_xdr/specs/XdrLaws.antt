@@ -20,6 +20,11 @@ IsOnlyRead {A} is_value spelling bytes result = (x : A) (n : ℕ) → BeginsWith
 abbrev pub BeginsWithNone : {A : Type 0} → (A → Type 0) → (A → List ℕ) → List ℕ → Type 0
 BeginsWithNone {A} is_value spelling bytes = (x : A) (n : ℕ) → ¬ BeginsWith is_value spelling bytes (x, n)
 
+-- a value is read of one whole text alone
+abbrev pub IsReadOfOneText : {A : Type 0} → Reader A → Type 0
+IsReadOfOneText {A} reads =
+    (x : A) (a b : List ℕ) → AreBytes a → AreBytes b → reads a ≡ Ok (x, length a) → reads b ≡ Ok (x, length b) → a ≡ b
+
 -- a text spells one value
 abbrev pub SpellsOneValue : {A : Type 0} → (A → Type 0) → (A → List ℕ) → Type 0
 SpellsOneValue {A} is_value spelling = (x y : A) (text : List ℕ) → Spells is_value spelling x text → Spells is_value spelling y text → x ≡ y

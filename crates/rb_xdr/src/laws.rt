@@ -1,11 +1,13 @@
 //! What holds of the spellings of every type.
 ghost use Rattle.std.specs.Prelude.{ℕ, List};
-ghost use Rattle.rb_xdr.specs.XdrLaws.{SpellsOneValue, NoneIsLonger, IsNoFront, NumberIsType, SignedIsType, BooleanIsType, OpaqueIsType};
+ghost use Rattle.rb_xdr.specs.XdrLaws.{IsReadOfOneText, SpellsOneValue, NoneIsLonger, IsNoFront, NumberIsType, SignedIsType, BooleanIsType, OpaqueIsType};
 
 use crate::xdr::Xdr;
 
-/// Each spelling is of one value, none is a proper prefix of another, and none is longer than the greatest.
+/// A value is read of one whole text alone. Each spelling is of one value, none is a proper prefix of another, and none
+/// is longer than the greatest.
 pub fn spelling_laws<T: Xdr>()
+    ensures one_spelling { IsReadOfOneText T.reads }
     ensures no_proper_prefix { (a more : List ℕ) → IsNoFront T.is_value T.spelling a more }
     ensures one_value { SpellsOneValue T.is_value T.spelling }
     ensures bounded { NoneIsLonger T.is_value T.spelling T.max_spelling }
