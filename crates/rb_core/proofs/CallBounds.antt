@@ -4,7 +4,7 @@ use Rattle.std.specs.Prelude.{IfSome}
 use Rattle.rb_xdr.specs.Meter.{Meter, PaysAtMost}
 use Rattle.rb_rpc.specs.declared.peer.Peer.{Peer}
 use Rattle.rb_forward.specs.Costs.{sent_cost, unsent_cost}
-use Rattle.rb_forward.specs.StandsFor.{longest_arguments as longest_args}
+use Rattle.rb_forward.specs.Forwards.{longest_arguments as longest_args}
 use Rattle.rb_model.specs.Calls.{Outcome, longest_reply}
 use Rattle.rb_model.specs.Calls.{longest_arguments}
 use Rattle.rb_core.specs.StandsFor.{Held, StandsFor}

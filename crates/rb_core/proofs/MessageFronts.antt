@@ -13,7 +13,7 @@ use Rattle.rb_proto.specs.declared.request.ArgumentFault.TheVariants.{ProcUnavai
 use Rattle.rb_proto.specs.declared.request.Request.{Request}
 use Rattle.rb_proto.specs.declared.request.Request.TheVariants.{Mapping, Rpcb, Uaddr2taddr, Taddr2uaddr, Forward}
 use Rattle.rb_proto.specs.Remote.{read_remote}
-use Rattle.rb_forward.specs.StandsFor.{longest_arguments as longest_args}
+use Rattle.rb_forward.specs.Forwards.{longest_arguments as longest_args}
 use Rattle.rb_proto.specs.Types.{read_mapping, read_rpcb, read_netbuf}
 use Rattle.rb_proto.specs.Arguments.{procedure_at, is_known, value_of, front, arguments, request, or_garbage, read_request, HasArgs}
 use Rattle.rb_proto.specs.declared.answers.Answer.{Answer}

@@ -1,7 +1,8 @@
 -- How many bytes a core holds, by its parts.
 use Rattle.std.proofs.Common.{ℕ, ◌+◌, ◌*◌, ◌^◌, ◌≤◌, ◌<◌, arith}
 use Rattle.std.proofs.Math.Nat.{mul-le-mul_left}
-use Rattle.rb_forward.specs.StandsFor.{longest_arguments as args, longest_call}
+use Rattle.rb_forward.specs.Forwards.{longest_arguments as args}
+use Rattle.rb_forward.specs.StandsFor.{longest_call}
 use Rattle.rb_model.specs.Calls.{longest_reply}
 use Rattle.rb_model.specs.Connections.{longest_fragment}
 use Rattle.rb_model.specs.Calls.{longest_arguments}

@@ -119,7 +119,7 @@ impl Drop for Core {
 
 /// How many bytes a core of these limits may hold: of each connection, beside its fixed part, a whole call and a whole
 /// fragment; of each row an address text of 128 bytes; of each forwarded call itself; the keys of the statistics; and a reply.
-#[tactic(auto, unfolding(rb_model::specs::Calls::longest_reply, rb_model::specs::Connections::longest_fragment, rb_forward::specs::StandsFor::longest_arguments))]
+#[tactic(auto, unfolding(rb_model::specs::Calls::longest_reply, rb_model::specs::Connections::longest_fragment, rb_forward::specs::Forwards::longest_arguments))]
 fn bytes_bound(limits: &Limits) -> u64
     requires conns { limits.now.conns ≤ 256 }
     requires rows { limits.now.rows ≤ 4096 }

@@ -19,8 +19,8 @@ field_saved_as number uid left =
     else if number == 7 then fields.Whole uid
     else fields.Unreadable
 
--- A stage by its number, and of its parts those that it has: what is called, the credential's flavor, the length of the
--- credential's body or the arguments' place, the bytes left of a body, and the field of AUTH_SYS.
+-- A stage by its number, and of its parts those that it has: what is called, the credential's flavor, the length of
+-- the credential's body or the arguments' place, the bytes left of a body, and the field of AUTH_SYS.
 unfoldable pub stage_of : ℕ → CallWords → ℕ → ℕ → ℕ → SysField → Stage
 stage_of number call flavor len left field =
     if number == 0 then stages.Xid

@@ -1,5 +1,5 @@
-//! A stage as eleven words: its number, in the order of the stages; what is called; the credential's flavor; a length or
-//! the arguments' place; the bytes left of a body; and three words on how far the credential's body was read.
+//! A stage as eleven words: its number, in the order of the stages; what is called; the credential's flavor; a length
+//! or the arguments' place; the bytes left of a body; and three words on how far the credential's body was read.
 ghost use Rattle.std.specs.Prelude.{◌≡◌, length};
 ghost use Rattle.rb_feed.specs.Stages.{claim_of};
 ghost use Rattle.rb_feed.specs.Saved.{field_saved_as, stage_of, stage_saved_as};

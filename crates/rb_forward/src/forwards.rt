@@ -237,8 +237,8 @@ impl Forwards {
         self.end(Wanted::Answered(xid, from, clock), outcome_of(bytes), meter)
     }
 
-    /// The entry of least number whose deadline has come at the moment `clock`, in milliseconds, ends, as `Failed`. Where
-    /// there is none, nothing changes, and the answer is `None`.
+    /// The entry of least number whose deadline has come at the moment `clock`, in milliseconds, ends, as `Failed`.
+    /// Where there is none, nothing changes, and the answer is `None`.
     pub fn due(&mut self, clock: u64, meter: &mut Meter) -> Option<Ended>
         requires { meter.old.tie ≡ self.old.tie }
         ensures ended { GivenBy (due clock) self.old result }

@@ -1,5 +1,5 @@
-//! Calls that are forwarded to their targets (RFC 1833 sections 2.2.1 and 3.2), each ended once: by its own target, by
-//! its deadline or with its caller.
+//! Calls that are forwarded to their targets (RFC 1833 sections 2.2.1 and 3.2), each ended once: by its own target,
+//! by its deadline or with its caller.
 #![tactic(auto)]
 
 mod buffers;

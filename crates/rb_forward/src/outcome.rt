@@ -7,7 +7,8 @@ ghost use Rattle.rb_forward.specs.Outcomes.{PassesWithin};
 use crate::types::Outcome;
 use rb_rpc::{ReplyStatus, read_reply};
 
-/// The most bytes of results that are passed on to a caller: `res` of RFC 1833 section 2.1 and `results` of section 3.1.
+/// The most bytes of results that are passed on to a caller: `res` of RFC 1833 section 2.1 and `results` of section
+/// 3.1.
 pub const LONGEST_RESULTS: usize = 8_800;
 
 /// The xid of a datagram, unless it has fewer than 4 bytes.

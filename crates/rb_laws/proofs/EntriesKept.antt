@@ -26,7 +26,7 @@ use Rattle.rb_proto.specs.Ledger.{Ledger, rows_in, called}
 use Rattle.rb_proto.specs.Netids.{transport_of_prot}
 use Rattle.rb_proto.specs.Remote.{args_of, HasContent}
 use Rattle.rb_proto.specs.Arguments.{HasArgs}
-use Rattle.rb_forward.specs.StandsFor.{longest_arguments}
+use Rattle.rb_forward.specs.Forwards.{longest_arguments}
 use Rattle.rb_rpc.specs.Verdict.{verdict}
 use Rattle.rb_feed.specs.Feeds.{arguments_of}
 use Rattle.rb_model.specs.Grammar.{HasArgsIn}

@@ -157,8 +157,8 @@ impl Books {
         self.registry.trim(oldest, meter);
     }
 
-    /// The unsent forwarded call of least number, whether or not its deadline has come, or `None` where all were sent. It
-    /// has at most 8,840 bytes.
+    /// The unsent forwarded call of least number, whether or not its deadline has come, or `None` where all were
+    /// sent. It has at most 8,840 bytes.
     pub fn unsent(&self, meter: &mut Meter) -> Option<Unsent<'_>>
         requires { AreTied meter.old.tie self.now }
         ensures unsent { BooksShow (unsent_of self.now) self.now (seen result) }
@@ -185,8 +185,8 @@ impl Books {
     }
 
     /// Takes a datagram that came from the peer `from` at the moment `clock`, in milliseconds. Where it is a reply to
-    /// forwarded calls, that of least number ends, and its outcome is noted. Any other datagram changes nothing, and the
-    /// answer is `None`.
+    /// forwarded calls, that of least number ends, and its outcome is noted. Any other datagram changes nothing, and
+    /// the answer is `None`.
     #[tactic(auto, unfolding(crate::specs::Forwarding::replied))]
     pub fn reply(
         &mut self,

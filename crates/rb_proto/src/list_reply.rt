@@ -80,7 +80,8 @@ impl ListReply {
     }
 
     /// Makes the next part in a buffer, whose bytes are cleared before, and says where it stands there. It has 1,024
-    /// bytes, and the last part 1 to 1,024. `host` is shown in place of 0.0.0.0 where the list shows addresses of entries.
+    /// bytes, and the last part 1 to 1,024. `host` is shown in place of 0.0.0.0 where the list shows addresses of
+    /// entries.
     pub fn next_part(
         &mut self,
         registry: &Registry,

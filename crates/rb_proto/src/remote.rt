@@ -24,8 +24,8 @@ pub struct RemoteCall {
 }
 
 impl RemoteCall {
-    /// The call that the front of the bytes asks for, or `None` where none is spelled there or args has more than 8,800
-    /// bytes. What follows it counts for nothing.
+    /// The call that the front of the bytes asks for, or `None` where none is spelled there or args has more than
+    /// 8,800 bytes. What follows it counts for nothing.
     #[tactic(auto, using(crate::proofs::Remotes::content_is_there))]
     pub fn read(bytes: &[u8]) -> Option<RemoteCall>
         ensures call { result ≡ front read_remote bytes.now }

@@ -67,8 +67,8 @@ abbrev pub AreOwn : List Row → Type 0
 AreOwn rows = IsTrue (list_all (λ (row : Row). row.prog == rpcb_prog) rows)
 
 -- A registry that keeps this stands for its own rows and these changes: it has the rows that they leave, and from the
--- floor on those that the first n of them left. The retained rows are those that they removed after the floor, and with the
--- live ones they are within the limit.
+-- floor on those that the first n of them left. The retained rows are those that they removed after the floor, and
+-- with the live ones they are within the limit.
 pub record StandsForChanges (kept : Registry) (own : List Row) (changes : List Change) : Type 0 where
   pub are_own : AreOwn own
   pub rows : rows_of kept ≡ live own changes

@@ -87,8 +87,8 @@ fn sys_uid(bytes: &[u8]) -> Option<u32>
     uid_of(&bytes[body..body + body_length(bytes, CREDENTIAL)]).ok()
 }
 
-/// What the words say, beside the credential that was read. It is inlined, so that the words go into the verdict one by
-/// one.
+/// What the words say, beside the credential that was read. It is inlined, so that the words go into the verdict one
+/// by one.
 #[inline(always)]
 fn head_with(bytes: &[u8], cred: Credential) -> CallHead
     requires { 32 ≤ length bytes.now }
@@ -103,9 +103,10 @@ fn head_with(bytes: &[u8], cred: Credential) -> CallHead
     }
 }
 
-/// The verdict on a message: the first refusal that holds of all its bytes, else the call. The order is: no call; another
-/// version of RPC; a head that is cut short; a credential of over 400 bytes; a credential that is cut short or has a
-/// residual byte that is not zero; the same of the verifier; a flavor that is not taken; an AUTH_SYS that cannot be read.
+/// The verdict on a message: the first refusal that holds of all its bytes, else the call. The order is: no call;
+/// another version of RPC; a head that is cut short; a credential of over 400 bytes; a credential that is cut short
+/// or has a residual byte that is not zero; the same of the verifier; a flavor that is not taken; an AUTH_SYS that
+/// cannot be read.
 ///
 /// It is inlined, so that its words stay where they are wanted.
 #[tactic(auto, unfolding(crate::specs::Verdict::verdict, crate::specs::Verdict::credential_end, crate::specs::Verdict::verifier_end))]

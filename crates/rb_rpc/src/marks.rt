@@ -151,8 +151,8 @@ pub fn one_fragment(bytes: &[u8]) -> Option<&[u8]>
     Some(&bytes[FRAGMENT_HEADER..end])
 }
 
-/// The header of a fragment of `len` bytes of data, which are 1 to 1,024, and whether it is the last of its record (RFC
-/// 5531 section 11).
+/// The header of a fragment of `len` bytes of data, which are 1 to 1,024, and whether it is the last of its record
+/// (RFC 5531 section 11).
 #[tactic(auto, unfolding(crate::specs::Records::fragment_header, rb_xdr::specs::Xdr::number))]
 pub fn fragment_header(len: usize, last: bool) -> [u8; 4]
     requires some { 1 ≤ len }

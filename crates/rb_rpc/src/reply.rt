@@ -112,8 +112,9 @@ fn put_accepted(xid: u32, stat: u32, out: &mut Kept, meter: &mut Meter) -> Resul
     out.extend(&head, meter)
 }
 
-/// Writes the head of a reply at the end of a buffer (RFC 5531 section 9); the verifier of an accepted one is AUTH_NONE,
-/// empty. It costs 1 step and one for each byte. `Full`, with the buffer as it was, where it does not fit: 1 step.
+/// Writes the head of a reply at the end of a buffer (RFC 5531 section 9); the verifier of an accepted one is
+/// AUTH_NONE, empty. It costs 1 step and one for each byte. `Full`, with the buffer as it was, where it does not fit:
+/// 1 step.
 #[tactic(auto, unfolding(crate::specs::Replies::reply_head, rb_xdr::specs::Xdr::number, rb_xdr::specs::Xdr::opaque))]
 pub fn put_reply(head: &ReplyHead, out: &mut Kept, meter: &mut Meter) -> Result<(), Full>
     requires { meter.old.tie ≡ out.old.tie }

@@ -168,7 +168,8 @@ impl Stats {
     /// Puts the statistics of versions 2, 3 and 4 behind what the buffer has (RFC 1833 section
     /// 2.2.2, RPCBPROC_GETSTAT).
     ///
-    /// `Full`, with the buffer as it was, where it would then have more than `limit` bytes. It costs at most 6 steps for each key, the number of bytes put, and 4.
+    /// `Full`, with the buffer as it was, where it would then have more than `limit` bytes. It costs at most 6 steps
+    /// for each key, the number of bytes put, and 4.
     pub fn put(&self, limit: usize, out: &mut Kept, meter: &mut Meter) -> Result<(), Full>
         requires tie { meter.old.tie ≡ self.now.tie }
         requires out { meter.old.tie ≡ out.old.tie }

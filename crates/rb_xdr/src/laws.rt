@@ -4,8 +4,8 @@ ghost use Rattle.rb_xdr.specs.XdrLaws.{IsReadOfOneText, SpellsOneValue, NoneIsLo
 
 use crate::xdr::Xdr;
 
-/// A value is read of one whole text alone. Each spelling is of one value, none is a proper prefix of another, and none
-/// is longer than the greatest.
+/// A value is read of one whole text alone. Each spelling is of one value, none is a proper prefix of another, and
+/// none is longer than the greatest.
 pub fn spelling_laws<T: Xdr>()
     ensures one_spelling { IsReadOfOneText T.reads }
     ensures no_proper_prefix { (a more : List ℕ) → IsNoFront T.is_value T.spelling a more }
@@ -15,8 +15,8 @@ pub fn spelling_laws<T: Xdr>()
     T::laws();
 }
 
-/// Numbers, ints, bools and opaque data are read exactly where they are spelled, so nothing but a value's one spelling
-/// is read as it. No spelling begins another, and none is longer than the greatest of its type.
+/// Numbers, ints, bools and opaque data are read exactly where they are spelled, so nothing but a value's one
+/// spelling is read as it. No spelling begins another, and none is longer than the greatest of its type.
 pub fn types_are_read_exactly()
     ensures number { NumberIsType }
     ensures int { SignedIsType }

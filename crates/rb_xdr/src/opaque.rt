@@ -17,8 +17,8 @@ use std::alloc::AllocError;
 use std::fmt;
 use std::marker::Model;
 
-/// How many residual bytes follow `count` bytes of opaque data, so that both together are a multiple of four (RFC 4506
-/// section 3): 0 to 3.
+/// How many residual bytes follow `count` bytes of opaque data, so that both together are a multiple of four (RFC
+/// 4506 section 3): 0 to 3.
 pub fn residue(count: usize) -> usize
     ensures { result ≡ residue count }
 {

@@ -17,7 +17,7 @@ use Rattle.rb_proto.specs.Callers.{own_rows, is_local, owner_text}
 use Rattle.rb_proto.specs.Netids.{netid_named, which_of, transport_of_prot, address_in, is_address}
 use Rattle.rb_proto.specs.Results.{result_bytes, row_bytes}
 use Rattle.rb_proto.specs.Types.{read_mapping, read_rpcb, read_netbuf, read_entry}
-use Rattle.rb_forward.specs.StandsFor.{longest_arguments}
+use Rattle.rb_forward.specs.Forwards.{longest_arguments}
 use Rattle.rb_forward.specs.Forwards.{xid_of, question, longest_results, outcome_of, is_same_peer, is_answered, reply, due, drop_caller, later, can_start, next_entry, started, unsent, can_be_sent, sent}
 use Rattle.rb_proto.specs.Remote.{read_remote}
 use Rattle.rb_proto.specs.Forwarding.{outcome_note, peer_to_forward, forward_of, forward_call, end_note, replied, fell_due, caller_dropped, call_sent, forwarded_bytes}

@@ -25,7 +25,7 @@ use Rattle.rb_model.specs.Step.{serve, answering, bytes, pending, gave, open_con
 use Rattle.std.specs.Fmt.{digits}
 use Rattle.rb_forward.specs.Forwards.{later, due, drop_caller, can_start, next_entry, started}
 use Rattle.rb_proto.specs.Forwarding.{peer_to_forward, forward_of, forward_call, end_note, fell_due, caller_dropped, outcome_note}
-use Rattle.rb_forward.specs.StandsFor.{longest_arguments}
+use Rattle.rb_forward.specs.Forwards.{longest_arguments}
 use Rattle.rb_proto.specs.Remote.{read_remote}
 use Rattle.rb_proto.specs.Ledger.{called, version_of}
 use Rattle.rb_model.specs.Ending.{expire_connection, expire}
