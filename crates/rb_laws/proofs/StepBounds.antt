@@ -6,7 +6,7 @@ use Rattle.rb_model.specs.Connections.Taking.{TakesNone, GoesOn, Ends}
 use Rattle.rb_model.specs.Step.{answering, with_count, when_taken, Event, Output, bytes_to, bytes, output_or, show_taken, step, after, IsReached}
 use Rattle.rb_model.specs.declared.types.Taken.{Taken}
 use Rattle.rb_model.specs.Costs.{sizes_in, count_taken, record_cost, bytes_cost, find_cost, event_cost}
-use Rattle.rb_forward.specs.StandsFor.{longest_arguments as longest_args}
+use Rattle.rb_forward.specs.Forwards.{longest_arguments as longest_args}
 use Rattle.std.proofs.lemmas.List.{length-take}
 use Rattle.rb_feed.specs.Feeds.{arguments_of}
 use Rattle.rb_model.specs.Calls.{longest_reply, longest_arguments}
