@@ -1,12 +1,12 @@
 -- How many bytes are held of connections.
-use Rattle.std.proofs.Common.{◌≡◌, ℕ, ◌+◌, ◌*◌, ◌^◌, ◌≤◌, ◌<◌, eqb, Some, List, [], ◌∷◌, ◌++◌, refl, ap, length, ◌∙◌, arith}
+use Rattle.std.proofs.Common.{◌≡◌, ℕ, ◌+◌, ◌*◌, ◌^◌, ◌≤◌, ◌<◌, eqb, Some, List, [], ◌∷◌, ◌++◌, refl, ap, length, arith}
 use Rattle.std.specs.Prelude.{All, unwrap_or, option_map}
 use Rattle.std.specs.Map.{values_of}
 use Rattle.std.proofs.Math.Nat.{mul-le-mul_right}
 use Rattle.std.proofs.lemmas.List.Sums.{sum_by-le, sum_by_push}
 use Rattle.std.proofs.lemmas.List.Elements.{All-push}
 use Rattle.std.proofs.lemmas.Map.Entries.{length-values_of, sum_by-remove_entry}
-use Rattle.rb_xdr.specs.Meter.{Meter, Pays, PaysAtMost}
+use Rattle.rb_xdr.specs.Meter.{Meter}
 use Rattle.rb_xdr.specs.Pool.{Pool, value_at, without, with_value}
 use Rattle.rb_xdr.proofs.PoolLemmas.{All-value_at, All-with_value}
 use Rattle.rb_connections.specs.declared.slot.Slot.{Slot}
@@ -67,19 +67,3 @@ module _ (slots : List Slot) (slot : Slot) (buffer : slot.buffer.bytes ≡ []) (
 -- the table with a slot changed
 pub stays_changed : (view now : Table) (k : ℕ) (new : Slot) → view ≡ now → IsWithin new → StaysTable now (record view { slots = with_value view.slots k new })
 stays_changed view now k new is fits = rw (← is) (record { conns = refl; tie = refl; within = λ within. All-with_value IsWithin view.slots k new within fits })
-
--- a slot is looked up and counted, an act on it is paid for, and it is counted again
-pub recounted_cost : (m0 m1 m2 m3 m4 m5 : Meter) (look act : ℕ) → PaysAtMost m0 m1 look → Pays m1 m2 1 → Pays m2 m3 2 → PaysAtMost m3 m4 act → Pays m4 m5 2
-    → (most : ℕ) → look + act + 5 ≤ most → PaysAtMost m0 m5 most
-recounted_cost m0 m1 m2 m3 m4 m5 look act looks gets counts acts recounts most enough =
-    let gets = ap (λ (m : Meter). m.steps) gets in
-    let counts = ap (λ (m : Meter). m.steps) counts in
-    let recounts = ap (λ (m : Meter). m.steps) recounts in
-    record {
-      rises = omega (arith, looks.rises, gets, counts, acts.rises, recounts);
-      steps = omega (arith, looks.steps, gets, counts, acts.steps, recounts, enough);
-      tie = ties;
-    }
-  where
-    ties : m5.tie ≡ m0.tie
-    ties = ap (λ (m : Meter). m.tie) recounts ∙ acts.tie ∙ ap (λ (m : Meter). m.tie) counts ∙ ap (λ (m : Meter). m.tie) gets ∙ looks.tie

@@ -13,5 +13,6 @@ pub mod Freed
 pub mod ByHint
 pub mod OneSlot
 pub mod Holding
+pub mod LiveSlots
 pub mod GoingOn
 pub mod Settled

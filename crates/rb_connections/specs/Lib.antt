@@ -1,5 +1,6 @@
 pub mod StandsFor
 pub mod Slots
+pub mod LiveSlots
 pub mod Reading
 pub mod Giving
 pub mod Listings

@@ -1,11 +1,13 @@
 //! The connections that are open, in the order of their openings.
-ghost use Rattle.std.specs.Prelude.{◌≡◌, ◌<◌, ◌≤◌, ◌+◌, ◌*◌, ◌++◌, ◌∷◌, [], All, length, IfOk};
-ghost use Rattle.std.specs.Option.{option_map};
+ghost use Rattle.std.specs.Prelude.{◌≡◌, ◌<◌, ◌≤◌, ◌+◌, ◌*◌, ◌++◌, ◌∷◌, [], All, length, IfOk, IfSome};
+ghost use Rattle.std.specs.Borrow.{sem};
+ghost use Rattle.std.specs.Option.{option_copied_mut, option_map};
 ghost use Rattle.std.specs.Map.{values_of};
 ghost use Rattle.rb_xdr.specs.Meter.{Pays, PaysAtMost};
 ghost use Rattle.rb_xdr.specs.Pool.{HasDistinctKeys};
 ghost use Rattle.rb_connections.specs.Slots.{wanted_slot, AreBuffers, AreSpare, HasBuffers, HasDistinctNumbers};
-ghost use Rattle.rb_connections.specs.StandsFor.{charge, most_charge, IsWithin};
+ghost use Rattle.rb_connections.specs.LiveSlots.{charge_of, count_cost, FindsLive, LendsLive};
+ghost use Rattle.rb_connections.specs.StandsFor.{held_in};
 ghost use Rattle.rb_connections.specs.Listings.{earlier, began_early, with_evicted, stamps_in, IsOldest};
 ghost use Rattle.rb_model.specs.Costs.{oldest_cost, evict_cost};
 
@@ -222,17 +224,32 @@ fn wanted_key(slots: &Pool<Slot>, hints: &Hints, wanted: Wanted, meter: &mut Met
     }
 }
 
-/// The bytes that all connections hold after a change of one, which counted as `before` until then.
-#[tactic(auto, unfolding(rb_model::specs::Calls::longest_reply, rb_model::specs::Calls::longest_arguments, crate::specs::StandsFor::buffer_size, rb_model::specs::Connections::longest_fragment))]
-fn recounted(held: u64, before: u64, slot: &Slot, meter: &mut Meter) -> u64
-    requires buffers { HasBuffers meter.old.tie slot.now }
-    requires before { before ≤ held }
-    requires few { held ≤ 256 * most_charge }
-    ensures held { result + before ≡ held + charge slot.now }
-    ensures within { IsWithin slot.now }
-    ensures cost { Pays meter.old meter.new 2 }
+/// The slot of the live connection of the number, which is about to change. What it counts as is taken off the bytes
+/// that are held, and what it counts as after the change is to be added. The hint for the number is noted.
+#[inline(always)]
+fn live_slot<'a>(
+    slots: &'a mut Pool<Slot>,
+    hints: &mut Hints,
+    held: &mut u64,
+    id: u64,
+    meter: &mut Meter,
+) -> Option<&'a mut Slot>
+    requires tie { meter.old.tie ≡ slots.old.tie }
+    requires numbers { HasDistinctNumbers (values_of slots.old.entries) }
+    requires buffers { All (HasBuffers meter.old.tie) (values_of slots.old.entries) }
+    requires held { held.old ≡ held_in (values_of slots.old.entries) }
+    ensures* writes_back { sem 𝓛 (LendsLive slots.entry id result) }
+    ensures found { FindsLive id slots.old.entries (option_copied_mut result) }
+    ensures its { IfSome (option_copied_mut result) (HasBuffers meter.old.tie) }
+    ensures held { held.new + charge_of (option_copied_mut result) ≡ held.old }
+    ensures cost { PaysAtMost meter.old meter.new
+        (2 * length slots.old.entries + 3 + count_cost (option_copied_mut result)) }
 {
-    held - before + slot.charge(meter)
+    let key = wanted_key(slots, hints, Wanted::Live(id), meter)?;
+    hints.note(id, key);
+    let slot = slots.get_mut(key, meter)?;
+    *held -= slot.charge(meter);
+    Some(slot)
 }
 
 impl Connections {
@@ -368,16 +385,12 @@ impl Connections {
         ensures cost { PaysAtMost meter.old meter.new
             (2 * slot_count self.old + 3 + taken_cost result) }
     {
-        let Some(key) = wanted_key(&self.slots, &self.hints, Wanted::Live(id), meter) else {
+        let Some(slot) = live_slot(&mut self.slots, &mut self.hints, &mut self.held, id, meter)
+        else {
             return Err(CoreFault::Gone);
         };
-        self.hints.note(id, key);
-        let Some(slot) = self.slots.get_mut(key, meter) else {
-            unreachable!()
-        };
-        let before = slot.charge(meter);
         let received = slot.take(piece, clock, arguments, meter);
-        self.held = recounted(self.held, before, slot, meter);
+        self.held += slot.charge(meter);
         Ok(received)
     }
 
@@ -409,17 +422,13 @@ impl Connections {
         ensures cost { PaysAtMost meter.old meter.new
             (settling_cost (slot_count self.old) registry.now served) }
     {
-        let Some(key) = wanted_key(&self.slots, &self.hints, Wanted::Live(id), meter) else {
+        let Some(slot) = live_slot(&mut self.slots, &mut self.hints, &mut self.held, id, meter)
+        else {
             draft.clear(meter);
             return;
         };
-        self.hints.note(id, key);
-        let Some(slot) = self.slots.get_mut(key, meter) else {
-            unreachable!()
-        };
-        let before = slot.charge(meter);
         slot.settle(served, clock, host, registry, draft, meter);
-        self.held = recounted(self.held, before, slot, meter);
+        self.held += slot.charge(meter);
     }
 
     /// Counts n of the pending bytes of the live connection of the number as given, or as many as there are: `Gone`
@@ -448,16 +457,12 @@ impl Connections {
         ensures cost { PaysAtMost meter.old meter.new
             (look_cost self.old + (given_cost (row_count registry.now) + recount_cost)) }
     {
-        let Some(key) = wanted_key(&self.slots, &self.hints, Wanted::Live(id), meter) else {
+        let Some(slot) = live_slot(&mut self.slots, &mut self.hints, &mut self.held, id, meter)
+        else {
             return Err(CoreFault::Gone);
         };
-        self.hints.note(id, key);
-        let Some(slot) = self.slots.get_mut(key, meter) else {
-            unreachable!()
-        };
-        let before = slot.charge(meter);
         slot.give(n, clock, host, registry, scratch, meter);
-        self.held = recounted(self.held, before, slot, meter);
+        self.held += slot.charge(meter);
         Ok(())
     }
 
