@@ -4,16 +4,16 @@ use rb_proto::Listing;
 /// The greatest length of a reply that is no streamed list, in bytes.
 pub const LONGEST_REPLY: usize = 9_000;
 
-/// What a message is answered with.
+/// What a datagram, or a record, is answered with.
 #[derive(Clone, Copy, Debug, PartialEq, Eq)]
 pub enum Outcome {
-    /// Nothing: it is no call. A connection on which it came is Lost.
+    /// Nothing: it is no call (RFC 5531 section 9). A connection on which it came is Lost.
     NoCall,
-    /// A reply, which is written.
+    /// A reply of at most 9,000 bytes, which is written.
     Reply,
-    /// It is a call that is forwarded. A connection on which it came is Awaiting.
+    /// Nothing yet: the call is forwarded (RFC 1833 sections 2.2.1 and 3.2). A connection on which it came is Awaiting.
     Forwarded,
-    /// Nothing: it is a call that stays without a reply.
+    /// Nothing: the call stays without a reply, as a CALLIT that can't be served does.
     Silent,
 }
 

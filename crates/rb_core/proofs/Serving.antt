@@ -31,7 +31,7 @@ use Rattle.rb_connections.specs.Settling.{listing_outcome}
 use Rattle.rb_core.specs.Serving.{IsStreamedTo, streamed}
 use Rattle.rb_connections.proofs.ReplyHeads.{short_head}
 use Rattle.rb_model.specs.declared.message.Message.TheVariants as says
-use Rattle.rb_model.specs.Calls.{Outcome, told_as, told_results, reply_with, outcome, fitting, success, longest_reply}
+use Rattle.rb_model.specs.Calls.{Outcome, answer_outcome, results_outcome, reply_with, outcome, fitting, success, longest_reply}
 use Rattle.rb_model.specs.Calls.Outcome.{Reply}
 use Rattle.rb_core.specs.Messages.{null_message}
 use Rattle.rb_core.specs.Awaits.{kind_of, StayUnlessForwarded as StaysUnless}
@@ -42,14 +42,14 @@ pub record Notes (head : CallHead) (old new : Books) : Type 0 where
   pub registry : new.registry ≡ old.registry
 
 module _ (context : Context) (call : Call) (arguments : List ℕ) (old mid new : Books) (given : Answer) (said : Outcome) (notes : Notes call.head old mid) (acts : ActsAs (answer context call arguments) mid new given) where
-  replied : ((l : Ledger) → StandsForLedger new l → said ≡ told_as context.caller (length l.changes) call.head.xid (result_bytes context.listener.host (shown_of l)) given)
+  replied : ((l : Ledger) → StandsForLedger new l → said ≡ answer_outcome context.caller (length l.changes) call.head.xid (result_bytes context.listener.host (shown_of l)) given)
       → (p : Answer × Ledger) → given ≡ p.0 → StandsForLedger new p.1 → said ≡ (reply_with context call.head.xid p).0
-  replied told (a, l) e s = told l s ∙ ap (told_as context.caller (length l.changes) call.head.xid (result_bytes context.listener.host (shown_of l))) e
+  replied told (a, l) e s = told l s ∙ ap (answer_outcome context.caller (length l.changes) call.head.xid (result_bytes context.listener.host (shown_of l))) e
 
   left : (p : Answer × Ledger) → (reply_with context call.head.xid p).1 ≡ p.1
   left (a, l) = refl
 
-  pub asked_acts : ((l : Ledger) → StandsForLedger new l → said ≡ told_as context.caller (length l.changes) call.head.xid (result_bytes context.listener.host (shown_of l)) given)
+  pub asked_acts : ((l : Ledger) → StandsForLedger new l → said ≡ answer_outcome context.caller (length l.changes) call.head.xid (result_bytes context.listener.host (shown_of l)) given)
       → ActsAs (outcome context (says.Asked call) arguments) old new said
   unfolding outcome called
   asked_acts told = record {
@@ -74,7 +74,7 @@ null_fits xid =
     let same : reply_head xid Success ++ [] ≡ reply_head xid Success = append-nil (reply_head xid Success) in
     rw same (cond-false _ _ _ (le-ltb 9000 (length (reply_head xid Success)) (omega (arith, short_head xid Success))))
 
-null_told : (caller : Caller) (count xid : ℕ) (host : List ℕ) (shown : Shown) → Reply (reply_head xid Success) None ≡ told_as caller count xid (result_bytes host shown) null_answer
+null_told : (caller : Caller) (count xid : ℕ) (host : List ℕ) (shown : Shown) → Reply (reply_head xid Success) None ≡ answer_outcome caller count xid (result_bytes host shown) null_answer
 unfolding result_bytes
 null_told (Udp peer) count xid host shown = ap (λ (xs : List ℕ). Reply xs None) (sym (null_fits xid))
 null_told (Tcp id peer) count xid host shown = ap (λ (xs : List ℕ). Reply xs None) (sym (null_fits xid))
@@ -96,7 +96,7 @@ quiet_as answers.Silent old new same = same
 -- ---- lists
 
 pub listed : (caller : Caller) (given : Results) (xid : ℕ) (books : Books) (host : List ℕ) (listing : Listing) (l : Ledger) → Some listing ≡ streamed caller given → StandsForLedger books l
-    → listing_outcome (source_in host books) xid listing ≡ told_results caller (length l.changes) xid (result_bytes host (shown_of l) given) given
+    → listing_outcome (source_in host books) xid listing ≡ results_outcome caller (length l.changes) xid (result_bytes host (shown_of l) given) given
 unfolding result_bytes
 listed (Udp peer) given xid books host listing l e h = absurd cc
 listed (Tcp id peer) (results.Rows rows) xid books host listing l e h =

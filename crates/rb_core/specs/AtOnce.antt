@@ -15,8 +15,9 @@ use Rattle.rb_model.specs.State.Phase.{Idle, Reading, Owing, Awaiting, Lost}
 use Rattle.rb_model.specs.Connections.{longest_fragment, when_given, live_connection, on_connection}
 use Rattle.rb_model.specs.Step.{bytes, pending, gave}
 use Rattle.rb_core.specs.StandsFor.{Held, StandsFor}
-use Rattle.rb_connections.specs.Slots.{Acts}
+use Rattle.rb_connections.specs.Slots.{Acts, Shows}
 use Rattle.rb_core.specs.Core.{arguments_in, answering_heard, without_arguments}
+use Rattle.rb_connections.specs.Giving.{IsGivenWhole, whole_length}
 
 -- ---- two events
 
@@ -88,6 +89,11 @@ taken_in (Err fault) = Err fault
 abbrev pub count_given : Result Exchanged CoreFault → ℕ
 count_given (Ok exchanged) = exchanged.given
 count_given (Err fault) = 0
+
+-- They are as many as are given at once, where there is this room.
+abbrev pub CountsGiven : ℕ → ℕ → List ℕ → List ℕ → Held → Result Exchanged CoreFault → Type 0
+CountsGiven now id piece room held result =
+    Shows StandsFor (count_now now id piece (length room)) held (count_given result)
 
 -- From each state that the old core stands for, bytes are taken so, and these are given, where there is this room.
 abbrev pub Exchanges : ℕ → ℕ → List ℕ → Held → Held → Result Exchanged CoreFault → List ℕ → Type 0

@@ -17,8 +17,12 @@ use Rattle.rb_model.specs.Connections.{live_connection}
 use Rattle.rb_model.specs.State.{State}
 use Rattle.rb_core.specs.StandsFor.{Held, StandsFor}
 use Rattle.rb_connections.specs.StandsFor.{Table}
-use Rattle.rb_core.specs.Core.{arguments_in}
+use Rattle.rb_core.specs.declared.calls.Piece.{Piece}
+use Rattle.rb_core.specs.declared.types.Exchanged.{Exchanged}
+use Rattle.rb_core.specs.Core.{arguments_in, received_in}
+use Rattle.rb_core.specs.AtOnce.{count_given}
 use Rattle.rb_connections.specs.Giving.{whole_cost}
+use Rattle.rb_connections.specs.Costs.{look_cost, row_count, slot_count, taken_cost}
 
 -- ---- on one connection
 
@@ -41,6 +45,10 @@ abbrev pub sizes_of : Held → Held → Sizes
 sizes_of old new = sizes old.connections old.books new.books
 
 -- ---- what is paid at most
+
+-- to take a piece of bytes, where no record is answered yet
+abbrev pub PaysForPiece : Table → Result Piece CoreFault → Meter → Meter → Type 0
+PaysForPiece table result before now = PaysAtMost before now (look_cost table + taken_cost (received_in result))
 
 -- to put results into this buffer
 abbrev pub PaysForResults : Books → Kept → Meter → Meter → Type 0
@@ -73,12 +81,12 @@ PaysForBytes old new id piece before now =
     (s : State) → StandsFor old s
     → PaysAtMost before now (bytes_cost (sizes_of old new) piece (live_connection id s.connections.all))
 
--- the same where n bytes of a reply are given, in this room
-abbrev pub PaysForExchange : Held → Held → ℕ → List ℕ → List ℕ → ℕ → Meter → Meter → Type 0
-PaysForExchange old new id piece room n before now =
+-- the same where a reply may be given at once, in this room
+abbrev pub PaysForExchange : Held → Held → ℕ → List ℕ → List ℕ → Result Exchanged CoreFault → Meter → Meter → Type 0
+PaysForExchange old new id piece room result before now =
     (s : State) → StandsFor old s
     → PaysAtMost before now
-    (bytes_cost (sizes_of old new) piece (live_connection id s.connections.all) + whole_cost (length room) n)
+    (bytes_cost (sizes_of old new) piece (live_connection id s.connections.all) + whole_cost (length room) (count_given result))
 
 -- what it costs to lend a forwarded call of so many bytes
 abbrev pub lending_cost : Held → ℕ → ℕ

@@ -18,13 +18,16 @@ use Rattle.rb_model.specs.State.{Setting, State}
 use Rattle.rb_model.specs.Calls.{message_with, Outcome, Outcome as said, longest_reply}
 use Rattle.rb_core.specs.StandsFor.{Held, StandsFor}
 use Rattle.rb_connections.specs.StandsFor.{Table}
-use Rattle.rb_connections.specs.Slots.{Acts, TableShows, arguments_on, IsDraft}
+use Rattle.rb_model.specs.Connections.{on_live}
+use Rattle.rb_connections.specs.Slots.{Acts, TableActs, TableShows, feeding, arguments_on, IsDraft}
 use Rattle.rb_core.specs.Awaits.{AreAwaited}
 use Rattle.rb_connections.specs.Listings.{CanListOn}
 use Rattle.rb_core.specs.Eviction.{source_in}
 use Rattle.rb_model.specs.declared.types.Told.{Told}
 use Rattle.rb_model.specs.Ending.{told_at, tell}
 use Rattle.rb_model.specs.Step.{serve_message, settled_in}
+use Rattle.rb_connections.specs.Slots.{received}
+use Rattle.rb_connections.specs.Settling.{outcome_with}
 
 -- What is true of all that a core holds: it has one meter, its draft is empty between two events, each connection for which
 -- a call is forwarded awaits it, the registry can tell the lists that are given, and the reply has so many bytes.
@@ -67,6 +70,10 @@ context_of held caller = record {
 abbrev pub received_in : Result Piece CoreFault → Result Received CoreFault
 received_in (Ok piece) = Ok piece.received
 received_in (Err fault) = Err fault
+
+-- So many bytes of a piece were taken on the live connection of the number, and this was heard.
+abbrev pub TakesPiece : ℕ → ℕ → List ℕ → Table → Table → Result Piece CoreFault → Type 0
+TakesPiece id clock piece old new result = TableActs (on_live id (feeding clock piece)) old new (received_in result)
 
 -- the arguments of a record: those in the piece where it came whole, else those that are held
 abbrev pub arguments_in : Option (Bor (List ℕ)) → List ℕ → List ℕ

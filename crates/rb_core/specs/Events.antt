@@ -15,6 +15,8 @@ use Rattle.rb_model.specs.Costs.{event_cost}
 use Rattle.rb_core.specs.contracts.engine.Core.{the_row}
 use Rattle.rb_model.specs.Bounds.{steps_bound}
 use Rattle.rb_model.specs.Laws.{NoRecordEnds}
+use Rattle.rb_core.specs.declared.types.Exchanged.{Exchanged}
+use Rattle.rb_core.specs.AtOnce.{taken_in, count_given}
 use Rattle.rb_model.specs.WholeRuns.{whole_bound}
 use Rattle.rb_model.specs.declared.types.Limits.{Limits}
 
@@ -86,6 +88,11 @@ pub record StaysWithinSteps (core : Held) (taken given : ℕ) (before now : Mete
   pub within : (s : State) → StandsFor core s → IsReached s
       → PaysAtMost before now (steps_bound core.setting.limits taken given)
 
+-- the same of bytes that are exchanged
+abbrev pub ExchangesWithinSteps : Held → Result Exchanged CoreFault → Meter → Meter → Type 0
+ExchangesWithinSteps core result before now =
+    StaysWithinSteps core (taken_by (taken_in result)) (count_given result) before now
+
 -- From each state that a run reaches and that the core stood for: where no record ends in a piece on a connection, no more
 -- is paid than 8 steps for each byte that is taken, 64 for each connection that there may be, and 64.
 abbrev pub StaysCheapIfQuiet : Held → ℕ → List ℕ → Result Taken CoreFault → Meter → Meter → Type 0
@@ -96,5 +103,5 @@ StaysCheapIfQuiet core id piece result before now =
 -- ---- what is told of a run's steps
 
 -- the bound as it is told: where the buffers are empty, and as far as a number of 128 bits goes
-abbrev pub bound_told : Limits → List Event → List Output → ℕ
-bound_told limits events outputs = min (whole_bound limits 0 events outputs) greatest_count
+abbrev pub bound_shown : Limits → List Event → List Output → ℕ
+bound_shown limits events outputs = min (whole_bound limits 0 events outputs) greatest_count

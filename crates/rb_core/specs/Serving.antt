@@ -21,7 +21,7 @@ use Rattle.rb_connections.specs.declared.served.Served.TheVariants.{Told, Listed
 use Rattle.rb_connections.specs.StandsFor.{Table, StandsForConnections}
 use Rattle.rb_model.specs.State.{Connections}
 use Rattle.rb_model.specs.Losses.{crowding, evicting}
-use Rattle.rb_model.specs.Calls.{Outcome, Outcome as said, is_no_call, told_as, outcome, message_with, longest_reply}
+use Rattle.rb_model.specs.Calls.{Outcome, Outcome as said, is_no_call, answer_outcome, outcome, message_with, longest_reply}
 use Rattle.rb_connections.specs.Settling.{outcome_with}
 use Rattle.rb_connections.specs.Slots.{SlotBecomesFrom, BecomesFrom}
 use Rattle.rb_connections.specs.declared.giving.Giving.{Giving}
@@ -34,13 +34,14 @@ use Rattle.rb_model.specs.Connections.{settled, changed_at}
 use Rattle.rb_core.specs.Messages.{null_message}
 use Rattle.rb_core.specs.Eviction.{source_in}
 use Rattle.rb_core.specs.Awaits.{StayUnlessForwarded}
+use Rattle.rb_connections.specs.Settling.{IsWritten, kind_in, served_in}
 
 -- From each ledger that the books stand for, an answer is told so.
 abbrev pub TellsAnswer : Books → Context → ℕ → Answer → Served → List ℕ → Type 0
 TellsAnswer books context xid given served reply =
     (l : Ledger) → StandsForLedger books l
     → served_in (source_in context.listener.host books) served reply
-    ≡ told_as context.caller (length l.changes) xid (result_bytes context.listener.host (shown_of l)) given
+    ≡ answer_outcome context.caller (length l.changes) xid (result_bytes context.listener.host (shown_of l)) given
 
 -- A message is served as the outcome says, with what is written in this buffer.
 abbrev pub ServesMessage : Context → Message → List ℕ → Books → Books → Served → Kept → Type 0

@@ -1,15 +1,13 @@
 //! What comes of a piece of bytes on a connection, and how a record or a datagram is served.
 ghost use Rattle.std.specs.Prelude.{◌≡◌, ◌≤◌, ◌+◌, None, length, IfOk, OnErr};
 ghost use Rattle.rb_xdr.specs.Meter.{PaysAtMost};
-ghost use Rattle.rb_model.specs.Connections.{on_live};
 ghost use Rattle.rb_connections.specs.Awaits.{GoOn, HearsFree, StayOpen};
-ghost use Rattle.rb_core.specs.CallCosts.{PaysInRoom};
-ghost use Rattle.rb_connections.specs.Costs.{look_cost, taken_cost};
-ghost use Rattle.rb_core.specs.Core.{arguments_in, received_in, HasArguments};
+ghost use Rattle.rb_core.specs.CallCosts.{PaysForPiece, PaysInRoom};
+ghost use Rattle.rb_core.specs.Core.{arguments_in, received_in, HasArguments, TakesPiece};
 ghost use Rattle.rb_core.specs.Serving.{CanServe, IsEmptyReply, LeavesBooks, ServesVerdict};
 ghost use Rattle.rb_connections.specs.Listings.{CanListOn};
 ghost use Rattle.rb_core.specs.Eviction.{source_in};
-ghost use Rattle.rb_connections.specs.Slots.{feeding, IsDraft, TableActs};
+ghost use Rattle.rb_connections.specs.Slots.{IsDraft};
 
 use crate::eviction::make_room;
 use crate::message::{kept_arguments, procedure_of};
@@ -20,16 +18,17 @@ use rb_proto::{Books, Context};
 use rb_rpc::{FRAGMENT_HEADER, Verdict, read_call};
 use rb_xdr::{Kept, Meter};
 
-/// What came of a piece of bytes. The arguments of the record that ended with it lie in the piece where that came whole, and
-/// else in the buffer that was handed in for them.
+/// What came of a piece of bytes. The arguments of the record that ended with it lie in the piece where that came
+/// whole, and else in the buffer that was handed in for them.
 #[derive(Clone, Copy, Debug, PartialEq, Eq)]
 pub struct Piece<'a> {
     pub received: Received,
     pub arguments: Option<&'a [u8]>,
 }
 
-/// Takes bytes that arrive on the live connection of the number, at most up to the end of a record. A record that comes whole
-/// on an Idle connection is read where it lies (RFC 5531 section 11). `Gone` where there is no such connection, or it is Lost.
+/// Takes bytes that arrive on the live connection of the number, at most up to the end of a record (RFC 5531 section
+/// 11). A record that comes whole on an Idle connection is read where it lies. `Gone` where there is no such
+/// connection, or it is Lost.
 pub fn take_piece<'a>(
     connections: &mut Connections,
     id: u64,
@@ -40,8 +39,7 @@ pub fn take_piece<'a>(
 ) -> Result<Piece<'a>, CoreFault>
     requires tie { meter.old.tie ≡ connections.old.tie }
     requires arguments { IsDraft meter.old.tie arguments.old }
-    ensures acts { TableActs (on_live id (feeding clock piece.now))
-        connections.old connections.new (received_in result) }
+    ensures acts { TakesPiece id clock piece.now connections.old connections.new result }
     ensures arguments { HasArguments id piece.now connections.old arguments.old arguments.new result }
     ensures none { IfOk result (λ got. got.received.heard ≡ None → got.arguments ≡ None) }
     ensures goes_on { GoOn connections.old connections.new }
@@ -51,8 +49,7 @@ pub fn take_piece<'a>(
     ensures kept { OnErr result (arguments.new ≡ arguments.old) }
     ensures draft { IsDraft meter.old.tie arguments.new }
     ensures as_many { length connections.new.slots ≡ length connections.old.slots }
-    ensures cost { PaysAtMost meter.old meter.new
-        (look_cost connections.old + taken_cost (received_in result)) }
+    ensures cost { PaysForPiece connections.old result meter.old meter.new }
 {
     if let Some(whole) = connections.hear(id, piece, clock, meter) {
         let verdict = read_call(whole.content);
@@ -86,8 +83,8 @@ pub fn lend_arguments<'a>(piece: Option<&'a [u8]>, buffer: &'a Kept, meter: &mut
     }
 }
 
-/// Serves what the data on which this is the verdict says, behind whose head are these bytes, once there is room for the row
-/// that it adds. The reply is written into an empty buffer, unless it is a list that is streamed.
+/// Serves what the data on which this is the verdict says, behind whose head are these bytes, once there is room for
+/// the row that it adds. The reply is written into an empty buffer, unless it is a list that is streamed.
 ///
 /// A call of NULL has no arguments, adds no row and wants no more than a head (RFC 1833 sections 2.2 and 3.2).
 #[tactic(auto, unfolding(rb_model::specs::Calls::longest_reply))]

@@ -164,18 +164,18 @@ impl Core {
     ghost use Rattle.rb_core.specs.HeldBytes.{held};
     ghost use Rattle.rb_model.specs.Bounds.{bytes_bound};
     ghost use Rattle.rb_core.specs.HeldBytes.{NeverPasses};
-    ghost use Rattle.rb_core.specs.Events.{shown, OnlyBegins, BeginsAt, LendsFrom, TellsSteps, taken_by, lent_by, given_by, StaysWithinSteps, StaysCheapIfQuiet};
+    ghost use Rattle.rb_core.specs.Events.{shown, OnlyBegins, BeginsAt, LendsFrom, TellsSteps, taken_by, lent_by, given_by, StaysWithinSteps, ExchangesWithinSteps, StaysCheapIfQuiet};
     ghost use Rattle.rb_connections.specs.Slots.{Acts, Shows, Lends};
     ghost use Rattle.rb_core.specs.StandsFor.{StandsFor};
     ghost use Rattle.rb_core.specs.Core.{ActsWithReply, TellsCaller, context_of};
-    ghost use Rattle.rb_core.specs.AtOnce.{AnswersGiving, Exchanges, GivesAtOnce, count_given, count_now, taken_in};
+    ghost use Rattle.rb_core.specs.AtOnce.{AnswersGiving, CountsGiven, Exchanges, GivesAtOnce, count_given};
     ghost use Rattle.rb_core.specs.CallCosts.{sizes_of, PaysForBytes, PaysForDatagram, PaysForExchange, PaysToAnswer, lending_cost};
     ghost use Rattle.rb_connections.specs.Costs.{look_cost, slot_count};
     ghost use Rattle.rb_model.specs.Costs.{close_cost, ended_cost, gave_cost, tell_cost, pending_cost};
 
-    /// A core with the daemon's own rows alone, at the moment `now` (milliseconds since the start of 1970).
-    /// `first_xid` is the number of the first call that it forwards. `BadLimits` where a limit is out of its
-    /// range, else `NoMemory` where an allocation is refused.
+    /// Makes a core with the daemon's own rows alone, at the moment `now` (milliseconds since the start of 1970). It
+    /// takes all its memory here. `first_xid` is the xid of the first call that it forwards. `BadLimits` where a limit is
+    /// out of its range, else `NoMemory` where an allocation is refused.
     #[tactic(auto, unfolding(rb_model::specs::Calls::longest_reply, rb_model::specs::Calls::longest_arguments, rb_connections::specs::StandsFor::buffer_size))]
     pub fn new(
         alloc: Global,
@@ -241,8 +241,9 @@ impl Core {
         }
     }
 
-    /// Takes a datagram and answers it: `udp_reply` has the reply. `Forwarded` where the call is forwarded; its reply comes with
-    /// `forward_reply` or `expire`.
+    /// Answers a datagram from `peer` at the moment `now` (RFC 5531 section 9, RFC 1833 sections 2.2 and 3.2). At
+    /// `Reply` the reply is lent by `udp_reply`, of at most 9,000 bytes. At `Forwarded` the call is forwarded, and its
+    /// reply comes with `forward_reply` or `expire`. At `NoCall` and `Silent` there is none.
     #[tactic(auto, using(crate::proofs::HeldBytes::never_passes))]
     pub fn datagram(&mut self, now: u64, peer: Peer, content: &[u8], meter: &mut Meter) -> Outcome
         requires { meter.old.tie ≡ self.old.tie }
@@ -276,7 +277,8 @@ impl Core {
         }
     }
 
-    /// The reply over UDP of the last `datagram`, `forward_reply` or `expire`; empty where there was none.
+    /// The reply over UDP of the last `datagram`, `forward_reply` or `expire`, of at most 9,000 bytes; empty where it had
+    /// none.
     pub fn udp_reply(&mut self, meter: &mut Meter) -> &[u8]
         requires { meter.old.tie ≡ self.old.tie }
         ensures* begun { sem 𝓛 (LendsFrom self.entry meter.old) }
@@ -290,8 +292,9 @@ impl Core {
         self.reply.lend(0..len, meter)
     }
 
-    /// Opens a connection and returns its number; the first is 1. `Full` where there are as many connections as there may
-    /// be, Lost ones among them, else `Spent` where no number is left.
+    /// Opens a connection from `peer` at the moment `now`, and returns its number; the first is 1, and none recurs.
+    /// `Full` where there are as many connections as there may be, Lost ones among them, else `Spent` where no number is
+    /// left.
     #[tactic(auto, using(crate::proofs::HeldBytes::never_passes, crate::proofs::CallBounds::open_within))]
     pub fn open(&mut self, now: u64, peer: Peer, meter: &mut Meter) -> Result<u64, CoreFault>
         requires { meter.old.tie ≡ self.old.tie }
@@ -311,8 +314,9 @@ impl Core {
         Ok(number)
     }
 
-    /// Takes bytes that arrive on a connection, at most up to the end of a record, which is answered. Takes none while a reply
-    /// is owed or awaited. `Gone` where there is no such connection, or it is Lost (RFC 5531 section 11).
+    /// Takes bytes that arrive on a connection at the moment `now`, at most up to the end of a record (RFC 5531 section
+    /// 11), which is answered. Takes none while a reply is owed or awaited. The connection is Lost where the record is no
+    /// call. `Gone` where there is no such connection, or it is Lost.
     #[tactic(auto, using(crate::proofs::HeldBytes::never_passes))]
     pub fn bytes(
         &mut self,
@@ -337,9 +341,9 @@ impl Core {
         Ok(taken)
     }
 
-    /// Takes bytes as `bytes` does. Where a record ends and its reply is one fragment and no list, and `room` has place for the
-    /// longest fragment, 1,028 bytes, the reply is written there and counts as given. So one call is up to two events, `bytes`
-    /// and `gave`, and it is priced as both.
+    /// Takes bytes as `bytes` does. Where a record ends and its reply is one fragment and no list, and `room` has place
+    /// for the longest fragment, 1,028 bytes, the reply is written there and counts as given. So one call is up to two
+    /// events, `bytes` and `gave`, and it is priced as both. `Gone` as in `bytes`.
     #[tactic(auto, using(crate::proofs::HeldBytes::never_passes))]
     pub fn exchange(
         &mut self,
@@ -351,8 +355,7 @@ impl Core {
     ) -> Result<Exchanged, CoreFault>
         requires { meter.old.tie ≡ self.old.tie }
         ensures acts { Exchanges now id piece.now self.old self.new result room.new }
-        ensures count { Shows StandsFor (count_now now id piece.now (length room.old))
-            self.old (count_given result) }
+        ensures count { CountsGiven now id piece.now room.old self.old result }
         ensures fits { count_given result ≤ length room.new }
         ensures within { IfOk result (λ done. done.taken.count ≤ length piece.now) }
         ensures refused { OnErr result (OnlyBegins self.old self.new) }
@@ -361,9 +364,8 @@ impl Core {
         ensures held { NeverPasses self.new }
         ensures same_meter { meter.new.tie ≡ meter.old.tie }
         ensures cost { PaysForExchange
-            self.old self.new id piece.now room.old (count_given result) meter.old meter.new }
-        ensures bound { StaysWithinSteps
-            self.old (taken_by (taken_in result)) (count_given result) meter.old meter.new }
+            self.old self.new id piece.now room.old result meter.old meter.new }
+        ensures bound { ExchangesWithinSteps self.old result meter.old meter.new }
     {
         self.begun = meter.count();
         let clock = self.clock.max(now);
@@ -388,10 +390,10 @@ impl Core {
         })
     }
 
-    /// Answers the record that ended on a connection, and lets the connection go on. Its arguments lie in the piece, or else in
-    /// the core's buffer, which is empty after it. Returns whether the connection is Lost now, and how many bytes of the reply
-    /// were given at once.
-    #[tactic(auto, unfolding(rb_model::specs::Calls::longest_reply, rb_model::specs::Calls::longest_arguments, crate::specs::StandsFor::buffer_size))]
+    /// Answers the record that ended on a connection, and lets the connection go on. Its arguments lie in the piece, or
+    /// else in the core's buffer, which is empty after it. Returns whether the connection is Lost now, and how many bytes
+    /// of the reply were given at once.
+    #[tactic(auto, unfolding(rb_model::specs::Calls::longest_reply, rb_model::specs::Calls::longest_arguments, rb_connections::specs::StandsFor::buffer_size))]
     fn answer(
         &mut self,
         id: u64,
@@ -449,8 +451,8 @@ impl Core {
         self.connections.pending_len(id, meter)
     }
 
-    /// The rest of the current fragment of the reply that a connection owes, empty where it owes none. `Gone` where
-    /// there is no such connection, or it is Lost.
+    /// The rest of the current fragment of the reply that a connection owes (RFC 5531 section 11), at most 1,028 bytes;
+    /// empty where it owes none. `Gone` where there is no such connection, or it is Lost.
     #[tactic(auto, using(crate::proofs::CallBounds::pending_within))]
     pub fn pending(&mut self, id: u64, meter: &mut Meter) -> Result<&[u8], CoreFault>
         requires { meter.old.tie ≡ self.old.tie }
@@ -464,8 +466,8 @@ impl Core {
         self.connections.pending(id, meter)
     }
 
-    /// Records that `n` pending bytes were sent, or all if fewer are pending. `Gone` where there is no such connection, or it
-    /// is Lost.
+    /// Records that `n` pending bytes were sent at the moment `now`, or all if fewer are pending. The next fragment is
+    /// pending then, or the connection takes the next record. `Gone` where there is no such connection, or it is Lost.
     #[tactic(auto, using(crate::proofs::HeldBytes::never_passes, crate::proofs::CallBounds::gave_within))]
     pub fn gave(&mut self, now: u64, id: u64, n: usize, meter: &mut Meter) -> Result<(), CoreFault>
         requires { meter.old.tie ≡ self.old.tie }
@@ -492,8 +494,8 @@ impl Core {
         Ok(())
     }
 
-    /// Removes a connection that was closed, live or Lost, and drops its forwarded call. `Gone` where there is none of that
-    /// number.
+    /// Removes a connection that was closed, live or Lost, and drops its forwarded call. `Gone` where there is none of
+    /// that number.
     #[tactic(auto, using(crate::proofs::HeldBytes::never_passes, crate::proofs::CallBounds::closed_within))]
     pub fn closed(&mut self, id: u64, meter: &mut Meter) -> Result<(), CoreFault>
         requires { meter.old.tie ≡ self.old.tie }
@@ -524,8 +526,8 @@ impl Core {
         self.connections.next_lost(meter)
     }
 
-    /// The forwarded call to be sent next: the unsent one of least number, whether or not its deadline has come. It has at most
-    /// 8,840 bytes.
+    /// The forwarded call to be sent next: the unsent one of least number, whether or not its deadline has come, with at
+    /// most 8,840 bytes. `None` where all are sent (RFC 1833 sections 2.2.1 and 3.2).
     #[tactic(auto, using(crate::proofs::CallBounds::unsent_within))]
     pub fn unsent(&mut self, meter: &mut Meter) -> Option<Unsent<'_>>
         requires { meter.old.tie ≡ self.old.tie }
@@ -539,8 +541,8 @@ impl Core {
         self.books.unsent(meter)
     }
 
-    /// Records that the forwarded call of this number was sent: from now on a reply to it counts. `Gone` where there is no such
-    /// call, or it was sent before.
+    /// Records that the forwarded call of this number was sent: from now on a reply to it counts. `Gone` where there is
+    /// no such call, or it was sent before.
     #[tactic(auto, using(crate::proofs::HeldBytes::never_passes, crate::proofs::CallBounds::sent_within))]
     pub fn sent(&mut self, id: FwdId, meter: &mut Meter) -> Result<(), CoreFault>
         requires { meter.old.tie ≡ self.old.tie }
@@ -559,8 +561,9 @@ impl Core {
         Ok(())
     }
 
-    /// Takes a datagram from `from` on the socket that sends forwarded calls. A reply to a call that was sent there and whose
-    /// deadline is later than `now` ends that call, and its caller is told. `None` where it is no such reply; it is ignored.
+    /// Takes a datagram from `from`, at the moment `now`, on the socket that sends forwarded calls. A reply to a call that
+    /// was sent there and whose deadline is later than `now` ends that call, and its caller gets what `Told` says. `None`
+    /// where it is no such reply; it is ignored.
     #[tactic(auto, using(crate::proofs::HeldBytes::never_passes, crate::proofs::CallBounds::ending_within))]
     pub fn forward_reply(
         &mut self,
@@ -588,8 +591,8 @@ impl Core {
         Some(self.tell(&ended, bytes, meter))
     }
 
-    /// Does one thing that is due at this moment: ends the due forwarded call of least number, or where there is none, makes
-    /// the due connection of least number Lost. `Nothing` where nothing is due.
+    /// Does one thing that is due at the moment `now`: ends the due forwarded call of least number, or where there is
+    /// none, makes the due connection of least number Lost. `Nothing` where nothing is due. Call it until then.
     #[tactic(auto, using(crate::proofs::HeldBytes::never_passes, crate::proofs::CallBounds::ending_within))]
     pub fn expire(&mut self, now: u64, meter: &mut Meter) -> Expired
         requires { meter.old.tie ≡ self.old.tie }
@@ -639,8 +642,8 @@ impl Core {
             + self.reply_len
     }
 
-    /// How many steps the last event took, a refused one too, while the count of the meter is below 2^128 - 1. An event is
-    /// a call with `&mut self`; what the meter was paid since it counts as its own.
+    /// How many steps the last event took, a refused one too, while the count of the meter is below 2^128 - 1. An event
+    /// is a call with `&mut self`; what the meter was paid since it counts as its own.
     pub fn steps(&self, meter: &Meter) -> u128
         requires { meter.now.tie ≡ self.now.tie }
         ensures { TellsSteps self.now meter.now result }
@@ -648,7 +651,7 @@ impl Core {
         meter.count().saturating_sub(self.begun)
     }
 
-    /// The bound that `held` never passes, in bytes.
+    /// The bound that `held` never passes, in bytes, by the limits alone.
     pub fn bytes_bound(&self) -> u64
         ensures { result ≡ bytes_bound self.now.setting.limits }
     {

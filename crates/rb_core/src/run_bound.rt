@@ -1,8 +1,8 @@
 //! The bound of a whole run, in counted steps.
 ghost use Rattle.std.specs.Prelude.{◌≡◌};
 ghost use Rattle.rb_model.specs.Bounds.{bytes_in, bytes_lent};
-ghost use Rattle.rb_core.specs.Events.{bound_told};
-ghost use Rattle.rb_model.specs.WholeRuns.{bytes_told, event_allowance};
+ghost use Rattle.rb_core.specs.Events.{bound_shown};
+ghost use Rattle.rb_model.specs.WholeRuns.{bytes_reported, event_allowance};
 ghost use Rattle.rb_model.specs.Plain.{event_of, output_of, events_of, outputs_of};
 
 use crate::engine::MOST_KEYS;
@@ -33,8 +33,8 @@ fn bytes_lent(output: &Output) -> usize
 }
 
 /// How many bytes an event lends, or how many a `gave` reports that was called.
-fn bytes_told(event: &Event, output: &Output) -> u64
-    ensures { result ≡ bytes_told (event_of event.now) (output_of output.now) }
+fn bytes_reported(event: &Event, output: &Output) -> u64
+    ensures { result ≡ bytes_reported (event_of event.now) (output_of output.now) }
 {
     match (event, output) {
         (Event::Gave(_, _, n), Output::Done | Output::Refused(_)) => *n,
@@ -60,14 +60,14 @@ fn event_allowance(limits: &Limits) -> u128
 /// statistics and forwarded call that there may be, and 4,096. Where that is more than 2^128 - 1, it is 2^128 - 1.
 pub fn whole_bound(limits: &Limits, events: &[Event], outputs: &[Output]) -> u128
     ensures { result
-        ≡ bound_told limits.now (events_of events.now) (outputs_of outputs.now) }
+        ≡ bound_shown limits.now (events_of events.now) (outputs_of outputs.now) }
 {
     let mut bytes: u128 = 0;
     let count = events.len().min(outputs.len());
     for i in 0..count {
         let taken = bytes_in(&events[i], &outputs[i]) as u128;
-        let told = bytes_told(&events[i], &outputs[i]) as u128;
-        bytes = bytes.saturating_add(taken + told);
+        let reported = bytes_reported(&events[i], &outputs[i]) as u128;
+        bytes = bytes.saturating_add(taken + reported);
     }
     let allowance = event_allowance(limits);
     let all = (events.len() as u128).saturating_mul(allowance);

@@ -6,6 +6,6 @@ use rb_model::Taken;
 pub struct Exchanged {
     /// How far they were taken.
     pub taken: Taken,
-    /// How many bytes were given.
+    /// How many bytes of the reply were given, its header among them; 0 where it was not given at once.
     pub given: usize,
 }

@@ -19,7 +19,7 @@ use Rattle.rb_proto.specs.declared.answers.Answer.TheVariants as answers
 use Rattle.rb_proto.specs.declared.answers.Results.{Results}
 use Rattle.rb_proto.specs.declared.answers.Results.TheVariants as results
 use Rattle.rb_proto.specs.Answers.{answer}
-use Rattle.rb_model.specs.Calls.{Outcome, is_no_call, message_of, told_results, reply_with, outcome}
+use Rattle.rb_model.specs.Calls.{Outcome, is_no_call, message_of, results_outcome, reply_with, outcome}
 use Rattle.rb_model.specs.Calls.Outcome.{NoCall, Reply, Forwarded, Silent}
 use Rattle.rb_model.specs.Sessions.{IsFinal}
 use Rattle.rb_model.specs.State.{State, Connection, Connections, at_moment}
@@ -195,7 +195,7 @@ not-due clock (x ∷ all) e none is = by_test (entry_is_due clock x) refl is (no
 -- ---- what a message is answered with
 
 -- results are a reply
-results-reply : (caller : Caller) (count xid : ℕ) (bytes : List ℕ) (given : Results) → told_results caller count xid bytes given ≡ NoCall → ⊥
+results-reply : (caller : Caller) (count xid : ℕ) (bytes : List ℕ) (given : Results) → results_outcome caller count xid bytes given ≡ NoCall → ⊥
 results-reply (Tcp id peer) count xid bytes (results.Rows list) is = absurd cc
 results-reply (Udp peer) count xid bytes (results.Rows list) is = absurd cc
 results-reply (Tcp id peer) count xid bytes (results.Value value) is = absurd cc

@@ -33,7 +33,7 @@ use Rattle.rb_proto.specs.Forwarding.{refusal, peer_to_forward, forward_of, refu
 use Rattle.rb_proto.specs.Answers.{set_row, unset_rows, port_on, getport, getaddr, getversaddr, answer_to, answer}
 use Rattle.rb_model.specs.declared.message.Message.{Message}
 use Rattle.rb_model.specs.declared.message.Message.TheVariants as says
-use Rattle.rb_model.specs.Calls.{Outcome, message_of, told_results, reply_with, outcome}
+use Rattle.rb_model.specs.Calls.{Outcome, message_of, results_outcome, reply_with, outcome}
 use Rattle.rb_model.specs.Calls.Outcome.{NoCall, Reply, Forwarded, Silent}
 use Rattle.rb_model.specs.State.{State}
 use Rattle.rb_model.specs.Step.{context_in, serve}
@@ -111,7 +111,7 @@ answer-enters context head (requests.Taddr2uaddr netbuf) arguments l = Same refl
 answer-enters context head (requests.Forward kind remote) arguments l = forward-enters context head.xid kind remote arguments l
 
 -- results are told at once
-results-now : (caller : Caller) (count xid : ℕ) (bytes : List ℕ) (given : Results) → is_forwarded (told_results caller count xid bytes given) ≡ false
+results-now : (caller : Caller) (count xid : ℕ) (bytes : List ℕ) (given : Results) → is_forwarded (results_outcome caller count xid bytes given) ≡ false
 results-now (Tcp id peer) count xid bytes (results.Rows list) = refl
 results-now (Udp peer) count xid bytes (results.Rows list) = refl
 results-now (Tcp id peer) count xid bytes (results.Value value) = refl

@@ -44,7 +44,7 @@ use Rattle.rb_model.specs.declared.message.Message.TheVariants as says
 use Rattle.rb_model.specs.declared.types.CoreFault.{CoreFault}
 use Rattle.rb_model.specs.declared.types.CoreFault.TheVariants.{Gone}
 use Rattle.rb_model.specs.declared.types.Told.{Told}
-use Rattle.rb_model.specs.Calls.{Outcome, Outcome as outcomes, told_results, told_as, message_of, outcome}
+use Rattle.rb_model.specs.Calls.{Outcome, Outcome as outcomes, results_outcome, answer_outcome, message_of, outcome}
 use Rattle.rb_model.specs.Calls.Outcome.{NoCall, Reply, Forwarded, Silent}
 use Rattle.rb_model.specs.State.{Setting, State, Phase, Connection, Connections, at_moment, opening}
 use Rattle.rb_model.specs.State.Phase.{Idle, Reading, Owing, Awaiting, Lost}
@@ -148,7 +148,7 @@ IsStamped n NoCall = ⊤
 IsStamped n Forwarded = ⊤
 IsStamped n Silent = ⊤
 
-results-stamped : (caller : Caller) (n xid : ℕ) (bytes : List ℕ) (r : Results) → IsStamped n (told_results caller n xid bytes r)
+results-stamped : (caller : Caller) (n xid : ℕ) (bytes : List ℕ) (r : Results) → IsStamped n (results_outcome caller n xid bytes r)
 results-stamped (Tcp id peer) n xid bytes (results.Rows list) = refl
 results-stamped (Udp peer) n xid bytes (results.Rows list) = tt
 results-stamped (Tcp id peer) n xid bytes (results.Value value) = tt
@@ -156,7 +156,7 @@ results-stamped (Udp peer) n xid bytes (results.Value value) = tt
 results-stamped (Tcp id peer) n xid bytes results.Statistics = tt
 results-stamped (Udp peer) n xid bytes results.Statistics = tt
 
-answer-stamped : (caller : Caller) (n xid : ℕ) (bytes_of : Results → List ℕ) (given : Answer) → IsStamped n (told_as caller n xid bytes_of given)
+answer-stamped : (caller : Caller) (n xid : ℕ) (bytes_of : Results → List ℕ) (given : Answer) → IsStamped n (answer_outcome caller n xid bytes_of given)
 answer-stamped caller n xid bytes_of (answers.Results r) = results-stamped caller n xid (bytes_of r) r
 answer-stamped caller n xid bytes_of (answers.Refused status) = tt
 answer-stamped caller n xid bytes_of answers.Forwarded = tt

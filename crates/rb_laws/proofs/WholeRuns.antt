@@ -16,7 +16,7 @@ use Rattle.rb_model.specs.Step.Event.{Open, Bytes, Pending, Gave, Closed, NextLo
 use Rattle.rb_model.specs.Step.Output.{Refused, Done, UnsentIs}
 use Rattle.rb_model.specs.Bounds.{count_in, bytes_in, bytes_out}
 use Rattle.rb_model.specs.Costs.{sizes_in, count_taken, record_cost, bytes_cost, find_cost, event_cost, run_cost}
-use Rattle.rb_model.specs.WholeRuns.{args_in, args_waiting, total_in, total_out, bytes_told, event_allowance, EventsArePaidAhead, WholeRunsAreBounded}
+use Rattle.rb_model.specs.WholeRuns.{args_in, args_waiting, total_in, total_out, bytes_reported, event_allowance, EventsArePaidAhead, WholeRunsAreBounded}
 use Rattle.rb_model.specs.Losses.{began_in}
 use Rattle.rb_laws.proofs.ExactTaking.{fed-none}
 use Rattle.rb_laws.proofs.Reached.{live-sound}
@@ -130,7 +130,7 @@ module _ (s : State) (reached : IsReached s) (good : are_good s.setting.limits �
   event_paid (Expire now) = let kept = expiry-waits s now in let shown = expiry-shown s now in omega (arith, few, kept, shown)
 
 -- what is told of a refused call counts besides
-out_told : (event : Event) (output : Output) → bytes_out event output ≤ bytes_told event output
+out_told : (event : Event) (output : Output) → bytes_out event output ≤ bytes_reported event output
 out_told (Gave now id n) Done = omega arith
 out_told (Gave now id n) (Refused fault) = omega arith
 out_told event (UnsentIs None) = omega arith

@@ -7,7 +7,7 @@ use Rattle.rb_model.specs.State.{State, are_good, opening}
 use Rattle.rb_model.specs.declared.types.Limits.{Limits}
 use Rattle.rb_model.specs.Step.{Event, run, IsReached}
 use Rattle.rb_model.specs.Plain.{outputs_of}
-use Rattle.rb_core.specs.Events.{bound_told}
+use Rattle.rb_core.specs.Events.{bound_shown}
 use Rattle.rb_lines.specs.declared.lines.ReadFault.{ReadFault}
 use Rattle.rb_lines.specs.declared.lines.ReadFault.TheVariants as reading
 use Rattle.rb_lines.specs.declared.running.Beginning.{Beginning}
@@ -97,12 +97,12 @@ BufWrites contents old new text = Writes (writer_contents contents) old new text
 
 -- how many steps the run of these events may take, or 2^128 - 1 where they are more
 abbrev pub bound_of : Beginning → List Event → ℕ
-bound_of beginning events = bound_told beginning.limits events (run (first beginning) events)
+bound_of beginning events = bound_shown beginning.limits events (run (first beginning) events)
 
 -- What came of a run from a state: its outputs, and the bound of its steps at these limits.
 pub record IsRunFrom (limits : Limits) (events : List Event) (s : State) (ran : Ran) : Type 0 where
   pub outputs : outputs_of ran.outputs.items ≡ run s events
-  pub bound : ran.bound ≡ bound_told limits events (run s events)
+  pub bound : ran.bound ≡ bound_shown limits events (run s events)
 
 abbrev pub KeepsBound : Ran → Type 0
 KeepsBound ran = ran.steps ≤ ran.bound

@@ -96,23 +96,23 @@ abbrev pub success : ℕ → List ℕ → List ℕ
 success xid results = fitting xid (reply_head xid replies.Success ++ results)
 
 -- Results of these bytes, after so many changes: a list of rows is streamed on a connection, of any length.
-abbrev pub told_results : Caller → ℕ → ℕ → List ℕ → Results → Outcome
-told_results (Tcp id peer) count xid bytes (results.Rows list) = Reply (reply_head xid replies.Success ++ bytes) (Some count)
-told_results (Udp peer) count xid bytes (results.Rows list) = Reply (success xid bytes) None
-told_results caller count xid bytes (results.Value value) = Reply (success xid bytes) None
-told_results caller count xid bytes results.Statistics = Reply (success xid bytes) None
+abbrev pub results_outcome : Caller → ℕ → ℕ → List ℕ → Results → Outcome
+results_outcome (Tcp id peer) count xid bytes (results.Rows list) = Reply (reply_head xid replies.Success ++ bytes) (Some count)
+results_outcome (Udp peer) count xid bytes (results.Rows list) = Reply (success xid bytes) None
+results_outcome caller count xid bytes (results.Value value) = Reply (success xid bytes) None
+results_outcome caller count xid bytes results.Statistics = Reply (success xid bytes) None
 
 -- what an answer to a caller comes to after so many changes, where these are the bytes of results
-abbrev pub told_as : Caller → ℕ → ℕ → (Results → List ℕ) → Answer → Outcome
-told_as caller count xid bytes_of (answers.Results results) = told_results caller count xid (bytes_of results) results
-told_as caller count xid bytes_of (answers.Refused status) = Reply (reply_head xid status) None
-told_as caller count xid bytes_of answers.Forwarded = Forwarded
-told_as caller count xid bytes_of answers.Silent = Silent
+abbrev pub answer_outcome : Caller → ℕ → ℕ → (Results → List ℕ) → Answer → Outcome
+answer_outcome caller count xid bytes_of (answers.Results results) = results_outcome caller count xid (bytes_of results) results
+answer_outcome caller count xid bytes_of (answers.Refused status) = Reply (reply_head xid status) None
+answer_outcome caller count xid bytes_of answers.Forwarded = Forwarded
+answer_outcome caller count xid bytes_of answers.Silent = Silent
 
 -- the outcome with an answer, where this is remembered after it
 abbrev pub reply_with : Context → ℕ → Answer × Ledger → Outcome × Ledger
 reply_with context xid (given, ledger) = (
-  told_as context.caller (length ledger.changes) xid (result_bytes context.listener.host (shown_of ledger)) given,
+  answer_outcome context.caller (length ledger.changes) xid (result_bytes context.listener.host (shown_of ledger)) given,
   ledger,
 )
 

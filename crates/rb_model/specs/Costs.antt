@@ -77,11 +77,6 @@ take_cost count = count + 1
 abbrev pub exchange_cost : ℕ
 exchange_cost = 1
 
--- what it costs to read a record that ended with so many bytes of arguments: how many they are, they themselves, and the
--- buffer emptied
-abbrev pub read_cost : ℕ → ℕ
-read_cost args = args + 2
-
 -- what it costs to look for the oldest of the lists that are given on so many connections
 abbrev pub oldest_cost : ℕ → ℕ
 oldest_cost connections = 2 * connections + 1
@@ -99,14 +94,12 @@ room_cost sizes = 14 * sizes.rows + 2 * oldest_cost sizes.connections + evict_co
 abbrev pub message_cost : Sizes → ℕ → ℕ → ℕ
 message_cost sizes args written = room_cost sizes + serve_cost sizes.rows sizes.left args written
 
--- what it costs to begin a list on a connection, of the rows that are left, or a reply
-abbrev pub begin_cost : Sizes → ℕ
-begin_cost sizes = find_cost sizes.connections + listed_cost sizes.left + 1 + recount_cost
-
--- what it costs to answer a record of whose arguments so many bytes are kept: they are read, it is served, and its connection
--- goes on
+-- what it costs to answer a record of whose arguments so many bytes are kept: the look at how many they are, they themselves,
+-- and the buffer emptied; to serve it; and to begin a list on its connection, of the rows that are left, or a reply
 abbrev pub answer_cost : Sizes → ℕ → ℕ
-answer_cost sizes args = read_cost args + message_cost sizes args longest_reply + begin_cost sizes
+answer_cost sizes args =
+    args + 2 + message_cost sizes args longest_reply + find_cost sizes.connections + listed_cost sizes.left + 1
+    + recount_cost
 
 -- what it costs to end one of so many forwarded calls, and to note its outcome
 abbrev pub entry_cost : ℕ → ℕ

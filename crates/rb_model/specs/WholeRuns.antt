@@ -40,13 +40,13 @@ total_in events outputs = total_of bytes_in events outputs
 
 -- The bytes that an event lends, or those that a `gave` reports. A `gave` on a connection that is gone was called and
 -- counts; one of more than is pending is not called.
-abbrev pub bytes_told : Event → Output → ℕ
-bytes_told (Gave now id n) (Refused fault) = n
-bytes_told event output = bytes_out event output
+abbrev pub bytes_reported : Event → Output → ℕ
+bytes_reported (Gave now id n) (Refused fault) = n
+bytes_reported event output = bytes_out event output
 
 -- the same of all events
 abbrev pub total_out : List Event → List Output → ℕ
-total_out events outputs = total_of bytes_told events outputs
+total_out events outputs = total_of bytes_reported events outputs
 
 -- ---- steps
 
@@ -70,7 +70,7 @@ abbrev pub EventsArePaidAhead : Type 0
 EventsArePaidAhead =
     (s : State) → IsReached s → are_good s.setting.limits ≡ true → (event : Event)
     → event_cost s event + 2 * args_waiting (step s event).1.connections.all
-    ≤ 2 * args_waiting s.connections.all + 16 * (bytes_in event (step s event).0 + bytes_told event (step s event).0)
+    ≤ 2 * args_waiting s.connections.all + 16 * (bytes_in event (step s event).0 + bytes_reported event (step s event).0)
     + event_allowance s.setting.limits
 
 -- So a run costs no more than its bound, where of the buffers only the arguments that wait count.

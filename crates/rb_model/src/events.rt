@@ -30,11 +30,14 @@ pub enum Event {
     Expire(u64),
 }
 
-/// A forwarded call that is to be sent: its number, where it is sent, and the datagram.
+/// A forwarded call that is to be sent.
 #[derive(Debug, Drop)]
 pub struct UnsentCall {
+    /// Its number; the first is 1.
     pub number: u64,
+    /// Where it is sent.
     pub target: Peer,
+    /// The datagram, of at most 8,840 bytes.
     pub call: Vec<u8>,
 }
 
@@ -43,25 +46,25 @@ pub struct UnsentCall {
 pub enum Output {
     /// The number of the new connection.
     Opened(u64),
-    /// The call was refused.
+    /// The call on the core was refused, and changed nothing.
     Refused(CoreFault),
-    /// More bytes were given than are pending, so nothing was called.
+    /// More bytes were reported as given than are pending, so nothing was called.
     TooMuch,
     /// So many bytes were taken.
     Took(usize),
-    /// So many bytes were taken, and the connection is Lost now.
+    /// So many bytes were taken, and the connection is Lost now, since its record is no call.
     TookAndClosed(usize),
-    /// The rest of the current fragment.
+    /// The rest of the current fragment, at most 1,028 bytes; none where no reply is owed.
     Pending(Vec<u8>),
     /// The call was done.
     Done,
-    /// The number of a connection that is Lost.
+    /// The least number of a connection that is Lost.
     Lost(Option<u64>),
-    /// The reply to a datagram.
+    /// The reply to a datagram, of at most 9,000 bytes.
     Replied(Vec<u8>),
     /// A datagram is a call that is forwarded.
     Forwarded,
-    /// A datagram was not answered, or the caller of a forwarded call is not told its end.
+    /// A datagram has no reply, or a forwarded call that came over UDP has ended without one.
     Silent,
     /// The forwarded call that is to be sent.
     Unsent(Option<UnsentCall>),
@@ -69,7 +72,7 @@ pub enum Output {
     Ignored,
     /// Nothing was due.
     Nothing,
-    /// The deadline of the connection of the number has come, and it is Lost now.
+    /// The deadline of the connection of the number has come: it is Lost now, and the caller has to close it.
     ConnectionClosed(u64),
     /// A forwarded call has ended, and the connection of the number goes on.
     Ready(u64),

@@ -5,11 +5,14 @@ ghost use Rattle.rb_model.specs.State.{fault_number};
 use rb_rpc::Peer;
 use thiserror::Error;
 
-/// How much a core may hold: connections (1 to 256), rows (8 to 4,096) and forwarded calls (0 to 64).
+/// How much a core may hold.
 #[derive(Clone, Copy, Debug, PartialEq, Eq)]
 pub struct Limits {
+    /// How many connections there may be, 1 to 256, Lost ones among them.
     pub conns: usize,
+    /// How many rows there may be, 8 to 4,096, live or retained for lists that are being given.
     pub rows: usize,
+    /// How many forwarded calls there may be, 0 to 64.
     pub forwards: usize,
 }
 
@@ -24,31 +27,33 @@ fn layout(limits: &Limits) {
     let _: [usize; 3] = [conns, rows, forwards];
 }
 
-/// How far the bytes that arrived on a connection were taken.
+/// How far the bytes that arrived on a connection were taken: at most up to the end of a record (RFC 5531 section 11).
 #[derive(Clone, Copy, Debug, PartialEq, Eq)]
 pub struct Taken {
-    /// How many of them, from the first one on.
+    /// How many bytes, from the first one on.
     pub count: usize,
-    /// Whether the connection takes and gives nothing more, and is to be closed.
+    /// Whether the connection is Lost now, since its record is no call: it takes and gives nothing more, and the caller has
+    /// to close it.
     pub closed: bool,
 }
 
-/// Whom the end of a forwarded call is to be told.
+/// What the caller of a forwarded call gets at its end (RFC 1833 sections 2.2.1 and 3.2).
 #[derive(Clone, Copy, Debug, PartialEq, Eq)]
 pub enum Told {
-    /// The connection of this number is Awaiting no longer: a reply is pending, or it takes more bytes.
+    /// The connection of this number is Awaiting no longer: a reply is pending on it, or it takes bytes again.
     TcpReady(u64),
-    /// This peer, by the reply of `udp_reply`.
+    /// The reply that `udp_reply` lends goes to this peer.
     Datagram(Peer),
-    /// Nobody.
+    /// Nothing: the call came over UDP, and has no reply.
     Silent,
 }
 
-/// What was due.
+/// What was due at a moment.
 #[derive(Clone, Copy, Debug, PartialEq, Eq)]
 pub enum Expired {
+    /// Nothing.
     Nothing,
-    /// A forwarded call, at its deadline.
+    /// A forwarded call, at its deadline, 5,000 ms after it came. Its caller gets this.
     Ended(Told),
     /// The connection of this number, at its deadline: it is Lost now, and is to be closed.
     ConnectionClosed(u64),
@@ -63,13 +68,14 @@ pub enum CoreFault {
     /// A limit is out of its range.
     #[error("bad limits")]
     BadLimits,
-    /// There are as many connections as there may be, lost ones among them.
+    /// There are as many connections as there may be, Lost ones among them.
     #[error("full")]
     Full,
-    /// No number of a connection is left.
+    /// No number of a connection is left, after 2^64 - 1 of them.
     #[error("spent")]
     Spent,
-    /// There is no connection or forwarded call of that number that is asked for.
+    /// There is no connection or forwarded call of the number that is asked for; or the connection is Lost, or the call was
+    /// sent before.
     #[error("gone")]
     Gone,
 }

@@ -7,7 +7,7 @@ use Rattle.rb_model.specs.declared.events.Output as output
 use Rattle.rb_core.specs.Events.{greatest_count}
 use Rattle.rb_model.specs.Plain.{event_of, output_of, events_of, outputs_of}
 use Rattle.rb_model.specs.Step.{Event, Output}
-use Rattle.rb_model.specs.WholeRuns.{total_of, total_in, total_out, bytes_told, event_allowance}
+use Rattle.rb_model.specs.WholeRuns.{total_of, total_in, total_out, bytes_reported, event_allowance}
 use Rattle.rb_core.proofs.run_bound.whole_bound.Goals as goal
 
 pair : (x y : event.Event) (s t : output.Output) → x ≡ y → s ≡ t → ◌≡◌ {A = event.Event × output.Output} (x, s) (y, t)
@@ -45,8 +45,8 @@ loop-i-preserved c =
     let few : i < length es = omega (arith, c.loop-i-test.true, c.min-count.ensures) in
     let few_more : i < length os = omega (arith, c.loop-i-test.true, c.min-count.ensures) in
     let taken = more bytes_in es os i _ _ few few_more c.index-events-i.is c.index-outputs-i.is in
-    let told = more bytes_told es os i _ _ few few_more c.index-events-i-in-loop-i.is c.index-outputs-i-in-loop-i.is in
-    omega (arith, taken, told, c.loop-i.invariant, c.saturating_add-bytes.ensures, c.bytes_in-taken.ensures, c.bytes_told-told.ensures)
+    let told = more bytes_reported es os i _ _ few few_more c.index-events-i-in-loop-i.is c.index-outputs-i-in-loop-i.is in
+    omega (arith, taken, told, c.loop-i.invariant, c.saturating_add-bytes.ensures, c.bytes_in-taken.ensures, c.bytes_reported-reported.ensures)
 
 pub returns : goal.returns
 returns c =
@@ -55,7 +55,7 @@ returns c =
     let end : c.loop-i.i ≡ min (length c.args.events.now) (length c.args.outputs.now) = omega (arith, c.loop-i-test.false, c.loop-i.auto.i-end, c.min-count.ensures) in
     let count : c.loop-i.i ≡ min (length es) (length os) = omega (arith, end, length-map c.args.events.now event_of, length-map c.args.outputs.now output_of) in
     let taken = whole bytes_in es os c.loop-i.i count in
-    let told = whole bytes_told es os c.loop-i.i count in
+    let told = whole bytes_reported es os c.loop-i.i count in
     let all : length c.args.events.now * c.event_allowance-allowance.result ≡ length es * event_allowance c.args.limits.now =
     ap (λ (n : ℕ). n * c.event_allowance-allowance.result) (sym (length-map c.args.events.now event_of)) ∙ ap (λ (n : ℕ). length es * n) c.event_allowance-allowance.ensures in
     summed (total_in es os) (total_out es os) _ _ _ _ _ _ (c.loop-i.invariant ∙ ap (λ (n : ℕ). min n greatest_count) (both _ _ _ _ taken told)) c.saturating_mul.ensures c.saturating_mul-all.ensures c.saturating_add.ensures all
