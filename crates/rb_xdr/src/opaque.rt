@@ -25,16 +25,20 @@ pub fn residue(count: usize) -> usize
     (4 - count % 4) % 4
 }
 
-// The residual bytes themselves.
-fn zeros_after(count: usize) -> &'static [u8]
-    ensures { result.now ≡ replicate (residue count) 0 }
+/// Writes the residual bytes behind so much content: each number of them by itself, as a copy of a length that is known.
+#[tactic(auto, using(crate::proofs::XdrSets::lengths))]
+fn write_residue(count: usize, out: &mut Kept, meter: &mut Meter)
+    requires tie { meter.old.tie ≡ out.old.tie }
+    requires room { HasRoom (replicate (residue count) 0) out.old }
+    ensures written { Appends (replicate (residue count) 0) out.old out.new }
+    ensures cost { Pays meter.old meter.new (residue count) }
 {
-    match residue(count) {
-        0 => &[],
-        1 => &[0],
-        2 => &[0, 0],
-        _ => &[0, 0, 0],
-    }
+    let _ = match residue(count) {
+        0 => Ok(()),
+        1 => out.extend(&[0], meter),
+        2 => out.extend(&[0, 0], meter),
+        _ => out.extend(&[0, 0, 0], meter),
+    };
 }
 
 /// Whether each of the bytes is zero, as residual bytes have to be (RFC 4506 section 3).
@@ -101,7 +105,7 @@ pub fn write_opaque(content: &[u8], out: &mut Kept, meter: &mut Meter)
 {
     (content.len() as u32).write(out, meter);
     let _ = out.extend(content, meter);
-    let _ = out.extend(zeros_after(content.len()), meter);
+    write_residue(content.len(), out, meter);
 }
 
 /// Opaque data (RFC 4506 section 4.10): bytes, at most `N` of them and fewer than 2^32.
