@@ -1,5 +1,5 @@
 -- Bytes that came on a connection, and the reply that was given at once: what is recorded of both, and where a run goes on.
-use Rattle.std.proofs.Common.{◌≡◌, ◌<◌, ◌≤◌, ℕ, zero, suc, Bool, true, false, cond, List, [], ◌++◌, length, take, drop, eqb, Option, Some, None, Result, Ok, Err, arith, refl, sym, ap, subst, ◌∙◌, inl, inr, ◌⊎◌, append-nil}
+use Rattle.std.proofs.Common.{◌≡◌, ◌<◌, ◌≤◌, ℕ, zero, suc, Bool, true, false, cond, List, [], ◌∷◌, length, take, drop, eqb, Option, Some, None, Result, Ok, Err, arith, refl, sym, ap, subst, ◌∙◌, inl, inr, ◌⊎◌}
 use Rattle.std.specs.Prelude.{◌||◌}
 use Rattle.std.proofs.lemmas.Bool.{cond-false, ne_eqb}
 use Rattle.std.proofs.lemmas.List.{length-take, length-drop, take_all}
@@ -14,9 +14,9 @@ use Rattle.rb_model.specs.Step.Output.{IsPending, Done}
 use Rattle.rb_core.specs.AtOnce.{pending_bytes, count_now, without_front, exchanging, fits_at_once, at_once_in, at_once_on, at_once, owes}
 use Rattle.rb_connections.specs.Slots.{Acts, Shows}
 use Rattle.rb_core.specs.StandsFor.{Held, StandsFor}
-use Rattle.rb_record.specs.Entries.{entry_text, run_text}
+use Rattle.rb_record.specs.Entries.{entry_text, run_entries}
 use Rattle.rb_record.specs.Tapes.{Tape, Records}
-use Rattle.rb_daemon.specs.Recording.{gift, exchange, given_or, gift_text, exchange_text}
+use Rattle.rb_daemon.specs.Recording.{gift, exchange, given_or, gift_entries, exchange_entries}
 use Rattle.rb_daemon.specs.Served.{IsServed}
 use Rattle.rb_daemon.proofs.Reached.{output_state, output_given, look_state, look_output, gave_output, gift_state, served_on}
 
@@ -88,15 +88,14 @@ gifts s now id room n piece given count is front = record {
         let few : length owed ≤ n = rw is (whole room id (live_connection id s.connections.all) (bytes s now id piece) owed shows (rw (← is) some)) in
         shows ∙ ap Ok (sym (front ∙ take_all n owed few))
 
-gift_is : (s : State) (now id : ℕ) (given : List ℕ) → pending s id ≡ Ok given → run_text s (gift now id (length given)) ≡ gift_text now id given
-unfolding run_text
+gift_is : (s : State) (now id : ℕ) (given : List ℕ) → pending s id ≡ Ok given → run_entries s (gift now id (length given)) ≡ gift_entries now id given
+unfolding run_entries
 gift_is s now id given is =
     let look : (step s (Pending id)).0 ≡ IsPending given = sym (look_output s id (Ok given) is) in
     let done : (step (step s (Pending id)).1 (Gave now id (length given))).0 ≡ Done =
     ap (λ (t : State). (step t (Gave now id (length given))).0) (look_state s id) ∙ sym (gave_output s now id (length given) given is (omega arith) (gave_done s now id (length given) given is)) in
-    ap (λ (x : Output). entry_text (Pending id) x ++ (entry_text (Gave now id (length given)) (step (step s (Pending id)).1 (Gave now id (length given))).0 ++ [])) look
-    ∙ ap (λ (x : Output). entry_text (Pending id) (IsPending given) ++ (entry_text (Gave now id (length given)) x ++ [])) done
-    ∙ ap (λ (t : List ℕ). entry_text (Pending id) (IsPending given) ++ t) (append-nil (entry_text (Gave now id (length given)) Done))
+    ap (λ (x : Output). entry_text (Pending id) x ∷ entry_text (Gave now id (length given)) (step (step s (Pending id)).1 (Gave now id (length given))).0 ∷ []) look
+    ∙ ap (λ (x : Output). entry_text (Pending id) (IsPending given) ∷ entry_text (Gave now id (length given)) x ∷ []) done
 
 bytes_state : (s : State) (now id : ℕ) (piece : List ℕ) → (step s (Bytes now id piece)).1 ≡ (bytes s now id piece).1
 unfolding step
@@ -109,23 +108,23 @@ bytes_output s now id piece = output_given show_taken (bytes s now id piece)
 nonzero : (n : ℕ) → 0 < n → eqb n 0 ≡ false
 nonzero n some = ne_eqb n 0 (λ e. omega (arith, e, some))
 
-gifts_are : (s t : State) (now id n : ℕ) (given : List ℕ) → t ≡ s → Gifts s now id n given → cond (eqb (length given) 0) [] (gift_text now id given) ≡ run_text t (cond (eqb n 0) [] (gift now id n))
-unfolding run_text
+gifts_are : (s t : State) (now id n : ℕ) (given : List ℕ) → t ≡ s → Gifts s now id n given → cond (eqb (length given) 0) [] (gift_entries now id given) ≡ run_entries t (cond (eqb n 0) [] (gift now id n))
+unfolding run_entries
 gifts_are s t now id n given same g = elim g.some [
   | inl none ↦ rw (g.count, none) refl
   | inr some ↦
       cond-false _ _ _ (nonzero (length given) (omega (arith, g.count, some)))
       ∙ sym (gift_is s now id given (g.all some))
-      ∙ ap (λ (k : ℕ). run_text s (gift now id k)) g.count
-      ∙ ap (λ (x : State). run_text x (gift now id n)) (sym same)
-      ∙ ap (λ (events : List Event). run_text t events) (sym (cond-false _ _ _ (nonzero n some)))
+      ∙ ap (λ (k : ℕ). run_entries s (gift now id k)) g.count
+      ∙ ap (λ (x : State). run_entries x (gift now id n)) (sym same)
+      ∙ ap (λ (events : List Event). run_entries t events) (sym (cond-false _ _ _ (nonzero n some)))
 ]
 
-exchange_is : (s : State) (now id n : ℕ) (piece given : List ℕ) (taken : Result Taken CoreFault) → taken ≡ (bytes s now id piece).0 → Gifts (bytes s now id piece).1 now id n given → exchange_text now id piece (given_or show_taken taken) given ≡ run_text s (exchange now id piece n)
-unfolding run_text
+exchange_is : (s : State) (now id n : ℕ) (piece given : List ℕ) (taken : Result Taken CoreFault) → taken ≡ (bytes s now id piece).0 → Gifts (bytes s now id piece).1 now id n given → exchange_entries now id piece (given_or show_taken taken) given ≡ run_entries s (exchange now id piece n)
+unfolding run_entries
 exchange_is s now id n piece given taken is g =
-    ap (λ (x : Output). entry_text (Bytes now id piece) x ++ cond (eqb (length given) 0) [] (gift_text now id given)) (ap (given_or show_taken) is ∙ bytes_output s now id piece)
-    ∙ ap (λ (t : List ℕ). entry_text (Bytes now id piece) (step s (Bytes now id piece)).0 ++ t) (gifts_are (bytes s now id piece).1 (step s (Bytes now id piece)).1 now id n given (bytes_state s now id piece) g)
+    ap (λ (x : Output). entry_text (Bytes now id piece) x ∷ cond (eqb (length given) 0) [] (gift_entries now id given)) (ap (given_or show_taken) is ∙ bytes_output s now id piece)
+    ∙ ap (λ (entries : List (List ℕ)). entry_text (Bytes now id piece) (step s (Bytes now id piece)).0 ∷ entries) (gifts_are (bytes s now id piece).1 (step s (Bytes now id piece)).1 now id n given (bytes_state s now id piece) g)
 
 exchange_state : (s : State) (now id n : ℕ) (piece given : List ℕ) → Gifts (bytes s now id piece).1 now id n given → without_front now n id (bytes s now id piece).1 ≡ after s (exchange now id piece n)
 exchange_state s now id n piece given g = elim g.some [
@@ -150,11 +149,11 @@ module _ (now id room n : ℕ) (piece given : List ℕ) (r : Result Taken CoreFa
       gifts s now id room n piece given h.count count
       (ap (λ (x : Result Taken CoreFault × List ℕ). x.1) (h.acts.gives s stands) ∙ ap (λ (k : ℕ). take k (pending_bytes (pending (bytes s now id piece).1 id))) (sym count))
 
-  pub exchange_records : (before later : Tape) → Records (exchange_text now id piece (given_or show_taken r) given) before later → (s : State) → StandsFor old s → Records (run_text s (exchange now id piece n)) before later
+  pub exchange_records : (before later : Tape) → Records (exchange_entries now id piece (given_or show_taken r) given) before later → (s : State) → StandsFor old s → Records (run_entries s (exchange now id piece n)) before later
   exchange_records before later records s stands =
-      subst (λ (t : List ℕ). Records t before later) (exchange_is s now id n piece given r (ap (λ (x : Result Taken CoreFault × List ℕ). x.0) (h.acts.gives s stands)) (gifts_of s stands)) records
+      subst (λ (entries : List (List ℕ)). Records entries before later) (exchange_is s now id n piece given r (ap (λ (x : Result Taken CoreFault × List ℕ). x.0) (h.acts.gives s stands)) (gifts_of s stands)) records
 
-  pub exchange_served : (before later : Tape) → Records (exchange_text now id piece (given_or show_taken r) given) before later → ∥ IsServed old before ∥₁ → ∥ IsServed new later ∥₁
+  pub exchange_served : (before later : Tape) → Records (exchange_entries now id piece (given_or show_taken r) given) before later → ∥ IsServed old before ∥₁ → ∥ IsServed new later ∥₁
   exchange_served before later records =
       served_on old new before later (λ s. exchange now id piece n)
       (λ s stands. subst (StandsFor new) (ap (λ (k : ℕ). without_front now k id (bytes s now id piece).1) (sym (h.at_once s stands)) ∙ exchange_state s now id n piece given (gifts_of s stands)) (h.acts.stands s stands))

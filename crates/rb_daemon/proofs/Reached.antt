@@ -1,6 +1,8 @@
 -- A state that a run reaches goes on by each event, and so does its record.
-use Rattle.std.proofs.Common.{◌≡◌, ◌≤◌, ℕ, Bool, true, false, cond, List, [], ◌∷◌, ◌++◌, length, Option, Some, None, Result, Ok, Err, refl, sym, ap, subst, ◌∙◌, inl, inr, ◌⊎◌, append_assoc, append-nil}
+use Rattle.std.proofs.Common.{◌≡◌, ◌≤◌, ℕ, Bool, true, false, cond, List, [], ◌∷◌, ◌++◌, length, Option, Some, None, Result, Ok, Err, refl, sym, ap, subst, ◌∙◌, inl, inr, ◌⊎◌}
+use Rattle.std.specs.Prelude.{OnOk, OnErr}
 use Rattle.std.proofs.Math.Logic.{∥∥₁_elim}
+use mathlib.Core.Bool.{true≢false}
 use Rattle.std.proofs.lemmas.Bool.{le-ltb}
 use Rattle.rb_rpc.specs.declared.peer.Peer.{Peer}
 use Rattle.rb_forward.specs.Forwards.{Unsent as UnsentCall}
@@ -17,13 +19,14 @@ use Rattle.rb_model.specs.Step.{Event, Output, step, after, open_connection, pen
 use Rattle.rb_model.specs.Step.Event.{Open, Pending, Gave, Closed, NextLost, Datagram, Unsent, Sent, Forward, Expire}
 use Rattle.rb_model.specs.Step.Output.{Opened, TooMuch, IsPending, Done, LostIs, Replied, Forwarded as OutForwarded, Silent, UnsentIs, Ignored, Nothing, ConnectionClosed}
 use Rattle.rb_laws.proofs.RunLaws.{after-append}
-use Rattle.rb_record.specs.Entries.{entry_text, run_text, options_text}
-use Rattle.rb_record.specs.Tapes.{Tape, Records}
-use Rattle.rb_record.proofs.RunTexts.{run_text-append, records_more, one_recorded}
+use Rattle.rb_record.specs.Entries.{entry_text, run_entries, options_text}
+use Rattle.rb_record.specs.Tapes.{Tape, Records, IsRecordOf, empty_tape}
+use Rattle.rb_record.proofs.RunTexts.{run_entries-append, one_recorded}
+use Rattle.rb_record.proofs.Tapes.{records_more, new_record, record_goes_on, record_stays}
 use Rattle.rb_connections.specs.declared.served.Outcome as outcome
 use Rattle.rb_connections.specs.declared.served.Outcome.TheVariants as outcome_kinds
-use Rattle.rb_connections.specs.Settling.{outcome_with}
 use Rattle.rb_core.specs.Core.{ActsWithReply}
+use Rattle.rb_connections.specs.Settling.{outcome_with}
 use Rattle.rb_connections.specs.Slots.{Acts, Shows}
 use Rattle.rb_core.specs.StandsFor.{Held, StandsFor}
 use Rattle.rb_core.proofs.Begun.{began, stands_begun}
@@ -56,15 +59,14 @@ expired_state (expiries.ConnectionClosed id, s) = refl
 -- ---- the core of the daemon, and its record
 
 -- what is written of a run that goes on
-more_recorded : (l : Limits) (h : Listener) (xid now : ℕ) (first more : List Event) (s : State) (before later : Tape) → s ≡ after (opening l h xid now) first → (before.is_on ≡ true → before.text ≡ options_text l h xid now ++ run_text (opening l h xid now) first) → Records (run_text s more) before later → later.is_on ≡ true → later.text ≡ options_text l h xid now ++ run_text (opening l h xid now) (first ++ more)
-more_recorded l h xid now first more s before later is recorded records on =
-    records.grows on ∙ ap (λ (t : List ℕ). t ++ run_text s more) (recorded (records.on on))
-    ∙ append_assoc (options_text l h xid now) (run_text (opening l h xid now) first) (run_text s more)
-    ∙ ap (λ (t : List ℕ). options_text l h xid now ++ t)
-    (ap (λ (t : State). run_text (opening l h xid now) first ++ run_text t more) is ∙ sym (run_text-append (opening l h xid now) first more))
+more_recorded : (l : Limits) (h : Listener) (xid now : ℕ) (first more : List Event) (s : State) (before later : Tape) → s ≡ after (opening l h xid now) first → IsRecordOf (options_text l h xid now ∷ run_entries (opening l h xid now) first) before → Records (run_entries s more) before later → IsRecordOf (options_text l h xid now ∷ run_entries (opening l h xid now) (first ++ more)) later
+more_recorded l h xid now first more s before later is was records =
+    subst (λ (entries : List (List ℕ)). IsRecordOf (options_text l h xid now ∷ entries) later)
+    (ap (λ (t : State). run_entries (opening l h xid now) first ++ run_entries t more) is ∙ sym (run_entries-append (opening l h xid now) first more))
+    (record_goes_on (options_text l h xid now ∷ run_entries (opening l h xid now) first) (run_entries s more) before later was records)
 
 -- a core that stands for a reached state goes on by events to one that does, as they are recorded
-pub served_on : (old new : Held) (before later : Tape) (events : State → List Event) → ((s : State) → StandsFor old s → StandsFor new (after s (events s))) → ((s : State) → StandsFor old s → Records (run_text s (events s)) before later) → ∥ IsServed old before ∥₁ → ∥ IsServed new later ∥₁
+pub served_on : (old new : Held) (before later : Tape) (events : State → List Event) → ((s : State) → StandsFor old s → StandsFor new (after s (events s))) → ((s : State) → StandsFor old s → Records (run_entries s (events s)) before later) → ∥ IsServed old before ∥₁ → ∥ IsServed new later ∥₁
 served_on old new before later events stands records held =
     ∥∥₁_elim held squash₁ (λ h.
     let r = h.reached in
@@ -83,47 +85,53 @@ served_on old new before later events stands records held =
       recorded = more_recorded r.limits r.listener r.first_xid r.now r.events (events h.state) h.state before later r.is h.recorded (records h.state h.stands);
     } ∣₁)
 
-pub new_served : (core : Held) (l : Limits) (h : Listener) (xid now : ℕ) (empty tape : Tape) → empty.text ≡ [] → Records (options_text l h xid now) empty tape → StandsFor core (opening l h xid now) → ∥ IsServed core tape ∥₁
-unfolding run_text
-new_served core l h xid now empty tape none records stands = ∣ record {
+pub new_served : (core : Held) (l : Limits) (h : Listener) (xid now limit : ℕ) (empty tape : Tape) → empty ≡ empty_tape limit → Records (options_text l h xid now ∷ []) empty tape → StandsFor core (opening l h xid now) → ∥ IsServed core tape ∥₁
+unfolding run_entries
+new_served core l h xid now limit empty tape is records stands = ∣ record {
   state = opening l h xid now;
   stands = stands;
   reached = record { limits = l; listener = h; first_xid = xid; now = now; events = []; is = refl };
-  recorded = λ on. records.grows on ∙ ap (λ (t : List ℕ). t ++ options_text l h xid now) none ∙ sym (append-nil (options_text l h xid now));
+  recorded = record_goes_on [] (options_text l h xid now ∷ []) empty tape (subst (IsRecordOf []) (sym is) (new_record limit)) records;
 } ∣₁
 
--- what was recorded was written out
-pub written_served : (core : Held) (before later : Tape) → later.text ≡ before.text → (later.is_on ≡ true → before.is_on ≡ true) → ∥ IsServed core before ∥₁ → ∥ IsServed core later ∥₁
-written_served core before later same on held =
-    ∥∥₁_elim held squash₁ (λ h. ∣ record { state = h.state; stands = h.stands; reached = h.reached; recorded = λ is. same ∙ h.recorded (on is) } ∣₁)
+still_served : (core : Held) (before later : Tape) → later.text ≡ before.text → later.limit ≡ before.limit → (later.is_on ≡ true → before.is_on ≡ true) → ∥ IsServed core before ∥₁ → ∥ IsServed core later ∥₁
+still_served core before later text limit on held =
+    ∥∥₁_elim held squash₁ (λ h. ∣ record { state = h.state; stands = h.stands; reached = h.reached; recorded = record_stays _ before later text limit on h.recorded } ∣₁)
+
+-- what was recorded was written out, or that failed
+pub written_served : {E : Type 0} (core : Held) (before later : Tape) (n : ℕ) (r : Result (Unit {0}) E) → OnOk r (later ≡ record before { written = n }) → OnErr r (later ≡ record before { is_on = false }) → ∥ IsServed core before ∥₁ → ∥ IsServed core later ∥₁
+written_served core before later n (Ok done) same failed =
+    still_served core before later (ap (λ (t : Tape). t.text) same) (ap (λ (t : Tape). t.limit) same) (λ on. sym (ap (λ (t : Tape). t.is_on) same) ∙ on)
+written_served core before later n (Err error) written same =
+    still_served core before later (ap (λ (t : Tape). t.text) same) (ap (λ (t : Tape). t.limit) same) (λ on. absurd (true≢false (sym on ∙ ap (λ (t : Tape). t.is_on) same)))
 
 -- ---- one event
 
-pub open_records : (old new : Held) (now : ℕ) (peer : Peer) (r : Result ℕ CoreFault) (before later : Tape) → Acts StandsFor (λ s. open_connection s now peer) old new r → Records (entry_text (Open now peer) (given_or Opened r)) before later → (s : State) → StandsFor old s → Records (run_text s (Open now peer ∷ [])) before later
+pub open_records : (old new : Held) (now : ℕ) (peer : Peer) (r : Result ℕ CoreFault) (before later : Tape) → Acts StandsFor (λ s. open_connection s now peer) old new r → Records (entry_text (Open now peer) (given_or Opened r) ∷ []) before later → (s : State) → StandsFor old s → Records (run_entries s (Open now peer ∷ [])) before later
 unfolding step
 open_records old new now peer r before later acts records s h =
     one_recorded s (Open now peer) (given_or Opened r) before later (ap (given_or Opened) (acts.gives s h) ∙ output_given Opened (open_connection s now peer)) records
 
-pub open_served : (old new : Held) (now : ℕ) (peer : Peer) (r : Result ℕ CoreFault) (before later : Tape) → Acts StandsFor (λ s. open_connection s now peer) old new r → Records (entry_text (Open now peer) (given_or Opened r)) before later → ∥ IsServed old before ∥₁ → ∥ IsServed new later ∥₁
+pub open_served : (old new : Held) (now : ℕ) (peer : Peer) (r : Result ℕ CoreFault) (before later : Tape) → Acts StandsFor (λ s. open_connection s now peer) old new r → Records (entry_text (Open now peer) (given_or Opened r) ∷ []) before later → ∥ IsServed old before ∥₁ → ∥ IsServed new later ∥₁
 unfolding step
 open_served old new now peer r before later acts records =
     served_on old new before later (λ s. Open now peer ∷ []) (λ s h. subst (StandsFor new) (sym (output_state Opened (open_connection s now peer))) (acts.stands s h)) (open_records old new now peer r before later acts records)
 
-pub closed_records : (old new : Held) (id : ℕ) (r : Result (Unit {0}) CoreFault) (before later : Tape) → Acts StandsFor (λ s. close_connection s id) old new r → Records (entry_text (Closed id) (given_or show_done r)) before later → (s : State) → StandsFor old s → Records (run_text s (Closed id ∷ [])) before later
+pub closed_records : (old new : Held) (id : ℕ) (r : Result (Unit {0}) CoreFault) (before later : Tape) → Acts StandsFor (λ s. close_connection s id) old new r → Records (entry_text (Closed id) (given_or show_done r) ∷ []) before later → (s : State) → StandsFor old s → Records (run_entries s (Closed id ∷ [])) before later
 unfolding step
 closed_records old new id r before later acts records s h =
     one_recorded s (Closed id) (given_or show_done r) before later (ap (given_or show_done) (acts.gives s h) ∙ output_given show_done (close_connection s id)) records
 
-pub closed_served : (old new : Held) (id : ℕ) (r : Result (Unit {0}) CoreFault) (before later : Tape) → Acts StandsFor (λ s. close_connection s id) old new r → Records (entry_text (Closed id) (given_or show_done r)) before later → ∥ IsServed old before ∥₁ → ∥ IsServed new later ∥₁
+pub closed_served : (old new : Held) (id : ℕ) (r : Result (Unit {0}) CoreFault) (before later : Tape) → Acts StandsFor (λ s. close_connection s id) old new r → Records (entry_text (Closed id) (given_or show_done r) ∷ []) before later → ∥ IsServed old before ∥₁ → ∥ IsServed new later ∥₁
 unfolding step
 closed_served old new id r before later acts records =
     served_on old new before later (λ s. Closed id ∷ []) (λ s h. subst (StandsFor new) (sym (output_state show_done (close_connection s id))) (acts.stands s h)) (closed_records old new id r before later acts records)
 
-pub lost_records : (old : Held) (lost : Option ℕ) (before later : Tape) → Shows StandsFor next_lost old lost → Records (entry_text NextLost (LostIs lost)) before later → (s : State) → StandsFor old s → Records (run_text s (NextLost ∷ [])) before later
+pub lost_records : (old : Held) (lost : Option ℕ) (before later : Tape) → Shows StandsFor next_lost old lost → Records (entry_text NextLost (LostIs lost) ∷ []) before later → (s : State) → StandsFor old s → Records (run_entries s (NextLost ∷ [])) before later
 unfolding step
 lost_records old lost before later shows records s h = one_recorded s NextLost (LostIs lost) before later (ap LostIs (shows s h)) records
 
-pub lost_served : (old new : Held) (n : ℕ) (lost : Option ℕ) (before later : Tape) → new ≡ began old n → Shows StandsFor next_lost old lost → Records (entry_text NextLost (LostIs lost)) before later → ∥ IsServed old before ∥₁ → ∥ IsServed new later ∥₁
+pub lost_served : (old new : Held) (n : ℕ) (lost : Option ℕ) (before later : Tape) → new ≡ began old n → Shows StandsFor next_lost old lost → Records (entry_text NextLost (LostIs lost) ∷ []) before later → ∥ IsServed old before ∥₁ → ∥ IsServed new later ∥₁
 unfolding step
 lost_served old new n lost before later is shows records =
     served_on old new before later (λ s. NextLost ∷ []) (stands_begun old new n is) (lost_records old lost before later shows records)
@@ -147,13 +155,13 @@ answer_is outcome_kinds.Reply reply (x, s) is = rw (← is) refl
 answer_is outcome_kinds.Forwarded reply (x, s) is = rw (← is) refl
 answer_is outcome_kinds.Silent reply (x, s) is = rw (← is) refl
 
-pub datagram_records : (old new : Held) (now : ℕ) (peer : Peer) (content : List ℕ) (given : outcome.Outcome) (before later : Tape) → ActsWithReply (λ s. datagram s now peer content) old new given → Records (entry_text (Datagram now peer content) (answer_shown given new.reply)) before later → (s : State) → StandsFor old s → Records (run_text s (Datagram now peer content ∷ [])) before later
+pub datagram_records : (old new : Held) (now : ℕ) (peer : Peer) (content : List ℕ) (given : outcome.Outcome) (before later : Tape) → ActsWithReply (λ s. datagram s now peer content) old new given → Records (entry_text (Datagram now peer content) (answer_shown given new.reply) ∷ []) before later → (s : State) → StandsFor old s → Records (run_entries s (Datagram now peer content ∷ [])) before later
 unfolding step
 datagram_records old new now peer content given before later acts records s h =
     one_recorded s (Datagram now peer content) (answer_shown given new.reply) before later (answer_is given new.reply (datagram s now peer content) (acts.gives s h)) records
 
 -- with a look at the reply behind it
-pub datagram_served : (old new after_look : Held) (n now : ℕ) (peer : Peer) (content : List ℕ) (given : outcome.Outcome) (before later : Tape) → after_look ≡ began new n → ActsWithReply (λ s. datagram s now peer content) old new given → Records (entry_text (Datagram now peer content) (answer_shown given new.reply)) before later → ∥ IsServed old before ∥₁ → ∥ IsServed after_look later ∥₁
+pub datagram_served : (old new after_look : Held) (n now : ℕ) (peer : Peer) (content : List ℕ) (given : outcome.Outcome) (before later : Tape) → after_look ≡ began new n → ActsWithReply (λ s. datagram s now peer content) old new given → Records (entry_text (Datagram now peer content) (answer_shown given new.reply) ∷ []) before later → ∥ IsServed old before ∥₁ → ∥ IsServed after_look later ∥₁
 unfolding step
 datagram_served old new after_look n now peer content given before later is acts records =
     served_on old after_look before later (λ s. Datagram now peer content ∷ [])
@@ -161,20 +169,20 @@ datagram_served old new after_look n now peer content given before later is acts
     (datagram_records old new now peer content given before later acts records)
 
 -- so of one that is no call, or is not answered
-pub silent_records : (old new : Held) (now : ℕ) (peer : Peer) (content : List ℕ) (given : outcome.Outcome) (before later : Tape) → (given ≡ outcome_kinds.NoCall) ⊎ (given ≡ outcome_kinds.Silent) → ActsWithReply (λ s. datagram s now peer content) old new given → Records (entry_text (Datagram now peer content) Silent) before later → (s : State) → StandsFor old s → Records (run_text s (Datagram now peer content ∷ [])) before later
+pub silent_records : (old new : Held) (now : ℕ) (peer : Peer) (content : List ℕ) (given : outcome.Outcome) (before later : Tape) → (given ≡ outcome_kinds.NoCall) ⊎ (given ≡ outcome_kinds.Silent) → ActsWithReply (λ s. datagram s now peer content) old new given → Records (entry_text (Datagram now peer content) Silent ∷ []) before later → (s : State) → StandsFor old s → Records (run_entries s (Datagram now peer content ∷ [])) before later
 silent_records old new now peer content given before later is acts records =
-    datagram_records old new now peer content given before later acts (subst (λ (x : Output). Records (entry_text (Datagram now peer content) x) before later) (answer_silent given new.reply is) records)
+    datagram_records old new now peer content given before later acts (subst (λ (x : Output). Records (entry_text (Datagram now peer content) x ∷ []) before later) (answer_silent given new.reply is) records)
 
-pub silent_served : (old new : Held) (now : ℕ) (peer : Peer) (content : List ℕ) (given : outcome.Outcome) (before later : Tape) → (given ≡ outcome_kinds.NoCall) ⊎ (given ≡ outcome_kinds.Silent) → ActsWithReply (λ s. datagram s now peer content) old new given → Records (entry_text (Datagram now peer content) Silent) before later → ∥ IsServed old before ∥₁ → ∥ IsServed new later ∥₁
+pub silent_served : (old new : Held) (now : ℕ) (peer : Peer) (content : List ℕ) (given : outcome.Outcome) (before later : Tape) → (given ≡ outcome_kinds.NoCall) ⊎ (given ≡ outcome_kinds.Silent) → ActsWithReply (λ s. datagram s now peer content) old new given → Records (entry_text (Datagram now peer content) Silent ∷ []) before later → ∥ IsServed old before ∥₁ → ∥ IsServed new later ∥₁
 silent_served old new now peer content given before later is acts records =
-    datagram_served old new new new.begun now peer content given before later refl acts (subst (λ (x : Output). Records (entry_text (Datagram now peer content) x) before later) (answer_silent given new.reply is) records)
+    datagram_served old new new new.begun now peer content given before later refl acts (subst (λ (x : Output). Records (entry_text (Datagram now peer content) x ∷ []) before later) (answer_silent given new.reply is) records)
 
 -- ---- the end of a forwarded call
 
 end_is : (reply : List ℕ) (told : Told) (r : Option Told × State) → Some told ≡ r.0 → reply ≡ r.1.reply → show_told reply told ≡ (show_end r).0
 end_is reply told (x, s) is same = rw (← is) (ap (λ (bytes : List ℕ). show_told bytes told) same)
 
-pub ignored_records : (old new : Held) (now : ℕ) (from : Peer) (message : List ℕ) (before later : Tape) → Acts StandsFor (λ s. forward_reply s now from message) old new None → Records (entry_text (Forward now from message) Ignored) before later → (s : State) → StandsFor old s → Records (run_text s (Forward now from message ∷ [])) before later
+pub ignored_records : (old new : Held) (now : ℕ) (from : Peer) (message : List ℕ) (before later : Tape) → Acts StandsFor (λ s. forward_reply s now from message) old new None → Records (entry_text (Forward now from message) Ignored ∷ []) before later → (s : State) → StandsFor old s → Records (run_entries s (Forward now from message ∷ [])) before later
 unfolding step
 ignored_records old new now from message before later acts records s h =
     one_recorded s (Forward now from message) Ignored before later (none_is (forward_reply s now from message) (acts.gives s h)) records
@@ -182,7 +190,7 @@ ignored_records old new now from message before later acts records s h =
     none_is : (r : Option Told × State) → None ≡ r.0 → Ignored ≡ (show_end r).0
     none_is (x, s) is = rw (← is) refl
 
-pub forward_records : (old new : Held) (now : ℕ) (from : Peer) (message : List ℕ) (told : Told) (before later : Tape) → Acts StandsFor (λ s. forward_reply s now from message) old new (Some told) → Records (entry_text (Forward now from message) (show_told new.reply told)) before later → (s : State) → StandsFor old s → Records (run_text s (Forward now from message ∷ [])) before later
+pub forward_records : (old new : Held) (now : ℕ) (from : Peer) (message : List ℕ) (told : Told) (before later : Tape) → Acts StandsFor (λ s. forward_reply s now from message) old new (Some told) → Records (entry_text (Forward now from message) (show_told new.reply told) ∷ []) before later → (s : State) → StandsFor old s → Records (run_entries s (Forward now from message ∷ [])) before later
 unfolding step
 forward_records old new now from message told before later acts records s h =
     one_recorded s (Forward now from message) (show_told new.reply told) before later (end_is new.reply told (forward_reply s now from message) (acts.gives s h) (acts.stands s h).reply) records
@@ -193,11 +201,11 @@ unfolding step
 forward_stands old new after_look n now from message r is acts s h =
     stands_begun new after_look n is _ (subst (StandsFor new) (sym (end_state (forward_reply s now from message))) (acts.stands s h))
 
-pub ignored_served : (old new : Held) (now : ℕ) (from : Peer) (message : List ℕ) (before later : Tape) → Acts StandsFor (λ s. forward_reply s now from message) old new None → Records (entry_text (Forward now from message) Ignored) before later → ∥ IsServed old before ∥₁ → ∥ IsServed new later ∥₁
+pub ignored_served : (old new : Held) (now : ℕ) (from : Peer) (message : List ℕ) (before later : Tape) → Acts StandsFor (λ s. forward_reply s now from message) old new None → Records (entry_text (Forward now from message) Ignored ∷ []) before later → ∥ IsServed old before ∥₁ → ∥ IsServed new later ∥₁
 ignored_served old new now from message before later acts records =
     served_on old new before later (λ s. Forward now from message ∷ []) (forward_stands old new new new.begun now from message None refl acts) (ignored_records old new now from message before later acts records)
 
-pub forward_served : (old new after_look : Held) (n now : ℕ) (from : Peer) (message : List ℕ) (told : Told) (before later : Tape) → after_look ≡ began new n → Acts StandsFor (λ s. forward_reply s now from message) old new (Some told) → Records (entry_text (Forward now from message) (show_told new.reply told)) before later → ∥ IsServed old before ∥₁ → ∥ IsServed after_look later ∥₁
+pub forward_served : (old new after_look : Held) (n now : ℕ) (from : Peer) (message : List ℕ) (told : Told) (before later : Tape) → after_look ≡ began new n → Acts StandsFor (λ s. forward_reply s now from message) old new (Some told) → Records (entry_text (Forward now from message) (show_told new.reply told) ∷ []) before later → ∥ IsServed old before ∥₁ → ∥ IsServed after_look later ∥₁
 forward_served old new after_look n now from message told before later is acts records =
     served_on old after_look before later (λ s. Forward now from message ∷ []) (forward_stands old new after_look n now from message (Some told) is acts) (forward_records old new now from message told before later acts records)
 
@@ -214,13 +222,13 @@ due_is reply expiries.Nothing (x, s) is same = rw (← is) refl
 due_is reply (expiries.Ended told) (x, s) is same = rw (← is) (ap (λ (bytes : List ℕ). show_told bytes told) same)
 due_is reply (expiries.ConnectionClosed id) (x, s) is same = rw (← is) refl
 
-pub expire_records : (old new : Held) (now : ℕ) (due : Expired) (before later : Tape) → Acts StandsFor (λ s. expire s now) old new due → Records (entry_text (Expire now) (due_shown due new.reply)) before later → (s : State) → StandsFor old s → Records (run_text s (Expire now ∷ [])) before later
+pub expire_records : (old new : Held) (now : ℕ) (due : Expired) (before later : Tape) → Acts StandsFor (λ s. expire s now) old new due → Records (entry_text (Expire now) (due_shown due new.reply) ∷ []) before later → (s : State) → StandsFor old s → Records (run_entries s (Expire now ∷ [])) before later
 unfolding step
 expire_records old new now due before later acts records s h =
     one_recorded s (Expire now) (due_shown due new.reply) before later (due_is new.reply due (expire s now) (acts.gives s h) (acts.stands s h).reply) records
 
 -- with a look at the reply behind it
-pub expire_served : (old new after_look : Held) (n now : ℕ) (due : Expired) (before later : Tape) → after_look ≡ began new n → Acts StandsFor (λ s. expire s now) old new due → Records (entry_text (Expire now) (due_shown due new.reply)) before later → ∥ IsServed old before ∥₁ → ∥ IsServed after_look later ∥₁
+pub expire_served : (old new after_look : Held) (n now : ℕ) (due : Expired) (before later : Tape) → after_look ≡ began new n → Acts StandsFor (λ s. expire s now) old new due → Records (entry_text (Expire now) (due_shown due new.reply) ∷ []) before later → ∥ IsServed old before ∥₁ → ∥ IsServed after_look later ∥₁
 unfolding step
 expire_served old new after_look n now due before later is acts records =
     served_on old after_look before later (λ s. Expire now ∷ [])
@@ -230,10 +238,10 @@ expire_served old new after_look n now due before later is acts records =
 -- ---- what is given on a connection
 
 -- two events, each with what it gave
-two_recorded : (s : State) (first second : Event) (one two : Output) (before mid later : Tape) → one ≡ (step s first).0 → two ≡ (step (step s first).1 second).0 → Records (entry_text first one) before mid → Records (entry_text second two) mid later → Records (run_text s (first ∷ second ∷ [])) before later
-unfolding run_text
+two_recorded : (s : State) (first second : Event) (one two : Output) (before mid later : Tape) → one ≡ (step s first).0 → two ≡ (step (step s first).1 second).0 → Records (entry_text first one ∷ []) before mid → Records (entry_text second two ∷ []) mid later → Records (run_entries s (first ∷ second ∷ [])) before later
+unfolding run_entries
 two_recorded s first second one two before mid later is then a b =
-    rw (append-nil (entry_text second (step (step s first).1 second).0), ← is, ← then) (records_more (entry_text first one) (entry_text second two) before mid later a b)
+    rw (← is, ← then) (records_more (entry_text first one ∷ []) (entry_text second two ∷ []) before mid later a b)
 
 pub look_state : (s : State) (id : ℕ) → (step s (Pending id)).1 ≡ s
 unfolding step
@@ -243,10 +251,10 @@ pub look_output : (s : State) (id : ℕ) (owed : Result (List ℕ) CoreFault) �
 unfolding step
 look_output s id owed is = ap (given_or IsPending) (sym is) ∙ output_given IsPending (pending s id, s)
 
-pub look_records : (old : Held) (id : ℕ) (owed : Result (List ℕ) CoreFault) (before later : Tape) → ((s : State) → StandsFor old s → pending s id ≡ owed) → Records (entry_text (Pending id) (given_or IsPending owed)) before later → (s : State) → StandsFor old s → Records (run_text s (Pending id ∷ [])) before later
+pub look_records : (old : Held) (id : ℕ) (owed : Result (List ℕ) CoreFault) (before later : Tape) → ((s : State) → StandsFor old s → pending s id ≡ owed) → Records (entry_text (Pending id) (given_or IsPending owed) ∷ []) before later → (s : State) → StandsFor old s → Records (run_entries s (Pending id ∷ [])) before later
 look_records old id owed before later shows records s h = one_recorded s (Pending id) (given_or IsPending owed) before later (look_output s id owed (shows s h)) records
 
-pub look_served : (old new : Held) (n id : ℕ) (owed : Result (List ℕ) CoreFault) (before later : Tape) → new ≡ began old n → ((s : State) → StandsFor old s → pending s id ≡ owed) → Records (entry_text (Pending id) (given_or IsPending owed)) before later → ∥ IsServed old before ∥₁ → ∥ IsServed new later ∥₁
+pub look_served : (old new : Held) (n id : ℕ) (owed : Result (List ℕ) CoreFault) (before later : Tape) → new ≡ began old n → ((s : State) → StandsFor old s → pending s id ≡ owed) → Records (entry_text (Pending id) (given_or IsPending owed) ∷ []) before later → ∥ IsServed old before ∥₁ → ∥ IsServed new later ∥₁
 look_served old new n id owed before later is shows records =
     served_on old new before later (λ s. Pending id ∷ []) (λ s h. subst (StandsFor new) (sym (look_state s id)) (stands_begun old new n is s h)) (look_records old id owed before later shows records)
 
@@ -266,12 +274,12 @@ gave_output s now id n owed is few done =
 pub gift_state : (s : State) (now id n : ℕ) (owed : List ℕ) → pending s id ≡ Ok owed → n ≤ length owed → after s (gift now id n) ≡ (gave s now id n).1
 gift_state s now id n owed is few = ap (λ (t : State). (step t (Gave now id n)).1) (look_state s id) ∙ gave_state s now id n owed is few
 
-pub gift_records : (old mid new : Held) (count now id n : ℕ) (owed : List ℕ) (before between later : Tape) → mid ≡ began old count → Acts StandsFor (λ s. gave s now id n) mid new (Ok tt) → ((s : State) → StandsFor old s → pending s id ≡ Ok owed) → n ≤ length owed → Records (entry_text (Pending id) (IsPending owed)) before between → Records (entry_text (Gave now id n) Done) between later → (s : State) → StandsFor old s → Records (run_text s (gift now id n)) before later
+pub gift_records : (old mid new : Held) (count now id n : ℕ) (owed : List ℕ) (before between later : Tape) → mid ≡ began old count → Acts StandsFor (λ s. gave s now id n) mid new (Ok tt) → ((s : State) → StandsFor old s → pending s id ≡ Ok owed) → n ≤ length owed → Records (entry_text (Pending id) (IsPending owed) ∷ []) before between → Records (entry_text (Gave now id n) Done ∷ []) between later → (s : State) → StandsFor old s → Records (run_entries s (gift now id n)) before later
 gift_records old mid new count now id n owed before between later is acts shows few one two s h =
     two_recorded s (Pending id) (Gave now id n) (IsPending owed) Done before between later (look_output s id (Ok owed) (shows s h))
     (gave_output s now id n owed (shows s h) few (acts.gives s (stands_begun old mid count is s h)) ∙ ap (λ (t : State). (step t (Gave now id n)).0) (sym (look_state s id))) one two
 
-pub gift_served : (old mid new : Held) (count now id n : ℕ) (owed : List ℕ) (before between later : Tape) → mid ≡ began old count → Acts StandsFor (λ s. gave s now id n) mid new (Ok tt) → ((s : State) → StandsFor old s → pending s id ≡ Ok owed) → n ≤ length owed → Records (entry_text (Pending id) (IsPending owed)) before between → Records (entry_text (Gave now id n) Done) between later → ∥ IsServed old before ∥₁ → ∥ IsServed new later ∥₁
+pub gift_served : (old mid new : Held) (count now id n : ℕ) (owed : List ℕ) (before between later : Tape) → mid ≡ began old count → Acts StandsFor (λ s. gave s now id n) mid new (Ok tt) → ((s : State) → StandsFor old s → pending s id ≡ Ok owed) → n ≤ length owed → Records (entry_text (Pending id) (IsPending owed) ∷ []) before between → Records (entry_text (Gave now id n) Done ∷ []) between later → ∥ IsServed old before ∥₁ → ∥ IsServed new later ∥₁
 gift_served old mid new count now id n owed before between later is acts shows few one two =
     served_on old new before later (λ s. gift now id n)
     (λ s h. subst (StandsFor new) (sym (gift_state s now id n owed (shows s h) few)) (acts.stands s (stands_begun old mid count is s h)))
@@ -279,27 +287,27 @@ gift_served old mid new count now id n owed before between later is acts shows f
 
 -- ---- calls that are to be sent
 
-pub unsent_records : (old : Held) (unsent : Option UnsentCall) (before later : Tape) → Shows StandsFor unsent_call old unsent → Records (entry_text Unsent (UnsentIs unsent)) before later → (s : State) → StandsFor old s → Records (run_text s (Unsent ∷ [])) before later
+pub unsent_records : (old : Held) (unsent : Option UnsentCall) (before later : Tape) → Shows StandsFor unsent_call old unsent → Records (entry_text Unsent (UnsentIs unsent) ∷ []) before later → (s : State) → StandsFor old s → Records (run_entries s (Unsent ∷ [])) before later
 unfolding step
 unsent_records old unsent before later shows records s h = one_recorded s Unsent (UnsentIs unsent) before later (ap UnsentIs (shows s h)) records
 
-pub none_records : (old : Held) (before later : Tape) → Shows StandsFor unsent_call old None → Records (entry_text Unsent (UnsentIs None)) before later → (s : State) → StandsFor old s → Records (run_text s (sending s)) before later
+pub none_records : (old : Held) (before later : Tape) → Shows StandsFor unsent_call old None → Records (entry_text Unsent (UnsentIs None) ∷ []) before later → (s : State) → StandsFor old s → Records (run_entries s (sending s)) before later
 none_records old before later shows records s h =
-    subst (λ (u : Option UnsentCall). Records (run_text s (sending_of u)) before later) (shows s h) (unsent_records old None before later shows records s h)
+    subst (λ (u : Option UnsentCall). Records (run_entries s (sending_of u)) before later) (shows s h) (unsent_records old None before later shows records s h)
 
-pub none_served : (old new : Held) (n : ℕ) (before later : Tape) → new ≡ began old n → Shows StandsFor unsent_call old None → Records (entry_text Unsent (UnsentIs None)) before later → ∥ IsServed old before ∥₁ → ∥ IsServed new later ∥₁
+pub none_served : (old new : Held) (n : ℕ) (before later : Tape) → new ≡ began old n → Shows StandsFor unsent_call old None → Records (entry_text Unsent (UnsentIs None) ∷ []) before later → ∥ IsServed old before ∥₁ → ∥ IsServed new later ∥₁
 unfolding step
 none_served old new n before later is shows records =
     served_on old new before later (λ s. Unsent ∷ []) (stands_begun old new n is) (unsent_records old None before later shows records)
 
-pub sent_records : (old mid new : Held) (n : ℕ) (unsent : UnsentCall) (r : Result (Unit {0}) CoreFault) (before between later : Tape) → mid ≡ began old n → Shows StandsFor unsent_call old (Some unsent) → Acts StandsFor (λ s. sent_call s unsent.number) mid new r → Records (entry_text Unsent (UnsentIs (Some unsent))) before between → Records (entry_text (Sent unsent.number) (given_or show_done r)) between later → (s : State) → StandsFor old s → Records (run_text s (sending s)) before later
+pub sent_records : (old mid new : Held) (n : ℕ) (unsent : UnsentCall) (r : Result (Unit {0}) CoreFault) (before between later : Tape) → mid ≡ began old n → Shows StandsFor unsent_call old (Some unsent) → Acts StandsFor (λ s. sent_call s unsent.number) mid new r → Records (entry_text Unsent (UnsentIs (Some unsent)) ∷ []) before between → Records (entry_text (Sent unsent.number) (given_or show_done r) ∷ []) between later → (s : State) → StandsFor old s → Records (run_entries s (sending s)) before later
 unfolding step
 sent_records old mid new n unsent r before between later is shows acts one two s h =
-    subst (λ (u : Option UnsentCall). Records (run_text s (sending_of u)) before later) (shows s h)
+    subst (λ (u : Option UnsentCall). Records (run_entries s (sending_of u)) before later) (shows s h)
     (two_recorded s Unsent (Sent unsent.number) (UnsentIs (Some unsent)) (given_or show_done r) before between later (ap UnsentIs (shows s h))
     (ap (given_or show_done) (acts.gives s (stands_begun old mid n is s h)) ∙ output_given show_done (sent_call s unsent.number)) one two)
 
-pub sent_served : (old mid new : Held) (n : ℕ) (unsent : UnsentCall) (r : Result (Unit {0}) CoreFault) (before between later : Tape) → mid ≡ began old n → Shows StandsFor unsent_call old (Some unsent) → Acts StandsFor (λ s. sent_call s unsent.number) mid new r → Records (entry_text Unsent (UnsentIs (Some unsent))) before between → Records (entry_text (Sent unsent.number) (given_or show_done r)) between later → ∥ IsServed old before ∥₁ → ∥ IsServed new later ∥₁
+pub sent_served : (old mid new : Held) (n : ℕ) (unsent : UnsentCall) (r : Result (Unit {0}) CoreFault) (before between later : Tape) → mid ≡ began old n → Shows StandsFor unsent_call old (Some unsent) → Acts StandsFor (λ s. sent_call s unsent.number) mid new r → Records (entry_text Unsent (UnsentIs (Some unsent)) ∷ []) before between → Records (entry_text (Sent unsent.number) (given_or show_done r) ∷ []) between later → ∥ IsServed old before ∥₁ → ∥ IsServed new later ∥₁
 unfolding step
 sent_served old mid new n unsent r before between later is shows acts one two =
     served_on old new before later sending

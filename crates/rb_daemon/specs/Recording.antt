@@ -1,13 +1,18 @@
 -- What is recorded of the core's events.
-use Rattle.std.specs.Prelude.{◌≡◌, ℕ, ◌==◌, if◌then◌else◌, true, List, [], ◌∷◌, ◌++◌, length, Option, Some, None, Result, Ok, Err}
+use Rattle.std.specs.Prelude.{ℕ, ◌==◌, if◌then◌else◌, List, [], ◌∷◌, length, Option, Some, None, Result, Ok, Err}
+use Rattle.rb_rpc.specs.declared.peer.Peer.{Peer}
 use Rattle.rb_forward.specs.Forwards.{Unsent as UnsentCall}
 use Rattle.rb_model.specs.declared.types.CoreFault.{CoreFault}
 use Rattle.rb_model.specs.State.{State, opening}
-use Rattle.rb_model.specs.Step.{Event, Output, unsent_call, IsReached}
+use Rattle.rb_model.specs.declared.types.Told.{Told}
+use Rattle.rb_model.specs.Step.{Event, Output, unsent_call, show_taken, show_told, IsReached}
 use Rattle.rb_model.specs.Step.Event.{Bytes, Pending, Gave, Unsent, Sent}
-use Rattle.rb_model.specs.Step.Output.{Refused, Done, IsPending}
-use Rattle.rb_record.specs.Entries.{entry_text, run_text, options_text}
-use Rattle.rb_record.specs.Tapes.{Tape}
+use Rattle.rb_model.specs.Step.Output.{Refused, Done, IsPending, UnsentIs}
+use Rattle.rb_core.specs.declared.types.Exchanged.{Exchanged}
+use Rattle.rb_core.specs.AtOnce.{taken_in}
+use Rattle.rb_record.specs.declared.happening.Happening.{Happening}
+use Rattle.rb_record.specs.Entries.{event_of, entry_text, run_entries, options_text}
+use Rattle.rb_record.specs.Tapes.{Tape, IsRecordOf}
 use Rattle.rb_daemon.specs.declared.engine.Given.{Given}
 use Rattle.rb_daemon.specs.declared.engine.Given.TheVariants as gives
 
@@ -36,9 +41,13 @@ sending s = sending_of (unsent_call s)
 
 -- ---- what is recorded
 
--- The tape has the options of a replay that begins as this run does, and what is written of its events.
+-- the options of a replay that begins as this run does, and each of its events with what it gave
+abbrev pub entries_of : {s : State} → IsReached s → List (List ℕ)
+entries_of r = options_text r.limits r.listener r.first_xid r.now ∷ run_entries (opening r.limits r.listener r.first_xid r.now) r.events
+
+-- The tape has all of them while the recording goes on, and the first ones, whole, where it has ended.
 abbrev pub HasRecorded : {s : State} → IsReached s → Tape → Type 0
-HasRecorded r tape = tape.is_on ≡ true → tape.text ≡ options_text r.limits r.listener r.first_xid r.now ++ run_text (opening r.limits r.listener r.first_xid r.now) r.events
+HasRecorded r tape = IsRecordOf (entries_of r) tape
 
 -- ---- what a call gave, as an output
 
@@ -48,8 +57,20 @@ given_or show (Err fault) = Refused fault
 
 -- ---- as the code has them
 
-abbrev pub gift_text : ℕ → ℕ → List ℕ → List ℕ
-gift_text now id bytes = entry_text (Pending id) (IsPending bytes) ++ entry_text (Gave now id (length bytes)) Done
+abbrev pub gift_entries : ℕ → ℕ → List ℕ → List (List ℕ)
+gift_entries now id bytes = entry_text (Pending id) (IsPending bytes) ∷ entry_text (Gave now id (length bytes)) Done ∷ []
 
-abbrev pub exchange_text : ℕ → ℕ → List ℕ → Output → List ℕ → List ℕ
-exchange_text now id piece taken given = entry_text (Bytes now id piece) taken ++ (if length given == 0 then [] else gift_text now id given)
+abbrev pub exchange_entries : ℕ → ℕ → List ℕ → Output → List ℕ → List (List ℕ)
+exchange_entries now id piece taken given = entry_text (Bytes now id piece) taken ∷ (if length given == 0 then [] else gift_entries now id given)
+
+-- what was taken of bytes that came
+abbrev pub taken_output : Result Exchanged CoreFault → Output
+taken_output done = given_or show_taken (taken_in done)
+
+-- the end of a forwarded call, with the last reply
+abbrev pub end_entry : Happening → List ℕ → Told → List ℕ
+end_entry event reply told = entry_text (event_of event) (show_told reply told)
+
+-- the look for a call that is to be sent, which is this one
+abbrev pub unsent_entry : ℕ → Peer → List ℕ → List ℕ
+unsent_entry number target call = entry_text Unsent (UnsentIs (Some (record { number = number; target = target; call = call })))

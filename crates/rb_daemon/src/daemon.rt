@@ -21,7 +21,8 @@ use std::time::Duration;
 /// The most events that one wait shows. The system keeps the others for the next.
 const EVENTS: usize = 64;
 
-/// A core and the sockets that it is served by. What it takes of memory it takes in `new`; `tests/run-memory.sh` shows so.
+/// A core and the sockets that it is served by. What it takes of memory it takes in `new`; `tests/run-memory.sh`
+/// shows so.
 #[derive(Drop)]
 pub struct Daemon<'a, R: Clock> {
     clock: &'a R,
@@ -32,9 +33,9 @@ pub struct Daemon<'a, R: Clock> {
 }
 
 impl<'a, R: Clock> Daemon<'a, R> {
-    /// A daemon that listens where the settings say: over TCP and UDP on each of their addresses, and besides on [::1]
-    /// over TCP and on a local socket where they are asked for. `Limits` where a limit is out of its range, else `Memory` or
-    /// `Socket`, whichever occurs first.
+    /// A daemon that listens where the settings say: over TCP and UDP on each of their addresses, and besides on
+    /// [::1] over TCP and on a local socket where they are asked for. `Limits` where a limit is out of its range,
+    /// else `Memory` or `Socket`, whichever occurs first.
     pub fn new<H: Files + Net>(
         alloc: Global,
         host: &H,
@@ -106,8 +107,8 @@ impl<'a, R: Clock> Daemon<'a, R> {
         self.serving.accept_all(self.poll.registry())
     }
 
-    /// Writes what was recorded of the turns and not yet written (docs/EVENTS.md). After an error nothing more is recorded, and
-    /// the daemon goes on.
+    /// Writes what was recorded of the turns and not yet written (docs/EVENTS.md). After an error nothing more is
+    /// recorded, and the daemon goes on.
     pub fn write_record<W: Write>(&mut self, writer: &mut W) -> io::Result<()> {
         self.serving.write_record(writer)
     }
@@ -150,7 +151,8 @@ fn millis(time: Duration) -> u64 {
     u64::try_from(time.as_millis()).unwrap_or(u64::MAX)
 }
 
-/// An engine, at the moment that the clock gave, and the moments that follow. The limits are looked at before the clock is.
+/// An engine, at the moment that the clock gave, and the moments that follow. The limits are looked at before the
+/// clock is.
 fn engine_of(
     alloc: Global,
     limits: Limits,

@@ -1,23 +1,23 @@
 //! Where events go to the core: in the order in which they happen, each by one function.
-ghost use Rattle.std.specs.Prelude.{◌≡◌};
-ghost use Rattle.rb_model.specs.Step.{show_told};
+ghost use Rattle.std.specs.Prelude.{◌≡◌, [], ◌∷◌};
 ghost use Rattle.rb_core.specs.Events.{OnlyBegins};
-ghost use Rattle.rb_record.specs.Entries.{event_of, entry_text};
 ghost use Rattle.rb_record.specs.Tapes.{Records};
+ghost use Rattle.rb_daemon.specs.Recording.{end_entry};
 ghost use Rattle.rb_daemon.specs.Served.{IsServed, ready_of};
 
 use crate::showing::{count_given, record_exchange, record_unsent, show_done, show_opened};
 use crate::sockets::{CallSocket, CallSockets, ForwardSocket};
 use rb_core::{Core, CoreFault, Exchanged, Expired, Limits, Listener, Outcome, Peer, Told};
-use rb_record::{Happening, Shown, Tape};
+use rb_record::{Happening, Shown, Start, Tape};
 use rb_xdr::Meter;
 use std::alloc::Global;
 use std::io;
 use std::io::{ErrorKind, Write};
 
-/// The core, the meter that it was made with, the moment of the turn, in milliseconds since the start of 1970, and the tape
-/// that the events are recorded on. Nothing else calls the core, so what is called here, line by line, are the events of a
-/// run, `exchange` as the bytes that came and the reply that was given, and each is recorded with what it gave.
+/// The core, the meter that it was made with, the moment of the turn, in milliseconds since the start of 1970, and
+/// the tape that the events are recorded on. Nothing else calls the core, so what is called here, line by line, are
+/// the events of a run, `exchange` as the bytes that came and the reply that was given, and each is recorded with
+/// what it gave.
 #[derive(Drop)]
 pub(crate) struct Engine {
     core: Core,
@@ -45,14 +45,14 @@ pub(crate) enum Given {
 #[derive(Clone, Copy, Debug, PartialEq, Eq)]
 pub(crate) enum Due {
     Nothing,
-    /// A forwarded call, and its caller was told what is to be told; or a connection, which is to be closed.
+    /// A forwarded call, whose end its caller was told; or a connection, which is to be closed.
     Done,
     /// A forwarded call of the connection of this number, which goes on.
     Ready(u64),
 }
 
-/// Records the end of a forwarded call, and tells it: a caller over UDP gets the last reply from the socket that it called.
-/// The answer is the connection that goes on.
+/// Records the end of a forwarded call, and tells it: a caller over UDP gets the last reply from the socket that it
+/// called. The answer is the connection that goes on.
 fn tell(
     core: &mut Core,
     meter: &mut Meter,
@@ -65,8 +65,7 @@ fn tell(
     ensures ready { result ≡ ready_of told }
     ensures core { OnlyBegins core.old core.new }
     ensures tie { meter.new.tie ≡ meter.old.tie }
-    ensures recorded { Records
-        (entry_text (event_of event.now) (show_told core.old.reply told)) tape.old tape.new }
+    ensures recorded { Records (end_entry event.now core.old.reply told ∷ []) tape.old tape.new }
 {
     match told {
         Told::TcpReady(id) => {
@@ -87,21 +86,21 @@ fn tell(
 }
 
 impl Engine {
-    ghost use Rattle.std.specs.Prelude.{◌≡◌, ◌≤◌, ◌↔◌, [], ◌∷◌, IsTrue, IsErrOf, length, drop, not, IfOk, OnOk};
-    ghost use Rattle.std.specs.Io.KnownBytes.{Appends};
+    ghost use Rattle.std.specs.Prelude.{◌≡◌, ◌≤◌, ◌↔◌, [], ◌∷◌, false, IsTrue, IsErrOf, length, not, IfOk, OnOk, OnErr};
+    ghost use Rattle.rb_record.specs.Printing.{Writes};
+    ghost use Rattle.rb_record.specs.Tapes.{unwritten};
     ghost use Rattle.rb_model.specs.Step.Event.{Open, Closed, NextLost, Datagram, Forward, Expire};
     ghost use Rattle.rb_daemon.specs.Recording.{exchange, giving, sending as sending_events};
     ghost use Rattle.rb_model.specs.State.{State, are_good};
     ghost use Rattle.rb_model.specs.Step.{open_connection, close_connection, next_lost};
     ghost use Rattle.rb_core.specs.StandsFor.{StandsFor};
-    ghost use Rattle.rb_connections.specs.Slots.{Shows};
-    ghost use Rattle.rb_core.specs.AtOnce.{Exchanges, count_given, count_now};
+    ghost use Rattle.rb_core.specs.AtOnce.{Exchanges, count_given};
     ghost use Rattle.rb_daemon.specs.Served.{after_giving, answering, ready_of, replying, expiring, sending};
-    ghost use Rattle.rb_daemon.specs.Moves.{BeginsAt, Moves, ActsNow, Gives, Recorded};
+    ghost use Rattle.rb_daemon.specs.Moves.{BeginsAt, Moves, ActsNow, Gives, Recorded, CountsGiven};
 
-    /// A new core at this moment, which is the first. The first forwarded call has the low 32 bits of it for its number. Up to
-    /// `record` bytes are recorded of its events. `BadLimits` where a limit is out of its range, else `NoMemory` where an
-    /// allocation is refused.
+    /// A new core at this moment, which is the first. The first forwarded call has the low 32 bits of it for its
+    /// number. Up to `record` bytes are recorded of its events. `BadLimits` where a limit is out of its range, else
+    /// `NoMemory` where an allocation is refused.
     pub(crate) fn new(
         alloc: Global,
         limits: Limits,
@@ -110,6 +109,7 @@ impl Engine {
         record: usize,
     ) -> Result<Engine, CoreFault>
         ensures made { IfOk result (BeginsAt moment limits listener) }
+        ensures record { IfOk result (λ engine. engine.tape.limit ≡ «record») }
         ensures bad { IsErrOf result CoreFault.BadLimits ↔ IsTrue (not (are_good limits)) }
     {
         let mut meter = Meter::new();
@@ -118,7 +118,12 @@ impl Engine {
         let Ok(mut tape) = Tape::new(alloc, record) else {
             return Err(CoreFault::NoMemory);
         };
-        tape.begin(&limits, &listener, first_xid, moment);
+        tape.begin(&Start {
+            limits,
+            listener,
+            first_xid,
+            moment,
+        });
         Ok(Engine {
             core,
             meter,
@@ -138,14 +143,18 @@ impl Engine {
 
     /// Writes what was recorded and not yet written. Where that fails the recording ends.
     pub(crate) fn write_record<W: Write>(&mut self, writer: &mut W) -> io::Result<()>
-        ensures ok { OnOk result (Appends (W.contents writer.old) (W.contents writer.new)
-            (drop self.old.tape.written self.old.tape.text)) }
+        ensures written { OnOk result
+            (Writes W.contents writer.old writer.new (unwritten self.old.tape)) }
+        ensures ok { OnOk result (self.new.tape
+            ≡ record self.old.tape { written = length self.old.tape.text }) }
+        ensures err { OnErr result (self.new.tape ≡ record self.old.tape { is_on = false }) }
         ensures core { self.new.core ≡ self.old.core }
         ensures moment { self.new.moment ≡ self.old.moment }
     {
         self.tape.write_out(writer)
     }
 
+    /// A connection was accepted. `Full` where all places of the core are taken, `Spent` where its numbers are.
     pub(crate) fn open(&mut self, peer: Peer) -> Result<u64, CoreFault>
         ensures acts { ActsNow (λ s now. open_connection s now peer) self.old self.new result }
         ensures recorded { Recorded (λ s now. Open now peer ∷ []) self.old self.new }
@@ -157,8 +166,8 @@ impl Engine {
         opened
     }
 
-    /// Bytes came on a connection. A reply of one fragment to the record that ends with them goes into the room, where there is
-    /// enough.
+    /// Bytes came on a connection. A reply of one fragment to the record that ends with them goes into the room,
+    /// where there is enough.
     pub(crate) fn exchange(
         &mut self,
         id: u64,
@@ -167,8 +176,7 @@ impl Engine {
     ) -> Result<Exchanged, CoreFault>
         ensures acts { Exchanges
             self.old.moment id piece.now self.old.core self.new.core result room.new }
-        ensures count { Shows StandsFor (count_now self.old.moment id piece.now (length room.old))
-            self.old.core (count_given result) }
+        ensures count { CountsGiven id piece.now (length room.old) self.old (count_given result) }
         ensures fits { count_given result ≤ length room.new }
         ensures within { IfOk result (λ done. done.taken.count ≤ length piece.now) }
         ensures recorded { Recorded
@@ -228,6 +236,7 @@ impl Engine {
         self.tape.record(&Happening::Closed(id), &show_done(done));
     }
 
+    /// The first connection that the core has given up, if there is one.
     pub(crate) fn next_lost(&mut self) -> Option<u64>
         ensures lost { (s : State) → StandsFor self.old.core s → result ≡ next_lost s }
         ensures stays { Moves (λ s now. s) self.old self.new }
@@ -239,8 +248,8 @@ impl Engine {
         lost
     }
 
-    /// Answers a datagram over the socket on which it came. A reply that the socket does not take is lost. It says whether
-    /// the call is forwarded, and so is to be sent.
+    /// Answers a datagram over the socket on which it came. A reply that the socket does not take is lost. Returns
+    /// whether the call is forwarded, and so is to be sent.
     pub(crate) fn answer(&mut self, peer: Peer, content: &[u8], socket: &CallSocket) -> bool
         ensures acts { ActsNow (answering peer content.now) self.old self.new result }
         ensures recorded { Recorded
@@ -331,8 +340,8 @@ impl Engine {
         }
     }
 
-    /// Sends the first forwarded call that is to be sent. It counts as sent though the socket does not take it. It says
-    /// whether there was one.
+    /// Sends the first forwarded call that is to be sent. It counts as sent though the socket does not take it.
+    /// Returns whether there was one.
     pub(crate) fn send_forward(&mut self, socket: &ForwardSocket) -> bool
         ensures acts { ActsNow sending self.old self.new result }
         ensures recorded { Recorded (λ s now. sending_events s) self.old self.new }

@@ -23,7 +23,9 @@ pub enum DaemonFault {
 /// error 13)`.
 #[derive(Debug, Drop)]
 pub struct SocketFault {
+    /// What was tried.
     pub step: Step,
+    /// Why it failed.
     pub error: io::Error,
 }
 

@@ -100,6 +100,7 @@ impl Link {
         })
     }
 
+    /// Whether no connection has the place.
     pub(crate) fn is_free(&self) -> bool {
         self.stream.is_none()
     }
@@ -136,6 +137,7 @@ impl Link {
         Some(self.id)
     }
 
+    /// Whether it is to be served though no event shows it.
     pub(crate) fn is_waiting(&self) -> bool {
         self.is_waiting
     }
@@ -147,6 +149,7 @@ impl Link {
         self.may_owe = true;
     }
 
+    /// Whether this turn has served it.
     pub(crate) fn was_served_in(&self, turn: Turn) -> bool {
         self.served_in == turn.number
     }
@@ -184,9 +187,10 @@ impl Link {
         !self.outbox.is_empty() && is_stuck(self.since, moment)
     }
 
-    /// Hands in, takes over, writes and reads until the socket would block or has used up its calls of this turn. A read
-    /// that gets less than it has room for is the last, unless the peer may have ended what it sends: of that no other
-    /// event comes. It has the long outbox meanwhile, where that is to spare, and longer where bytes are left in it.
+    /// Hands in, takes over, writes and reads until the socket would block or has used up its calls of this turn. A
+    /// read that gets less than it has room for is the last, unless the peer may have ended what it sends: of that no
+    /// other event comes. It has the long outbox meanwhile, where that is to spare, and longer where bytes are left
+    /// in it.
     pub(crate) fn serve(
         &mut self,
         engine: &mut Engine,
@@ -231,8 +235,8 @@ impl Link {
     }
 
     /// Makes at most one socket call: a write where replies wait, else a read. Replies are taken over only where the
-    /// socket has taken all that were before. Where bytes are left that the core does not take while no reply is owed,
-    /// it waits for something else.
+    /// socket has taken all that were before. Where bytes are left that the core does not take while no reply is
+    /// owed, it waits for something else.
     fn step(&mut self, engine: &mut Engine, forwards: &ForwardSocket, may_end: bool) -> Next {
         if self.outbox.is_empty() && !self.exchange(engine, forwards) {
             let _ = self.write();
@@ -248,7 +252,7 @@ impl Link {
     }
 
     /// Hands in what was read, record by record, and takes over the replies, until nothing more is taken and none is
-    /// pending, or the outbox has no room. It says whether the connection goes on.
+    /// pending, or the outbox has no room. Returns whether the connection goes on.
     fn exchange(&mut self, engine: &mut Engine, forwards: &ForwardSocket) -> bool {
         for _ in 0..EXCHANGES {
             let Some(taken) = self.hand_in(engine, forwards) else {
@@ -267,9 +271,9 @@ impl Link {
         true
     }
 
-    /// Hands in the bytes that were read and not yet taken, up to the end of a record, and says how many were taken, or
-    /// `None` where the connection is over. A short reply is in the outbox at once, and then the core owes none. A call that
-    /// is forwarded is sent at once: no other one is to be sent, since each was when it came.
+    /// Hands in the bytes that were read and not yet taken, up to the end of a record, and says how many were taken,
+    /// or `None` where the connection is over. A short reply is in the outbox at once, and then the core owes none. A
+    /// call that is forwarded is sent at once: no other one is to be sent, since each was when it came.
     fn hand_in(&mut self, engine: &mut Engine, forwards: &ForwardSocket) -> Option<usize> {
         if self.start == self.end {
             return Some(0);
@@ -301,7 +305,8 @@ impl Link {
         }
     }
 
-    /// Takes over the fragment that is pending. Behind the last one of a reply the core need not be asked for another.
+    /// Takes over the fragment that is pending. Behind the last one of a reply the core need not be asked for
+    /// another.
     fn take_over(&mut self, engine: &mut Engine) -> Given {
         if !self.may_owe {
             return Given::Nothing;

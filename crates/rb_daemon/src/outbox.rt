@@ -3,13 +3,15 @@ ghost use Rattle.std.specs.Prelude.{◌≡◌, ◌≤◌, ◌++◌, ℕ, List, l
 
 use crate::engine::Engine;
 use rb_core::{CoreFault, Exchanged};
+use rb_proto::LONGEST_PART;
+use rb_rpc::FRAGMENT_HEADER;
 use std::alloc::{AllocError, Global};
 use std::io::Write;
 use std::marker::Model;
 use std::{io, mem};
 
-/// The most bytes of a fragment of a reply: its header, and 1,024 of data.
-const FRAGMENT: usize = 1028;
+/// The most bytes of a fragment of a reply: its header and its data.
+const FRAGMENT: usize = FRAGMENT_HEADER + LONGEST_PART;
 
 /// The room of a connection's own outbox: a whole reply of 9,000 bytes fits, with the headers of its nine fragments.
 pub(crate) const OWN_ROOM: usize = 9 * FRAGMENT;
@@ -57,14 +59,15 @@ impl Outbox {
         })
     }
 
+    /// Whether the socket has taken all of it.
     pub(crate) fn is_empty(&self) -> bool
         ensures { result ≡ (length self.now == 0) }
     {
         self.sent == self.end
     }
 
-    /// Whether any fragment fits. Where one may not, nothing more is taken over until the socket has taken all, so that each
-    /// fragment is taken over whole.
+    /// Whether any fragment fits. Where one may not, nothing more is taken over until the socket has taken all, so
+    /// that each fragment is taken over whole.
     pub(crate) fn has_room(&self) -> bool {
         self.held.len() - self.end >= FRAGMENT
     }
@@ -74,6 +77,7 @@ impl Outbox {
         self.is_reply_over
     }
 
+    /// Drops what is on its way.
     pub(crate) fn clear(&mut self)
         ensures { self.new ≡ [] }
     {
@@ -125,8 +129,8 @@ impl Outbox {
     }
 }
 
-/// `write` takes over as many bytes as there is room for: a fragment. The first bit of its header marks the last one of a
-/// reply (RFC 5531 section 11).
+/// `write` takes over as many bytes as there is room for: a fragment. The first bit of its header marks the last one
+/// of a reply (RFC 5531 section 11).
 impl Write for Outbox {
     ghost use Rattle.std.specs.Prelude.{Some};
 

@@ -30,6 +30,7 @@ const THINGS_DUE: usize = 64 + 256;
 /// A forwarded call has ended after so many milliseconds.
 const FORWARDED: u64 = 5_000;
 
+/// The core with its sockets, the places of connections, and what is left for the next turn.
 #[derive(Drop)]
 pub(crate) struct Serving {
     engine: Engine,
@@ -68,6 +69,7 @@ fn free_places(alloc: Global, count: usize) -> Result<Vec<Link>, AllocError>
 }
 
 impl Serving {
+    /// With places for so many connections. An error where an allocation is refused.
     pub(crate) fn new(
         alloc: Global,
         engine: Engine,
@@ -99,6 +101,7 @@ impl Serving {
         })
     }
 
+    /// The events of the daemon's own sockets are shown from here on.
     pub(crate) fn register(&mut self, registry: &Registry) -> io::Result<()> {
         self.sockets.register(registry)
     }
@@ -252,8 +255,8 @@ impl Serving {
         after_all_receives(got_some)
     }
 
-    /// Answers the datagram of the first `len` bytes, which came on the socket of this number. A call that is forwarded is
-    /// sent at once.
+    /// Answers the datagram of the first `len` bytes, which came on the socket of this number. A call that is
+    /// forwarded is sent at once.
     fn answer(&mut self, i: usize, len: usize, from: Option<Peer>)
         requires { len ≤ length self.old.datagram.items }
     {
@@ -442,7 +445,7 @@ impl Serving {
         admit(self.holders.as_slice(), newcomer, self.turn.moment)
     }
 
-    /// Gives a connection a place, under whose key its events are shown, and says whether it has it.
+    /// Gives a connection a place, under whose key its events are shown. Returns whether it has it.
     fn give_place(
         &mut self,
         registry: &Registry,

@@ -15,8 +15,10 @@ pub struct Settings<'a> {
     pub announce: Ipv4Addr,
     /// The port of TCP and UDP.
     pub port: u16,
+    /// How many connections, rows and forwarded calls there may be.
     pub limits: Limits,
-    /// The most bytes of a record of its events; 0 records nothing. So much memory it takes.
+    /// The most bytes of a record of its events, its last line among them; 0 records nothing. So much memory it
+    /// takes, and up to 160,000 bytes for an entry that is written.
     pub record: usize,
 }
 

@@ -1,17 +1,16 @@
 //! What calls of the core gave, as the outputs that are recorded.
-ghost use Rattle.std.specs.Prelude.{◌≡◌, Some};
-ghost use Rattle.rb_model.specs.Step.Output.{Opened, UnsentIs};
-ghost use Rattle.rb_model.specs.Step.Event.{Unsent};
-ghost use Rattle.rb_model.specs.Step.{show_taken, show_done};
-ghost use Rattle.rb_core.specs.AtOnce.{count_given, taken_in};
+ghost use Rattle.std.specs.Prelude.{◌≡◌, [], ◌∷◌};
+ghost use Rattle.rb_model.specs.Step.Output.{Opened};
+ghost use Rattle.rb_model.specs.Step.{show_done};
+ghost use Rattle.rb_core.specs.AtOnce.{count_given};
 ghost use Rattle.rb_record.specs.Printing.{shown_of};
-ghost use Rattle.rb_record.specs.Entries.{entry_text};
 ghost use Rattle.rb_record.specs.Tapes.{Records};
-ghost use Rattle.rb_daemon.specs.Recording.{given_or, gift_text, exchange_text};
+ghost use Rattle.rb_daemon.specs.Recording.{given_or, gift_entries, exchange_entries, taken_output, unsent_entry};
 
 use rb_core::{CoreFault, Exchanged, Peer};
 use rb_record::{Happening, Shown, ShownCall, Tape};
 
+/// The number of a connection that was opened, or the refusal.
 pub(crate) fn show_opened<'a>(opened: Result<u64, CoreFault>) -> Shown<'a>
     ensures { shown_of result ≡ given_or Opened opened }
 {
@@ -21,6 +20,7 @@ pub(crate) fn show_opened<'a>(opened: Result<u64, CoreFault>) -> Shown<'a>
     }
 }
 
+/// That a call was done, or the refusal.
 pub(crate) fn show_done<'a>(done: Result<(), CoreFault>) -> Shown<'a>
     ensures { shown_of result ≡ given_or show_done done }
 {
@@ -31,7 +31,7 @@ pub(crate) fn show_done<'a>(done: Result<(), CoreFault>) -> Shown<'a>
 }
 
 fn show_taken<'a>(done: &Result<Exchanged, CoreFault>) -> Shown<'a>
-    ensures { shown_of result ≡ given_or show_taken (taken_in done.now) }
+    ensures { shown_of result ≡ taken_output done.now }
 {
     match done {
         Ok(exchanged) if exchanged.taken.closed => Shown::TookAndClosed(exchanged.taken.count),
@@ -50,7 +50,8 @@ pub(crate) fn count_given(done: &Result<Exchanged, CoreFault>) -> usize
     }
 }
 
-/// Records that bytes came on a connection, and where some were given at once, the look at them and that they were given.
+/// Records that bytes came on a connection, and where some were given at once, the look at them and that they were
+/// given.
 pub(crate) fn record_exchange(
     tape: &mut Tape,
     now: u64,
@@ -59,8 +60,8 @@ pub(crate) fn record_exchange(
     given: &[u8],
     done: &Result<Exchanged, CoreFault>,
 )
-    ensures { Records (exchange_text
-        now id piece.now (given_or show_taken (taken_in done.now)) given.now) tape.old tape.new }
+    ensures { Records (exchange_entries now id piece.now (taken_output done.now) given.now)
+        tape.old tape.new }
 {
     tape.record(&Happening::Bytes(now, id, piece), &show_taken(done));
     if !given.is_empty() {
@@ -70,7 +71,7 @@ pub(crate) fn record_exchange(
 
 /// Records the look at bytes, and that all of them were given.
 fn record_gift(tape: &mut Tape, now: u64, id: u64, given: &[u8])
-    ensures { Records (gift_text now id given.now) tape.old tape.new }
+    ensures { Records (gift_entries now id given.now) tape.old tape.new }
 {
     tape.record(&Happening::Pending(id), &Shown::Pending(given));
     tape.record(&Happening::Gave(now, id, given.len()), &Shown::Done);
@@ -78,9 +79,7 @@ fn record_gift(tape: &mut Tape, now: u64, id: u64, given: &[u8])
 
 /// Records the look for a call that is to be sent, where there is one.
 pub(crate) fn record_unsent(tape: &mut Tape, number: u64, target: Peer, call: &[u8])
-    ensures { Records (entry_text Unsent
-        (UnsentIs (Some (record { number = number; target = target; call = call.now }))))
-        tape.old tape.new }
+    ensures { Records (unsent_entry number target call.now ∷ []) tape.old tape.new }
 {
     let unsent = ShownCall {
         number,

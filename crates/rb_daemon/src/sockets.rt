@@ -92,7 +92,7 @@ impl Listener {
         }
     }
 
-    /// A connection, and the peer that the core is told for it. One without is to be closed.
+    /// A connection, and the peer that the core is handed for it. One without is to be closed.
     pub(crate) fn accept(&self) -> io::Result<(Stream, Option<Peer>)> {
         match self {
             Listener::Inet(listener) => {
@@ -251,9 +251,9 @@ impl Sockets {
         })
     }
 
-    /// Writes to as much of the stack as a turn needs, so that its memory is the process's from here on: an array there is
-    /// handed to a receive. What is received before a call was forwarded is no reply to one. The array goes when this
-    /// returns, so it is not to be inlined.
+    /// Writes to as much of the stack as a turn needs, so that its memory is the process's from here on: an array
+    /// there is handed to a receive. What is received before a call was forwarded is no reply to one. The array goes
+    /// when this returns, so it is not to be inlined.
     #[inline(never)]
     pub(crate) fn write_stack(&self) {
         let _ = self.forwards.socket.receive(&mut [0; STACK]);

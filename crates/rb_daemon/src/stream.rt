@@ -13,8 +13,8 @@ pub(crate) enum Stream {
 }
 
 impl Stream {
-    /// Each write goes out at once (TCP_NODELAY): where replies take two writes, the second may not wait until the first
-    /// is acknowledged. On the local socket it does so by itself.
+    /// Each write goes out at once (TCP_NODELAY): where replies take two writes, the second may not wait until the
+    /// first is acknowledged. On the local socket it does so by itself.
     pub(crate) fn send_at_once(&self) -> io::Result<()> {
         match self {
             Stream::Tcp(stream) => stream.set_nodelay(true),
@@ -31,10 +31,12 @@ impl Stream {
         }
     }
 
+    /// What its peer sends.
     pub(crate) fn incoming(&mut self) -> Incoming<'_> {
         Incoming { stream: self }
     }
 
+    /// What its peer is sent.
     pub(crate) fn outgoing(&mut self) -> Outgoing<'_> {
         Outgoing { stream: self }
     }

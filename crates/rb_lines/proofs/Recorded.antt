@@ -1,6 +1,7 @@
 -- Lines that were recorded, read back.
-use Rattle.std.proofs.Common.{◌≡◌, ◌<◌, ◌/◌, ◌%◌, ℕ, zero, suc, false, eqb, codes, List, [], ◌∷◌, ◌++◌, length, map, slice_index, Option, Some, None, refl, sym, ap, subst, ◌∙◌, arith, inr, All, append_assoc}
-use Rattle.std.specs.List.{flat_map, onto_first, AllByRecursion}
+use Rattle.std.proofs.Common.{◌≡◌, ◌<◌, ◌/◌, ◌%◌, ℕ, zero, suc, Bool, true, false, cond, eqb, codes, List, [], ◌∷◌, ◌++◌, length, map, slice_index, Option, Some, None, refl, sym, ap, subst, ◌∙◌, arith, inl, inr, ◌⊎◌, All, append_assoc, take}
+use mathlib.Core.Bool.{true≢false}
+use Rattle.std.specs.List.{flat_map, concat, onto_first, AllByRecursion}
 use Rattle.std.specs.Fmt.{decimal}
 use Rattle.std.specs.Char.{digit_value}
 use Rattle.std.proofs.lemmas.Fmt.{decimal_is_IsNumeral}
@@ -19,13 +20,14 @@ use Rattle.rb_model.specs.Step.{Event, Output, step, run}
 use Rattle.rb_model.specs.Step.Event.{Datagram, Open, Bytes, Pending, Gave, Closed, NextLost, Unsent, Sent, Forward, Expire}
 use Rattle.rb_model.specs.Step.Output.{Opened, Refused, TooMuch, Took, TookAndClosed, IsPending, Done, LostIs, Replied, Forwarded, Silent, UnsentIs, Ignored, Nothing, ConnectionClosed, Ready, RepliedTo}
 use Rattle.rb_record.specs.Printing.{hex_text, refusal_text, bytes_line, peer_line, text_of}
-use Rattle.rb_record.specs.Entries.{event_text, entry_text, run_text, limits_text, listener_text, options_text}
+use Rattle.rb_record.specs.Entries.{event_text, entry_text, run_entries, run_text, limits_text, listener_text, options_text}
+use Rattle.rb_record.specs.Tapes.{ending}
 use Rattle.rb_lines.specs.Lines.{line, lines_of}
 use Rattle.rb_lines.specs.Lines.Line.{Skipped, Happens}
 use Rattle.rb_lines.specs.LineLaws.{event_in, has_bad}
 use Rattle.rb_lines.specs.LineGrammar.{Spells, SpellsNumber, SpellsPeer, SpellsByte, SpellsBytes, SpellsHex, ◌␣◌, SpellsEvent}
 use Rattle.rb_lines.specs.Checking.{said_by, said, printed}
-use Rattle.rb_lines.specs.RecordLaws.{Fits, AreBytes, IsPeer, HasLine, HasUnsentLine, HasLostLine, HasOutputLine, RecordsAreRead}
+use Rattle.rb_lines.specs.RecordLaws.{Fits, AreBytes, IsPeer, HasLine, HasUnsentLine, HasLostLine, HasOutputLine, RecordsAreRead, EndedRecordsAreRead}
 use Rattle.rb_lines.proofs.LineLaws.{reads_the_events}
 use Rattle.rb_lines.proofs.Words.{IsWithout, numeral_without, peer_without}
 use Rattle.rb_lines.proofs.LineWords.{line_of, skipped_say_nothing}
@@ -60,6 +62,19 @@ behind x xs a b = All-cons (λ (b : ℕ). eqb b 10 ≡ false) x xs a b
 
 nothing : IsWithout 10 []
 nothing = All-nil (λ (b : ℕ). eqb b 10 ≡ false)
+
+-- whether a text has a line feed
+abbrev has_end : List ℕ → Bool
+has_end [] = false
+has_end (x ∷ xs) = cond (eqb x 10) true (has_end xs)
+
+apart : (xs : List ℕ) → has_end xs ≡ false → IsWithout 10 xs
+apart [] none = nothing
+apart (x ∷ xs) none = at (eqb x 10) refl none (λ less. apart xs less)
+  where
+    at : (b : Bool) → eqb x 10 ≡ b → cond b true (has_end xs) ≡ false → (has_end xs ≡ false → IsWithout 10 xs) → IsWithout 10 (x ∷ xs)
+    at true e none others = absurd (true≢false none)
+    at false e none others = behind x xs e (others none)
 
 number_spelled : (n : ℕ) → Fits n → SpellsNumber n (decimal n)
 number_spelled n fits = let is = decimal_is_IsNumeral n fits in record { digits = is.0; value = is.1; fits = fits }
@@ -458,7 +473,7 @@ entry_lines e o rest l m =
     ∙ ap (λ (ls : List (List ℕ)). l.body ∷ ls) (lines_behind (codes "#> " ++ text_of o) rest (marked_line (text_of o) m))
 
 says_run : (s : State) (events : List Event) → AllByRecursion HasLine events → AllByRecursion HasOutputLine (run s events) → Says (lines_of (run_text s events)) events (run s events)
-unfolding run_text
+unfolding run_entries
 says_run s [] all given = says_nothing
 says_run s (e ∷ events) all given =
     let o : Output = (step s e).0 in
@@ -475,31 +490,31 @@ host_apart : (h : List ℕ) → length h ≡ 4 → All (λ n. n < 256) h → (i 
 host_apart h four small i lt = number_apart (slice_index h i) (omega (arith, small i 0 (omega (arith, four, lt))))
 
 o_conns : IsWithout 10 (codes " --conns ")
-o_conns = behind 32 (codes "--conns ") refl (behind 45 (codes "-conns ") refl (behind 45 (codes "conns ") refl (behind 99 (codes "onns ") refl (behind 111 (codes "nns ") refl (behind 110 (codes "ns ") refl (behind 110 (codes "s ") refl (behind 115 (codes " ") refl (behind 32 ([]) refl nothing))))))))
+o_conns = apart (codes " --conns ") refl
 
 o_rows : IsWithout 10 (codes " --rows ")
-o_rows = behind 32 (codes "--rows ") refl (behind 45 (codes "-rows ") refl (behind 45 (codes "rows ") refl (behind 114 (codes "ows ") refl (behind 111 (codes "ws ") refl (behind 119 (codes "s ") refl (behind 115 (codes " ") refl (behind 32 ([]) refl nothing)))))))
+o_rows = apart (codes " --rows ") refl
 
 o_forwards : IsWithout 10 (codes " --forwards ")
-o_forwards = behind 32 (codes "--forwards ") refl (behind 45 (codes "-forwards ") refl (behind 45 (codes "forwards ") refl (behind 102 (codes "orwards ") refl (behind 111 (codes "rwards ") refl (behind 114 (codes "wards ") refl (behind 119 (codes "ards ") refl (behind 97 (codes "rds ") refl (behind 114 (codes "ds ") refl (behind 100 (codes "s ") refl (behind 115 (codes " ") refl (behind 32 ([]) refl nothing)))))))))))
+o_forwards = apart (codes " --forwards ") refl
 
 o_announce : IsWithout 10 (codes " --announce ")
-o_announce = behind 32 (codes "--announce ") refl (behind 45 (codes "-announce ") refl (behind 45 (codes "announce ") refl (behind 97 (codes "nnounce ") refl (behind 110 (codes "nounce ") refl (behind 110 (codes "ounce ") refl (behind 111 (codes "unce ") refl (behind 117 (codes "nce ") refl (behind 110 (codes "ce ") refl (behind 99 (codes "e ") refl (behind 101 (codes " ") refl (behind 32 ([]) refl nothing)))))))))))
+o_announce = apart (codes " --announce ") refl
 
 o_dot : IsWithout 10 (codes ".")
-o_dot = behind 46 ([]) refl nothing
+o_dot = apart (codes ".") refl
 
 o_port : IsWithout 10 (codes " --port ")
-o_port = behind 32 (codes "--port ") refl (behind 45 (codes "-port ") refl (behind 45 (codes "port ") refl (behind 112 (codes "ort ") refl (behind 111 (codes "rt ") refl (behind 114 (codes "t ") refl (behind 116 (codes " ") refl (behind 32 ([]) refl nothing)))))))
+o_port = apart (codes " --port ") refl
 
 o_xid : IsWithout 10 (codes " --xid ")
-o_xid = behind 32 (codes "--xid ") refl (behind 45 (codes "-xid ") refl (behind 45 (codes "xid ") refl (behind 120 (codes "id ") refl (behind 105 (codes "d ") refl (behind 100 (codes " ") refl (behind 32 ([]) refl nothing))))))
+o_xid = apart (codes " --xid ") refl
 
 o_now : IsWithout 10 (codes " --now ")
-o_now = behind 32 (codes "--now ") refl (behind 45 (codes "-now ") refl (behind 45 (codes "now ") refl (behind 110 (codes "ow ") refl (behind 111 (codes "w ") refl (behind 119 (codes " ") refl (behind 32 ([]) refl nothing))))))
+o_now = apart (codes " --now ") refl
 
 o_head : IsWithout 10 (codes "# rpcbind replay --check")
-o_head = behind 35 (codes " rpcbind replay --check") refl (behind 32 (codes "rpcbind replay --check") refl (behind 114 (codes "pcbind replay --check") refl (behind 112 (codes "cbind replay --check") refl (behind 99 (codes "bind replay --check") refl (behind 98 (codes "ind replay --check") refl (behind 105 (codes "nd replay --check") refl (behind 110 (codes "d replay --check") refl (behind 100 (codes " replay --check") refl (behind 32 (codes "replay --check") refl (behind 114 (codes "eplay --check") refl (behind 101 (codes "play --check") refl (behind 112 (codes "lay --check") refl (behind 108 (codes "ay --check") refl (behind 97 (codes "y --check") refl (behind 121 (codes " --check") refl (behind 32 (codes "--check") refl (behind 45 (codes "-check") refl (behind 45 (codes "check") refl (behind 99 (codes "heck") refl (behind 104 (codes "eck") refl (behind 101 (codes "ck") refl (behind 99 (codes "k") refl (behind 107 ([]) refl nothing)))))))))))))))))))))))
+o_head = apart (codes "# rpcbind replay --check") refl
 
 options_line : (limits : Limits) (listener : Listener) (first_xid now : ℕ) → Fits limits.conns → Fits limits.rows → Fits limits.forwards → IsPeer (record { host = listener.host; port = listener.port }) → Fits first_xid → Fits now → IsLine (options_text limits listener first_xid now)
 options_line limits listener first_xid now conns rows forwards peer xid_fits now_fits =
@@ -542,5 +557,59 @@ records_are_read limits listener first_xid now events conns rows forwards peer x
     (says_comment l.body (lines_of (run_text s events)) events (run s events) (options_skipped _) (options_quiet _) (says_run s events all given)) in
     record {
       events_are = (reads_the_events text events).1 (short, says.good, says.events_are);
+      outputs_are = says.outputs_are;
+    }
+
+-- ---- a record that ended
+
+says_first : (s : State) (events : List Event) (k : ℕ) (tail : List ℕ) → Says (lines_of tail) [] [] → AllByRecursion HasLine events → AllByRecursion HasOutputLine (run s events) → Says (lines_of (concat (take k (run_entries s events)) ++ tail)) (take k events) (run s (take k events))
+unfolding run_entries
+says_first s events zero tail end all given = end
+says_first s [] (suc k) tail end all given = end
+says_first s (e ∷ events) (suc k) tail end all given =
+    let o : Output = (step s e).0 in
+    let front : List ℕ = concat (take k (run_entries (step s e).1 events)) in
+    let l : IsEventLine e = event_line e all.0 in
+    let m : IsLine (text_of o) = output_line o given.0 in
+    subst (λ (ls : List (List ℕ)). Says ls (e ∷ take k events) (run s (e ∷ take k events)))
+    (sym (ap lines_of (append_assoc (entry_text e o) front tail) ∙ entry_lines e o (front ++ tail) l m))
+    (says_more l.body (codes "#> " ++ m.body) (lines_of (front ++ tail)) e o (take k events) (run (step s e).1 (take k events)) (line_of l.body e l.spelled) l.quiet (marked_skipped m.body)
+    (marked_said m.body ∙ ap (λ (t : List ℕ). t ∷ []) (sym m.whole)) (says_first (step s e).1 events k tail end all.1 given.1))
+
+abbrev ending_body : List ℕ
+ending_body = codes "# the limit of this record is reached: what follows is not in it"
+
+ending_line : IsLine ending
+ending_line = record { body = ending_body; whole = refl; apart = apart ending_body refl }
+
+ending_skipped : line ending_body ≡ Skipped
+ending_skipped = (skipped_say_nothing ending_body).1 (inr (codes " the limit of this record is reached: what follows is not in it", refl))
+
+ending_quiet : said_by ending_body ≡ []
+unfolding said_by
+ending_quiet = refl
+
+last_says : (last : List ℕ) → (last ≡ []) ⊎ (last ≡ ending) → Says (lines_of last) [] []
+unfolding ending_line
+last_says last (inl is) = subst (λ (t : List ℕ). Says (lines_of t) [] []) (sym is) says_nothing
+last_says last (inr is) =
+    subst (λ (t : List ℕ). Says (lines_of t) [] []) (sym is)
+    (subst (λ (ls : List (List ℕ)). Says ls [] []) (sym (lines_behind ending [] ending_line))
+    (says_comment ending_body (lines_of []) [] [] ending_skipped ending_quiet says_nothing))
+
+pub ended_records_are_read : EndedRecordsAreRead
+unfolding said printed options_line
+ended_records_are_read limits listener first_xid now events text k held count conns rows forwards peer xid_fits now_fits all given short =
+    let s : State = opening limits listener first_xid now in
+    let options : List ℕ = options_text limits listener first_xid now in
+    let front : List ℕ = concat (take k (run_entries s events)) in
+    let l : IsLine options = options_line limits listener first_xid now conns rows forwards peer xid_fits now_fits in
+    let is : text ≡ options ++ (front ++ held.last) =
+    held.is ∙ ap (λ (n : ℕ). concat (take n (options ∷ run_entries s events)) ++ held.last) count ∙ append_assoc options front held.last in
+    let says : Says (lines_of text) (take k events) (run s (take k events)) =
+    subst (λ (ls : List (List ℕ)). Says ls (take k events) (run s (take k events))) (sym (ap lines_of is ∙ lines_behind options (front ++ held.last) l))
+    (says_comment l.body (lines_of (front ++ held.last)) (take k events) (run s (take k events)) (options_skipped _) (options_quiet _) (says_first s events k held.last (last_says held.last held.last_is) all given)) in
+    record {
+      events_are = (reads_the_events text (take k events)).1 (short, says.good, says.events_are);
       outputs_are = says.outputs_are;
     }

@@ -1,5 +1,5 @@
 -- What was recorded of a run is read back as its events, and what it says of outputs is what they gave.
-use Rattle.std.specs.Prelude.{◌≡◌, ◌≤◌, ◌<◌, ℕ, ◌^◌, List, ◌++◌, length, Option, Some, None, Ok, All}
+use Rattle.std.specs.Prelude.{◌≡◌, ◌≤◌, ◌<◌, ℕ, suc, ◌^◌, List, ◌∷◌, ◌++◌, length, take, Option, Some, None, Ok, All}
 use Rattle.std.specs.List.{AllByRecursion}
 use Rattle.rb_rpc.specs.declared.peer.Peer.{Peer}
 use Rattle.rb_forward.specs.Forwards.{Unsent as UnsentCall}
@@ -9,7 +9,8 @@ use Rattle.rb_model.specs.State.{opening}
 use Rattle.rb_model.specs.Step.{Event, Output, run}
 use Rattle.rb_model.specs.Step.Event.{Datagram, Open, Bytes, Pending, Gave, Closed, NextLost, Unsent, Sent, Forward, Expire}
 use Rattle.rb_model.specs.Step.Output.{Opened, Took, TookAndClosed, LostIs, UnsentIs, ConnectionClosed, Ready, RepliedTo}
-use Rattle.rb_record.specs.Entries.{run_text, options_text}
+use Rattle.rb_record.specs.Entries.{run_entries, run_text, options_text}
+use Rattle.rb_record.specs.Tapes.{HasFirst}
 use Rattle.rb_lines.specs.Lines.{longest_input, read}
 use Rattle.rb_lines.specs.Checking.{said, printed}
 
@@ -74,3 +75,15 @@ RecordsAreRead =
     → AllByRecursion HasLine events → AllByRecursion HasOutputLine (run (opening limits listener first_xid now) events)
     → length (options_text limits listener first_xid now ++ run_text (opening limits listener first_xid now) events) ≤ longest_input
     → ReadsAs (options_text limits listener first_xid now ++ run_text (opening limits listener first_xid now) events) events (run (opening limits listener first_xid now) events)
+
+-- A record that ended, at its limit or at a fault of its file, has the options and the first k events, if it has any entry. It
+-- reads as these events, and says what they give.
+abbrev pub EndedRecordsAreRead : Type 0
+EndedRecordsAreRead =
+    (limits : Limits) (listener : Listener) (first_xid now : ℕ) (events : List Event) (text : List ℕ) (k : ℕ)
+    (held : HasFirst (options_text limits listener first_xid now ∷ run_entries (opening limits listener first_xid now) events) text)
+    → held.count ≡ suc k
+    → Fits limits.conns → Fits limits.rows → Fits limits.forwards → IsPeer (record { host = listener.host; port = listener.port }) → Fits first_xid → Fits now
+    → AllByRecursion HasLine events → AllByRecursion HasOutputLine (run (opening limits listener first_xid now) events)
+    → length text ≤ longest_input
+    → ReadsAs text (take k events) (run (opening limits listener first_xid now) (take k events))

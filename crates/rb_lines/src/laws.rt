@@ -1,6 +1,6 @@
 //! What holds of the definitions.
 ghost use Rattle.rb_lines.specs.LineGrammar.{EventsAreSpelled, SkippedSayNothing, BadSpellNothing, PeersAreSpelled};
-ghost use Rattle.rb_lines.specs.RecordLaws.{RecordsAreRead};
+ghost use Rattle.rb_lines.specs.RecordLaws.{RecordsAreRead, EndedRecordsAreRead};
 ghost use Rattle.rb_lines.specs.LineLaws.{ReadsTheEvents, StopsAtTheFirstBadLine, RefusesLongText};
 
 /// A text that is short enough reads as the events of its lines where none is bad, and is refused at its first bad
@@ -20,8 +20,9 @@ pub fn lines_are_of_the_grammar()
     ensures peers { PeersAreSpelled }
 {}
 
-/// What is recorded of a run from an opening is read as its events, and what it says of outputs is what they gave, where it
-/// is no longer than an input may be.
+/// What is recorded of a run from an opening is read as its events, and what it says of outputs is what they gave,
+/// where it is no longer than an input may be. A record that ended is read so as the first events, those that it has.
 pub fn records_are_read()
-    ensures { RecordsAreRead }
+    ensures whole { RecordsAreRead }
+    ensures ended { EndedRecordsAreRead }
 {}

@@ -1,2 +1,3 @@
 pub mod Prints
 pub mod RunTexts
+pub mod Tapes

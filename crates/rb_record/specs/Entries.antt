@@ -1,6 +1,7 @@
 -- Lines of events, as they are written, and what is written of a run.
 use Rattle.std.specs.Prelude.{ℕ, List, [], ◌∷◌, ◌++◌, slice_index, codes}
 use Rattle.std.specs.Fmt.{decimal}
+use Rattle.std.specs.List.{concat}
 use Rattle.rb_rpc.specs.Peers.{peer_text}
 use Rattle.rb_proto.specs.declared.listener.Listener.{Listener}
 use Rattle.rb_model.specs.declared.types.Limits.{Limits}
@@ -9,7 +10,9 @@ use Rattle.rb_model.specs.Step.{Event, Output, step}
 use Rattle.rb_model.specs.Step.Event.{Datagram, Open, Bytes, Pending, Gave, Closed, NextLost, Unsent, Sent, Forward, Expire}
 use Rattle.rb_record.specs.declared.happening.Happening.{Happening}
 use Rattle.rb_record.specs.declared.happening.Happening.TheVariants as happening
-use Rattle.rb_record.specs.Printing.{bytes_line, peer_line, text_of}
+use Rattle.rb_record.specs.declared.shown.Shown.{Shown}
+use Rattle.rb_record.specs.declared.entries.Start.{Start}
+use Rattle.rb_record.specs.Printing.{bytes_line, peer_line, text_of, shown_of}
 
 -- the line of an event
 abbrev pub event_text : Event → List ℕ
@@ -29,10 +32,14 @@ event_text (Expire now) = codes "expire " ++ (decimal now ++ codes "\n")
 abbrev pub entry_text : Event → Output → List ℕ
 entry_text event output = event_text event ++ (codes "#> " ++ text_of output)
 
--- what is written of a run: each event, with what it gives
-unfoldable pub run_text : State → List Event → List ℕ
-run_text s [] = []
-run_text s (event ∷ events) = entry_text event (step s event).0 ++ run_text (step s event).1 events
+-- what is written of a run, event by event, each with what it gives
+unfoldable pub run_entries : State → List Event → List (List ℕ)
+run_entries s [] = []
+run_entries s (event ∷ events) = entry_text event (step s event).0 ∷ run_entries (step s event).1 events
+
+-- the same as one text
+abbrev pub run_text : State → List Event → List ℕ
+run_text s events = concat (run_entries s events)
 
 abbrev pub limits_text : Limits → List ℕ
 limits_text limits =
@@ -65,3 +72,9 @@ event_of happening.Unsent = Unsent
 event_of (happening.Sent number) = Sent number
 event_of (happening.Forward now from bytes) = Forward now from bytes.now
 event_of (happening.Expire now) = Expire now
+
+abbrev pub entry_of : Happening → Shown → List ℕ
+entry_of event output = entry_text (event_of event) (shown_of output)
+
+abbrev pub options_of : Start → List ℕ
+options_of start = options_text start.limits start.listener start.first_xid start.moment

@@ -1,18 +1,56 @@
 -- What a tape holds.
-use Rattle.std.specs.Prelude.{◌≡◌, ℕ, Bool, true, false, List, ◌++◌, codes}
+use Rattle.std.specs.Prelude.{◌≡◌, ◌≤◌, ◌<◌, ◌+◌, nat_le, nat_lt, ℕ, Bool, true, false, List, [], ◌++◌, length, take, drop, codes, ◌⊎◌}
+use Rattle.std.specs.List.{concat}
 
--- all that was recorded, how many bytes of it the file has, and whether the recording goes on
+-- All that was recorded, how many bytes of it the file has, whether the recording goes on, and how many bytes there may be.
 pub record Tape : Type 0 where
   pub text : List ℕ
   pub written : ℕ
   pub is_on : Bool
+  pub limit : ℕ
+
+-- what the file has not got yet
+abbrev pub unwritten : Tape → List ℕ
+unwritten tape = drop tape.written tape.text
 
 -- the last line of a record that reached its limit
 abbrev pub ending : List ℕ
 ending = codes "# the limit of this record is reached: what follows is not in it\n"
 
--- Where the recording goes on, it went on before, and this is recorded behind what was. Where it had ended, all stays.
-pub record Records (text : List ℕ) (old new : Tape) : Type 0 where
+-- A new one: it records if there is room for more than the last line.
+abbrev pub empty_tape : ℕ → Tape
+empty_tape limit = record { text = []; written = 0; is_on = nat_lt (length ending) limit; limit = limit }
+
+-- Whether an entry can be recorded behind a text: the last line has to fit behind both.
+abbrev pub fits : ℕ → List ℕ → List ℕ → Bool
+fits limit text entry = nat_le (length text + length entry + length ending) limit
+
+-- Of these entries the first ones were recorded, whole, but not all; and behind them the last line.
+pub record EndsWithin (entries : List (List ℕ)) (old new : List ℕ) : Type 0 where
+  pub count : ℕ
+  pub some_are_left : count < length entries
+  pub text : new ≡ old ++ (concat (take count entries) ++ ending)
+
+-- Where the recording goes on, it went on before, and these entries are recorded behind what was. Where they reach the limit,
+-- it ends in front of the first that does not fit. Where it had ended, all stays.
+pub record Records (entries : List (List ℕ)) (old new : Tape) : Type 0 where
   pub on : new.is_on ≡ true → old.is_on ≡ true
-  pub grows : new.is_on ≡ true → new.text ≡ old.text ++ text
+  pub grows : new.is_on ≡ true → new.text ≡ old.text ++ concat entries
+  pub ends : old.is_on ≡ true → new.is_on ≡ false → EndsWithin entries old.text new.text
   pub stays : old.is_on ≡ false → new ≡ old
+  pub limit : new.limit ≡ old.limit
+  pub within : length new.text ≤ new.limit
+
+-- A text has the first of these entries, whole, and behind them nothing, or the last line.
+pub record HasFirst (entries : List (List ℕ)) (text : List ℕ) : Type 0 where
+  pub count : ℕ
+  pub are_there : count ≤ length entries
+  pub last : List ℕ
+  pub last_is : (last ≡ []) ⊎ (last ≡ ending)
+  pub is : text ≡ concat (take count entries) ++ last
+
+-- A tape is a record of these entries: it has all of them while the recording goes on, and the first ones in any case.
+pub record IsRecordOf (entries : List (List ℕ)) (tape : Tape) : Type 0 where
+  pub all : tape.is_on ≡ true → tape.text ≡ concat entries
+  pub first : HasFirst entries tape.text
+  pub within : length tape.text ≤ tape.limit

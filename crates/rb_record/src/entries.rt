@@ -1,7 +1,7 @@
 //! What a record is made of: the options of its replay, and events with what they gave.
 ghost use Rattle.std.specs.Prelude.{OnOk};
-ghost use Rattle.rb_record.specs.Printing.{shown_of, Writes};
-ghost use Rattle.rb_record.specs.Entries.{event_of, entry_text, limits_text, listener_text, options_text};
+ghost use Rattle.rb_record.specs.Printing.{Writes};
+ghost use Rattle.rb_record.specs.Entries.{entry_of, limits_text, listener_text, options_of};
 
 use crate::happening::{Happening, write_event};
 use crate::printing::write_output;
@@ -11,14 +11,28 @@ use rb_proto::Listener;
 use std::io;
 use std::io::Write;
 
-/// Writes the line of an event, and behind it the line of its output as a comment that begins with `#> `.
+/// What a run begins with.
+#[derive(Clone, Copy, Debug)]
+pub struct Start {
+    /// How many connections, rows and forwarded calls there may be.
+    pub limits: Limits,
+    /// Where the daemon listens: the host that answers show for 0.0.0.0, and the port.
+    pub listener: Listener,
+    /// The xid of the first forwarded call.
+    pub first_xid: u32,
+    /// The first moment, in milliseconds since the start of 1970.
+    pub moment: u64,
+}
+
+/// Writes an entry: the line of an event, and behind it the line of its output as a comment that begins with `#> `.
+/// An error where the writer fails; how much of the entry it has then is not known.
 pub fn write_entry<W: Write>(
     event: &Happening<'_>,
     output: &Shown<'_>,
     writer: &mut W,
 ) -> io::Result<()>
-    ensures { OnOk result (Writes W.contents writer.old writer.new
-        (entry_text (event_of event.now) (shown_of output.now))) }
+    ensures { OnOk result
+        (Writes W.contents writer.old writer.new (entry_of event.now output.now)) }
 {
     write_event(event, writer)?;
     writer.write_all(b"#> ")?;
@@ -50,19 +64,19 @@ fn write_listener<W: Write>(listener: &Listener, writer: &mut W) -> io::Result<(
     write!(writer, " --announce {a}.{b}.{c}.{d} --port {port}")
 }
 
-/// Writes a comment line: the command that checks a record of a run that begins so.
-pub fn write_options<W: Write>(
-    limits: &Limits,
-    listener: &Listener,
-    first_xid: u32,
-    now: u64,
-    writer: &mut W,
-) -> io::Result<()>
-    ensures { OnOk result (Writes W.contents writer.old writer.new
-        (options_text limits.now listener.now first_xid now)) }
+/// Writes a comment line: the command that checks a record of a run that begins so. An error where the writer fails;
+/// how much of the line it has then is not known.
+pub fn write_options<W: Write>(start: &Start, writer: &mut W) -> io::Result<()>
+    ensures { OnOk result (Writes W.contents writer.old writer.new (options_of start.now)) }
 {
+    let Start {
+        limits,
+        listener,
+        first_xid,
+        moment,
+    } = start;
     writer.write_all(b"# rpcbind replay --check")?;
     write_limits(limits, writer)?;
     write_listener(listener, writer)?;
-    writeln!(writer, " --xid {first_xid} --now {now}")
+    writeln!(writer, " --xid {first_xid} --now {moment}")
 }

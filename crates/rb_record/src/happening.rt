@@ -35,8 +35,8 @@ pub enum Happening<'a> {
     Expire(u64),
 }
 
-/// Writes the line of an event (docs/EVENTS.md). An error where the writer refuses, and then it is not told how much of
-/// the line went out.
+/// Writes the line of an event (docs/EVENTS.md). An error where the writer fails; how much of the line it has then is
+/// not known.
 pub fn write_event<W: Write>(event: &Happening<'_>, writer: &mut W) -> io::Result<()>
     ensures { OnOk result (Writes W.contents writer.old writer.new (event_text (event_of event.now))) }
 {

@@ -7,7 +7,7 @@ mod printing;
 mod shown;
 mod tape;
 
-pub use entries::{write_entry, write_options};
+pub use entries::{Start, write_entry, write_options};
 pub use happening::{Happening, write_event};
 pub use printing::write_output;
 pub use shown::{Shown, ShownCall, show};

@@ -6,11 +6,14 @@ ghost use Rattle.rb_record.specs.Printing.{shown_of};
 use rb_model::{CoreFault, Output};
 use rb_rpc::Peer;
 
-/// A forwarded call that is to be sent: its number, where it is sent, and the datagram.
+/// A forwarded call that is to be sent.
 #[derive(Clone, Copy, Debug)]
 pub struct ShownCall<'a> {
+    /// The number of the call.
     pub number: u64,
+    /// Where it is sent.
     pub target: Peer,
+    /// The datagram.
     pub call: &'a [u8],
 }
 
