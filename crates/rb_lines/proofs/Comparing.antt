@@ -1,5 +1,5 @@
 -- Output lines of a text, line by line, against those of a run.
-use Rattle.std.proofs.Common.{◌≡◌, ◌<◌, ◌≤◌, ◌+◌, ◌-◌, ℕ, Bool, true, List, [], ◌∷◌, ◌++◌, length, get_or, codes, take, drop, Option, Some, None, Result, Ok, Err, IfSome, arith, sym, ap, subst, ◌∙◌, append_assoc, append-nil, take-append-drop, inl, inr}
+use Rattle.std.proofs.Common.{◌≡◌, ◌<◌, ◌≤◌, ◌+◌, ◌-◌, ℕ, Bool, true, List, [], ◌∷◌, ◌++◌, length, get_or, codes, take, drop, Option, Some, None, Result, Ok, Err, IfSome, arith, sym, ap, subst, ◌∙◌, ◌⊎◌, append_assoc, append-nil, take-append-drop, inl, inr}
 use Rattle.std.specs.List.{flat_map}
 use Rattle.std.specs.Borrow.{Bor}
 use Rattle.std.specs.Prelude.{nat_eq, OnOk, IfOk, IfErr}
@@ -19,10 +19,10 @@ use Rattle.rb_lines.specs.declared.lines.ReadFault.TheVariants as reading
 use Rattle.rb_lines.specs.declared.running.Beginning.{Beginning}
 use Rattle.rb_lines.specs.declared.running.Fault.{Fault}
 use Rattle.rb_lines.specs.declared.running.Fault.TheVariants.{NotText, Lines, NoMemory, BadLimits, SocketFailed, ReadFailed, WriteFailed, NoOutputs, Differs, Lacks}
-use Rattle.rb_lines.specs.Lines.{read, lines_of, longest_input}
+use Rattle.rb_lines.specs.Lines.{read, lines_of, longest_input, Fails}
 use Rattle.rb_record.specs.Printing.{text_of}
-use Rattle.rb_lines.specs.Checking.{said_by, said, printed, IsFrontOf, IsFirstOther, Agrees, AgreesWith, IsUnlike, OfRun, CannotBeChecked, IsWrongWith, GoesOn, IsWrongAt, IsEnd}
-use Rattle.rb_lines.specs.Running.{status_of, IsRefused}
+use Rattle.rb_lines.specs.Checking.{said_by, said, printed, IsFrontOf, IsFirstOther, Agrees, AgreesWith, IsUnlike, OfRun, CannotBeChecked, IsWrongWith, IsLacking, IsWrongInput, GoesOn, IsWrongAt, IsEnd}
+use Rattle.rb_lines.specs.Running.{status_of, IsRead, IsRefused}
 use Rattle.rb_lines.proofs.Reading.{IsAt, read-take}
 
 -- what the lines up to this one say is what those before it say, and what it says
@@ -193,3 +193,37 @@ pub refused_as_read : (beginning : Beginning) (left : Option (List ℕ)) (text :
 refused_as_read beginning left text (Ok n) is h = tt
 refused_as_read beginning None text (Err fault) is h = λ two. tt
 refused_as_read beginning (Some input) text (Err fault) is h = λ two. cannot beginning input text fault is h two
+
+-- ---- why a check fails
+
+wrong_input : (beginning : Beginning) (input text : List ℕ) (fault : Fault) → text ≡ take (longest_input + 1) input → IsWrongWith beginning text fault → IsWrongInput beginning input fault
+wrong_input beginning input text NotText is wrong = wrong
+wrong_input beginning input text (Lines fault) is wrong = subst (λ (given : Result (List Event) ReadFault). Fails fault given) (ap read is ∙ read-take input) wrong
+wrong_input beginning input text NoMemory is wrong = tt
+wrong_input beginning input text BadLimits is wrong = (subst IsRead (ap read is ∙ read-take input) wrong.0, wrong.1)
+wrong_input beginning input text SocketFailed is wrong = wrong
+wrong_input beginning input text ReadFailed is wrong = tt
+wrong_input beginning input text WriteFailed is wrong = tt
+wrong_input beginning input text NoOutputs is wrong =
+    subst (λ (t : List ℕ). OfRun beginning (λ outputs. said t ≡ []) (read t)) (whole_where_read beginning input text (λ outputs. said text ≡ []) is wrong) wrong
+wrong_input beginning input text (Differs n) is wrong =
+    subst (λ (t : List ℕ). OfRun beginning (λ outputs. IsFirstOther t outputs n) (read t)) (whole_where_read beginning input text (λ outputs. IsFirstOther text outputs n) is wrong) wrong
+wrong_input beginning input text (Lacks n) is wrong =
+    subst (λ (t : List ℕ). OfRun beginning (λ outputs. IsLacking t outputs n) (read t)) (whole_where_read beginning input text (λ outputs. IsLacking text outputs n) is wrong) wrong
+
+pub why_as_read : (beginning : Beginning) (left : Option (List ℕ)) (text : List ℕ) (r : Result ℕ Fault) → IfSome left (λ input. text ≡ take (longest_input + 1) input) → IfErr r (IsWrongWith beginning text) → IfErr r (λ fault. IfSome left (λ input. IsWrongInput beginning input fault))
+why_as_read beginning left text (Ok n) is h = tt
+why_as_read beginning None text (Err fault) is h = tt
+why_as_read beginning (Some input) text (Err fault) is h = wrong_input beginning input text fault is h
+
+-- a fault that has nothing to do with the input
+unread : (beginning : Beginning) (left : Option (List ℕ)) (fault : Fault) → ((input : List ℕ) → IsWrongInput beginning input fault) → IfSome left (λ input. IsWrongInput beginning input fault)
+unread beginning None fault any = tt
+unread beginning (Some input) fault any = any input
+
+pub not_read : (beginning : Beginning) (left : Option (List ℕ)) (fault : Fault) → (fault ≡ NoMemory) ⊎ (fault ≡ ReadFailed) → IfSome left (λ input. IsWrongInput beginning input fault)
+not_read beginning left fault (inl is) = rw is (unread beginning left NoMemory (λ input. tt))
+not_read beginning left fault (inr is) = rw is (unread beginning left ReadFailed (λ input. tt))
+
+pub not_written : (beginning : Beginning) (left : Option (List ℕ)) (fault : Fault) → fault ≡ WriteFailed → IfSome left (λ input. IsWrongInput beginning input fault)
+not_written beginning left fault is = rw is (unread beginning left WriteFailed (λ input. tt))

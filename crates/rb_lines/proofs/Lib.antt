@@ -9,3 +9,4 @@ pub mod LineWords
 pub mod Comparing
 pub mod Recorded
 pub mod Binds
+pub mod Written

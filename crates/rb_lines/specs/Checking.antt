@@ -1,5 +1,5 @@
 -- What `rpcbind replay --check` says: whether an input's own output lines are those of the run of its events.
-use Rattle.std.specs.Prelude.{◌≡◌, ◌≤◌, ◌<◌, ◌⊎◌, ℕ, ◌+◌, if◌then◌else◌, List, [], ◌∷◌, ◌++◌, length, take, drop, map, codes, Option, Some, None, IfSome, Result, Ok, Err}
+use Rattle.std.specs.Prelude.{◌≡◌, ◌≢◌, ◌≤◌, ◌<◌, ◌⊎◌, ℕ, ◌+◌, if◌then◌else◌, List, [], ◌∷◌, ◌++◌, length, take, drop, map, codes, Option, Some, None, IfSome, Result, Ok, Err}
 use Rattle.std.specs.List.{flat_map}
 use Rattle.std.specs.Str.{bytes_eq}
 use Rattle.std.specs.Fmt.{decimal}
@@ -8,11 +8,12 @@ use Rattle.std.specs.declared.io.buffered.BufWriter.{BufWriter}
 use Rattle.rb_model.specs.Step.{Event, Output, run}
 use Rattle.rb_lines.specs.declared.lines.ReadFault.{ReadFault}
 use Rattle.rb_lines.specs.declared.running.Beginning.{Beginning}
+use Rattle.rb_lines.specs.declared.running.Ending.{Ending}
 use Rattle.rb_lines.specs.declared.running.Fault.{Fault}
 use Rattle.rb_lines.specs.declared.running.Fault.TheVariants.{NotText, Lines, NoMemory, BadLimits, SocketFailed, ReadFailed, WriteFailed, NoOutputs, Differs, Lacks}
 use Rattle.rb_lines.specs.Lines.{lines_of, read, Fails}
 use Rattle.rb_record.specs.Printing.{text_of}
-use Rattle.rb_lines.specs.Running.{first, IsCoreFault, IsRead, IsRefused, BufWrites}
+use Rattle.rb_lines.specs.Running.{first, status_of, IsCoreFault, IsRead, IsRefused, BufWrites, EndsBy}
 
 -- ---- what an input says of outputs
 
@@ -105,6 +106,28 @@ IsWrongWith beginning text WriteFailed = ⊥
 IsWrongWith beginning text NoOutputs = OfRun beginning (λ outputs. said text ≡ []) (read text)
 IsWrongWith beginning text (Differs n) = OfRun beginning (λ outputs. IsFirstOther text outputs n) (read text)
 IsWrongWith beginning text (Lacks n) = OfRun beginning (λ outputs. IsLacking text outputs n) (read text)
+
+-- What may be wrong with an input that is checked; reading, writing and memory may fail too.
+abbrev pub IsWrongInput : Beginning → List ℕ → Fault → Type 0
+IsWrongInput beginning input NoMemory = Unit {0}
+IsWrongInput beginning input ReadFailed = Unit {0}
+IsWrongInput beginning input WriteFailed = Unit {0}
+IsWrongInput beginning input fault = IsWrongWith beginning input fault
+
+-- Where the bytes that a reader has left are known, the fault is what is wrong with them.
+abbrev pub IsWhy : {R : Type 0} → Beginning → (R → Option (List ℕ)) → R → Fault → Type 0
+IsWhy beginning remaining reader fault =
+    IfSome (remaining reader) (λ input. IsWrongInput beginning input fault)
+
+-- Where nothing is to be compared, the input is no event lines or has no output lines.
+abbrev pub RefusesCheck : {R : Type 0} → (R → Option (List ℕ)) → R → Fault → Type 0
+RefusesCheck remaining reader fault = status_of fault ≡ 2 → IfSome (remaining reader) CannotBeChecked
+
+-- A check that does not end well ends by such a fault.
+abbrev pub ExplainsCheck : {R E : Type 0} → Beginning → (R → Option (List ℕ)) → R
+    → (E → Option (List ℕ)) → E → E → Ending → Type 0
+ExplainsCheck beginning remaining reader contents old new result =
+    result.status ≢ 0 → EndsBy (IsWhy beginning remaining reader) beginning.limits contents old new result
 
 -- ---- as the code has them
 

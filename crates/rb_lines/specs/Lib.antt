@@ -1,6 +1,7 @@
 pub mod Fields
 pub mod Lines
 pub mod Printing
+pub mod Limits
 pub mod Running
 pub mod Worked
 pub mod LineLaws

@@ -1,5 +1,5 @@
 -- What `rpcbind replay` does with its input.
-use Rattle.std.specs.Prelude.{◌≡◌, ◌≤◌, ℕ, ◌+◌, ◌++◌, not, true, IsTrue, List, [], take, codes, Option, IfSome, Result, Ok, Err}
+use Rattle.std.specs.Prelude.{◌≡◌, ◌≢◌, ◌≤◌, ℕ, ◌+◌, ◌++◌, not, Bool, true, IsTrue, List, [], take, codes, Option, Some, None, IfSome, IfOk, Result, Ok, Err}
 use Rattle.std.specs.Fmt.{decimal}
 use Rattle.std.specs.Io.Buffered.{writer_contents}
 use Rattle.std.specs.declared.io.buffered.BufWriter.{BufWriter}
@@ -8,15 +8,19 @@ use Rattle.rb_model.specs.declared.types.Limits.{Limits}
 use Rattle.rb_model.specs.Step.{Event, run, IsReached}
 use Rattle.rb_model.specs.Plain.{outputs_of}
 use Rattle.rb_core.specs.Events.{bound_shown}
+use Rattle.rb_core.specs.StandsFor.{Held, StandsFor}
 use Rattle.rb_lines.specs.declared.lines.ReadFault.{ReadFault}
 use Rattle.rb_lines.specs.declared.lines.ReadFault.TheVariants as reading
 use Rattle.rb_lines.specs.declared.running.Beginning.{Beginning}
 use Rattle.rb_lines.specs.declared.running.Fault.{Fault}
 use Rattle.rb_lines.specs.declared.running.Ran.{Ran}
+use Rattle.rb_lines.specs.declared.running.Ending.{Ending}
+use Rattle.rb_lines.specs.declared.limits.BadLimit.{BadLimit}
+use Rattle.rb_lines.specs.Limits.{bad_limit, limit_text}
 use Rattle.rb_lines.specs.declared.running.Fault.TheVariants.{NotText, Lines, NoMemory, BadLimits, SocketFailed, ReadFailed, WriteFailed, NoOutputs, Differs, Lacks}
 use Rattle.rb_lines.specs.Lines.{longest_input, read, Fails}
 use Rattle.rb_record.specs.Printing.{Writes}
-use Rattle.rb_lines.specs.Printing.{report_of, ending}
+use Rattle.rb_lines.specs.Printing.{report_of, report, ending}
 
 -- the core with which a replay begins
 abbrev pub first : Beginning → State
@@ -59,6 +63,31 @@ fault_line WriteFailed = codes "rpcbind: write failed\n"
 fault_line NoOutputs = codes "rpcbind: no output lines\n"
 fault_line (Differs n) = codes "rpcbind: line " ++ (decimal n ++ codes ": the run gives another output\n")
 fault_line (Lacks n) = codes "rpcbind: output " ++ (decimal n ++ codes " of the run has no line\n")
+
+-- the line of a limit that is out of its range, where one is
+abbrev pub limit_line : Option BadLimit → List ℕ
+limit_line None = []
+limit_line (Some bad) = codes "rpcbind: " ++ (limit_text bad ++ codes "\n")
+
+-- what stands in front of the line of a fault: of bad limits, the first that is out of its range
+abbrev pub lines_before : Limits → Fault → List ℕ
+lines_before limits BadLimits = limit_line (bad_limit limits)
+lines_before limits other = []
+
+-- the lines of a fault of a run with these limits
+abbrev pub fault_lines : Limits → Fault → List ℕ
+fault_lines limits fault = lines_before limits fault ++ fault_line fault
+
+-- Where all that there is to tell was written, it is this.
+abbrev pub Tells : {E : Type 0} → (E → Option (List ℕ)) → E → E → Ending → List ℕ → Type 0
+Tells contents old new ending text = ending.is_told ≡ true → Writes contents old new text
+
+-- A command ends by a fault of which this holds, with its status, and tells its lines.
+pub record EndsBy {E : Type 0} (IsWhy : Fault → Type 0) (limits : Limits) (contents : E → Option (List ℕ)) (old new : E) (ending : Ending) : Type 0 where
+  pub fault : Fault
+  pub why : IsWhy fault
+  pub status : ending.status ≡ status_of fault
+  pub told : Tells contents old new ending (fault_lines limits fault)
 
 -- the text is event lines
 abbrev pub IsRead : Result (List Event) ReadFault → Type 0
@@ -104,6 +133,15 @@ pub record IsRunFrom (limits : Limits) (events : List Event) (s : State) (ran : 
   pub outputs : outputs_of ran.outputs.items ≡ run s events
   pub bound : ran.bound ≡ bound_shown limits events (run s events)
 
+-- what is printed of it, with its steps or without
+abbrev pub ran_text : Ran → Bool → List ℕ
+ran_text ran shows_steps = report ran.outputs.items ++ ending shows_steps ran.steps ran.bound
+
+-- The run from such a state, which the core stands for.
+abbrev pub RunsFrom : Limits → List Event → Held → Result Ran Fault → Type 0
+RunsFrom limits events core result =
+    (s : State) → StandsFor core s → IfOk result (IsRunFrom limits events s)
+
 abbrev pub KeepsBound : Ran → Type 0
 KeepsBound ran = ran.steps ≤ ran.bound
 
@@ -135,3 +173,9 @@ IsEnoughOf left text = IfSome left (λ input. text ≡ take (longest_input + 1) 
 abbrev pub Refuses : {R : Type 0} → Beginning → (R → Option (List ℕ)) → R → Fault → Type 0
 Refuses beginning remaining reader fault =
     status_of fault ≡ 2 → Reads remaining reader (IsFaultOf beginning fault)
+
+-- A replay that does not end well ends by a fault, which is what is wrong with the input where nothing was run.
+abbrev pub Explains : {R E : Type 0} → Beginning → (R → Option (List ℕ)) → R
+    → (E → Option (List ℕ)) → E → E → Ending → Type 0
+Explains beginning remaining reader contents old new result =
+    result.status ≢ 0 → EndsBy (Refuses beginning remaining reader) beginning.limits contents old new result

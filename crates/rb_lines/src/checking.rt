@@ -6,12 +6,12 @@ ghost use Rattle.rb_model.specs.State.{are_good};
 ghost use Rattle.rb_model.specs.Plain.{output_of, outputs_of};
 ghost use Rattle.rb_lines.specs.Lines.{read};
 ghost use Rattle.rb_record.specs.Printing.{text_of};
-ghost use Rattle.rb_lines.specs.Running.{status_of, BufWrites};
-ghost use Rattle.rb_lines.specs.Checking.{said_by, said_of, printed, agreement, Agrees, AgreesWith, IsUnlike, OfRun, IsAgreed, FindsAgreed, CannotBeChecked, IsWrongWith, GoesOn, IsWrongAt, IsEnd};
+ghost use Rattle.rb_lines.specs.Running.{BufWrites};
+ghost use Rattle.rb_lines.specs.Checking.{said_by, said_of, printed, agreement, Agrees, AgreesWith, IsUnlike, OfRun, IsAgreed, FindsAgreed, CannotBeChecked, IsWrongWith, GoesOn, IsWrongAt, IsEnd, IsWhy, RefusesCheck, ExplainsCheck};
 
 use crate::lines::read_events;
 use crate::printing::{WriteFailed, print_output};
-use crate::running::{Beginning, Fault, explain_run, read_input, run_from};
+use crate::running::{Beginning, DONE, Ending, Fault, explain_run, read_input, run_from};
 use rb_core::Output;
 use std::alloc::Global;
 use std::io::{BufWriter, Read, Write};
@@ -75,7 +75,8 @@ fn compare_line(
     Ok(())
 }
 
-/// What is said where the output lines of a text are those of so many outputs from the first, of so many that there are.
+/// What is said where the output lines of a text are those of so many outputs from the first, of so many that there
+/// are.
 fn end_of(found: usize, count: usize) -> Result<(), Fault>
     ensures ok { OnOk result ((count ≤ found) × (0 < found)) }
     ensures err { IfErr result (IsEnd found count) }
@@ -105,9 +106,9 @@ fn compare(alloc: Global, text: &[u8], outputs: &[Output]) -> Result<(), Fault>
 }
 
 /// Runs the events of a text, and compares what they give with the output lines of the text. The answer is how many
-/// outputs there are, all of which agree. `NoOutputs` where the text has no output lines, `Differs` with the number of
-/// the first line that says another output than the run gives there, and `Lacks` with the number of the first output
-/// for which the text has no line, each counted from 1; `Lines` and `BadLimits` as where it is replayed.
+/// outputs there are, all of which agree. `NoOutputs` where the text has no output lines, `Differs` with the number
+/// of the first line that says another output than the run gives there, and `Lacks` with the number of the first
+/// output for which the text has no line, each counted from 1; `Lines` and `BadLimits` as where it is replayed.
 pub fn check_text(alloc: Global, beginning: &Beginning, text: &[u8]) -> Result<usize, Fault>
     ensures ok { IfOk result (λ n. OfRun beginning.now (AgreesWith text.now n) (read text.now)) }
     ensures good { OnOk result (IsTrue (are_good beginning.now.limits)) }
@@ -126,10 +127,13 @@ pub fn check_text(alloc: Global, beginning: &Beginning, text: &[u8]) -> Result<u
 fn check_all<R: Read>(alloc: Global, beginning: &Beginning, reader: &mut R) -> Result<usize, Fault>
     ensures ok { IfOk result (λ n. IsAgreed beginning.now R.remaining reader.old n) }
     ensures good { OnOk result (IsTrue (are_good beginning.now.limits)) }
-    ensures refused { IfErr result (λ fault. status_of fault ≡ 2
-        → IfSome (R.remaining reader.old) CannotBeChecked) }
+    ensures refused { IfErr result (RefusesCheck R.remaining reader.old) }
+    ensures why { IfErr result (IsWhy beginning.now R.remaining reader.old) }
 {
-    let text = read_input(alloc, reader)?;
+    let text = match read_input(alloc, reader) {
+        Ok(text) => text,
+        Err(fault) => return Err(fault),
+    };
     check_text(alloc, beginning, &text)
 }
 
@@ -145,34 +149,36 @@ fn put_agreement<W: Write + Drop>(count: usize, out: &mut BufWriter<W>) -> Resul
     Ok(())
 }
 
-/// Runs the command `replay --check`: it reads event lines to the end, makes a core, runs their events on it, and compares
-/// what each gives with the output lines of the input, which begin with `#> `. The answer is the exit status.
+/// Runs the command `replay --check`: it reads event lines to the end, makes a core, runs their events on it, and
+/// compares what each gives with the output lines of the input, which begin with `#> `.
 ///
-/// 0 says that all agree, and so does the one line that is written to `out`. 2 says that the input is no event lines or
-/// has no output lines. 1 says that an output differs or has no line, that the limits are out of their ranges, or that
-/// reading, writing or memory failed. What is wrong is written to `faults`; at 0 nothing is.
+/// Status 0 says that all agree, and so does the one line that is written to `out`. 2 says that the input is no event
+/// lines or has no output lines. 1 says that an output differs or has no line, that the limits are out of their
+/// ranges, or that reading, writing or memory failed. What is wrong is written to `faults`; at 0 nothing is.
 pub fn run_check<R: Read, W: Write + Drop, E: Write>(
     alloc: Global,
     beginning: &Beginning,
     reader: &mut R,
     out: &mut BufWriter<W>,
     faults: &mut E,
-) -> u8
-    ensures status { result ≤ 2 }
-    ensures ok { result ≡ 0
+) -> Ending
+    ensures status { result.status ≤ 2 }
+    ensures ok { result.status ≡ 0
         → FindsAgreed beginning.now R.remaining reader.old W.contents out.old out.new }
-    ensures good { result ≡ 0 → IsTrue (are_good beginning.now.limits) }
-    ensures flushed { result ≡ 0 → writer_buffer out.new ≡ [] }
-    ensures quiet { result ≡ 0 → faults.new ≡ faults.old }
-    ensures refused { result ≡ 2 → IfSome (R.remaining reader.old) CannotBeChecked }
-    ensures unwritten { result ≡ 2 → out.new ≡ out.old }
+    ensures good { result.status ≡ 0 → IsTrue (are_good beginning.now.limits) }
+    ensures flushed { result.status ≡ 0 → writer_buffer out.new ≡ [] }
+    ensures quiet { result.status ≡ 0 → faults.new ≡ faults.old }
+    ensures refused { result.status ≡ 2 → IfSome (R.remaining reader.old) CannotBeChecked }
+    ensures unwritten { result.status ≡ 2 → out.new ≡ out.old }
+    ensures told { ExplainsCheck
+        beginning.now R.remaining reader.old E.contents faults.old faults.new result }
 {
     let count = match check_all(alloc, beginning, reader) {
         Ok(count) => count,
         Err(fault) => return explain_run(fault, &beginning.limits, faults),
     };
     match put_agreement(count, out) {
-        Ok(()) => 0,
+        Ok(()) => DONE,
         Err(fault) => explain_run(fault, &beginning.limits, faults),
     }
 }

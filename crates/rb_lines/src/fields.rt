@@ -67,6 +67,7 @@ fn plain(text: &[u8], limit: u64) -> Option<u64>
     if n < limit { Some(n) } else { None }
 }
 
+/// A host as `h1.h2.h3.h4`, in decimal without leading zeros.
 #[tactic(auto, unfolding(crate::specs::Fields::host))]
 pub(crate) fn host(text: &[u8]) -> Option<[u8; 4]>
     ensures { result ≡ host text.now }

@@ -17,7 +17,7 @@ pub use laws::{lines_are_of_the_grammar, records_are_read, text_reads_as_its_lin
 pub use limits::{BadLimit, bad_limit};
 pub use lines::{ReadFault, read_events};
 pub use options::{ReplayTexts, Valued, read_beginning};
-pub use running::{Beginning, Fault, explain, run_replay};
+pub use running::{Beginning, Ending, Fault, explain, explain_run, run_replay};
 pub use serving::{
     MOST_HOSTS, Record, ServeFault, ServeTexts, Service, read_service, serve_default,
 };

@@ -24,8 +24,10 @@ pub enum ReadFault {
     /// The number of the first line that is no event line, from 1. Every line counts.
     #[error("line {0}: bad event")]
     BadLine(usize),
+    /// The text has over 16,777,216 bytes.
     #[error("input too long")]
     TooLong,
+    /// An allocation was refused.
     #[error("no memory")]
     NoMemory,
 }

@@ -10,18 +10,29 @@ use rb_core::{Limits, Listener};
 /// An option that has a value.
 #[derive(Clone, Copy, Debug, PartialEq, Eq)]
 pub enum Valued {
+    /// `--announce HOST`
     Announce,
     /// The value of `--bind` at this place, from 0. None may stand at place 16.
     Bind(usize),
+    /// `--local PATH`
     Local,
+    /// `--local-mode MODE`
     LocalMode,
+    /// `--conns N`
     Conns,
+    /// `--rows N`
     Rows,
+    /// `--forwards N`
     Forwards,
+    /// `--port N`
     Port,
+    /// `--xid N`
     Xid,
+    /// `--now MS`
     Now,
+    /// `--turns N`
     Turns,
+    /// `--record-limit N`
     RecordLimit,
 }
 
@@ -30,8 +41,11 @@ pub enum Valued {
 pub struct ReplayTexts<'a> {
     /// The listener's host, in dotted decimal form without leading zeros.
     pub announce: &'a str,
+    /// A number of 64 bits, as the next two; which of them are good limits is for the core.
     pub conns: &'a str,
+    /// The most rows.
     pub rows: &'a str,
+    /// The most forwarded calls at a time.
     pub forwards: &'a str,
     /// From 1 to 65535.
     pub port: &'a str,
@@ -39,6 +53,7 @@ pub struct ReplayTexts<'a> {
     pub xid: &'a str,
     /// The first moment, in milliseconds since the start of 1970.
     pub moment: &'a str,
+    /// Whether `--steps` is given.
     pub steps: bool,
 }
 

@@ -9,13 +9,12 @@ use rb_record::{show, write_output};
 use std::io::Write;
 use thiserror::Error;
 
-/// The writer refused. How much of a line went out is not known.
+/// The writer failed. How much of a line it has is not known.
 #[derive(Clone, Copy, Debug, Drop, Error, PartialEq, Eq)]
 #[error("write failed")]
 pub struct WriteFailed;
 
-/// Writes the line of an output. `WriteFailed` where the writer refuses, and then it is not told how much of the
-/// line went out.
+/// Writes the line of an output. `WriteFailed` where the writer fails; how much of the line it has then is not known.
 pub fn print_output<W: Write>(output: &Output, writer: &mut W) -> Result<(), WriteFailed>
     ensures { OnOk result (Writes W.contents writer.old writer.new (text_of (output_of output.now))) }
 {
@@ -39,7 +38,7 @@ pub(crate) fn print_steps<W: Write>(
     }
 }
 
-/// Writes the lines of the outputs.
+/// Writes the lines of the outputs, in their order. `WriteFailed` as of one.
 pub fn print_outputs<W: Write>(outputs: &[Output], writer: &mut W) -> Result<(), WriteFailed>
     ensures { OnOk result (Writes W.contents writer.old writer.new (report outputs.now)) }
 {

@@ -8,9 +8,9 @@ ghost use Rattle.rb_core.specs.Events.{shown};
 ghost use Rattle.rb_lines.specs.Lines.{read};
 ghost use Rattle.rb_record.specs.Printing.{Writes};
 ghost use Rattle.rb_lines.specs.Printing.{report, ending};
-ghost use Rattle.rb_lines.specs.Running.{first, IsFresh, IsRunFrom, KeepsBound, status_of, BufWrites, IsEnoughOf, IsFaultOf, IsCoreFault, IsRefused, Prints, Reads, Replays, Refuses, fault_line};
+ghost use Rattle.rb_lines.specs.Running.{first, IsFresh, IsRunFrom, KeepsBound, status_of, BufWrites, IsEnoughOf, IsFaultOf, IsCoreFault, IsRefused, Prints, Reads, Replays, Refuses, RunsFrom, ran_text, Tells, Explains, fault_line, limit_line, lines_before, fault_lines};
 
-use crate::limits::bad_limit;
+use crate::limits::{BadLimit, bad_limit};
 use crate::lines::{ReadFault, longest_input, read_events};
 use crate::printing::{WriteFailed, print_outputs, print_steps};
 use rb_core::{Core, CoreFault, Event, Limits, Listener, Output, replay, whole_bound};
@@ -22,13 +22,15 @@ use std::io::{BufWriter, Read, Write};
 /// What the core of a replay begins with.
 #[derive(Clone, Copy, Debug, PartialEq, Eq)]
 pub struct Beginning {
+    /// How many connections, rows and forwarded calls there may be.
     pub limits: Limits,
+    /// The host that answers show for 0.0.0.0, and the port.
     pub listener: Listener,
     /// The number of the first forwarded call.
     pub first_xid: u32,
     /// The first moment, in milliseconds since the start of 1970.
     pub moment: u64,
-    /// Whether the last line tells how many steps were taken.
+    /// Whether a last line has how many steps were taken, and how many may be.
     pub steps: bool,
 }
 
@@ -37,11 +39,17 @@ pub struct Beginning {
 pub enum Fault {
     /// A word of the command line is no text.
     NotText,
+    /// The input is no event lines, or there was no memory for them.
     Lines(ReadFault),
+    /// An allocation was refused.
     NoMemory,
+    /// A limit is out of its range.
     BadLimits,
+    /// A step with a socket, the wait for events or the clock failed.
     SocketFailed,
+    /// The input could not be read.
     ReadFailed,
+    /// The output, or the file of a record, could not be written.
     WriteFailed,
     /// An input that is to be checked has no output lines.
     NoOutputs,
@@ -74,6 +82,21 @@ impl Fault {
         }
     }
 }
+
+/// How a command ended.
+#[derive(Clone, Copy, Debug, PartialEq, Eq)]
+pub struct Ending {
+    /// The exit status: 0, 1 or 2.
+    pub status: u8,
+    /// Whether all that there is to tell was written to the error output, to the last byte.
+    pub is_told: bool,
+}
+
+/// It ended well, and there is nothing to tell.
+pub(crate) const DONE: Ending = Ending {
+    status: 0,
+    is_told: true,
+};
 
 /// The first bytes of what the reader has left: as many as an input may have, and one more.
 pub(crate) fn read_input<R: Read>(alloc: Global, reader: &mut R) -> Result<Vec<u8>, Fault>
@@ -127,8 +150,7 @@ fn run_on(
     meter: &mut Meter,
 ) -> Result<Ran, Fault>
     requires { meter.old.tie ≡ core.old.tie }
-    ensures ok { (s : State) → StandsFor core.old s
-        → IfOk result (IsRunFrom limits.now (events_of events.now) s) }
+    ensures ok { RunsFrom limits.now (events_of events.now) core.old result }
     ensures steps { IfOk result (λ ran. ran.steps ≡ shown meter.new - shown meter.old) }
     ensures within { (s : State) → StandsFor core.old s → IsFresh limits.now s
         → IfOk result KeepsBound }
@@ -169,8 +191,8 @@ fn put_ran<W: Write + Drop>(
     shows_steps: bool,
     out: &mut BufWriter<W>,
 ) -> Result<(), WriteFailed>
-    ensures ok { OnOk result (BufWrites W.contents out.old out.new
-        (report ran.now.outputs.items ++ ending shows_steps ran.now.steps ran.now.bound)) }
+    ensures ok { OnOk result
+        (BufWrites W.contents out.old out.new (ran_text ran.now shows_steps)) }
     ensures flushed { OnOk result (writer_buffer out.new ≡ []) }
 {
     print_outputs(&ran.outputs, out)?;
@@ -226,43 +248,85 @@ fn replay_all<R: Read, W: Write + Drop>(
     replay_text(alloc, beginning, &text, out)
 }
 
-/// Runs the command `replay`: it reads event lines to the end, makes a core, runs their events on it and writes a line
-/// for each. The answer is the exit status.
+/// Runs the command `replay`: it reads event lines to the end, makes a core, runs their events on it and writes a
+/// line for each.
 ///
-/// 0 says that all went well and that the writer's buffer was written out. 2 says that the input is no event lines,
-/// and nothing was run or written, whatever the limits are. 1 says that the limits are out of their ranges, or that
-/// reading, writing or memory failed. What is wrong is written to `faults`; at 0 nothing is.
+/// Status 0 says that all went well and that the writer's buffer was written out. 2 says that the input is no event
+/// lines, and nothing was run or written, whatever the limits are. 1 says that the limits are out of their ranges, or
+/// that reading, writing or memory failed. What is wrong is written to `faults`; at 0 nothing is.
 pub fn run_replay<R: Read, W: Write + Drop, E: Write>(
     alloc: Global,
     beginning: &Beginning,
     reader: &mut R,
     out: &mut BufWriter<W>,
     faults: &mut E,
-) -> u8
-    ensures status { result ≤ 2 }
-    ensures ok { result ≡ 0
+) -> Ending
+    ensures status { result.status ≤ 2 }
+    ensures ok { result.status ≡ 0
         → Replays beginning.now R.remaining reader.old W.contents out.old out.new }
-    ensures good { result ≡ 0 → IsTrue (are_good beginning.now.limits) }
-    ensures flushed { result ≡ 0 → writer_buffer out.new ≡ [] }
-    ensures quiet { result ≡ 0 → faults.new ≡ faults.old }
-    ensures refused { result ≡ 2 → Reads R.remaining reader.old IsRefused }
-    ensures unwritten { result ≡ 2 → out.new ≡ out.old }
+    ensures good { result.status ≡ 0 → IsTrue (are_good beginning.now.limits) }
+    ensures flushed { result.status ≡ 0 → writer_buffer out.new ≡ [] }
+    ensures quiet { result.status ≡ 0 → faults.new ≡ faults.old }
+    ensures refused { result.status ≡ 2 → Reads R.remaining reader.old IsRefused }
+    ensures unwritten { result.status ≡ 2 → out.new ≡ out.old }
+    ensures told { Explains
+        beginning.now R.remaining reader.old E.contents faults.old faults.new result }
 {
     match replay_all(alloc, beginning, reader, out) {
-        Ok(()) => 0,
+        Ok(()) => DONE,
         Err(fault) => explain_run(fault, &beginning.limits, faults),
     }
 }
 
-/// Writes what is wrong, where that can be written, and gives the status. In front of bad limits it names the first that is
-/// out of its range.
-pub(crate) fn explain_run<E: Write>(fault: Fault, limits: &Limits, faults: &mut E) -> u8
-    ensures { result ≡ status_of fault }
+/// Writes in front of bad limits the first that is out of its range.
+#[tactic(auto, using(crate::proofs::Written::nothing))]
+fn write_before<E: Write>(fault: Fault, limits: &Limits, faults: &mut E) -> io::Result<()>
+    ensures { OnOk result
+        (Writes E.contents faults.old faults.new (lines_before limits.now fault)) }
 {
-    if let (Fault::BadLimits, Some(bad)) = (fault, bad_limit(limits)) {
-        let _ = writeln!(faults, "rpcbind: {bad}");
+    match fault {
+        Fault::BadLimits => write_limit(bad_limit(limits), faults),
+        Fault::NotText
+        | Fault::Lines(_)
+        | Fault::NoMemory
+        | Fault::SocketFailed
+        | Fault::ReadFailed
+        | Fault::WriteFailed
+        | Fault::NoOutputs
+        | Fault::Differs(_)
+        | Fault::Lacks(_) => Ok(()),
     }
-    explain(fault, faults)
+}
+
+#[tactic(auto, using(crate::proofs::Written::nothing))]
+fn write_limit<E: Write>(bad: Option<BadLimit>, faults: &mut E) -> io::Result<()>
+    ensures { OnOk result (Writes E.contents faults.old faults.new (limit_line bad)) }
+{
+    match bad {
+        Some(bad) => writeln!(faults, "rpcbind: {bad}"),
+        None => Ok(()),
+    }
+}
+
+fn write_fault_lines<E: Write>(fault: Fault, limits: &Limits, faults: &mut E) -> io::Result<()>
+    ensures { OnOk result
+        (Writes E.contents faults.old faults.new (fault_lines limits.now fault)) }
+{
+    write_before(fault, limits, faults)?;
+    write_fault(fault, faults)
+}
+
+/// Ends a run with these limits by a fault. In front of the line of bad limits stands one that names the first that
+/// is out of its range.
+pub fn explain_run<E: Write>(fault: Fault, limits: &Limits, faults: &mut E) -> Ending
+    ensures status { result.status ≡ status_of fault }
+    ensures told { Tells E.contents faults.old faults.new result (fault_lines limits.now fault) }
+{
+    let is_told = write_fault_lines(fault, limits, faults).is_ok();
+    Ending {
+        status: fault.status(),
+        is_told,
+    }
 }
 
 /// Writes the line of a fault, with its end.
@@ -286,10 +350,14 @@ fn write_fault<E: Write>(fault: Fault, faults: &mut E) -> io::Result<()>
     }
 }
 
-/// Writes what is wrong, where that can be written, and gives the status.
-pub fn explain<E: Write>(fault: Fault, faults: &mut E) -> u8
-    ensures { result ≡ status_of fault }
+/// Ends by a fault: its line is written, where that can be.
+pub fn explain<E: Write>(fault: Fault, faults: &mut E) -> Ending
+    ensures status { result.status ≡ status_of fault }
+    ensures told { Tells E.contents faults.old faults.new result (fault_line fault) }
 {
-    let _ = write_fault(fault, faults);
-    fault.status()
+    let is_told = write_fault(fault, faults).is_ok();
+    Ending {
+        status: fault.status(),
+        is_told,
+    }
 }

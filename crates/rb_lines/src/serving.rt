@@ -22,6 +22,7 @@ pub struct ServeTexts<'m, 'a> {
     pub announce: Option<&'a str>,
     /// At most 16 such addresses.
     pub bind: &'m [&'a str],
+    /// Whether `--loopback6` is given.
     pub loopback6: bool,
     /// A path of 1 to 107 bytes.
     pub local: Option<&'a str>,
@@ -29,9 +30,13 @@ pub struct ServeTexts<'m, 'a> {
     pub local_mode: &'a str,
     /// From 1 to 65535.
     pub port: &'a str,
+    /// A number of 64 bits, as the next three; which of them are good limits is for the core.
     pub conns: &'a str,
+    /// The most rows.
     pub rows: &'a str,
+    /// The most forwarded calls at a time.
     pub forwards: &'a str,
+    /// After how many turns it ends.
     pub turns: &'a str,
     /// Any path.
     pub record_path: Option<&'a str>,
@@ -44,13 +49,17 @@ pub struct ServeTexts<'m, 'a> {
 pub struct Service<'a> {
     /// The addresses to listen on.
     pub hosts: Vec<Ipv4Addr>,
+    /// Whether to listen on [::1] over TCP besides.
     pub loopback6: bool,
     /// The path of the local socket, if there is one.
     pub local: Option<&'a str>,
+    /// The mode of its file: the bits for owner, group and others.
     pub local_mode: u32,
     /// The host that answers show for 0.0.0.0, where it is given.
     pub announce: Option<Ipv4Addr>,
+    /// The port of TCP and UDP, from 1.
     pub port: u16,
+    /// How many connections, rows and forwarded calls there may be.
     pub limits: Limits,
     /// After how many turns it ends; 0 never ends.
     pub turns: u64,
@@ -58,10 +67,12 @@ pub struct Service<'a> {
     pub recorded: Option<Record<'a>>,
 }
 
-/// A record of events: the path of its file, and its most bytes.
+/// A record of events.
 #[derive(Clone, Copy, Debug, PartialEq, Eq)]
 pub struct Record<'a> {
+    /// Where its file is made.
     pub path: &'a str,
+    /// From 1,000 to 16,777,216 bytes.
     pub limit: usize,
 }
 
@@ -70,6 +81,7 @@ pub struct Record<'a> {
 pub enum ServeFault {
     /// The first option whose value can't be read.
     BadValue(Valued),
+    /// An allocation was refused.
     NoMemory,
 }
 

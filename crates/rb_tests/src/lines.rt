@@ -36,9 +36,9 @@ const BEGINNING: Beginning = Beginning {
 fn ran<R: Read>(alloc: Global, reader: &mut R) -> Result<(u8, Vec<u8>, Vec<u8>), AllocError> {
     let mut output = BufWriter::new(alloc, Vec::new(alloc)).map_err(|_| AllocError)?;
     let mut faults = Vec::new(alloc);
-    let status = run_replay(alloc, &BEGINNING, reader, &mut output, &mut faults);
+    let ending = run_replay(alloc, &BEGINNING, reader, &mut output, &mut faults);
     let (printed, _) = output.into_parts();
-    Ok((status, printed, faults))
+    Ok((ending.status, printed, faults))
 }
 
 #[test]

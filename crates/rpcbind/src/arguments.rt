@@ -21,7 +21,9 @@ const ADDRESS: &str = "an IPv4 address as 192.0.2.1";
 /// What a command line asks for.
 #[derive(Debug, Drop)]
 pub enum Words<'a> {
+    /// The daemon.
     Serve(Service<'a>),
+    /// A replay whose outputs are printed.
     Replay(Beginning),
     /// A replay whose outputs are compared with those of its input.
     Check(Beginning),
@@ -62,9 +64,9 @@ impl Display for BadValue<'_> {
     }
 }
 
-/// What the words ask for, the program's own name first. Where nothing is to be run, what there is to say was written,
-/// and the exit status is answered: help and the version go to `output`, with status 0; of words that can't be read it
-/// is said why, to `faults`, with status 2; and with status 1 that memory or `output` failed.
+/// What the words ask for, the program's own name first. Where nothing is to be run, what there is to say was
+/// written, and the exit status is the error: 0 where help or the version went to `output`; 2 where the words can't
+/// be read, and `faults` got the reason; 1 where memory or `output` failed.
 pub fn read<'a, S: AsStr, O: Write, E: Write>(
     alloc: Global,
     words: &'a [S],
@@ -75,7 +77,7 @@ pub fn read<'a, S: AsStr, O: Write, E: Write>(
 {
     let command = match command(alloc) {
         Ok(command) => command,
-        Err(_) => return Err(explain(Fault::NoMemory, faults)),
+        Err(_) => return Err(explain(Fault::NoMemory, faults).status),
     };
     match command.try_get_matches_from(words) {
         Ok(matches) => read_matches(alloc, &matches, faults),
@@ -88,14 +90,14 @@ fn show<O: Write, E: Write>(error: &Error, output: &mut O, faults: &mut E) -> u8
     ensures { result ≤ 2 }
 {
     if error.kind() == ErrorKind::OutOfMemory {
-        return explain(Fault::NoMemory, faults);
+        return explain(Fault::NoMemory, faults).status;
     }
     if error.use_stderr() {
         let _ = write!(faults, "{error}");
         return 2;
     }
     if write!(output, "{error}").is_err() || output.flush().is_err() {
-        return explain(Fault::WriteFailed, faults);
+        return explain(Fault::WriteFailed, faults).status;
     }
     0
 }
@@ -113,7 +115,7 @@ fn read_matches<'a, E: Write>(
             let _ = writeln!(faults, "{bad}");
             Err(2)
         }
-        Err(Unread::NoMemory) => Err(explain(Fault::NoMemory, faults)),
+        Err(Unread::NoMemory) => Err(explain(Fault::NoMemory, faults).status),
     }
 }
 

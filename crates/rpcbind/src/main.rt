@@ -27,9 +27,9 @@ fn words_or_status(rt: &HostRuntime) -> Result<Vec<String>, u8>
     match command_words(rt) {
         Ok(words) => Ok(words),
         Err(error) if error.kind() == ErrorKind::OutOfMemory => {
-            Err(explain(Fault::NoMemory, &mut rt.stderr()))
+            Err(explain(Fault::NoMemory, &mut rt.stderr()).status)
         }
-        Err(_) => Err(explain(Fault::NotText, &mut rt.stderr())),
+        Err(_) => Err(explain(Fault::NotText, &mut rt.stderr()).status),
     }
 }
 
@@ -39,7 +39,7 @@ fn replay(rt: &HostRuntime, beginning: &Beginning) -> u8
 {
     let mut faults = rt.stderr();
     let Ok(mut output) = BufWriter::new(rt.alloc(), io::writer(rt)) else {
-        return explain(Fault::NoMemory, &mut faults);
+        return explain(Fault::NoMemory, &mut faults).status;
     };
     run_replay(
         rt.alloc(),
@@ -48,6 +48,7 @@ fn replay(rt: &HostRuntime, beginning: &Beginning) -> u8
         &mut output,
         &mut faults,
     )
+    .status
 }
 
 /// Runs the command `replay --check` over standard input and output. The answer is the exit status.
@@ -56,7 +57,7 @@ fn check(rt: &HostRuntime, beginning: &Beginning) -> u8
 {
     let mut faults = rt.stderr();
     let Ok(mut output) = BufWriter::new(rt.alloc(), io::writer(rt)) else {
-        return explain(Fault::NoMemory, &mut faults);
+        return explain(Fault::NoMemory, &mut faults).status;
     };
     run_check(
         rt.alloc(),
@@ -65,6 +66,7 @@ fn check(rt: &HostRuntime, beginning: &Beginning) -> u8
         &mut output,
         &mut faults,
     )
+    .status
 }
 
 /// What the words of the command line ask for. Where nothing is to be run, the exit status.

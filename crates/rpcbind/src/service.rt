@@ -1,8 +1,9 @@
 //! The command `serve`.
 ghost use Rattle.std.specs.Prelude.{◌≡◌, ◌≤◌, IfErr};
+ghost use Rattle.rpcbind.specs.Faults.{TellsFault};
 
 use rb_daemon::{Daemon, DaemonFault, LocalSocket, Settings, SocketFault, Step};
-use rb_lines::{Fault, Service, bad_limit, explain};
+use rb_lines::{Ending, Fault, Service, explain, explain_run};
 use rb_policy::{announced, is_no_address};
 use std::fs::{File, Files};
 use std::io;
@@ -49,12 +50,12 @@ fn recorder_of<R: Files, E: Write>(
         Ok(file) => Ok(Recorder { file: Some(file) }),
         Err(error) => {
             let _ = writeln!(faults, "rpcbind: make {path}: {error}");
-            Err(explain(Fault::WriteFailed, faults))
+            Err(explain(Fault::WriteFailed, faults).status)
         }
     }
 }
 
-/// What the daemon is told of a service.
+/// The settings of the daemon for a service.
 fn settings_of<'a>(service: &'a Service<'a>) -> Settings<'a> {
     let first = service
         .hosts
@@ -83,8 +84,8 @@ fn settings_of<'a>(service: &'a Service<'a>) -> Settings<'a> {
 }
 
 /// Serves, and says on standard output where it listens. The answer is the exit status: 0 after the last turn, and 1
-/// where the limits are out of their ranges or memory, a socket, standard output or the file of the record failed.
-/// `faults` is told, with what failed in a line before.
+/// where the limits are out of their ranges, or memory, a socket, standard output or the file of the record failed.
+/// The error message goes to `faults`, behind a line that says what failed.
 pub fn run_service<R, E>(rt: &R, service: &Service<'_>, faults: &mut E) -> u8
 where
     R: Net + Files + Clock + Wait + AllocGlobal + Print,
@@ -94,7 +95,7 @@ where
     let settings = settings_of(service);
     let mut daemon = match Daemon::new(rt.alloc(), rt, rt, &settings) {
         Ok(daemon) => daemon,
-        Err(fault) => return explain_fault(&fault, &settings, faults),
+        Err(fault) => return explain_fault(&fault, &settings, faults).status,
     };
     if service.announce.is_none() && is_no_address(settings.announce) {
         let _ = writeln!(
@@ -103,7 +104,7 @@ where
         );
     }
     if say_where(rt, &settings).is_err() {
-        return explain(Fault::WriteFailed, faults);
+        return explain(Fault::WriteFailed, faults).status;
     }
     let mut recorder = match recorder_of(rt, service, faults) {
         Ok(recorder) => recorder,
@@ -111,7 +112,7 @@ where
     };
     match take_turns(rt, &mut daemon, service.turns, &mut recorder, faults) {
         Ok(()) => 0,
-        Err(fault) => explain_fault(&fault, &settings, faults),
+        Err(fault) => explain_fault(&fault, &settings, faults).status,
     }
 }
 
@@ -161,33 +162,39 @@ fn take_turns<R: Clock + Wait, F: Write + Drop, E: Write>(
     unreachable!()
 }
 
-/// Writes what failed, and behind it the line of the fault, and gives the status.
-fn explain_fault<E: Write>(fault: &DaemonFault, settings: &Settings<'_>, faults: &mut E) -> u8
-    ensures { result ≡ 1 }
+/// Ends by a fault of the daemon: its lines are written, where they can be. Of a socket, the step that failed comes
+/// first.
+fn explain_fault<E: Write>(fault: &DaemonFault, settings: &Settings<'_>, faults: &mut E) -> Ending
+    ensures status { result.status ≡ 1 }
+    ensures told { TellsFault
+        settings.now.limits E.contents faults.old faults.new result fault.now }
 {
     match fault {
         DaemonFault::Memory(_) => explain(Fault::NoMemory, faults),
-        DaemonFault::Limits => {
-            if let Some(bad) = bad_limit(&settings.limits) {
-                let _ = writeln!(faults, "rpcbind: {bad}");
-            }
-            explain(Fault::BadLimits, faults)
-        }
+        DaemonFault::Limits => explain_run(Fault::BadLimits, &settings.limits, faults),
         DaemonFault::Socket(failed) => {
-            explain_socket(failed, settings, faults);
-            explain(Fault::SocketFailed, faults)
+            let is_step_told = write_step(failed, settings, faults).is_ok();
+            let ending = explain(Fault::SocketFailed, faults);
+            Ending {
+                status: ending.status,
+                is_told: is_step_told && ending.is_told,
+            }
         }
     }
 }
 
 /// Writes the step that failed, its address or path, and the system's word for it.
-fn explain_socket<E: Write>(failed: &SocketFault, settings: &Settings<'_>, faults: &mut E) {
-    let _ = match (failed.step, &settings.local) {
+fn write_step<E: Write>(
+    failed: &SocketFault,
+    settings: &Settings<'_>,
+    faults: &mut E,
+) -> io::Result<()> {
+    match (failed.step, &settings.local) {
         (Step::BindLocal, Some(local)) => {
             let path = local.path;
             let error = &failed.error;
             writeln!(faults, "rpcbind: bind {path}: {error}")
         }
         _ => writeln!(faults, "rpcbind: {failed}"),
-    };
+    }
 }
