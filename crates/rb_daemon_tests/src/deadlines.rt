@@ -85,8 +85,8 @@ fn indirect_ends_at_its_deadline(rt: HostRuntime) -> Result<(), Fail> {
     Ok(())
 }
 
-/// The wall clock is set forward by a day, and the connection stays; then it is set back by two, and the deadline comes
-/// when so much time has passed.
+/// The wall clock is set forward by a day, and the connection stays; then it is set back by two, and the deadline
+/// comes when so much time has passed.
 fn keeps_time(rt: &HostRuntime, host: &mut Host<'_>, clock: &Stopped) -> Option<bool> {
     let mut client = Client::new(rt)?;
     let is_open = client.receive_nothing(host);

@@ -1,5 +1,6 @@
-//! Clients that go away in the middle of a record or of a reply, by a close and by a reset, and clients that end what they
-//! send while a reply is owed. The daemon, on port 20114 of 127.0.0.1, has room for one connection, and serves the next.
+//! Clients that go away in the middle of a record or of a reply, by a close and by a reset, and clients that end what
+//! they send while a reply is owed. The daemon, on port 20114 of 127.0.0.1, has room for one connection, and serves
+//! the next.
 use crate::client::Client;
 use crate::leaving::dumps;
 use crate::messages::{bytes_of, null_record, null_reply_record};
@@ -19,8 +20,8 @@ const ROWS: u32 = 294;
 /// How many lists are asked for: more than the sockets keep.
 const LISTS: u32 = 400;
 
-/// The length of a list of version 4 as a record. Its head has 24 bytes; an own row, of the address 0.0.0.0.78.146, 56; a row
-/// that is set by nobody at 0.0.0.0.8.1 48; the end 4: 14,476 in all, in 15 fragments.
+/// The length of a list of version 4 as a record. Its head has 24 bytes; an own row, of the address 0.0.0.0.78.146,
+/// 56; a row that is set by nobody at 0.0.0.0.8.1 48; the end 4: 14,476 in all, in 15 fragments.
 const LIST: usize = 24 + 6 * 56 + 294 * 48 + 4 + 15 * 4;
 
 fn client_of(rt: &HostRuntime) -> Option<Client> {
@@ -104,7 +105,8 @@ fn clients_that_leave_in_a_record(rt: HostRuntime) -> Result<(), Fail> {
     Ok(())
 }
 
-/// A reset there: the system sends one where a socket is closed with bytes that were not read, as the reply to the first call.
+/// A reset there: the system sends one where a socket is closed with bytes that were not read, as the reply to the
+/// first call.
 fn is_reset_in_a_record(rt: &HostRuntime, host: &mut Host<'_>) -> Option<bool> {
     let mut calls = null_record(rt.alloc(), 3).ok()?;
     calls.extend_from_slice(&[0x80, 0, 0, 40, 0, 0]).ok()?;
@@ -124,8 +126,8 @@ fn clients_that_leave_in_a_record_by_a_reset(rt: HostRuntime) -> Result<(), Fail
     Ok(())
 }
 
-/// A client asks for more lists than are given in a turn, and goes away after it: by a close where it read all that came, by
-/// a reset where it read none.
+/// A client asks for more lists than are given in a turn, and goes away after it: by a close where it read all that
+/// came, by a reset where it read none.
 fn leaves_in_a_reply(rt: &HostRuntime, host: &mut Host<'_>, reads: bool) -> Option<bool> {
     let are_set = sets_rows(rt, host)?;
     let mut client = client_of(rt)?;

@@ -36,8 +36,8 @@ fn list_and_null(rt: &HostRuntime) -> Option<Vec<u8>> {
 /// A fragment of 1,024 bytes that is not the last, the head of the reply, and the first own row: version 4 on TCP.
 const LIST_BEGINS: [u32; 12] = [1024, 1, 1, 0, 0, 0, 0, 1, 100_000, 4, 6, PORT as u32];
 
-/// With the daemon's own six there are 101 rows. The list is 24 bytes of head, 20 of each row and 4 of its end: 2,048, in
-/// two fragments of the greatest length. The call behind it is answered too.
+/// With the daemon's own six there are 101 rows. The list is 24 bytes of head, 20 of each row and 4 of its end:
+/// 2,048, in two fragments of the greatest length. The call behind it is answered too.
 fn gives_full_fragments(rt: &HostRuntime, host: &mut Host<'_>) -> Option<bool> {
     let are_set = sets_rows(rt, host, 95)?;
     let calls = list_and_null(rt)?;
@@ -61,8 +61,8 @@ fn list_of_full_fragments(rt: HostRuntime) -> Result<(), Fail> {
 /// A turn writes at most so many bytes to one connection: enough, 65,536, and what the last write is more.
 const MOST_OF_A_TURN: usize = 65_536 + 65_792;
 
-/// All 300 rows are there, so a list has more than 10,000 bytes, and a client asks for 400. It is left when it has got enough for a
-/// turn, and is served on in the next.
+/// All 300 rows are there, so a list has more than 10,000 bytes, and a client asks for 400. It is left when it has
+/// got enough for a turn, and is served on in the next.
 fn leaves_a_greedy_client(rt: &HostRuntime, host: &mut Host<'_>) -> Option<bool> {
     let are_set = sets_rows(rt, host, 294)?;
     let mut reader = Client::new(rt)?;
@@ -97,8 +97,8 @@ fn replaces_a_row(rt: &HostRuntime, host: &mut Host<'_>) -> Option<bool> {
     Some(is_sent && is_unset && is_set)
 }
 
-/// All 300 rows are there. A client asks for more lists than are given in a few turns, so one of them is in the middle
-/// when a row goes, which the list still needs. The next SET takes the place, and the connection is closed.
+/// All 300 rows are there. A client asks for more lists than are given in a few turns, so one of them is in the
+/// middle when a row goes, which the list still needs. The next SET takes the place, and the connection is closed.
 fn evicts_the_reader(rt: &HostRuntime, host: &mut Host<'_>) -> Option<bool> {
     let are_set = sets_rows(rt, host, 294)?;
     let mut reader = Client::new(rt)?;

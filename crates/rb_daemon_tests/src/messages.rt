@@ -1,4 +1,5 @@
-//! Calls and replies as they are on the wire, as words of four bytes (RFC 5531 section 9, RFC 1833 sections 3.1, 3.2).
+//! Calls and replies as they are on the wire, as words of four bytes (RFC 5531 section 9, RFC 1833 sections 3.1,
+//! 3.2).
 use std::alloc::{AllocError, Global};
 
 /// The header of a last fragment of 40 bytes: a call without arguments.

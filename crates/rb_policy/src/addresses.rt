@@ -5,8 +5,8 @@ ghost use Rattle.rb_policy.specs.Addresses.{announced};
 
 use std::net::Ipv4Addr;
 
-/// The address that answers show for a program that listens on every address: the one that is given, or else the first
-/// that is listened on.
+/// The address that answers show for a program that listens on every address: the one that is given, or else the
+/// first that is listened on.
 pub fn announced(given: Option<Ipv4Addr>, first: Ipv4Addr) -> Ipv4Addr
     ensures { result ≡ announced given first }
 {

@@ -13,6 +13,7 @@ const ENTRIES: usize = 64;
 #[derive(Clone, Copy, Debug, PartialEq, Eq)]
 pub struct Ask {
     pub peer: Peer,
+    /// From 0, in the order of the addresses that are listened on.
     pub socket: usize,
 }
 
@@ -37,7 +38,8 @@ impl Asked {
     ghost use Rattle.std.specs.Prelude.{◌≡◌, ◌∷◌, IfOk, take, replicate};
     ghost use Rattle.rb_policy.specs.Asked.{nobodys};
 
-    /// None was forwarded yet: each entry is nobody's, at 0.0.0.0 and port 0. An error where the allocation is refused.
+    /// None was forwarded yet: each entry is nobody's, at 0.0.0.0 and port 0. An error where the allocation is
+    /// refused.
     pub fn new(alloc: Global) -> Result<Asked, AllocError>
         ensures { IfOk result (λ asked. asked ≡ replicate 64 nobodys) }
     {

@@ -83,7 +83,9 @@ pub fn origin_of(peer: Peer, announced: [u8; 4]) -> Origin
 /// What is kept of the connection that holds a place.
 #[derive(Clone, Copy, Debug, PartialEq, Eq)]
 pub struct Holder {
+    /// Where it came from.
     pub origin: Origin,
+    /// What it is about.
     pub phase: Phase,
     /// The moment of its last progress, or of its opening, in milliseconds. A whole record is progress, and so are
     /// bytes of a reply that the socket takes.

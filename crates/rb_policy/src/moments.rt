@@ -1,8 +1,8 @@
 //! The moments that the core is handed, in milliseconds since the start of 1970.
 ghost use Rattle.std.specs.Prelude.{◌≡◌};
 
-/// Moments go by the monotonic clock from the start's wall clock on, so that no step of the wall clock stops or ends a
-/// deadline.
+/// Moments go by the monotonic clock from the start's wall clock on, so that no step of the wall clock stops or ends
+/// a deadline.
 #[derive(Clone, Copy, Debug, PartialEq, Eq)]
 pub struct Moments {
     /// The last moment.
@@ -26,8 +26,8 @@ impl Moments {
         }
     }
 
-    /// The moment of a turn. Where nothing waits for a deadline, it is the wall clock's if that is later: so a clock that is
-    /// set forward ends nobody's connection, and one that is set back stops no deadline.
+    /// The moment of a turn. Where nothing waits for a deadline, it is the wall clock's if that is later: so a clock
+    /// that is set forward ends nobody's connection, and one that is set back stops no deadline.
     pub fn next(&mut self, wall: u64, monotonic: u64, follows_wall: bool) -> u64
         ensures moment { result
             ≡ next_moment self.old.last self.old.monotonic monotonic wall follows_wall }

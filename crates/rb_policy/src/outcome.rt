@@ -91,8 +91,8 @@ pub fn after_receive(outcome: Outcome) -> Next
     }
 }
 
-/// Numbers of Linux's accept(2) that std has no kind for and `libc` no name: they are those of most architectures, x86-64
-/// and aarch64 among them, and not of MIPS, SPARC and PA-RISC.
+/// Numbers of Linux's accept(2) that std has no kind for and `libc` no name: they are those of most architectures,
+/// x86-64 and aarch64 among them, and not of MIPS, SPARC and PA-RISC.
 const ENFILE: i32 = 23;
 
 const ENONET: i32 = 64;
@@ -105,8 +105,8 @@ const ENOBUFS: i32 = 105;
 
 const EHOSTDOWN: i32 = 112;
 
-/// What an error means. Errors of the network that are pending on a connection are told by its accept, and count as
-/// that connection's.
+/// What an error means. An accept reports errors of the network that are pending on the connection (accept(2)); they
+/// count as that connection's.
 pub fn outcome_of(error: &io::Error) -> Outcome
     ensures { result ≡ outcome_of (error_kind error.now) (raw_os_error error.now) }
 {

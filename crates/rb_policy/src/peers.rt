@@ -1,11 +1,12 @@
-//! Which peer the core is told for a connection or a datagram that came in.
+//! Which peer the core is handed for a connection or a datagram that came in.
 ghost use Rattle.std.specs.Prelude.{◌≡◌};
 ghost use Rattle.rb_policy.specs.Peers.{inet_peer, IsLoopback6Peer, loopback_peer};
 
 use rb_rpc::Peer;
 use std::net::SocketAddr;
 
-/// What comes in on a socket of an IPv4 address, over TCP or UDP, is from the peer that it came from. There are no others.
+/// What comes in on a socket of an IPv4 address, over TCP or UDP, is from the peer that it came from. There are no
+/// others.
 pub fn inet_peer(from: SocketAddr) -> Option<Peer>
     ensures { result ≡ inet_peer from }
 {
@@ -18,8 +19,8 @@ pub fn inet_peer(from: SocketAddr) -> Option<Peer>
     }
 }
 
-/// A connection to [::1] from ::1 counts as one from 127.0.0.1 with its port. Any other IPv6 peer is nobody, and is to be
-/// closed.
+/// A connection to [::1] from ::1 counts as one from 127.0.0.1 with its port. Any other IPv6 peer is nobody, and is
+/// to be closed.
 pub fn loopback6_peer(from: SocketAddr) -> Option<Peer>
     ensures { IsLoopback6Peer from result }
 {
