@@ -1,5 +1,5 @@
 -- What a tape holds.
-use Rattle.std.specs.Prelude.{◌≡◌, ◌≤◌, ◌<◌, ◌+◌, nat_le, nat_lt, ℕ, Bool, true, false, List, [], ◌++◌, length, take, drop, codes, ◌⊎◌}
+use Rattle.std.specs.Prelude.{if◌then◌else◌, ◌≡◌, ◌≤◌, ◌<◌, ◌+◌, nat_le, nat_lt, ℕ, Bool, true, false, List, [], ◌++◌, length, take, drop, codes, ◌⊎◌}
 use Rattle.std.specs.List.{concat}
 
 -- All that was recorded, how many bytes of it the file has, whether the recording goes on, and how many bytes there may be.
@@ -24,6 +24,10 @@ empty_tape limit = record { text = []; written = 0; is_on = nat_lt (length endin
 -- Whether an entry can be recorded behind a text: the last line has to fit behind both.
 abbrev pub fits : ℕ → List ℕ → List ℕ → Bool
 fits limit text entry = nat_le (length text + length entry + length ending) limit
+
+-- a text with an entry behind it, or with the last line where that does not fit
+abbrev pub with_entry : ℕ → List ℕ → List ℕ → List ℕ
+with_entry limit text entry = text ++ (if fits limit text entry then entry else ending)
 
 -- Of these entries the first ones were recorded, whole, but not all; and behind them the last line.
 pub record EndsWithin (entries : List (List ℕ)) (old new : List ℕ) : Type 0 where

@@ -1,6 +1,6 @@
 //! The tape that a run is recorded on.
 ghost use Rattle.std.specs.Prelude.{◌≡◌, ◌≤◌, ◌+◌, [], true, length, vec_capacity, IfOk};
-ghost use Rattle.rb_record.specs.Tapes.{ending, fits};
+ghost use Rattle.rb_record.specs.Tapes.{ending, fits, with_entry};
 
 use crate::entries::{Start, write_entry, write_options};
 use crate::happening::Happening;
@@ -89,14 +89,14 @@ struct Page {
 }
 
 impl Page {
-    ghost use Rattle.std.specs.Prelude.{◌≡◌, ◌++◌, true, false, if◌then◌else◌};
+    ghost use Rattle.std.specs.Prelude.{◌≡◌, ◌++◌, true, false};
 
     /// Adds an entry. Where it does not fit, that ends the record.
     fn add(&mut self, entry: &[u8])
         requires { self.old.is_on ≡ true }
         ensures on { self.new.is_on ≡ fits self.old.limit self.old.text.items entry.now }
-        ensures text { self.new.text.items ≡ self.old.text.items
-            ++ (if fits self.old.limit self.old.text.items entry.now then entry.now else ending) }
+        ensures text { self.new.text.items
+            ≡ with_entry self.old.limit self.old.text.items entry.now }
         ensures limit { self.new.limit ≡ self.old.limit }
     {
         let room = self.limit - self.text.len() - ENDING.len();
