@@ -6,16 +6,19 @@ use Rattle.std.proofs.lemmas.Bool.{cases_lt}
 use Rattle.std.proofs.Math.Seq.{take-add}
 use Rattle.std.proofs.KnownBytes.{Appends-nil}
 use Rattle.rb_xdr.specs.declared.fault.XdrFault.{XdrFault}
-use Rattle.rb_xdr.specs.declared.fault.XdrFault.TheVariants.{Short}
+use Rattle.rb_xdr.specs.declared.fault.XdrFault.TheVariants.{Short, TooLong, BadBool, BadPadding}
 use Rattle.rb_xdr.specs.Xdr.{Reading, Reader}
 use Rattle.rb_xdr.specs.XdrLaws.{BeginsWith}
 use Rattle.rb_xdr.specs.XdrLaws.{IsComplete}
 use Rattle.rb_xdr.specs.Forms.{Form, extent, extent_of, HasForm}
 use Rattle.rb_ask.specs.declared.record.Record.{Record}
+use Rattle.rb_ask.specs.Sources.{Supply}
 use Rattle.rb_ask.specs.declared.fault.InfoFault.{InfoFault}
-use Rattle.rb_ask.specs.declared.fault.InfoFault.TheVariants.{Unreadable}
-use Rattle.rb_ask.specs.Reading.{IsNotRead, Ends, Gives, Holds}
-use Rattle.rb_ask.specs.Telling.{Told, take_one, told_by, Tells, CutOff, lines_of}
+use Rattle.rb_ask.specs.declared.fault.InfoFault.TheVariants.{Read, Write, Unreadable, CutOff, Refused, TooMany, Memory}
+use Rattle.rb_ask.specs.declared.fault.InfoFault.TheVariants as infos
+use Rattle.rb_ask.specs.Data.{end_of, Stands}
+use Rattle.rb_ask.specs.Reading.{DataEnds, Ends, Gives, Holds}
+use Rattle.rb_ask.specs.Telling.{Told, take_one, told_by, Tells, Begun, lines_of}
 use Rattle.rb_ask.specs.Telling.Told.{Done, Stop}
 use Rattle.rb_ask.proofs.Settles.{form_settles}
 
@@ -47,7 +50,7 @@ whole_value {A} is_value spelling reads complete bytes x n begins short =
 
 -- a value was read
 pub item_found : {A : Type 0} (is_value : A → Type 0) (spelling : A → List ℕ) (reads : Reader A) → IsComplete is_value spelling reads
-    → (known known' : Option (List ℕ)) (at at' : Record) (bytes : List ℕ) (x : A) (n : ℕ) → BeginsWith is_value spelling bytes (x, n) → IsShort reads bytes → Holds known known' at at' bytes
+    → (known known' : Supply) (at at' : Record) (bytes : List ℕ) (x : A) (n : ℕ) → BeginsWith is_value spelling bytes (x, n) → IsShort reads bytes → Holds known known' at at' bytes
     → (held : Option (List ℕ)) → Tells (take_one reads) known known' at at' held held (Ok x)
 unfolding take_one
 item_found {A} is_value spelling reads complete known known' at at' bytes x n begins short holds held =
@@ -61,25 +64,32 @@ item_found {A} is_value spelling reads complete known known' at at' bytes x n be
           record {
             lines = [];
             left = h.0;
-            told_is = ap (λ (r : Reading A). told_by r content) read ∙ ap (λ (xs : List ℕ). Done [] x xs) left;
+            told_is = ap (λ (r : Reading A). told_by (end_of all) r content) read ∙ ap (λ (xs : List ℕ). Done [] x xs) left;
             stands = h.2;
             written = Appends-nil held;
           };
     }
 
-still_refused : {A : Type 0} (reads : Reader A) (form : Form) → HasForm form reads → (bytes more : List ℕ) (fault : XdrFault) → reads bytes ≡ Err fault → (fault ≡ Short → ⊥) → (content : List ℕ) → told_by (reads (bytes ++ more)) content ≡ Stop [] Unreadable
-still_refused {A} reads form has bytes more fault e other content =
+still_refused : {A : Type 0} (reads : Reader A) (form : Form) → HasForm form reads → (bytes more : List ℕ) (fault : XdrFault) → reads bytes ≡ Err fault → (fault ≡ Short → ⊥)
+    → (end : InfoFault) (content : List ℕ) → told_by end (reads (bytes ++ more)) content ≡ Stop [] Unreadable
+still_refused {A} reads form has bytes more fault e other end content =
     let known : (◌≡◌ {A = Reading ⊤} (Err fault) (Err Short)) → ⊥ = λ short. other cc in
     let refused : extent_of form (bytes ++ more) ≡ Err fault = (form_settles form).keeps bytes more (Err fault) (sym (has bytes) ∙ ap extent e) known in
     by_value (reads (bytes ++ more)) (has (bytes ++ more) ∙ refused)
   where
-    by_value : (r : Reading A) → extent r ≡ Err fault → told_by r content ≡ Stop [] Unreadable
+    by_fault : (f : XdrFault) → f ≡ fault → told_by {A = A} end (Err f) content ≡ Stop [] Unreadable
+    by_fault Short is = absurd (other (sym is))
+    by_fault TooLong is = refl
+    by_fault BadBool is = refl
+    by_fault BadPadding is = refl
+
+    by_value : (r : Reading A) → extent r ≡ Err fault → told_by end r content ≡ Stop [] Unreadable
     by_value (Ok x) is = absurd cc
-    by_value (Err f) is = refl
+    by_value (Err f) is = by_fault f cc
 
 -- the bytes begin with no value, whatever follows them
 pub item_broken : {A : Type 0} (reads : Reader A) (form : Form) → HasForm form reads
-    → (known known' : Option (List ℕ)) (at at' : Record) (bytes : List ℕ) (fault : XdrFault) → Holds known known' at at' bytes → reads bytes ≡ Err fault → (fault ≡ Short → ⊥)
+    → (known known' : Supply) (at at' : Record) (bytes : List ℕ) (fault : XdrFault) → Holds known known' at at' bytes → reads bytes ≡ Err fault → (fault ≡ Short → ⊥)
     → (held : Option (List ℕ)) → Tells {A = A} (take_one reads) known known' at at' held held (Err Unreadable)
 unfolding take_one
 item_broken {A} reads form has known known' at at' bytes fault holds e other held = record {
@@ -87,49 +97,51 @@ item_broken {A} reads form has known known' at at' bytes fault holds e other hel
       let h = holds all content st in
       record {
         lines = [];
-        told_is = ap (λ (xs : List ℕ). told_by (reads xs) content) h.1 ∙ still_refused reads form has bytes h.0 fault e other content;
+        told_is = ap (λ (xs : List ℕ). told_by (end_of all) (reads xs) content) h.1 ∙ still_refused reads form has bytes h.0 fault e other (end_of all) content;
         written = Appends-nil held;
       };
 }
 
 -- the data ends before the value does
-pub item_cut : {A R : Type 0} (reads : Reader A) (remaining : R → Option (List ℕ)) (known : Option (List ℕ)) (reader : R) (known'' : Option (List ℕ)) (at at' at'' : Record) (bytes : List ℕ)
-    → Holds known (remaining reader) at at' bytes → reads bytes ≡ Err Short → Ends remaining reader at'
-    → (held : Option (List ℕ)) → Tells {A = A} (take_one reads) known known'' at at'' held held (Err Unreadable)
+item_cut : {A : Type 0} (reads : Reader A) (fault : InfoFault) (known between : Supply) (at at' : Record) (bytes : List ℕ) → Holds known between at at' bytes → reads bytes ≡ Err Short → Ends between at' fault
+    → (all content : List ℕ) → Stands all known at content → take_one reads (end_of all) content ≡ Stop [] fault
 unfolding take_one
-item_cut {A} {R} reads remaining known reader known'' at at' at'' bytes holds e ends held = record {
-  outcome = λ all content st.
-      let h = holds all content st in
-      let none : h.0 ≡ [] = ends all h.2.read h.0 h.2.passed in
-      let text : content ≡ bytes = h.1 ∙ ap (λ (xs : List ℕ). bytes ++ xs) none ∙ append-nil bytes in
-      record {
-        lines = [];
-        told_is = ap (λ (xs : List ℕ). told_by (reads xs) content) text ∙ ap (λ (r : Reading A). told_by r content) e;
-        written = Appends-nil held;
-      };
-}
+item_cut {A} reads fault known between at at' bytes holds e ends all content st =
+    let h = holds all content st in
+    let ended = ends all h.2.read h.0 h.2.passed in
+    let text : content ≡ bytes = h.1 ∙ ap (λ (xs : List ℕ). bytes ++ xs) ended.0 ∙ append-nil bytes in
+    ap (λ (xs : List ℕ). told_by (end_of all) (reads xs) content) text ∙ ap (λ (r : Reading A). told_by (end_of all) r content) e ∙ ap (λ (f : InfoFault). Stop [] f) (sym ended.1)
 
 -- Nothing was written yet.
-pub nothing_written : {A : Type 0} (told : Told A) (held : Option (List ℕ)) → CutOff told held held
+nothing_written : {A : Type 0} (told : Told A) (held : Option (List ℕ)) → Begun told held held
 nothing_written told held = record { lines = []; more = lines_of told; lines_are = refl; written = Appends-nil held }
 
-pub item_fault : {A R : Type 0} (reads : Reader A) (remaining : R → Option (List ℕ)) (known : Option (List ℕ)) (reader : R) (known'' : Option (List ℕ)) (at at' at'' : Record) (bytes : List ℕ) (fault : InfoFault)
-    → Holds known (remaining reader) at at' bytes → reads bytes ≡ Err Short → (fault ≡ Unreadable → Ends remaining reader at') → IsNotRead fault
-    → (held : Option (List ℕ)) → Tells {A = A} (take_one reads) known known'' at at'' held held (Err fault)
-item_fault {A} {R} reads remaining known reader known'' at at' at'' bytes fault holds e ends kind held = elim kind [
-  | inl is ↦ rw is (record { outcome = λ all content st. nothing_written (take_one reads content) held })
-  | inr is ↦ rw is (item_cut reads remaining known reader known'' at at' at'' bytes holds e (ends is) held)
-]
+-- no further byte of the data was read
+pub item_fault : {A : Type 0} (reads : Reader A) (known between known' : Supply) (at at' at'' : Record) (bytes : List ℕ) (fault : InfoFault)
+    → Holds known between at at' bytes → reads bytes ≡ Err Short → DataEnds between known' at' fault
+    → (held : Option (List ℕ)) → Tells {A = A} (take_one reads) known known' at at'' held held (Err fault)
+item_fault {A} reads known between known' at at' at'' bytes Read holds e ends held = record { outcome = λ all content st. (nothing_written (take_one reads (end_of all) content) held, ends) }
+item_fault {A} reads known between known' at at' at'' bytes CutOff holds e ends held = record {
+  outcome = λ all content st. record { lines = []; told_is = item_cut reads CutOff known between at at' bytes holds e ends all content st; written = Appends-nil held };
+}
+item_fault {A} reads known between known' at at' at'' bytes infos.TooLong holds e ends held = record {
+  outcome = λ all content st. record { lines = []; told_is = item_cut reads infos.TooLong known between at at' bytes holds e ends all content st; written = Appends-nil held };
+}
+item_fault {A} reads known between known' at at' at'' bytes Write holds e ends held = absurd ends
+item_fault {A} reads known between known' at at' at'' bytes Unreadable holds e ends held = absurd ends
+item_fault {A} reads known between known' at at' at'' bytes (Refused head) holds e ends held = absurd ends
+item_fault {A} reads known between known' at at' at'' bytes TooMany holds e ends held = absurd ends
+item_fault {A} reads known between known' at at' at'' bytes Memory holds e ends held = absurd ends
 
 -- one more byte was read
-pub holds_more : {R : Type 0} (remaining : R → Option (List ℕ)) (known : Option (List ℕ)) (reader reader' : R) (at at' at'' : Record) (bytes : List ℕ) (b : ℕ)
-    → Holds known (remaining reader) at at' bytes → Gives remaining reader reader' at' at'' b → Holds known (remaining reader') at at'' (bytes ++ b ∷ [])
-holds_more remaining known reader reader' at at' at'' bytes b holds gives = λ all content st.
+pub holds_more : {B : Type 0} (left : B → Supply) (known : Supply) (source source' : B) (at at' at'' : Record) (bytes : List ℕ) (b : ℕ)
+    → Holds known (left source) at at' bytes → Gives left source source' at' at'' b → Holds known (left source') at at'' (bytes ++ b ∷ [])
+holds_more left known source source' at at' at'' bytes b holds gives = λ all content st.
     let h = holds all content st in
     let g = gives all h.2.read h.0 h.2.passed in
     (g.0, h.1 ∙ ap (λ (xs : List ℕ). bytes ++ xs) g.1 ∙ sym (append_assoc bytes (b ∷ []) g.0), g.2)
 
-pub holds_none : (known : Option (List ℕ)) (at : Record) → Holds known known at at []
+pub holds_none : (known : Supply) (at : Record) → Holds known known at at []
 holds_none known at = λ all content st. (content, refl, st)
 
 pub short_more : {A : Type 0} (reads : Reader A) (bytes : List ℕ) (b : ℕ) → reads bytes ≡ Err Short → IsShort reads (bytes ++ b ∷ [])

@@ -1,4 +1,5 @@
 pub mod Records
+pub mod Fails
 pub mod Settles
 pub mod Items
 pub mod Tellings

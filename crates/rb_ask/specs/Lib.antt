@@ -1,3 +1,4 @@
+pub mod Sources
 pub mod Data
 pub mod Reading
 pub mod Heads

@@ -1,41 +1,71 @@
 -- What is read of a record's data.
-use Rattle.std.specs.Prelude.{◌≡◌, ◌⊎◌, ◌<◌, ℕ, List, [], ◌∷◌, ◌++◌, length, Option, Some}
+use Rattle.std.specs.Prelude.{◌≡◌, ◌<◌, ◌≤◌, ℕ, List, [], ◌∷◌, ◌++◌, length, Option, Some, IsTrue}
 use Rattle.std.specs.Io.KnownBytes.{Consumes}
 use Rattle.rb_ask.specs.declared.record.Record.{Record}
 use Rattle.rb_ask.specs.declared.fault.InfoFault.{InfoFault}
-use Rattle.rb_ask.specs.declared.fault.InfoFault.TheVariants.{Read, Unreadable}
-use Rattle.rb_ask.specs.Data.{Passed, Stands}
+use Rattle.rb_ask.specs.declared.fault.InfoFault.TheVariants.{Read, Write, Unreadable, CutOff, TooLong, Refused, TooMany, Memory}
+use Rattle.rb_ask.specs.Sources.{Supply}
+use Rattle.rb_ask.specs.Data.{end_of, Passed, Stands}
 
 -- the next bytes of the input were read
-abbrev pub HasRead : {R : Type 0} → (R → Option (List ℕ)) → R → R → List ℕ → Type 0
-HasRead remaining reader reader' bytes = Consumes (remaining reader) (remaining reader') bytes
-
--- where the fault is Unreadable, this holds
-abbrev pub UnreadableMeans : Type 0 → InfoFault → Type 0
-UnreadableMeans Holds fault = fault ≡ Unreadable → Holds
-
-abbrev pub IsNotRead : InfoFault → Type 0
-IsNotRead fault = (fault ≡ Read) ⊎ (fault ≡ Unreadable)
+abbrev pub HasRead : {B : Type 0} → (B → Supply) → B → B → List ℕ → Type 0
+HasRead left source source' bytes = Consumes (left source).bytes (left source').bytes bytes
 
 -- fewer bytes than these are left
-abbrev pub HasFewer : ℕ → Option (List ℕ) → Type 0
-HasFewer n known = (rest : List ℕ) → known ≡ Some rest → length rest < n
+abbrev pub HasFewer : ℕ → Supply → Type 0
+HasFewer n known = (rest : List ℕ) → known.bytes ≡ Some rest → length rest < n
+
+-- so many bytes are left, or more
+abbrev pub HasMany : ℕ → Supply → Type 0
+HasMany n known = (rest : List ℕ) → known.bytes ≡ Some rest → n ≤ length rest
+
+-- the input ends before so many bytes, and before as many as may be read
+pub record IsCutWithin (n : ℕ) (known : Supply) (at : Record) : Type 0 where
+  pub short : HasFewer n known
+  pub allowed : HasFewer at.allowed known
+
+-- fewer than so many bytes may be read, and the input has those
+pub record IsLimitedWithin (n : ℕ) (known : Supply) (at : Record) : Type 0 where
+  pub short : at.allowed < n
+  pub there : HasMany at.allowed known
+
+-- why not so many bytes were read
+abbrev pub FailsWithin : ℕ → Supply → Supply → Record → InfoFault → Type 0
+FailsWithin n known known' at Read = IsTrue known'.can_fail
+FailsWithin n known known' at CutOff = IsCutWithin n known at
+FailsWithin n known known' at TooLong = IsLimitedWithin n known at
+FailsWithin n known known' at Write = ⊥
+FailsWithin n known known' at Unreadable = ⊥
+FailsWithin n known known' at (Refused head) = ⊥
+FailsWithin n known known' at TooMany = ⊥
+FailsWithin n known known' at Memory = ⊥
 
 -- bytes were read that hold no data
-abbrev pub Passes : {R : Type 0} → (R → Option (List ℕ)) → R → R → Record → Record → Type 0
-Passes remaining reader reader' at at' =
-    (bytes read content : List ℕ) → Passed bytes read (remaining reader) at content → (read' : List ℕ) × Passed bytes read' (remaining reader') at' content
+abbrev pub Passes : {B : Type 0} → (B → Supply) → B → B → Record → Record → Type 0
+Passes left source source' at at' =
+    (bytes read content : List ℕ) → Passed bytes read (left source) at content → (read' : List ℕ) × Passed bytes read' (left source') at' content
 
--- no data is to come
-abbrev pub Ends : {R : Type 0} → (R → Option (List ℕ)) → R → Record → Type 0
-Ends remaining reader at = (bytes read content : List ℕ) → Passed bytes read (remaining reader) at content → content ≡ []
+-- No data is to come, and this is what is wrong where more is needed.
+abbrev pub Ends : Supply → Record → InfoFault → Type 0
+Ends known at fault = (bytes read content : List ℕ) → Passed bytes read known at content → (content ≡ []) × (fault ≡ end_of bytes)
+
+-- why no byte of data was read
+abbrev pub DataEnds : Supply → Supply → Record → InfoFault → Type 0
+DataEnds known known' at Read = IsTrue known'.can_fail
+DataEnds known known' at CutOff = Ends known at CutOff
+DataEnds known known' at TooLong = Ends known at TooLong
+DataEnds known known' at Write = ⊥
+DataEnds known known' at Unreadable = ⊥
+DataEnds known known' at (Refused head) = ⊥
+DataEnds known known' at TooMany = ⊥
+DataEnds known known' at Memory = ⊥
 
 -- the next byte of the data was read
-abbrev pub Gives : {R : Type 0} → (R → Option (List ℕ)) → R → R → Record → Record → ℕ → Type 0
-Gives remaining reader reader' at at' b =
-    (bytes read content : List ℕ) → Passed bytes read (remaining reader) at content → (left : List ℕ) × (content ≡ b ∷ left) × Stands bytes (remaining reader') at' left
+abbrev pub Gives : {B : Type 0} → (B → Supply) → B → B → Record → Record → ℕ → Type 0
+Gives left source source' at at' b =
+    (bytes read content : List ℕ) → Passed bytes read (left source) at content → (rest : List ℕ) × (content ≡ b ∷ rest) × Stands bytes (left source') at' rest
 
 -- These bytes were read of the data that was to come.
-abbrev pub Holds : Option (List ℕ) → Option (List ℕ) → Record → Record → List ℕ → Type 0
+abbrev pub Holds : Supply → Supply → Record → Record → List ℕ → Type 0
 Holds known known' at at' bytes =
     (all content : List ℕ) → Stands all known at content → (left : List ℕ) × (content ≡ bytes ++ left) × Stands all known' at' left

@@ -1,11 +1,13 @@
 -- What a reply tells, line by line, and what it is that a program which reads and writes tells it.
-use Rattle.std.specs.Prelude.{◌≡◌, ℕ, List, [], ◌++◌, drop, Option, Result, Ok, Err}
+use Rattle.std.specs.Prelude.{◌≡◌, ℕ, List, [], ◌++◌, drop, Option, Result, Ok, Err, IsTrue}
 use Rattle.std.specs.List.{flat_map}
 use Rattle.std.specs.Io.KnownBytes.{Appends}
 use Rattle.rb_xdr.specs.Xdr.{Reader, Reading}
-use Rattle.rb_ask.specs.Data.{Stands}
+use Rattle.rb_xdr.specs.declared.fault.XdrFault.TheVariants as faults
+use Rattle.rb_ask.specs.Sources.{Supply}
+use Rattle.rb_ask.specs.Data.{end_of, Stands}
 use Rattle.rb_ask.specs.declared.record.Record.{Record}
-use Rattle.rb_ask.specs.declared.fault.InfoFault.TheVariants.{Read, Write, Unreadable, Refused, TooMany, Memory}
+use Rattle.rb_ask.specs.declared.fault.InfoFault.TheVariants.{Read, Write, Unreadable, CutOff, TooLong, Refused, TooMany, Memory}
 pub use Rattle.rb_ask.specs.declared.fault.InfoFault.{InfoFault}
 
 -- ---- what is told
@@ -15,41 +17,45 @@ pub data Told (A : Type 0) : Type 0 where
   Done : List (List ℕ) → A → List ℕ → Told A
   Stop : List (List ℕ) → InfoFault → Told A
 
--- from the front of data
+-- from the front of data, of which is known what is wrong where more is needed than there is
 abbrev pub Teller : Type 0 → Type 0
-Teller A = List ℕ → Told A
+Teller A = InfoFault → List ℕ → Told A
 
 -- behind these lines
 abbrev pub add_lines : {A : Type 0} → List (List ℕ) → Told A → Told A
 add_lines lines (Done more x left) = Done (lines ++ more) x left
 add_lines lines (Stop more fault) = Stop (lines ++ more) fault
 
-abbrev pub tell_on : {A B : Type 0} → Told A → (A → Teller B) → Told B
+abbrev pub tell_on : {A B : Type 0} → Told A → (A → List ℕ → Told B) → Told B
 tell_on (Done lines x left) next = add_lines lines (next x left)
 tell_on (Stop lines fault) next = Stop lines fault
 
 -- one after the other, up to the first that stops
 infixl 10 ◌>>=◌
 unfoldable pub ◌>>=◌ : {A B : Type 0} → Teller A → (A → Teller B) → Teller B
-first >>= next = λ content. tell_on (first content) next
+first >>= next = λ end content. tell_on (first end content) (λ x. next x end)
 
 abbrev pub give : {A : Type 0} → A → Teller A
-give x = λ content. Done [] x content
+give x = λ end content. Done [] x content
 
 abbrev pub stop : {A : Type 0} → InfoFault → Teller A
-stop fault = λ content. Stop [] fault
+stop fault = λ end content. Stop [] fault
 
 -- these lines
 abbrev pub tell : List (List ℕ) → Teller (Unit {0})
-tell lines = λ content. Done lines tt content
+tell lines = λ end content. Done lines tt content
 
-abbrev pub told_by : {A : Type 0} → Reading A → List ℕ → Told A
-told_by (Ok read) content = Done [] read.0 (drop read.1 content)
-told_by (Err fault) content = Stop [] Unreadable
+-- where more bytes could make a value of it, the data ends too early
+abbrev pub told_by : {A : Type 0} → InfoFault → Reading A → List ℕ → Told A
+told_by end (Ok read) content = Done [] read.0 (drop read.1 content)
+told_by end (Err faults.Short) content = Stop [] end
+told_by end (Err faults.TooLong) content = Stop [] Unreadable
+told_by end (Err faults.BadBool) content = Stop [] Unreadable
+told_by end (Err faults.BadPadding) content = Stop [] Unreadable
 
 -- a value of XDR
 unfoldable pub take_one : {A : Type 0} → Reader A → Teller A
-take_one reads = λ content. told_by (reads content) content
+take_one reads = λ end content. told_by end (reads content) content
 
 -- ---- when a program tells it
 
@@ -61,7 +67,7 @@ lines_of (Done lines x left) = lines
 lines_of (Stop lines fault) = lines
 
 -- all the lines were written, and the record stands behind what was read
-pub record Finished {A : Type 0} (told : Told A) (x : A) (bytes : List ℕ) (known : Option (List ℕ)) (at : Record) (old new : Option (List ℕ)) : Type 0 where
+pub record Finished {A : Type 0} (told : Told A) (x : A) (bytes : List ℕ) (known : Supply) (at : Record) (old new : Option (List ℕ)) : Type 0 where
   pub lines : List (List ℕ)
   pub left : List ℕ
   pub told_is : told ≡ Done lines x left
@@ -75,38 +81,41 @@ pub record Stopped {A : Type 0} (told : Told A) (fault : InfoFault) (old new : O
   pub written : Appends old new (joined lines)
 
 -- the first lines were written, each of them whole
-pub record CutOff {A : Type 0} (told : Told A) (old new : Option (List ℕ)) : Type 0 where
+pub record Begun {A : Type 0} (told : Told A) (old new : Option (List ℕ)) : Type 0 where
   pub lines : List (List ℕ)
   pub more : List (List ℕ)
   pub lines_are : lines_of told ≡ lines ++ more
   pub written : Appends old new (joined lines)
 
--- What was written before a fault. After one of the writer nothing is known of it.
-abbrev pub AfterFault : {A : Type 0} → Told A → InfoFault → Option (List ℕ) → Option (List ℕ) → Type 0
-AfterFault told Write old new = Unit {0}
-AfterFault told Read old new = CutOff told old new
-AfterFault told Memory old new = CutOff told old new
-AfterFault told Unreadable old new = Stopped told Unreadable old new
-AfterFault told TooMany old new = Stopped told TooMany old new
-AfterFault told (Refused head) old new = Stopped told (Refused head) old new
+-- What was written before a fault. After one of the writer nothing is known of it. A source that never fails has no
+-- fault of its own.
+abbrev pub AfterFault : {A : Type 0} → Told A → InfoFault → Supply → Option (List ℕ) → Option (List ℕ) → Type 0
+AfterFault told Write known old new = Unit {0}
+AfterFault told Read known old new = Begun told old new × IsTrue known.can_fail
+AfterFault told Memory known old new = Begun told old new
+AfterFault told Unreadable known old new = Stopped told Unreadable old new
+AfterFault told CutOff known old new = Stopped told CutOff old new
+AfterFault told TooLong known old new = Stopped told TooLong old new
+AfterFault told TooMany known old new = Stopped told TooMany old new
+AfterFault told (Refused head) known old new = Stopped told (Refused head) old new
 
-abbrev pub Outcome : {A : Type 0} → Told A → List ℕ → Option (List ℕ) → Record → Option (List ℕ) → Option (List ℕ) → Result A InfoFault → Type 0
+abbrev pub Outcome : {A : Type 0} → Told A → List ℕ → Supply → Record → Option (List ℕ) → Option (List ℕ) → Result A InfoFault → Type 0
 Outcome told bytes known at old new (Ok x) = Finished told x bytes known at old new
-Outcome told bytes known at old new (Err fault) = AfterFault told fault old new
+Outcome told bytes known at old new (Err fault) = AfterFault told fault known old new
 
--- Of each input where the record stood before the data, its outcome is what the teller says of the data. The reader had
+-- Of each input where the record stood before the data, its outcome is what the teller says of the data. The source had
 -- `known` left, then `known'`, and the writer held `old`, then `new`.
-pub record Tells {A : Type 0} (teller : Teller A) (known known' : Option (List ℕ)) (at at' : Record) (old new : Option (List ℕ)) (result : Result A InfoFault) : Type 0 where
-  pub outcome : (bytes content : List ℕ) → Stands bytes known at content → Outcome (teller content) bytes known' at' old new result
+pub record Tells {A : Type 0} (teller : Teller A) (known known' : Supply) (at at' : Record) (old new : Option (List ℕ)) (result : Result A InfoFault) : Type 0 where
+  pub outcome : (bytes content : List ℕ) → Stands bytes known at content → Outcome (teller (end_of bytes) content) bytes known' at' old new result
 
 -- the same of what is not written, whatever any writer holds
-abbrev pub Takes : {A R : Type 0} → (R → Option (List ℕ)) → R → R → Record → Record → Teller A → Result A InfoFault → Type 0
-Takes remaining reader reader' at at' teller result = (held : Option (List ℕ)) → Tells teller (remaining reader) (remaining reader') at at' held held result
+abbrev pub Takes : {A B : Type 0} → (B → Supply) → B → B → Record → Record → Teller A → Result A InfoFault → Type 0
+Takes left source source' at at' teller result = (held : Option (List ℕ)) → Tells teller (left source) (left source') at at' held held result
 
 -- of what is read and written
-abbrev pub Shows : {A R W : Type 0} → (R → Option (List ℕ)) → (W → Option (List ℕ)) → R → R → Record → Record → W → W → Teller A → Result A InfoFault → Type 0
-Shows remaining contents reader reader' at at' writer writer' teller result = Tells teller (remaining reader) (remaining reader') at at' (contents writer) (contents writer') result
+abbrev pub Shows : {A B W : Type 0} → (B → Supply) → (W → Option (List ℕ)) → B → B → Record → Record → W → W → Teller A → Result A InfoFault → Type 0
+Shows left contents source source' at at' writer writer' teller result = Tells teller (left source) (left source') at at' (contents writer) (contents writer') result
 
 -- of what is written, wherever any reader stands
 abbrev pub Writes : {A W : Type 0} → (W → Option (List ℕ)) → W → W → Teller A → Result A InfoFault → Type 0
-Writes contents writer writer' teller result = (known : Option (List ℕ)) (at : Record) → Tells teller known known at at (contents writer) (contents writer') result
+Writes contents writer writer' teller result = (known : Supply) (at : Record) → Tells teller known known at at (contents writer) (contents writer') result

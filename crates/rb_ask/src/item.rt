@@ -4,11 +4,11 @@ ghost use Rattle.rb_ask.specs.Telling.{take_one, Takes};
 
 use crate::fault::InfoFault;
 use crate::record::Record;
+use crate::source::ByteSource;
 use rb_xdr::{Xdr, XdrFault};
 use std::alloc::Global;
-use std::io::Read;
 
-/// Whether bytes that may follow could mend it.
+/// Returns whether bytes that may follow could mend the fault.
 fn is_short(fault: XdrFault) -> bool
     ensures short { result ≡ true → fault ≡ XdrFault.Short }
     ensures other { result ≡ false → fault ≡ XdrFault.Short → ⊥ }
@@ -21,14 +21,14 @@ fn is_short(fault: XdrFault) -> bool
 
 /// Reads a value from the front of the record's data, and no byte behind it.
 ///
-/// `Unreadable` where the data does not begin with the spelling of a value: as soon as no further byte could complete
-/// one, else at the end of the data. `Read` and `Memory` as `Record::byte` and the allocator say.
-pub fn take_item<T: Xdr, R: Read>(
+/// `Unreadable` where the data does not begin with the spelling of a value, as soon as no further byte could complete
+/// one. `CutOff`, `TooLong` and `Read` as `Record::byte` says, and `Memory` where an allocation is refused.
+pub fn take_item<T: Xdr, B: ByteSource>(
     alloc: Global,
-    reader: &mut R,
+    source: &mut B,
     at: &mut Record,
 ) -> Result<T, InfoFault>
-    ensures { Takes R.remaining reader.old reader.new at.old at.new
+    ensures { Takes B.left source.old source.new at.old at.new
         (take_one T.reads) result }
 {
     T::laws();
@@ -42,7 +42,7 @@ pub fn take_item<T: Xdr, R: Read>(
                 }
             }
         }
-        let byte = at.byte(reader)?;
+        let byte = at.byte(source)?;
         if bytes.push(byte).is_err() {
             return Err(InfoFault::Memory);
         }

@@ -7,6 +7,7 @@ mod item;
 mod laws;
 mod list;
 mod record;
+mod source;
 mod whole_list;
 
 pub use fault::InfoFault;
@@ -15,4 +16,5 @@ pub use item::take_item;
 pub use laws::heads_are_read;
 pub use list::{Style, show_item, show_list};
 pub use record::Record;
+pub use source::{ByteSource, HeldBytes, ReadBytes, SourceFailed};
 pub use whole_list::take_list;

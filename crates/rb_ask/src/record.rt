@@ -1,12 +1,11 @@
 //! The data of a marked record, byte by byte (RFC 5531 section 11).
-ghost use Rattle.std.specs.Prelude.{◌≡◌, ◌+◌, ◌<◌, ◌∷◌, [], length, false, IfOk, IfErr, OnOk};
-ghost use Rattle.std.specs.Io.KnownBytes.{IsAtEnd};
+ghost use Rattle.std.specs.Prelude.{◌≡◌, ◌+◌, ◌<◌, ◌∷◌, [], false, IfOk, IfErr, OnOk};
 ghost use Rattle.rb_xdr.specs.Xdr.{number};
-ghost use Rattle.rb_ask.specs.Data.{longest_record, Counts, Passed, Stands};
-ghost use Rattle.rb_ask.specs.Reading.{HasRead, UnreadableMeans, IsNotRead, HasFewer, Passes, Ends, Gives};
+ghost use Rattle.rb_ask.specs.Data.{longest_record, Counts};
+ghost use Rattle.rb_ask.specs.Reading.{HasRead, FailsWithin, DataEnds, Passes, Gives};
 
 use crate::fault::InfoFault;
-use std::io::Read;
+use crate::source::ByteSource;
 
 /// At most so many bytes of a record are read, its headers among them.
 const LONGEST_RECORD: u32 = 16_777_216;
@@ -14,7 +13,7 @@ const LONGEST_RECORD: u32 = 16_777_216;
 /// The highest bit of a header: the fragment is the last of its record.
 const LAST: u32 = 1 << 31;
 
-/// Where a reader stands in a record.
+/// A place in a marked record.
 #[derive(Clone, Copy, Debug, PartialEq, Eq)]
 pub struct Record {
     /// How many bytes of the fragment's data are still to come.
@@ -26,7 +25,7 @@ pub struct Record {
 }
 
 impl Record {
-    /// Before the first byte of a record.
+    /// Returns the place before the first byte of a record.
     pub fn new() -> Record
         ensures { result ≡ record { left = 0; last = false; allowed = longest_record } }
     {
@@ -37,74 +36,71 @@ impl Record {
         }
     }
 
-    /// The next byte of the input, of whichever part.
-    fn raw<R: Read>(&mut self, reader: &mut R) -> Result<u8, InfoFault>
-        ensures took { IfOk result (λ b. HasRead R.remaining reader.old reader.new (b ∷ [])) }
+    /// Reads the next byte of the source, of whichever part of a record.
+    fn raw<B: ByteSource>(&mut self, source: &mut B) -> Result<u8, InfoFault>
+        ensures took { IfOk result (λ b. HasRead B.left source.old source.new (b ∷ [])) }
         ensures counts { OnOk result (Counts self.old self.new) }
-        ensures ended { IfErr result (UnreadableMeans (IsAtEnd (R.remaining reader.old))) }
-        ensures faults { IfErr result IsNotRead }
+        ensures faults { IfErr result (FailsWithin 1 (B.left source.old) (B.left source.new) self.old) }
     {
         if self.allowed == 0 {
-            return Err(InfoFault::Read);
+            return Err(InfoFault::TooLong);
         }
-        let mut byte = [0];
-        match reader.read(&mut byte) {
-            Ok(0) => Err(InfoFault::Unreadable),
-            Ok(_) => {
+        match source.next_byte() {
+            Ok(Some(byte)) => {
                 self.allowed -= 1;
-                Ok(byte[0])
+                Ok(byte)
             }
+            Ok(None) => Err(InfoFault::CutOff),
             Err(_) => Err(InfoFault::Read),
         }
     }
 
-    /// The next four bytes of the input, as a number.
+    /// Reads the next four bytes of the source, as a number.
     #[tactic(auto, unfolding(rb_xdr::specs::Xdr::number))]
-    fn number<R: Read>(&mut self, reader: &mut R) -> Result<u32, InfoFault>
-        ensures took { IfOk result (λ n. HasRead R.remaining reader.old reader.new (number n)) }
+    fn number<B: ByteSource>(&mut self, source: &mut B) -> Result<u32, InfoFault>
+        ensures took { IfOk result (λ n. HasRead B.left source.old source.new (number n)) }
         ensures allowed { OnOk result (self.old.allowed ≡ self.new.allowed + 4) }
-        ensures ended { IfErr result (UnreadableMeans (HasFewer 4 (R.remaining reader.old))) }
-        ensures faults { IfErr result IsNotRead }
+        ensures faults { IfErr result (FailsWithin 4 (B.left source.old) (B.left source.new) self.old) }
     {
-        let a = self.raw(reader)?;
-        let b = self.raw(reader)?;
-        let c = self.raw(reader)?;
-        let d = self.raw(reader)?;
+        let a = self.raw(source)?;
+        let b = self.raw(source)?;
+        let c = self.raw(source)?;
+        let d = self.raw(source)?;
         Ok(u32::from_be_bytes([a, b, c, d]))
     }
 
     /// Goes on to the next fragment.
-    #[tactic(auto, using(crate::proofs::Records::header_passes, crate::proofs::Records::short_ends))]
-    fn next_fragment<R: Read>(&mut self, reader: &mut R) -> Result<(), InfoFault>
+    #[tactic(auto, using(crate::proofs::Records::header_passes))]
+    fn next_fragment<B: ByteSource>(&mut self, source: &mut B) -> Result<(), InfoFault>
         requires over { self.old.left ≡ 0 }
         requires more { self.old.last ≡ false }
-        ensures passes { OnOk result (Passes R.remaining reader.old reader.new self.old self.new) }
+        ensures passes { OnOk result (Passes B.left source.old source.new self.old self.new) }
         ensures allowed { OnOk result (self.new.allowed < self.old.allowed) }
-        ensures ended { IfErr result (UnreadableMeans (Ends R.remaining reader.old self.old)) }
-        ensures faults { IfErr result IsNotRead }
+        ensures faults { IfErr result (DataEnds (B.left source.old) (B.left source.new) self.old) }
     {
-        let number = self.number(reader)?;
+        let number = self.number(source)?;
         self.left = number % LAST;
         self.last = number >= LAST;
         Ok(())
     }
 
-    /// The next byte of the record's data. Where there is none it is `Unreadable`, and `Read` where the reader fails or
-    /// as much was read as may be.
-    #[tactic(auto, using(crate::proofs::Records::byte_gives, crate::proofs::Records::last_ends, crate::proofs::Records::input_ends))]
-    pub fn byte<R: Read>(&mut self, reader: &mut R) -> Result<u8, InfoFault>
-        ensures gives { IfOk result (Gives R.remaining reader.old reader.new self.old self.new) }
+    /// Reads the next byte of the record's data.
+    ///
+    /// `CutOff` where the record or the source ends before it, `TooLong` where 16,777,216 bytes of the record were
+    /// read before it, and `Read` where the source fails.
+    #[tactic(auto, using(crate::proofs::Records::byte_gives))]
+    pub fn byte<B: ByteSource>(&mut self, source: &mut B) -> Result<u8, InfoFault>
+        ensures gives { IfOk result (Gives B.left source.old source.new self.old self.new) }
         ensures allowed { OnOk result (self.new.allowed < self.old.allowed) }
-        ensures ended { IfErr result (UnreadableMeans (Ends R.remaining reader.old self.old)) }
-        ensures faults { IfErr result IsNotRead }
+        ensures faults { IfErr result (DataEnds (B.left source.old) (B.left source.new) self.old) }
     {
         'fragments: while self.left == 0 {
             if self.last {
-                return Err(InfoFault::Unreadable);
+                return Err(InfoFault::CutOff);
             }
-            self.next_fragment(reader)?;
+            self.next_fragment(source)?;
         }
-        let byte = self.raw(reader)?;
+        let byte = self.raw(source)?;
         self.left -= 1;
         Ok(byte)
     }

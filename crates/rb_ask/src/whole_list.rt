@@ -8,23 +8,24 @@ use crate::fault::InfoFault;
 use crate::item::take_item;
 use crate::list::GREATEST_LIST;
 use crate::record::Record;
+use crate::source::ByteSource;
 use rb_xdr::Xdr;
 use std::alloc::Global;
-use std::io::Read;
 
-/// Takes the items of a list, at most 4,096 of them.
-pub fn take_list<T: Xdr, R: Read>(
+/// Reads the items of a list (RFC 4506 section 4.19), at most 4,096 of them. `TooMany` at the 4,097th; the other faults
+/// are those of `take_item`.
+pub fn take_list<T: Xdr, B: ByteSource>(
     alloc: Global,
-    reader: &mut R,
+    source: &mut B,
     at: &mut Record,
 ) -> Result<Vec<T>, InfoFault>
-    ensures takes { Takes R.remaining reader.old reader.new at.old at.new
+    ensures takes { Takes B.left source.old source.new at.old at.new
         (take_items T.reads greatest_list []) (items_in result) }
     ensures few { IfOk result (λ items. length items.items ≤ greatest_list) }
 {
     let mut items = Vec::new(alloc);
     for taken in 0..GREATEST_LIST {
-        let next: Option<T> = take_item(alloc, reader, at)?;
+        let next: Option<T> = take_item(alloc, source, at)?;
         match next {
             None => return Ok(items),
             Some(item) => {
@@ -34,7 +35,7 @@ pub fn take_list<T: Xdr, R: Read>(
             }
         }
     }
-    let more: bool = take_item(alloc, reader, at)?;
+    let more: bool = take_item(alloc, source, at)?;
     if more {
         return Err(InfoFault::TooMany);
     }

@@ -15,27 +15,29 @@ pub enum Place {
     Address(Transport, Uaddr),
 }
 
-/// How it is found where a program is.
+/// How the place of a program is found.
 #[derive(Clone, Copy, Debug, PartialEq, Eq)]
 pub enum Way {
     /// By GETPORT of version 2.
     Port(Transport),
     /// By GETADDR of version 3, over the transport of this netid.
     Address(Netid),
-    /// It is known.
+    /// By nothing, since it is known.
     Known(Place),
 }
 
-/// Procedure 0 of a program is called.
+/// A course of questions that ends with calls of procedure 0 of a program.
 #[derive(Clone, Copy, Debug, PartialEq, Eq)]
 pub struct Course {
+    /// How the place of the program is found.
     pub way: Way,
+    /// The number of the program.
     pub prog: u32,
-    /// As which user is asked, each time; as nobody without one.
+    /// The user id of the AUTH_SYS credential of each question; AUTH_NONE without one.
     pub uid: Option<u32>,
 }
 
-/// Which version is called, and to what end.
+/// The version that is called, and why.
 #[derive(Clone, Copy, Debug, PartialEq, Eq)]
 pub enum Aim {
     /// The version that was named.
@@ -46,10 +48,11 @@ pub enum Aim {
     Greatest,
     /// One of those that there are.
     Each {
+        /// This one.
         vers: u32,
         /// The last of them.
         high: u32,
-        /// One before it wasn't available.
+        /// Whether one before it was not available.
         lacks: bool,
     },
 }
@@ -61,43 +64,49 @@ pub enum End {
     Ready,
     /// One of several is not available.
     SomeLack,
-    /// The version that was named is not available.
+    /// The version that was named is not available, for this refusal where procedure 0 was called.
     NotAvailable(u32, Option<ReplyStatus>),
-    /// The program is not available.
+    /// The program is not available, in the same way.
     NoProgram(Option<ReplyStatus>),
     /// The portmapper refused to say where.
     Refused(ReplyStatus),
     /// There are more versions than are called.
     TooMany,
-    /// The answer is none to the question.
+    /// The answer is no answer to the question.
     Unreadable,
 }
 
+/// Where a course stands.
 #[derive(Clone, Copy, Debug, PartialEq, Eq)]
 pub enum Stage {
-    /// It is asked where the program is.
+    /// The portmapper is asked where the program is.
     Find(Aim),
     /// The same by GETPORT, of a portmapper that has no GETADDR.
     FindOld(Aim, Transport),
     /// Procedure 0 is called there.
     Call(Aim, Place),
+    /// Nothing more is asked.
     End(End),
 }
 
 /// What a question was answered with.
 #[derive(Clone, Copy, Debug, PartialEq, Eq)]
 pub enum Answer {
+    /// The port of GETPORT.
     Port(u32),
+    /// The address of GETADDR, or that there is none.
     Address(Option<Uaddr>),
     /// Procedure 0 answered.
     Ready,
+    /// The call was refused (RFC 5531 section 9).
     Refused(ReplyStatus),
 }
 
 /// What follows of an answer.
 #[derive(Clone, Copy, Debug, PartialEq, Eq)]
 pub struct Step {
-    /// This one of several versions is not available.
+    /// The version that is not available, where it is one of several.
     pub lacks: Option<u32>,
+    /// The stage behind the answer.
     pub stage: Stage,
 }

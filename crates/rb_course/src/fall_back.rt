@@ -5,7 +5,7 @@ ghost use Rattle.rb_course.specs.Fallback.{has_two, old_of, fallback};
 use rb_rpc::ReplyStatus;
 use rb_show::Question;
 
-/// Whether a refusal says that there is a version 2.
+/// Returns whether a refusal says that the server has version 2.
 fn has_two(status: ReplyStatus) -> bool
     ensures { result ≡ has_two status }
 {
@@ -33,7 +33,8 @@ fn old_of(question: Question) -> Option<Question>
     }
 }
 
-/// What is asked in place of a question that was refused; nothing where that is the end of it.
+/// Returns the question of version 2 that is asked in place of one that was refused; `None` where the refusal does not
+/// say that the server has version 2, or the question is for no list of rows.
 pub fn fallback(question: Question, status: ReplyStatus) -> Option<Question>
     ensures { result ≡ fallback question status }
 {

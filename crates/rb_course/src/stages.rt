@@ -25,7 +25,7 @@ fn prot_of(transport: Transport) -> u32
     }
 }
 
-/// Over which transport a netid goes. A socket of this machine is one of a stream.
+/// Returns the transport of a netid. A local socket is one of a stream, as TCP is.
 pub fn transport_of(netid: Netid) -> Transport
     ensures { result ≡ transport_of netid }
 {
@@ -89,7 +89,7 @@ fn question_at(course: &Course, stage: Stage) -> Option<(Place, Question)>
     }
 }
 
-/// What is asked at a stage, by the user of the course, and where; nothing at the end.
+/// Returns what is asked at a stage, by the user of the course, and where; `None` at the end.
 pub fn asked(course: &Course, stage: Stage) -> Option<(Place, Ask)>
     ensures { result ≡ asked course.now stage }
 {
@@ -105,7 +105,7 @@ pub fn asked(course: &Course, stage: Stage) -> Option<(Place, Ask)>
     }
 }
 
-/// The first stage of a version: it is called where its place is known, and found else.
+/// Returns the first stage of a version: its call where the place is known, else the question where it is.
 pub fn begin(course: &Course, aim: Aim) -> Stage
     ensures { result ≡ begin course.now aim }
 {
@@ -282,7 +282,9 @@ fn called(course: &Course, aim: Aim, answer: Answer) -> Step
     }
 }
 
-/// What follows of an answer at a stage.
+/// Returns the stage behind an answer, and the version that is not available, where it is one of several.
+///
+/// Without a version that is named, at most 256 versions are called; a server that names more ends in `TooMany`.
 pub fn next(course: &Course, stage: Stage, answer: Answer) -> Step
     ensures { result ≡ next course.now stage answer }
 {

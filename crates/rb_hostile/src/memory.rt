@@ -6,7 +6,7 @@ ghost use Rattle.std.specs.Prelude.{◌≡◌};
 use crate::cores::{LOOPBACK, bytes_of, core_of, set_call};
 use rb_core::{Core, CoreFault, Event, NoMemory, Output, replay};
 use rb_lines::{ReadFault, read_events};
-use rb_show::{Ask, Form, InfoFault, Question, Shown, show_reply, write_call};
+use rb_show::{Ask, Form, HeldBytes, InfoFault, Question, Shown, show_reply, write_call};
 use rb_xdr::Meter;
 use std::alloc::{AllocError, Global};
 use std::process::Abort;
@@ -146,7 +146,7 @@ fn refused_memory_of_a_reply(rt: HostRuntime) {
         &ASK,
         Form::Plain,
         1,
-        &mut &REPLY[..],
+        &mut HeldBytes::new(REPLY),
         &mut writer,
     );
     let len = 90usize.saturating_sub(writer.len());

@@ -1,7 +1,9 @@
 //! Replies that break off, readers that fail, and writers that fail: what is shown before is whole lines.
 ghost use Rattle.std.specs.Prelude.{◌≤◌, length};
 
-use rb_show::{Ask, Form, InfoFault, Question, Shown, show_reply};
+use rb_show::{
+    Ask, ByteSource, Form, HeldBytes, InfoFault, Question, ReadBytes, Shown, show_reply,
+};
 use std::alloc::{AllocError, Global};
 use std::io;
 use std::io::{ErrorKind, Read, Write};
@@ -47,10 +49,10 @@ fn shown_of(len: usize) -> &'static [u8] {
     TABLE.get(..lines.saturating_mul(30)).unwrap_or(TABLE)
 }
 
-/// What comes of the reader's bytes, and what is written.
-fn show<R: Read>(alloc: Global, reader: &mut R) -> (Result<Shown, InfoFault>, Vec<u8>) {
+/// What comes of the source's bytes, and what is written.
+fn show<B: ByteSource>(alloc: Global, source: &mut B) -> (Result<Shown, InfoFault>, Vec<u8>) {
     let mut written = Vec::new(alloc);
-    let result = show_reply(alloc, &ASK, Form::Plain, 1, reader, &mut written);
+    let result = show_reply(alloc, &ASK, Form::Plain, 1, source, &mut written);
     (result, written)
 }
 
@@ -59,11 +61,11 @@ fn replies_in_prefixes(rt: HostRuntime) -> Result<(), Fail> {
     let reply = reply(rt.alloc())?;
     assert_eq!(rt; reply.len(), 152);
     for len in 0..152 {
-        let (result, written) = show(rt.alloc(), &mut &reply[..len]);
-        assert_eq!(rt; result, Err(InfoFault::Unreadable), "{len}");
+        let (result, written) = show(rt.alloc(), &mut HeldBytes::new(&reply[..len]));
+        assert_eq!(rt; result, Err(InfoFault::CutOff), "{len}");
         assert_eq!(rt; written.as_slice(), shown_of(len), "{len}");
     }
-    let (result, written) = show(rt.alloc(), &mut reply.as_slice());
+    let (result, written) = show(rt.alloc(), &mut HeldBytes::new(&reply));
     assert_eq!(rt; result, Ok(Shown::Rows(6)));
     assert_eq!(rt; written.as_slice(), TABLE);
     Ok(())
@@ -97,14 +99,23 @@ impl Read for Failing<'_> {
 fn replies_in_prefixes_by_a_failing_reader(rt: HostRuntime) -> Result<(), Fail> {
     let reply = reply(rt.alloc())?;
     for reads in 0..152 {
-        let mut reader = Failing {
+        let mut source = ReadBytes::new(Failing {
             bytes: &reply,
             reads,
-        };
-        let (result, written) = show(rt.alloc(), &mut reader);
+        });
+        let (result, written) = show(rt.alloc(), &mut source);
         assert_eq!(rt; result, Err(InfoFault::Read), "{reads}");
         assert_eq!(rt; written.as_slice(), shown_of(reads), "{reads}");
     }
+    Ok(())
+}
+
+/// Zeros are fragments without data and without end: 16,777,216 bytes are read of them, and nothing is shown.
+#[test]
+fn reply_without_end(rt: HostRuntime) -> Result<(), Fail> {
+    let (result, written) = show(rt.alloc(), &mut ReadBytes::new(io::repeat(0)));
+    assert_eq!(rt; result, Err(InfoFault::TooLong));
+    assert!(rt; written.is_empty());
     Ok(())
 }
 
@@ -143,7 +154,7 @@ fn replies_in_prefixes_to_a_failing_writer(rt: HostRuntime) -> Result<(), Fail> 
             &ASK,
             Form::Plain,
             1,
-            &mut reply.as_slice(),
+            &mut HeldBytes::new(&reply),
             &mut writer,
         );
         let wanted = if writes < 7 {

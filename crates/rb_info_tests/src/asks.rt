@@ -1,4 +1,4 @@
-use rb_show::{Ask, Form, Question, show_reply, write_call};
+use rb_show::{Ask, Form, HeldBytes, Question, show_reply, write_call};
 use std::test::Fail;
 
 /// A question of nobody.
@@ -29,7 +29,7 @@ fn show_reply_has_memory(rt: HostRuntime) -> Result<(), Fail> {
     reply.extend_from_slice(entry.as_slice())?;
     let mut shown = Vec::new(rt.alloc());
     let ask = of_nobody(Question::Entries(200_001, 1));
-    let mut reply = reply.as_slice();
+    let mut reply = HeldBytes::new(&reply);
     show_reply(rt.alloc(), &ask, Form::Plain, 1, &mut reply, &mut shown).map_err(|_| "refused")?;
     assert_eq!(rt;
         shown.as_slice(),
@@ -46,7 +46,7 @@ fn summary_has_memory(rt: HostRuntime) -> Result<(), Fail> {
     let mut reply = Vec::new(rt.alloc());
     reply.extend_from_slice(head.as_slice())?;
     reply.extend_from_slice(row.as_slice())?;
-    let mut reply = reply.as_slice();
+    let mut reply = HeldBytes::new(&reply);
     let mut shown = Vec::new(rt.alloc());
     let ask = of_nobody(Question::Summary);
     show_reply(rt.alloc(), &ask, Form::Plain, 1, &mut reply, &mut shown).map_err(|_| "refused")?;

@@ -2,7 +2,7 @@
 use crate::turns::{daemon_of, receive};
 use rb_course::{Aim, Answer, Course, End, Place, Stage, Step, Way, asked, begin, next};
 use rb_daemon::Daemon;
-use rb_show::{Form, InfoFault, Shown, show_reply, write_call};
+use rb_show::{Form, HeldBytes, InfoFault, Shown, show_reply, write_call};
 use rb_words::Transport;
 use std::io::Write;
 use std::net::{Ipv4Addr, SocketAddr, TcpStream};
@@ -30,7 +30,7 @@ fn step(
     stream.write_all(&call).ok()?;
     let mut got = [0; 256];
     let len = receive(daemon, &mut stream, &mut got);
-    let mut reply = got.get(..len)?;
+    let mut reply = HeldBytes::new(got.get(..len)?);
     let answer = match show_reply(rt.alloc(), &ask, Form::Plain, xid, &mut reply, shown) {
         Ok(Shown::Null) => Answer::Ready,
         Err(InfoFault::Refused(head)) => Answer::Refused(head.status),

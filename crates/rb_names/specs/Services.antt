@@ -1,7 +1,10 @@
 -- Names of programs, as rpc(5) writes them.
-use Rattle.std.specs.Prelude.{ℕ, ◌==◌, nat_lt, Bool, not, if◌then◌else◌, List, [], ◌∷◌, length, map, Option, Some, None, option_map}
+use Rattle.std.specs.Prelude.{◌≡◌, ℕ, ◌==◌, ◌++◌, nat_lt, Bool, not, if◌then◌else◌, List, [], ◌∷◌, length, map, Option, Some, None, option_map}
 use Rattle.std.specs.List.{slice_split, before_first, filter, find, flat_map}
 use Rattle.std.specs.Char.{is_ascii_whitespace}
+use Rattle.std.specs.Borrow.{Bor}
+use Rattle.std.specs.Global.{Vec}
+use Rattle.std.specs.Vec.{vec_items}
 use Rattle.std.specs.Str.{bytes_eq}
 use Rattle.rb_names.specs.declared.services.Service.{Service}
 use Rattle.rb_names.specs.Numbers.{number_in}
@@ -14,6 +17,14 @@ Named = List ℕ × ℕ
 
 abbrev pub plain : List Service → List Named
 plain services = map (λ service. (service.name.items, service.number)) services
+
+-- these names stand behind those that were there
+abbrev pub Adds : Vec Service → Vec Service → List Named → Type 0
+Adds old new names = plain (vec_items new) ≡ plain (vec_items old) ++ names
+
+-- the texts behind their borrows
+abbrev pub texts_at : List (Bor (List ℕ)) → List (List ℕ)
+texts_at texts = map (λ text. text.now) texts
 
 abbrev pub is_newline : ℕ → Bool
 is_newline b = b == 10

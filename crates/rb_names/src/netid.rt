@@ -1,12 +1,16 @@
 //! Names of transports (RFC 5665 section 5.1).
 ghost use Rattle.std.specs.Prelude.{◌≡◌};
 
-/// The netids that are known here.
+/// A netid: the name of a transport.
 #[derive(Clone, Copy, Debug, PartialEq, Eq)]
 pub enum Netid {
+    /// TCP over IPv4.
     Tcp,
+    /// UDP over IPv4.
     Udp,
+    /// TCP over IPv6.
     Tcp6,
+    /// UDP over IPv6.
     Udp6,
     /// A socket of this machine.
     Local,
@@ -15,7 +19,7 @@ pub enum Netid {
 impl Netid {
     ghost use Rattle.rb_names.specs.Netids.{netid_of, netid_text};
 
-    /// The netid that has this text.
+    /// Returns the netid that has this text; `None` where there is none. Upper and lower case differ.
     pub fn from_text(text: &str) -> Option<Netid>
         ensures { result ≡ netid_of text.now }
     {
@@ -29,6 +33,7 @@ impl Netid {
         }
     }
 
+    /// Returns the text of a netid.
     pub fn text(self) -> &'static str
         ensures { result.now ≡ netid_text self }
     {

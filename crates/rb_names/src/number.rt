@@ -3,14 +3,15 @@ ghost use Rattle.std.specs.Prelude.{◌≡◌};
 ghost use Rattle.std.specs.List.{list_all};
 ghost use Rattle.rb_names.specs.Numbers.{is_digit, number_in};
 
-/// Whether there are decimal digits alone.
+/// Returns whether the text has decimal digits alone.
 fn is_of_digits(text: &str) -> bool
     ensures { result ≡ list_all is_digit text.now }
 {
     text.bytes().all(|byte| byte.is_ascii_digit())
 }
 
-/// A number in decimal digits between two bounds. A sign is no digit: `parse` itself would take one.
+/// Reads a number of decimal digits that is at least `least` and at most `most`; `None` for any other text. A sign is no
+/// digit, though std's `parse` takes one.
 pub fn number_in(text: &str, least: u32, most: u32) -> Option<u32>
     ensures { result ≡ number_in least most text.now }
 {

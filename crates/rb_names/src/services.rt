@@ -1,32 +1,34 @@
 //! Names of programs, as rpc(5) writes them: a line has a name, a number and further names, with white space between
 //! them, and a comment behind `#`.
-ghost use Rattle.std.specs.Prelude.{◌≡◌, ◌++◌, [], ◌∷◌, List, map, option_map, IfOk, OnOk};
+ghost use Rattle.std.specs.Prelude.{◌≡◌, [], ◌∷◌, List, option_map, IfOk, OnOk};
 ghost use Rattle.std.specs.List.{slice_split, before_first};
 ghost use Rattle.std.specs.Char.{is_ascii_whitespace};
 ghost use Rattle.rb_names.specs.Numbers.{number_in};
-ghost use Rattle.rb_names.specs.Services.{plain, is_newline, is_hash, words_of, numbered, services_of, services_in_line, services_in, number_of, name_of};
+ghost use Rattle.rb_names.specs.Services.{plain, texts_at, Adds, is_newline, is_hash, words_of, numbered, services_of, services_in_line, services_in, number_of, name_of};
 
 use crate::number::number_in;
 use std::alloc::{AllocError, Global};
 use std::str;
 
-/// A longer text has no names, in bytes.
+/// The length in bytes of the longest text that has names.
 pub const LONGEST_SERVICES: usize = 65_536;
 
-/// A longer line has none.
+/// The length in bytes of the longest line that has names.
 const LONGEST_LINE: usize = 1_024;
 
-/// A name of a program, with its number.
+/// A name of a program, with the program's number.
 #[derive(Debug, Drop)]
 pub struct Service {
+    /// The name, of any bytes but white space and `#`.
     pub name: Vec<u8>,
+    /// The number of the program.
     pub number: u32,
 }
 
 /// The lines of a text.
 fn lines_of<'a>(alloc: Global, text: &'a [u8]) -> Result<Vec<&'a [u8]>, AllocError>
     ensures { IfOk result
-        (λ lines. map (λ line. line.now) lines.items ≡ slice_split is_newline text.now) }
+        (λ lines. texts_at lines.items ≡ slice_split is_newline text.now) }
 {
     text.split(|byte| *byte == b'\n').collect(alloc)
 }
@@ -44,7 +46,7 @@ fn without_comment(line: &[u8]) -> &[u8]
 /// What stands between white space.
 fn words_of<'a>(alloc: Global, line: &'a [u8]) -> Result<Vec<&'a [u8]>, AllocError>
     ensures { IfOk result
-        (λ words. map (λ word. word.now) words.items ≡ words_of line.now) }
+        (λ words. texts_at words.items ≡ words_of line.now) }
 {
     line.split(|byte| byte.is_ascii_whitespace())
         .filter(|word| !word.is_empty())
@@ -69,7 +71,7 @@ fn push_name(
     services: &mut Vec<Service>,
 ) -> Result<(), AllocError>
     ensures { OnOk result
-        (plain services.new.items ≡ plain services.old.items ++ (name.now, number) ∷ []) }
+        (Adds services.old services.new ((name.now, number) ∷ [])) }
 {
     let mut own = Vec::new(alloc);
     own.extend_from_slice(name)?;
@@ -85,7 +87,7 @@ fn push_names(
     services: &mut Vec<Service>,
 ) -> Result<(), AllocError>
     ensures { OnOk result
-        (plain services.new.items ≡ plain services.old.items ++ numbered (map (λ name. name.now) names.now) number) }
+        (Adds services.old services.new (numbered (texts_at names.now) number)) }
 {
     for name in names {
         push_name(alloc, name, number, services)?;
@@ -96,7 +98,7 @@ fn push_names(
 /// Adds the names that the words of a line give.
 fn push_words(alloc: Global, words: &[&[u8]], services: &mut Vec<Service>) -> Result<(), AllocError>
     ensures { OnOk result
-        (plain services.new.items ≡ plain services.old.items ++ services_of (map (λ word. word.now) words.now)) }
+        (Adds services.old services.new (services_of (texts_at words.now))) }
 {
     let [name, number, aliases @ ..] = words else {
         return Ok(());
@@ -111,7 +113,7 @@ fn push_words(alloc: Global, words: &[&[u8]], services: &mut Vec<Service>) -> Re
 /// Adds the names of a line.
 fn push_line(alloc: Global, line: &[u8], services: &mut Vec<Service>) -> Result<(), AllocError>
     ensures { OnOk result
-        (plain services.new.items ≡ plain services.old.items ++ services_in_line line.now) }
+        (Adds services.old services.new (services_in_line line.now)) }
 {
     if line.len() > LONGEST_LINE {
         return Ok(());
@@ -120,8 +122,9 @@ fn push_line(alloc: Global, line: &[u8], services: &mut Vec<Service>) -> Result<
     push_words(alloc, &words, services)
 }
 
-/// The names of programs in a text, in their order. A line of more than 1,024 bytes, and a text of more than 65,536, has
-/// none, and so has a line whose second word is no number.
+/// Reads the names of programs in a text, in their order. A line of more than 1,024 bytes has none, a line whose second
+/// word is no number of 32 bits has none, and a text of more than 65,536 bytes has none. `AllocError` where an
+/// allocation is refused.
 pub fn read_services(alloc: Global, text: &[u8]) -> Result<Vec<Service>, AllocError>
     ensures { IfOk result (λ services. plain services.items ≡ services_in text.now) }
 {
@@ -136,7 +139,8 @@ pub fn read_services(alloc: Global, text: &[u8]) -> Result<Vec<Service>, AllocEr
     Ok(services)
 }
 
-/// The number of the program of this name. Of several it is the first.
+/// Returns the number of the program of this name, and of several lines with the name that of the first; `None` where
+/// no line has it.
 pub fn number_of(services: &[Service], name: &[u8]) -> Option<u32>
     ensures { result ≡ number_of services.now name.now }
 {
@@ -149,7 +153,7 @@ pub fn number_of(services: &[Service], name: &[u8]) -> Option<u32>
     }
 }
 
-/// The first name of the program of this number.
+/// Returns the first name of the program of this number; `None` where it has no name.
 pub fn name_of<'a>(services: &'a [Service], number: u32) -> Option<&'a [u8]>
     ensures { option_map (λ name. name.now) result ≡ name_of services.now number }
 {

@@ -9,7 +9,7 @@ use Rattle.std.proofs.lemmas.Bool.{cases_Bool}
 use Rattle.std.proofs.lemmas.List.{map-append, take_more}
 use Rattle.std.proofs.lemmas.List.Sums.{fold-append}
 use Rattle.rb_show.specs.declared.summary.Row.{Row}
-use Rattle.rb_show.specs.Summary.{ShownRow, plain, shown, texts_at, owner_of}
+use Rattle.rb_show.specs.Summary.{ShownRow, plain, shown, lent, owner_of}
 
 -- one more row
 pub fold_more : {B : Type 0} (step : B → ShownRow → B) (first : B) (rows : List Row) (i : ℕ) (row : Row) → i < length rows → row ≡ get_or rows i row
@@ -32,6 +32,6 @@ owner_found (row ∷ rows) prog found e =
     ]
 
 -- a text is among those behind their borrows
-pub any_at : (text : List ℕ) (texts : List (Bor (List ℕ))) → list_any (λ (one : Bor (List ℕ)). bytes_eq one.now text) texts ≡ list_any (λ (one : List ℕ). bytes_eq one text) (texts_at texts)
+pub any_at : (text : List ℕ) (texts : List (Bor (List ℕ))) → list_any (λ (one : Bor (List ℕ)). bytes_eq one.now text) texts ≡ list_any (λ (one : List ℕ). bytes_eq one text) (lent texts)
 any_at text [] = refl
 any_at text (one ∷ texts) = ap (λ (rest : Bool). bytes_eq one.now text || rest) (any_at text texts)

@@ -57,11 +57,11 @@ tell_lists form vers =
 unfoldable pub tell_columns : ℕ → Numbers → Teller (Unit {0})
 tell_columns vers n = tell (version_line vers ∷ []) >>= λ _. tell (info_line n ∷ []) >>= λ _. tell (sets_line n ∷ [])
 
-abbrev pub tell_numbers : Form → ℕ → Numbers → Teller (Unit {0})
-tell_numbers form vers n = if is_json form then tell (numbers_object vers n ∷ []) else tell_columns vers n
+abbrev pub tell_counts : Form → ℕ → Numbers → Teller (Unit {0})
+tell_counts form vers n = if is_json form then tell (numbers_object vers n ∷ []) else tell_columns vers n
 
 unfoldable pub tell_version : Form → ℕ → Teller (ℕ × ℕ)
-tell_version form vers = take_one read_numbers >>= λ n. tell_numbers form vers n >>= λ _. tell_lists form vers
+tell_version form vers = take_one read_numbers >>= λ n. tell_counts form vers n >>= λ _. tell_lists form vers
 
 abbrev pub total : ℕ × ℕ → ℕ × ℕ → ℕ × ℕ → ℕ
 total a b c = a.0 + a.1 + b.0 + b.1 + c.0 + c.1

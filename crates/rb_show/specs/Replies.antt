@@ -1,5 +1,5 @@
 -- What the reply to each question tells (RFC 1833 sections 2.2 and 3.2).
-use Rattle.std.specs.Prelude.{◌≡◌, ℕ, Option, Some, None, option_map, map, length, Result, ◌==◌, Bool, true, false, if◌then◌else◌, List, [], ◌∷◌, ◌++◌, codes}
+use Rattle.std.specs.Prelude.{◌≡◌, ℕ, Option, Some, None, option_map, length, Result, ◌==◌, Bool, true, false, if◌then◌else◌, List, [], ◌∷◌, ◌++◌, codes}
 use Rattle.std.specs.Fmt.{decimal}
 use Rattle.rb_xdr.specs.Xdr.{Reader, read_number, read_bool, read_opaque}
 use Rattle.rb_uaddr.specs.declared.address.Uaddr.{Uaddr}
@@ -12,7 +12,9 @@ use Rattle.rb_rpc.specs.Records.{data_of}
 use Rattle.rb_ask.specs.declared.record.Record.{Record}
 use Rattle.rb_ask.specs.declared.fault.InfoFault.{InfoFault}
 use Rattle.rb_ask.specs.declared.fault.InfoFault.TheVariants.{Unreadable, Refused}
-use Rattle.rb_ask.specs.Telling.{Teller, ◌>>=◌, give, stop, tell, take_one, Outcome}
+use Rattle.rb_ask.specs.Sources.{Supply}
+use Rattle.rb_ask.specs.Data.{front_of, end_of}
+use Rattle.rb_ask.specs.Telling.{Told, Teller, ◌>>=◌, give, stop, tell, take_one, Outcome}
 use Rattle.rb_ask.specs.Heads.{take_head}
 use Rattle.rb_ask.specs.Lists.{tell_items, greatest_list}
 use Rattle.rb_ask.specs.WholeLists.{take_items}
@@ -23,18 +25,22 @@ use Rattle.rb_show.specs.declared.form.Form.{Form}
 use Rattle.rb_show.specs.declared.show.Shown.{Shown}
 use Rattle.rb_show.specs.declared.show.Shown.TheVariants as shown
 use Rattle.rb_show.specs.Counts.{tell_statistics}
-use Rattle.rb_show.specs.Summary.{ShownRow, row_of, old_row_of, summary_text}
+use Rattle.rb_show.specs.Summary.{ShownRow, row_of, old_row_of, summed_text}
 use Rattle.rb_show.specs.Lines.{is_json, heading, mapping_line, row_line, short_line, old_row_line, old_short_line, entry_line}
 
 -- the items of a list, a line each
 unfoldable pub tell_list : {A : Type 0} → Reader A → (A → List ℕ) → Teller Shown
 tell_list reads line = tell_items reads line greatest_list 0 >>= λ n. give (shown.Rows n)
 
--- behind its heading
+-- the summary of items
+abbrev pub summed : {A : Type 0} → Form → (A → ShownRow) → List A → Teller (Unit {0})
+summed form row items = tell (summed_text form row items ∷ [])
+
 -- the items of a list, summed up once all of them were read
 unfoldable pub tell_summary : {A : Type 0} → Form → Reader A → (A → ShownRow) → Teller Shown
-tell_summary form reads row = take_items reads greatest_list [] >>= λ items. tell (summary_text form (map row items) ∷ []) >>= λ _. give (shown.Rows (length items))
+tell_summary form reads row = take_items reads greatest_list [] >>= λ items. summed form row items >>= λ _. give (shown.Rows (length items))
 
+-- the same behind its heading
 unfoldable pub tell_columns : Form → Teller Shown
 tell_columns form = tell (heading form ∷ []) >>= λ _. tell_list read_mapping (mapping_line form)
 
@@ -109,9 +115,13 @@ by_head form question xid head = if head.xid == xid then by_status form question
 unfoldable pub tell_reply : Ask → Form → ℕ → Teller Shown
 tell_reply ask form xid = take_head >>= by_head form ask.question xid
 
--- Where the bytes that the reader has are known, what is written, and what is left unread, is what the reply tells that
--- is the data of their first marked record, as far as they go.
-abbrev pub IsShown : {R W : Type 0} → (R → Option (List ℕ)) → (W → Option (List ℕ)) → Ask → Form → ℕ → R → R → W → W → Result Shown InfoFault → Type 0
-IsShown remaining contents ask form xid reader reader' writer writer' result =
-    (bytes : List ℕ) → remaining reader ≡ Some bytes
-    → (at : Record) × Outcome (tell_reply ask form xid (data_of bytes)) bytes (remaining reader') at (contents writer) (contents writer') result
+-- what the reply to a question tells that these bytes begin with, as far as they may be read
+abbrev pub tell_bytes : Ask → Form → ℕ → List ℕ → Told Shown
+tell_bytes ask form xid bytes = tell_reply ask form xid (end_of bytes) (data_of (front_of bytes))
+
+-- Where the bytes that the source has are known, what is written, and what is left unread, is what the reply tells that
+-- they begin with.
+abbrev pub IsShown : {B W : Type 0} → (B → Supply) → (W → Option (List ℕ)) → Ask → Form → ℕ → B → B → W → W → Result Shown InfoFault → Type 0
+IsShown left contents ask form xid source source' writer writer' result =
+    (bytes : List ℕ) → (left source).bytes ≡ Some bytes
+    → (at : Record) × Outcome (tell_bytes ask form xid bytes) bytes (left source') at (contents writer) (contents writer') result

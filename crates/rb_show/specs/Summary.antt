@@ -37,8 +37,8 @@ abbrev pub old_row_of : Mapping → ShownRow
 old_row_of m = record { prog = m.prog; vers = m.vers; netid = prot_text m.prot; owner = codes "unknown" }
 
 -- the texts behind their borrows
-abbrev pub texts_at : List (Bor (List ℕ)) → List (List ℕ)
-texts_at texts = map (λ text. text.now) texts
+abbrev pub lent : List (Bor (List ℕ)) → List (List ℕ)
+lent texts = map (λ text. text.now) texts
 
 -- ---- what a program has
 
@@ -86,11 +86,21 @@ service_text (Named services) prog = name_text (name_of services.now prog)
 abbrev pub summary_heading : List ℕ
 summary_heading = codes "   program version(s) netid(s)                         service     owner\n"
 
+abbrev pub versions_text : List ShownRow → ℕ → List ℕ
+versions_text rows prog = at_left 10 (joined (map decimal (versions_of rows prog)))
+
+abbrev pub netids_text : List ShownRow → ℕ → List ℕ
+netids_text rows prog = at_left 32 (joined (netids_of rows prog))
+
 -- program, versions, netids, service and owner
 abbrev pub summary_line : Form → List ShownRow → ℕ → List ℕ
-summary_line form rows prog = at_right 10 (decimal prog) ++ (codes "  " ++ (at_left 10 (joined (map decimal (versions_of rows prog))) ++ (at_left 32 (joined (netids_of rows prog))
+summary_line form rows prog = at_right 10 (decimal prog) ++ (codes "  " ++ (versions_text rows prog ++ (netids_text rows prog
     ++ (codes " " ++ (at_left 11 (service_text form prog) ++ (codes " " ++ (owner_of rows prog ++ codes "\n")))))))
 
 -- a line for each program, behind the heading
 abbrev pub summary_text : Form → List ShownRow → List ℕ
 summary_text form rows = summary_heading ++ flat_map (summary_line form rows) (programs_of rows)
+
+-- the same of items that are rows
+abbrev pub summed_text : {A : Type 0} → Form → (A → ShownRow) → List A → List ℕ
+summed_text form row items = summary_text form (map row items)

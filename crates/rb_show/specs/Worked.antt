@@ -2,7 +2,7 @@
 use Rattle.std.specs.Prelude.{◌≡◌, ℕ, List, [], ◌∷◌, ◌++◌, take, codes, None}
 use Rattle.rb_xdr.specs.Xdr.{words, opaque}
 use Rattle.rb_rpc.specs.declared.reply.ReplyStatus.TheVariants.{ProcUnavail}
-use Rattle.rb_ask.specs.declared.fault.InfoFault.TheVariants.{Unreadable, Refused}
+use Rattle.rb_ask.specs.declared.fault.InfoFault.TheVariants.{Unreadable, CutOff, Refused}
 use Rattle.rb_ask.specs.Telling.Told.{Done, Stop}
 use Rattle.rb_show.specs.declared.ask.Ask.{Ask}
 use Rattle.rb_show.specs.declared.ask.Question.{Question}
@@ -29,18 +29,18 @@ abbrev pub one_row : List ℕ
 one_row = words (1 ∷ 7 ∷ 3 ∷ []) ++ opaque (codes "udp") ++ opaque [] ++ opaque (codes "a b") ++ words (0 ∷ []) ++ 9 ∷ []
 
 abbrev pub RowIsTold : Type 0
-RowIsTold = tell_reply (of_nobody Rows) Plain 1 (accepted 1 0 ++ one_row) ≡ Done (codes "7 3 udp - a?b\n" ∷ []) (shown.Rows 1) (9 ∷ [])
+RowIsTold = tell_reply (of_nobody Rows) Plain 1 CutOff (accepted 1 0 ++ one_row) ≡ Done (codes "7 3 udp - a?b\n" ∷ []) (shown.Rows 1) (9 ∷ [])
 
 abbrev pub RefusalIsTold : Type 0
-RefusalIsTold = tell_reply (of_nobody Pmap) Plain 1 (accepted 1 3) ≡ Stop [] (Refused (record { xid = 1; status = ProcUnavail }))
+RefusalIsTold = tell_reply (of_nobody Pmap) Plain 1 CutOff (accepted 1 3) ≡ Stop [] (Refused (record { xid = 1; status = ProcUnavail }))
 
-abbrev pub CutHeadIsUnreadable : Type 0
-CutHeadIsUnreadable = tell_reply (of_nobody Pmap) Plain 1 (take 20 (accepted 1 0)) ≡ Stop [] Unreadable
+abbrev pub CutHeadIsCutOff : Type 0
+CutHeadIsCutOff = tell_reply (of_nobody Pmap) Plain 1 CutOff (take 20 (accepted 1 0)) ≡ Stop [] CutOff
 
 abbrev pub OtherXidIsUnreadable : Type 0
-OtherXidIsUnreadable = tell_reply (of_nobody Pmap) Plain 2 (accepted 1 3) ≡ Stop [] Unreadable
+OtherXidIsUnreadable = tell_reply (of_nobody Pmap) Plain 2 CutOff (accepted 1 3) ≡ Stop [] Unreadable
 
 -- the row was read whole, and then a bool is missing
 abbrev pub CutListTellsItsRows : Type 0
 CutListTellsItsRows =
-    tell_reply (of_nobody Rows) Plain 1 (accepted 1 0 ++ take 32 one_row) ≡ Stop (codes "7 3 udp - a?b\n" ∷ []) Unreadable
+    tell_reply (of_nobody Rows) Plain 1 CutOff (accepted 1 0 ++ take 32 one_row) ≡ Stop (codes "7 3 udp - a?b\n" ∷ []) CutOff

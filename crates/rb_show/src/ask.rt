@@ -26,7 +26,7 @@ const NO_BYTES: u32 = 0;
 /// More bytes than any call has.
 const LONGEST_CALL: usize = 1024;
 
-/// What is asked.
+/// A question, to the portmapper or to procedure 0 of a program.
 #[derive(Clone, Copy, Debug, PartialEq, Eq)]
 pub enum Question {
     /// DUMP of version 3, shown with addresses and owners.
@@ -55,16 +55,18 @@ pub enum Question {
     Null(u32, u32),
     /// The same, of which nothing is shown.
     Probe(u32, u32),
-    /// CALLIT of version 2, of procedure 0 of a program and a version.
+    /// CALLIT of version 2 (RFC 1833 section 3.2), of procedure 0 of a program and a version, without arguments.
     Callit(u32, u32),
     /// UNSET of version 4, of a program and a version on this netid, or on all.
     Unset(Option<Netid>, u32, u32),
 }
 
-/// What is asked, and by which user; as nobody without a uid.
+/// A question, and the user who asks.
 #[derive(Clone, Copy, Debug, PartialEq, Eq)]
 pub struct Ask {
+    /// The question.
     pub question: Question,
+    /// The user id of an AUTH_SYS credential; AUTH_NONE without one.
     pub uid: Option<u32>,
 }
 
@@ -192,8 +194,8 @@ fn put_ask(ask: &Ask, xid: u32, out: &mut Kept, meter: &mut Meter) -> Result<(),
     put_arguments(ask.question, out, meter)
 }
 
-/// Writes the marked call that asks, in one fragment, and nothing else. The faults are `Memory`, and `Write` where the
-/// writer refuses.
+/// Writes the marked call that asks, in one fragment (RFC 5531 section 11), and nothing else. The only faults are
+/// `Memory` where an allocation is refused, and `Write` where the writer fails.
 pub fn write_call<W: Write>(
     alloc: Global,
     ask: &Ask,

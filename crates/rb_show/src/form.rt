@@ -8,7 +8,7 @@ use crate::texts::shown_text;
 use rb_names::{Service, name_of};
 use std::alloc::{AllocError, Global};
 
-/// How the lines of a list are written.
+/// The form in which the lines of a list are written.
 #[derive(Clone, Copy, Debug)]
 pub enum Form<'a> {
     /// In columns.

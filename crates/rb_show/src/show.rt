@@ -1,27 +1,26 @@
 //! Shows what a reply tells.
-ghost use Rattle.std.specs.Prelude.{◌≡◌, List, [], ◌∷◌, ℕ, map};
+ghost use Rattle.std.specs.Prelude.{◌≡◌, List, [], ◌∷◌, ℕ};
 ghost use Rattle.rb_ask.specs.Telling.{tell, Shows, Takes, Writes};
 ghost use Rattle.rb_show.specs.Lines.{heading};
-ghost use Rattle.rb_show.specs.Summary.{summary_text};
-ghost use Rattle.rb_show.specs.Replies.{tell_list, tell_summary, tell_columns, tell_table, tell_port, address_in, tell_address, tell_ready, tell_removed, removed_line, tell_unset, tell_results, is_success, by_head, IsShown};
+ghost use Rattle.rb_show.specs.Replies.{tell_list, summed, tell_summary, tell_columns, tell_table, tell_port, address_in, tell_address, tell_ready, tell_removed, removed_line, tell_unset, tell_results, is_success, by_head, IsShown};
 
 use crate::ask::{Ask, Question};
 use crate::form::Form;
 use crate::lines::{EntryLines, OldRowLines, OldShortLines, RowLines, ShortLines, Table};
 use crate::statistics::show_statistics;
 use crate::summary::{AsRow, summary_text};
-use rb_ask::{InfoFault, Record, Style, show_list, take_head, take_item, take_list};
+use rb_ask::{ByteSource, InfoFault, Record, Style, show_list, take_head, take_item, take_list};
 use rb_proto::{Mapping, Rpcb};
 use rb_rpc::{ReplyHead, ReplyStatus};
 use rb_uaddr::Uaddr;
 use rb_xdr::{Text, Xdr};
 use std::alloc::Global;
-use std::io::{Read, Write};
+use std::io::Write;
 
 /// What was shown.
 #[derive(Clone, Copy, Debug, PartialEq, Eq)]
 pub enum Shown {
-    /// So many rows or entries.
+    /// A list of so many rows or entries, at most 4,096.
     Rows(u32),
     /// So many items of statistics, beside the numbers of each version.
     Statistics(u64),
@@ -58,17 +57,17 @@ fn show_line<W: Write>(line: &[u8], writer: &mut W) -> Result<(), InfoFault>
 }
 
 /// Shows the items of a list.
-fn show_items<T: Xdr, S: Style<T>, R: Read, W: Write>(
+fn show_items<T: Xdr, S: Style<T>, B: ByteSource, W: Write>(
     alloc: Global,
     style: &S,
-    reader: &mut R,
+    source: &mut B,
     at: &mut Record,
     writer: &mut W,
 ) -> Result<Shown, InfoFault>
-    ensures { Shows R.remaining W.contents reader.old reader.new at.old at.new
+    ensures { Shows B.left W.contents source.old source.new at.old at.new
         writer.old writer.new (tell_list T.reads (S.text style.now)) result }
 {
-    let rows = show_list(alloc, style, reader, at, writer)?;
+    let rows = show_list(alloc, style, source, at, writer)?;
     Ok(Shown::Rows(rows))
 }
 
@@ -80,7 +79,7 @@ fn show_text<T: AsRow, W: Write>(
     writer: &mut W,
 ) -> Result<(), InfoFault>
     ensures { Writes W.contents writer.old writer.new
-        (tell (summary_text form.entry (map T.as_shown items.now) ∷ [])) result }
+        (summed form.entry T.as_shown items.now) result }
 {
     let Ok(text) = summary_text(alloc, form, items) else {
         return Err(InfoFault::Memory);
@@ -89,59 +88,63 @@ fn show_text<T: AsRow, W: Write>(
 }
 
 /// Shows the items of a list, summed up once all of them were read.
-fn show_summary<T: Xdr + AsRow, R: Read, W: Write>(
+fn show_summary<T: Xdr + AsRow, B: ByteSource, W: Write>(
     alloc: Global,
     form: Form<'_>,
-    reader: &mut R,
+    source: &mut B,
     at: &mut Record,
     writer: &mut W,
 ) -> Result<Shown, InfoFault>
-    ensures { Shows R.remaining W.contents reader.old reader.new at.old at.new
+    ensures { Shows B.left W.contents source.old source.new at.old at.new
         writer.old writer.new (tell_summary form.entry T.reads T.as_shown) result }
 {
-    let items: Vec<T> = take_list(alloc, reader, at)?;
+    let items: Vec<T> = take_list(alloc, source, at)?;
     show_text(alloc, form, &items, writer)?;
     Ok(Shown::Rows(items.len() as u32))
 }
 
 /// Shows the mappings of version 2 in columns.
-fn show_columns<R: Read, W: Write>(
+fn show_columns<B: ByteSource, W: Write>(
     alloc: Global,
     form: Form<'_>,
-    reader: &mut R,
+    source: &mut B,
     at: &mut Record,
     writer: &mut W,
 ) -> Result<Shown, InfoFault>
-    ensures { Shows R.remaining W.contents reader.old reader.new at.old at.new
+    ensures { Shows B.left W.contents source.old source.new at.old at.new
         writer.old writer.new (tell_columns form.entry) result }
 {
     show_line(heading(form), writer)?;
-    show_items(alloc, &Table { form }, reader, at, writer)
+    show_items(alloc, &Table { form }, source, at, writer)
 }
 
 /// Shows the mappings of version 2 as a table.
-fn show_table<R: Read, W: Write>(
+fn show_table<B: ByteSource, W: Write>(
     alloc: Global,
     form: Form<'_>,
-    reader: &mut R,
+    source: &mut B,
     at: &mut Record,
     writer: &mut W,
 ) -> Result<Shown, InfoFault>
-    ensures { Shows R.remaining W.contents reader.old reader.new at.old at.new
+    ensures { Shows B.left W.contents source.old source.new at.old at.new
         writer.old writer.new (tell_table form.entry) result }
 {
     if form.is_json() {
-        show_items(alloc, &Table { form }, reader, at, writer)
+        show_items(alloc, &Table { form }, source, at, writer)
     } else {
-        show_columns(alloc, form, reader, at, writer)
+        show_columns(alloc, form, source, at, writer)
     }
 }
 
 /// Takes the port of GETPORT.
-fn take_port<R: Read>(alloc: Global, reader: &mut R, at: &mut Record) -> Result<Shown, InfoFault>
-    ensures { Takes R.remaining reader.old reader.new at.old at.new tell_port result }
+fn take_port<B: ByteSource>(
+    alloc: Global,
+    source: &mut B,
+    at: &mut Record,
+) -> Result<Shown, InfoFault>
+    ensures { Takes B.left source.old source.new at.old at.new tell_port result }
 {
-    let port: u32 = take_item(alloc, reader, at)?;
+    let port: u32 = take_item(alloc, source, at)?;
     Ok(Shown::Port(port))
 }
 
@@ -159,10 +162,14 @@ fn address_in(text: &[u8]) -> Option<Option<Uaddr>>
 }
 
 /// Takes the address of GETADDR.
-fn take_address<R: Read>(alloc: Global, reader: &mut R, at: &mut Record) -> Result<Shown, InfoFault>
-    ensures { Takes R.remaining reader.old reader.new at.old at.new tell_address result }
+fn take_address<B: ByteSource>(
+    alloc: Global,
+    source: &mut B,
+    at: &mut Record,
+) -> Result<Shown, InfoFault>
+    ensures { Takes B.left source.old source.new at.old at.new tell_address result }
 {
-    let text: Text<128> = take_item(alloc, reader, at)?;
+    let text: Text<128> = take_item(alloc, source, at)?;
     match address_in(text.as_slice()) {
         Some(address) => Ok(Shown::Address(address)),
         None => Err(InfoFault::Unreadable),
@@ -204,49 +211,49 @@ fn show_removed<W: Write>(removed: bool, writer: &mut W) -> Result<Shown, InfoFa
     Ok(Shown::Removed(removed))
 }
 
-fn show_unset<R: Read, W: Write>(
+fn show_unset<B: ByteSource, W: Write>(
     alloc: Global,
-    reader: &mut R,
+    source: &mut B,
     at: &mut Record,
     writer: &mut W,
 ) -> Result<Shown, InfoFault>
-    ensures { Shows R.remaining W.contents reader.old reader.new at.old at.new
+    ensures { Shows B.left W.contents source.old source.new at.old at.new
         writer.old writer.new tell_unset result }
 {
-    let removed: bool = take_item(alloc, reader, at)?;
+    let removed: bool = take_item(alloc, source, at)?;
     show_removed(removed, writer)
 }
 
 /// Shows the results that a question is answered with.
-fn show_results<R: Read, W: Write>(
+fn show_results<B: ByteSource, W: Write>(
     alloc: Global,
     form: Form<'_>,
     question: Question,
-    reader: &mut R,
+    source: &mut B,
     at: &mut Record,
     writer: &mut W,
 ) -> Result<Shown, InfoFault>
-    ensures { Shows R.remaining W.contents reader.old reader.new at.old at.new
+    ensures { Shows B.left W.contents source.old source.new at.old at.new
         writer.old writer.new (tell_results form.entry question) result }
 {
     match question {
-        Question::Rows => show_items(alloc, &RowLines { form }, reader, at, writer),
-        Question::Short => show_items(alloc, &ShortLines { form }, reader, at, writer),
-        Question::OldRows => show_items(alloc, &OldRowLines { form }, reader, at, writer),
-        Question::OldShort => show_items(alloc, &OldShortLines { form }, reader, at, writer),
-        Question::Summary => show_summary::<Rpcb, R, W>(alloc, form, reader, at, writer),
-        Question::OldSummary => show_summary::<Mapping, R, W>(alloc, form, reader, at, writer),
-        Question::Pmap => show_table(alloc, form, reader, at, writer),
+        Question::Rows => show_items(alloc, &RowLines { form }, source, at, writer),
+        Question::Short => show_items(alloc, &ShortLines { form }, source, at, writer),
+        Question::OldRows => show_items(alloc, &OldRowLines { form }, source, at, writer),
+        Question::OldShort => show_items(alloc, &OldShortLines { form }, source, at, writer),
+        Question::Summary => show_summary::<Rpcb, B, W>(alloc, form, source, at, writer),
+        Question::OldSummary => show_summary::<Mapping, B, W>(alloc, form, source, at, writer),
+        Question::Pmap => show_table(alloc, form, source, at, writer),
         Question::Entries(prog, _) => {
-            show_items(alloc, &EntryLines { form, prog }, reader, at, writer)
+            show_items(alloc, &EntryLines { form, prog }, source, at, writer)
         },
-        Question::Stats => show_statistics(alloc, form, reader, at, writer),
-        Question::Port(_, _, _) => take_port(alloc, reader, at),
-        Question::Address(_, _, _) => take_address(alloc, reader, at),
+        Question::Stats => show_statistics(alloc, form, source, at, writer),
+        Question::Port(_, _, _) => take_port(alloc, source, at),
+        Question::Address(_, _, _) => take_address(alloc, source, at),
         Question::Null(prog, vers) => show_ready(alloc, prog, vers, writer),
         Question::Probe(_, _) => Ok(Shown::Null),
-        Question::Callit(_, _) => take_port(alloc, reader, at),
-        Question::Unset(_, _, _) => show_unset(alloc, reader, at, writer),
+        Question::Callit(_, _) => take_port(alloc, source, at),
+        Question::Unset(_, _, _) => show_unset(alloc, source, at, writer),
     }
 }
 
@@ -267,17 +274,17 @@ fn is_success(status: ReplyStatus) -> bool
 
 /// Shows what follows the head of a reply.
 #[tactic(auto, using(rb_ask::proofs::Tellings::tells_stop, crate::proofs::Starts::tells_refused), unfolding(crate::specs::Replies::by_head))]
-fn show_answer<R: Read, W: Write>(
+fn show_answer<B: ByteSource, W: Write>(
     alloc: Global,
     form: Form<'_>,
     question: Question,
     xid: u32,
     head: ReplyHead,
-    reader: &mut R,
+    source: &mut B,
     at: &mut Record,
     writer: &mut W,
 ) -> Result<Shown, InfoFault>
-    ensures { Shows R.remaining W.contents reader.old reader.new at.old at.new
+    ensures { Shows B.left W.contents source.old source.new at.old at.new
         writer.old writer.new (by_head form.entry question xid head) result }
 {
     if head.xid != xid {
@@ -286,36 +293,43 @@ fn show_answer<R: Read, W: Write>(
     if !is_success(head.status) {
         return Err(InfoFault::Refused(head));
     }
-    show_results(alloc, form, question, reader, at, writer)
+    show_results(alloc, form, question, source, at, writer)
 }
 
 /// Reads the marked reply to the call with this xid, and writes what it tells in this form, a line for each row as it
 /// comes.
 ///
-/// Of the record as much is read as the results need, and no byte behind them. It is `Unreadable` where the data is no
-/// reply to this call or ends before its results, `Refused` where the reply is another than SUCCESS, `TooMany` at the
-/// 4,097th row, and `Read` where the reader fails or more than 16,777,216 bytes are needed. Before each of these, and
-/// before `Memory`, whole lines were written.
-pub fn show_reply<R: Read, W: Write>(
+/// Of the record as much is read as the results need, and no byte behind them.
+///
+/// - `Unreadable` where the data is no reply to this call, whatever may follow it.
+/// - `CutOff` where the source or its record ends before the results do.
+/// - `TooLong` where the results go on behind the first 16,777,216 bytes, of which the record is longer.
+/// - `Refused` where the reply is another than SUCCESS.
+/// - `TooMany` at the 4,097th row of a list.
+/// - `Read` where the source fails, which `HeldBytes` never does.
+/// - `Write` where the writer fails, and `Memory` where an allocation is refused.
+///
+/// Before each of them but `Write` whole lines were written.
+pub fn show_reply<B: ByteSource, W: Write>(
     alloc: Global,
     ask: &Ask,
     form: Form<'_>,
     xid: u32,
-    reader: &mut R,
+    source: &mut B,
     writer: &mut W,
 ) -> Result<Shown, InfoFault>
-    ensures { IsShown R.remaining W.contents ask.now form.entry xid reader.old reader.new
+    ensures { IsShown B.left W.contents ask.now form.entry xid source.old source.new
         writer.old writer.new result }
 {
     let mut at = Record::new();
-    let head = take_head(alloc, reader, &mut at)?;
+    let head = take_head(alloc, source, &mut at)?;
     show_answer(
         alloc,
         form,
         ask.question,
         xid,
         head,
-        reader,
+        source,
         &mut at,
         writer,
     )

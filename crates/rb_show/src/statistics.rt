@@ -3,16 +3,16 @@ ghost use Rattle.std.specs.Prelude.{◌≡◌, [], ◌∷◌, IfOk};
 ghost use Rattle.std.specs.String.{string_bytes};
 ghost use Rattle.rb_ask.specs.Telling.{tell, Shows, Writes};
 ghost use Rattle.rb_show.specs.Objects.{numbers_object};
-ghost use Rattle.rb_show.specs.Counts.{four_text, version_line, info_line, sets_line, addr_columns, addr_line, procedure_text, outcomes_text, call_columns, call_line, tell_columns, tell_numbers, tell_lists, tell_version, tell_statistics, total};
+ghost use Rattle.rb_show.specs.Counts.{four_text, version_line, info_line, sets_line, addr_columns, addr_line, procedure_text, outcomes_text, call_columns, call_line, tell_columns, tell_counts, tell_lists, tell_version, tell_statistics, total};
 
 use crate::form::Form;
 use crate::objects::{forwards_object, look_ups_object, numbers_object};
 use crate::show::Shown;
 use crate::texts::shown_text;
-use rb_ask::{InfoFault, Record, Style, show_item, show_list, take_item};
+use rb_ask::{ByteSource, InfoFault, Record, Style, show_item, show_list, take_item};
 use rb_xdr::Text;
 use std::alloc::{AllocError, Global};
-use std::io::{Read, Write};
+use std::io::Write;
 
 pub(crate) type Four = ((i32, i32), (i32, i32));
 
@@ -194,7 +194,7 @@ fn show_numbers<W: Write>(
     writer: &mut W,
 ) -> Result<(), InfoFault>
     ensures { Writes W.contents writer.old writer.new
-        (tell_numbers form.entry vers numbers.now) result }
+        (tell_counts form.entry vers numbers.now) result }
 {
     if form.is_json() {
         show_item(alloc, &NumbersObject { rpcbind: vers }, numbers, writer)
@@ -204,15 +204,15 @@ fn show_numbers<W: Write>(
 }
 
 /// Shows the two lists of a version, and says how many items they have.
-fn show_lists<R: Read, W: Write>(
+fn show_lists<B: ByteSource, W: Write>(
     alloc: Global,
     form: Form<'_>,
     vers: u32,
-    reader: &mut R,
+    source: &mut B,
     at: &mut Record,
     writer: &mut W,
 ) -> Result<(u32, u32), InfoFault>
-    ensures { Shows R.remaining W.contents reader.old reader.new at.old at.new
+    ensures { Shows B.left W.contents source.old source.new at.old at.new
         writer.old writer.new (tell_lists form.entry vers) result }
 {
     let found = show_list(
@@ -221,7 +221,7 @@ fn show_lists<R: Read, W: Write>(
             form,
             rpcbind: vers,
         },
-        reader,
+        source,
         at,
         writer,
     )?;
@@ -231,7 +231,7 @@ fn show_lists<R: Read, W: Write>(
             form,
             rpcbind: vers,
         },
-        reader,
+        source,
         at,
         writer,
     )?;
@@ -239,20 +239,20 @@ fn show_lists<R: Read, W: Write>(
 }
 
 /// Shows the statistics of a version.
-fn show_version<R: Read, W: Write>(
+fn show_version<B: ByteSource, W: Write>(
     alloc: Global,
     form: Form<'_>,
     vers: u32,
-    reader: &mut R,
+    source: &mut B,
     at: &mut Record,
     writer: &mut W,
 ) -> Result<(u32, u32), InfoFault>
-    ensures { Shows R.remaining W.contents reader.old reader.new at.old at.new
+    ensures { Shows B.left W.contents source.old source.new at.old at.new
         writer.old writer.new (tell_version form.entry vers) result }
 {
-    let numbers: Numbers = take_item(alloc, reader, at)?;
+    let numbers: Numbers = take_item(alloc, source, at)?;
     show_numbers(alloc, form, vers, &numbers, writer)?;
-    show_lists(alloc, form, vers, reader, at, writer)
+    show_lists(alloc, form, vers, source, at, writer)
 }
 
 fn total(two: (u32, u32), three: (u32, u32), four: (u32, u32)) -> u64
@@ -267,18 +267,18 @@ fn total(two: (u32, u32), three: (u32, u32), four: (u32, u32)) -> u64
 }
 
 /// Shows the statistics of versions 2, 3 and 4.
-pub(crate) fn show_statistics<R: Read, W: Write>(
+pub(crate) fn show_statistics<B: ByteSource, W: Write>(
     alloc: Global,
     form: Form<'_>,
-    reader: &mut R,
+    source: &mut B,
     at: &mut Record,
     writer: &mut W,
 ) -> Result<Shown, InfoFault>
-    ensures { Shows R.remaining W.contents reader.old reader.new at.old at.new
+    ensures { Shows B.left W.contents source.old source.new at.old at.new
         writer.old writer.new (tell_statistics form.entry) result }
 {
-    let two = show_version(alloc, form, 2, reader, at, writer)?;
-    let three = show_version(alloc, form, 3, reader, at, writer)?;
-    let four = show_version(alloc, form, 4, reader, at, writer)?;
+    let two = show_version(alloc, form, 2, source, at, writer)?;
+    let three = show_version(alloc, form, 3, source, at, writer)?;
+    let four = show_version(alloc, form, 4, source, at, writer)?;
     Ok(Shown::Statistics(total(two, three, four)))
 }

@@ -5,7 +5,7 @@ ghost use Rattle.std.specs.List.{list_any};
 ghost use Rattle.std.specs.Str.{bytes_eq};
 ghost use Rattle.std.specs.String.{string_bytes};
 ghost use Rattle.rb_show.specs.Texts.{at_left};
-ghost use Rattle.rb_show.specs.Summary.{ShownRow, plain, shown, row_of, old_row_of, add_program, programs_of, add_version, versions_of, texts_at, add_netid, netids_of, owner_of, joined, service_text, summary_line, summary_text};
+ghost use Rattle.rb_show.specs.Summary.{ShownRow, plain, shown, row_of, old_row_of, add_program, programs_of, add_version, versions_of, lent, add_netid, netids_of, owner_of, joined, service_text, versions_text, netids_text, summary_line, summary_text, summed_text};
 
 use crate::form::{Form, program_name};
 use crate::texts::{prot_text, shown_text};
@@ -117,19 +117,19 @@ fn versions_of(alloc: Global, rows: &[Row], prog: u32) -> Result<Vec<u32>, Alloc
 }
 
 fn has_text(texts: &[&str], text: &str) -> bool
-    ensures { result ≡ list_any (λ one. bytes_eq one text.now) (texts_at texts.now) }
+    ensures { result ≡ list_any (λ one. bytes_eq one text.now) (lent texts.now) }
 {
     texts.iter().any(|one| *one == text)
 }
 
 /// Adds the netid of a row of this program in front, where it is not there yet.
-fn add_netid<'a>(row: &'a Row, prog: u32, netids: &mut Vec<&'a str>) -> Result<(), AllocError>
+fn add_netid<'a>(row: &'a Row, prog: u32, seen: &mut Vec<&'a str>) -> Result<(), AllocError>
     ensures { OnOk result
-        (texts_at netids.new.items ≡ add_netid prog (texts_at netids.old.items) (plain row.now)) }
+        (lent seen.new.items ≡ add_netid prog (lent seen.old.items) (plain row.now)) }
 {
     let netid = row.netid.as_str();
-    if row.prog == prog && !has_text(netids, netid) {
-        netids.insert(0, netid)?;
+    if row.prog == prog && !has_text(seen, netid) {
+        seen.insert(0, netid)?;
     }
     Ok(())
 }
@@ -137,7 +137,7 @@ fn add_netid<'a>(row: &'a Row, prog: u32, netids: &mut Vec<&'a str>) -> Result<(
 /// The netids of a program, each once, the one that appears last first.
 fn netids_of<'a>(alloc: Global, rows: &'a [Row], prog: u32) -> Result<Vec<&'a str>, AllocError>
     ensures { IfOk result
-        (λ netids. texts_at netids.items ≡ netids_of (shown rows.now) prog) }
+        (λ netids. lent netids.items ≡ netids_of (shown rows.now) prog) }
 {
     let mut netids = Vec::new(alloc);
     for row in rows {
@@ -159,7 +159,7 @@ fn owner_of(rows: &[Row], prog: u32) -> &str
 /// Texts with commas between them.
 fn joined(alloc: Global, texts: &[&str]) -> Result<String, AllocError>
     ensures { IfOk result
-        (λ text. string_bytes text ≡ joined (texts_at texts.now)) }
+        (λ text. string_bytes text ≡ joined (lent texts.now)) }
 {
     let [first, rest @ ..] = texts else {
         return Ok(String::new(alloc));
@@ -210,7 +210,7 @@ fn service_text(alloc: Global, form: Form<'_>, prog: u32) -> Result<String, Allo
 /// The versions of a program as they are shown.
 fn versions_text(alloc: Global, rows: &[Row], prog: u32) -> Result<String, AllocError>
     ensures { IfOk result
-        (λ text. string_bytes text ≡ at_left 10 (joined (map decimal (versions_of (shown rows.now) prog)))) }
+        (λ text. string_bytes text ≡ versions_text (shown rows.now) prog) }
 {
     let versions = versions_of(alloc, rows, prog)?;
     let text = joined_numbers(alloc, &versions)?;
@@ -220,7 +220,7 @@ fn versions_text(alloc: Global, rows: &[Row], prog: u32) -> Result<String, Alloc
 /// The netids of a program as they are shown.
 fn netids_text(alloc: Global, rows: &[Row], prog: u32) -> Result<String, AllocError>
     ensures { IfOk result
-        (λ text. string_bytes text ≡ at_left 32 (joined (netids_of (shown rows.now) prog))) }
+        (λ text. string_bytes text ≡ netids_text (shown rows.now) prog) }
 {
     let netids = netids_of(alloc, rows, prog)?;
     let text = joined(alloc, &netids)?;
@@ -267,7 +267,7 @@ pub(crate) fn summary_text<T: AsRow>(
     items: &[T],
 ) -> Result<String, AllocError>
     ensures { IfOk result
-        (λ text. string_bytes text ≡ summary_text form.entry (map T.as_shown items.now)) }
+        (λ text. string_bytes text ≡ summed_text form.entry T.as_shown items.now) }
 {
     let rows = rows_of(alloc, items)?;
     summary_of_rows(alloc, form, &rows)

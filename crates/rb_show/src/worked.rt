@@ -1,12 +1,12 @@
 //! Worked examples of the definitions, which the proof computes.
-ghost use Rattle.rb_show.specs.Worked.{CallOfTheTable, RowIsTold, RefusalIsTold, CutHeadIsUnreadable, OtherXidIsUnreadable, CutListTellsItsRows};
+ghost use Rattle.rb_show.specs.Worked.{CallOfTheTable, RowIsTold, RefusalIsTold, CutHeadIsCutOff, OtherXidIsUnreadable, CutListTellsItsRows};
 
 /// The definitions give what the worked examples say.
 pub fn worked_examples()
     ensures call { CallOfTheTable }
     ensures row { RowIsTold }
     ensures refusal { RefusalIsTold }
-    ensures cut_head { CutHeadIsUnreadable }
+    ensures cut_head { CutHeadIsCutOff }
     ensures other_xid { OtherXidIsUnreadable }
     ensures cut_list { CutListTellsItsRows }
 {}

@@ -1,6 +1,7 @@
 -- Words that can't be read: what stands there, and what is wanted.
-use Rattle.std.specs.Prelude.{ℕ, List, [], ◌++◌, codes, Option, Some, None, slice_get}
+use Rattle.std.specs.Prelude.{ℕ, List, [], ◌++◌, codes, Option, Some, None, slice_get, Result, OnOk}
 use Rattle.std.specs.Borrow.{Bor}
+use Rattle.std.specs.Io.KnownBytes.{Appends}
 use Rattle.rb_words.specs.declared.shape.Flag.{Flag}
 use Rattle.rb_words.specs.declared.shape.Flag.TheVariants as flags
 use Rattle.rb_words.specs.declared.plan.Layout.{Layout}
@@ -70,6 +71,10 @@ wanted_text wants.List = codes "--names goes with -p, -s, -l, or with no flag an
 abbrev pub word_part : Shape → Spot → List ℕ
 word_part shape spots.End = []
 word_part shape at = codes "'" ++ (spot_text shape at ++ codes "': ")
+
+-- where the writer does not fail, this is what was written
+abbrev pub Prints : {W A E : Type 0} → (W → Option (List ℕ)) → W → W → List ℕ → Result A E → Type 0
+Prints contents writer writer' text result = OnOk result (Appends (contents writer) (contents writer') text)
 
 abbrev pub named_line : Shape → Refusal → List ℕ
 named_line shape refusal = codes "rpcinfo: " ++ (word_part shape refusal.at ++ (wanted_text refusal.wanted ++ codes "\n"))

@@ -30,7 +30,9 @@ pub enum Source {
 /// The transports that version 2 has numbers for.
 #[derive(Clone, Copy, Debug, PartialEq, Eq)]
 pub enum Transport {
+    /// TCP.
     Tcp,
+    /// UDP.
     Udp,
 }
 
@@ -50,6 +52,7 @@ pub enum Means {
 /// What a command line asks for.
 #[derive(Clone, Copy, Debug, PartialEq, Eq)]
 pub enum Plan {
+    /// A list of a portmapper.
     Show(Listing, Source),
     /// The addresses of a program and a version.
     Entries(Source, u32, u32),
@@ -73,10 +76,12 @@ pub enum Layout {
 /// The words of a command line, read.
 #[derive(Clone, Copy, Debug, PartialEq, Eq)]
 pub struct Request {
-    /// The portmapper's port.
+    /// The portmapper's port, 111 where none is given.
     pub port: u16,
-    /// As which user is asked; as nobody without one.
+    /// The user id of the AUTH_SYS credential of each call; AUTH_NONE without one.
     pub uid: Option<u32>,
+    /// What is asked for.
     pub plan: Plan,
+    /// How a list is written; in columns alone without one.
     pub layout: Option<Layout>,
 }

@@ -324,7 +324,7 @@ fn placed(flag: Option<Flag>, shape: &Shape<'_, '_, '_>) -> Result<(), Refusal>
     )
 }
 
-/// Whether the portmapper of this machine is asked.
+/// Returns whether the portmapper of this machine is asked.
 fn is_here(plan: Plan) -> bool
     ensures { result ≡ is_here plan }
 {
@@ -345,7 +345,7 @@ fn wanted_with(layout: Layout) -> Wanted
     }
 }
 
-/// Whether a plan has this layout.
+/// Returns whether a plan has this layout.
 fn has_layout(plan: Plan, layout: Layout) -> bool
     ensures { result ≡ has_layout plan layout }
 {
@@ -381,9 +381,10 @@ fn layout_of(layouts: &[Layout], plan: Plan) -> Result<Option<Layout>, Refusal>
     }
 }
 
-/// What the words ask for. Where they can't be read it is said where, and what is wanted there.
+/// Returns what the words ask for, or the first of them that can't be read and what is wanted there.
 ///
 /// A number has decimal digits alone: no sign, and no other text. Ports are 1 to 65535, other numbers 0 to 4294967295.
+/// A program is a number, or a name of `services`. The order in which words are looked at is that of `request_of`.
 pub fn read_words(shape: &Shape<'_, '_, '_>) -> Result<Request, Refusal>
     ensures { result ≡ request_of shape.now }
 {

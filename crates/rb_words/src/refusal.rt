@@ -1,25 +1,32 @@
 //! Words that can't be read.
-ghost use Rattle.std.specs.Prelude.{◌≡◌, OnOk};
-ghost use Rattle.std.specs.Io.KnownBytes.{Appends};
-ghost use Rattle.rb_words.specs.Refusals.{flag_text, layout_text, spot_text, wanted_text, refusal_lines, named_line};
+ghost use Rattle.std.specs.Prelude.{◌≡◌};
+ghost use Rattle.rb_words.specs.Refusals.{flag_text, layout_text, spot_text, wanted_text, refusal_lines, named_line, Prints};
 
 use crate::plan::Layout;
 use crate::shape::{Flag, Shape};
 use std::io;
 use std::io::Write;
 
-/// What on a command line can't be read.
+/// A place of a command line at which something can't be read.
 #[derive(Clone, Copy, Debug, PartialEq, Eq)]
 pub enum Spot {
     /// A flag behind another one.
     Flag(Flag),
+    /// The value of `--port`.
     Port,
+    /// The value of `--uid`.
     Uid,
+    /// The value of `-n`.
     Target,
+    /// The value of `-T`.
     Netid,
+    /// The value of `-a`.
     Address,
+    /// The value of `--local`.
     Local,
+    /// The value of `--broadcast`.
     Broadcast,
+    /// `--names` or `--json`.
     Layout(Layout),
     /// The word of this number, from 0.
     Word(usize),
@@ -27,20 +34,28 @@ pub enum Spot {
     End,
 }
 
-/// What is wanted there.
+/// What is wanted in place of what can't be read.
 #[derive(Clone, Copy, Debug, PartialEq, Eq)]
 pub enum Wanted {
+    /// One flag at most.
     OneFlag,
+    /// A number from 1 to 65535.
     Port,
+    /// A number from 0 to 4294967295.
     Uid,
+    /// One of the five netids.
     Netid,
     /// A netid of TCP or UDP.
     Socket,
     /// A universal address.
     Address,
+    /// The name or the address of a host.
     Host,
+    /// A number from 0 to 4294967295, or a name of a program.
     Program,
+    /// A number from 0 to 4294967295.
     Version,
+    /// No further word.
     NoWord,
     /// `-n` goes with `-t` and `-u` alone.
     Ping,
@@ -54,6 +69,7 @@ pub enum Wanted {
     Broadcast,
     /// `--broadcast` goes with `-b` alone.
     BroadcastAlone,
+    /// One of `--names` and `--json` at most.
     OneLayout,
     /// `--names` goes with lists of programs.
     List,
@@ -61,10 +77,12 @@ pub enum Wanted {
     Objects,
 }
 
-/// Why words can't be read.
+/// Why words can't be read: what stands where, and what is wanted there.
 #[derive(Clone, Copy, Debug, PartialEq, Eq)]
 pub struct Refusal {
+    /// The place of what can't be read.
     pub at: Spot,
+    /// What is wanted there.
     pub wanted: Wanted,
 }
 
@@ -147,8 +165,7 @@ fn write_named<W: Write>(
     refusal: Refusal,
     writer: &mut W,
 ) -> io::Result<()>
-    ensures { OnOk result
-        (Appends (W.contents writer.old) (W.contents writer.new) (named_line shape.now refusal)) }
+    ensures { Prints W.contents writer.old writer.new (named_line shape.now refusal) result }
 {
     let wanted = wanted_text(refusal.wanted);
     match refusal.at {
@@ -160,14 +177,14 @@ fn write_named<W: Write>(
     }
 }
 
-/// Says that the words can't be read: which word, and what is wanted.
+/// Writes two lines: that the words can't be read, and which of them and what is wanted there. An error where the writer
+/// fails; how much went out is then not known.
 pub fn write_refusal<W: Write>(
     shape: &Shape<'_, '_, '_>,
     refusal: Refusal,
     writer: &mut W,
 ) -> io::Result<()>
-    ensures { OnOk result
-        (Appends (W.contents writer.old) (W.contents writer.new) (refusal_lines shape.now refusal)) }
+    ensures { Prints W.contents writer.old writer.new (refusal_lines shape.now refusal) result }
 {
     writeln!(writer, "rpcinfo: the words can't be read; see --help")?;
     write_named(shape, refusal, writer)

@@ -30,6 +30,7 @@ pub enum Flag {
 /// What stands on a command line, unread.
 #[derive(Clone, Copy, Debug)]
 pub struct Shape<'s, 'a, 'n> {
+    /// The flags, in their order.
     pub flags: &'s [Flag],
     /// `--port`
     pub port: Option<&'a str>,

@@ -9,7 +9,7 @@ use Rattle.rb_rpc.specs.declared.auth.AuthStat.TheVariants as stats
 use Rattle.rb_rpc.specs.declared.reply.ReplyStatus.{ReplyStatus}
 use Rattle.rb_rpc.specs.declared.reply.ReplyStatus.TheVariants as statuses
 use Rattle.rb_ask.specs.declared.fault.InfoFault.{InfoFault}
-use Rattle.rb_ask.specs.declared.fault.InfoFault.TheVariants.{Read, Write, Unreadable, Refused, TooMany, Memory}
+use Rattle.rb_ask.specs.declared.fault.InfoFault.TheVariants.{Read, Write, Unreadable, CutOff, TooLong, Refused, TooMany, Memory}
 use Rattle.rb_show.specs.declared.show.Shown.{Shown}
 use Rattle.rb_show.specs.declared.show.Shown.TheVariants.{Rows, Statistics, Port, Address, Null, Removed}
 use Rattle.rpcinfo.specs.declared.ending.Ending.{Ending}
@@ -23,6 +23,8 @@ abbrev pub info_text : InfoFault → List ℕ
 info_text Read = codes "read failed"
 info_text Write = codes "write failed"
 info_text Unreadable = codes "unreadable reply"
+info_text CutOff = codes "unreadable reply"
+info_text TooLong = codes "read failed"
 info_text (Refused head) = codes "refused"
 info_text TooMany = codes "too many rows"
 info_text Memory = codes "no memory"
@@ -85,6 +87,8 @@ status_in (Info (Refused head)) = Some head.status
 status_in (Info Read) = None
 status_in (Info Write) = None
 status_in (Info Unreadable) = None
+status_in (Info CutOff) = None
+status_in (Info TooLong) = None
 status_in (Info TooMany) = None
 status_in (Info Memory) = None
 status_in NoConnection = None
@@ -145,9 +149,12 @@ old_line is_old = if is_old then codes "rpcinfo: asked by version 2\n" else []
 abbrev pub notice_lines : Notices → List ℕ
 notice_lines notices = answered_line notices.answered ++ old_line notices.is_old
 
--- where what there is to say was written whole, it is this
+-- where it was written whole, it is this
+abbrev pub SaysWhere : {E : Type 0} → (E → Option (List ℕ)) → E → E → Bool → List ℕ → Type 0
+SaysWhere contents faults faults' is_told text = is_told ≡ true → Appends (contents faults) (contents faults') text
+
 abbrev pub Says : {E : Type 0} → (E → Option (List ℕ)) → E → E → Ending → List ℕ → Type 0
-Says contents faults faults' ending text = ending.is_told ≡ true → Appends (contents faults) (contents faults') text
+Says contents faults faults' ending text = SaysWhere contents faults faults' ending.is_told text
 
 -- the command ends by this answer
 pub record EndsBy {E : Type 0} (contents : E → Option (List ℕ)) (faults faults' : E) (ending : Ending) (answer : Result Shown Fault) (notices : Notices) : Type 0 where

@@ -1,17 +1,18 @@
 -- The reply on standard input: one marked record in hexadecimal text.
-use Rattle.std.specs.Prelude.{◌≡◌, ℕ, ◌+◌, ◌==◌, ◌&&◌, ◌||◌, ◌⊎◌, not, nat_lt, nat_le, Bool, if◌then◌else◌, List, [], length, take, filter, Option, IfSome, Result, Ok, Err}
+use Rattle.std.specs.Prelude.{◌≡◌, ℕ, ◌+◌, ◌==◌, ◌&&◌, ◌||◌, ◌⊎◌, not, nat_lt, nat_le, Bool, false, if◌then◌else◌, List, [], length, take, filter, Option, IfSome, Result, Ok, Err}
+use Rattle.std.specs.Io.KnownBytes.{Keeps}
 use Rattle.hex.specs.Hex.{decode_of}
 use Rattle.hex.specs.declared.error.FromHexError.{FromHexError}
-use Rattle.rb_rpc.specs.Records.{data_of}
 use Rattle.rb_ask.specs.declared.fault.InfoFault.{InfoFault}
-use Rattle.rb_ask.specs.declared.fault.InfoFault.TheVariants.{Read, Unreadable, Memory}
+use Rattle.rb_ask.specs.declared.fault.InfoFault.TheVariants.{Read, Unreadable, TooLong, Memory}
 use Rattle.rb_ask.specs.declared.record.Record.{Record}
+use Rattle.rb_ask.specs.Sources.{Supply}
 use Rattle.rb_ask.specs.Telling.{Told, Outcome}
 use Rattle.rb_ask.specs.Telling.Told.{Stop}
 use Rattle.rb_show.specs.declared.ask.Ask.{Ask}
 use Rattle.rb_show.specs.declared.form.Form.{Form}
 use Rattle.rb_show.specs.declared.show.Shown.{Shown}
-use Rattle.rb_show.specs.Replies.{tell_reply}
+use Rattle.rb_show.specs.Replies.{tell_bytes}
 
 -- the six white space characters of ASCII: space, tab, line feed, vertical tab, form feed, carriage return
 abbrev pub is_white : ℕ → Bool
@@ -35,7 +36,7 @@ read_hex text = or_unreadable (decode_of (digits_of text))
 
 -- the bytes that a text gives
 abbrev pub bytes_of : List ℕ → Result (List ℕ) InfoFault
-bytes_of text = if nat_lt longest_text (length text) then Err Read else read_hex text
+bytes_of text = if nat_lt longest_text (length text) then Err TooLong else read_hex text
 
 -- want of memory, or the fault that such a text has
 abbrev pub FailsAs : Result (List ℕ) InfoFault → InfoFault → Type 0
@@ -45,26 +46,36 @@ FailsAs gives fault = (fault ≡ Memory) ⊎ (gives ≡ Err fault)
 abbrev pub first_xid : ℕ
 first_xid = 1
 
-abbrev pub tell_bytes : Ask → Form → Result (List ℕ) InfoFault → Told Shown
-tell_bytes ask form (Ok bytes) = tell_reply ask form first_xid (data_of bytes)
-tell_bytes ask form (Err fault) = Stop [] fault
+abbrev pub tell_read : Ask → Form → Result (List ℕ) InfoFault → Told Shown
+tell_read ask form (Ok bytes) = tell_bytes ask form first_xid bytes
+tell_read ask form (Err fault) = Stop [] fault
 
 -- what the reply in a text tells
 abbrev pub tell_text : Ask → Form → List ℕ → Told Shown
-tell_text ask form text = tell_bytes ask form (bytes_of text)
+tell_text ask form text = tell_read ask form (bytes_of text)
 
 -- what was read of an input is all of it, or enough to show that it is too long
 abbrev pub IsEnoughOf : Option (List ℕ) → List ℕ → Type 0
 IsEnoughOf left text = IfSome left (λ input. text ≡ take (longest_text + 1) input)
 
--- the lines were written, as far as the result says
+-- the lines were written, as far as the result says; the bytes of a text never fail
 pub record IsTold (told : Told Shown) (old new : Option (List ℕ)) (result : Result Shown InfoFault) : Type 0 where
   pub bytes : List ℕ
-  pub left : Option (List ℕ)
+  pub left : Supply
   pub at : Record
+  pub steady : left.can_fail ≡ false
   pub outcome : Outcome told bytes left at old new result
 
--- where the text that the input has is known, what its reply tells is written
-abbrev pub ShowsInput : {I O : Type 0} → (I → Option (List ℕ)) → (O → Option (List ℕ)) → Ask → Form → I → O → O → Result Shown InfoFault → Type 0
-ShowsInput remaining contents ask form input output output' result =
-    IfSome (remaining input) (λ text. IsTold (tell_text ask form text) (contents output) (contents output') result)
+-- the input failed, and nothing was written
+pub record FailsUnread (old new : Option (List ℕ)) (fault : InfoFault) : Type 0 where
+  pub fault_is : fault ≡ Read
+  pub kept : Keeps old new
+
+abbrev pub IsToldOr : Told Shown → Option (List ℕ) → Option (List ℕ) → Result Shown InfoFault → Type 0
+IsToldOr told old new (Ok shown) = IsTold told old new (Ok shown)
+IsToldOr told old new (Err fault) = IsTold told old new (Err fault) ⊎ FailsUnread old new fault
+
+-- Where the text that the input has is known, what its reply tells is written, or the input failed.
+abbrev pub ShowsIn : {I O : Type 0} → (I → Option (List ℕ)) → (O → Option (List ℕ)) → Ask → Form → I → O → O → Result Shown InfoFault → Type 0
+ShowsIn remaining contents ask form input output output' result =
+    IfSome (remaining input) (λ text. IsToldOr (tell_text ask form text) (contents output) (contents output') result)

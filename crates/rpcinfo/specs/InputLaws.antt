@@ -3,7 +3,7 @@ use Rattle.std.specs.Prelude.{◌≡◌, ◌<◌, ◌≤◌, ◌*◌, ◌%◌, �
 use Rattle.std.specs.List.{AllPass}
 use Rattle.hex.specs.Hex.{encode_lower, encode_upper, is_hex_digit, IsBytes}
 use Rattle.rb_ask.specs.declared.fault.InfoFault.{InfoFault}
-use Rattle.rb_ask.specs.declared.fault.InfoFault.TheVariants.{Read, Unreadable}
+use Rattle.rb_ask.specs.declared.fault.InfoFault.TheVariants.{TooLong, Unreadable}
 use Rattle.rpcinfo.specs.Input.{digits_of, longest_text, read_hex, bytes_of}
 
 -- beside white space, an even number of hexadecimal digits of either case
@@ -33,7 +33,7 @@ DigitsGiveTheirBytes =
     (text bytes : List ℕ) → IsBytes bytes → (digits_of text ≡ encode_lower bytes) ⊎ (digits_of text ≡ encode_upper bytes) → read_hex text ≡ Ok bytes
 
 abbrev pub LongTextsAreNotRead : Type 0
-LongTextsAreNotRead = (text : List ℕ) → longest_text < length text → bytes_of text ≡ Err Read
+LongTextsAreNotRead = (text : List ℕ) → longest_text < length text → bytes_of text ≡ Err TooLong
 
 abbrev pub TheRestIsRead : Type 0
 TheRestIsRead = (text : List ℕ) → length text ≤ longest_text → bytes_of text ≡ read_hex text

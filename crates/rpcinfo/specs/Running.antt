@@ -27,7 +27,7 @@ use Rattle.rpcinfo.specs.declared.ending.Notices.{Notices}
 use Rattle.rpcinfo.specs.declared.fault.Fault.{Fault}
 use Rattle.rpcinfo.specs.declared.fault.Fault.TheVariants.{Info, NoConnection, NoHost, NotAvailable, NoProgram, SomeLack}
 use Rattle.rpcinfo.specs.declared.words.Words.{Words}
-use Rattle.rpcinfo.specs.Input.{tell_text, IsTold}
+use Rattle.rpcinfo.specs.Input.{tell_text, IsToldOr}
 use Rattle.rpcinfo.specs.Ending.{notice_lines, status_of, said_of, IsNothing, Says}
 use Rattle.rpcinfo.specs.Plans.{plan_question}
 
@@ -61,8 +61,8 @@ ReadsShape contents shape faults faults' (Err ending) =
 
 -- the lines were written, as far as the answer says; without a socket there is no other fault
 abbrev pub IsToldAs : Told Shown → Option (List ℕ) → Option (List ℕ) → Result Shown Fault → Type 0
-IsToldAs told old new (Ok shown) = IsTold told old new (Ok shown)
-IsToldAs told old new (Err (Info fault)) = IsTold told old new (Err fault)
+IsToldAs told old new (Ok shown) = IsToldOr told old new (Ok shown)
+IsToldAs told old new (Err (Info fault)) = IsToldOr told old new (Err fault)
 IsToldAs told old new (Err NoConnection) = ⊥
 IsToldAs told old new (Err NoHost) = ⊥
 IsToldAs told old new (Err (NotAvailable prog vers why)) = ⊥
@@ -73,6 +73,10 @@ IsToldAs told old new (Err SomeLack) = ⊥
 abbrev pub ShowsAs : {I O : Type 0} → (I → Option (List ℕ)) → (O → Option (List ℕ)) → Ask → Form → I → O → O → Result Shown Fault → Type 0
 ShowsAs remaining contents ask form input output output' answer =
     IfSome (remaining input) (λ text. IsToldAs (tell_text ask form text) (contents output) (contents output') answer)
+
+-- the same of a question of the user that the words name, in their form
+abbrev pub Asks : {I O : Type 0} → (I → Option (List ℕ)) → (O → Option (List ℕ)) → Words → Question → I → O → O → Result Shown Fault → Type 0
+Asks remaining contents words question input output output' answer = ShowsAs remaining contents (ask_of words question) words.form input output output' answer
 
 -- what holds of the question of a plan whose reply is on standard input
 abbrev pub OfSource : Option (Source × Question) → (Question → Type 0) → Type 0
@@ -88,7 +92,7 @@ OfInput plan Holds = OfSource (plan_question plan) Holds
 -- over sockets nothing is said.
 abbrev pub Answers : {I O : Type 0} → (I → Option (List ℕ)) → (O → Option (List ℕ)) → Words → I → O → O → Result Shown Fault → Type 0
 Answers remaining contents words input output output' answer =
-    OfInput words.request.plan (λ question. ShowsAs remaining contents (ask_of words question) words.form input output output' answer)
+    OfInput words.request.plan (λ question. Asks remaining contents words question input output output' answer)
 
 -- nothing is to be noticed
 abbrev pub no_notices : Notices

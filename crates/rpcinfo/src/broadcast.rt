@@ -4,7 +4,7 @@ use crate::input::FIRST_XID;
 use crate::net::{HEADER, LONGEST_DATAGRAM, marked};
 use crate::waits::{WAITS, left_of};
 use crate::words::Words;
-use rb_show::{Form, InfoFault, Question, Shown, show_reply, write_call};
+use rb_show::{Form, HeldBytes, InfoFault, Question, Shown, show_reply, write_call};
 use std::alloc::Global;
 use std::io;
 use std::io::{ErrorKind, Write};
@@ -56,13 +56,13 @@ fn port_in(
     let record = marked(alloc, datagram).ok()?;
     let mut nothing = Vec::new(alloc);
     let ask = words.ask(question);
-    let mut bytes = record.as_slice();
+    let mut source = HeldBytes::new(&record);
     match show_reply(
         alloc,
         &ask,
         Form::Plain,
         FIRST_XID,
-        &mut bytes,
+        &mut source,
         &mut nothing,
     ) {
         Ok(Shown::Port(port)) => Some(port),

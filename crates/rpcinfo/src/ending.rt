@@ -1,7 +1,7 @@
 //! How the command ends.
-ghost use Rattle.std.specs.Prelude.{◌≡◌, OnOk, None, true, false};
-ghost use Rattle.std.specs.Io.KnownBytes.{Appends};
-ghost use Rattle.rpcinfo.specs.Ending.{info_text, fault_line, auth_text, server_line, versions_line, auth_line, status_line, status_in, detail_line, fault_lines, removed_line, answered_line, old_line, notice_lines, shown_status, status_of, said_of, EndsBy, IsNothing, Says};
+ghost use Rattle.std.specs.Prelude.{◌≡◌, None, true, false};
+ghost use Rattle.rb_words.specs.Refusals.{Prints};
+ghost use Rattle.rpcinfo.specs.Ending.{info_text, fault_line, auth_text, server_line, versions_line, auth_line, status_line, status_in, detail_line, fault_lines, removed_line, answered_line, old_line, notice_lines, shown_status, status_of, said_of, EndsBy, IsNothing, Says, SaysWhere};
 
 use crate::fault::Fault;
 use rb_rpc::{AuthStat, ReplyStatus};
@@ -38,9 +38,9 @@ fn info_text(fault: InfoFault) -> &'static str
     ensures { result.now ≡ info_text fault }
 {
     match fault {
-        InfoFault::Read => "read failed",
+        InfoFault::Read | InfoFault::TooLong => "read failed",
         InfoFault::Write => "write failed",
-        InfoFault::Unreadable => "unreadable reply",
+        InfoFault::Unreadable | InfoFault::CutOff => "unreadable reply",
         InfoFault::Refused(_) => "refused",
         InfoFault::TooMany => "too many rows",
         InfoFault::Memory => "no memory",
@@ -50,8 +50,7 @@ fn info_text(fault: InfoFault) -> &'static str
 /// Writes the first line of a fault.
 #[tactic(auto, using(crate::proofs::Written::nothing))]
 fn write_line<E: Write>(fault: Fault, faults: &mut E) -> io::Result<()>
-    ensures { OnOk result
-        (Appends (E.contents faults.old) (E.contents faults.new) (fault_line fault)) }
+    ensures { Prints E.contents faults.old faults.new (fault_line fault) result }
 {
     match fault {
         Fault::Info(fault) => {
@@ -96,16 +95,14 @@ fn auth_text(stat: AuthStat) -> &'static str
 
 /// Writes a line that says something of the server.
 fn write_server<E: Write>(text: &str, faults: &mut E) -> io::Result<()>
-    ensures { OnOk result
-        (Appends (E.contents faults.old) (E.contents faults.new) (server_line text.now)) }
+    ensures { Prints E.contents faults.old faults.new (server_line text.now) result }
 {
     writeln!(faults, "rpcinfo: the server {text}")
 }
 
 /// Writes the line that says which versions the server has.
 fn write_versions<E: Write>(low: u32, high: u32, of: &str, faults: &mut E) -> io::Result<()>
-    ensures { OnOk result
-        (Appends (E.contents faults.old) (E.contents faults.new) (versions_line low high of.now)) }
+    ensures { Prints E.contents faults.old faults.new (versions_line low high of.now) result }
 {
     writeln!(
         faults,
@@ -115,8 +112,7 @@ fn write_versions<E: Write>(low: u32, high: u32, of: &str, faults: &mut E) -> io
 
 /// Writes the line that says why the caller is refused.
 fn write_auth<E: Write>(stat: AuthStat, faults: &mut E) -> io::Result<()>
-    ensures { OnOk result
-        (Appends (E.contents faults.old) (E.contents faults.new) (auth_line stat)) }
+    ensures { Prints E.contents faults.old faults.new (auth_line stat) result }
 {
     let text = auth_text(stat);
     writeln!(faults, "rpcinfo: the server refuses the caller: {text}")
@@ -125,8 +121,7 @@ fn write_auth<E: Write>(stat: AuthStat, faults: &mut E) -> io::Result<()>
 /// Writes what a refusal says, as a line.
 #[tactic(auto, using(crate::proofs::Written::nothing))]
 fn write_status<E: Write>(status: ReplyStatus, faults: &mut E) -> io::Result<()>
-    ensures { OnOk result
-        (Appends (E.contents faults.old) (E.contents faults.new) (status_line status)) }
+    ensures { Prints E.contents faults.old faults.new (status_line status) result }
 {
     match status {
         ReplyStatus::Success => Ok(()),
@@ -154,8 +149,7 @@ fn status_in(fault: Fault) -> Option<ReplyStatus>
 /// Writes what a fault's refusal says, where it tells of one.
 #[tactic(auto, using(crate::proofs::Written::nothing))]
 fn write_detail<E: Write>(fault: Fault, faults: &mut E) -> io::Result<()>
-    ensures { OnOk result
-        (Appends (E.contents faults.old) (E.contents faults.new) (detail_line fault)) }
+    ensures { Prints E.contents faults.old faults.new (detail_line fault) result }
 {
     match status_in(fault) {
         Some(status) => write_status(status, faults),
@@ -165,8 +159,7 @@ fn write_detail<E: Write>(fault: Fault, faults: &mut E) -> io::Result<()>
 
 /// Writes the lines of a fault.
 fn write_fault<E: Write>(fault: Fault, faults: &mut E) -> io::Result<()>
-    ensures { OnOk result
-        (Appends (E.contents faults.old) (E.contents faults.new) (fault_lines fault)) }
+    ensures { Prints E.contents faults.old faults.new (fault_lines fault) result }
 {
     write_line(fault, faults)?;
     write_detail(fault, faults)
@@ -202,8 +195,7 @@ fn shown_status(shown: Shown) -> u8
 /// Says why UNSET may have removed nothing.
 #[tactic(auto, using(crate::proofs::Written::nothing))]
 fn write_removed<E: Write>(shown: Shown, faults: &mut E) -> io::Result<()>
-    ensures said { OnOk result
-        (Appends (E.contents faults.old) (E.contents faults.new) (removed_line shown)) }
+    ensures said { Prints E.contents faults.old faults.new (removed_line shown) result }
     ensures quiet { shown_status shown ≡ 0 → faults.new ≡ faults.old }
 {
     match shown {
@@ -250,8 +242,7 @@ fn end_answer<E: Write>(answer: Result<Shown, Fault>, faults: &mut E) -> Ending
 /// Names the address that answered, where the host has several.
 #[tactic(auto, using(crate::proofs::Written::nothing))]
 fn write_answered<E: Write>(answered: Option<IpAddr>, faults: &mut E) -> io::Result<()>
-    ensures said { OnOk result
-        (Appends (E.contents faults.old) (E.contents faults.new) (answered_line answered)) }
+    ensures said { Prints E.contents faults.old faults.new (answered_line answered) result }
     ensures quiet { answered ≡ None → faults.new ≡ faults.old }
 {
     match answered {
@@ -263,8 +254,7 @@ fn write_answered<E: Write>(answered: Option<IpAddr>, faults: &mut E) -> io::Res
 /// Says that version 2 was asked.
 #[tactic(auto, using(crate::proofs::Written::nothing))]
 fn write_old<E: Write>(is_old: bool, faults: &mut E) -> io::Result<()>
-    ensures said { OnOk result
-        (Appends (E.contents faults.old) (E.contents faults.new) (old_line is_old)) }
+    ensures said { Prints E.contents faults.old faults.new (old_line is_old) result }
     ensures quiet { is_old ≡ false → faults.new ≡ faults.old }
 {
     if is_old {
@@ -276,8 +266,7 @@ fn write_old<E: Write>(is_old: bool, faults: &mut E) -> io::Result<()>
 
 /// Says what there is to notice.
 fn write_notices<E: Write>(notices: Notices, faults: &mut E) -> io::Result<()>
-    ensures said { OnOk result
-        (Appends (E.contents faults.old) (E.contents faults.new) (notice_lines notices)) }
+    ensures said { Prints E.contents faults.old faults.new (notice_lines notices) result }
     ensures quiet { IsNothing notices → faults.new ≡ faults.old }
 {
     write_answered(notices.answered, faults)?;
@@ -286,8 +275,7 @@ fn write_notices<E: Write>(notices: Notices, faults: &mut E) -> io::Result<()>
 
 /// Says what there is to notice, and answers whether it was written.
 fn is_noticed<E: Write>(notices: Notices, faults: &mut E) -> bool
-    ensures said { result ≡ true
-        → Appends (E.contents faults.old) (E.contents faults.new) (notice_lines notices) }
+    ensures said { SaysWhere E.contents faults.old faults.new result (notice_lines notices) }
     ensures quiet { IsNothing notices → faults.new ≡ faults.old }
 {
     write_notices(notices, faults).is_ok()

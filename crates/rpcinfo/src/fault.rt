@@ -2,9 +2,12 @@
 use rb_rpc::ReplyStatus;
 use rb_show::InfoFault;
 
+/// Why the command ends with status 1.
 #[derive(Clone, Copy, Debug, Drop, PartialEq, Eq)]
 pub enum Fault {
+    /// A call was not written, or its reply was not shown to its end.
     Info(InfoFault),
+    /// Nobody listens there.
     NoConnection,
     /// No address of the host is known.
     NoHost,

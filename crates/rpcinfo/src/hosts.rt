@@ -29,7 +29,7 @@ pub fn here(port: u16) -> SocketAddr {
     SocketAddr::new(IpAddr::V4(Ipv4Addr::LOCALHOST), port)
 }
 
-/// Whether an address is of the family of the netid by which a program is found.
+/// Returns whether an address is of the family of the netid by which a program is found.
 pub fn is_of(way: Way, address: SocketAddr) -> bool {
     match way {
         Way::Address(Netid::Tcp | Netid::Udp) => address.is_ipv4(),

@@ -1,9 +1,9 @@
 //! The reply on standard input, in hexadecimal text.
 ghost use Rattle.std.specs.Prelude.{◌≡◌, ◌≤◌, ◌⊎◌, IfOk, IfErr};
-ghost use Rattle.rpcinfo.specs.Input.{bytes_of, digits_of, is_white, longest_text, read_hex, FailsAs, IsEnoughOf, ShowsInput};
+ghost use Rattle.rpcinfo.specs.Input.{bytes_of, digits_of, is_white, longest_text, read_hex, FailsAs, IsEnoughOf, ShowsIn};
 
 use hex::FromHexError;
-use rb_show::{Ask, Form, InfoFault, Shown, show_reply};
+use rb_show::{Ask, Form, HeldBytes, InfoFault, Shown, show_reply};
 use std::alloc::Global;
 use std::io::{ErrorKind, Read, Write};
 
@@ -62,21 +62,22 @@ fn read_hex(alloc: Global, text: Vec<u8>) -> Result<Vec<u8>, InfoFault>
     }
 }
 
-/// The bytes that a text gives. One that is too long is `Read`, other text than hexadecimal digits `Unreadable`.
+/// The bytes that a text gives. One that is too long is `TooLong`, other text than hexadecimal digits `Unreadable`.
 fn bytes_of(alloc: Global, text: Vec<u8>) -> Result<Vec<u8>, InfoFault>
     ensures ok { IfOk result (λ bytes. bytes_of text.items ≡ Ok bytes.items) }
     ensures err { IfErr result (FailsAs (bytes_of text.items)) }
 {
     if text.len() > longest_text() {
-        return Err(InfoFault::Read);
+        return Err(InfoFault::TooLong);
     }
     read_hex(alloc, text)
 }
 
 /// Shows the reply to the first xid that is on standard input as hexadecimal text, white space skipped.
 ///
-/// A text of more than 67,108,864 bytes is `Read`, and other text than pairs of hexadecimal digits `Unreadable`;
-/// nothing is written then. Else it is as `show_reply` says of the bytes that the text gives.
+/// A text of more than 67,108,864 bytes is `TooLong`, other text than pairs of hexadecimal digits is `Unreadable`, and
+/// `Read` says that the input failed; nothing is written then. Else it is as `show_reply` says of the bytes that the
+/// text gives.
 pub fn show_input<I: Read, O: Write>(
     alloc: Global,
     ask: &Ask,
@@ -84,9 +85,10 @@ pub fn show_input<I: Read, O: Write>(
     input: &mut I,
     output: &mut O,
 ) -> Result<Shown, InfoFault>
-    ensures { ShowsInput I.remaining O.contents ask.now form.entry input.old output.old output.new result }
+    ensures { ShowsIn I.remaining O.contents ask.now form.entry input.old output.old output.new result }
 {
     let text = read_text(alloc, input)?;
     let bytes = bytes_of(alloc, text)?;
-    show_reply(alloc, ask, form, FIRST_XID, &mut bytes.as_slice(), output)
+    let mut source = HeldBytes::new(&bytes);
+    show_reply(alloc, ask, form, FIRST_XID, &mut source, output)
 }

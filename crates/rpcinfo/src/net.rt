@@ -2,7 +2,7 @@
 use crate::fault::Fault;
 use crate::patient::{Patient, Stream};
 use crate::waits::{WAITS, left_of};
-use rb_show::{Ask, Form, InfoFault, Shown, show_reply, write_call};
+use rb_show::{Ask, Form, HeldBytes, InfoFault, ReadBytes, Shown, show_reply, write_call};
 use std::alloc::{AllocError, Global};
 use std::io;
 use std::io::{BufReader, ErrorKind, Write};
@@ -64,10 +64,11 @@ pub fn ask_stream<N: Net + Clock, W: Write>(
     if stream.write_all(&call).is_err() {
         return Err(Fault::Info(InfoFault::Write));
     }
-    let Ok(mut reader) = BufReader::new(alloc, stream) else {
+    let Ok(reader) = BufReader::new(alloc, stream) else {
         return Err(Fault::Info(InfoFault::Memory));
     };
-    show_reply(alloc, ask, form, xid, &mut reader, output).map_err(Fault::Info)
+    let mut source = ReadBytes::new(reader);
+    show_reply(alloc, ask, form, xid, &mut source, output).map_err(Fault::Info)
 }
 
 /// The record that a datagram is, in one fragment.
@@ -163,5 +164,6 @@ pub fn ask_datagram<N: Net + Clock, W: Write>(
     let Ok(record) = marked(alloc, &datagram) else {
         return Err(Fault::Info(InfoFault::Memory));
     };
-    show_reply(alloc, ask, form, xid, &mut record.as_slice(), output).map_err(Fault::Info)
+    let mut source = HeldBytes::new(&record);
+    show_reply(alloc, ask, form, xid, &mut source, output).map_err(Fault::Info)
 }

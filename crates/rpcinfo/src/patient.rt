@@ -39,6 +39,7 @@ pub struct Patient<'a, C: Clock, S: Read + Write + OpenStream + Drop> {
 }
 
 impl<'a, C: Clock, S: Read + Write + OpenStream + Drop> Patient<'a, C, S> {
+    /// Returns a connection whose call counts from `begun` on.
     pub fn new(clock: &'a C, stream: Stream<S>, begun: Instant, waits: Waits) -> Self {
         Patient {
             clock,

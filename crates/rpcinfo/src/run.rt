@@ -1,7 +1,7 @@
 //! The command.
 ghost use Rattle.std.specs.Prelude.{◌≡◌, ◌≤◌};
 ghost use Rattle.rpcinfo.specs.Ending.{EndsBy, IsNothing};
-ghost use Rattle.rpcinfo.specs.Running.{ask_of, no_notices, Answers, IsExplained, IsFlushed, IsNoticed, IsSilent, ShowsAs};
+ghost use Rattle.rpcinfo.specs.Running.{Answers, Asks, IsExplained, IsFlushed, IsNoticed, IsSilent};
 
 use crate::asking::{Answered, ask_here, ask_named, ping, silently};
 use crate::broadcast::broadcast;
@@ -28,13 +28,12 @@ fn ask_input<I: Read, O: Write>(
     question: Question,
     input: &mut I,
     output: &mut O,
-) -> Answered
-    ensures told { ShowsAs I.remaining O.contents (ask_of words.now question) words.now.form input.old output.old output.new result.0 }
-    ensures silent { result.1 ≡ no_notices }
+) -> Result<Shown, Fault>
+    ensures { Asks I.remaining O.contents words.now question input.old output.old output.new result }
 {
     match show_input(alloc, &words.ask(question), words.form, input, output) {
-        Ok(shown) => silently(Ok(shown)),
-        Err(fault) => silently(Err(Fault::Info(fault))),
+        Ok(shown) => Ok(shown),
+        Err(fault) => Err(Fault::Info(fault)),
     }
 }
 
@@ -50,7 +49,9 @@ fn carry_out<N: Net + Clock, I: Read, O: Write>(
     ensures silent { IsSilent words.now result.1 }
 {
     match plan_question(words.request.plan) {
-        Some((Source::Input, question)) => ask_input(alloc, words, question, input, output),
+        Some((Source::Input, question)) => {
+            silently(ask_input(alloc, words, question, input, output))
+        }
         Some((Source::Here, question)) => ask_here(alloc, net, words, question, output),
         Some((Source::Named, question)) => ask_named(alloc, net, words, question, output),
         None => carry_course(alloc, net, words, output),
@@ -94,7 +95,7 @@ fn run_words<N: Net + Clock, I: Read, O: Write, E: Write>(
     output: &mut O,
     faults: &mut E,
 ) -> (Answered, Ending)
-    ensures answer { Answers I.remaining O.contents words.now input.old output.old output.new result.0.0 }
+    ensures says { Answers I.remaining O.contents words.now input.old output.old output.new result.0.0 }
     ensures silent { IsSilent words.now result.0.1 }
     ensures ends { EndsBy E.contents faults.old faults.new result.1 result.0.0 result.0.1 }
     ensures quiet { result.1.status ≡ 0 → IsNothing result.0.1 → faults.new ≡ faults.old }

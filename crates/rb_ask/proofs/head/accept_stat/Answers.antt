@@ -13,5 +13,5 @@ returns-in_err-low-in-2 g c = λ held.
 
 pub returns-in_ok-low-in-2 : goal.returns-in_ok-low-in-2
 returns-in_ok-low-in-2 g c = λ held.
-    rw c.in-2.is (tells_then (take_one two_numbers) (λ (v : ℕ × ℕ). give (ProgMismatch v.0 v.1)) _ (g.R.Read.remaining c.take_item.new.reader) _ _ c.take_item.new.at _ held held held
-    (c.in_ok-low-in-2.low, c.in_ok-low-in-2.high) _ (c.in_ok-low-in-2.ensures held) (tells_give (ProgMismatch c.in_ok-low-in-2.low c.in_ok-low-in-2.high) (g.R.Read.remaining c.take_item.new.reader) c.take_item.new.at held))
+    rw c.in-2.is (tells_then (take_one two_numbers) (λ (v : ℕ × ℕ). give (ProgMismatch v.0 v.1)) _ (g.B.ByteSource.left c.take_item.new.source) _ _ c.take_item.new.at _ held held held
+    (c.in_ok-low-in-2.low, c.in_ok-low-in-2.high) _ (c.in_ok-low-in-2.ensures held) (tells_give (ProgMismatch c.in_ok-low-in-2.low c.in_ok-low-in-2.high) (g.B.ByteSource.left c.take_item.new.source) c.take_item.new.at held))

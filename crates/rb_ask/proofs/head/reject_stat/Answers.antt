@@ -15,8 +15,8 @@ returns-in_err-low-in-0 g c = λ held.
 
 pub returns-in_ok-low-in-0 : goal.returns-in_ok-low-in-0
 returns-in_ok-low-in-0 g c = λ held.
-    rw c.in-0.is (tells_then (take_one two_numbers) (λ (v : ℕ × ℕ). give (RpcMismatch v.0 v.1)) _ (g.R.Read.remaining c.take_item.new.reader) _ _ c.take_item.new.at _ held held held
-    (c.in_ok-low-in-0.low, c.in_ok-low-in-0.high) _ (c.in_ok-low-in-0.ensures held) (tells_give (RpcMismatch c.in_ok-low-in-0.low c.in_ok-low-in-0.high) (g.R.Read.remaining c.take_item.new.reader) c.take_item.new.at held))
+    rw c.in-0.is (tells_then (take_one two_numbers) (λ (v : ℕ × ℕ). give (RpcMismatch v.0 v.1)) _ (g.B.ByteSource.left c.take_item.new.source) _ _ c.take_item.new.at _ held held held
+    (c.in_ok-low-in-0.low, c.in_ok-low-in-0.high) _ (c.in_ok-low-in-0.ensures held) (tells_give (RpcMismatch c.in_ok-low-in-0.low c.in_ok-low-in-0.high) (g.B.ByteSource.left c.take_item.new.source) c.take_item.new.at held))
 
 pub returns-in_err-take_item-in-1 : goal.returns-in_err-take_item-in-1
 returns-in_err-take_item-in-1 g c = λ held.
@@ -26,11 +26,11 @@ returns-in_err-take_item-in-1 g c = λ held.
 pub returns-in-Some : goal.returns-in-Some
 returns-in-Some g c = λ held.
     let is : auth_stat_of c.in_ok-take_item-in-1.field-0 ≡ Some c.in-Some.stat = cc in
-    rw c.in-1.is (tells_then (take_one read_number) (λ stat. auth_error (auth_stat_of stat)) _ (g.R.Read.remaining c.take_item-in-1.new.reader) _ _ c.take_item-in-1.new.at _ held held held
-    c.in_ok-take_item-in-1.field-0 _ (c.in_ok-take_item-in-1.ensures held) (rw is (tells_give (AuthError c.in-Some.stat) (g.R.Read.remaining c.take_item-in-1.new.reader) c.take_item-in-1.new.at held)))
+    rw c.in-1.is (tells_then (take_one read_number) (λ stat. auth_error (auth_stat_of stat)) _ (g.B.ByteSource.left c.take_item-in-1.new.source) _ _ c.take_item-in-1.new.at _ held held held
+    c.in_ok-take_item-in-1.field-0 _ (c.in_ok-take_item-in-1.ensures held) (rw is (tells_give (AuthError c.in-Some.stat) (g.B.ByteSource.left c.take_item-in-1.new.source) c.take_item-in-1.new.at held)))
 
 pub returns-in-None : goal.returns-in-None
 returns-in-None g c = λ held.
     let is : auth_stat_of c.in_ok-take_item-in-1.field-0 ≡ None = cc in
-    rw c.in-1.is (tells_then (take_one read_number) (λ stat. auth_error (auth_stat_of stat)) _ (g.R.Read.remaining c.take_item-in-1.new.reader) _ _ c.take_item-in-1.new.at _ held held held
-    c.in_ok-take_item-in-1.field-0 _ (c.in_ok-take_item-in-1.ensures held) (rw is (tells_stop (g.R.Read.remaining c.take_item-in-1.new.reader) c.take_item-in-1.new.at held)))
+    rw c.in-1.is (tells_then (take_one read_number) (λ stat. auth_error (auth_stat_of stat)) _ (g.B.ByteSource.left c.take_item-in-1.new.source) _ _ c.take_item-in-1.new.at _ held held held
+    c.in_ok-take_item-in-1.field-0 _ (c.in_ok-take_item-in-1.ensures held) (rw is (tells_stop (g.B.ByteSource.left c.take_item-in-1.new.source) c.take_item-in-1.new.at held)))

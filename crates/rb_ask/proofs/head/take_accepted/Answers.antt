@@ -14,4 +14,4 @@ returns-in_err-number g c = λ held.
 pub returns : goal.returns
 unfolding take_accepted
 returns g c = λ held.
-    tells_then (take_one verified) (λ (v : (ℕ × List ℕ) × ℕ). accept_stat v.1) _ (g.R.Read.remaining c.take_item.new.reader) _ _ c.take_item.new.at _ held held held _ _ (c.in_ok-number.ensures held) (c.accept_stat.ensures held)
+    tells_then (take_one verified) (λ (v : (ℕ × List ℕ) × ℕ). accept_stat v.1) _ (g.B.ByteSource.left c.take_item.new.source) _ _ c.take_item.new.at _ held held held _ _ (c.in_ok-number.ensures held) (c.accept_stat.ensures held)

@@ -14,4 +14,4 @@ returns-in_err-number g c = λ held.
 pub returns : goal.returns
 unfolding take_denied
 returns g c = λ held.
-    tells_then (take_one read_number) reject_stat _ (g.R.Read.remaining c.take_item.new.reader) _ _ c.take_item.new.at _ held held held _ _ (c.in_ok-number.ensures held) (c.reject_stat.ensures held)
+    tells_then (take_one read_number) reject_stat _ (g.B.ByteSource.left c.take_item.new.source) _ _ c.take_item.new.at _ held held held _ _ (c.in_ok-number.ensures held) (c.reject_stat.ensures held)

@@ -5,7 +5,7 @@ use Rattle.rb_ask.proofs.item.take_item.Given as goal
 
 abbrev pub invariant-bytes : goal.invariant-bytes
 invariant-bytes g l = record {
-  holds : Holds (g.R.Read.remaining l.initial.reader) (g.R.Read.remaining l.reader) l.initial.at l.at l.bytes.items;
+  holds : Holds (g.B.ByteSource.left l.initial.source) (g.B.ByteSource.left l.source) l.initial.at l.at l.bytes.items;
   short : IsShort g.T.Xdr.reads l.bytes.items;
 }
 

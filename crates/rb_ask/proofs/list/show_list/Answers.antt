@@ -21,14 +21,14 @@ pub returns-in_err-show_item-in-Some : goal.returns-in_err-show_item-in-Some
 returns-in_err-show_item-in-Some g c =
     let p = err_from_is_err_and c.from_residual-in_err-show_item-in-Some.result c.from_residual-in_err-show_item-in-Some.ensures.1 in
     rw (p.1, p.2) (c.loop-shown.invariant _ _ _ (Err _) (list_unwritten g.T.Xdr.reads (g.S.Style.text c.args.style.now) (4096 - c.loop-shown.shown) (4096 - (c.loop-shown.shown + 1)) c.loop-shown.shown (omega arith)
-    _ (g.R.Read.remaining c.take_item.new.reader) _ c.take_item.new.at (g.W.Write.contents c.loop-shown.writer) _ c.in_ok-next.next c.in-Some.item _
-    (c.in_ok-next.ensures (g.W.Write.contents c.loop-shown.writer)) (search rules) (c.in_err-show_item-in-Some.ensures (g.R.Read.remaining c.take_item.new.reader) c.take_item.new.at)))
+    _ (g.B.ByteSource.left c.take_item.new.source) _ c.take_item.new.at (g.W.Write.contents c.loop-shown.writer) _ c.in_ok-next.next c.in-Some.item _
+    (c.in_ok-next.ensures (g.W.Write.contents c.loop-shown.writer)) (search rules) (c.in_err-show_item-in-Some.ensures (g.B.ByteSource.left c.take_item.new.source) c.take_item.new.at)))
 
 pub loop-shown-preserved : goal.loop-shown-preserved
 loop-shown-preserved g c = λ known at held result p.
     c.loop-shown.invariant known at held result (list_more g.T.Xdr.reads (g.S.Style.text c.args.style.now) (4096 - c.loop-shown.shown) (4096 - (c.loop-shown.shown + 1)) c.loop-shown.shown (omega arith)
-    _ (g.R.Read.remaining c.take_item.new.reader) known _ c.take_item.new.at at (g.W.Write.contents c.loop-shown.writer) (g.W.Write.contents c.show_item.new.writer) held c.in_ok-next.next c.in-Some.item result
-    (c.in_ok-next.ensures (g.W.Write.contents c.loop-shown.writer)) (search rules) (c.in_ok-show_item-in-Some.ensures (g.R.Read.remaining c.take_item.new.reader) c.take_item.new.at) p)
+    _ (g.B.ByteSource.left c.take_item.new.source) known _ c.take_item.new.at at (g.W.Write.contents c.loop-shown.writer) (g.W.Write.contents c.show_item.new.writer) held c.in_ok-next.next c.in-Some.item result
+    (c.in_ok-next.ensures (g.W.Write.contents c.loop-shown.writer)) (search rules) (c.in_ok-show_item-in-Some.ensures (g.B.ByteSource.left c.take_item.new.source) c.take_item.new.at) p)
 
 pub returns-in_err-more : goal.returns-in_err-more
 returns-in_err-more g c =

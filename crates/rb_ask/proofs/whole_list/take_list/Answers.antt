@@ -30,7 +30,7 @@ loop-taken-preserved g c =
       few = omega (arith, c.loop-taken.invariant.few, ap length pushed, length-append c.loop-taken.items.items (c.in-Some.item ∷ []));
       rest = λ known at held result p.
           c.loop-taken.invariant.rest known at held result (taken_more g.T.Xdr.reads (4096 - c.loop-taken.taken) (4096 - (c.loop-taken.taken + 1)) c.loop-taken.items.items (omega arith)
-          _ (g.R.Read.remaining c.take_item.new.reader) known _ c.take_item.new.at at held c.in_ok-next.next c.in-Some.item result (c.in_ok-next.ensures held) (search rules) (rw pushed at p));
+          _ (g.B.ByteSource.left c.take_item.new.source) known _ c.take_item.new.at at held c.in_ok-next.next c.in-Some.item result (c.in_ok-next.ensures held) (search rules) (rw pushed at p));
     }
 
 pub returns-in_err-more-clause-takes : goal.returns-in_err-more-clause-takes

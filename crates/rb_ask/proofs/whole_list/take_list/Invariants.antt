@@ -2,6 +2,7 @@
 use Rattle.std.proofs.Common.{◌≡◌, ℕ, ◌-◌, List, [], length, Option, Result}
 use Rattle.rb_ask.specs.declared.fault.InfoFault.{InfoFault}
 use Rattle.rb_ask.specs.declared.record.Record.{Record}
+use Rattle.rb_ask.specs.Sources.{Supply}
 use Rattle.rb_ask.specs.Telling.{Tells}
 use Rattle.rb_ask.specs.Lists.{greatest_list}
 use Rattle.rb_ask.specs.WholeLists.{take_items}
@@ -10,7 +11,7 @@ use Rattle.rb_ask.proofs.whole_list.take_list.Given as goal
 abbrev pub invariant-loop-taken : goal.invariant-loop-taken
 invariant-loop-taken g l = record {
   few : length l.items.items ≡ l.taken;
-  rest : (known : Option (List ℕ)) (at : Record) (held : Option (List ℕ)) (result : Result (List g.row.T.Denot) InfoFault)
-      → Tells (take_items g.T.Xdr.reads (greatest_list - l.taken) l.items.items) (g.R.Read.remaining l.reader) known l.at at held held result
-      → Tells (take_items g.T.Xdr.reads greatest_list []) (g.R.Read.remaining l.initial.reader) known l.initial.at at held held result;
+  rest : (known : Supply) (at : Record) (held : Option (List ℕ)) (result : Result (List g.row.T.Denot) InfoFault)
+      → Tells (take_items g.T.Xdr.reads (greatest_list - l.taken) l.items.items) (g.B.ByteSource.left l.source) known l.at at held held result
+      → Tells (take_items g.T.Xdr.reads greatest_list []) (g.B.ByteSource.left l.initial.source) known l.initial.at at held held result;
 }

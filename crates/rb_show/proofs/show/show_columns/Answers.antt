@@ -11,10 +11,10 @@ pub returns-in_err-show_line : goal.returns-in_err-show_line
 unfolding tell_columns
 returns-in_err-show_line g c =
     let p = err_from_is_err_and c.from_residual.result c.from_residual.ensures.1 in
-    rw (p.1, p.2, ← c.heading.ensures) (tells_fault (tell (c.heading.result.now ∷ [])) (λ _. tell_list read_mapping (mapping_line c.args.form)) _ _ _ _ _ _ _ (c.in_err-show_line.ensures (g.R.Read.remaining c.args.reader.now) c.args.at.now))
+    rw (p.1, p.2, ← c.heading.ensures) (tells_fault (tell (c.heading.result.now ∷ [])) (λ _. tell_list read_mapping (mapping_line c.args.form)) _ _ _ _ _ _ _ (c.in_err-show_line.ensures (g.B.ByteSource.left c.args.source.now) c.args.at.now))
 
 pub returns : goal.returns
 unfolding tell_columns
 returns g c =
-    rw (← c.heading.ensures) (tells_then (tell (c.heading.result.now ∷ [])) (λ _. tell_list read_mapping (mapping_line c.args.form)) _ (g.R.Read.remaining c.args.reader.now) _ _ c.args.at.now _ _ (g.W.Write.contents c.show_line.new.writer) _
-    tt _ (c.in_ok-show_line.ensures (g.R.Read.remaining c.args.reader.now) c.args.at.now) c.show_items.ensures)
+    rw (← c.heading.ensures) (tells_then (tell (c.heading.result.now ∷ [])) (λ _. tell_list read_mapping (mapping_line c.args.form)) _ (g.B.ByteSource.left c.args.source.now) _ _ c.args.at.now _ _ (g.W.Write.contents c.show_line.new.writer) _
+    tt _ (c.in_ok-show_line.ensures (g.B.ByteSource.left c.args.source.now) c.args.at.now) c.show_items.ensures)

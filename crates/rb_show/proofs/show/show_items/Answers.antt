@@ -15,5 +15,5 @@ returns-in_err-rows g c =
 pub returns : goal.returns
 unfolding tell_list
 returns g c =
-    tells_then (tell_items g.T.Xdr.reads (g.S.Style.text c.args.style.now) greatest_list 0) (λ n. give (Rows n)) _ (g.R.Read.remaining c.show_list.new.reader) _ _ c.show_list.new.at _ _ (g.W.Write.contents c.show_list.new.writer) _
+    tells_then (tell_items g.T.Xdr.reads (g.S.Style.text c.args.style.now) greatest_list 0) (λ n. give (Rows n)) _ (g.B.ByteSource.left c.show_list.new.source) _ _ c.show_list.new.at _ _ (g.W.Write.contents c.show_list.new.writer) _
     c.in_ok-rows.rows _ c.in_ok-rows.ensures (tells_give (Rows c.in_ok-rows.rows) _ _ _)

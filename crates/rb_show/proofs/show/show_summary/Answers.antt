@@ -27,18 +27,18 @@ pub returns-in_err-show_text : goal.returns-in_err-show_text
 unfolding tell_summary
 returns-in_err-show_text g c =
     let p = err_from_is_err_and c.from_residual-in_err-show_text.result c.from_residual-in_err-show_text.ensures.1 in
-    let written = rw c.deref.ensures.value at (c.in_err-show_text.ensures (g.R.Read.remaining c.take_list.new.reader) c.take_list.new.at) in
-    rw (p.1, p.2) (tells_then (take_items g.T.Xdr.reads greatest_list []) (rest c.args.form g.T.AsRow.as_shown) _ (g.R.Read.remaining c.take_list.new.reader) _ _ c.take_list.new.at _ _ (g.W.Write.contents c.args.writer.now) _
+    let written = rw c.deref.ensures.value at (c.in_err-show_text.ensures (g.B.ByteSource.left c.take_list.new.source) c.take_list.new.at) in
+    rw (p.1, p.2) (tells_then (take_items g.T.Xdr.reads greatest_list []) (rest c.args.form g.T.AsRow.as_shown) _ (g.B.ByteSource.left c.take_list.new.source) _ _ c.take_list.new.at _ _ (g.W.Write.contents c.args.writer.now) _
     c.in_ok-items.items.items _ (c.in_ok-items.ensures.takes (g.W.Write.contents c.args.writer.now))
     (tells_fault (tell (summary_text c.args.form (map g.T.AsRow.as_shown c.in_ok-items.items.items) ∷ [])) (last (length c.in_ok-items.items.items)) _ _ _ _ _ _ _ written))
 
 pub returns : goal.returns
 unfolding tell_summary
 returns g c =
-    let written = rw c.deref.ensures.value at (c.in_ok-show_text.ensures (g.R.Read.remaining c.take_list.new.reader) c.take_list.new.at) in
+    let written = rw c.deref.ensures.value at (c.in_ok-show_text.ensures (g.B.ByteSource.left c.take_list.new.source) c.take_list.new.at) in
     let items = c.in_ok-items.items.items in
     let count : c.len.result ≡ length c.in_ok-items.items.items = search rules in
-    tells_then (take_items g.T.Xdr.reads greatest_list []) (rest c.args.form g.T.AsRow.as_shown) _ (g.R.Read.remaining c.take_list.new.reader) _ _ c.take_list.new.at _ _ (g.W.Write.contents c.args.writer.now) _
+    tells_then (take_items g.T.Xdr.reads greatest_list []) (rest c.args.form g.T.AsRow.as_shown) _ (g.B.ByteSource.left c.take_list.new.source) _ _ c.take_list.new.at _ _ (g.W.Write.contents c.args.writer.now) _
     items _ (c.in_ok-items.ensures.takes (g.W.Write.contents c.args.writer.now))
-    (tells_then (tell (summary_text c.args.form (map g.T.AsRow.as_shown items) ∷ [])) (last (length items)) _ (g.R.Read.remaining c.take_list.new.reader) _ _ c.take_list.new.at _ _ (g.W.Write.contents c.show_text.new.writer) _
+    (tells_then (tell (summary_text c.args.form (map g.T.AsRow.as_shown items) ∷ [])) (last (length items)) _ (g.B.ByteSource.left c.take_list.new.source) _ _ c.take_list.new.at _ _ (g.W.Write.contents c.show_text.new.writer) _
     tt _ written (rw count (tells_give (Rows (length items)) _ _ _)))

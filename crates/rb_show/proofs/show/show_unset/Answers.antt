@@ -14,5 +14,5 @@ returns-in_err-removed g c =
 pub returns : goal.returns
 unfolding tell_unset
 returns g c =
-    tells_then (take_one read_bool) tell_removed _ (g.R.Read.remaining c.take_item.new.reader) _ _ c.take_item.new.at _ _ (g.W.Write.contents c.args.writer.now) _ c.in_ok-removed.removed _
-    (c.in_ok-removed.ensures (g.W.Write.contents c.args.writer.now)) (c.show_removed.ensures (g.R.Read.remaining c.take_item.new.reader) c.take_item.new.at)
+    tells_then (take_one read_bool) tell_removed _ (g.B.ByteSource.left c.take_item.new.source) _ _ c.take_item.new.at _ _ (g.W.Write.contents c.args.writer.now) _ c.in_ok-removed.removed _
+    (c.in_ok-removed.ensures (g.W.Write.contents c.args.writer.now)) (c.show_removed.ensures (g.B.ByteSource.left c.take_item.new.source) c.take_item.new.at)

@@ -17,12 +17,12 @@ pub returns-in-Some : goal.returns-in-Some
 unfolding tell_address
 returns-in-Some g c = λ held.
     let is : address_in c.in_ok-text.text ≡ Some c.in-Some.address = search rules in
-    tells_then (take_one (read_opaque 128)) (λ text. by_address (address_in text)) _ (g.R.Read.remaining c.take_item.new.reader) _ _ c.take_item.new.at _ held held held c.in_ok-text.text _ (c.in_ok-text.ensures held)
+    tells_then (take_one (read_opaque 128)) (λ text. by_address (address_in text)) _ (g.B.ByteSource.left c.take_item.new.source) _ _ c.take_item.new.at _ held held held c.in_ok-text.text _ (c.in_ok-text.ensures held)
     (rw is (tells_give (Address c.in-Some.address) _ _ held))
 
 pub returns-in-None : goal.returns-in-None
 unfolding tell_address
 returns-in-None g c = λ held.
     let is : address_in c.in_ok-text.text ≡ None = search rules in
-    tells_then (take_one (read_opaque 128)) (λ text. by_address (address_in text)) _ (g.R.Read.remaining c.take_item.new.reader) _ _ c.take_item.new.at _ held held held c.in_ok-text.text _ (c.in_ok-text.ensures held)
+    tells_then (take_one (read_opaque 128)) (λ text. by_address (address_in text)) _ (g.B.ByteSource.left c.take_item.new.source) _ _ c.take_item.new.at _ held held held c.in_ok-text.text _ (c.in_ok-text.ensures held)
     (rw is (tells_stop _ _ held))

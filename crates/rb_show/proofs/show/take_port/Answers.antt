@@ -15,5 +15,5 @@ returns-in_err-port g c = λ held.
 pub returns : goal.returns
 unfolding tell_port
 returns g c = λ held.
-    tells_then (take_one read_number) (λ port. give (Port port)) _ (g.R.Read.remaining c.take_item.new.reader) _ _ c.take_item.new.at _ held held held c.in_ok-port.port _ (c.in_ok-port.ensures held)
+    tells_then (take_one read_number) (λ port. give (Port port)) _ (g.B.ByteSource.left c.take_item.new.source) _ _ c.take_item.new.at _ held held held c.in_ok-port.port _ (c.in_ok-port.ensures held)
     (tells_give (Port c.in_ok-port.port) _ _ held)

@@ -24,13 +24,13 @@ pub returns-in_err-called : goal.returns-in_err-called
 unfolding tell_lists
 returns-in_err-called g c =
     let p = err_from_is_err_and c.from_residual-in_err-called.result c.from_residual-in_err-called.ensures.1 in
-    rw (p.1, p.2) (tells_then (tell_items read_look_ups (addr_line c.args.form c.args.vers) greatest_list 0) (rest c.args.form c.args.vers) _ (g.R.Read.remaining c.show_list.new.reader) _ _ c.show_list.new.at _ _ (g.W.Write.contents c.show_list.new.writer) _
+    rw (p.1, p.2) (tells_then (tell_items read_look_ups (addr_line c.args.form c.args.vers) greatest_list 0) (rest c.args.form c.args.vers) _ (g.B.ByteSource.left c.show_list.new.source) _ _ c.show_list.new.at _ _ (g.W.Write.contents c.show_list.new.writer) _
     c.in_ok-found.found _ c.in_ok-found.ensures (tells_fault (tell_items read_forwards (call_line c.args.form c.args.vers) greatest_list 0) (both c.in_ok-found.found) _ _ _ _ _ _ _ c.in_err-called.ensures))
 
 pub returns : goal.returns
 unfolding tell_lists
 returns g c =
-    tells_then (tell_items read_look_ups (addr_line c.args.form c.args.vers) greatest_list 0) (rest c.args.form c.args.vers) _ (g.R.Read.remaining c.show_list.new.reader) _ _ c.show_list.new.at _ _ (g.W.Write.contents c.show_list.new.writer) _
+    tells_then (tell_items read_look_ups (addr_line c.args.form c.args.vers) greatest_list 0) (rest c.args.form c.args.vers) _ (g.B.ByteSource.left c.show_list.new.source) _ _ c.show_list.new.at _ _ (g.W.Write.contents c.show_list.new.writer) _
     c.in_ok-found.found _ c.in_ok-found.ensures
-    (tells_then (tell_items read_forwards (call_line c.args.form c.args.vers) greatest_list 0) (both c.in_ok-found.found) _ (g.R.Read.remaining c.show_list-2.new.reader) _ _ c.show_list-2.new.at _ _ (g.W.Write.contents c.show_list-2.new.writer) _
+    (tells_then (tell_items read_forwards (call_line c.args.form c.args.vers) greatest_list 0) (both c.in_ok-found.found) _ (g.B.ByteSource.left c.show_list-2.new.source) _ _ c.show_list-2.new.at _ _ (g.W.Write.contents c.show_list-2.new.writer) _
     c.in_ok-called.called _ c.in_ok-called.ensures (tells_give (c.in_ok-found.found, c.in_ok-called.called) _ _ _))

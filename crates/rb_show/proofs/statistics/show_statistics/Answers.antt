@@ -27,22 +27,22 @@ pub returns-in_err-three : goal.returns-in_err-three
 unfolding tell_statistics
 returns-in_err-three g c =
     let p = err_from_is_err_and c.from_residual-in_err-three.result c.from_residual-in_err-three.ensures.1 in
-    rw (p.1, p.2) (tells_then (tell_version c.args.form 2) (second c.args.form) _ (g.R.Read.remaining c.show_version.new.reader) _ _ c.show_version.new.at _ _ (g.W.Write.contents c.show_version.new.writer) _ c.in_ok-two.two _ c.in_ok-two.ensures
+    rw (p.1, p.2) (tells_then (tell_version c.args.form 2) (second c.args.form) _ (g.B.ByteSource.left c.show_version.new.source) _ _ c.show_version.new.at _ _ (g.W.Write.contents c.show_version.new.writer) _ c.in_ok-two.two _ c.in_ok-two.ensures
     (tells_fault (tell_version c.args.form 3) (third c.args.form c.in_ok-two.two) _ _ _ _ _ _ _ c.in_err-three.ensures))
 
 pub returns-in_err-four : goal.returns-in_err-four
 unfolding tell_statistics
 returns-in_err-four g c =
     let p = err_from_is_err_and c.from_residual-in_err-four.result c.from_residual-in_err-four.ensures.1 in
-    rw (p.1, p.2) (tells_then (tell_version c.args.form 2) (second c.args.form) _ (g.R.Read.remaining c.show_version.new.reader) _ _ c.show_version.new.at _ _ (g.W.Write.contents c.show_version.new.writer) _ c.in_ok-two.two _ c.in_ok-two.ensures
-    (tells_then (tell_version c.args.form 3) (third c.args.form c.in_ok-two.two) _ (g.R.Read.remaining c.show_version-2.new.reader) _ _ c.show_version-2.new.at _ _ (g.W.Write.contents c.show_version-2.new.writer) _ c.in_ok-three.three _ c.in_ok-three.ensures
+    rw (p.1, p.2) (tells_then (tell_version c.args.form 2) (second c.args.form) _ (g.B.ByteSource.left c.show_version.new.source) _ _ c.show_version.new.at _ _ (g.W.Write.contents c.show_version.new.writer) _ c.in_ok-two.two _ c.in_ok-two.ensures
+    (tells_then (tell_version c.args.form 3) (third c.args.form c.in_ok-two.two) _ (g.B.ByteSource.left c.show_version-2.new.source) _ _ c.show_version-2.new.at _ _ (g.W.Write.contents c.show_version-2.new.writer) _ c.in_ok-three.three _ c.in_ok-three.ensures
     (tells_fault (tell_version c.args.form 4) (summed c.in_ok-two.two c.in_ok-three.three) _ _ _ _ _ _ _ c.in_err-four.ensures)))
 
 pub returns : goal.returns
 unfolding tell_statistics
 returns g c =
     let sum : c.total.result ≡ total c.in_ok-two.two c.in_ok-three.three c.in_ok-four.four = c.total.ensures in
-    rw sum (tells_then (tell_version c.args.form 2) (second c.args.form) _ (g.R.Read.remaining c.show_version.new.reader) _ _ c.show_version.new.at _ _ (g.W.Write.contents c.show_version.new.writer) _ c.in_ok-two.two _ c.in_ok-two.ensures
-    (tells_then (tell_version c.args.form 3) (third c.args.form c.in_ok-two.two) _ (g.R.Read.remaining c.show_version-2.new.reader) _ _ c.show_version-2.new.at _ _ (g.W.Write.contents c.show_version-2.new.writer) _ c.in_ok-three.three _ c.in_ok-three.ensures
-    (tells_then (tell_version c.args.form 4) (summed c.in_ok-two.two c.in_ok-three.three) _ (g.R.Read.remaining c.show_version-3.new.reader) _ _ c.show_version-3.new.at _ _ (g.W.Write.contents c.show_version-3.new.writer) _ c.in_ok-four.four _ c.in_ok-four.ensures
+    rw sum (tells_then (tell_version c.args.form 2) (second c.args.form) _ (g.B.ByteSource.left c.show_version.new.source) _ _ c.show_version.new.at _ _ (g.W.Write.contents c.show_version.new.writer) _ c.in_ok-two.two _ c.in_ok-two.ensures
+    (tells_then (tell_version c.args.form 3) (third c.args.form c.in_ok-two.two) _ (g.B.ByteSource.left c.show_version-2.new.source) _ _ c.show_version-2.new.at _ _ (g.W.Write.contents c.show_version-2.new.writer) _ c.in_ok-three.three _ c.in_ok-three.ensures
+    (tells_then (tell_version c.args.form 4) (summed c.in_ok-two.two c.in_ok-three.three) _ (g.B.ByteSource.left c.show_version-3.new.source) _ _ c.show_version-3.new.at _ _ (g.W.Write.contents c.show_version-3.new.writer) _ c.in_ok-four.four _ c.in_ok-four.ensures
     (tells_give (Statistics (total c.in_ok-two.two c.in_ok-three.three c.in_ok-four.four)) _ _ _))))

@@ -5,7 +5,7 @@ use Rattle.rb_ask.proofs.record.Record.byte.Given as goal
 
 abbrev pub invariant-fragments : goal.invariant-fragments
 invariant-fragments g l = record {
-  passed : Passes g.R.Read.remaining l.initial.reader l.reader l.initial.self l.self;
+  passed : Passes g.B.ByteSource.left l.initial.source l.source l.initial.self l.self;
   allowed : l.self.allowed ≤ l.initial.self.allowed;
 }
 
