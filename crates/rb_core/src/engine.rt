@@ -4,14 +4,13 @@ ghost use Rattle.rb_model.specs.State.{are_good};
 ghost use Rattle.rb_model.specs.Bounds.{bytes_bound};
 
 use crate::calls::{Piece, lend_arguments, serve_verdict, take_piece};
-use crate::events::LONGEST_CALL;
 use crate::message::arguments_behind;
 use crate::replies::{give_at_once, put_end};
 use crate::types::Exchanged;
 use rb_connections::{
     BUFFER_SIZE, Connections, Heard, LONGEST_FRAGMENT, LONGEST_REPLY, Outcome, Received, Served,
 };
-use rb_forward::{Ended, FwdId, Unsent};
+use rb_forward::{Ended, FwdId, LONGEST_CALL, Unsent};
 use rb_model::{CoreFault, Expired, Limits, Taken, Told};
 use rb_proto::{Books, Context, Listener};
 use rb_rpc::{Caller, Peer, read_call};

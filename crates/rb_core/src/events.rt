@@ -12,14 +12,11 @@ ghost use Rattle.rb_connections.specs.Costs.{look_cost};
 
 use crate::engine::Core;
 use rb_connections::{LONGEST_FRAGMENT, LONGEST_REPLY, Outcome};
-use rb_forward::FwdId;
+use rb_forward::{FwdId, LONGEST_CALL};
 use rb_model::{Event, Expired, Output, Taken, Told, UnsentCall};
 use rb_rpc::Peer;
 use rb_xdr::{Meter, NoMemory};
 use std::alloc::Global;
-
-/// The longest forwarded call: a head of 40 bytes and 8,800 of arguments.
-pub const LONGEST_CALL: usize = 8_840;
 
 #[tactic(auto, unfolding(rb_model::specs::Step::step))]
 fn open(core: &mut Core, now: u64, peer: Peer, meter: &mut Meter) -> Output
