@@ -13,6 +13,8 @@
 set -u
 cd "$(dirname "$0")/.." || exit 1
 
+. tests/daemon.sh
+
 program=$PWD/crates/rpcbind/out/rpcbind
 rpcinfo=$PWD/crates/rpcinfo/out/rpcinfo
 passed=0
@@ -462,6 +464,20 @@ run_rpcinfo_longest_texts() {
 }
 
 # Nobody listens on port 20199.
+# Empty fragments without end: 16,777,216 bytes are read, and that no more are is another fault than that no more are there.
+run_rpcinfo_endless_replies() {
+    echo 'rpcinfo: read failed' > "$work/wanted"
+    yes 00000000 | head -n 4194304 > "$work/events"
+    run_rpcinfo "$work/events" -p -
+    as_wanted /dev/null "$work/wanted" 1
+    judge $? "rpcinfo: a record that goes on behind 16,777,216 bytes"
+    echo 'rpcinfo: unreadable reply' > "$work/wanted"
+    yes 00000000 | head -n 4194303 > "$work/events"
+    run_rpcinfo "$work/events" -p -
+    as_wanted /dev/null "$work/wanted" 1
+    judge $? "rpcinfo: a record that is cut off before"
+}
+
 run_rpcinfo_of_nobody() {
     echo 'rpcinfo: no connection' > "$work/wanted"
     run_rpcinfo /dev/null --port 20199 -p
@@ -490,6 +506,48 @@ run_rpcinfo_of_a_folder() {
     run_rpcinfo tests -p -
     as_wanted /dev/null "$work/wanted" 1
     judge $? "rpcinfo: an input that cannot be read"
+}
+
+# The words of one form, asked of the daemon on port 20112, and the lines that it must print.
+ask_form() {
+    printf '%s\n' "${@:2}" > "$work/wanted"
+    run_rpcinfo /dev/null --port 20112 $1
+    as_wanted "$work/wanted" /dev/null 0
+    judge $? "rpcinfo over sockets: $1"
+}
+
+# The forms that ask over sockets, of the daemon on 127.0.0.1, [::1] and a local socket. Their answers are the daemon's own
+# rows, and that procedure 0 of its versions answers; 20112 is 78 times 256, and 144.
+run_rpcinfo_over_sockets() {
+    local local_socket=$work/asked.sock each two three four daemon
+    each=('program 100000 version '{2,3,4}' ready')
+    two=${each[0]} three=${each[1]} four=${each[2]}
+    start_daemon "$work/listening" --port 20112 --loopback6 --local "$local_socket"
+    judge $? "a daemon that rpcinfo asks"
+    for words in '-t 127.0.0.1' '-u 127.0.0.1' '-T tcp 127.0.0.1' '-T udp 127.0.0.1' '-n 20112 -t 127.0.0.1' \
+        '-a 127.0.0.1.78.144 -T tcp' '-a 127.0.0.1.78.144 -T udp' '-a ::1.78.144 -T tcp6' '-t ::1'; do
+        ask_form "$words 100000" "${each[@]}"
+        ask_form "$words 100000 4" "$four"
+    done
+    echo 'portmapper 100000 sunrpc' > "$work/programs"
+    ask_form "--programs $work/programs -t 127.0.0.1 portmapper 2" "$two"
+    ask_form "--programs $work/programs -T udp 127.0.0.1 sunrpc 3" "$three"
+    ask_form "127.0.0.1" '100000 '{4,3,2}' tcp 0.0.0.0.78.144 superuser' '100000 '{4,3,2}' udp 0.0.0.0.78.144 superuser'
+    ask_form "-s ::1" '100000 '{4,3,2}' tcp' '100000 '{4,3,2}' udp'
+    ask_form "-s --local $local_socket" '100000 '{4,3,2}' tcp' '100000 '{4,3,2}' udp'
+    ask_form "--json -p 127.0.0.1" '{"program":100000,"version":'{4,3,2}',"protocol":6,"port":20112}' \
+        '{"program":100000,"version":'{4,3,2}',"protocol":17,"port":20112}'
+    ask_form "--programs $work/programs --summary 127.0.0.1" \
+        '   program version(s) netid(s)                         service     owner' \
+        '    100000  2,3,4     udp,tcp                          portmapper  superuser'
+    ask_form "-l 127.0.0.1 100000 4" "tcp 127.0.0.1.78.144 3 inet tcp" "udp 127.0.0.1.78.144 1 inet udp"
+    echo "rpcinfo: there is no such row, or it is another user's" > "$work/wanted-stderr"
+    echo 'not removed' > "$work/wanted"
+    run_rpcinfo /dev/null --port 20112 -d -T tcp 200001 1
+    as_wanted "$work/wanted" "$work/wanted-stderr" 1
+    judge $? "rpcinfo over sockets: a row that is not there"
+    kill "$daemon"
+    wait "$daemon" 2> /dev/null
 }
 
 run_rpcinfo_help() {
@@ -569,9 +627,11 @@ if [ -x "$rpcinfo" ]; then
     run_rpcinfo_rows
     run_rpcinfo_longest_lists
     run_rpcinfo_longest_texts
+    run_rpcinfo_endless_replies
     run_rpcinfo_of_nobody
     run_rpcinfo_to_full_device
     run_rpcinfo_of_a_folder
+    [ ! -x "$program" ] || run_rpcinfo_over_sockets
     run_rpcinfo_help
 else
     judge 1 "no program $rpcinfo: run 'make' first"

@@ -5,7 +5,13 @@
 #[cfg(test)]
 mod asks;
 #[cfg(test)]
+mod client;
+#[cfg(test)]
 mod courses;
+#[cfg(test)]
+mod lists;
+#[cfg(test)]
+mod pings;
 #[cfg(test)]
 mod turns;
 #[cfg(test)]
