@@ -49,10 +49,9 @@ hostile:
 bench:
 	tests/run-bench.sh
 
-# Where the time of `make test` goes, by crate, into docs/TIMINGS.md. It proves everything from nothing, so run it in a
-# clone of its own.
+# `make test` anew, and where its time goes, by crate, into docs/TIMINGS.md. Nothing else should work beside it.
 measure:
-	tests/measure-gate.sh > timings.new && mv timings.new docs/TIMINGS.md
+	tests/measure-gate.py > timings.new && mv timings.new docs/TIMINGS.md
 
 # The built programs, their man pages, and the units of systemd, with PREFIX and the programs' names in them.
 install:

@@ -1,6 +1,7 @@
 #!/usr/bin/env bash
 # The whole test: `rt ci` (every proof from nothing, the edits that must be refused, each test and each program),
-# then the rows. The last line is 'N passed, N failed' over both; the status is 1 where one failed.
+# then the rows. The last line is 'N passed, N failed' over both; the status is 1 where one failed. With --anew, nothing
+# that this machine passed before is kept.
 set -u
 cd "$(dirname "$0")/.." || exit 1
 . tests/machine.sh
@@ -49,7 +50,7 @@ cores=$(count_cores)
 say_kit
 echo "make test: $crates crates on $cores cores: from nothing about $(minutes_of_test "$cores") minutes;" \
     "what this machine passed before is not proved again"
-add rt ci
+add rt ci "$@"
 add tests/run-rows.sh
 echo "$passed passed, $failed failed"
 [ "$failed" -eq 0 ]
