@@ -1,10 +1,10 @@
 -- Whether a connection is due, by its slot.
 use Rattle.std.proofs.Common.{◌≡◌, ℕ, refl}
 use Rattle.rb_xdr.specs.Kept.{Kept}
-use Rattle.rb_connections.specs.declared.slot.Slot.{Slot}
-use Rattle.rb_connections.specs.declared.slot.Stage.{Stage}
 use Rattle.rb_model.specs.State.{Phase, Connection}
 use Rattle.rb_model.specs.Losses.{time_in, is_due}
+use Rattle.rb_connections.specs.declared.slot.Slot.{Slot}
+use Rattle.rb_connections.specs.declared.slot.Stage.{Stage}
 use Rattle.rb_connections.specs.Slots.{is_due_slot, phase_like}
 use Rattle.rb_connections.specs.StandsFor.{Source, StandsForConnection, StandsForPhase}
 use Rattle.rb_connections.proofs.Phases.{by_phase}

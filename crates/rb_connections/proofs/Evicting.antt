@@ -1,24 +1,23 @@
 -- The connections whose lists began before a change become Lost, by their slots.
-use Rattle.std.proofs.Common.{◌≡◌, ◌≤◌, ◌<◌, ℕ, Bool, true, false, cond, eqb, nat_lt, ◌&&◌, ◌||◌, zero, suc, List, [], ◌∷◌, length, map, min, slice_index_or, Option, Some, None, refl, sym, ap, subst, ◌∙◌, arith, inl, inr}
 use Rattle.std.specs.Prelude.{All, Contains, filter_map}
 use Rattle.std.specs.List.{AllZip, list_any, list_all}
 use Rattle.std.specs.Map.{values_of}
+use Rattle.std.proofs.Common.{◌≡◌, ◌≤◌, ◌<◌, ℕ, Bool, true, false, cond, eqb, nat_lt, ◌&&◌, ◌||◌, zero, suc, List, [], ◌∷◌, length, map, min, slice_index_or, Option, Some, None, refl, sym, ap, subst, ◌∙◌, arith, inl, inr}
 use Rattle.std.proofs.lemmas.Bool.{lt-ltb, ltb-true, ltb-false, cases_lt}
 use Rattle.std.proofs.lemmas.List.Elements.{All-head, All-tail, All-cons, All-nil, All-contains}
 use Rattle.std.proofs.lemmas.List.Sums.{AllPass-from_list_all, list_all-from_AllPass, sum_by-cons}
 use Rattle.rb_xdr.specs.Kept.{Kept}
 use Rattle.rb_xdr.specs.Pool.{Pool, value_at, HasDistinctKeys}
+use Rattle.rb_model.specs.State.{Phase, Connection, Connections}
+use Rattle.rb_model.specs.State.Phase.{Lost}
+use Rattle.rb_model.specs.Losses.{began_in, began_before, evicted, evicting}
 use Rattle.rb_connections.specs.declared.slot.Slot.{Slot}
 use Rattle.rb_connections.specs.declared.slot.Buffers.{Buffers}
 use Rattle.rb_connections.specs.declared.slot.Stage.{Stage}
 use Rattle.rb_connections.specs.declared.slot.Stage.TheVariants as stages
-use Rattle.rb_model.specs.State.{Phase, Connection, Connections}
-use Rattle.rb_model.specs.State.Phase.{Lost}
-use Rattle.rb_model.specs.Losses.{began_in, began_before, evicted, evicting}
-use Rattle.rb_connections.specs.StandsFor.{Source, Table, StandsForPhase, StandsForConnection, StandsForConnections, charge, held_in, IsWithin}
+use Rattle.rb_connections.specs.StandsFor.{Source, Table, StandsForPhase, StandsForConnection, StandsForConnections, charge, held_in, IsWithin, stamp_in}
 use Rattle.rb_connections.specs.Slots.{IsTable, StaysTable, HasBuffers, AreNumbered, is_numbered, is_idle_stage}
 use Rattle.rb_connections.specs.Awaits.{is_free_slot, is_free, is_idle_slot, has_idle, NoneIsFreed}
-use Rattle.rb_connections.specs.StandsFor.{stamp_in}
 use Rattle.rb_connections.specs.Listings.{began_stage, slot_began, SlotListsOn, IsOldest, earlier, IsEarliest, began_early, evicted_slot, with_evicted}
 use Rattle.rb_connections.proofs.Phases.{by_phase}
 

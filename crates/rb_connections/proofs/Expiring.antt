@@ -1,22 +1,22 @@
 -- The due connection becomes Lost, and so does its slot.
-use Rattle.std.proofs.Common.{◌≡◌, ℕ, true, false, List, [], ◌∷◌, Option, Some, None, refl, sym, ap, subst, ◌∙◌}
 use Rattle.std.specs.Prelude.{option_map}
 use Rattle.std.specs.List.{AllZip, list_any}
 use Rattle.std.specs.Map.{values_of}
+use Rattle.std.proofs.Common.{◌≡◌, ℕ, true, false, List, [], ◌∷◌, Option, Some, None, refl, sym, ap, subst, ◌∙◌}
 use Rattle.rb_xdr.specs.Pool.{value_at, with_value, HasDistinctKeys}
+use Rattle.rb_forward.proofs.Tables.{some_is, is_first}
+use Rattle.rb_model.specs.State.{Connection}
+use Rattle.rb_model.specs.Connections.{has_number}
+use Rattle.rb_model.specs.Losses.{has_come, deadline, first_due, lost, expiring}
+use Rattle.rb_model.proofs.Expiring.{AreApart, due-changed}
 use Rattle.rb_connections.specs.declared.slot.Slot.{Slot}
 use Rattle.rb_connections.specs.declared.slot.Stage.{Stage}
 use Rattle.rb_connections.specs.declared.slot.Stage.TheVariants as stages
 use Rattle.rb_connections.specs.declared.slot.Wanted.TheVariants as wanted
-use Rattle.rb_model.specs.State.{Connection}
-use Rattle.rb_model.specs.Connections.{has_number}
-use Rattle.rb_model.specs.Losses.{has_come, deadline, first_due, lost, expiring}
 use Rattle.rb_connections.specs.Slots.{phase_like, is_due_slot, Acts, AreNumbered, is_wanted_slot, is_wanted, wanted_slot}
 use Rattle.rb_connections.specs.StandsFor.{Source, StandsForConnection, StandsForConnections, Table}
 use Rattle.rb_connections.specs.Awaits.{is_awaiting_stage}
-use Rattle.rb_forward.proofs.Tables.{some_is, is_first}
 use Rattle.rb_connections.proofs.Slots.{locate, no_slot, wanted_alike, any_alike}
-use Rattle.rb_model.proofs.Expiring.{AreApart, due-changed}
 
 -- ---- the table
 

@@ -1,8 +1,7 @@
 -- The fragments of a marked reply, and where the giving of it stands.
-use Rattle.std.proofs.Common.{Option, ◌≡◌, ◌<◌, ◌≤◌, ◌+◌, ◌-◌, ◌*◌, ◌/◌, ◌%◌, ℕ, zero, suc, Bool, true, false, leb, List, [], ◌++◌, length, take, drop, min, refl, sym, ap, ◌∙◌, arith, inl, inr, ◌⊎◌, length-append}
 use Rattle.std.specs.Prelude.{slice_range}
+use Rattle.std.proofs.Common.{Option, ◌≡◌, ◌<◌, ◌≤◌, ◌+◌, ◌-◌, ◌*◌, ◌/◌, ◌%◌, ℕ, zero, suc, Bool, true, false, leb, List, [], ◌++◌, length, take, drop, min, refl, sym, ap, ◌∙◌, arith, inl, inr, ◌⊎◌, length-append}
 use Rattle.std.proofs.lemmas.Slice.{take-put_mid}
-use borrow.Rule.Slice.PartMut.{put_mid}
 use Rattle.std.proofs.lemmas.List.{length-take, length-drop, take_at, drop_at, take_all, take_min, drop-drop, drop_all, drop-take}
 use Rattle.std.proofs.lemmas.Bool.{cases_lt, le-leb, lt-leb}
 use Rattle.rb_xdr.specs.Kept.{Kept}
@@ -10,8 +9,9 @@ use Rattle.rb_rpc.specs.Records.{fragment_header, fragment_size, marked}
 use Rattle.rb_rpc.proofs.Markings.{length-header}
 use Rattle.rb_model.specs.State.{Owed}
 use Rattle.rb_model.specs.Connections.{longest_fragment, pending_of, owed_of}
-use Rattle.rb_connections.specs.StandsFor.{window, IsShown}
 use Rattle.rb_model.proofs.Fragments.{length-front, length-long, length-short, longest_is, marked-long, marked-short, some-marked}
+use Rattle.rb_connections.specs.StandsFor.{window, IsShown}
+use borrow.Rule.Slice.PartMut.{put_mid}
 
 -- ---- its fragments
 

@@ -1,24 +1,24 @@
 -- Which connections are free after a call on the table.
-use Rattle.std.proofs.Common.{◌≡◌, ◌≤◌, ℕ, ◌+◌, Bool, true, false, not, ◌&&◌, ◌||◌, eqb, nat_lt, List, [], ◌∷◌, ◌++◌, Option, Some, None, Result, Ok, refl, sym, ap, subst, ◌∙◌, arith}
 use Rattle.std.specs.Prelude.{find, option_map, IfSome}
 use Rattle.std.specs.List.{list_any}
 use Rattle.std.specs.Map.{values_of}
+use Rattle.std.proofs.Common.{◌≡◌, ◌≤◌, ℕ, ◌+◌, Bool, true, false, not, ◌&&◌, ◌||◌, eqb, nat_lt, List, [], ◌∷◌, ◌++◌, Option, Some, None, Result, Ok, refl, sym, ap, subst, ◌∙◌, arith}
 use Rattle.std.proofs.lemmas.Bool.{and_parts, eqb-true, eq-eqb, ne_eqb, ltb-false}
 use Rattle.std.proofs.lemmas.Bool.Decides.{nat_tests}
 use Rattle.rb_xdr.specs.Pool.{value_at, without, with_value, HasDistinctKeys}
 use Rattle.rb_forward.proofs.Tables.{some_is, is_first, nothing_found}
+use Rattle.rb_model.specs.declared.types.CoreFault.{CoreFault}
+use Rattle.rb_model.proofs.Found.{none_any}
 use Rattle.rb_connections.specs.declared.slot.Slot.{Slot}
 use Rattle.rb_connections.specs.declared.slot.Stage.{Stage}
 use Rattle.rb_connections.specs.declared.slot.Stage.TheVariants as stages
 use Rattle.rb_connections.specs.declared.slot.Wanted.TheVariants as wanted
 use Rattle.rb_connections.specs.declared.slot.Heard.{Heard}
 use Rattle.rb_connections.specs.declared.slot.Received.{Received}
-use Rattle.rb_model.specs.declared.types.CoreFault.{CoreFault}
 use Rattle.rb_connections.specs.StandsFor.{Table}
 use Rattle.rb_connections.specs.Slots.{AreNumbered, is_numbered, is_idle_stage, is_lost_stage, is_wanted_slot, wanted_slot}
 use Rattle.rb_connections.specs.Awaits.{is_awaiting_stage, is_free_slot, is_free, is_idle_slot, has_idle, is_unsettled_slot, IsSettled, NoneIsFreed, OnlyIsFreed, HearsSlot, HeardFrom, HearsFree}
 use Rattle.rb_connections.proofs.Slots.{any-without}
-use Rattle.rb_model.proofs.Found.{none_any}
 
 -- ---- whether any slot is so
 

@@ -1,7 +1,7 @@
 -- How many bytes are held of connections.
-use Rattle.std.proofs.Common.{◌≡◌, ℕ, ◌+◌, ◌*◌, ◌^◌, ◌≤◌, ◌<◌, eqb, Some, List, [], ◌∷◌, ◌++◌, refl, ap, length, arith}
 use Rattle.std.specs.Prelude.{All, unwrap_or, option_map}
 use Rattle.std.specs.Map.{values_of}
+use Rattle.std.proofs.Common.{◌≡◌, ℕ, ◌+◌, ◌*◌, ◌^◌, ◌≤◌, ◌<◌, eqb, Some, List, [], ◌∷◌, ◌++◌, refl, ap, length, arith}
 use Rattle.std.proofs.Math.Nat.{mul-le-mul_right}
 use Rattle.std.proofs.lemmas.List.Sums.{sum_by-le, sum_by_push}
 use Rattle.std.proofs.lemmas.List.Elements.{All-push}
@@ -9,11 +9,10 @@ use Rattle.std.proofs.lemmas.Map.Entries.{length-values_of, sum_by-remove_entry}
 use Rattle.rb_xdr.specs.Meter.{Meter}
 use Rattle.rb_xdr.specs.Pool.{Pool, value_at, without, with_value}
 use Rattle.rb_xdr.proofs.PoolLemmas.{All-value_at, All-with_value}
+use Rattle.rb_model.specs.Calls.{longest_reply, longest_arguments}
+use Rattle.rb_model.specs.Connections.{longest_fragment}
 use Rattle.rb_connections.specs.declared.slot.Slot.{Slot}
 use Rattle.rb_connections.specs.declared.slot.Buffers.{Buffers}
-use Rattle.rb_model.specs.Calls.{longest_reply}
-use Rattle.rb_model.specs.Connections.{longest_fragment}
-use Rattle.rb_model.specs.Calls.{longest_arguments}
 use Rattle.rb_connections.specs.StandsFor.{buffer_size, Table, charge, held_in, most_charge, IsWithin}
 use Rattle.rb_connections.specs.Slots.{StaysTable, IsTable, HasBuffers}
 

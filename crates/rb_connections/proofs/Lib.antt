@@ -16,3 +16,5 @@ pub mod Holding
 pub mod LiveSlots
 pub mod GoingOn
 pub mod Settled
+pub mod IdleSlots
+pub mod ListsGoOn

@@ -1,15 +1,15 @@
 -- The slot of the live connection of a number, which changes.
-use Rattle.std.proofs.Common.{◌≡◌, ℕ, ◌+◌, ◌^◌, ◌≤◌, ◌<◌, eqb, List, Option, Some, None, ap, arith}
 use Rattle.std.specs.Prelude.{unwrap_or, option_map}
 use Rattle.std.specs.Option.{option_map_or}
 use Rattle.std.specs.Map.{values_of}
+use Rattle.std.proofs.Common.{◌≡◌, ℕ, ◌+◌, ◌^◌, ◌≤◌, ◌<◌, eqb, List, Option, Some, None, ap, arith}
 use Rattle.std.proofs.lemmas.Map.Entries.{sum_by-remove_entry}
 use Rattle.rb_xdr.specs.Pool.{Pool, value_at, with_value}
+use Rattle.rb_model.specs.Calls.{longest_arguments, longest_reply}
+use Rattle.rb_model.specs.Connections.{longest_fragment}
 use Rattle.rb_connections.specs.declared.slot.Slot.{Slot}
 use Rattle.rb_connections.specs.declared.slot.Buffers.{Buffers}
 use Rattle.rb_connections.specs.declared.slot.Wanted.TheVariants as wanted
-use Rattle.rb_model.specs.Calls.{longest_arguments, longest_reply}
-use Rattle.rb_model.specs.Connections.{longest_fragment}
 use Rattle.rb_connections.specs.StandsFor.{buffer_size, charge, held_in, most_charge, IsWithin}
 use Rattle.rb_connections.specs.Slots.{wanted_slot, IsTable, HasBuffers}
 use Rattle.rb_connections.specs.LiveSlots.{live_key, IsLiveSlot}

@@ -1,6 +1,6 @@
 -- One connection's slot beside the connection that it stands for.
-use Rattle.std.proofs.Common.{◌≡◌, ℕ, ◌+◌, ◌-◌, ◌<◌, ◌≤◌, false, eqb, List, [], ◌∷◌, ◌++◌, length, Option, Some, None, refl, sym, ap, subst, ◌∙◌, arith}
 use Rattle.std.specs.Prelude.{min, take}
+use Rattle.std.proofs.Common.{◌≡◌, ℕ, ◌+◌, ◌-◌, ◌<◌, ◌≤◌, false, eqb, List, [], ◌∷◌, ◌++◌, length, Option, Some, None, refl, sym, ap, subst, ◌∙◌, arith}
 use Rattle.std.proofs.lemmas.Bool.{lt-ltb, le-ltb}
 use Rattle.std.proofs.lemmas.Bool.Decides.{nat_tests}
 use Rattle.rb_xdr.specs.Kept.{Kept}
@@ -8,14 +8,14 @@ use Rattle.rb_rpc.specs.declared.peer.Peer.{Peer}
 use Rattle.rb_rpc.specs.Records.{first_record, data_of, BeginsWithRecord}
 use Rattle.rb_rpc.specs.Verdict.{verdict}
 use Rattle.rb_rpc.specs.declared.call.Verdict.{Verdict}
-use Rattle.rb_connections.specs.declared.slot.Slot.{Slot}
-use Rattle.rb_connections.specs.declared.slot.Stage.{Stage}
-use Rattle.rb_connections.specs.declared.slot.Stage.TheVariants as stages
-use Rattle.rb_connections.specs.declared.slot.Received.{Received}
 use Rattle.rb_model.specs.State.{Owed, Phase, Connection}
 use Rattle.rb_model.specs.State.Phase.{Idle, Reading, Owing, Awaiting, Lost}
 use Rattle.rb_model.specs.Connections.{Taking, taking, taking_on, taking_up_to, since_when_fed, fed_in, pending_in, phase_when_given, when_given, giving, pending_of}
 use Rattle.rb_model.specs.Connections.Taking.{TakesNone, Ends}
+use Rattle.rb_connections.specs.declared.slot.Slot.{Slot}
+use Rattle.rb_connections.specs.declared.slot.Stage.{Stage}
+use Rattle.rb_connections.specs.declared.slot.Stage.TheVariants as stages
+use Rattle.rb_connections.specs.declared.slot.Received.{Received}
 use Rattle.rb_connections.specs.StandsFor.{IsGiving, IsReading, Source, StandsForPhase, StandsForConnection}
 use Rattle.rb_connections.specs.Reading.{Fed, Reader, fed_until}
 use Rattle.rb_connections.specs.declared.giving.Giving.{Giving}

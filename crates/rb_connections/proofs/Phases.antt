@@ -1,12 +1,12 @@
 -- The stage of a slot beside the phase that it stands for.
-use Rattle.rb_xdr.specs.Kept.{Kept}
-use Rattle.rb_connections.specs.Reading.{Reader}
 use Rattle.std.proofs.Common.{ℕ, List}
+use Rattle.rb_xdr.specs.Kept.{Kept}
+use Rattle.rb_model.specs.State.{Owed, Phase}
+use Rattle.rb_model.specs.State.Phase.{Idle, Reading, Owing, Awaiting, Lost}
+use Rattle.rb_connections.specs.Reading.{Reader}
 use Rattle.rb_connections.specs.declared.giving.Giving.{Giving}
 use Rattle.rb_connections.specs.declared.slot.Stage.{Stage}
 use Rattle.rb_connections.specs.declared.slot.Stage.TheVariants as stages
-use Rattle.rb_model.specs.State.{Owed, Phase}
-use Rattle.rb_model.specs.State.Phase.{Idle, Reading, Owing, Awaiting, Lost}
 use Rattle.rb_connections.specs.StandsFor.{Source, StandsForPhase, IsGiving}
 
 -- What holds where both are alike holds of each stage and the phase that it stands for.

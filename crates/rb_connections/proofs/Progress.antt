@@ -6,16 +6,15 @@ use Rattle.std.proofs.lemmas.List.{length-drop, drop-drop}
 use Rattle.rb_xdr.specs.Kept.{Kept}
 use Rattle.rb_rpc.specs.Records.{marked}
 use Rattle.rb_proto.specs.ListReplies.{longest_part}
-use Rattle.rb_connections.specs.declared.giving.Giving.{Giving}
-use Rattle.rb_connections.specs.declared.giving.Rest.{Rest}
 use Rattle.rb_model.specs.State.{Owed, Connection}
 use Rattle.rb_model.specs.State.Phase.{Owing}
+use Rattle.rb_model.specs.Connections.{longest_fragment, owed_of, pending_of}
+use Rattle.rb_connections.specs.declared.giving.Giving.{Giving}
+use Rattle.rb_connections.specs.declared.giving.Rest.{Rest}
 use Rattle.rb_connections.specs.declared.slot.Slot.{Slot}
 use Rattle.rb_connections.specs.Listings.{SlotListsOn}
-use Rattle.rb_connections.specs.Giving.{SlotShowsNext}
-use Rattle.rb_model.specs.Connections.{longest_fragment, owed_of, pending_of}
+use Rattle.rb_connections.specs.Giving.{SlotShowsNext, GoesOnBy, ShowsNext}
 use Rattle.rb_connections.specs.StandsFor.{Source, IsGiving, StandsForConnection, rest_in, stamp_in}
-use Rattle.rb_connections.specs.Giving.{GoesOnBy, ShowsNext}
 use Rattle.rb_connections.proofs.Fragments.{pending_shown, pending_count, giving_begins, giving_stays, giving_moves, giving_ends, fragment_few, fragment_full}
 
 shifted : (l left a b : ℕ) → left ≡ l - a → b ≡ a + 1024 → a < l → nat_le left 1024 ≡ nat_le l b
@@ -83,7 +82,7 @@ module _ (source : Source) (buffer : List ℕ) (rest : Rest) (before next : Kept
   -- behind a fragment that was shown and is not the last one, something is to come
   pub goes_on_shown : GoesOnBy source buffer new
   goes_on_shown = record {
-    told = shows.told;
+    made = shows.made;
     some = λ more.
         let long : longest_part < length (rest_in source buffer rest) = leb-false (length (rest_in source buffer rest)) longest_part (sym shows.last ∙ more) in
         omega (arith, long, ap (λ (xs : List ℕ). length xs) shows.rest_is, length-drop longest_part (rest_in source buffer rest));

@@ -1,16 +1,16 @@
 -- Heads of replies are short, and replies are not empty.
 use Rattle.std.proofs.Common.{◌≤◌, ◌<◌, ℕ, List, ◌++◌, length, cond, true, false, nat_lt, ap, arith, length-append}
-use Rattle.rb_model.specs.Calls.{fitting, longest_reply}
 use Rattle.rb_xdr.specs.Xdr.{number, opaque}
 use Rattle.rb_rpc.specs.declared.reply.ReplyStatus.{ReplyStatus}
 use Rattle.rb_rpc.specs.Replies.{reply_head}
 use Rattle.rb_rpc.specs.declared.reply.ReplyStatus.TheVariants.{Success, ProgUnavail, ProgMismatch, ProcUnavail, GarbageArgs, SystemErr, RpcMismatch, AuthError}
-use Rattle.rb_proto.specs.Results.{list_bytes}
 use Rattle.rb_registry.specs.Registry.{Registry, rows_of}
+use Rattle.rb_proto.specs.Results.{list_bytes}
 use Rattle.rb_proto.specs.declared.answers.Listing.{Listing}
 use Rattle.rb_proto.specs.declared.list_reply.ListReply.{ListReply}
 use Rattle.rb_proto.specs.ListParts.{ListsRows}
 use Rattle.rb_proto.specs.ListReplies.{rest_of}
+use Rattle.rb_model.specs.Calls.{fitting, longest_reply}
 
 pub short_head : (xid : ℕ) (status : ReplyStatus) → length (reply_head xid status) ≤ 32
 unfolding reply_head number opaque

@@ -1,27 +1,26 @@
 -- Connections that are Idle since a moment, and records that come whole on them.
-use Rattle.std.proofs.Common.{◌≡◌, ℕ, ◌+◌, Bool, true, false, not, ◌&&◌, ◌||◌, eqb, List, [], ◌∷◌, length, Some, None, refl, sym, ap, subst, ◌∙◌}
 use Rattle.std.specs.Prelude.{All, option_map, Ok}
 use Rattle.std.specs.List.{AllZip, list_any}
 use Rattle.std.specs.Map.{values_of}
+use Rattle.std.proofs.Common.{◌≡◌, ℕ, ◌+◌, Bool, true, false, not, ◌&&◌, ◌||◌, eqb, List, [], ◌∷◌, length, Some, None, refl, sym, ap, subst, ◌∙◌}
 use Rattle.std.proofs.lemmas.Bool.{and_parts, eqb-true, eq-eqb}
 use Rattle.rb_xdr.specs.Pool.{Pool, value_at, with_value, HasDistinctKeys}
 use Rattle.rb_xdr.proofs.PoolLemmas.{All-value_at, with_value-same}
 use Rattle.rb_rpc.specs.Records.{BeginsWithRecord, first_record}
-use Rattle.rb_connections.specs.declared.slot.Slot.{Slot}
-use Rattle.rb_connections.specs.declared.slot.Buffers.{Buffers}
-use Rattle.rb_connections.specs.declared.slot.Stage.{Stage}
-use Rattle.rb_connections.specs.declared.slot.Stage.TheVariants as stages
-use Rattle.rb_connections.specs.declared.slot.Wanted.TheVariants as wanted
 use Rattle.rb_model.specs.State.{Phase, Connection, Connections}
 use Rattle.rb_model.specs.State.Phase.{Idle}
 use Rattle.rb_model.specs.Calls.Outcome.{Silent}
 use Rattle.rb_model.specs.Connections.{taking, fed_in, is_lost, is_live, settled, change_first, changed_at, on_live}
 use Rattle.rb_model.specs.Connections.Taking.{Ends}
-use Rattle.rb_connections.specs.StandsFor.{IsWithin, Source, Table, StandsForConnection, StandsForConnections}
 use Rattle.rb_model.specs.Calls.{kept_of}
+use Rattle.rb_connections.specs.declared.slot.Slot.{Slot}
+use Rattle.rb_connections.specs.declared.slot.Buffers.{Buffers}
+use Rattle.rb_connections.specs.declared.slot.Stage.{Stage}
+use Rattle.rb_connections.specs.declared.slot.Stage.TheVariants as stages
+use Rattle.rb_connections.specs.declared.slot.Wanted.TheVariants as wanted
+use Rattle.rb_connections.specs.StandsFor.{IsWithin, Source, Table, StandsForConnection, StandsForConnections, stamp_in}
 use Rattle.rb_connections.specs.Slots.{Acts, Shows, AreNumbered, HasBuffers, IsTable, feeding, arguments_heard, arguments_on, heard_whole, is_idle_stage, is_wanted_slot, wanted_slot}
 use Rattle.rb_connections.specs.Awaits.{GoOn, is_awaiting_stage, is_unsettled_slot, IsSettled, HeardFrom}
-use Rattle.rb_connections.specs.StandsFor.{stamp_in}
 use Rattle.rb_connections.specs.Listings.{SlotListsOn, began_early, evicted_slot}
 use Rattle.rb_connections.proofs.Evicting.{all_evicted}
 use Rattle.rb_connections.proofs.Freed.{heard_on}

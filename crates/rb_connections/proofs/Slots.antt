@@ -1,35 +1,35 @@
 -- A table of slots beside the connections that they stand for.
-use Rattle.std.proofs.Common.{◌≡◌, ℕ, suc, ◌+◌, ◌≤◌, Bool, true, false, not, cond, eqb, zero, ◌<◌, nat_lt, take, Ok, Err, List, [], ◌∷◌, ◌++◌, Some, None, refl, sym, ap, subst, ◌∙◌, length, eq-eqb, arith}
 use Rattle.std.specs.Prelude.{find, filter, option_map}
 use Rattle.std.specs.List.{AllZip, list_any}
 use Rattle.std.specs.Map.{values_of}
+use Rattle.std.proofs.Common.{◌≡◌, ℕ, suc, ◌+◌, ◌≤◌, Bool, true, false, not, cond, eqb, zero, ◌<◌, nat_lt, take, Ok, Err, List, [], ◌∷◌, ◌++◌, Some, None, refl, sym, ap, subst, ◌∙◌, length, eq-eqb, arith}
 use Rattle.std.proofs.lemmas.Bool.{eqb-true, le-ltb}
 use Rattle.std.proofs.lemmas.Bool.Decides.{nat_tests}
+use Rattle.std.proofs.lemmas.Map.Entries.{length-values_of, sum_by-set_value}
 use Rattle.rb_xdr.specs.Kept.{Kept}
+use Rattle.rb_xdr.specs.Search.{key_of}
+use Rattle.rb_xdr.specs.Pool.{Pool, value_at, without, with_value, HasDistinctKeys}
+use Rattle.rb_xdr.proofs.PoolLemmas.{All-with_value, distinct-with, length-with}
 use Rattle.rb_rpc.specs.Marks.{StandsForFed}
 use Rattle.rb_rpc.specs.Records.{data_of}
 use Rattle.rb_rpc.specs.Verdict.{verdict}
+use Rattle.rb_rpc.specs.declared.peer.Peer.{Peer}
 use Rattle.rb_feed.specs.Feeds.{StandsForCall, arguments_of}
 use Rattle.rb_model.specs.declared.types.CoreFault.TheVariants.{Full, Spent, Gone}
-use Rattle.rb_connections.specs.Reading.{Reader}
 use Rattle.rb_model.specs.Calls.{longest_arguments, kept_of}
-use Rattle.rb_connections.specs.StandsFor.{buffer_size, IsReading, Source, StandsForConnection, StandsForPhase, StandsForConnections, Table, charge, IsWithin}
-use Rattle.std.proofs.lemmas.Map.Entries.{length-values_of, sum_by-set_value}
-use Rattle.rb_xdr.specs.Search.{key_of}
-use Rattle.rb_xdr.proofs.PoolLemmas.{All-with_value, distinct-with, length-with}
-use Rattle.rb_connections.specs.declared.slot.Buffers.{Buffers}
-use Rattle.rb_xdr.specs.Pool.{Pool, value_at, without, with_value, HasDistinctKeys}
-use Rattle.rb_connections.specs.declared.slot.Slot.{Slot}
-use Rattle.rb_connections.specs.declared.slot.Wanted.{Wanted}
-use Rattle.rb_connections.specs.declared.slot.Wanted.TheVariants as wanted
 use Rattle.rb_model.specs.State.{Phase, Connection, Connections, greatest_number}
 use Rattle.rb_model.specs.State.Phase.{Idle}
 use Rattle.rb_model.specs.Connections.{change_first, changed_at, is_lost, is_live, live_connection, on_live, has_number, number_for, opening_of, is_there, without_number, closing_of}
+use Rattle.rb_model.proofs.Found.{all_kept, none_any, none_some, some_any}
+use Rattle.rb_connections.specs.Reading.{Reader}
+use Rattle.rb_connections.specs.StandsFor.{buffer_size, IsReading, Source, StandsForConnection, StandsForPhase, StandsForConnections, Table, charge, IsWithin}
+use Rattle.rb_connections.specs.declared.slot.Buffers.{Buffers}
+use Rattle.rb_connections.specs.declared.slot.Slot.{Slot}
+use Rattle.rb_connections.specs.declared.slot.Wanted.{Wanted}
+use Rattle.rb_connections.specs.declared.slot.Wanted.TheVariants as wanted
 use Rattle.rb_connections.specs.Slots.{Acts, Shows, is_lost_stage, is_wanted_slot, is_wanted, wanted_slot, IsFound, is_numbered, AreNumbered, IsTable, HasBuffers, arguments_heard, arguments_on}
 use Rattle.rb_connections.specs.declared.slot.Stage.{Stage}
 use Rattle.rb_connections.proofs.DueSlots.{due_alike}
-use Rattle.rb_rpc.specs.declared.peer.Peer.{Peer}
-use Rattle.rb_model.proofs.Found.{all_kept, none_any, none_some, some_any}
 use Rattle.rb_connections.proofs.Phases.{by_phase}
 
 some_is : {X : Type 0} (x y : X) → Some x ≡ Some y → x ≡ y

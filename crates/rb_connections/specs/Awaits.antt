@@ -3,11 +3,11 @@ use Rattle.std.specs.Prelude.{◌≡◌, ℕ, ◌==◌, nat_lt, Bool, true, fals
 use Rattle.std.specs.List.{list_any}
 use Rattle.std.specs.Map.{values_of}
 use Rattle.rb_rpc.specs.declared.peer.Peer.{Peer}
+use Rattle.rb_model.specs.declared.types.CoreFault.{CoreFault}
 use Rattle.rb_connections.specs.declared.slot.Slot.{Slot}
 use Rattle.rb_connections.specs.declared.slot.Stage.{Stage}
 use Rattle.rb_connections.specs.declared.slot.Stage.TheVariants as stages
 use Rattle.rb_connections.specs.declared.slot.Received.{Received}
-use Rattle.rb_model.specs.declared.types.CoreFault.{CoreFault}
 use Rattle.rb_connections.specs.declared.served.Outcome.{Outcome}
 use Rattle.rb_connections.specs.declared.served.Outcome.TheVariants as outcomes
 use Rattle.rb_connections.specs.StandsFor.{Table}

@@ -1,14 +1,14 @@
 -- What a call on a connection, or on the table of connections, costs at most.
 use Rattle.std.specs.Prelude.{ℕ, ◌+◌, length, Option, Some, None, Result, Ok, Err}
 use Rattle.rb_registry.specs.Registry.{Registry, slots_of}
+use Rattle.rb_model.specs.declared.types.CoreFault.{CoreFault}
+use Rattle.rb_model.specs.Costs.{show_cost, listed_cost, recount_cost, find_cost, take_cost, exchange_cost}
 use Rattle.rb_connections.specs.declared.giving.Rest.{Rest}
 use Rattle.rb_connections.specs.declared.giving.Rest.TheVariants as rests
 use Rattle.rb_connections.specs.declared.served.Served.{Served}
-use Rattle.rb_connections.specs.declared.served.Served.TheVariants.{Told, Listed}
+use Rattle.rb_connections.specs.declared.served.Served.TheVariants.{Answered, Listed}
 use Rattle.rb_connections.specs.declared.slot.Heard.{Heard}
 use Rattle.rb_connections.specs.declared.slot.Received.{Received}
-use Rattle.rb_model.specs.declared.types.CoreFault.{CoreFault}
-use Rattle.rb_model.specs.Costs.{show_cost, listed_cost, recount_cost, find_cost, take_cost, exchange_cost}
 use Rattle.rb_connections.specs.StandsFor.{Table}
 
 -- ---- on one connection
@@ -23,13 +23,13 @@ next_cost registry (rests.Held start) = show_cost
 next_cost registry (rests.Listed list) = listed_cost (row_count registry)
 
 -- what it costs to begin what a message is answered with
-abbrev pub told_cost : Registry → Served → ℕ
-told_cost registry (Told given) = show_cost + 1
-told_cost registry (Listed xid listing) = listed_cost (row_count registry) + 1
+abbrev pub answered_cost : Registry → Served → ℕ
+answered_cost registry (Answered given) = show_cost + 1
+answered_cost registry (Listed xid listing) = listed_cost (row_count registry) + 1
 
 -- the same on a connection that is found among so many
 abbrev pub settling_cost : ℕ → Registry → Served → ℕ
-settling_cost connections registry served = find_cost connections + told_cost registry served + recount_cost
+settling_cost connections registry served = find_cost connections + answered_cost registry served + recount_cost
 
 -- what it costs to exchange the buffer of a record, where one ended
 abbrev pub heard_cost : Option Heard → ℕ

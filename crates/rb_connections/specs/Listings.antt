@@ -2,12 +2,12 @@
 use Rattle.std.specs.Prelude.{◌≡◌, ◌≤◌, ⊤, ℕ, nat_lt, min, Bool, false, if◌then◌else◌, List, [], map, filter_map, All, Contains, Option, Some, None}
 use Rattle.std.specs.Map.{values_of}
 use Rattle.rb_xdr.specs.Pool.{Pool}
+use Rattle.rb_model.specs.Losses.{evicting}
 use Rattle.rb_connections.specs.declared.slot.Stage.{Stage}
 use Rattle.rb_connections.specs.declared.slot.Stage.TheVariants as stages
 use Rattle.rb_connections.specs.declared.slot.Slot.{Slot}
 use Rattle.rb_connections.specs.StandsFor.{Source, stamp_in, Table}
 use Rattle.rb_connections.specs.Giving.{GoesOnBy}
-use Rattle.rb_model.specs.Losses.{evicting}
 use Rattle.rb_connections.specs.Slots.{TableBecomes}
 
 -- ---- one slot

@@ -3,15 +3,15 @@ use Rattle.std.specs.Prelude.{◌≡◌, ◌<◌, ℕ, Bool, List, [], length, S
 use Rattle.rb_registry.specs.Registry.{rows_of}
 use Rattle.rb_proto.specs.declared.answers.Listing.{Listing}
 use Rattle.rb_proto.specs.ListParts.{list_reply}
+use Rattle.rb_model.specs.Calls.{Outcome, Outcome as said, is_no_call}
+use Rattle.rb_model.specs.Connections.{settled, changed_at}
 use Rattle.rb_connections.specs.declared.served.Served.{Served}
-use Rattle.rb_connections.specs.declared.served.Served.TheVariants.{Told, Listed}
+use Rattle.rb_connections.specs.declared.served.Served.TheVariants.{Answered, Listed}
 use Rattle.rb_connections.specs.declared.served.Outcome.{Outcome as Written}
 use Rattle.rb_connections.specs.declared.served.Outcome.TheVariants as outcomes
 use Rattle.rb_connections.specs.StandsFor.{Source, Table}
-use Rattle.rb_model.specs.Calls.{Outcome, Outcome as said, is_no_call}
 use Rattle.rb_connections.specs.Slots.{SlotBecomesFrom, BecomesFrom}
 use Rattle.rb_connections.specs.declared.slot.Slot.{Slot}
-use Rattle.rb_model.specs.Connections.{settled, changed_at}
 
 -- what the code says of a message, with the reply that it wrote
 abbrev pub outcome_with : Written → List ℕ → Outcome
@@ -27,7 +27,7 @@ listing_outcome source xid listing =
 
 -- what the code answers a message with, where this is written
 abbrev pub served_in : Source → Served → List ℕ → Outcome
-served_in source (Told given) reply = outcome_with given reply
+served_in source (Answered given) reply = outcome_with given reply
 served_in source (Listed xid listing) reply = listing_outcome source xid listing
 
 -- The connection that a slot stands for goes on with what its record is answered with, where this is written.
@@ -43,13 +43,13 @@ abbrev pub is_closed_by : Source → Served → List ℕ → Bool
 is_closed_by source served reply = is_no_call (served_in source served reply)
 
 abbrev pub kind_in : Served → Written
-kind_in (Told given) = given
+kind_in (Answered given) = given
 kind_in (Listed xid listing) = outcomes.Reply
 
 -- a reply is written where it is to be, and else nothing
 abbrev pub IsWritten : Served → List ℕ → Type 0
-IsWritten (Told outcomes.Reply) reply = 0 < length reply
-IsWritten (Told outcomes.NoCall) reply = reply ≡ []
-IsWritten (Told outcomes.Forwarded) reply = reply ≡ []
-IsWritten (Told outcomes.Silent) reply = reply ≡ []
+IsWritten (Answered outcomes.Reply) reply = 0 < length reply
+IsWritten (Answered outcomes.NoCall) reply = reply ≡ []
+IsWritten (Answered outcomes.Forwarded) reply = reply ≡ []
+IsWritten (Answered outcomes.Silent) reply = reply ≡ []
 IsWritten (Listed xid listing) reply = reply ≡ []

@@ -9,6 +9,12 @@ use Rattle.rb_xdr.specs.Pool.{Pool, HasDistinctKeys}
 use Rattle.rb_rpc.specs.Verdict.{verdict}
 use Rattle.rb_rpc.specs.declared.peer.Peer.{Peer}
 use Rattle.rb_model.specs.declared.types.CoreFault.{CoreFault}
+use Rattle.rb_model.specs.State.{Phase, Connection, Connections}
+use Rattle.rb_model.specs.Calls.{kept_of}
+use Rattle.rb_model.specs.Connections.{longest_fragment, Taking, taking_on, taking, since_when_fed, reading, giving, is_lost, has_number, is_live, live_connection, on_live}
+use Rattle.rb_model.specs.Connections.Taking.{TakesNone, GoesOn, Ends}
+use Rattle.rb_model.specs.State.Phase.{Idle, Reading, Owing, Awaiting, Lost}
+use Rattle.rb_model.specs.Losses.{deadline, has_come, is_due}
 use Rattle.rb_connections.specs.declared.slot.Slot.{Slot}
 use Rattle.rb_connections.specs.declared.reading.Reader.{Reader}
 use Rattle.rb_connections.specs.declared.slot.Heard.{Heard}
@@ -19,13 +25,7 @@ use Rattle.rb_connections.specs.declared.slot.Wanted.{Wanted}
 use Rattle.rb_connections.specs.declared.slot.Whole.{Whole}
 use Rattle.rb_connections.specs.declared.slot.Wanted.TheVariants as wanted
 use Rattle.rb_connections.specs.declared.slot.Buffers.{Buffers}
-use Rattle.rb_model.specs.State.{Phase, Connection, Connections}
 use Rattle.rb_connections.specs.StandsFor.{buffer_size, IsReading, Source, StandsForConnection, Table, StandsForConnections, held_in, AreWithin}
-use Rattle.rb_model.specs.Calls.{kept_of}
-use Rattle.rb_model.specs.Connections.{longest_fragment, Taking, taking_on, taking, since_when_fed, reading, giving, is_lost, has_number, is_live, live_connection, on_live}
-use Rattle.rb_model.specs.Connections.Taking.{TakesNone, GoesOn, Ends}
-use Rattle.rb_model.specs.State.Phase.{Idle, Reading, Owing, Awaiting, Lost}
-use Rattle.rb_model.specs.Losses.{deadline, has_come, is_due}
 
 -- An act on what something stands for, which gives a result: from whatever the old one stood for, this result came,
 -- and the new one stands for what is there after the act.

@@ -9,6 +9,10 @@ use Rattle.rb_feed.specs.declared.feed.CallFeed.{CallFeed}
 use Rattle.rb_feed.specs.Feeds.{StandsForCall}
 use Rattle.rb_registry.specs.Registry.{Registry}
 use Rattle.rb_proto.specs.ListReplies.{longest_part, rest_of}
+use Rattle.rb_model.specs.Calls.{longest_reply, kept_of, longest_arguments}
+use Rattle.rb_model.specs.State.{Owed, Phase, Connection, Connections}
+use Rattle.rb_model.specs.Connections.{longest_fragment}
+use Rattle.rb_model.specs.State.Phase.{Idle, Reading, Owing, Awaiting, Lost}
 use Rattle.rb_connections.specs.declared.reading.Reader.{Reader}
 use Rattle.rb_connections.specs.declared.giving.Giving.{Giving}
 use Rattle.rb_connections.specs.declared.giving.Rest.{Rest}
@@ -16,10 +20,6 @@ use Rattle.rb_connections.specs.declared.giving.Rest.TheVariants as rests
 use Rattle.rb_connections.specs.declared.slot.Stage.{Stage}
 use Rattle.rb_connections.specs.declared.slot.Stage.TheVariants as stages
 use Rattle.rb_connections.specs.declared.slot.Slot.{Slot}
-use Rattle.rb_model.specs.Calls.{longest_reply, kept_of, longest_arguments}
-use Rattle.rb_model.specs.State.{Owed, Phase, Connection, Connections}
-use Rattle.rb_model.specs.Connections.{longest_fragment}
-use Rattle.rb_model.specs.State.Phase.{Idle, Reading, Owing, Awaiting, Lost}
 
 -- a connection's buffer has the arguments of the call that is read, and later the reply to it
 unfoldable pub buffer_size : ℕ

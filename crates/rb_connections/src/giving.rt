@@ -7,7 +7,7 @@ ghost use Rattle.rb_xdr.specs.Meter.{PaysAtMost};
 ghost use Rattle.rb_xdr.specs.Puts.{Appends, HasRoom};
 ghost use Rattle.rb_model.specs.Connections.{longest_fragment};
 ghost use Rattle.rb_connections.specs.StandsFor.{Source, rest_in, source_for};
-ghost use Rattle.rb_connections.specs.Giving.{CanTell, ShowsNext};
+ghost use Rattle.rb_connections.specs.Giving.{CanMake, ShowsNext};
 ghost use Rattle.rb_rpc.specs.Records.{fragment_header};
 ghost use Rattle.rb_proto.specs.ListReplies.{longest_part};
 ghost use Rattle.rb_connections.specs.Slots.{IsDraft, IsEmptyDraft};
@@ -138,7 +138,7 @@ fn show_list(
     requires window_tie { meter.old.tie ≡ window.old.tie }
     requires scratch { IsDraft meter.old.tie scratch.old }
     requires cap { window.old.cap ≡ longest_fragment }
-    requires told { CanTell (source_for host registry.now) (Listed list) }
+    requires made { CanMake (source_for host registry.now) (Listed list) }
     requires some { 0 < length (rest_in (source_for host registry.now) [] (Listed list)) }
     ensures shows { (buffer : List ℕ) → ShowsNext (source_for host registry.now) buffer
         (Listed list) window.old window.new result }
@@ -172,7 +172,7 @@ pub fn show_next(
     requires window_tie { meter.old.tie ≡ window.old.tie }
     requires scratch { IsEmptyDraft meter.old.tie scratch.old }
     requires cap { window.old.cap ≡ longest_fragment }
-    requires told { CanTell (source_for host registry.now) rest }
+    requires made { CanMake (source_for host registry.now) rest }
     requires some { 0 < length (rest_in (source_for host registry.now) buffer.now.bytes rest) }
     ensures shows { ShowsNext (source_for host registry.now) buffer.now.bytes rest
         window.old window.new result }

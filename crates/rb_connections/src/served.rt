@@ -21,7 +21,7 @@ pub enum Outcome {
 #[derive(Clone, Copy, Debug, PartialEq, Eq)]
 pub enum Served {
     /// A reply that is written, or none.
-    Told(Outcome),
+    Answered(Outcome),
     /// A list under this xid that is streamed, of which nothing is written yet.
     Listed(u32, Listing),
 }
@@ -35,6 +35,6 @@ impl Served {
     pub fn is_no_call(self) -> bool
         ensures { (source : Source) (reply : List ℕ) → result ≡ is_closed_by source self reply }
     {
-        matches!(self, Served::Told(Outcome::NoCall))
+        matches!(self, Served::Answered(Outcome::NoCall))
     }
 }

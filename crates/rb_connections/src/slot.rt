@@ -161,11 +161,11 @@ impl Slot {
     ghost use Rattle.rb_connections.specs.StandsFor.{StandsForConnection, charge, most_charge, rest_in, source_for};
     ghost use Rattle.rb_model.specs.Calls.{kept_of};
     ghost use Rattle.rb_connections.specs.Listings.{slot_began, SlotListsOn, SlotKeepsListing, SlotListsOnByAll};
-    ghost use Rattle.rb_connections.specs.Giving.{CanTell};
+    ghost use Rattle.rb_connections.specs.Giving.{CanMake};
     ghost use Rattle.rb_connections.specs.Settling.{SlotSettles, IsWritten, kind_in};
     ghost use Rattle.rb_connections.specs.Giving.{SlotShowsNext};
     ghost use Rattle.rb_connections.specs.Awaits.{is_awaiting_stage, sender_on, HearsSlot, IsIdleAt};
-    ghost use Rattle.rb_connections.specs.Costs.{received_cost, next_cost, row_count, told_cost};
+    ghost use Rattle.rb_connections.specs.Costs.{received_cost, next_cost, row_count, answered_cost};
     ghost use Rattle.rb_model.specs.Costs.{given_cost, pending_cost};
 
     #[tactic(auto, unfolding(crate::specs::Slots::is_wanted_slot))]
@@ -334,23 +334,23 @@ impl Slot {
         ensures lists { SlotListsOn (source_for host registry.now) self.new }
         ensures stays { StaysSlot meter.old.tie self.old self.new }
         ensures draft { IsEmptyDraft meter.old.tie draft.new }
-        ensures cost { PaysAtMost meter.old meter.new (told_cost registry.now served) }
+        ensures cost { PaysAtMost meter.old meter.new (answered_cost registry.now served) }
     {
         self.since = clock;
         match served {
-            Served::Told(Outcome::NoCall) => {
+            Served::Answered(Outcome::NoCall) => {
                 self.stage = Stage::Lost;
                 draft.clear(meter);
             }
-            Served::Told(Outcome::Forwarded) => {
+            Served::Answered(Outcome::Forwarded) => {
                 self.stage = Stage::Awaiting;
                 self.empty(draft, meter);
             }
-            Served::Told(Outcome::Silent) => {
+            Served::Answered(Outcome::Silent) => {
                 self.stage = Stage::Idle;
                 self.empty(draft, meter);
             }
-            Served::Told(Outcome::Reply) => {
+            Served::Answered(Outcome::Reply) => {
                 self.buffer.clear(meter);
                 mem::swap(&mut self.buffer, draft);
                 self.show(Rest::Held(0), host, registry, draft, meter);
@@ -375,7 +375,7 @@ impl Slot {
         requires registry { meter.old.tie ≡ registry.now.tie }
         requires buffers { HasBuffers meter.old.tie self.old }
         requires scratch { IsEmptyDraft meter.old.tie scratch.old }
-        requires told { CanTell (source_for host registry.now) rest }
+        requires made { CanMake (source_for host registry.now) rest }
         requires some { 0 < length (rest_in (source_for host registry.now)
             self.old.buffer.bytes rest) }
         ensures shows { SlotShowsNext (source_for host registry.now) rest self.old self.new }

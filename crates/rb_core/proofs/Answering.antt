@@ -1,28 +1,28 @@
 -- What serving a message leaves, from what its parts do.
-use Rattle.std.proofs.Common.{◌≡◌, ◌≤◌, false, ℕ, List, sym, ap, subst, ◌∙◌}
 use Rattle.std.specs.Prelude.{All}
+use Rattle.std.proofs.Common.{◌≡◌, ◌≤◌, false, ℕ, List, sym, ap, subst, ◌∙◌}
 use Rattle.rb_rpc.specs.declared.peer.Caller.{Caller}
 use Rattle.rb_rpc.specs.declared.peer.Caller.TheVariants.{Tcp}
 use Rattle.rb_rpc.specs.declared.peer.Peer.{Peer}
+use Rattle.rb_registry.specs.Cursors.{GoesOn}
 use Rattle.rb_forward.specs.StandsFor.{slots_of}
 use Rattle.rb_forward.specs.Table.{is_waiting}
-use Rattle.rb_registry.specs.Cursors.{GoesOn}
 use Rattle.rb_proto.specs.declared.books.Books.{Books}
 use Rattle.rb_proto.specs.declared.context.Context.{Context}
 use Rattle.rb_proto.specs.Books.{ActsAs, AreTied, SameFrame}
+use Rattle.rb_proto.specs.Ledger.{Ledger}
 use Rattle.rb_model.specs.declared.message.Message.{Message}
 use Rattle.rb_model.specs.Calls.{Outcome, outcome}
-use Rattle.rb_core.specs.StandsFor.{Held, source_of}
-use Rattle.rb_connections.specs.StandsFor.{Table}
-use Rattle.rb_core.specs.Core.{context_of}
-use Rattle.rb_connections.specs.Slots.{StaysTable}
-use Rattle.rb_core.specs.Eviction.{Evicts, source_in}
-use Rattle.rb_connections.specs.Listings.{CanListOn, stamps_of}
 use Rattle.rb_model.specs.Losses.{asks_room}
-use Rattle.rb_core.specs.Serving.{CanServe, ServesInRoom}
-use Rattle.rb_proto.specs.Ledger.{Ledger}
-use Rattle.rb_core.proofs.Crowding.{lists_on, stands_on, stamps_low}
 use Rattle.rb_laws.proofs.Crowding.{none_evicted, not_asked}
+use Rattle.rb_connections.specs.StandsFor.{Table}
+use Rattle.rb_connections.specs.Slots.{StaysTable}
+use Rattle.rb_connections.specs.Listings.{CanListOn, stamps_of}
+use Rattle.rb_connections.proofs.ListsGoOn.{lists_on, stands_on, stamps_low}
+use Rattle.rb_core.specs.StandsFor.{Held, source_of}
+use Rattle.rb_core.specs.Core.{context_of}
+use Rattle.rb_core.specs.Eviction.{Evicts, source_in}
+use Rattle.rb_core.specs.Serving.{CanServe, ServesInRoom}
 use Rattle.rb_core.proofs.Steps.{Served, same_source}
 
 -- what a call sees, of what is held by its other name

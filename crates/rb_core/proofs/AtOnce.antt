@@ -1,8 +1,6 @@
 -- Replies that are given in the call that takes the end of their record.
+use Rattle.std.specs.Prelude.{◌&&◌, ◌||◌, is_none, Err, Result, Ok}
 use Rattle.std.proofs.Common.{◌≡◌, ◌<◌, ◌≤◌, ◌+◌, ℕ, zero, suc, Bool, true, false, not, cond, List, [], ◌∷◌, length, take, drop, eqb, ltb, max, Option, Some, None, arith, refl, sym, ap, subst, ◌∙◌, inl, inr, ◌⊎◌}
-use Rattle.std.specs.Prelude.{◌&&◌, ◌||◌, is_none, find, Err, Result, Ok}
-use Rattle.std.specs.List.{AllZip, list_any}
-use Rattle.std.specs.Map.{values_of}
 use Rattle.std.proofs.lemmas.Bool.{and_parts, le-ltb, lt-ltb, cases_lt, cond-false, ne_eqb}
 use Rattle.std.proofs.lemmas.List.{take_all, length-take}
 use Rattle.rb_xdr.specs.Kept.{Kept}
@@ -10,13 +8,6 @@ use Rattle.rb_rpc.specs.Records.{fragment_size, marked}
 use Rattle.rb_rpc.specs.declared.peer.Peer.{Peer}
 use Rattle.rb_rpc.specs.declared.peer.Caller.TheVariants.{Tcp}
 use Rattle.rb_proto.specs.declared.books.Books.{Books}
-use Rattle.rb_connections.specs.declared.served.Served.{Served as CodeServed}
-use Rattle.rb_connections.specs.declared.served.Served.TheVariants.{Told, Listed}
-use Rattle.rb_connections.specs.declared.served.Outcome.TheVariants as outcomes
-use Rattle.rb_connections.specs.declared.slot.Heard.{Heard}
-use Rattle.rb_connections.specs.declared.slot.Slot.{Slot}
-use Rattle.rb_connections.specs.declared.slot.Stage.{Stage}
-use Rattle.rb_connections.specs.declared.slot.Stage.TheVariants as stages
 use Rattle.rb_model.specs.declared.message.Message.{Message}
 use Rattle.rb_model.specs.declared.types.CoreFault.{CoreFault}
 use Rattle.rb_model.specs.declared.types.Taken.{Taken}
@@ -25,61 +16,26 @@ use Rattle.rb_model.specs.State.Phase.{Idle, Reading, Owing, Awaiting, Lost}
 use Rattle.rb_model.specs.Calls.{Outcome, is_no_call}
 use Rattle.rb_model.specs.Calls.Outcome.{NoCall, Reply, Forwarded, Silent}
 use Rattle.rb_model.specs.Connections.{longest_fragment, pending_of, owed_of, phase_after, settled, pending_in, phase_when_given, when_given, giving, is_lost, is_live, live_connection, change_first, changed_at, on_live, on_connection}
-use Rattle.rb_connections.specs.StandsFor.{Source, StandsForPhase, StandsForConnection, StandsForConnections, Table}
-use Rattle.rb_core.specs.StandsFor.{Held, StandsFor, source_of}
-use Rattle.rb_connections.specs.Slots.{Acts, Shows, StaysTable, is_idle_stage, feeding, arguments_on}
-use Rattle.rb_connections.specs.Awaits.{is_idle_slot, has_idle}
-use Rattle.rb_core.specs.Eviction.{source_in}
 use Rattle.rb_model.specs.Losses.{evicting}
-use Rattle.rb_connections.specs.Settling.{served_in}
-use Rattle.rb_core.specs.Core.{context_of, answering_heard}
 use Rattle.rb_model.specs.Step.{settled_in, serve_message, bytes, pending, pending_at, pending_on, gave, with_count}
-use Rattle.rb_core.specs.AtOnce.{pending_bytes, at_once_in, at_once_on, at_once, owes, count_at_once, given_when_answered, front, without_front, then_giving, exchanging, answered_giving, IsGivenAtOnce}
-use Rattle.rb_connections.specs.Giving.{whole_length, whole_cost}
-use Rattle.rb_laws.proofs.Cuts.{IsFeeding, find-changed, changed-twice}
+use Rattle.rb_model.specs.Laws.{is_owing}
 use Rattle.rb_model.proofs.Fragments.{length-short, length-long, some-marked}
+use Rattle.rb_laws.proofs.Cuts.{IsFeeding, find-changed, changed-twice}
+use Rattle.rb_connections.specs.declared.served.Served.{Served as CodeServed}
+use Rattle.rb_connections.specs.declared.served.Served.TheVariants.{Answered, Listed}
+use Rattle.rb_connections.specs.declared.served.Outcome.TheVariants as outcomes
+use Rattle.rb_connections.specs.declared.slot.Heard.{Heard}
+use Rattle.rb_connections.specs.StandsFor.{Source, StandsForConnections, Table}
+use Rattle.rb_connections.specs.Slots.{Acts, Shows, StaysTable, feeding, arguments_on}
+use Rattle.rb_connections.specs.Awaits.{has_idle}
+use Rattle.rb_connections.specs.Settling.{served_in}
+use Rattle.rb_connections.specs.Giving.{whole_length, whole_cost}
+use Rattle.rb_connections.proofs.IdleSlots.{Lives, idle_is_live}
+use Rattle.rb_core.specs.StandsFor.{Held, StandsFor, source_of}
+use Rattle.rb_core.specs.Eviction.{source_in}
+use Rattle.rb_core.specs.Core.{context_of, answering_heard}
+use Rattle.rb_core.specs.AtOnce.{pending_bytes, at_once_in, at_once_on, at_once, count_at_once, given_when_answered, front, without_front, then_giving, exchanging, answered_giving, IsGivenAtOnce}
 use Rattle.rb_core.proofs.Steps.{Served, serve_gives, serve_stands, serve_connections, crowd_in, change_alike, change_nothing, RecordEnded, ended_by, taken_of}
-
--- ---- the connection that goes on
-
--- A connection is live where its slot is Idle.
-pub record Lives (id : ℕ) (all : List Connection) : Type 0 where
-  pub connection : Connection
-  pub there : find (is_live id) all ≡ Some connection
-
-idle_lives : (source : Source) (id : ℕ) (slot : Slot) (c : Connection) → StandsForConnection source slot c → is_idle_slot id slot ≡ true → is_live id c ≡ true
-unfolding is_live
-idle_lives source id slot c stands idle =
-    let p = and_parts (eqb slot.number id) (is_idle_stage slot.stage) idle in
-    rw (ap (λ (n : ℕ). eqb n id) (sym stands.number) ∙ p.0) (by_stage slot.stage c.phase p.1 stands.phase)
-  where
-    by_stage : (stage : Stage) (phase : Phase) → is_idle_stage stage ≡ true → StandsForPhase source stage slot.buffer slot.window phase → not (is_lost phase) ≡ true
-    by_stage stages.Idle Idle e z = refl
-    by_stage stages.Idle (Reading fed) e z = refl
-    by_stage stages.Idle (Owing o) e z = refl
-    by_stage stages.Idle Awaiting e z = refl
-    by_stage stages.Idle Lost e z = absurd z
-    by_stage (stages.Reading reader) phase e z = absurd cc
-    by_stage (stages.Giving giving) phase e z = absurd cc
-    by_stage stages.Awaiting phase e z = absurd cc
-    by_stage stages.Lost phase e z = absurd cc
-
-idle_among : (source : Source) (id : ℕ) (slots : List Slot) (all : List Connection) → AllZip (StandsForConnection source) slots all → list_any (is_idle_slot id) slots ≡ true → Lives id all
-idle_among source id [] all zip any = absurd cc
-idle_among source id (slot ∷ slots) [] zip any = absurd zip
-idle_among source id (slot ∷ slots) (c ∷ all) zip any = by_live (is_live id c) refl (idle_among source id slots all zip.1)
-  where
-    by_live : (b : Bool) → is_live id c ≡ b → (list_any (is_idle_slot id) slots ≡ true → Lives id all) → Lives id (c ∷ all)
-    by_live true t further = record { connection = c; there = rw t refl }
-    by_live false t further = by_idle (is_idle_slot id slot) refl
-      where
-        by_idle : (b : Bool) → is_idle_slot id slot ≡ b → Lives id (c ∷ all)
-        by_idle true e = let clash : true ≡ false = sym (idle_lives source id slot c zip.0 e) ∙ t in absurd cc
-        by_idle false e = let lives = further (rw e at any) in record { connection = lives.connection; there = rw t lives.there }
-
-pub idle_is_live : (source : Source) (id : ℕ) (table : Table) (c : Connections) → StandsForConnections source table c → has_idle id table ≡ true → Lives id c.all
-unfolding has_idle
-idle_is_live source id table c stands idle = idle_among source id (values_of table.slots) c.all stands.all idle
 
 -- ---- what is left of an answer
 
@@ -179,10 +135,10 @@ abbrev pub count_of : ℕ → Outcome → ℕ
 count_of room given = cond (is_no_call given) 0 (at_once_in room (phase_after given))
 
 pub counts_served : (room : ℕ) (source : Source) (served : CodeServed) (reply : List ℕ) → count_at_once room served reply ≡ count_of room (served_in source served reply)
-counts_served room source (Told outcomes.NoCall) reply = refl
-counts_served room source (Told outcomes.Reply) reply = sym (marked_fits room reply)
-counts_served room source (Told outcomes.Forwarded) reply = refl
-counts_served room source (Told outcomes.Silent) reply = refl
+counts_served room source (Answered outcomes.NoCall) reply = refl
+counts_served room source (Answered outcomes.Reply) reply = sym (marked_fits room reply)
+counts_served room source (Answered outcomes.Forwarded) reply = refl
+counts_served room source (Answered outcomes.Silent) reply = refl
 counts_served room source (Listed xid listing) reply = refl
 
 keeps_live : (id clock : ℕ) (given : Outcome) → is_lost (phase_after given) ≡ false → IsFeeding id (settled clock given)
@@ -281,7 +237,7 @@ no_room : (id : ℕ) (m : Option Connection) (r : Result Taken CoreFault × Stat
 unfolding longest_fragment
 no_room id None r = refl
 no_room id (Some c) (Err f, s) = refl
-no_room id (Some c) (Ok taken, s) = elim (owes c.phase || taken.closed) as (λ b. cond b 0 (at_once_on 0 (live_connection id s.connections.all)) ≡ 0) [ true ↦ refl | false ↦ on_none (live_connection id s.connections.all) ]
+no_room id (Some c) (Ok taken, s) = elim (is_owing c.phase || taken.closed) as (λ b. cond b 0 (at_once_on 0 (live_connection id s.connections.all)) ≡ 0) [ true ↦ refl | false ↦ on_none (live_connection id s.connections.all) ]
   where
     none_in : (phase : Phase) → at_once_in 0 phase ≡ 0
     none_in (Owing o) = elim (is_none o.began && not (ltb 1028 (length o.marked))) as (λ b. cond (b && false) (length o.marked) 0 ≡ 0) [ true ↦ refl | false ↦ refl ]

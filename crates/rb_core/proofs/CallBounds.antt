@@ -1,36 +1,35 @@
 -- What a call pays is within the bound on its steps.
-use Rattle.std.proofs.Common.{◌≡◌, ◌≤◌, ℕ, ◌+◌, ◌*◌, max, cond, true, false, eqb, List, [], ◌∷◌, ◌++◌, length, Option, Some, None, Result, Ok, Err, refl, sym, ap, ◌∙◌, arith}
 use Rattle.std.specs.Prelude.{IfSome}
+use Rattle.std.proofs.Common.{◌≡◌, ◌≤◌, ℕ, ◌+◌, ◌*◌, max, cond, true, false, eqb, List, [], ◌∷◌, ◌++◌, length, Option, Some, None, Result, Ok, Err, refl, sym, ap, ◌∙◌, arith}
+use Rattle.std.proofs.lemmas.List.{length-take}
 use Rattle.rb_xdr.specs.Meter.{Meter, PaysAtMost}
 use Rattle.rb_rpc.specs.declared.peer.Peer.{Peer}
+use Rattle.rb_rpc.specs.Records.{first_record}
+use Rattle.rb_feed.specs.Feeds.{arguments_of}
+use Rattle.rb_registry.specs.Registry.{slots_of}
 use Rattle.rb_forward.specs.Costs.{sent_cost, unsent_cost}
 use Rattle.rb_forward.specs.Forwards.{longest_arguments as longest_args}
-use Rattle.rb_model.specs.Calls.{Outcome, longest_reply}
-use Rattle.rb_model.specs.Calls.{longest_arguments}
-use Rattle.rb_core.specs.StandsFor.{Held, StandsFor}
-use Rattle.rb_connections.specs.StandsFor.{buffer_size}
+use Rattle.rb_model.specs.Calls.{Outcome, longest_reply, longest_arguments}
 use Rattle.rb_model.specs.State.{State, Setting, Connection, Connections, at_moment}
 use Rattle.rb_model.specs.declared.types.CoreFault.{CoreFault}
 use Rattle.rb_model.specs.Connections.{on_live, giving, live_connection, Taking, fed_in, taking, taking_behind}
 use Rattle.rb_model.specs.Connections.Taking.{TakesNone, GoesOn, Ends}
-use Rattle.std.proofs.lemmas.List.{length-take}
-use Rattle.rb_feed.specs.Feeds.{arguments_of}
-use Rattle.rb_core.specs.AtOnce.{without_front, exchanging}
 use Rattle.rb_model.specs.Step.{datagram, bytes, bytes_to, when_taken, gave, moved, show_taken, step, IsReached}
 use Rattle.rb_model.specs.declared.types.Taken.{Taken}
 use Rattle.rb_model.specs.Step.Event.{Bytes, Datagram}
-use Rattle.rb_connections.specs.Slots.{Acts}
-use Rattle.rb_core.specs.CallCosts.{sizes_of, PaysForBytes, PaysForDatagram}
-use Rattle.rb_connections.specs.Costs.{look_cost}
 use Rattle.rb_model.specs.Costs.{Sizes, find_cost, pending_cost, take_cost, recount_cost, gave_cost, close_cost, ended_cost, datagram_cost, bytes_cost, count_taken, record_cost}
 use Rattle.rb_model.specs.Laws.{NoRecordEnds}
 use Rattle.rb_model.specs.Bounds.{steps_bound}
-use Rattle.rb_registry.specs.Registry.{slots_of}
-use Rattle.rb_rpc.specs.Records.{first_record}
-use Rattle.rb_core.specs.Events.{StaysCheapIfQuiet, StaysWithinSteps, taken_by}
 use Rattle.rb_laws.proofs.EntriesKept.{step-follows}
 use Rattle.rb_laws.proofs.Room.{reached-room}
 use Rattle.rb_laws.proofs.StepBounds.{taken-counts}
+use Rattle.rb_connections.specs.StandsFor.{buffer_size}
+use Rattle.rb_connections.specs.Slots.{Acts}
+use Rattle.rb_connections.specs.Costs.{look_cost}
+use Rattle.rb_core.specs.StandsFor.{Held, StandsFor}
+use Rattle.rb_core.specs.AtOnce.{without_front, exchanging}
+use Rattle.rb_core.specs.CallCosts.{sizes_of, PaysForBytes, PaysForDatagram}
+use Rattle.rb_core.specs.Events.{StaysCheapIfQuiet, StaysWithinSteps, taken_by}
 use Rattle.rb_core.proofs.RunSteps.{datagram_shown, same_state}
 use Rattle.rb_core.proofs.Spending.{at_most, connections_held, rows_held}
 

@@ -7,8 +7,8 @@ use Rattle.rb_model.specs.State.{Setting}
 use Rattle.rb_model.specs.Calls.{longest_reply}
 use Rattle.rb_connections.specs.StandsFor.{Table}
 use Rattle.rb_connections.specs.Slots.{StaysTable, IsDraft}
-use Rattle.rb_core.specs.Awaits.{AreAwaited}
 use Rattle.rb_connections.specs.Listings.{CanListOn}
+use Rattle.rb_core.specs.Awaits.{AreAwaited}
 use Rattle.rb_core.specs.Eviction.{source_in}
 use Rattle.rb_core.specs.Core.{IsCore}
 

@@ -1,162 +1,31 @@
--- Room for a row: the rows that are kept for lists, by what is held, and how lists go on while rows come and go.
-use Rattle.std.proofs.Common.{◌≡◌, ◌≤◌, ◌<◌, ℕ, zero, suc, Bool, true, false, cond, nat_lt, nat_le, not, ◌||◌, List, [], ◌∷◌, length, filter, max, slice_index_or, Option, Some, None, refl, sym, ap, subst, ◌∙◌, arith}
+-- Room for a row: the rows that are kept for lists, by what is held.
 use Rattle.std.specs.Prelude.{All, filter_map}
-use Rattle.std.specs.List.{AllZip, list_any}
+use Rattle.std.specs.List.{list_any}
 use Rattle.std.specs.Map.{values_of}
+use Rattle.std.proofs.Common.{◌≡◌, ◌≤◌, ◌<◌, ℕ, zero, suc, Bool, true, false, cond, nat_lt, nat_le, not, ◌||◌, List, [], ◌∷◌, length, filter, max, slice_index_or, Option, Some, None, refl, sym, ap, subst, ◌∙◌, arith}
 use Rattle.std.proofs.lemmas.Bool.{lt-ltb, le-ltb, ltb-true, ltb-false}
 use Rattle.std.proofs.lemmas.Bool.Decides.{nat_tests}
-use Rattle.std.proofs.lemmas.List.Elements.{All-head, All-tail, All-cons, All-nil, All-contains}
-use Rattle.rb_xdr.specs.Kept.{Kept}
+use Rattle.std.proofs.lemmas.List.Elements.{All-head, All-tail, All-contains}
 use Rattle.rb_registry.specs.declared.slot.Slot.{Slot as RowSlot}
-use Rattle.rb_registry.specs.Registry.{Registry, removals_of}
+use Rattle.rb_registry.specs.Registry.{removals_of}
 use Rattle.rb_registry.specs.Table.{stamp_told, later_than, IsLeast}
 use Rattle.rb_registry.specs.Slots.{is_dropped, removed_by, all_slots}
-use Rattle.rb_registry.specs.Cursors.{GoesOn}
 use Rattle.rb_proto.specs.declared.context.Context.{Context}
 use Rattle.rb_proto.specs.declared.call.Call.{Call}
 use Rattle.rb_proto.specs.declared.books.Books.{Books}
 use Rattle.rb_proto.specs.Ledger.{Ledger, StandsForLedger}
 use Rattle.rb_proto.specs.Books.{removals_after}
-use Rattle.rb_proto.proofs.ListReplies.{list_reply_goes_on, removals_kept}
-use Rattle.rb_connections.specs.declared.slot.Slot.{Slot}
-use Rattle.rb_connections.specs.declared.slot.Stage.{Stage}
-use Rattle.rb_connections.specs.declared.slot.Stage.TheVariants as stages
+use Rattle.rb_proto.proofs.ListReplies.{removals_kept}
 use Rattle.rb_model.specs.declared.message.Message.{Message}
 use Rattle.rb_model.specs.declared.message.Message.TheVariants as says
-use Rattle.rb_model.specs.State.{Owed, Phase, Connection, Connections}
-use Rattle.rb_model.specs.Losses.{began_in, begins, is_retained_for, removals_by, retained_removals}
-use Rattle.rb_connections.specs.declared.giving.Giving.{Giving}
-use Rattle.rb_connections.specs.declared.giving.Rest.{Rest}
-use Rattle.rb_connections.specs.declared.giving.Rest.TheVariants as rests
-use Rattle.rb_connections.specs.Giving.{CanTell}
-use Rattle.rb_connections.specs.StandsFor.{IsGiving, rest_in, stamp_in, Source, Table, StandsForPhase, StandsForConnection, StandsForConnections, source_for}
+use Rattle.rb_model.specs.State.{Connections}
+use Rattle.rb_model.specs.Losses.{begins, is_retained_for, removals_by, retained_removals}
+use Rattle.rb_connections.specs.StandsFor.{Source, Table, StandsForConnections}
+use Rattle.rb_connections.specs.Listings.{CanListOn, stamps_of, IsOldest, IsEarliest}
+use Rattle.rb_connections.proofs.ListsGoOn.{stamps_reach, stamps_low, begins_alike}
 use Rattle.rb_core.specs.Eviction.{HasRoom}
-use Rattle.rb_connections.specs.Listings.{began_stage, slot_began, StageListsOn, SlotListsOn, CanListOn, stamps_of, IsOldest, IsEarliest}
-use Rattle.rb_connections.proofs.Evicting.{began_alike}
-use Rattle.rb_connections.proofs.Phases.{by_phase}
-
--- ---- lists go on
-
-module _ (host : List ℕ) (old new : Registry) (goes : GoesOn old new) where
-  abbrev before : Source
-  before = source_for host old
-
-  abbrev after : Source
-  after = source_for host new
-
-  -- the floor isn't above what the list of a stage began after
-  abbrev IsLow : Stage → Type 0
-  IsLow stage = (n : ℕ) → began_stage stage ≡ Some n → new.floor ≤ n
-
-  -- what is not shown yet is the same
-  rest_goes_on : (rest : Rest) → ((n : ℕ) → stamp_in rest ≡ Some n → new.floor ≤ n) → CanTell before rest
-      → CanTell after rest × ((buffer : List ℕ) → rest_in after buffer rest ≡ rest_in before buffer rest)
-  rest_goes_on (rests.Held start) low t = (tt, λ buffer. refl)
-  rest_goes_on (rests.Listed list) low t =
-      let s = list_reply_goes_on old new list goes (low list.stamp refl) t in
-      (s.told, λ buffer. s.rest host)
-
-  stage_lists_on : (buffer : List ℕ) (stage : Stage) → IsLow stage → StageListsOn before buffer stage → StageListsOn after buffer stage
-  stage_lists_on buffer stages.Idle low t = tt
-  stage_lists_on buffer (stages.Reading reader) low t = tt
-  stage_lists_on buffer (stages.Giving giving) low t =
-      let s = rest_goes_on giving.rest low t.told in
-      record { told = s.0; some = λ more. rw (s.1 buffer) (t.some more) }
-  stage_lists_on buffer stages.Awaiting low t = tt
-  stage_lists_on buffer stages.Lost low t = tt
-
-  phase_stands : (stage : Stage) (buffer window : Kept) (phase : Phase) → IsLow stage → StageListsOn before buffer.bytes stage → StandsForPhase before stage buffer window phase → StandsForPhase after stage buffer window phase
-  phase_stands stage buffer window phase low t h =
-      by_phase before buffer window (λ s p. IsLow s → StageListsOn before buffer.bytes s → StandsForPhase after s buffer window p)
-      (λ z l u. z) (λ reader fed z l u. z) (λ g o z l u. goes_on g o z l u) (λ z l u. z) (λ l u. tt) stage phase h low t
-    where
-      goes_on : (g : Giving) (o : Owed) → IsGiving before g buffer.bytes window o → IsLow (stages.Giving g) → StageListsOn before buffer.bytes (stages.Giving g) → IsGiving after g buffer.bytes window o
-      goes_on g o z l u =
-          let s = rest_goes_on g.rest l u.told in
-          record { reply = z.reply; shows = z.shows; began = z.began; place = z.place; rest = s.1 buffer.bytes ∙ z.rest; last = z.last }
-
-  abbrev AreLow : List Slot → Type 0
-  AreLow slots = All (λ n. new.floor ≤ n) (filter_map slot_began slots)
-
-  first_low : (slot : Slot) (slots : List Slot) → AreLow (slot ∷ slots) → IsLow slot.stage × AreLow slots
-  first_low slot slots low = by_began (slot_began slot) refl
-    where
-      by_began : (began : Option ℕ) → slot_began slot ≡ began → IsLow slot.stage × AreLow slots
-      by_began None b = ((λ n e. let clash : None ≡ Some n = sym b ∙ e in absurd cc), rw b at low)
-      by_began (Some m) b =
-          let here : All (λ n. new.floor ≤ n) (m ∷ filter_map slot_began slots) = rw b at low in (
-            (λ n e. let same : Some m ≡ Some n = sym b ∙ e in let is : m ≡ n = cc in let floor : new.floor ≤ m = All-head (λ k. new.floor ≤ k) m (filter_map slot_began slots) here in omega (arith, is, floor)),
-            All-tail (λ k. new.floor ≤ k) m (filter_map slot_began slots) here,
-          )
-
-  all_list_on : (slots : List Slot) → AreLow slots → All (SlotListsOn before) slots → All (SlotListsOn after) slots
-  all_list_on [] low t = All-nil (SlotListsOn after)
-  all_list_on (slot ∷ slots) low t =
-      let l = first_low slot slots low in
-      All-cons (SlotListsOn after) slot slots (stage_lists_on slot.buffer.bytes slot.stage l.0 (All-head (SlotListsOn before) slot slots t)) (all_list_on slots l.1 (All-tail (SlotListsOn before) slot slots t))
-
-  all_stand : (slots : List Slot) (all : List Connection) → AreLow slots → All (SlotListsOn before) slots → AllZip (StandsForConnection before) slots all → AllZip (StandsForConnection after) slots all
-  all_stand [] [] low t z = tt
-  all_stand [] (c ∷ all) low t z = absurd z
-  all_stand (slot ∷ slots) [] low t z = absurd z
-  all_stand (slot ∷ slots) (c ∷ all) low t z =
-      let l = first_low slot slots low in
-      let told : StageListsOn before slot.buffer.bytes slot.stage = All-head (SlotListsOn before) slot slots t in (
-        record { number = z.0.number; peer = z.0.peer; since = z.0.since; phase = phase_stands slot.stage slot.buffer slot.window c.phase l.0 told z.0.phase },
-        all_stand slots all l.1 (All-tail (SlotListsOn before) slot slots t) z.1,
-      )
-
-  pub lists_on : (table : Table) → All (λ n. new.floor ≤ n) (stamps_of table) → CanListOn before table → CanListOn after table
-  lists_on table low t = all_list_on (values_of table.slots) low t
-
-  pub stands_on : (table : Table) (c : Connections) → All (λ n. new.floor ≤ n) (stamps_of table) → CanListOn before table → StandsForConnections before table c → StandsForConnections after table c
-  stands_on table c low t z = record { all = all_stand (values_of table.slots) c.all low t z.all; next = z.next }
-
-abbrev Reach : Source → List Slot → Type 0
-Reach source slots = All (λ n. (source.registry.floor ≤ n) × (n ≤ source.registry.stamp)) (filter_map slot_began slots)
-
--- the stamps of lists that can be told are from the floor to the present
-stamps_reach : (source : Source) (slots : List Slot) → All (SlotListsOn source) slots → All (λ n. (source.registry.floor ≤ n) × (n ≤ source.registry.stamp)) (filter_map slot_began slots)
-stamps_reach source [] t = All-nil (λ n. (source.registry.floor ≤ n) × (n ≤ source.registry.stamp))
-stamps_reach source (slot ∷ slots) t = by_stage slot.stage refl (All-head (SlotListsOn source) slot slots t) (stamps_reach source slots (All-tail (SlotListsOn source) slot slots t))
-  where
-    by_stage : (stage : Stage) → slot.stage ≡ stage → StageListsOn source slot.buffer.bytes slot.stage → Reach source slots → Reach source (slot ∷ slots)
-    by_stage stages.Idle is t further = rw is further
-    by_stage (stages.Reading reader) is t further = rw is further
-    by_stage (stages.Giving giving) is t further = by_rest giving.rest refl (told_in is t)
-      where
-        told_in : slot.stage ≡ stages.Giving giving → StageListsOn source slot.buffer.bytes slot.stage → CanTell source giving.rest
-        told_in e z = let it : StageListsOn source slot.buffer.bytes (stages.Giving giving) = subst (StageListsOn source slot.buffer.bytes) e z in it.told
-
-        by_rest : (rest : Rest) → giving.rest ≡ rest → CanTell source rest → Reach source (slot ∷ slots)
-        by_rest (rests.Held start) r told = rw (is, r) further
-        by_rest (rests.Listed list) r told =
-            rw (is, r) (All-cons (λ n. (source.registry.floor ≤ n) × (n ≤ source.registry.stamp)) list.stamp (filter_map slot_began slots) (told.place.reached.from_floor, told.place.reached.made) further)
-    by_stage stages.Awaiting is t further = rw is further
-    by_stage stages.Lost is t further = rw is further
-
-pub stamps_low : (source : Source) (table : Table) → CanListOn source table → All (λ n. source.registry.floor ≤ n) (stamps_of table)
-stamps_low source table t = λ k d within. (stamps_reach source (values_of table.slots) t k d within).0
-
--- so they are from the floor on once it rose to the least of them
-pub trimmed_low : (source : Source) (table : Table) (oldest : Option ℕ) (floor : ℕ) → CanListOn source table → IsOldest (stamps_of table) oldest
-    → floor ≡ max source.registry.floor (stamp_told source.registry oldest) → All (λ n. floor ≤ n) (stamps_of table)
-trimmed_low source table None floor t none is = subst (All (λ n. floor ≤ n)) (sym none) (All-nil (λ n. floor ≤ n))
-trimmed_low source table (Some k) floor t least is = λ i d within.
-    let low = (stamps_reach source (values_of table.slots) t i d within).0 in
-    let above = least.1 i d within in
-    omega (arith, is, low, above)
 
 -- ---- the rows that are kept
-
-begins_alike : (source : Source) (slots : List Slot) (all : List Connection) → AllZip (StandsForConnection source) slots all → begins all ≡ filter_map slot_began slots
-unfolding begins
-begins_alike source [] [] z = refl
-begins_alike source [] (c ∷ all) z = absurd z
-begins_alike source (slot ∷ slots) [] z = absurd z
-begins_alike source (slot ∷ slots) (c ∷ all) z =
-    let same : slot_began slot ≡ began_in c.phase = began_alike source slot.stage slot.buffer slot.window c.phase z.0.phase in
-    rw (same, begins_alike source slots all z.1) refl
 
 abbrev Same : ℕ → List RowSlot → Type 0
 Same k slots = filter_map (λ (slot : RowSlot). slot.removed) (filter (λ slot. not (is_dropped (Some k) slot)) slots)

@@ -10,12 +10,12 @@ use Rattle.rb_model.specs.Step.{context_in, with_ledger, with_reply, serve, data
 use Rattle.rb_model.specs.Losses.{with_room}
 use Rattle.rb_model.specs.Costs.{event_cost}
 use Rattle.rb_model.specs.Bounds.{steps_bound, bytes_in, bytes_out}
-use Rattle.rb_core.specs.Headline.{shown_as, AnswersDatagrams, RunsAreServedWithinBounds}
 use Rattle.rb_laws.proofs.EntriesKept.{after-setting}
 use Rattle.rb_laws.proofs.LaterReplies.{udp_callers_are_told}
 use Rattle.rb_laws.proofs.WholeSessions.{sessions_are_whole}
-use Rattle.rb_core.proofs.StepBounds.{held_within_after}
 use Rattle.rb_laws.proofs.StepBounds.{steps_are_bounded}
+use Rattle.rb_core.specs.Headline.{shown_as, AnswersDatagrams, RunsAreServedWithinBounds}
+use Rattle.rb_core.proofs.StepBounds.{held_within_after}
 
 answers_datagrams : (s : State) → AnswersDatagrams s
 unfolding step datagram serve

@@ -1,8 +1,8 @@
 -- What a core holds that stands for a state that a run reaches is within the bound.
-use Rattle.std.proofs.Common.{◌≡◌, ℕ, ◌+◌, ◌*◌, ◌^◌, ◌≤◌, ◌<◌, Bool, true, false, cond, not, get_or, Some, List, [], ◌∷◌, length, map, refl, ap, sym, subst, arith}
 use Rattle.std.specs.Prelude.{All, count_by}
 use Rattle.std.specs.List.{AllZip}
 use Rattle.std.specs.Map.{values_of}
+use Rattle.std.proofs.Common.{◌≡◌, ℕ, ◌+◌, ◌*◌, ◌^◌, ◌≤◌, ◌<◌, Bool, true, false, cond, not, get_or, Some, List, [], ◌∷◌, length, map, refl, ap, sym, subst, arith}
 use Rattle.std.proofs.Math.Nat.{mul-le-mul_right}
 use Rattle.std.proofs.lemmas.List.{length-append, length-take}
 use Rattle.std.proofs.lemmas.List.Sums.{sum_by-le, sum_by-cons}
@@ -11,6 +11,9 @@ use Rattle.rb_xdr.specs.Kept.{Kept}
 use Rattle.rb_rpc.specs.Records.{data_of}
 use Rattle.rb_rpc.specs.CallBytes.{call_bytes}
 use Rattle.rb_feed.specs.Feeds.{arguments_of}
+use Rattle.rb_uaddr.specs.declared.address.Uaddr.TheVariants.{V4}
+use Rattle.rb_uaddr.specs.Uaddr.{any_host, text_of}
+use Rattle.rb_uaddr.proofs.ShortTexts.{own_short}
 use Rattle.rb_registry.specs.declared.row.Row.{Row}
 use Rattle.rb_registry.specs.declared.slot.Slot.{Slot as RowSlot}
 use Rattle.rb_registry.specs.Rows.{Change}
@@ -24,24 +27,20 @@ use Rattle.rb_forward.proofs.Heads.{length-head}
 use Rattle.rb_forward.proofs.Stands.{held_alike}
 use Rattle.rb_proto.specs.declared.listener.Listener.{Listener}
 use Rattle.rb_proto.specs.Callers.{own_rows}
-use Rattle.rb_connections.specs.declared.slot.Slot.{Slot}
-use Rattle.rb_connections.specs.declared.slot.Stage.{Stage}
-use Rattle.rb_connections.specs.declared.slot.Stage.TheVariants as stages
-use Rattle.rb_model.specs.Calls.{longest_reply}
+use Rattle.rb_model.specs.Calls.{longest_reply, longest_arguments, kept_of}
 use Rattle.rb_model.specs.Connections.{longest_fragment}
-use Rattle.rb_model.specs.Calls.{longest_arguments, kept_of}
-use Rattle.rb_connections.specs.StandsFor.{buffer_size, StandsForPhase, StandsForConnection, charge, held_in, IsWithin, Source}
-use Rattle.rb_core.specs.StandsFor.{Held, source_of}
 use Rattle.rb_model.specs.State.{Phase, Connection}
 use Rattle.rb_model.specs.State.Phase.{Idle, Reading, Owing, Awaiting, Lost}
 use Rattle.rb_model.specs.Bounds.{greatest_call}
-use Rattle.rb_core.specs.HeldBytes.{takes_bytes, HoldsArguments, unheld_share, HeldBytesAreBounded, NeverPasses}
 use Rattle.rb_laws.proofs.EntriesKept.{HasShortArgs, reached-kept}
 use Rattle.rb_laws.proofs.Ledgers.{IsShortChange, reached-short}
 use Rattle.rb_laws.proofs.Room.{reached-room}
-use Rattle.rb_uaddr.specs.declared.address.Uaddr.TheVariants.{V4}
-use Rattle.rb_uaddr.specs.Uaddr.{any_host, text_of}
-use Rattle.rb_uaddr.proofs.ShortTexts.{own_short}
+use Rattle.rb_connections.specs.declared.slot.Slot.{Slot}
+use Rattle.rb_connections.specs.declared.slot.Stage.{Stage}
+use Rattle.rb_connections.specs.declared.slot.Stage.TheVariants as stages
+use Rattle.rb_connections.specs.StandsFor.{buffer_size, StandsForPhase, StandsForConnection, charge, held_in, IsWithin, Source}
+use Rattle.rb_core.specs.StandsFor.{Held, source_of}
+use Rattle.rb_core.specs.HeldBytes.{takes_bytes, HoldsArguments, unheld_share, HeldBytesAreBounded, NeverPasses}
 
 -- ---- connections
 

@@ -1,31 +1,30 @@
 -- The first 8,816 bytes of its arguments decide what a call says.
-use Rattle.std.proofs.Common.{◌≡◌, ◌≤◌, ℕ, cond, List, take, Option, Some, None, Err, refl, ap, subst, arith}
 use Rattle.std.specs.Prelude.{option_map, option_and_then}
+use Rattle.std.proofs.Common.{◌≡◌, ◌≤◌, ℕ, cond, List, take, Option, Some, None, Err, refl, ap, subst, arith}
 use Rattle.rb_xdr.specs.Xdr.{Reading, read_number, read_opaque}
 use Rattle.rb_rpc.specs.declared.call.CallHead.{CallHead}
 use Rattle.rb_rpc.specs.Verdict.{verdict}
 use Rattle.rb_rpc.specs.declared.call.Verdict.{Verdict}
 use Rattle.rb_rpc.specs.declared.call.Verdict.TheVariants.{NoCall, RpcMismatch, AuthError, Call}
 use Rattle.rb_feed.specs.Feeds.{arguments_of}
+use Rattle.rb_forward.specs.Forwards.{longest_arguments as longest_args}
 use Rattle.rb_proto.specs.declared.procedure.Procedure.{Procedure}
 use Rattle.rb_proto.specs.declared.procedure.Procedure.TheVariants as procedures
 use Rattle.rb_proto.specs.declared.request.ArgumentFault.TheVariants.{ProcUnavail}
 use Rattle.rb_proto.specs.declared.request.Request.{Request}
 use Rattle.rb_proto.specs.declared.request.Request.TheVariants.{Mapping, Rpcb, Uaddr2taddr, Taddr2uaddr, Forward}
 use Rattle.rb_proto.specs.Remote.{read_remote}
-use Rattle.rb_forward.specs.Forwards.{longest_arguments as longest_args}
 use Rattle.rb_proto.specs.Types.{read_mapping, read_rpcb, read_netbuf}
 use Rattle.rb_proto.specs.Arguments.{procedure_at, is_known, value_of, front, arguments, request, or_garbage, read_request, HasArgs}
 use Rattle.rb_proto.specs.declared.answers.Answer.{Answer}
-use Rattle.rb_proto.proofs.Remotes.{answer_of_front}
-use Rattle.rb_laws.proofs.AskedArgs.{message_has}
 use Rattle.rb_proto.specs.declared.context.Context.{Context}
 use Rattle.rb_proto.specs.Ledger.{Ledger, called}
+use Rattle.rb_proto.proofs.Remotes.{answer_of_front}
 use Rattle.rb_model.specs.declared.message.Message.{Message}
 use Rattle.rb_model.specs.declared.message.Message.TheVariants as says
-use Rattle.rb_model.specs.Calls.{call_of, message_with, message_of, reply_with, outcome}
-use Rattle.rb_model.specs.Calls.{longest_arguments, kept_of}
+use Rattle.rb_model.specs.Calls.{call_of, message_with, message_of, reply_with, outcome, longest_arguments, kept_of}
 use Rattle.rb_model.specs.Grammar.{HasArgsIn}
+use Rattle.rb_laws.proofs.AskedArgs.{message_has}
 use Rattle.rb_core.specs.Messages.{KeptSaysTheRecord}
 use Rattle.rb_core.proofs.ReaderFronts.{LooksAt, give_looks, bind_looks, number_looks, opaque_looks}
 

@@ -3,9 +3,8 @@ use Rattle.std.proofs.Common.{ℕ, ◌+◌, ◌*◌, ◌^◌, ◌≤◌, ◌<◌
 use Rattle.std.proofs.Math.Nat.{mul-le-mul_left}
 use Rattle.rb_forward.specs.Forwards.{longest_arguments as args}
 use Rattle.rb_forward.specs.StandsFor.{longest_call}
-use Rattle.rb_model.specs.Calls.{longest_reply}
+use Rattle.rb_model.specs.Calls.{longest_reply, longest_arguments}
 use Rattle.rb_model.specs.Connections.{longest_fragment}
-use Rattle.rb_model.specs.Calls.{longest_arguments}
 use Rattle.rb_connections.specs.StandsFor.{buffer_size, most_charge}
 
 -- what a core holds, by its parts

@@ -1,6 +1,6 @@
 -- What a call of a procedure says.
-use Rattle.std.proofs.Common.{◌≡◌, ℕ, false, List, Option, Some, None, refl, ◌∙◌}
 use Rattle.std.specs.Prelude.{not, ◌==◌}
+use Rattle.std.proofs.Common.{◌≡◌, ℕ, false, List, Option, Some, None, refl, ◌∙◌}
 use Rattle.rb_rpc.specs.declared.call.CallHead.{CallHead}
 use Rattle.rb_rpc.specs.declared.call.Verdict.{Verdict}
 use Rattle.rb_rpc.specs.declared.reply.ReplyStatus.TheVariants as replies

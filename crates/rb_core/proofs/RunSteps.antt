@@ -3,7 +3,6 @@ use Rattle.std.proofs.Common.{◌≡◌, ◌+◌, ℕ, List, Option, Some, None,
 use Rattle.rb_xdr.specs.Meter.{Meter, PaysAtMost}
 use Rattle.rb_model.specs.declared.types.CoreFault.{CoreFault}
 use Rattle.rb_model.specs.State.{State}
-use Rattle.rb_connections.specs.Slots.{Acts}
 use Rattle.rb_model.specs.declared.types.Told.{Told}
 use Rattle.rb_model.specs.declared.types.Expired.{Expired}
 use Rattle.rb_model.specs.declared.types.Expired.TheVariants.{Ended}
@@ -11,6 +10,7 @@ use Rattle.rb_model.specs.declared.types.Expired.TheVariants as expiries
 use Rattle.rb_model.specs.Calls.{Outcome, Outcome as said}
 use Rattle.rb_model.specs.Step.{Output, output_or, show_outcome, show_told, show_end, show_expired}
 use Rattle.rb_model.specs.Step.Output.{Refused, Ignored, Nothing, ConnectionClosed, Replied, Forwarded, Silent}
+use Rattle.rb_connections.specs.Slots.{Acts}
 use Rattle.rb_core.specs.StandsFor.{Held, StandsFor}
 
 module _ {A : Type 0} (show : A → Output) (act : State → Result A CoreFault × State) (old new : Held) where

@@ -2,15 +2,15 @@
 use Rattle.std.proofs.Common.{◌≡◌, ◌<◌, ◌≤◌, ◌+◌, ℕ, zero, suc, List, [], ◌∷◌, ◌++◌, length, get_or, take, refl, sym, ap, subst, ◌∙◌, append_assoc, arith}
 use Rattle.std.proofs.Math.Seq.{take-length}
 use Rattle.std.proofs.lemmas.List.{take-map, map_more, length-append, length-map, length-take}
+use Rattle.rb_xdr.specs.Meter.{Meter, PaysAtMost}
 use Rattle.rb_model.specs.declared.events.Event as event
 use Rattle.rb_model.specs.declared.events.Output as output
-use Rattle.rb_xdr.specs.Meter.{Meter, PaysAtMost}
 use Rattle.rb_model.specs.Costs.{event_cost, run_cost}
 use Rattle.rb_model.specs.State.{State}
 use Rattle.rb_model.specs.Step.{Event, Output, step, run, after}
+use Rattle.rb_model.specs.Plain.{event_of, output_of, events_of, outputs_of}
 use Rattle.rb_laws.proofs.RunLaws.{run-append, after-append}
 use Rattle.rb_core.specs.StandsFor.{Held, StandsFor}
-use Rattle.rb_model.specs.Plain.{event_of, output_of, events_of, outputs_of}
 use Rattle.rb_core.specs.Runs.{answered_events, Happened}
 
 one_further : (events : List event.Event) (i : ℕ) (next : event.Event) → i < length events → next ≡ get_or events i next → take (i + 1) (events_of events) ≡ take i (events_of events) ++ event_of next ∷ []

@@ -2,6 +2,12 @@
 use Rattle.std.proofs.Common.{◌≡◌, List, ℕ, [], ◌++◌, length, Some, None, refl, sym, ap, ◌∙◌, arith, append-nil}
 use Rattle.std.proofs.lemmas.Bool.{cond-false, le-ltb}
 use Rattle.rb_rpc.specs.declared.call.CallHead.{CallHead}
+use Rattle.rb_rpc.specs.declared.peer.Caller.{Caller}
+use Rattle.rb_rpc.specs.declared.peer.Caller.TheVariants.{Tcp, Udp}
+use Rattle.rb_rpc.specs.declared.reply.ReplyStatus.TheVariants.{Success}
+use Rattle.rb_rpc.specs.Replies.{reply_head}
+use Rattle.rb_registry.specs.declared.row.Row.{Row}
+use Rattle.rb_registry.specs.Registry.{rows_of}
 use Rattle.rb_forward.specs.StandsFor.{Table}
 use Rattle.rb_proto.specs.declared.answers.Answer.{Answer}
 use Rattle.rb_proto.specs.declared.answers.Answer.TheVariants as answers
@@ -15,24 +21,18 @@ use Rattle.rb_proto.specs.declared.answers.Value.TheVariants as values
 use Rattle.rb_proto.specs.declared.procedure.VoidProcedure.TheVariants as voids
 use Rattle.rb_proto.specs.declared.request.Request.TheVariants as requests
 use Rattle.rb_proto.specs.Results.{Shown, result_bytes, shown_of}
-use Rattle.rb_rpc.specs.declared.peer.Caller.{Caller}
-use Rattle.rb_rpc.specs.declared.peer.Caller.TheVariants.{Tcp, Udp}
-use Rattle.rb_rpc.specs.declared.reply.ReplyStatus.TheVariants.{Success}
-use Rattle.rb_rpc.specs.Replies.{reply_head}
-use Rattle.rb_registry.specs.declared.row.Row.{Row}
-use Rattle.rb_registry.specs.Registry.{rows_of}
 use Rattle.rb_proto.specs.declared.answers.Listing.{Listing}
 use Rattle.rb_proto.specs.declared.answers.Results.{Results}
 use Rattle.rb_proto.specs.declared.answers.Results.TheVariants as results
 use Rattle.rb_proto.specs.ListParts.{list_reply}
-use Rattle.rb_connections.specs.declared.served.Served.TheVariants.{Listed}
-use Rattle.rb_core.specs.Eviction.{source_in}
-use Rattle.rb_connections.specs.Settling.{listing_outcome}
-use Rattle.rb_core.specs.Serving.{IsStreamedTo, streamed}
-use Rattle.rb_connections.proofs.ReplyHeads.{short_head}
 use Rattle.rb_model.specs.declared.message.Message.TheVariants as says
 use Rattle.rb_model.specs.Calls.{Outcome, answer_outcome, results_outcome, reply_with, outcome, fitting, success, longest_reply}
 use Rattle.rb_model.specs.Calls.Outcome.{Reply}
+use Rattle.rb_connections.specs.declared.served.Served.TheVariants.{Listed}
+use Rattle.rb_connections.specs.Settling.{listing_outcome}
+use Rattle.rb_connections.proofs.ReplyHeads.{short_head}
+use Rattle.rb_core.specs.Eviction.{source_in}
+use Rattle.rb_core.specs.Serving.{IsStreamedTo, streamed}
 use Rattle.rb_core.specs.Messages.{null_message}
 use Rattle.rb_core.specs.Awaits.{kind_of, StayUnlessForwarded as StaysUnless}
 

@@ -2,17 +2,17 @@
 use Rattle.std.proofs.Common.{◌≡◌, ◌≤◌, ℕ, ◌+◌, List, length, Option, Some, None, sym, ap, subst, ◌∙◌, arith}
 use Rattle.rb_xdr.specs.Meter.{Meter, PaysAtMost}
 use Rattle.rb_registry.specs.Registry.{slots_of}
-use Rattle.rb_connections.specs.declared.slot.Heard.{Heard}
-use Rattle.rb_connections.specs.declared.slot.Received.{Received}
 use Rattle.rb_model.specs.State.{State, Setting, Connection}
 use Rattle.rb_model.specs.Connections.{Taking, taking}
 use Rattle.rb_model.specs.Connections.Taking.{TakesNone, GoesOn, Ends}
 use Rattle.rb_model.specs.Costs.{Sizes, sizes_in, find_cost, take_cost, recount_cost, bytes_cost, count_taken, record_cost, answer_cost, gave_cost, close_cost, ended_cost, datagram_cost}
+use Rattle.rb_connections.specs.declared.slot.Heard.{Heard}
+use Rattle.rb_connections.specs.declared.slot.Received.{Received}
 use Rattle.rb_connections.specs.Slots.{received, arguments_after}
-use Rattle.rb_core.specs.StandsFor.{Held, StandsFor, source_of}
-use Rattle.rb_core.specs.CallCosts.{sizes_of}
 use Rattle.rb_connections.specs.Costs.{received_cost}
 use Rattle.rb_connections.proofs.Slots.{as_many}
+use Rattle.rb_core.specs.StandsFor.{Held, StandsFor, source_of}
+use Rattle.rb_core.specs.CallCosts.{sizes_of}
 
 -- so many steps more are allowed
 pub at_most : (a b : Meter) (less more : ℕ) → less ≤ more → PaysAtMost a b less → PaysAtMost a b more

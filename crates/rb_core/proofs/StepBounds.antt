@@ -1,16 +1,16 @@
 -- What an event costs is within the bound on its steps.
 use Rattle.std.proofs.Common.{◌≡◌, ◌≤◌, ◌<◌, ◌^◌, true, List, ap, arith}
-use Rattle.rb_core.specs.StandsFor.{Held, StandsFor}
+use Rattle.rb_xdr.specs.Meter.{Meter, PaysAtMost}
 use Rattle.rb_model.specs.State.{Setting, State, are_good}
 use Rattle.rb_model.specs.Step.{Event, after, IsReached}
 use Rattle.rb_model.specs.Bounds.{run_bound, bytes_bound}
-use Rattle.rb_core.specs.HeldBytes.{held}
 use Rattle.rb_model.specs.Costs.{run_cost}
-use Rattle.rb_xdr.specs.Meter.{Meter, PaysAtMost}
 use Rattle.rb_laws.proofs.EntriesKept.{after-setting}
+use Rattle.rb_laws.proofs.StepBounds.{reached-after, runs_are_bounded}
+use Rattle.rb_core.specs.StandsFor.{Held, StandsFor}
+use Rattle.rb_core.specs.HeldBytes.{held}
 use Rattle.rb_core.proofs.HeldBytes.{held_bytes_are_bounded}
 use Rattle.rb_core.proofs.Spending.{at_most}
-use Rattle.rb_laws.proofs.StepBounds.{reached-after, runs_are_bounded}
 
 pub paid_within : (s : State) (events : List Event) (a b : Meter) → IsReached s → are_good s.setting.limits ≡ true → PaysAtMost a b (run_cost s events) → PaysAtMost a b (run_bound s events)
 paid_within s events a b reached good pays = at_most a b (run_cost s events) (run_bound s events) (runs_are_bounded s reached good events) pays

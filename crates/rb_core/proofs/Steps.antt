@@ -1,48 +1,48 @@
 -- A core that stands for a state before a call stands for the state after it.
-use Rattle.std.proofs.Common.{◌≡◌, ◌≤◌, ℕ, Bool, true, false, cond, List, [], ◌∷◌, map, Option, Some, None, Result, Ok, Err, length, eqb, refl, sym, ap, subst, ◌∙◌, max, arith}
 use Rattle.std.specs.Prelude.{find, not, ◌||◌}
 use Rattle.std.specs.Option.{option_map_or}
+use Rattle.std.proofs.Common.{◌≡◌, ◌≤◌, ℕ, Bool, true, false, cond, List, [], ◌∷◌, map, Option, Some, None, Result, Ok, Err, length, eqb, refl, sym, ap, subst, ◌∙◌, max, arith}
 use Rattle.std.proofs.lemmas.Bool.{and_parts}
 use Rattle.rb_rpc.specs.declared.peer.Peer.{Peer}
 use Rattle.rb_rpc.specs.declared.peer.Caller.{Caller}
 use Rattle.rb_rpc.specs.declared.peer.Caller.TheVariants.{Tcp, Udp}
-use Rattle.rb_proto.specs.declared.context.Context.{Context}
-use Rattle.rb_proto.specs.declared.books.Books.{Books}
-use Rattle.rb_feed.specs.Feeds.{arguments_of}
 use Rattle.rb_rpc.specs.declared.call.Verdict.{Verdict}
+use Rattle.rb_rpc.specs.Verdict.{verdict}
+use Rattle.rb_feed.specs.Feeds.{arguments_of}
+use Rattle.rb_registry.specs.Registry.{Registry}
 use Rattle.rb_forward.specs.declared.types.Ended.{Ended}
 use Rattle.rb_forward.specs.Forwards.{Unsent as UnsentCall, unsent, can_be_sent}
+use Rattle.rb_proto.specs.declared.context.Context.{Context}
+use Rattle.rb_proto.specs.declared.books.Books.{Books}
 use Rattle.rb_proto.specs.Ledger.{Ledger, StandsForLedger}
 use Rattle.rb_proto.specs.Books.{ActsAs, Becomes, SameFrame}
 use Rattle.rb_proto.specs.Forwarding.{replied, fell_due, caller_dropped, call_sent}
 use Rattle.rb_model.specs.declared.message.Message.{Message}
-use Rattle.rb_connections.specs.declared.slot.Heard.{Heard}
-use Rattle.rb_connections.specs.declared.slot.Received.{Received}
 use Rattle.rb_model.specs.declared.types.CoreFault.{CoreFault}
 use Rattle.rb_model.specs.declared.types.CoreFault.TheVariants.{Gone}
-use Rattle.rb_rpc.specs.Verdict.{verdict}
-use Rattle.rb_model.specs.Calls.{Outcome, outcome, message_with, message_of, is_no_call, reply_in, longest_reply}
-use Rattle.rb_model.specs.Calls.{kept_of}
-use Rattle.rb_connections.specs.StandsFor.{Table, StandsForConnections, Source, source_for}
-use Rattle.rb_core.specs.StandsFor.{Held, StandsFor, source_of}
+use Rattle.rb_model.specs.Calls.{Outcome, outcome, message_with, message_of, is_no_call, reply_in, longest_reply, kept_of}
 use Rattle.rb_model.specs.State.{State, Phase, Connection, Connections, at_moment}
 use Rattle.rb_model.specs.State.Phase.{Idle, Reading, Owing, Awaiting, Lost}
 use Rattle.rb_model.specs.Connections.{Taking, taking, reading, settled, is_lost, is_live, live_connection, change_first, changed_at, on_live, opening_of, closing_of, giving}
 use Rattle.rb_model.specs.Connections.Taking.{TakesNone, GoesOn, Ends}
-use Rattle.rb_connections.specs.Slots.{Acts, Shows, StaysTable, received, fed_with, feeding, arguments_after, arguments_heard, arguments_on}
 use Rattle.rb_model.specs.Step.{context_in, with_ledger, with_reply, settled_in, serve_message, serve, answering, with_count, when_taken, bytes_to, bytes, datagram, gave, open_connection, close_connection, moved, dropped_with, unsent_call, sent_call}
 use Rattle.rb_model.specs.declared.types.Taken.{Taken}
-use Rattle.rb_core.specs.Core.{context_of, answering_heard}
-use Rattle.rb_core.specs.AtOnce.{at_once, at_once_in, owes}
-use Rattle.rb_core.specs.Eviction.{source_in}
-use Rattle.rb_core.specs.Serving.{ServesInRoom}
+use Rattle.rb_model.specs.Laws.{is_owing}
 use Rattle.rb_model.specs.Losses.{began_in, crowding, evicted, evicting, with_room}
-use Rattle.rb_registry.specs.Registry.{Registry}
-use Rattle.rb_laws.proofs.Crowds.{begins_changed, evicted_changed, crowding_alike}
 use Rattle.rb_model.specs.declared.types.Told.{Told}
 use Rattle.rb_model.specs.declared.types.Told.TheVariants.{TcpReady}
 use Rattle.rb_model.specs.declared.types.Expired.TheVariants as Expires
 use Rattle.rb_model.specs.Ending.{told_at, told_over_udp, tell, tell_end, at_fresh_moment, expired_as}
+use Rattle.rb_laws.proofs.Crowds.{begins_changed, evicted_changed, crowding_alike}
+use Rattle.rb_connections.specs.declared.slot.Heard.{Heard}
+use Rattle.rb_connections.specs.declared.slot.Received.{Received}
+use Rattle.rb_connections.specs.StandsFor.{Table, StandsForConnections, Source, source_for}
+use Rattle.rb_connections.specs.Slots.{Acts, Shows, StaysTable, received, fed_with, feeding, arguments_after, arguments_heard, arguments_on}
+use Rattle.rb_core.specs.StandsFor.{Held, StandsFor, source_of}
+use Rattle.rb_core.specs.Core.{context_of, answering_heard}
+use Rattle.rb_core.specs.AtOnce.{at_once, at_once_in}
+use Rattle.rb_core.specs.Eviction.{source_in}
+use Rattle.rb_core.specs.Serving.{ServesInRoom}
 use Rattle.rb_core.proofs.MessageFronts.{kept_says}
 
 -- the same of a registry by its other name
@@ -387,7 +387,7 @@ takes_no_list Awaiting piece n content e = refl
 takes_no_list Lost piece n content e = refl
 
 -- and owes no reply
-takes_owing_none : (phase : Phase) (piece : List ℕ) (n : ℕ) (content : List ℕ) → taking phase piece ≡ Ends n content → owes phase ≡ false
+takes_owing_none : (phase : Phase) (piece : List ℕ) (n : ℕ) (content : List ℕ) → taking phase piece ≡ Ends n content → is_owing phase ≡ false
 unfolding taking
 takes_owing_none Idle piece n content e = refl
 takes_owing_none (Reading fed) piece n content e = refl
@@ -505,7 +505,7 @@ module _ (old : Held) (now clock id : ℕ) (piece : List ℕ) (is : clock ≡ ma
   unfolding live_connection reading
   quiet_gives_none room count acts s h = let f = fed_by (quiet count) acts s h in by_taking f (taking f.connection.phase piece) refl
     where
-      owing_none : (phase : Phase) → 0 ≡ cond (owes phase || false) 0 (at_once_in room phase)
+      owing_none : (phase : Phase) → 0 ≡ cond (is_owing phase || false) 0 (at_once_in room phase)
       owing_none (Owing o) = refl
       owing_none Idle = refl
       owing_none (Reading fed) = refl
@@ -520,7 +520,7 @@ module _ (old : Held) (now clock id : ℕ) (piece : List ℕ) (is : clock ≡ ma
       by_taking f TakesNone t = rw (bytes_by s f.connection TakesNone f.there t) (rw f.there (rw f.there (owing_none f.connection.phase)))
       by_taking f (GoesOn fed) t =
           rw (bytes_by s f.connection (GoesOn fed) f.there t)
-          (rw f.there (rw (find_changed_live id (reading (max s.clock now) fed) (reading_is_live (max s.clock now) id fed) s.connections.all f.connection f.there) (either (owes f.connection.phase || false))))
+          (rw f.there (rw (find_changed_live id (reading (max s.clock now) fed) (reading_is_live (max s.clock now) id fed) s.connections.all f.connection f.there) (either (is_owing f.connection.phase || false))))
       by_taking f (Ends n content) t =
           let gives : quiet count ≡ heard n (record { peer = f.connection.peer; verdict = verdict content }) = rw t at f.gives in
           absurd (nobody (record { peer = f.connection.peer; verdict = verdict content }) (sym (ap (λ (r : Received). r.heard) gives)))
@@ -532,7 +532,7 @@ module _ (old : Held) (now clock id : ℕ) (piece : List ℕ) (is : clock ≡ ma
     pub moment : meanwhile.clock ≡ max s.clock now
     pub before : Connection
     pub there : live_connection id s.connections.all ≡ Some before
-    pub owes_none : owes before.phase ≡ false
+    pub owes_none : is_owing before.phase ≡ false
     pub goes : bytes s now id piece ≡ taken_of (with_count count (answering_heard id said arguments meanwhile))
 
   pub ended_by : (count : ℕ) (said : Heard) → Acts (StandsForConnections (source_of old)) (on_live id (feeding clock piece)) old.connections table (Ok (heard count said))

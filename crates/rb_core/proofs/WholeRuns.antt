@@ -1,25 +1,25 @@
 -- A run costs no more than its bytes, those that waited as it began, and its events allow.
-use Rattle.std.proofs.Common.{◌≡◌, ◌≤◌, ℕ, ◌-◌, List, [], ◌∷◌, length, refl, ap, arith, true}
 use Rattle.std.specs.Prelude.{min}
 use Rattle.std.specs.List.{AllZip, sum_by}
 use Rattle.std.specs.Map.{values_of}
+use Rattle.std.proofs.Common.{◌≡◌, ◌≤◌, ℕ, ◌-◌, List, [], ◌∷◌, length, refl, ap, arith, true}
 use Rattle.std.proofs.lemmas.List.Sums.{sum_by-cons}
 use Rattle.rb_xdr.specs.Kept.{Kept}
 use Rattle.rb_xdr.specs.Meter.{Meter, PaysAtMost}
+use Rattle.rb_model.specs.State.{State, Phase, Connection, are_good}
+use Rattle.rb_model.specs.State.Phase.{Idle, Reading, Owing, Awaiting, Lost}
+use Rattle.rb_model.specs.Step.{Event, run, IsReached}
+use Rattle.rb_model.specs.Costs.{run_cost}
+use Rattle.rb_model.specs.WholeRuns.{args_in, args_waiting, whole_bound}
+use Rattle.rb_laws.proofs.WholeRuns.{whole_runs_are_bounded}
 use Rattle.rb_connections.specs.declared.slot.Slot.{Slot}
 use Rattle.rb_connections.specs.declared.slot.Stage.{Stage}
 use Rattle.rb_connections.specs.declared.slot.Stage.TheVariants as stages
-use Rattle.rb_model.specs.State.{State, Phase, Connection, are_good}
-use Rattle.rb_model.specs.State.Phase.{Idle, Reading, Owing, Awaiting, Lost}
 use Rattle.rb_connections.specs.StandsFor.{Source, StandsForPhase, StandsForConnection}
 use Rattle.rb_core.specs.StandsFor.{Held, StandsFor, source_of}
-use Rattle.rb_model.specs.Step.{Event, run, IsReached}
-use Rattle.rb_model.specs.Costs.{run_cost}
 use Rattle.rb_core.specs.Events.{shown, greatest_count}
-use Rattle.rb_model.specs.WholeRuns.{args_in, args_waiting, whole_bound}
 use Rattle.rb_core.specs.Runs.{buffer_bytes}
 use Rattle.rb_core.proofs.Spending.{at_most}
-use Rattle.rb_laws.proofs.WholeRuns.{whole_runs_are_bounded}
 
 -- ---- what waits is in the buffers
 

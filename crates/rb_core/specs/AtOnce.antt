@@ -1,23 +1,24 @@
 -- Replies that are given in the call that takes the end of their record: two events in one.
-use Rattle.std.specs.Prelude.{◌≡◌, ◌<◌, ◌≤◌, ℕ, ◌+◌, ◌==◌, nat_lt, Bool, true, false, not, ◌&&◌, ◌||◌, if◌then◌else◌, List, [], length, take, Option, Some, None, is_none, Result, Ok, Err}
+use Rattle.std.specs.Prelude.{◌≡◌, ℕ, ◌==◌, nat_lt, Bool, not, ◌&&◌, ◌||◌, if◌then◌else◌, List, [], length, take, Option, Some, None, is_none, Result, Ok, Err}
 use Rattle.std.specs.Borrow.{Bor}
 use Rattle.rb_xdr.specs.Kept.{Kept}
-use Rattle.rb_rpc.specs.Records.{fragment_size, marked}
-use Rattle.rb_connections.specs.declared.served.Served.{Served}
-use Rattle.rb_connections.specs.declared.served.Served.TheVariants.{Told, Listed}
-use Rattle.rb_connections.specs.declared.slot.Heard.{Heard}
+use Rattle.rb_rpc.specs.Records.{marked}
 use Rattle.rb_model.specs.declared.types.CoreFault.{CoreFault}
-use Rattle.rb_core.specs.declared.types.Exchanged.{Exchanged}
-use Rattle.rb_connections.specs.declared.served.Outcome.TheVariants as outcomes
 use Rattle.rb_model.specs.declared.types.Taken.{Taken}
 use Rattle.rb_model.specs.State.{Owed, Phase, Connection, State}
 use Rattle.rb_model.specs.State.Phase.{Idle, Reading, Owing, Awaiting, Lost}
 use Rattle.rb_model.specs.Connections.{longest_fragment, when_given, live_connection, on_connection}
+use Rattle.rb_model.specs.Laws.{is_owing}
 use Rattle.rb_model.specs.Step.{bytes, pending, gave}
-use Rattle.rb_core.specs.StandsFor.{Held, StandsFor}
+use Rattle.rb_connections.specs.declared.served.Served.{Served}
+use Rattle.rb_connections.specs.declared.served.Served.TheVariants.{Answered, Listed}
+use Rattle.rb_connections.specs.declared.slot.Heard.{Heard}
+use Rattle.rb_connections.specs.declared.served.Outcome.TheVariants as outcomes
 use Rattle.rb_connections.specs.Slots.{Acts, Shows}
-use Rattle.rb_core.specs.Core.{arguments_in, answering_heard, without_arguments}
 use Rattle.rb_connections.specs.Giving.{IsGivenWhole, whole_length}
+use Rattle.rb_core.specs.declared.types.Exchanged.{Exchanged}
+use Rattle.rb_core.specs.StandsFor.{Held, StandsFor}
+use Rattle.rb_core.specs.Core.{arguments_in, answering_heard, without_arguments}
 
 -- ---- two events
 
@@ -53,18 +54,11 @@ abbrev pub at_once_on : ℕ → Option Connection → ℕ
 at_once_on room None = 0
 at_once_on room (Some c) = at_once_in room c.phase
 
-abbrev pub owes : Phase → Bool
-owes (Owing o) = true
-owes Idle = false
-owes (Reading fed) = false
-owes Awaiting = false
-owes Lost = false
-
 -- It owes none that was not given at once, and is not Lost.
 abbrev pub at_once_of : ℕ → ℕ → Connection → Result Taken CoreFault × State → ℕ
 at_once_of room id before (Err fault, s) = 0
 at_once_of room id before (Ok taken, s) =
-    if owes before.phase || taken.closed then 0 else at_once_on room (live_connection id s.connections.all)
+    if is_owing before.phase || taken.closed then 0 else at_once_on room (live_connection id s.connections.all)
 
 -- how many bytes are given at once where bytes came on the connection
 abbrev pub at_once : ℕ → ℕ → Option Connection → Result Taken CoreFault × State → ℕ
@@ -126,13 +120,13 @@ GivesAtOnce room id heard arguments old n =
 
 -- with how many what a message is answered with is given at once, where this is written
 abbrev pub count_at_once : ℕ → Served → List ℕ → ℕ
-count_at_once room (Told outcomes.Reply) reply = whole_length room (length reply)
-count_at_once room (Told outcomes.NoCall) reply = 0
-count_at_once room (Told outcomes.Forwarded) reply = 0
-count_at_once room (Told outcomes.Silent) reply = 0
+count_at_once room (Answered outcomes.Reply) reply = whole_length room (length reply)
+count_at_once room (Answered outcomes.NoCall) reply = 0
+count_at_once room (Answered outcomes.Forwarded) reply = 0
+count_at_once room (Answered outcomes.Silent) reply = 0
 count_at_once room (Listed xid listing) reply = 0
 
 -- What a message is answered with is a reply, and is given whole so.
 pub record IsGivenAtOnce (served : Served) (before after : Kept) (given : List ℕ) : Type 0 where
-  pub is_reply : served ≡ Told outcomes.Reply
+  pub is_reply : served ≡ Answered outcomes.Reply
   pub whole : IsGivenWhole before after given

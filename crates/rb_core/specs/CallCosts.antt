@@ -1,30 +1,22 @@
 -- What calls cost at most, by what is held.
-use Rattle.std.specs.Prelude.{ℕ, ◌+◌, List, length, Option, Some, None, Result, Ok, Err}
+use Rattle.std.specs.Prelude.{ℕ, ◌+◌, List, length, Option, Result}
 use Rattle.std.specs.Borrow.{Bor}
 use Rattle.rb_xdr.specs.Kept.{Kept}
 use Rattle.rb_xdr.specs.Meter.{Meter, PaysAtMost}
 use Rattle.rb_forward.specs.Costs.{unsent_cost}
 use Rattle.rb_proto.specs.declared.books.Books.{Books}
-use Rattle.rb_connections.specs.declared.giving.Rest.{Rest}
-use Rattle.rb_connections.specs.declared.giving.Rest.TheVariants as rests
-use Rattle.rb_connections.specs.declared.served.Served.{Served}
-use Rattle.rb_connections.specs.declared.served.Served.TheVariants.{Told, Listed}
-use Rattle.rb_connections.specs.declared.slot.Heard.{Heard}
-use Rattle.rb_connections.specs.declared.slot.Received.{Received}
 use Rattle.rb_model.specs.declared.types.CoreFault.{CoreFault}
-use Rattle.rb_model.specs.Costs.{Sizes, results_cost, serve_cost, message_cost, answer_cost, datagram_cost, bytes_cost, show_cost, listed_cost, recount_cost, find_cost, take_cost, exchange_cost}
+use Rattle.rb_model.specs.Costs.{Sizes, results_cost, serve_cost, message_cost, answer_cost, datagram_cost, bytes_cost}
 use Rattle.rb_model.specs.Connections.{live_connection}
 use Rattle.rb_model.specs.State.{State}
-use Rattle.rb_core.specs.StandsFor.{Held, StandsFor}
 use Rattle.rb_connections.specs.StandsFor.{Table}
+use Rattle.rb_connections.specs.Giving.{whole_cost}
+use Rattle.rb_connections.specs.Costs.{look_cost, row_count, slot_count, taken_cost}
+use Rattle.rb_core.specs.StandsFor.{Held, StandsFor}
 use Rattle.rb_core.specs.declared.calls.Piece.{Piece}
 use Rattle.rb_core.specs.declared.types.Exchanged.{Exchanged}
 use Rattle.rb_core.specs.Core.{arguments_in, received_in}
 use Rattle.rb_core.specs.AtOnce.{count_given}
-use Rattle.rb_connections.specs.Giving.{whole_cost}
-use Rattle.rb_connections.specs.Costs.{look_cost, row_count, slot_count, taken_cost}
-
--- ---- on one connection
 
 -- ---- by what is kept
 

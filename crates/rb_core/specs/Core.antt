@@ -8,26 +8,24 @@ use Rattle.rb_forward.specs.declared.types.Ended.{Ended}
 use Rattle.rb_proto.specs.declared.books.Books.{Books}
 use Rattle.rb_proto.specs.declared.context.Context.{Context}
 use Rattle.rb_proto.specs.Books.{AreTied}
-use Rattle.rb_connections.specs.declared.served.Outcome as outcome
-use Rattle.rb_connections.specs.declared.served.Outcome.TheVariants as outcomes
-use Rattle.rb_core.specs.declared.calls.Piece.{Piece}
-use Rattle.rb_connections.specs.declared.slot.Heard.{Heard}
-use Rattle.rb_connections.specs.declared.slot.Received.{Received}
 use Rattle.rb_model.specs.declared.types.CoreFault.{CoreFault}
 use Rattle.rb_model.specs.State.{Setting, State}
-use Rattle.rb_model.specs.Calls.{message_with, Outcome, Outcome as said, longest_reply}
-use Rattle.rb_core.specs.StandsFor.{Held, StandsFor}
-use Rattle.rb_connections.specs.StandsFor.{Table}
+use Rattle.rb_model.specs.Calls.{message_with, Outcome, longest_reply}
 use Rattle.rb_model.specs.Connections.{on_live}
-use Rattle.rb_connections.specs.Slots.{Acts, TableActs, TableShows, feeding, arguments_on, IsDraft}
-use Rattle.rb_core.specs.Awaits.{AreAwaited}
-use Rattle.rb_connections.specs.Listings.{CanListOn}
-use Rattle.rb_core.specs.Eviction.{source_in}
 use Rattle.rb_model.specs.declared.types.Told.{Told}
 use Rattle.rb_model.specs.Ending.{told_at, tell}
 use Rattle.rb_model.specs.Step.{serve_message, settled_in}
-use Rattle.rb_connections.specs.Slots.{received}
+use Rattle.rb_connections.specs.declared.served.Outcome as outcome
+use Rattle.rb_connections.specs.declared.slot.Heard.{Heard}
+use Rattle.rb_connections.specs.declared.slot.Received.{Received}
+use Rattle.rb_connections.specs.StandsFor.{Table}
+use Rattle.rb_connections.specs.Slots.{Acts, TableActs, TableShows, feeding, arguments_on, IsDraft, received}
+use Rattle.rb_connections.specs.Listings.{CanListOn}
 use Rattle.rb_connections.specs.Settling.{outcome_with}
+use Rattle.rb_core.specs.declared.calls.Piece.{Piece}
+use Rattle.rb_core.specs.StandsFor.{Held, StandsFor}
+use Rattle.rb_core.specs.Awaits.{AreAwaited}
+use Rattle.rb_core.specs.Eviction.{source_in}
 
 -- What is true of all that a core holds: it has one meter, its draft is empty between two events, each connection for which
 -- a call is forwarded awaits it, the registry can tell the lists that are given, and the reply has so many bytes.

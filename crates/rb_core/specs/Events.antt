@@ -9,16 +9,16 @@ use Rattle.rb_model.specs.declared.types.CoreFault.{CoreFault}
 use Rattle.rb_model.specs.declared.types.Taken.{Taken}
 use Rattle.rb_model.specs.State.{State}
 use Rattle.rb_model.specs.Step.{Event, Output, step, IsReached}
-use Rattle.rb_core.specs.StandsFor.{Held, StandsFor}
 use Rattle.rb_model.specs.Plain.{output_of}
 use Rattle.rb_model.specs.Costs.{event_cost}
-use Rattle.rb_core.specs.contracts.engine.Core.{the_row}
 use Rattle.rb_model.specs.Bounds.{steps_bound}
 use Rattle.rb_model.specs.Laws.{NoRecordEnds}
-use Rattle.rb_core.specs.declared.types.Exchanged.{Exchanged}
-use Rattle.rb_core.specs.AtOnce.{taken_in, count_given}
 use Rattle.rb_model.specs.WholeRuns.{whole_bound}
 use Rattle.rb_model.specs.declared.types.Limits.{Limits}
+use Rattle.rb_core.specs.StandsFor.{Held, StandsFor}
+use Rattle.rb_core.specs.contracts.engine.Core.{the_row}
+use Rattle.rb_core.specs.declared.types.Exchanged.{Exchanged}
+use Rattle.rb_core.specs.AtOnce.{taken_in, count_given}
 
 -- ---- what it does
 

@@ -6,9 +6,9 @@ use Rattle.rb_proto.specs.Books.{HasRowRoom}
 use Rattle.rb_proto.specs.Ledger.{Ledger, StandsForLedger}
 use Rattle.rb_model.specs.declared.message.Message.{Message}
 use Rattle.rb_model.specs.declared.message.Message.TheVariants as says
-use Rattle.rb_connections.specs.StandsFor.{Source, source_for, Table, StandsForConnections}
 use Rattle.rb_model.specs.Losses.{crowding, evicting}
 use Rattle.rb_model.specs.State.{Connections}
+use Rattle.rb_connections.specs.StandsFor.{Source, source_for, Table, StandsForConnections}
 
 -- where the message is a SET that is accepted, its row has a place beside the live and the retained rows
 abbrev pub HasRoom : Context → Message → Books → Type 0

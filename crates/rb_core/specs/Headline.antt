@@ -13,9 +13,9 @@ use Rattle.rb_model.specs.Step.Event.{Datagram}
 use Rattle.rb_model.specs.ForwardLaws.{UdpCallersAreTold}
 use Rattle.rb_model.specs.Sessions.{session, IsWholeSession}
 use Rattle.rb_model.specs.Costs.{event_cost}
+use Rattle.rb_model.specs.Bounds.{bytes_bound, bytes_in, bytes_out, steps_bound}
 use Rattle.rb_core.specs.StandsFor.{Held, StandsFor}
 use Rattle.rb_core.specs.HeldBytes.{held}
-use Rattle.rb_model.specs.Bounds.{bytes_bound, bytes_in, bytes_out, steps_bound}
 
 -- what the sender of a datagram gets
 abbrev pub shown_as : Outcome → Output

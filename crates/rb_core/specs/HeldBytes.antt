@@ -1,19 +1,19 @@
 -- The bytes that a core holds, and that they never pass their bound.
 use Rattle.std.specs.Prelude.{ℕ, ◌+◌, ◌*◌, length, ◌≡◌, ◌<◌, ◌≤◌, ◌^◌, Bool, true, count_by, is_some}
 use Rattle.std.specs.Map.{values_of}
+use Rattle.std.specs.List.{AllZip}
 use Rattle.rb_registry.specs.Registry.{slots_of as rows_of}
 use Rattle.rb_registry.specs.Slots.{held_in as held_of_rows}
 use Rattle.rb_stats.specs.Stats.{key_count}
 use Rattle.rb_forward.specs.StandsFor.{slots_of as calls_of, held_in as held_of_calls}
-use Rattle.rb_connections.specs.StandsFor.{held_in as held_of_connections, charge}
-use Rattle.rb_core.specs.StandsFor.{Held, StandsFor}
-use Rattle.std.specs.List.{AllZip}
-use Rattle.rb_connections.specs.declared.slot.Slot.{Slot}
 use Rattle.rb_model.specs.State.{Connection, State}
 use Rattle.rb_model.specs.Connections.{fed_in}
 use Rattle.rb_model.specs.Calls.{longest_arguments}
 use Rattle.rb_model.specs.Bounds.{bytes_bound}
 use Rattle.rb_model.specs.Step.{IsReached}
+use Rattle.rb_connections.specs.StandsFor.{held_in as held_of_connections, charge}
+use Rattle.rb_connections.specs.declared.slot.Slot.{Slot}
+use Rattle.rb_core.specs.StandsFor.{Held, StandsFor}
 
 -- ---- held bytes
 

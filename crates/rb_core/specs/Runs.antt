@@ -1,19 +1,19 @@
 -- What a list of events does to a core, what it costs, and how many bytes are held after it.
 use Rattle.std.specs.Prelude.{◌≡◌, ◌<◌, ◌≤◌, ◌-◌, ◌^◌, true, List, ◌++◌, length, take, ℕ}
+use Rattle.std.specs.List.{sum_by}
+use Rattle.std.specs.Map.{values_of}
 use Rattle.rb_xdr.specs.Meter.{Meter, PaysAtMost}
 use Rattle.rb_model.specs.declared.events.Event as event
 use Rattle.rb_model.specs.declared.events.Output as output
 use Rattle.rb_model.specs.Step.{Event, Output, run, after, IsReached}
 use Rattle.rb_model.specs.State.{State, are_good}
-use Rattle.rb_core.specs.StandsFor.{Held, StandsFor}
 use Rattle.rb_model.specs.Costs.{run_cost}
-use Rattle.rb_core.specs.HeldBytes.{held}
 use Rattle.rb_model.specs.Bounds.{bytes_bound, run_bound}
 use Rattle.rb_model.specs.Plain.{events_of}
-use Rattle.std.specs.List.{sum_by}
-use Rattle.std.specs.Map.{values_of}
-use Rattle.rb_connections.specs.declared.slot.Slot.{Slot}
 use Rattle.rb_model.specs.WholeRuns.{whole_bound}
+use Rattle.rb_connections.specs.declared.slot.Slot.{Slot}
+use Rattle.rb_core.specs.StandsFor.{Held, StandsFor}
+use Rattle.rb_core.specs.HeldBytes.{held}
 
 -- ---- a run
 

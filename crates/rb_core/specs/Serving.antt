@@ -1,9 +1,12 @@
 -- What the code answers a message with: a reply that is written, or a list that is streamed.
 use Rattle.std.specs.Prelude.{◌≡◌, ◌≤◌, ⊤, ℕ, List, [], length, Option, Some, None}
+use Rattle.rb_xdr.specs.Kept.{Kept}
 use Rattle.rb_rpc.specs.declared.call.CallHead.{CallHead}
 use Rattle.rb_rpc.specs.declared.call.Verdict.{Verdict}
 use Rattle.rb_rpc.specs.declared.peer.Caller.{Caller}
 use Rattle.rb_rpc.specs.declared.peer.Caller.TheVariants.{Tcp, Udp}
+use Rattle.rb_forward.specs.StandsFor.{slots_of}
+use Rattle.rb_forward.specs.Table.{IsNew}
 use Rattle.rb_proto.specs.declared.answers.Listing.{Listing}
 use Rattle.rb_proto.specs.declared.answers.Results.{Results}
 use Rattle.rb_proto.specs.declared.answers.Results.TheVariants as results
@@ -11,30 +14,19 @@ use Rattle.rb_proto.specs.declared.answers.Answer.{Answer}
 use Rattle.rb_proto.specs.declared.books.Books.{Books}
 use Rattle.rb_proto.specs.declared.context.Context.{Context}
 use Rattle.rb_proto.specs.Ledger.{Ledger, StandsForLedger}
-use Rattle.rb_forward.specs.StandsFor.{slots_of}
-use Rattle.rb_forward.specs.Table.{IsNew}
 use Rattle.rb_proto.specs.Books.{ActsAs, AreTied, OnlyCallerWaits, SameFrame}
 use Rattle.rb_proto.specs.Results.{shown_of, result_bytes}
-use Rattle.rb_xdr.specs.Kept.{Kept}
-use Rattle.rb_connections.specs.declared.served.Served.{Served}
-use Rattle.rb_connections.specs.declared.served.Served.TheVariants.{Told, Listed}
-use Rattle.rb_connections.specs.StandsFor.{Table, StandsForConnections}
 use Rattle.rb_model.specs.State.{Connections}
 use Rattle.rb_model.specs.Losses.{crowding, evicting}
-use Rattle.rb_model.specs.Calls.{Outcome, Outcome as said, is_no_call, answer_outcome, outcome, message_with, longest_reply}
-use Rattle.rb_connections.specs.Settling.{outcome_with}
-use Rattle.rb_connections.specs.Slots.{SlotBecomesFrom, BecomesFrom}
-use Rattle.rb_connections.specs.declared.giving.Giving.{Giving}
-use Rattle.rb_connections.specs.declared.giving.Rest.{Rest}
-use Rattle.rb_connections.specs.declared.slot.Stage.TheVariants as stages
-use Rattle.rb_connections.specs.Giving.{ShowsNext}
+use Rattle.rb_model.specs.Calls.{Outcome, answer_outcome, outcome, message_with, longest_reply}
 use Rattle.rb_model.specs.declared.message.Message.{Message}
-use Rattle.rb_connections.specs.declared.slot.Slot.{Slot}
-use Rattle.rb_model.specs.Connections.{settled, changed_at}
+use Rattle.rb_connections.specs.declared.served.Served.{Served}
+use Rattle.rb_connections.specs.declared.served.Served.TheVariants.{Answered, Listed}
+use Rattle.rb_connections.specs.StandsFor.{Table, StandsForConnections}
+use Rattle.rb_connections.specs.Settling.{IsWritten, kind_in, served_in}
 use Rattle.rb_core.specs.Messages.{null_message}
 use Rattle.rb_core.specs.Eviction.{source_in}
 use Rattle.rb_core.specs.Awaits.{StayUnlessForwarded}
-use Rattle.rb_connections.specs.Settling.{IsWritten, kind_in, served_in}
 
 -- From each ledger that the books stand for, an answer is told so.
 abbrev pub TellsAnswer : Books → Context → ℕ → Answer → Served → List ℕ → Type 0
@@ -70,7 +62,7 @@ ServesNull head old new served out =
     (context : Context) (arguments : List ℕ) → ServesMessage context (null_message head) arguments old new served out
 
 abbrev pub IsNoListIn : Served → Type 0
-IsNoListIn (Told given) = ⊤
+IsNoListIn (Answered given) = ⊤
 IsNoListIn (Listed xid listing) = ⊥
 
 -- a list is streamed on a connection alone

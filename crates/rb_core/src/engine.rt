@@ -271,7 +271,7 @@ impl Core {
         );
         self.reply_len = self.reply.len(meter) as u64;
         match served {
-            Served::Told(outcome) => outcome,
+            Served::Answered(outcome) => outcome,
             Served::Listed(_, _) => unreachable!(),
         }
     }
@@ -675,7 +675,7 @@ impl Core {
                 let outcome = put_end(ended, message, &mut self.draft, meter);
                 self.connections.settle(
                     id,
-                    Served::Told(outcome),
+                    Served::Answered(outcome),
                     self.clock,
                     self.listener.host,
                     &self.books.registry,

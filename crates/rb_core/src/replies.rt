@@ -11,7 +11,7 @@ ghost use Rattle.rb_forward.specs.Outcomes.{PassesWithin};
 ghost use Rattle.rb_forward.specs.StandsFor.{slots_of};
 ghost use Rattle.rb_forward.specs.Table.{IsNew};
 ghost use Rattle.rb_proto.specs.Forwarding.{forwarded_bytes};
-ghost use Rattle.rb_connections.specs.declared.served.Served.TheVariants.{Told};
+ghost use Rattle.rb_connections.specs.declared.served.Served.TheVariants.{Answered};
 ghost use Rattle.rb_connections.specs.declared.served.Outcome.TheVariants.{Reply};
 ghost use Rattle.rb_model.specs.Calls.{reply_in, success, longest_reply};
 ghost use Rattle.rb_model.specs.Ending.{told_failed, told_at};
@@ -139,15 +139,15 @@ fn put_answer(
                 return Served::Listed(xid, listing);
             }
             put_reply_with(results, xid, books, &context.listener, out, meter);
-            Served::Told(Outcome::Reply)
+            Served::Answered(Outcome::Reply)
         }
         Answer::Refused(status) => {
             let status = *status;
             put_head(out, ReplyHead { xid, status }, meter);
-            Served::Told(Outcome::Reply)
+            Served::Answered(Outcome::Reply)
         }
-        Answer::Forwarded => Served::Told(Outcome::Forwarded),
-        Answer::Silent => Served::Told(Outcome::Silent),
+        Answer::Forwarded => Served::Answered(Outcome::Forwarded),
+        Answer::Silent => Served::Answered(Outcome::Silent),
     }
 }
 
@@ -174,16 +174,16 @@ pub fn serve(
     ensures cost { PaysToServe books.old books.new arguments.now out.new meter.old meter.new }
 {
     match message {
-        Message::NoCall => Served::Told(Outcome::NoCall),
+        Message::NoCall => Served::Answered(Outcome::NoCall),
         Message::Refused(head) => {
             put_head(out, *head, meter);
-            Served::Told(Outcome::Reply)
+            Served::Answered(Outcome::Reply)
         }
         Message::Garbage(head) => {
             let (xid, status) = (head.xid, ReplyStatus::GarbageArgs);
             books.note_call(head);
             put_head(out, ReplyHead { xid, status }, meter);
-            Served::Told(Outcome::Reply)
+            Served::Answered(Outcome::Reply)
         }
         Message::Asked(call) => {
             let xid = call.head.xid;
@@ -199,7 +199,7 @@ pub fn serve(
 pub fn serve_null(books: &mut Books, head: &CallHead, out: &mut Kept, meter: &mut Meter) -> Served
     requires out { IsEmptyReply meter.old.tie out.old }
     ensures acts { ServesNull head.now books.old books.new result out.new }
-    ensures replies { result ≡ Told Reply }
+    ensures replies { result ≡ Answered Reply }
     ensures registry { books.new.registry ≡ books.old.registry }
     ensures forwards { books.new.forwards ≡ books.old.forwards }
     ensures frame { SameFrame books.old books.new }
@@ -210,7 +210,7 @@ pub fn serve_null(books: &mut Books, head: &CallHead, out: &mut Kept, meter: &mu
 {
     books.note_call(head);
     put_success(head.xid, out, meter);
-    Served::Told(Outcome::Reply)
+    Served::Answered(Outcome::Reply)
 }
 
 /// Writes the reply into `room` where it is one fragment and `room` has place for the longest: its buffer is empty then. Returns
@@ -226,8 +226,8 @@ pub fn give_at_once(served: Served, draft: &mut Kept, room: &mut [u8], meter: &m
     ensures cost { PaysAtMost meter.old meter.new (whole_cost (length room.old) result) }
 {
     match served {
-        Served::Told(Outcome::Reply) => give_whole(draft, room, meter),
-        Served::Told(_) | Served::Listed(_, _) => 0,
+        Served::Answered(Outcome::Reply) => give_whole(draft, room, meter),
+        Served::Answered(_) | Served::Listed(_, _) => 0,
     }
 }
 
@@ -253,7 +253,7 @@ fn put_failed(forward: &Forward, status: ReplyStatus, out: &mut Kept, meter: &mu
     requires out { IsEmptyReply meter.old.tie out.old }
     ensures told { given_in result out.new ≡ told_failed forward.now status }
     ensures held { out.new.bytes ≡ reply_in (given_in result out.new) }
-    ensures written { IsWritten (Told result) out.new.bytes }
+    ensures written { IsWritten (Answered result) out.new.bytes }
     ensures out { WritesReply out.old out.new }
     ensures cost { PaysAtMost meter.old meter.new (put_end_cost (length out.new.bytes)) }
 {
@@ -274,7 +274,7 @@ pub fn put_end(ended: &Ended, message: &[u8], out: &mut Kept, meter: &mut Meter)
     requires out { IsEmptyReply meter.old.tie out.old }
     ensures told { given_in result out.new ≡ told_at message.now ended.now }
     ensures held { out.new.bytes ≡ reply_in (given_in result out.new) }
-    ensures written { IsWritten (Told result) out.new.bytes }
+    ensures written { IsWritten (Answered result) out.new.bytes }
     ensures out { WritesReply out.old out.new }
     ensures cost { PaysAtMost meter.old meter.new (put_end_cost (length out.new.bytes)) }
 {

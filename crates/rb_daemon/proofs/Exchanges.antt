@@ -1,6 +1,6 @@
 -- Bytes that came on a connection, and the reply that was given at once: what is recorded of both, and where a run goes on.
-use Rattle.std.proofs.Common.{◌≡◌, ◌<◌, ◌≤◌, ℕ, zero, suc, Bool, true, false, cond, List, [], ◌∷◌, length, take, drop, eqb, Option, Some, None, Result, Ok, Err, arith, refl, sym, ap, subst, ◌∙◌, inl, inr, ◌⊎◌}
 use Rattle.std.specs.Prelude.{◌||◌}
+use Rattle.std.proofs.Common.{◌≡◌, ◌<◌, ◌≤◌, ℕ, zero, suc, Bool, true, false, cond, List, [], ◌∷◌, length, take, drop, eqb, Option, Some, None, Result, Ok, Err, arith, refl, sym, ap, subst, ◌∙◌, inl, inr, ◌⊎◌}
 use Rattle.std.proofs.lemmas.Bool.{cond-false, ne_eqb}
 use Rattle.std.proofs.lemmas.List.{length-take, length-drop, take_all}
 use Rattle.rb_model.specs.declared.types.CoreFault.{CoreFault}
@@ -11,11 +11,12 @@ use Rattle.rb_model.specs.Connections.{pending_of, pending_in, live_connection}
 use Rattle.rb_model.specs.Step.{Event, Output, step, after, bytes, pending, pending_on, gave, show_taken}
 use Rattle.rb_model.specs.Step.Event.{Bytes, Pending, Gave}
 use Rattle.rb_model.specs.Step.Output.{IsPending, Done}
-use Rattle.rb_core.specs.AtOnce.{pending_bytes, count_now, without_front, exchanging, fits_at_once, at_once_in, at_once_on, at_once, owes}
-use Rattle.rb_connections.specs.Slots.{Acts, Shows}
-use Rattle.rb_core.specs.StandsFor.{Held, StandsFor}
+use Rattle.rb_model.specs.Laws.{is_owing}
 use Rattle.rb_record.specs.Entries.{entry_text, run_entries}
 use Rattle.rb_record.specs.Tapes.{Tape, Records}
+use Rattle.rb_connections.specs.Slots.{Acts, Shows}
+use Rattle.rb_core.specs.AtOnce.{pending_bytes, count_now, without_front, exchanging, fits_at_once, at_once_in, at_once_on, at_once}
+use Rattle.rb_core.specs.StandsFor.{Held, StandsFor}
 use Rattle.rb_daemon.specs.Recording.{gift, exchange, given_or, gift_entries, exchange_entries}
 use Rattle.rb_daemon.specs.Served.{IsServed}
 use Rattle.rb_daemon.proofs.Reached.{output_state, output_given, look_state, look_output, gave_output, gift_state, served_on}
@@ -48,7 +49,7 @@ whole : (room id : ℕ) (before : Option Connection) (r : Result Taken CoreFault
 unfolding pending
 whole room id None r owed is some = absurd (omega (arith, some))
 whole room id (Some before) (Err fault, s) owed is some = absurd (omega (arith, some))
-whole room id (Some before) (Ok taken, s) owed is some = by_owed (owes before.phase || taken.closed) some
+whole room id (Some before) (Ok taken, s) owed is some = by_owed (is_owing before.phase || taken.closed) some
   where
     by_owed : (b : Bool) → 0 < cond b 0 (at_once_on room (live_connection id s.connections.all)) → length owed ≤ cond b 0 (at_once_on room (live_connection id s.connections.all))
     by_owed true some = absurd (omega (arith, some))

@@ -1,7 +1,7 @@
 -- Bytes that an outbox takes over stand behind those that it held.
 use Rattle.std.proofs.Common.{◌≡◌, ◌≤◌, ◌+◌, ◌-◌, ℕ, List, ◌++◌, length, take, drop, arith, sym, ap, ◌∙◌}
-use borrow.Rule.Slice.PartMut.{post_of}
 use Rattle.std.proofs.lemmas.List.{length-append, length-drop, length-take, length-take-le, take-take, take_at, drop_at, drop-append-le, take-append-le, take-append-drop, drop-take}
+use borrow.Rule.Slice.PartMut.{post_of}
 
 -- what stands in front of a place and behind it, where the bytes behind it are new
 front_and_new : (end n : ℕ) (front more : List ℕ) → length front ≡ end → take (end + n) (front ++ more) ≡ front ++ take n more

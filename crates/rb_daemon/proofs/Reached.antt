@@ -1,8 +1,7 @@
 -- A state that a run reaches goes on by each event, and so does its record.
-use Rattle.std.proofs.Common.{◌≡◌, ◌≤◌, ℕ, Bool, true, false, cond, List, [], ◌∷◌, ◌++◌, length, Option, Some, None, Result, Ok, Err, refl, sym, ap, subst, ◌∙◌, inl, inr, ◌⊎◌}
 use Rattle.std.specs.Prelude.{OnOk, OnErr}
+use Rattle.std.proofs.Common.{◌≡◌, ◌≤◌, ℕ, Bool, true, false, cond, List, [], ◌∷◌, ◌++◌, length, Option, Some, None, Result, Ok, Err, refl, sym, ap, subst, ◌∙◌, inl, inr, ◌⊎◌}
 use Rattle.std.proofs.Math.Logic.{∥∥₁_elim}
-use mathlib.Core.Bool.{true≢false}
 use Rattle.std.proofs.lemmas.Bool.{le-ltb}
 use Rattle.rb_rpc.specs.declared.peer.Peer.{Peer}
 use Rattle.rb_forward.specs.Forwards.{Unsent as UnsentCall}
@@ -25,13 +24,14 @@ use Rattle.rb_record.proofs.RunTexts.{run_entries-append, one_recorded}
 use Rattle.rb_record.proofs.Tapes.{records_more, new_record, record_goes_on, record_stays}
 use Rattle.rb_connections.specs.declared.served.Outcome as outcome
 use Rattle.rb_connections.specs.declared.served.Outcome.TheVariants as outcome_kinds
-use Rattle.rb_core.specs.Core.{ActsWithReply}
 use Rattle.rb_connections.specs.Settling.{outcome_with}
 use Rattle.rb_connections.specs.Slots.{Acts, Shows}
+use Rattle.rb_core.specs.Core.{ActsWithReply}
 use Rattle.rb_core.specs.StandsFor.{Held, StandsFor}
 use Rattle.rb_core.proofs.Begun.{began, stands_begun}
 use Rattle.rb_daemon.specs.Recording.{gift, sending_of, sending, given_or}
 use Rattle.rb_daemon.specs.Served.{IsServed}
+use mathlib.Core.Bool.{true≢false}
 
 pub output_state : {A : Type 0} (show : A → Output) (r : Result A CoreFault × State) → (output_or show r).1 ≡ r.1
 output_state show (Ok x, s) = refl

@@ -4,12 +4,12 @@ use Rattle.rb_proto.specs.declared.listener.Listener.{Listener}
 use Rattle.rb_model.specs.declared.types.Limits.{Limits}
 use Rattle.rb_model.specs.State.{State, opening}
 use Rattle.rb_model.specs.declared.types.CoreFault.{CoreFault}
-use Rattle.rb_core.specs.declared.types.Exchanged.{Exchanged}
 use Rattle.rb_model.specs.Step.{Event, pending}
 use Rattle.rb_record.specs.Entries.{run_entries}
 use Rattle.rb_record.specs.Tapes.{Records}
-use Rattle.rb_core.specs.AtOnce.{exchanging, taken_in, count_now}
 use Rattle.rb_connections.specs.Slots.{Acts, Shows}
+use Rattle.rb_core.specs.declared.types.Exchanged.{Exchanged}
+use Rattle.rb_core.specs.AtOnce.{exchanging, taken_in, count_now}
 use Rattle.rb_core.specs.StandsFor.{StandsFor}
 use Rattle.rb_daemon.specs.declared.engine.Engine.{Engine}
 use Rattle.rb_daemon.specs.declared.engine.Given.{Given}

@@ -8,11 +8,11 @@ use Rattle.rb_model.specs.declared.types.Told.{Told}
 use Rattle.rb_model.specs.Step.{Event, Output, unsent_call, show_taken, show_told, IsReached}
 use Rattle.rb_model.specs.Step.Event.{Bytes, Pending, Gave, Unsent, Sent}
 use Rattle.rb_model.specs.Step.Output.{Refused, Done, IsPending, UnsentIs}
-use Rattle.rb_core.specs.declared.types.Exchanged.{Exchanged}
-use Rattle.rb_core.specs.AtOnce.{taken_in}
 use Rattle.rb_record.specs.declared.happening.Happening.{Happening}
 use Rattle.rb_record.specs.Entries.{event_of, entry_text, run_entries, options_text}
 use Rattle.rb_record.specs.Tapes.{Tape, IsRecordOf}
+use Rattle.rb_core.specs.declared.types.Exchanged.{Exchanged}
+use Rattle.rb_core.specs.AtOnce.{taken_in}
 use Rattle.rb_daemon.specs.declared.engine.Given.{Given}
 use Rattle.rb_daemon.specs.declared.engine.Given.TheVariants as gives
 

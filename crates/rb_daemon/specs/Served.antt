@@ -1,10 +1,10 @@
 -- What holds of the daemon's core between two events, and what it gives to a writer.
 use Rattle.std.specs.Prelude.{◌≡◌, ◌≤◌, ⊤, ℕ, Bool, true, false, List, [], length, take, Option, Some, None, Result, Ok, Err}
 use Rattle.std.specs.Io.KnownBytes.{Appends, Keeps}
-use Rattle.rb_model.specs.declared.types.CoreFault.{CoreFault}
 use Rattle.rb_rpc.specs.declared.peer.Peer.{Peer}
-use Rattle.rb_model.specs.State.{State}
 use Rattle.rb_forward.specs.Forwards.{Unsent}
+use Rattle.rb_model.specs.declared.types.CoreFault.{CoreFault}
+use Rattle.rb_model.specs.State.{State}
 use Rattle.rb_model.specs.declared.types.Told.TheVariants.{TcpReady, Datagram, Silent}
 use Rattle.rb_model.specs.declared.types.Expired.TheVariants.{Nothing as NothingDue, Ended, ConnectionClosed}
 use Rattle.rb_model.specs.declared.types.Told.{Told}
@@ -13,8 +13,8 @@ use Rattle.rb_model.specs.Ending.{forward_reply, expire}
 use Rattle.rb_model.specs.Calls.{Outcome}
 use Rattle.rb_model.specs.Calls.Outcome.{NoCall, Reply, Forwarded, Silent as SilentCall}
 use Rattle.rb_model.specs.Step.{datagram, gave, unsent_call, sent_call, IsReached}
-use Rattle.rb_core.specs.StandsFor.{Held, StandsFor}
 use Rattle.rb_record.specs.Tapes.{Tape}
+use Rattle.rb_core.specs.StandsFor.{Held, StandsFor}
 use Rattle.rb_daemon.specs.declared.engine.Given.{Given}
 use Rattle.rb_daemon.specs.declared.engine.Given.TheVariants.{Nothing, Bytes, Failed, Over}
 use Rattle.rb_daemon.specs.declared.engine.Due.{Due}

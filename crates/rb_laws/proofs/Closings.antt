@@ -1,24 +1,29 @@
 -- A live connection becomes Lost by the end of a record that is no call or at its deadline, and is gone by its close.
-use Rattle.std.proofs.Common.{◌≡◌, ◌⊎◌, inl, inr, ◌<◌, ◌≤◌, ℕ, ◌+◌, max, Bool, true, false, cond, not, ◌&&◌, ◌||◌, eqb, Option, Some, None, Result, Ok, Err, List, [], ◌∷◌, ◌++◌, length, map, nat_lt, take, refl, sym, ap, subst, ◌∙◌, append-nil, arith}
-use Rattle.std.specs.Prelude.{find}
+use Rattle.std.specs.Prelude.{find, All, option_map}
 use Rattle.std.specs.List.{list_any, list_all}
+use Rattle.std.proofs.Common.{◌≡◌, ◌⊎◌, inl, inr, ◌<◌, ◌≤◌, ℕ, ◌+◌, max, Bool, true, false, cond, not, ◌&&◌, ◌||◌, eqb, Option, Some, None, Result, Ok, Err, List, [], ◌∷◌, ◌++◌, length, map, nat_lt, take, refl, sym, ap, subst, ◌∙◌, append-nil, arith}
 use Rattle.std.proofs.lemmas.Bool.{and_parts, eqb-true, eq-eqb, ne_eqb, lt-ltb, ltb-true, ltb-false}
+use Rattle.std.proofs.lemmas.List.Elements.{All-head, All-tail, All-nil, All-cons}
 use Rattle.rb_rpc.specs.Records.{first_record, data_of}
 use Rattle.rb_rpc.specs.declared.peer.Caller.{Caller}
 use Rattle.rb_rpc.specs.declared.peer.Caller.TheVariants.{Tcp, Udp}
 use Rattle.rb_rpc.specs.declared.peer.Peer.{Peer}
+use Rattle.rb_feed.specs.Feeds.{arguments_of}
+use Rattle.rb_forward.specs.declared.types.Outcome.TheVariants.{Failed}
+use Rattle.rb_forward.specs.Forwards.{Entry, Forwards, is_due as entry_is_due, ended_by, without_first}
+use Rattle.rb_forward.specs.Ends.{NoneIs, EndsFirst}
+use Rattle.rb_forward.proofs.Ends.{ends_first, due_means, due_tested}
 use Rattle.rb_proto.specs.declared.context.Context.{Context}
 use Rattle.rb_proto.specs.Ledger.{Ledger, rows_in, called}
-use Rattle.rb_model.specs.declared.message.Message.{Message}
-use Rattle.rb_model.specs.declared.message.Message.TheVariants as says
-use Rattle.rb_model.specs.declared.types.CoreFault.{CoreFault}
-use Rattle.rb_model.specs.declared.types.CoreFault.TheVariants.{Gone}
-use Rattle.rb_feed.specs.Feeds.{arguments_of}
 use Rattle.rb_proto.specs.declared.answers.Answer.{Answer}
 use Rattle.rb_proto.specs.declared.answers.Answer.TheVariants as answers
 use Rattle.rb_proto.specs.declared.answers.Results.{Results}
 use Rattle.rb_proto.specs.declared.answers.Results.TheVariants as results
 use Rattle.rb_proto.specs.Answers.{answer}
+use Rattle.rb_model.specs.declared.message.Message.{Message}
+use Rattle.rb_model.specs.declared.message.Message.TheVariants as says
+use Rattle.rb_model.specs.declared.types.CoreFault.{CoreFault}
+use Rattle.rb_model.specs.declared.types.CoreFault.TheVariants.{Gone}
 use Rattle.rb_model.specs.Calls.{Outcome, is_no_call, message_of, results_outcome, reply_with, outcome}
 use Rattle.rb_model.specs.Calls.Outcome.{NoCall, Reply, Forwarded, Silent}
 use Rattle.rb_model.specs.Sessions.{IsFinal}
@@ -33,18 +38,12 @@ use Rattle.rb_model.specs.DeadlineLaws.{NoEntryIsDue}
 use Rattle.rb_model.specs.declared.types.Expired.{Expired}
 use Rattle.rb_model.specs.Losses.{is_due, lost, began_in, retained_removals, asks_room, is_crowded, crowding, began_before, evicted, evicting}
 use Rattle.rb_model.specs.Ending.{at_fresh_moment, expire}
-use Rattle.rb_forward.specs.declared.types.Outcome.TheVariants.{Failed}
-use Rattle.rb_forward.specs.Forwards.{Entry, Forwards, is_due as entry_is_due, ended_by, without_first}
-use Rattle.rb_forward.specs.Ends.{NoneIs, EndsFirst}
-use Rattle.rb_forward.proofs.Ends.{ends_first, due_means, due_tested}
-use Rattle.std.specs.Prelude.{All, option_map}
-use Rattle.std.proofs.lemmas.List.Elements.{All-head, All-tail, All-nil, All-cons}
+use Rattle.rb_model.specs.Closings.{EndsNoCall, EndsAtDeadline, EndsRecord, Brings, EndsForRoom, ClosesExactly, ConnectionsCloseExactly}
 use Rattle.rb_model.proofs.Found.{none_any}
 use Rattle.rb_model.proofs.Expiring.{AreApart, due-one}
 use Rattle.rb_laws.proofs.LeastLost.{first-least}
 use Rattle.rb_laws.proofs.DueThings.{Expiry, expiry}
 use Rattle.rb_laws.proofs.DueThings.Expiry.{EntryEnds, ConnectionEnds, NothingDue}
-use Rattle.rb_model.specs.Closings.{EndsNoCall, EndsAtDeadline, EndsRecord, Brings, EndsForRoom, ClosesExactly, ConnectionsCloseExactly}
 use Rattle.rb_laws.proofs.Cuts.{IsFeeding, find-changed, find-holds, number-is, reading-feeds, fed-no-list}
 use Rattle.rb_laws.proofs.Crowding.{crowded, row_within}
 use Rattle.rb_laws.proofs.Crowds.{is_lost_one, live_or_lost, lost_stays, plain_lives}

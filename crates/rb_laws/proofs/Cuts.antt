@@ -1,6 +1,6 @@
 -- Bytes in two pieces.
-use Rattle.std.proofs.Common.{◌≡◌, ℕ, ◌+◌, ◌-◌, ◌<◌, max, Bool, true, false, cond, not, ◌&&◌, eqb, Option, Some, None, Result, Ok, Err, List, [], ◌∷◌, ◌++◌, length, map, take, refl, sym, ap, ◌∙◌, append_assoc, append-nil, arith}
 use Rattle.std.specs.Prelude.{find, IfSome}
+use Rattle.std.proofs.Common.{◌≡◌, ℕ, ◌+◌, ◌-◌, ◌<◌, max, Bool, true, false, cond, not, ◌&&◌, eqb, Option, Some, None, Result, Ok, Err, List, [], ◌∷◌, ◌++◌, length, map, take, refl, sym, ap, ◌∙◌, append_assoc, append-nil, arith}
 use Rattle.std.proofs.lemmas.List.{length-append}
 use Rattle.std.proofs.lemmas.Bool.{and_parts, eqb-true}
 use Rattle.rb_rpc.specs.declared.peer.Peer.{Peer}
@@ -16,8 +16,8 @@ use Rattle.rb_model.specs.Connections.{is_live, is_lost, live_connection, change
 use Rattle.rb_model.specs.Step.{serve, on_connection, answering, when_taken, bytes_to, bytes, context_in}
 use Rattle.rb_model.specs.declared.types.Taken.{Taken}
 use Rattle.rb_model.specs.Losses.{began_in, crowding, evicted}
-use Rattle.rb_laws.proofs.Crowds.{begins_changed, evicted_changed, crowding_alike}
 use Rattle.rb_model.specs.Laws.{SameInOnePiece, CutsDoNotMatter, one_after_another}
+use Rattle.rb_laws.proofs.Crowds.{begins_changed, evicted_changed, crowding_alike}
 
 -- ---- a connection that is fed further
 

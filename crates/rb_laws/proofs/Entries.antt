@@ -1,19 +1,20 @@
 -- While a connection is Awaiting, one entry is of it, and no other connection has one.
-use Rattle.std.proofs.Common.{◌≡◌, ◌⊎◌, inl, inr, ◌≤◌, ℕ, ◌+◌, max, min, Bool, true, false, cond, eqb, nat_lt, Option, Some, None, Result, Ok, Err, List, [], ◌∷◌, ◌++◌, length, take, refl, sym, ap, subst, ◌∙◌, arith}
 use Rattle.std.specs.Prelude.{find, map, option_map, ◌&&◌}
 use Rattle.std.specs.List.{list_any, sum_by}
+use Rattle.std.proofs.Common.{◌≡◌, ◌⊎◌, inl, inr, ◌≤◌, ℕ, ◌+◌, max, min, Bool, true, false, cond, eqb, nat_lt, Option, Some, None, Result, Ok, Err, List, [], ◌∷◌, ◌++◌, length, take, refl, sym, ap, subst, ◌∙◌, arith}
 use Rattle.std.proofs.lemmas.List.Sums.{sum_by-cons, sum_by_push}
 use Rattle.std.proofs.lemmas.Bool.{eqb-true, eq-eqb}
 use Rattle.rb_rpc.specs.declared.peer.Peer.{Peer}
 use Rattle.rb_rpc.specs.declared.peer.Caller.{Caller}
 use Rattle.rb_rpc.specs.declared.peer.Caller.TheVariants.{Tcp, Udp}
-use Rattle.rb_proto.specs.declared.listener.Listener.{Listener}
+use Rattle.rb_rpc.specs.Records.{data_of}
 use Rattle.rb_forward.specs.declared.types.Forward.{Forward as Asked}
 use Rattle.rb_forward.specs.declared.types.Outcome as target
 use Rattle.rb_forward.specs.declared.types.Ended.{Ended as EntryEnd}
 use Rattle.rb_forward.specs.Forwards.{Entry, Forwards, is_connection, is_of_connection, is_unsent, as_sent, change_first as change_entry, sent, can_be_sent, next_entry, started, without_first, ended_by, with_end, counts_for, is_due, outcome_of, reply, drop_caller}
 use Rattle.rb_forward.specs.declared.types.Outcome.TheVariants.{Failed}
 use Rattle.rb_forward.proofs.Tables.{all_stay, sum-without}
+use Rattle.rb_proto.specs.declared.listener.Listener.{Listener}
 use Rattle.rb_proto.specs.declared.context.Context.{Context}
 use Rattle.rb_proto.specs.Ledger.{Ledger}
 use Rattle.rb_proto.specs.Forwarding.{replied, caller_dropped, call_sent}
@@ -32,7 +33,6 @@ use Rattle.rb_model.specs.Step.{Event, Output, context_in, serve, bytes, moved, 
 use Rattle.rb_model.specs.declared.types.Taken.{Taken}
 use Rattle.rb_model.specs.Step.Event.{Open, Bytes, Pending, Gave, Closed, NextLost, Datagram, Unsent, Sent, Forward, Expire}
 use Rattle.rb_model.specs.Step.Output.{Opened, TooMuch, IsPending}
-use Rattle.rb_rpc.specs.Records.{data_of}
 use Rattle.rb_model.specs.Sessions.{IsFinal}
 use Rattle.rb_model.specs.ForwardLaws.{count_awaiting, ConnectionsAwait}
 use Rattle.rb_model.specs.declared.types.Expired.{Expired}

@@ -1,6 +1,6 @@
 -- What an event does to the entries of forwarded calls, and what holds of them in each state that a run reaches.
-use Rattle.std.proofs.Common.{◌≡◌, ℕ, suc, ◌+◌, ◌-◌, ◌≤◌, ◌<◌, max, Bool, true, false, cond, ◌&&◌, nat_lt, nat_le, Option, Some, None, Result, Ok, Err, List, [], ◌∷◌, ◌++◌, length, refl, sym, ap, subst, ◌∙◌, arith}
 use Rattle.std.specs.Prelude.{All, drop}
+use Rattle.std.proofs.Common.{◌≡◌, ℕ, suc, ◌+◌, ◌-◌, ◌≤◌, ◌<◌, max, Bool, true, false, cond, ◌&&◌, nat_lt, nat_le, Option, Some, None, Result, Ok, Err, List, [], ◌∷◌, ◌++◌, length, refl, sym, ap, subst, ◌∙◌, arith}
 use Rattle.std.proofs.lemmas.Bool.{ltb-true}
 use Rattle.std.proofs.lemmas.List.{length-take}
 use Rattle.std.proofs.lemmas.List.Elements.{All-nil, All-cons, All-head, All-tail, All-push}
@@ -8,13 +8,15 @@ use Rattle.rb_rpc.specs.declared.peer.Caller.{Caller}
 use Rattle.rb_rpc.specs.declared.peer.Caller.TheVariants.{Tcp, Udp}
 use Rattle.rb_rpc.specs.declared.call.CallHead.{CallHead}
 use Rattle.rb_rpc.specs.declared.peer.Peer.{Peer}
+use Rattle.rb_rpc.specs.Verdict.{verdict}
+use Rattle.rb_feed.specs.Feeds.{arguments_of}
 use Rattle.rb_registry.specs.declared.row.Row.{Row}
 use Rattle.rb_registry.specs.declared.row.Transport.{Transport}
 use Rattle.rb_registry.specs.declared.row.Which.{Which}
 use Rattle.rb_forward.specs.declared.types.Forward.{Forward}
 use Rattle.rb_forward.specs.declared.types.Kind.{Kind}
 use Rattle.rb_forward.specs.declared.types.Ended.{Ended}
-use Rattle.rb_forward.specs.Forwards.{Entry, Forwards, greatest_number, can_start, started, next_entry, sent, can_be_sent, without_first, change_first, as_sent, is_unsent, reply, due, drop_caller, counts_for, is_due, is_of_connection}
+use Rattle.rb_forward.specs.Forwards.{Entry, Forwards, greatest_number, can_start, started, next_entry, sent, can_be_sent, without_first, change_first, as_sent, is_unsent, reply, due, drop_caller, counts_for, is_due, is_of_connection, longest_arguments}
 use Rattle.rb_proto.specs.declared.context.Context.{Context}
 use Rattle.rb_proto.specs.declared.mapping.Mapping.{Mapping}
 use Rattle.rb_proto.specs.declared.remote.RemoteCall.{RemoteCall}
@@ -26,13 +28,9 @@ use Rattle.rb_proto.specs.Ledger.{Ledger, rows_in, called}
 use Rattle.rb_proto.specs.Netids.{transport_of_prot}
 use Rattle.rb_proto.specs.Remote.{args_of, HasContent}
 use Rattle.rb_proto.specs.Arguments.{HasArgs}
-use Rattle.rb_forward.specs.Forwards.{longest_arguments}
-use Rattle.rb_rpc.specs.Verdict.{verdict}
-use Rattle.rb_feed.specs.Feeds.{arguments_of}
-use Rattle.rb_model.specs.Grammar.{HasArgsIn}
-use Rattle.rb_laws.proofs.AskedArgs.{message_has}
 use Rattle.rb_proto.specs.Forwarding.{peer_to_forward, forward_of, forward_to, forward_call, replied, fell_due, caller_dropped, call_sent}
 use Rattle.rb_proto.specs.Answers.{set_row, unset_rows, port_on, getport, getaddr, getversaddr, answer_to, answer}
+use Rattle.rb_model.specs.Grammar.{HasArgsIn}
 use Rattle.rb_model.specs.declared.message.Message.{Message}
 use Rattle.rb_model.specs.declared.message.Message.TheVariants as says
 use Rattle.rb_model.specs.declared.types.CoreFault.{CoreFault}
@@ -48,6 +46,7 @@ use Rattle.rb_model.specs.Ending.{told_at, tell, tell_end, at_fresh_moment, forw
 use Rattle.rb_model.specs.Step.{Event, Output, context_in, serve, answering, moved, when_taken, bytes_to, bytes, pending, gave, is_too_much, open_connection, dropped_with, close_connection, with_reply, datagram, sent_call, output_or, show_taken, show_done, show_outcome, show_end, show_expired, step, after, IsReached}
 use Rattle.rb_model.specs.Step.Event.{Open, Bytes, Pending, Gave, Closed, NextLost, Datagram, Unsent, Sent, Forward as ForwardCame, Expire}
 use Rattle.rb_model.specs.Step.Output.{Opened, TooMuch, IsPending}
+use Rattle.rb_laws.proofs.AskedArgs.{message_has}
 
 -- ---- what a call leaves of them
 

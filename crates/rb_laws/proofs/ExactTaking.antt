@@ -2,6 +2,8 @@
 use Rattle.std.proofs.Common.{◌≡◌, ◌⊎◌, ℕ, ◌+◌, ◌-◌, max, false, Option, Some, None, Result, Ok, List, [], ◌∷◌, ◌++◌, length, map, take, refl, sym, ap, subst, ◌∙◌, inl, inr, arith}
 use Rattle.rb_xdr.specs.Xdr.{AreBytes}
 use Rattle.rb_rpc.specs.RecordLaws.{IsFirstRecord}
+use Rattle.rb_rpc.specs.Records.{data_of, first_record}
+use Rattle.rb_rpc.specs.declared.peer.Caller.TheVariants.{Tcp}
 use Rattle.rb_rpc.proofs.Markings.{first_is_least, none_where_no_front}
 use Rattle.rb_rpc.proofs.RecordCuts.{ends_later}
 use Rattle.rb_model.specs.declared.types.CoreFault.{CoreFault}
@@ -13,14 +15,12 @@ use Rattle.rb_model.specs.Connections.{live_connection, changed_at, reading, set
 use Rattle.rb_model.specs.Step.{serve, answering, on_connection, bytes, IsReached}
 use Rattle.rb_model.specs.declared.types.Taken.{Taken}
 use Rattle.rb_model.specs.Laws.{IsLive, Arrival, IsSettled, TakesNothing, ReadsOn, IsAnswered, EndsRecord, TakesExactly, BytesAreTakenExactly}
+use Rattle.rb_model.specs.Losses.{began_in, evicted, evicting}
 use Rattle.rb_laws.proofs.Cuts.{find-changed, reading-feeds, fed-at, fed-no-list}
 use Rattle.rb_laws.proofs.Happenings.{said_in, answered_in, crowd_at}
 use Rattle.rb_laws.proofs.Live.{answering-feeds, replying-feeds, lost-gone}
 use Rattle.rb_laws.proofs.Reached.{IsSoundPhase, live-sound, reached-sound, mapped, evicted-keeps}
 use Rattle.rb_laws.proofs.Crowds.{plain_lives}
-use Rattle.rb_model.specs.Losses.{began_in, evicted, evicting}
-use Rattle.rb_rpc.specs.Records.{data_of, first_record}
-use Rattle.rb_rpc.specs.declared.peer.Caller.TheVariants.{Tcp}
 
 -- the bytes that a connection was fed hold no record
 pub fed-none : (p : Phase) → IsSoundPhase p → (fed : List ℕ) → fed_in p ≡ Some fed → first_record fed ≡ None

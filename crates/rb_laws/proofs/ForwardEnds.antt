@@ -1,7 +1,7 @@
 -- How entries of forwarded calls end.
-use Rattle.std.proofs.Common.{◌≡◌, ℕ, max, Bool, true, Option, Some, None, List, [], ◌++◌, refl, sym, ap, subst, append-nil}
 use Rattle.std.specs.Prelude.{find}
 use Rattle.std.specs.Option.{option_map}
+use Rattle.std.proofs.Common.{◌≡◌, ℕ, max, Bool, true, Option, Some, None, List, [], ◌++◌, refl, sym, ap, subst, append-nil}
 use Rattle.rb_rpc.specs.declared.peer.Caller.{Caller}
 use Rattle.rb_rpc.specs.declared.peer.Caller.TheVariants.{Tcp, Udp}
 use Rattle.rb_forward.specs.declared.types.Outcome as target
@@ -18,7 +18,7 @@ use Rattle.rb_model.specs.State.{State}
 use Rattle.rb_model.specs.Losses.{first_due, with_lost, expiring}
 use Rattle.rb_model.specs.Ending.{told_at, tell, tell_end, at_fresh_moment, forward_reply, closed_as, expire_connection, expired_as, expire}
 use Rattle.rb_model.specs.DeadlineLaws.{EntryIsDue}
-use Rattle.rb_model.specs.ForwardLaws.{IsTold, EndsFirst, EndsNone, EndsByReply, RepliesEndTheirOwn, EndsByDeadline, DeadlinesEndOne}
+use Rattle.rb_model.specs.ForwardLaws.{CallerGets, EndsFirst, EndsNone, EndsByReply, RepliesEndTheirOwn, EndsByDeadline, DeadlinesEndOne}
 
 -- ---- one event
 
@@ -38,7 +38,7 @@ module _ (Is : Entry → Type 0) (test : Entry → Bool) (means : (e : Entry) �
   same_ledger : (f : Forwards) → f ≡ s.ledger.forwards → record s.ledger { history = s.ledger.history ++ []; forwards = f } ≡ s.ledger
   same_ledger f is = rw (is, append-nil s.ledger.history) refl
 
-  is_told : (e : Entry) (l : Ledger) (caller : Caller) → IsTold s (max s.clock now) (says e) caller (tell caller (says e) (record (at_fresh_moment now s) { ledger = l })).0 (tell caller (says e) (record (at_fresh_moment now s) { ledger = l })).1
+  is_told : (e : Entry) (l : Ledger) (caller : Caller) → CallerGets s (max s.clock now) (says e) caller (tell caller (says e) (record (at_fresh_moment now s) { ledger = l })).0 (tell caller (says e) (record (at_fresh_moment now s) { ledger = l })).1
   is_told e l (Tcp id peer) = (refl, refl, refl)
   is_told e l (Udp peer) = (refl, refl, refl)
 
@@ -61,7 +61,7 @@ module _ (Is : Entry → Type 0) (test : Entry → Bool) (means : (e : Entry) �
           record {
             entry = one.0;
             first = subst (λ (xs : List Entry). IsFirst Is s.ledger.forwards.all one.0 xs) (sym (ap (λ (x : Ledger). x.forwards.all) (same_entries e l e.forward.caller))) one.1;
-            tells = subst (λ (x : EntryEnd). IsTold s (max s.clock now) (told_at message x) x.forward.caller (tell e.forward.caller (says e) (record (at_fresh_moment now s) { ledger = l })).0 (tell e.forward.caller (says e) (record (at_fresh_moment now s) { ledger = l })).1)
+            tells = subst (λ (x : EntryEnd). CallerGets s (max s.clock now) (told_at message x) x.forward.caller (tell e.forward.caller (says e) (record (at_fresh_moment now s) { ledger = l })).0 (tell e.forward.caller (says e) (record (at_fresh_moment now s) { ledger = l })).1)
                 same (is_told e l e.forward.caller);
           }
 

@@ -1,7 +1,7 @@
 -- The live rows and the removed ones that are kept for lists are together never more than there may be.
-use Rattle.std.proofs.Common.{◌≡◌, ◌≤◌, ◌<◌, ℕ, suc, ◌+◌, Bool, true, false, cond, not, ◌||◌, eqb, nat_le, nat_lt, Option, Some, None, List, [], ◌∷◌, ◌++◌, length, map, filter, is_none, refl, sym, ap, ◌∙◌, length-append, arith}
 use Rattle.std.specs.Prelude.{filter_map}
 use Rattle.std.specs.List.{list_any, list_all}
+use Rattle.std.proofs.Common.{◌≡◌, ◌≤◌, ◌<◌, ℕ, suc, ◌+◌, Bool, true, false, cond, not, ◌||◌, eqb, nat_le, nat_lt, Option, Some, None, List, [], ◌∷◌, ◌++◌, length, map, filter, is_none, refl, sym, ap, ◌∙◌, length-append, arith}
 use Rattle.std.proofs.lemmas.Bool.{and_parts, lt-ltb, ltb-true, leb-true, le-leb, eqb-true, eq-eqb}
 use Rattle.std.proofs.lemmas.Bool.Decides.{nat_tests}
 use Rattle.std.proofs.lemmas.List.Elements.{filter-append}

@@ -1,6 +1,6 @@
 -- What callers over UDP get at the end of their forwarded calls.
-use Rattle.std.proofs.Common.{◌≡◌, ℕ, max, Bool, true, false, Option, Some, List, [], ◌∷◌, ◌++◌, refl, sym, ap, subst, ◌∙◌}
 use Rattle.std.specs.Prelude.{find, option_map}
+use Rattle.std.proofs.Common.{◌≡◌, ℕ, max, Bool, true, false, Option, Some, List, [], ◌∷◌, ◌++◌, refl, sym, ap, subst, ◌∙◌}
 use Rattle.rb_rpc.specs.declared.peer.Peer.{Peer}
 use Rattle.rb_rpc.specs.declared.peer.Caller.{Caller}
 use Rattle.rb_rpc.specs.declared.peer.Caller.TheVariants.{Udp}

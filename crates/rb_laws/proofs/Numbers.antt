@@ -1,7 +1,7 @@
 -- The numbers of connections only go up.
-use Rattle.std.proofs.Common.{◌≡◌, ℕ, ◌+◌, true, false, cond, Option, Some, None, List, [], ◌∷◌, refl, sym, ap, subst, ◌∙◌, arith}
 use Rattle.std.specs.Prelude.{filter_map}
 use Rattle.std.specs.List.{cons_option}
+use Rattle.std.proofs.Common.{◌≡◌, ℕ, ◌+◌, true, false, cond, Option, Some, None, List, [], ◌∷◌, refl, sym, ap, subst, ◌∙◌, arith}
 use Rattle.rb_model.specs.State.{State, Connections}
 use Rattle.rb_model.specs.Connections.{without_number}
 use Rattle.rb_model.specs.Step.{Event, Output, show_taken, step, run}

@@ -1,8 +1,9 @@
 -- What holds of the connections in each state that a run reaches.
-use Rattle.std.proofs.Common.{◌≡◌, ◌<◌, ◌≤◌, ℕ, ◌+◌, max, Bool, true, false, cond, not, eqb, nat_lt, min, Some, None, List, [], ◌∷◌, ◌++◌, length, map, take, refl, sym, subst, arith}
 use Rattle.std.specs.Prelude.{find, filter}
+use Rattle.std.proofs.Common.{◌≡◌, ◌<◌, ◌≤◌, ℕ, ◌+◌, max, Bool, true, false, cond, not, eqb, nat_lt, min, Some, None, List, [], ◌∷◌, ◌++◌, length, map, take, refl, sym, subst, arith}
 use Rattle.std.proofs.lemmas.Bool.{ltb-true}
 use Rattle.rb_rpc.specs.Records.{first_record, data_of}
+use Rattle.rb_rpc.specs.declared.peer.Caller.TheVariants.{Tcp, Udp}
 use Rattle.rb_model.specs.Calls.{Outcome}
 use Rattle.rb_model.specs.Calls.Outcome.{NoCall, Reply, Forwarded, Silent}
 use Rattle.rb_model.specs.State.{State, Phase, Connection, Connections, opening}
@@ -12,7 +13,6 @@ use Rattle.rb_model.specs.Losses.{lost, began_in, began_before, evicted}
 use Rattle.rb_model.specs.Step.{Event, Output, step, after, IsReached}
 use Rattle.rb_model.specs.Laws.{IsLive}
 use Rattle.rb_model.proofs.Fragments.{some-marked}
-use Rattle.rb_rpc.specs.declared.peer.Caller.TheVariants.{Tcp, Udp}
 use Rattle.rb_laws.proofs.Happenings.{Happening, happening, crowd_at}
 use Rattle.rb_laws.proofs.Happenings.Happening.{Stays, Evicts, Opens, Reads, Ends, Gives, Closes, Tells, TimesOut}
 

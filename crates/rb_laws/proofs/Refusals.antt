@@ -1,12 +1,12 @@
 -- A refused event leaves the state.
 use Rattle.std.proofs.Common.{◌≡◌, ℕ, Bool, true, false, cond, Option, Some, None, Result, Ok, Err, List, refl}
+use Rattle.rb_forward.specs.Forwards.{can_be_sent}
+use Rattle.rb_proto.specs.Forwarding.{call_sent}
 use Rattle.rb_model.specs.declared.types.CoreFault.{CoreFault}
 use Rattle.rb_model.specs.declared.types.CoreFault.TheVariants.{Gone}
 use Rattle.rb_model.specs.Calls.{Outcome, Outcome as outcomes}
 use Rattle.rb_model.specs.State.{State, Connection, Connections}
 use Rattle.rb_model.specs.Connections.{live_connection, closing_of, is_there, without_number}
-use Rattle.rb_forward.specs.Forwards.{can_be_sent}
-use Rattle.rb_proto.specs.Forwarding.{call_sent}
 use Rattle.rb_model.specs.declared.types.Told.{Told}
 use Rattle.rb_model.specs.declared.types.Told.TheVariants.{TcpReady}
 use Rattle.rb_model.specs.declared.types.Told.TheVariants as tolds

@@ -4,6 +4,7 @@ use Rattle.rb_rpc.specs.declared.peer.Peer.{Peer}
 use Rattle.rb_rpc.specs.declared.peer.Caller.{Caller}
 use Rattle.rb_rpc.specs.declared.peer.Caller.TheVariants.{Tcp, Udp}
 use Rattle.rb_forward.specs.declared.types.Ended.{Ended}
+use Rattle.rb_forward.specs.Forwards.{Unsent as UnsentCall}
 use Rattle.rb_proto.specs.Ledger.{Ledger}
 use Rattle.rb_proto.specs.Forwarding.{replied, fell_due}
 use Rattle.rb_model.specs.declared.types.Expired.{Expired}
@@ -17,7 +18,6 @@ use Rattle.rb_model.specs.Step.Event.{Unsent, Datagram, Forward, Expire}
 use Rattle.rb_model.specs.Step.Output.{UnsentIs}
 use Rattle.rb_model.specs.Bounds.{bytes_out}
 use Rattle.rb_model.specs.Costs.{unsent_count}
-use Rattle.rb_forward.specs.Forwards.{Unsent as UnsentCall}
 
 module _ (s : State) where
   pub unsent-shown : unsent_count (unsent_call s) ≤ bytes_out Unsent (step s Unsent).0

@@ -1,16 +1,16 @@
 -- There are no more connections than there may be.
-use Rattle.std.proofs.Common.{◌≡◌, ℕ, suc, ◌+◌, ◌≤◌, max, Bool, true, false, cond, not, nat_lt, eqb, Option, Some, None, Result, Ok, Err, List, [], ◌∷◌, ◌++◌, length, refl, sym, ap, subst, arith}
 use Rattle.std.specs.Prelude.{filter}
+use Rattle.std.proofs.Common.{◌≡◌, ℕ, suc, ◌+◌, ◌≤◌, max, Bool, true, false, cond, not, nat_lt, eqb, Option, Some, None, Result, Ok, Err, List, [], ◌∷◌, ◌++◌, length, refl, sym, ap, subst, arith}
 use Rattle.std.proofs.lemmas.List.{length-map}
-use Rattle.rb_model.specs.Losses.{crowding, evicted, lost}
 use Rattle.std.proofs.lemmas.Bool.{ltb-true}
 use Rattle.rb_rpc.specs.declared.peer.Peer.{Peer}
 use Rattle.rb_rpc.specs.declared.peer.Caller.{Caller}
 use Rattle.rb_rpc.specs.declared.peer.Caller.TheVariants.{Tcp, Udp}
 use Rattle.rb_forward.specs.declared.types.Ended.{Ended}
+use Rattle.rb_forward.specs.Forwards.{can_be_sent}
 use Rattle.rb_proto.specs.Ledger.{Ledger}
 use Rattle.rb_proto.specs.Forwarding.{replied, call_sent}
-use Rattle.rb_forward.specs.Forwards.{can_be_sent}
+use Rattle.rb_model.specs.Losses.{crowding, evicted, lost}
 use Rattle.rb_model.specs.declared.types.CoreFault.{CoreFault}
 use Rattle.rb_model.specs.declared.types.CoreFault.TheVariants.{Full, Spent, Gone}
 use Rattle.rb_model.specs.declared.types.Told.{Told}

@@ -1,6 +1,6 @@
 -- What passes on one connection in a whole run.
-use Rattle.std.proofs.Common.{◌≡◌, ◌⊎◌, inl, inr, ◌<◌, ◌≤◌, ℕ, ◌+◌, ◌-◌, max, min, Bool, true, false, cond, eqb, nat_lt, Option, Some, None, List, [], ◌∷◌, ◌++◌, length, take, drop, refl, sym, ap, subst, ◌∙◌, append_assoc, append-nil, arith}
 use Rattle.std.specs.Prelude.{find, map, All}
+use Rattle.std.proofs.Common.{◌≡◌, ◌⊎◌, inl, inr, ◌<◌, ◌≤◌, ℕ, ◌+◌, ◌-◌, max, min, Bool, true, false, cond, eqb, nat_lt, Option, Some, None, List, [], ◌∷◌, ◌++◌, length, take, drop, refl, sym, ap, subst, ◌∙◌, append_assoc, append-nil, arith}
 use Rattle.std.proofs.Math.Seq.{take-nil, take-append-add}
 use Rattle.std.proofs.lemmas.List.{take_all, take-append-drop, drop-append-le, length-take, map-append}
 use Rattle.std.proofs.lemmas.List.Elements.{All-nil, All-append, All-cons}
@@ -8,6 +8,7 @@ use Rattle.std.proofs.lemmas.Bool.{eqb-true, eq-eqb}
 use Rattle.rb_xdr.specs.Xdr.{AreBytes}
 use Rattle.rb_rpc.specs.Records.{first_record, data_of}
 use Rattle.rb_rpc.specs.RecordLaws.{Records}
+use Rattle.rb_rpc.specs.declared.peer.Caller.TheVariants.{Tcp, Udp}
 use Rattle.rb_rpc.proofs.RecordCuts.{ends_later}
 use Rattle.rb_model.specs.Calls.{Outcome, is_no_call}
 use Rattle.rb_model.specs.Calls.Outcome.{NoCall, Reply, Forwarded, Silent}
@@ -21,18 +22,17 @@ use Rattle.rb_model.specs.Step.Event.{Bytes, Gave}
 use Rattle.rb_model.specs.Step.Output.{Opened, Took, TookAndClosed, Done}
 use Rattle.rb_model.specs.Sessions.{Exchange, Session, at_event, piece_to, taken_by, gave_to, shown, given_by, nothing_passed, passed, passed_by, told_by, with_told, with_last_told, replies_to, marked_reply, IsFinal, is_answered, AwaitsLast, AreAnswered, IsFront}
 use Rattle.rb_model.specs.Bounds.{count_in}
+use Rattle.rb_model.specs.Losses.{lost as timed_out, evicted, evicting}
 use Rattle.rb_laws.proofs.Cuts.{IsFeeding, find-changed, find-holds, number-is, reading-feeds, fed-no-list}
 use Rattle.rb_laws.proofs.Closings.{final-call}
 use Rattle.rb_laws.proofs.Entering.{is_forwarded}
 use Rattle.rb_laws.proofs.Entries.{Await, IsWaiting, entry-waits, fed-awaits, giving-awaits}
 use Rattle.rb_laws.proofs.Happenings.{Happening, happening, said_in, crowd_at, TellsTo, tells, end-passes-none}
 use Rattle.rb_laws.proofs.Happenings.Happening.{Stays, Evicts, Opens, Reads, Ends, Gives, Closes, Tells, TimesOut}
-use Rattle.rb_model.specs.Losses.{lost as timed_out, evicted, evicting}
 use Rattle.rb_laws.proofs.Live.{without, changed-other, closed-other, find-after, closed-gone, lost-gone, timed-out-gone, number-below, answering-feeds, giving-feeds}
 use Rattle.rb_laws.proofs.Numbers.{GivesNext, happening-next}
 use Rattle.rb_laws.proofs.Passing.{none-taken, none-passed, goes-on, ends, call_of, one-more-reply, first-alone, records-on, records-end}
 use Rattle.rb_laws.proofs.Reached.{AreSound, SoundIn, IsSoundPhase, found-sound, happening-sound, giving-keeps, settled-keeps, evicted-keeps, mapped}
-use Rattle.rb_rpc.specs.declared.peer.Caller.TheVariants.{Tcp, Udp}
 use Rattle.rb_laws.proofs.Crowds.{stays_dead, plain_lives, still_is}
 use Rattle.rb_laws.proofs.WholeReplies.{behind, front-of, one-given}
 

@@ -1,15 +1,15 @@
 -- The bytes of arguments that wait in the connections: only bytes that arrive make them more, and the end of a record takes
 -- its own.
-use Rattle.std.proofs.Common.{◌≡◌, ℕ, ◌+◌, ◌≤◌, max, Bool, true, false, cond, not, nat_lt, eqb, Option, Some, None, Result, Ok, Err, List, [], ◌∷◌, length, map, refl, ap, arith}
 use Rattle.std.specs.Prelude.{find, filter, min}
+use Rattle.std.proofs.Common.{◌≡◌, ℕ, ◌+◌, ◌≤◌, max, Bool, true, false, cond, not, nat_lt, eqb, Option, Some, None, Result, Ok, Err, List, [], ◌∷◌, length, map, refl, ap, arith}
 use Rattle.std.proofs.lemmas.List.Sums.{sum_by-cons, sum_by-append}
 use Rattle.rb_rpc.specs.declared.peer.Peer.{Peer}
 use Rattle.rb_rpc.specs.declared.peer.Caller.{Caller}
 use Rattle.rb_rpc.specs.declared.peer.Caller.TheVariants.{Tcp, Udp}
 use Rattle.rb_forward.specs.declared.types.Ended.{Ended}
+use Rattle.rb_forward.specs.Forwards.{can_be_sent}
 use Rattle.rb_proto.specs.Ledger.{Ledger}
 use Rattle.rb_proto.specs.Forwarding.{replied, call_sent}
-use Rattle.rb_forward.specs.Forwards.{can_be_sent}
 use Rattle.rb_model.specs.declared.types.CoreFault.{CoreFault}
 use Rattle.rb_model.specs.declared.types.CoreFault.TheVariants.{Gone}
 use Rattle.rb_model.specs.declared.types.Told.{Told}

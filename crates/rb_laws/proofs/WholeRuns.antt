@@ -2,10 +2,10 @@
 use Rattle.std.proofs.Common.{◌≡◌, ◌≤◌, ◌<◌, ℕ, ◌+◌, ◌-◌, ◌*◌, Bool, Option, Some, None, List, [], ◌∷◌, ◌++◌, length, take, refl, ap, subst, ◌∙◌, arith, true}
 use Rattle.std.proofs.lemmas.List.{length-take}
 use Rattle.std.proofs.Math.Seq.{take-append-add}
-use Rattle.rb_feed.specs.Feeds.{arguments_of}
 use Rattle.rb_rpc.specs.Verdict.{verdict}
 use Rattle.rb_rpc.specs.Records.{first_record, data_of}
 use Rattle.rb_rpc.proofs.RecordCuts.{ends_later}
+use Rattle.rb_feed.specs.Feeds.{arguments_of}
 use Rattle.rb_model.specs.Calls.{longest_reply, longest_arguments, kept_of}
 use Rattle.rb_model.specs.State.{Setting, State, Phase, Connection, at_moment, are_good}
 use Rattle.rb_model.specs.State.Phase.{Idle, Reading, Owing, Awaiting, Lost}

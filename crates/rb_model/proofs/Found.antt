@@ -1,7 +1,7 @@
 -- What a search through a list says of it.
-use Rattle.std.proofs.Common.{◌≡◌, Bool, true, false, not, List, [], ◌∷◌, Some, None, refl, sym, ap}
 use Rattle.std.specs.Prelude.{find, filter}
 use Rattle.std.specs.List.{list_any}
+use Rattle.std.proofs.Common.{◌≡◌, Bool, true, false, not, List, [], ◌∷◌, Some, None, refl, sym, ap}
 
 pub none_some : {X : Type 0} (x : X) → None ≡ Some x → ⊥
 none_some x h = absurd cc

@@ -4,8 +4,7 @@ use Rattle.rb_forward.specs.Costs.{end_cost, sent_cost, unsent_cost}
 use Rattle.rb_forward.specs.Forwards.{Unsent as UnsentCall}
 use Rattle.rb_proto.specs.Costs.{note_cost, forward_cost, statistics_cost}
 use Rattle.rb_proto.specs.ListReplies.{part_room}
-use Rattle.rb_model.specs.Calls.{longest_reply}
-use Rattle.rb_model.specs.Calls.{kept_of}
+use Rattle.rb_model.specs.Calls.{longest_reply, kept_of}
 use Rattle.rb_model.specs.State.{Connection, State}
 use Rattle.rb_model.specs.Connections.{Taking, taking, live_connection}
 use Rattle.rb_model.specs.Connections.Taking.{TakesNone, GoesOn, Ends}

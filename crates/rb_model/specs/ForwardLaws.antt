@@ -41,17 +41,17 @@ ConnectionsAwait =
 -- ---- how an entry ends
 
 -- Its caller is told this, and nobody else: a connection goes on with it, or it is the reply over UDP.
-abbrev pub IsTold : State → ℕ → Outcome → Caller → Told → State → Type 0
-IsTold s clock said (Tcp id peer) told after =
+abbrev pub CallerGets : State → ℕ → Outcome → Caller → Told → State → Type 0
+CallerGets s clock said (Tcp id peer) told after =
     (told ≡ TcpReady id) × (after.connections ≡ changed_at id (settled clock said) s.connections) × (after.reply ≡ [])
-IsTold s clock said (Udp peer) told after =
+CallerGets s clock said (Udp peer) told after =
     (told ≡ told_over_udp peer said) × (after.connections ≡ s.connections) × (after.reply ≡ reply_in said)
 
 -- The first entry that is such a one ends, and is there no longer; its caller is told this.
 pub record EndsFirst (Is : Entry → Type 0) (says : Entry → Outcome) (s : State) (clock : ℕ) (told : Told) (after : State) : Type 0 where
   pub entry : Entry
   pub first : IsFirst Is s.ledger.forwards.all entry after.ledger.forwards.all
-  pub tells : IsTold s clock (says entry) entry.forward.caller told after
+  pub tells : CallerGets s clock (says entry) entry.forward.caller told after
 
 -- No entry is such a one. But for the clock and the last reply over UDP, nothing changes.
 pub record EndsNone (Is : Entry → Type 0) (s : State) (now : ℕ) (after : State) : Type 0 where

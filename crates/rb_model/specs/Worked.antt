@@ -1,11 +1,11 @@
 -- Worked examples: what runs give, word by word.
 use Rattle.std.specs.Prelude.{◌≡◌, ℕ, List, [], ◌∷◌, ◌++◌, replicate}
+use Rattle.rb_xdr.specs.Xdr.{words}
 use Rattle.rb_rpc.specs.declared.peer.Peer.{Peer}
 use Rattle.rb_model.specs.State.{State, opening}
 use Rattle.rb_model.specs.Step.{Output, run}
 use Rattle.rb_model.specs.Step.Event.{Datagram}
 use Rattle.rb_model.specs.Step.Output.{Replied, Silent}
-use Rattle.rb_xdr.specs.Xdr.{words}
 
 abbrev pub loopback : Peer
 loopback = record { host = 127 ∷ 0 ∷ 0 ∷ 1 ∷ []; port = 900 }

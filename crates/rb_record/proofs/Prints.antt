@@ -1,6 +1,6 @@
 -- Printed digits, piece by piece.
-use Rattle.std.proofs.Common.{◌≡◌, ℕ, true, List, [], ◌∷◌, ◌++◌, length, take, drop, ◌/◌, ◌%◌, slice_index, eqb, Option, refl, sym, ap, ◌∙◌, take-append-drop}
 use Rattle.std.specs.Io.KnownBytes.{Appends}
+use Rattle.std.proofs.Common.{◌≡◌, ℕ, true, List, [], ◌∷◌, ◌++◌, length, take, drop, ◌/◌, ◌%◌, slice_index, eqb, Option, refl, sym, ap, ◌∙◌, take-append-drop}
 use Rattle.std.proofs.KnownBytes.{Appends-nil, Appends-trans}
 use Rattle.std.proofs.lemmas.Bool.{eqb-true}
 use Rattle.std.proofs.lemmas.List.{nil_from_length}

@@ -1,9 +1,9 @@
 -- Entries on a tape, one behind the other.
+use Rattle.std.specs.List.{concat}
 use Rattle.std.proofs.Common.{◌≡◌, ◌+◌, ℕ, Bool, true, false, List, [], ◌++◌, length, take, arith, refl, sym, ap, subst, ◌∙◌, inl, inr, append_assoc, append-nil, length-append}
 use Rattle.std.proofs.lemmas.List.{take-append-le, take_all}
 use Rattle.std.proofs.Math.Seq.{take-append-add}
 use Rattle.std.proofs.lemmas.List.Folds.{concat-append}
-use Rattle.std.specs.List.{concat}
 use Rattle.rb_record.specs.Tapes.{Tape, ending, EndsWithin, Records, HasFirst, IsRecordOf, empty_tape}
 
 -- some entries behind others

@@ -3,17 +3,17 @@ use Rattle.std.specs.Prelude.{ℕ, List, [], ◌∷◌, ◌++◌, Option, Some, 
 use Rattle.std.specs.Option.{option_map}
 use Rattle.std.specs.Fmt.{decimal}
 use Rattle.std.specs.Io.KnownBytes.{Appends}
-use Rattle.hex.specs.Hex.{encode_lower}
 use Rattle.rb_rpc.specs.declared.peer.Peer.{Peer}
 use Rattle.rb_rpc.specs.Peers.{peer_text}
 use Rattle.rb_forward.specs.Forwards.{Unsent}
 use Rattle.rb_model.specs.declared.types.CoreFault.{CoreFault}
 use Rattle.rb_model.specs.declared.types.CoreFault.TheVariants.{NoMemory, BadLimits, Full, Spent, Gone}
+use Rattle.rb_model.specs.Step.{Output}
+use Rattle.rb_model.specs.Step.Output.{Opened, Refused, TooMuch, Took, TookAndClosed, IsPending, Done, LostIs, Replied, Forwarded, Silent, UnsentIs, Ignored, Nothing, ConnectionClosed, Ready, RepliedTo}
 use Rattle.rb_record.specs.declared.shown.Shown.{Shown}
 use Rattle.rb_record.specs.declared.shown.Shown.TheVariants as shown
 use Rattle.rb_record.specs.declared.shown.ShownCall.{ShownCall}
-use Rattle.rb_model.specs.Step.{Output}
-use Rattle.rb_model.specs.Step.Output.{Opened, Refused, TooMuch, Took, TookAndClosed, IsPending, Done, LostIs, Replied, Forwarded, Silent, UnsentIs, Ignored, Nothing, ConnectionClosed, Ready, RepliedTo}
+use Rattle.hex.specs.Hex.{encode_lower}
 
 -- two hexadecimal digits for each byte, in lower case, or `-` for no bytes
 abbrev pub hex_text : List ℕ → List ℕ

@@ -1,6 +1,6 @@
-use Rattle.std.proofs.Common.{◌≡◌, ◌*◌, length}
 use Rattle.std.specs.Prelude.{All}
 use Rattle.std.specs.Map.{values_of}
+use Rattle.std.proofs.Common.{◌≡◌, ◌*◌, length}
 use Rattle.rb_xdr.specs.Pool.{HasDistinctKeys}
 use Rattle.rb_xdr.specs.Meter.{PaysAtMost}
 use Rattle.rb_connections.specs.Slots.{AreSpare}

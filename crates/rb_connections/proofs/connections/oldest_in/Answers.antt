@@ -1,5 +1,5 @@
-use Rattle.std.proofs.Common.{◌≡◌, ◌+◌, arith, ap, ◌∙◌}
 use Rattle.std.specs.Map.{values_of}
+use Rattle.std.proofs.Common.{◌≡◌, ◌+◌, arith, ap, ◌∙◌}
 use Rattle.rb_xdr.specs.Meter.{Meter}
 use Rattle.rb_connections.proofs.Evicting.{oldest_found}
 use Rattle.rb_connections.proofs.connections.oldest_in.Goals as goal

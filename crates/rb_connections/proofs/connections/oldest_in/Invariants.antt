@@ -1,5 +1,5 @@
-use Rattle.std.proofs.Common.{◌≡◌, ◌+◌, ◌*◌, ◌≤◌, length, None}
 use Rattle.std.specs.Map.{values_of}
+use Rattle.std.proofs.Common.{◌≡◌, ◌+◌, ◌*◌, ◌≤◌, length, None}
 use Rattle.rb_xdr.specs.Places.{to_come}
 use Rattle.rb_connections.proofs.Evicting.{oldest_from}
 use Rattle.rb_connections.proofs.connections.oldest_in.Given as goal

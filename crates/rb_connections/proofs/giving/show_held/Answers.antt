@@ -16,5 +16,5 @@ returns-clause-shows c = λ source.
       last = last;
       place = refl;
       stamp = refl;
-      told = tt;
+      made = tt;
     }

@@ -14,5 +14,5 @@ returns-clause-shows c = λ buffer.
       last = p.last;
       place = refl;
       stamp = ap (λ (n : ℕ). Some n) p.stamp;
-      told = p.told;
+      made = p.told;
     }

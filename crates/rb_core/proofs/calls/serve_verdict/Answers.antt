@@ -1,11 +1,11 @@
 use Rattle.std.proofs.Common.{◌≡◌, false, refl, sym, ◌∙◌}
-use Rattle.rb_model.specs.Calls.{message_with}
 use Rattle.rb_rpc.specs.declared.call.CallHead.{CallHead}
 use Rattle.rb_proto.specs.declared.context.Context.{Context}
 use Rattle.rb_proto.specs.Answers.{adds_row, row_to_set}
 use Rattle.rb_proto.specs.Ledger.{Ledger}
-use Rattle.rb_core.specs.Messages.{null_message}
+use Rattle.rb_model.specs.Calls.{message_with}
 use Rattle.rb_model.specs.Losses.{asks_room}
+use Rattle.rb_core.specs.Messages.{null_message}
 use Rattle.rb_core.proofs.Answering.{serves_in_room, nothing_evicts, serves_without_room, lists_then}
 use Rattle.rb_core.proofs.Procedures.{null_asked, nothing_asks}
 use Rattle.rb_core.proofs.calls.serve_verdict.Goals as goal

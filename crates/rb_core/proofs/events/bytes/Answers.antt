@@ -2,8 +2,8 @@ use Rattle.std.proofs.Common.{◌≡◌, ℕ, List, sym, ap, ◌∙◌}
 use Rattle.rb_model.specs.State.{State}
 use Rattle.rb_model.specs.Connections.{live_connection}
 use Rattle.rb_model.specs.Step.Event.{Bytes}
-use Rattle.rb_laws.proofs.EntriesKept.{step-follows}
 use Rattle.rb_model.specs.Step.{step, show_taken, bytes}
+use Rattle.rb_laws.proofs.EntriesKept.{step-follows}
 use Rattle.rb_core.specs.StandsFor.{Held}
 use Rattle.rb_core.proofs.RunSteps.{done, refused, same_state}
 use Rattle.rb_core.proofs.Spending.{bytes_paid, sizes_held}

@@ -1,14 +1,14 @@
 use Rattle.std.proofs.Common.{◌≡◌, ◌⊎◌, inl, inr, ◌+◌, ℕ, List, length, refl, ap, ◌∙◌, arith, rules}
 use Rattle.rb_xdr.specs.Meter.{Meter}
-use Rattle.rb_connections.specs.declared.served.Outcome.{Outcome as Written}
-use Rattle.rb_connections.specs.declared.served.Outcome.TheVariants as outcomes
 use Rattle.rb_model.specs.Step.{step, datagram}
 use Rattle.rb_model.specs.Step.Event.{Datagram}
 use Rattle.rb_model.specs.Step.Output.{Silent, Replied}
-use Rattle.rb_connections.specs.Settling.{outcome_with}
 use Rattle.rb_model.specs.Costs.{datagram_cost}
-use Rattle.rb_core.specs.CallCosts.{sizes_of}
 use Rattle.rb_laws.proofs.EntriesKept.{step-follows}
+use Rattle.rb_connections.specs.declared.served.Outcome.{Outcome as Written}
+use Rattle.rb_connections.specs.declared.served.Outcome.TheVariants as outcomes
+use Rattle.rb_connections.specs.Settling.{outcome_with}
+use Rattle.rb_core.specs.CallCosts.{sizes_of}
 use Rattle.rb_core.proofs.RunSteps.{datagram_shown, shown_of, one_then_other}
 use Rattle.rb_core.proofs.Spending.{datagram_paid, sizes_held}
 use Rattle.rb_core.proofs.Begun.{stands_begun, same_tie}

@@ -1,18 +1,18 @@
-use Rattle.std.proofs.Common.{◌≡◌, ◌+◌, ℕ, List, [], ◌∷◌, length, refl, ap, arith}
 use Rattle.std.specs.List.{AllZip}
 use Rattle.std.specs.Map.{values_of}
+use Rattle.std.specs.Fmt.{digits}
+use Rattle.std.proofs.Common.{◌≡◌, ◌+◌, ℕ, List, [], ◌∷◌, length, refl, ap, arith}
+use Rattle.rb_uaddr.specs.Uaddr.{text_of, port_bytes}
 use Rattle.rb_registry.specs.Registry.{slots_of as rows_of}
 use Rattle.rb_registry.specs.Slots.{is_dropped, held_in as held_of_rows}
 use Rattle.rb_stats.specs.Statistics.{stat, items_of, keys_of}
 use Rattle.rb_forward.specs.StandsFor.{slots_of as calls_of, held_in as held_of_calls}
 use Rattle.rb_forward.specs.Forwards.{no_forwards}
 use Rattle.rb_forward.proofs.Stands.{held_alike}
-use Rattle.rb_uaddr.specs.Uaddr.{text_of, port_bytes}
 use Rattle.rb_proto.specs.Callers.{own_rows}
 use Rattle.rb_connections.specs.declared.slot.Slot.{Slot}
 use Rattle.rb_connections.specs.StandsFor.{StandsForConnection, held_in, Source}
 use Rattle.rb_core.specs.StandsFor.{source_of}
-use Rattle.std.specs.Fmt.{digits}
 use Rattle.rb_core.proofs.laws.worked_held.Goals as goal
 
 no_slots : (source : Source) (slots : List Slot) → AllZip (StandsForConnection source) slots [] → held_in slots ≡ 0

@@ -5,11 +5,11 @@ use Rattle.rb_model.specs.declared.events.Event as event
 use Rattle.rb_model.specs.declared.events.Output as output
 use Rattle.rb_model.specs.Costs.{run_cost}
 use Rattle.rb_model.specs.Plain.{events_of, output_of, outputs_of}
-use Rattle.rb_core.specs.Runs.{answered_events, Happened, buffer_bytes}
-use Rattle.rb_core.specs.StandsFor.{Held, StandsFor}
 use Rattle.rb_model.specs.State.{State, are_good}
 use Rattle.rb_model.specs.Step.{run, IsReached}
 use Rattle.rb_model.specs.WholeRuns.{whole_bound}
+use Rattle.rb_core.specs.Runs.{answered_events, Happened, buffer_bytes}
+use Rattle.rb_core.specs.StandsFor.{Held, StandsFor}
 use Rattle.rb_core.proofs.Runs.{one_more, pays_more, pays_within, answered_are}
 use Rattle.rb_core.proofs.StepBounds.{paid_within, held_within_after}
 use Rattle.rb_core.proofs.WholeRuns.{paid_within_whole}

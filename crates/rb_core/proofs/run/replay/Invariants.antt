@@ -2,8 +2,8 @@ use Rattle.std.proofs.Common.{◌≡◌, take}
 use Rattle.rb_xdr.specs.Meter.{PaysAtMost}
 use Rattle.rb_model.specs.State.{State}
 use Rattle.rb_model.specs.Costs.{run_cost}
-use Rattle.rb_core.specs.StandsFor.{StandsFor}
 use Rattle.rb_model.specs.Plain.{events_of, outputs_of}
+use Rattle.rb_core.specs.StandsFor.{StandsFor}
 use Rattle.rb_core.specs.Runs.{Happened}
 use Rattle.rb_core.proofs.run.replay.Given as goal
 

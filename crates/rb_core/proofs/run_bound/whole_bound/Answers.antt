@@ -1,13 +1,13 @@
-use Rattle.std.proofs.Common.{◌≡◌, ◌<◌, ◌+◌, ◌*◌, ℕ, zero, suc, List, [], ◌∷◌, length, get_or, take, refl, sym, ap, ◌∙◌, arith}
 use Rattle.std.specs.Prelude.{min}
+use Rattle.std.proofs.Common.{◌≡◌, ◌<◌, ◌+◌, ◌*◌, ℕ, zero, suc, List, [], ◌∷◌, length, get_or, take, refl, sym, ap, ◌∙◌, arith}
 use Rattle.std.proofs.lemmas.List.{length-map}
 use Rattle.rb_model.specs.Bounds.{bytes_in}
 use Rattle.rb_model.specs.declared.events.Event as event
 use Rattle.rb_model.specs.declared.events.Output as output
-use Rattle.rb_core.specs.Events.{greatest_count}
 use Rattle.rb_model.specs.Plain.{event_of, output_of, events_of, outputs_of}
 use Rattle.rb_model.specs.Step.{Event, Output}
 use Rattle.rb_model.specs.WholeRuns.{total_of, total_in, total_out, bytes_reported, event_allowance}
+use Rattle.rb_core.specs.Events.{greatest_count}
 use Rattle.rb_core.proofs.run_bound.whole_bound.Goals as goal
 
 pair : (x y : event.Event) (s t : output.Output) → x ≡ y → s ≡ t → ◌≡◌ {A = event.Event × output.Output} (x, s) (y, t)

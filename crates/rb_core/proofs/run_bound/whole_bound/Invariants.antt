@@ -1,8 +1,8 @@
-use Rattle.std.proofs.Common.{◌≡◌, ◌+◌, take}
 use Rattle.std.specs.Prelude.{min}
-use Rattle.rb_core.specs.Events.{greatest_count}
+use Rattle.std.proofs.Common.{◌≡◌, ◌+◌, take}
 use Rattle.rb_model.specs.Plain.{events_of, outputs_of}
 use Rattle.rb_model.specs.WholeRuns.{total_in, total_out}
+use Rattle.rb_core.specs.Events.{greatest_count}
 use Rattle.rb_core.proofs.run_bound.whole_bound.Given as goal
 
 abbrev pub invariant-loop-i : goal.invariant-loop-i

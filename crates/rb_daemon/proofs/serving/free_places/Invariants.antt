@@ -1,5 +1,5 @@
-use Rattle.std.proofs.Common.{◌≡◌}
 use Rattle.std.specs.Prelude.{vec_len, vec_capacity}
+use Rattle.std.proofs.Common.{◌≡◌}
 use Rattle.rb_daemon.proofs.serving.free_places.Given as goal
 
 -- as many places as rounds, in memory for all

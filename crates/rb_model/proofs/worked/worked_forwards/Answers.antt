@@ -1,4 +1,5 @@
 -- The definitions compute what the examples say.
+use Rattle.std.specs.Fmt.{digits}
 use Rattle.std.proofs.Common.{refl}
 use Rattle.rb_xdr.specs.Xdr.{number, number_at, boolean, opaque, array, listed, read_number, read_bool, read_content, read_opaque, read_array}
 use Rattle.rb_xdr.specs.XdrTypes.{signed, optional, read_signed, read_pair, read_optional}
@@ -12,6 +13,7 @@ use Rattle.rb_feed.specs.Feeds.{arguments_of}
 use Rattle.rb_uaddr.specs.Uaddr.{port_of, port_bytes, text_of, octet, ipv4_of_parts, ipv6_of_parts, parts_of, parse_ipv4, parse_ipv6, parse, is_local_text, merged_host, merged, transport_of, from_transport}
 use Rattle.rb_registry.specs.Rows.{is_netid, is_among, may_remove, covers, is_on, is_row, is_change_left, has_place, removes_some, find_exact, versions, greatest, find_row}
 use Rattle.rb_stats.specs.Statistics.{number_of, is_key, is_in, keys_of, items_of, stat, item_spelling, stat_spelling, statistics}
+use Rattle.rb_forward.specs.Forwards.{longest_arguments, xid_of, question, longest_results, outcome_of, is_same_peer, is_answered, reply, due, drop_caller, later, can_start, next_entry, started, unsent, can_be_sent, sent}
 use Rattle.rb_proto.specs.Ledger.{version_of, called}
 use Rattle.rb_proto.specs.Answers.{comes_from_here, row_of_mapping, row_of_rpcb, can_be_set, accepts_row, set_row, accepts_removal, unset_rows, shown_address, shown_text, shown_port, getport, getaddr, getversaddr, seconds, taddr_of, uaddr_of, answer, row_to_set, adds_row}
 use Rattle.rb_proto.specs.Arguments.{procedure_at, is_known, arguments, request}
@@ -19,8 +21,6 @@ use Rattle.rb_proto.specs.Callers.{own_rows, is_local, owner_text}
 use Rattle.rb_proto.specs.Netids.{netid_named, which_of, transport_of_prot, address_in, is_address}
 use Rattle.rb_proto.specs.Results.{result_bytes, row_bytes}
 use Rattle.rb_proto.specs.Types.{read_mapping, read_rpcb, read_netbuf, read_entry}
-use Rattle.rb_forward.specs.Forwards.{longest_arguments}
-use Rattle.rb_forward.specs.Forwards.{xid_of, question, longest_results, outcome_of, is_same_peer, is_answered, reply, due, drop_caller, later, can_start, next_entry, started, unsent, can_be_sent, sent}
 use Rattle.rb_proto.specs.Remote.{read_remote}
 use Rattle.rb_proto.specs.Forwarding.{outcome_note, peer_to_forward, forward_of, forward_call, end_note, replied, fell_due, caller_dropped, call_sent, forwarded_bytes}
 use Rattle.rb_model.specs.Losses.{begins, retained_removals, crowding, evicted, is_due, first_due, expiring}
@@ -29,7 +29,6 @@ use Rattle.rb_model.specs.Calls.{is_served, request_of, call_of, message_of, lon
 use Rattle.rb_model.specs.Connections.{taking, reading, settled, when_given, giving, is_live, live_connection, number_for, opening_of, first_lost, is_there, without_number, closing_of, longest_fragment, pending_of}
 use Rattle.rb_model.specs.Laws.{owed}
 use Rattle.rb_model.specs.Step.{serve, answering, bytes, pending, gave, open_connection, close_connection, next_lost, datagram, unsent_call, sent_call, step}
-use Rattle.std.specs.Fmt.{digits}
 use Rattle.rb_model.specs.WorkedForwards.{ForwardWithoutRow, RefusedCallsAreCounted, ForwardUntilDeadline, IndirectPasses, CallitPasses, TargetRefuses, DeniedIsSystemErr, CallitIsSilent, GreatestResults, NoPlace, GreatestArguments, SilentOnTcp, ForwardPassesOnTcp, ForwardOnTcpIsWhole, ClosedCallerIsDropped, EachEndsInTurn}
 use Rattle.rb_model.proofs.worked.worked_forwards.Goals as goal
 

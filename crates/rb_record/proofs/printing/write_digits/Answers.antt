@@ -1,7 +1,7 @@
 use Rattle.std.proofs.Common.{◌≡◌}
-use Rattle.hex.specs.Hex.{encode_lower}
 use Rattle.rb_record.proofs.Prints.{piece_more, nothing_left}
 use Rattle.rb_record.proofs.printing.write_digits.Goals as goal
+use Rattle.hex.specs.Hex.{encode_lower}
 
 pub loop-rest-preserved : goal.loop-rest-preserved
 loop-rest-preserved g c = λ after tail.

@@ -1,7 +1,7 @@
-use Rattle.std.proofs.Common.{ℕ, length, List, Option}
 use Rattle.std.specs.Io.KnownBytes.{Appends}
-use Rattle.hex.specs.Hex.{encode_lower}
+use Rattle.std.proofs.Common.{ℕ, length, List, Option}
 use Rattle.rb_record.proofs.printing.write_digits.Given as goal
+use Rattle.hex.specs.Hex.{encode_lower}
 
 -- what is written with the rest of the bytes is written with all of them
 abbrev pub invariant-loop-rest : goal.invariant-loop-rest

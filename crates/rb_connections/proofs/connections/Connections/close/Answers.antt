@@ -1,17 +1,16 @@
-use Rattle.std.proofs.Common.{[], Err, refl, sym, ap, subst, ◌∙◌, arith}
 use Rattle.std.specs.Prelude.{All}
 use Rattle.std.specs.Map.{values_of}
-use Rattle.rb_xdr.proofs.PoolLemmas.{All-value_at, All-without}
+use Rattle.std.proofs.Common.{[], Err, refl, sym, ap, subst, ◌∙◌, arith}
 use Rattle.rb_xdr.specs.Meter.{Meter}
-use Rattle.rb_connections.specs.contracts.connections.Connections.{the_view}
+use Rattle.rb_xdr.proofs.PoolLemmas.{All-value_at, All-without, distinct-without, length-without}
 use Rattle.rb_model.specs.declared.types.CoreFault.TheVariants.{Gone}
 use Rattle.rb_model.specs.Connections.{closing_of}
+use Rattle.rb_connections.specs.contracts.connections.Connections.{the_view}
 use Rattle.rb_connections.specs.Slots.{Acts, HasBuffers, AreSpare}
 use Rattle.rb_connections.specs.StandsFor.{StandsForConnections, IsWithin}
 use Rattle.rb_connections.proofs.GoingOn.{goes_on_same}
 use Rattle.rb_connections.proofs.Holding.{its_buffers, charge_fits, held_without}
 use Rattle.rb_connections.proofs.Slots.{acts_from, none_closed, one_closed, slot_is_there, numbered-without}
-use Rattle.rb_xdr.proofs.PoolLemmas.{distinct-without, length-without}
 use Rattle.rb_connections.proofs.Freed.{none_freed_by_close, freed_from}
 use Rattle.rb_connections.proofs.Listings.{keeps_less}
 use Rattle.rb_connections.proofs.ByHint.{distinct_numbers}

@@ -1,14 +1,14 @@
+use Rattle.std.specs.Map.{values_of}
 use Rattle.std.proofs.Common.{[], None, refl, sym, subst}
 use Rattle.rb_xdr.proofs.PoolLemmas.{All-value_at}
+use Rattle.rb_model.specs.Losses.{expiring}
 use Rattle.rb_connections.specs.declared.slot.Stage.TheVariants as stages
 use Rattle.rb_connections.specs.contracts.connections.Connections.{the_view}
-use Rattle.rb_model.specs.Losses.{expiring}
 use Rattle.rb_connections.specs.Slots.{Acts, HasBuffers}
 use Rattle.rb_connections.specs.StandsFor.{StandsForConnections, IsWithin}
 use Rattle.rb_connections.proofs.GoingOn.{goes_on_same, goes_on_changed}
 use Rattle.rb_connections.proofs.Slots.{acts_from, slot_is_there, table_changed}
 use Rattle.rb_connections.proofs.Expiring.{none_expires, one_expires, due-free}
-use Rattle.std.specs.Map.{values_of}
 use Rattle.rb_connections.proofs.ByHint.{distinct_numbers}
 use Rattle.rb_connections.proofs.connections.Connections.expire.Goals as goal
 

@@ -1,9 +1,9 @@
+use Rattle.std.specs.Map.{values_of}
 use Rattle.std.proofs.Common.{[], ap, sym, subst}
+use Rattle.rb_xdr.proofs.PoolLemmas.{All-value_at}
 use Rattle.rb_connections.specs.StandsFor.{StandsForConnections}
 use Rattle.rb_connections.specs.Slots.{HasBuffers}
-use Rattle.rb_xdr.proofs.PoolLemmas.{All-value_at}
 use Rattle.rb_connections.proofs.Slots.{found_slot, no_slot, slot_is_there}
-use Rattle.std.specs.Map.{values_of}
 use Rattle.rb_connections.proofs.ByHint.{distinct_numbers}
 use Rattle.rb_connections.proofs.connections.Connections.first.Goals as goal
 

@@ -1,16 +1,16 @@
+use Rattle.std.specs.Map.{values_of}
 use Rattle.std.proofs.Common.{◌≡◌, false, ap, sym, subst, ◌∙◌, arith}
-use Rattle.rb_connections.specs.contracts.connections.Connections.{the_view}
+use Rattle.rb_xdr.proofs.PoolLemmas.{All-value_at}
 use Rattle.rb_model.specs.Connections.{on_live, giving}
+use Rattle.rb_connections.specs.contracts.connections.Connections.{the_view}
 use Rattle.rb_connections.specs.Slots.{HasBuffers}
 use Rattle.rb_connections.specs.StandsFor.{source_for}
-use Rattle.rb_xdr.proofs.PoolLemmas.{All-value_at}
+use Rattle.rb_connections.specs.Listings.{SlotListsOn, CanListOn}
+use Rattle.rb_connections.specs.Awaits.{is_free}
 use Rattle.rb_connections.proofs.Holding.{stays_changed}
 use Rattle.rb_connections.proofs.Slots.{acts_from, gone_acts, live_acts}
 use Rattle.rb_connections.proofs.Freed.{none_freed, freed_from}
-use Rattle.rb_connections.specs.Listings.{SlotListsOn, CanListOn}
-use Rattle.rb_connections.specs.Awaits.{is_free}
 use Rattle.rb_connections.proofs.Listings.{lists_changed}
-use Rattle.std.specs.Map.{values_of}
 use Rattle.rb_connections.proofs.ByHint.{distinct_numbers}
 use Rattle.rb_connections.proofs.LiveSlots.{within_by, live_fits, live_table}
 use Rattle.rb_connections.proofs.connections.Connections.give.Goals as goal

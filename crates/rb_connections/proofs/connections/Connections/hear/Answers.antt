@@ -1,13 +1,13 @@
-use Rattle.std.proofs.Common.{Option, Some, None, ap, sym, subst, ◌∙◌, length}
 use Rattle.std.specs.Prelude.{IfNone}
+use Rattle.std.proofs.Common.{Option, Some, None, ap, sym, subst, ◌∙◌, length}
 use Rattle.rb_xdr.specs.Pool.{with_value}
 use Rattle.rb_xdr.proofs.PoolLemmas.{length-with}
-use Rattle.rb_connections.specs.contracts.connections.Connections.{the_view}
 use Rattle.rb_model.specs.Connections.{on_live}
+use Rattle.rb_model.specs.Calls.{kept_of}
+use Rattle.rb_connections.specs.contracts.connections.Connections.{the_view}
 use Rattle.rb_connections.specs.StandsFor.{Table, StandsForConnections}
 use Rattle.rb_connections.specs.Slots.{Shows, feeding, arguments_on}
 use Rattle.rb_connections.specs.Awaits.{HeardFrom}
-use Rattle.rb_model.specs.Calls.{kept_of}
 use Rattle.rb_connections.proofs.Settled.{since_table, since_goes_on, since_stays, takes_whole_on, keeps_whole_on, heard_whole_on}
 use Rattle.rb_connections.proofs.Slots.{acts_from}
 use Rattle.rb_connections.proofs.connections.Connections.hear.Goals as goal

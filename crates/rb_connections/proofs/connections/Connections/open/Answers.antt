@@ -1,10 +1,10 @@
-use Rattle.std.proofs.Common.{Err, sym, subst, refl, ap, ◌∙◌, arith}
 use Rattle.std.specs.Prelude.{All}
 use Rattle.std.specs.Map.{values_of}
+use Rattle.std.proofs.Common.{Err, sym, subst, refl, ap, ◌∙◌, arith}
 use Rattle.std.proofs.lemmas.List.Elements.{All-push}
-use Rattle.rb_connections.specs.contracts.connections.Connections.{the_view}
 use Rattle.rb_model.specs.declared.types.CoreFault.TheVariants.{Full, Spent}
 use Rattle.rb_model.specs.Connections.{opening_of}
+use Rattle.rb_connections.specs.contracts.connections.Connections.{the_view}
 use Rattle.rb_connections.specs.Slots.{Acts, HasBuffers, AreBuffers, AreSpare}
 use Rattle.rb_connections.specs.StandsFor.{StandsForConnections}
 use Rattle.rb_connections.proofs.GoingOn.{goes_on_same}

@@ -1,16 +1,15 @@
-use Rattle.std.proofs.Common.{ap, sym, subst, ◌∙◌, arith}
-use Rattle.rb_connections.specs.contracts.connections.Connections.{the_view}
+use Rattle.std.specs.Map.{values_of}
+use Rattle.std.proofs.Common.{ap, sym, subst, ◌∙◌, arith, ◌≡◌, true, false, refl}
 use Rattle.rb_model.specs.Connections.{settled}
+use Rattle.rb_connections.specs.contracts.connections.Connections.{the_view}
 use Rattle.rb_connections.specs.Settling.{served_in}
 use Rattle.rb_connections.specs.StandsFor.{StandsForConnections, source_for}
 use Rattle.rb_connections.specs.Slots.{HasBuffers}
+use Rattle.rb_connections.specs.Awaits.{has_idle, is_free}
 use Rattle.rb_connections.proofs.Holding.{stays_changed}
 use Rattle.rb_connections.proofs.Slots.{gone_stays, live_changed}
-use Rattle.std.proofs.Common.{◌≡◌, true, false, refl}
-use Rattle.rb_connections.specs.Awaits.{has_idle, is_free}
 use Rattle.rb_connections.proofs.Freed.{found_live, none_idle, one_freed, now_awaits, only_from}
 use Rattle.rb_connections.proofs.Listings.{lists_changed}
-use Rattle.std.specs.Map.{values_of}
 use Rattle.rb_connections.proofs.ByHint.{distinct_numbers}
 use Rattle.rb_connections.proofs.LiveSlots.{within_by, live_fits, live_table}
 use Rattle.rb_connections.proofs.connections.Connections.settle.Goals as goal

@@ -1,14 +1,14 @@
+use Rattle.std.specs.Map.{values_of}
 use Rattle.std.proofs.Common.{length, Ok, ap, sym, subst, ◌∙◌, arith}
-use Rattle.rb_connections.specs.contracts.connections.Connections.{the_view}
+use Rattle.rb_xdr.proofs.PoolLemmas.{length-with}
 use Rattle.rb_model.specs.Connections.{on_live}
+use Rattle.rb_connections.specs.contracts.connections.Connections.{the_view}
 use Rattle.rb_connections.specs.Slots.{Shows, HasBuffers, feeding, arguments_on}
 use Rattle.rb_connections.specs.StandsFor.{StandsForConnections}
 use Rattle.rb_connections.specs.Awaits.{GoOn}
 use Rattle.rb_connections.proofs.GoingOn.{goes_on_same, goes_on_changed}
 use Rattle.rb_connections.proofs.Slots.{acts_from, gone_acts, live_acts, gone_arguments, live_arguments}
-use Rattle.rb_xdr.proofs.PoolLemmas.{length-with}
 use Rattle.rb_connections.proofs.Freed.{found_live, hears_from, heard_from}
-use Rattle.std.specs.Map.{values_of}
 use Rattle.rb_connections.proofs.ByHint.{distinct_numbers}
 use Rattle.rb_connections.proofs.LiveSlots.{within_by, live_fits, live_table}
 use Rattle.rb_connections.proofs.connections.Connections.take.Goals as goal

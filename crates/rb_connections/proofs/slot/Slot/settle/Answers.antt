@@ -5,29 +5,29 @@ use Rattle.rb_connections.proofs.Progress.{slot_lists_on, slot_begins}
 use Rattle.rb_connections.proofs.ReplyHeads.{fresh_is_some}
 use Rattle.rb_connections.proofs.slot.Slot.settle.Goals as goal
 
-pub returns-in-Told-NoCall-clause-stands : goal.returns-in-Told-NoCall-clause-stands
+pub returns-in-Answered-NoCall-clause-stands : goal.returns-in-Answered-NoCall-clause-stands
 unfolding settled
-returns-in-Told-NoCall-clause-stands c = λ x h. rw (c.in-Told-NoCall.is, rw c.in-Told-NoCall.is at c.in-Told-NoCall.field-0-is) (record { number = h.number; peer = h.peer; since = refl; phase = tt })
+returns-in-Answered-NoCall-clause-stands c = λ x h. rw (c.in-Answered-NoCall.is, rw c.in-Answered-NoCall.is at c.in-Answered-NoCall.field-0-is) (record { number = h.number; peer = h.peer; since = refl; phase = tt })
 
-pub returns-in-Told-Forwarded-clause-stands : goal.returns-in-Told-Forwarded-clause-stands
+pub returns-in-Answered-Forwarded-clause-stands : goal.returns-in-Answered-Forwarded-clause-stands
 unfolding settled
-returns-in-Told-Forwarded-clause-stands c = λ x h.
-    rw (c.in-Told-Forwarded.is, rw c.in-Told-Forwarded.is at c.in-Told-Forwarded.field-0-is, c.empty.ensures.emptied) (record { number = h.number; peer = h.peer; since = refl; phase = (refl, refl) })
+returns-in-Answered-Forwarded-clause-stands c = λ x h.
+    rw (c.in-Answered-Forwarded.is, rw c.in-Answered-Forwarded.is at c.in-Answered-Forwarded.field-0-is, c.empty.ensures.emptied) (record { number = h.number; peer = h.peer; since = refl; phase = (refl, refl) })
 
-pub returns-in-Told-Silent-clause-stands : goal.returns-in-Told-Silent-clause-stands
+pub returns-in-Answered-Silent-clause-stands : goal.returns-in-Answered-Silent-clause-stands
 unfolding settled
-returns-in-Told-Silent-clause-stands c = λ x h.
-    rw (c.in-Told-Silent.is, rw c.in-Told-Silent.is at c.in-Told-Silent.field-0-is, c.empty-in-Told-Silent.ensures.emptied) (record { number = h.number; peer = h.peer; since = refl; phase = (refl, refl) })
+returns-in-Answered-Silent-clause-stands c = λ x h.
+    rw (c.in-Answered-Silent.is, rw c.in-Answered-Silent.is at c.in-Answered-Silent.field-0-is, c.empty-in-Answered-Silent.ensures.emptied) (record { number = h.number; peer = h.peer; since = refl; phase = (refl, refl) })
 
-pub returns-in-Told-Reply-clause-stands : goal.returns-in-Told-Reply-clause-stands
+pub returns-in-Answered-Reply-clause-stands : goal.returns-in-Answered-Reply-clause-stands
 unfolding settled
-returns-in-Told-Reply-clause-stands c = λ x h.
-    rw (c.in-Told-Reply.is, rw c.in-Told-Reply.is at c.in-Told-Reply.field-0-is)
+returns-in-Answered-Reply-clause-stands c = λ x h.
+    rw (c.in-Answered-Reply.is, rw c.in-Answered-Reply.is at c.in-Answered-Reply.field-0-is)
     (slot_begins _ _ _ c.show.new.self c.show.ensures.shows c.args.clock x c.args.draft.now.bytes None h.number h.peer refl c.requires.buffers.window_cap
     (ap (λ (k : Kept). k.bytes) c.swap.ensures.x_after) refl)
 
-pub returns-in-Told-Reply-clause-lists : goal.returns-in-Told-Reply-clause-lists
-returns-in-Told-Reply-clause-lists c = slot_lists_on _ _ _ c.show.new.self c.show.ensures.shows
+pub returns-in-Answered-Reply-clause-lists : goal.returns-in-Answered-Reply-clause-lists
+returns-in-Answered-Reply-clause-lists c = slot_lists_on _ _ _ c.show.new.self c.show.ensures.shows
 
 pub show-requires-in-Listed-clause-some : goal.show-requires-in-Listed-clause-some
 show-requires-in-Listed-clause-some c =

@@ -1,7 +1,7 @@
-use Rattle.std.proofs.Common.{◌≡◌, true, false, Bool, List, ℕ, [], length, take, refl, sym, subst, arith, ◌∙◌}
-use Rattle.std.proofs.lemmas.List.{length-take}
 use Rattle.std.specs.Borrow.{Bor}
 use Rattle.std.specs.Prelude.{Option}
+use Rattle.std.proofs.Common.{◌≡◌, true, false, Bool, List, ℕ, [], length, take, refl, sym, subst, arith, ◌∙◌}
+use Rattle.std.proofs.lemmas.List.{length-take}
 use Rattle.rb_xdr.specs.Kept.{Kept}
 use Rattle.rb_rpc.specs.declared.peer.Peer.{Peer}
 use Rattle.rb_rpc.specs.declared.peer.Caller.TheVariants.{Tcp}
@@ -15,20 +15,20 @@ use Rattle.rb_model.specs.Calls.Outcome.{Silent}
 use Rattle.rb_model.specs.State.{State, Connections}
 use Rattle.rb_model.specs.Step.{settled_in, serve_message}
 use Rattle.rb_connections.specs.declared.slot.Heard.{Heard}
-use Rattle.rb_core.specs.contracts.engine.Core.{the_view}
-use Rattle.rb_core.specs.StandsFor.{Held, StandsFor}
 use Rattle.rb_connections.specs.StandsFor.{StandsForConnections, Source, Table}
-use Rattle.rb_core.specs.Core.{arguments_in, answering_heard, context_of, without_arguments}
 use Rattle.rb_connections.specs.Slots.{Acts, BecomesFrom, StaysTable}
 use Rattle.rb_connections.specs.Awaits.{has_idle, IsIdleSince}
+use Rattle.rb_connections.specs.Settling.{Settles, served_in}
+use Rattle.rb_connections.proofs.Settled.{settled_stays}
+use Rattle.rb_core.specs.contracts.engine.Core.{the_view}
+use Rattle.rb_core.specs.StandsFor.{Held, StandsFor}
+use Rattle.rb_core.specs.Core.{arguments_in, answering_heard, context_of, without_arguments}
 use Rattle.rb_core.specs.Eviction.{source_in}
 use Rattle.rb_core.specs.Serving.{ServesInRoom, ServesVerdict}
-use Rattle.rb_connections.specs.Settling.{Settles, served_in}
 use Rattle.rb_core.specs.AtOnce.{AnswersGiving, GivesAtOnce, IsGivenAtOnce, answered_giving, given_when_answered}
 use Rattle.rb_core.proofs.Answering.{sees}
 use Rattle.rb_core.proofs.AtOnce.{Leaves, leaves_none, leaves_all, answer_giving, answer_counts, counts_served, count_of}
 use Rattle.rb_core.proofs.Steps.{Served as ServedIn}
-use Rattle.rb_connections.proofs.Settled.{settled_stays}
 use Rattle.rb_core.proofs.engine.Core.answer.Goals as goal
 
 -- ---- a record that is answered

@@ -1,8 +1,8 @@
 use Rattle.std.proofs.lemmas.Result.{err_from_is_err_and}
-use Rattle.rb_core.specs.contracts.engine.Core.{the_view}
-use Rattle.rb_core.proofs.Steps.{closed_acts, closed_refused}
-use Rattle.rb_core.specs.StandsFor.{source_of}
 use Rattle.std.proofs.Common.{refl, rules}
+use Rattle.rb_core.specs.contracts.engine.Core.{the_view}
+use Rattle.rb_core.specs.StandsFor.{source_of}
+use Rattle.rb_core.proofs.Steps.{closed_acts, closed_refused}
 use Rattle.rb_core.proofs.Begun.{began, acts_begun}
 use Rattle.rb_core.proofs.Cores.{core_changed}
 use Rattle.rb_core.proofs.engine.Core.closed.Goals as goal

@@ -1,20 +1,20 @@
-use Rattle.std.proofs.Common.{rules, ◌≡◌, ℕ, List, length, take, ◌+◌, Option, Some, None, Ok, refl, sym, subst, arith}
 use Rattle.std.specs.Borrow.{Bor}
+use Rattle.std.proofs.Common.{rules, ◌≡◌, ℕ, List, length, take, ◌+◌, Option, Some, None, Ok, refl, sym, subst, arith}
 use Rattle.std.proofs.lemmas.Result.{err_from_is_err_and}
-use Rattle.rb_core.specs.contracts.engine.Core.{the_view}
 use Rattle.rb_xdr.specs.Meter.{Meter, PaysAtMost}
-use Rattle.rb_core.specs.CallCosts.{sizes_of}
 use Rattle.rb_model.specs.Costs.{bytes_cost}
-use Rattle.rb_core.specs.Core.{arguments_in}
-use Rattle.rb_core.specs.StandsFor.{Held, StandsFor, source_of}
-use Rattle.rb_connections.specs.StandsFor.{StandsForConnections}
-use Rattle.rb_connections.specs.Slots.{Acts, Shows, feeding, arguments_on}
 use Rattle.rb_model.specs.State.{State}
 use Rattle.rb_model.specs.Connections.{on_live, live_connection}
+use Rattle.rb_connections.specs.StandsFor.{StandsForConnections}
+use Rattle.rb_connections.specs.Slots.{Acts, Shows, feeding, arguments_on}
+use Rattle.rb_connections.specs.Giving.{whole_cost}
+use Rattle.rb_core.specs.contracts.engine.Core.{the_view}
+use Rattle.rb_core.specs.CallCosts.{sizes_of}
+use Rattle.rb_core.specs.Core.{arguments_in}
+use Rattle.rb_core.specs.StandsFor.{Held, StandsFor, source_of}
 use Rattle.rb_core.proofs.Spending.{looked_paid, received_paid, answered_paid}
 use Rattle.rb_core.proofs.Steps.{bytes_refused, quiet_acts, quiet_gives_none, with_heard, fed_by, held_after}
 use Rattle.rb_core.proofs.AtOnce.{plainly, counted, none_refused, by_count, exchange_heard, counted_heard, whole_few}
-use Rattle.rb_connections.specs.Giving.{whole_cost}
 use Rattle.rb_core.proofs.Begun.{began, still_stands, acts_begun, shows_begun}
 use Rattle.rb_core.proofs.CallBounds.{exchange_within}
 use Rattle.rb_core.proofs.Cores.{core_moved}

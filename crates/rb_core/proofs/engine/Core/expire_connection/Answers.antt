@@ -1,9 +1,9 @@
 use Rattle.std.proofs.Common.{◌≡◌, sym, ap, ◌∙◌}
-use Rattle.rb_core.specs.contracts.engine.Core.{the_view}
 use Rattle.rb_model.specs.Ending.{closed_as, expire_connection}
+use Rattle.rb_core.specs.contracts.engine.Core.{the_view}
+use Rattle.rb_core.specs.StandsFor.{source_of}
 use Rattle.rb_core.proofs.Steps.{acts_from}
 use Rattle.rb_core.proofs.Expiries.{due_closed}
-use Rattle.rb_core.specs.StandsFor.{source_of}
 use Rattle.rb_core.proofs.Cores.{core_moved}
 use Rattle.rb_core.proofs.Awaited.{awaited_by_table}
 use Rattle.rb_core.proofs.engine.Core.expire_connection.Goals as goal

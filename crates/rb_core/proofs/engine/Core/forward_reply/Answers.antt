@@ -1,7 +1,7 @@
-use Rattle.rb_core.specs.contracts.engine.Core.{the_view}
-use Rattle.rb_model.specs.Ending.{forward_reply}
-use Rattle.rb_proto.specs.Forwarding.{replied}
 use Rattle.std.proofs.Common.{max}
+use Rattle.rb_proto.specs.Forwarding.{replied}
+use Rattle.rb_model.specs.Ending.{forward_reply}
+use Rattle.rb_core.specs.contracts.engine.Core.{the_view}
 use Rattle.rb_core.proofs.Steps.{none_ended, one_ended, replied_alike}
 use Rattle.rb_core.proofs.Begun.{began, acts_begun}
 use Rattle.rb_core.proofs.engine.Core.forward_reply.Goals as goal

@@ -1,7 +1,7 @@
 use Rattle.std.proofs.lemmas.Result.{err_from_is_err_and}
 use Rattle.rb_core.specs.contracts.engine.Core.{the_view}
-use Rattle.rb_core.proofs.Steps.{open_done, open_refused}
 use Rattle.rb_core.specs.StandsFor.{source_of}
+use Rattle.rb_core.proofs.Steps.{open_done, open_refused}
 use Rattle.rb_core.proofs.Begun.{began, acts_begun}
 use Rattle.rb_core.proofs.Cores.{core_moved}
 use Rattle.rb_core.proofs.Awaited.{awaited_by_table}

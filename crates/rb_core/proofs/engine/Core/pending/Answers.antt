@@ -1,8 +1,8 @@
 use Rattle.std.proofs.Common.{◌+◌, refl, sym, subst}
 use Rattle.rb_xdr.specs.Meter.{PaysAtMost}
-use Rattle.rb_connections.specs.Costs.{look_cost}
 use Rattle.rb_model.specs.Costs.{pending_cost}
 use Rattle.rb_model.specs.Step.{pending}
+use Rattle.rb_connections.specs.Costs.{look_cost}
 use Rattle.rb_core.specs.StandsFor.{Held, StandsFor, source_of}
 use Rattle.rb_core.specs.Events.{lent_by}
 use Rattle.rb_core.specs.contracts.engine.Core.{the_view}

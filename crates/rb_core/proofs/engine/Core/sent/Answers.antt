@@ -1,5 +1,5 @@
-use Rattle.std.proofs.Common.{◌≡◌, Bool, true, false, Result, Ok, Err, refl}
 use Rattle.std.specs.Prelude.{IsOk}
+use Rattle.std.proofs.Common.{◌≡◌, Bool, true, false, Result, Ok, Err, refl}
 use Rattle.rb_forward.specs.declared.types.Gone.{Gone}
 use Rattle.rb_core.specs.contracts.engine.Core.{the_view}
 use Rattle.rb_core.proofs.Steps.{sent_acts, sent_refused}

@@ -2,10 +2,10 @@ use Rattle.std.proofs.Common.{refl, subst}
 use Rattle.rb_xdr.specs.Meter.{PaysAtMost}
 use Rattle.rb_forward.specs.Costs.{unsent_cost}
 use Rattle.rb_forward.specs.Table.{seen, count_lent}
-use Rattle.rb_core.specs.contracts.engine.Core.{the_view}
-use Rattle.rb_connections.specs.Slots.{Shows}
-use Rattle.rb_core.specs.StandsFor.{Held, StandsFor}
 use Rattle.rb_model.specs.Step.{unsent_call}
+use Rattle.rb_connections.specs.Slots.{Shows}
+use Rattle.rb_core.specs.contracts.engine.Core.{the_view}
+use Rattle.rb_core.specs.StandsFor.{Held, StandsFor}
 use Rattle.rb_core.proofs.Begun.{begins_at}
 use Rattle.rb_core.proofs.CallBounds.{unsent_within}
 use Rattle.rb_core.proofs.Steps.{unsent_shown}

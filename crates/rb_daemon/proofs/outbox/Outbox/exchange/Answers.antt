@@ -1,8 +1,8 @@
 use Rattle.std.proofs.Common.{ℕ, List, ◌≤◌, ◌+◌, ◌-◌, ◌++◌, take, drop, length, ap, ◌∙◌, arith}
 use Rattle.std.proofs.lemmas.List.{with_items_is}
-use borrow.Rule.Slice.PartMut.{post_of}
 use Rattle.rb_daemon.proofs.Outboxes.{waits_more, room_stays}
 use Rattle.rb_daemon.proofs.outbox.Outbox.exchange.Goals as goal
+use borrow.Rule.Slice.PartMut.{post_of}
 
 pub returns-clause-acts : goal.returns-clause-acts
 returns-clause-acts c =

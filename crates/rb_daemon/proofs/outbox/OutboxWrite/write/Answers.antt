@@ -1,8 +1,8 @@
 use Rattle.std.proofs.Common.{ℕ, List, ◌≤◌, ◌+◌, ◌-◌, ◌++◌, take, drop, length, ap, ◌∙◌, arith}
 use Rattle.std.proofs.lemmas.List.{with_items_is, length-take, take-take}
-use borrow.Rule.Slice.PartMut.{post_of}
 use Rattle.rb_daemon.proofs.Outboxes.{waits_more, room_stays}
 use Rattle.rb_daemon.proofs.outbox.OutboxWrite.write.Goals as goal
+use borrow.Rule.Slice.PartMut.{post_of}
 
 pub returns-clause-bytes : goal.returns-clause-bytes
 returns-clause-bytes c =
