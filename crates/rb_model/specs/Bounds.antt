@@ -47,17 +47,17 @@ bytes_lent (UnsentIs (Some unsent)) = length unsent.call
 bytes_lent (RepliedTo peer reply) = length reply
 bytes_lent other = 0
 
--- the bytes that an event lends, or tells that they were given
+-- the bytes that an event lends, or reports as given
 abbrev pub bytes_out : Event → Output → ℕ
 bytes_out (Gave now id n) Done = n
 bytes_out event output = bytes_lent output
 
--- for an event at these limits that takes so many bytes, and lends so many or tells that so many were given
+-- the most steps of an event at these limits, where it takes so many bytes, and lends or reports as given so many
 abbrev pub steps_bound : Limits → ℕ → ℕ → ℕ
 steps_bound limits taken given =
     8 * taken + 8 * given + 64 * (limits.conns + limits.rows + most_keys + limits.forwards) + 16 * greatest_call
 
--- of an event in a state
+-- the same of an event in a state
 abbrev pub bound_at : State → Event → ℕ
 bound_at s event =
     let output : Output = (step s event).0 in steps_bound s.setting.limits (bytes_in event output) (bytes_out event output)

@@ -28,7 +28,7 @@ use Rattle.rb_model.specs.declared.message.Message.TheVariants as says
 
 -- ---- what a message says
 
--- the versions of program 100000
+-- the versions of program 100000 that are served
 unfoldable pub is_served : ℕ → Bool
 is_served vers = vers == 2 || vers == 3 || vers == 4
 
@@ -102,22 +102,23 @@ results_outcome (Udp peer) count xid bytes (results.Rows list) = Reply (success 
 results_outcome caller count xid bytes (results.Value value) = Reply (success xid bytes) None
 results_outcome caller count xid bytes results.Statistics = Reply (success xid bytes) None
 
--- what an answer to a caller comes to after so many changes, where these are the bytes of results
+-- the outcome of an answer to a caller after so many changes; `bytes_of` gives the bytes of results
 abbrev pub answer_outcome : Caller → ℕ → ℕ → (Results → List ℕ) → Answer → Outcome
 answer_outcome caller count xid bytes_of (answers.Results results) = results_outcome caller count xid (bytes_of results) results
 answer_outcome caller count xid bytes_of (answers.Refused status) = Reply (reply_head xid status) None
 answer_outcome caller count xid bytes_of answers.Forwarded = Forwarded
 answer_outcome caller count xid bytes_of answers.Silent = Silent
 
--- the outcome with an answer, where this is remembered after it
+-- the outcome of an answer, and the ledger after it
 abbrev pub reply_with : Context → ℕ → Answer × Ledger → Outcome × Ledger
 reply_with context xid (given, ledger) = (
   answer_outcome context.caller (length ledger.changes) xid (result_bytes context.listener.host (shown_of ledger)) given,
   ledger,
 )
 
--- What a message is answered with where a call sees this, and the ledger after it; these are the bytes behind its head. A
--- call of a procedure that is served is noted before it is answered, and one that is refused before that is not.
+-- What a message is answered with in this context, and the ledger after it; `arguments` are the bytes behind its
+-- head. A call of a procedure that is served is noted in the history of calls before it is answered; one that is
+-- refused before that is not.
 unfoldable pub outcome : Context → Message → List ℕ → Ledger → Outcome × Ledger
 outcome context says.NoCall arguments ledger = (NoCall, ledger)
 outcome context (says.Refused head) arguments ledger = (Reply (reply_head head.xid head.status) None, ledger)
@@ -132,6 +133,6 @@ outcome context (says.Asked call) arguments ledger =
 unfoldable pub longest_arguments : ℕ
 longest_arguments = 8816
 
--- What is kept of a record with this data: the first bytes behind the head of its call, and of no call nothing.
+-- What is kept of a record with this data: the first bytes behind the head of its call, nothing where it is no call.
 abbrev pub kept_of : List ℕ → List ℕ
 kept_of content = take longest_arguments (arguments_of content)

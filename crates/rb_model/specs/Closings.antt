@@ -25,7 +25,7 @@ pub record EndsNoCall (id : ℕ) (c : Connection) (event : Event) : Type 0 where
   pub ends : first_record (fed ++ piece) ≡ Some n
   pub no_call : message_of (data_of (take n (fed ++ piece))) ≡ says.NoCall
 
--- the event does one due thing, and the connection is it: no entry is due, and no connection of lesser number
+-- the event is an `expire`, this connection is due, and neither a forwarded call nor a connection of lesser number is
 pub record EndsAtDeadline (s : State) (id : ℕ) (c : Connection) (event : Event) : Type 0 where
   pub now : ℕ
   pub is : event ≡ Expire now

@@ -17,7 +17,7 @@ use Rattle.rb_model.specs.Calls.Outcome.{NoCall, Reply, Forwarded, Silent}
 unfoldable pub longest_fragment : ℕ
 longest_fragment = 1028
 
--- of what is still to be given, what is left of the fragment in which the giving stands
+-- what is still to be given of the current fragment, in which the next byte to be given stands
 unfoldable pub pending_of : Owed → List ℕ
 pending_of o = drop o.given (take (longest_fragment * (o.given / longest_fragment + 1)) o.marked)
 
@@ -27,14 +27,15 @@ owed_of reply began given = record { marked = marked reply; given = given; began
 
 -- ---- bytes that arrive on one (RFC 5531 section 11)
 
--- What a connection takes of a piece of bytes: none of it; or all, no record ends in it, and all these bytes are fed
--- since the last record's end; or so many bytes, with which the first record ends, and its data.
+-- What a connection takes of a piece of bytes: nothing; or all of it, where no record ends in it (`GoesOn`, with all
+-- bytes since the last record's end); or its bytes up to the end of the first record (`Ends`, with how many they are,
+-- and the record's data).
 pub data Taking : Type 0 where
   TakesNone : Taking
   GoesOn : List ℕ → Taking
   Ends : ℕ → List ℕ → Taking
 
--- the bytes fed since the last record's end, where the connection takes any now
+-- the bytes that came since the last record's end; None where the connection takes no bytes now
 abbrev pub fed_in : Phase → Option (List ℕ)
 fed_in Idle = Some []
 fed_in (Reading fed) = Some fed
@@ -55,7 +56,7 @@ taking_behind None piece = TakesNone
 taking_behind (Some fed) [] = TakesNone
 taking_behind (Some fed) (byte ∷ piece) = taking_on fed (byte ∷ piece)
 
--- in this phase
+-- what a connection in this phase takes of the piece
 unfoldable pub taking : Phase → List ℕ → Taking
 taking phase piece = taking_behind (fed_in phase) piece
 
@@ -67,7 +68,7 @@ since_when_fed clock since (Owing owed) = since
 since_when_fed clock since Awaiting = since
 since_when_fed clock since Lost = since
 
--- no record ended yet
+-- the connection after bytes with which no record ended
 unfoldable pub reading : ℕ → List ℕ → Connection → Connection
 reading clock fed c = record c { phase = Reading fed; since = since_when_fed clock c.since c.phase }
 
@@ -77,7 +78,7 @@ phase_after (Reply bytes began) = Owing (owed_of bytes began 0)
 phase_after Forwarded = Awaiting
 phase_after Silent = Idle
 
--- once the record that ended is answered, or the call that was forwarded
+-- the connection once its record is answered, or the call that was forwarded for it has ended
 unfoldable pub settled : ℕ → Outcome → Connection → Connection
 settled clock given c = record c { phase = phase_after given; since = clock }
 
@@ -126,7 +127,7 @@ is_live id c = c.number == id && not (is_lost c.phase)
 unfoldable pub live_connection : ℕ → List Connection → Option Connection
 live_connection id all = find (is_live id) all
 
--- the values, with the first changed that passes a test
+-- the values, of which the first that passes the test is changed
 abbrev pub change_first : {A : Type 0} → (A → Bool) → (A → A) → List A → List A
 change_first test change [] = []
 change_first test change (x ∷ xs) = if test x then change x ∷ xs else x ∷ change_first test change xs
@@ -148,7 +149,7 @@ on_live id act connections = on_found id act connections (live_connection id con
 
 -- ---- how they come and go
 
--- Lost connections count until they are closed
+-- the number of a new connection, or why there is none: Lost ones count until they are closed
 unfoldable pub number_for : ℕ → Connections → Result ℕ CoreFault
 number_for conns c =
     if not (nat_lt (length c.all) conns) then Err Full
@@ -179,6 +180,6 @@ is_there id c = list_any (has_number id) c.all
 unfoldable pub without_number : ℕ → Connections → Connections
 without_number id c = record c { all = filter (λ (x : Connection). not (x.number == id)) c.all }
 
--- live or Lost, it is there no longer
+-- the connection of the number, live or Lost, is removed
 unfoldable pub closing_of : ℕ → Connections → Result (Unit {0}) CoreFault × Connections
 closing_of id c = if is_there id c then (Ok tt, without_number id c) else (Err Gone, c)

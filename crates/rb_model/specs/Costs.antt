@@ -11,17 +11,17 @@ use Rattle.rb_model.specs.Connections.Taking.{TakesNone, GoesOn, Ends}
 use Rattle.rb_model.specs.Step.{Event, unsent_call, step}
 use Rattle.rb_model.specs.Step.Event.{Open, Bytes, Pending, Gave, Closed, NextLost, Datagram, Unsent, Sent, Forward, Expire}
 
--- ---- by what costs grow
+-- ---- what costs depend on
 
--- how many connections there are, Lost ones too; how many rows are kept, live or retained, before a call and after it; and
--- how many forwarded calls there may be
+-- how many connections there are, Lost ones too; how many rows are kept, live or retained, before a call and after it
+-- (`left`); and how many forwarded calls there may be
 pub record Sizes : Type 0 where
   pub connections : ℕ
   pub rows : ℕ
   pub left : ℕ
   pub forwards : ℕ
 
--- those of a state: of rows there are at most as many as there may be
+-- those of a state, whose rows count as many as there may be
 abbrev pub sizes_in : State → Sizes
 sizes_in s = record {
   connections = length s.connections.all;
@@ -55,7 +55,7 @@ listed_cost rows = 3 * rows + part_room + 6 + show_cost
 abbrev pub pending_cost : ℕ
 pending_cost = 1029
 
--- what it costs to look at what a connection counts as, before a change and after it
+-- what it costs to count the bytes that a connection holds, before a change and after it
 abbrev pub recount_cost : ℕ
 recount_cost = 4
 
@@ -63,7 +63,7 @@ recount_cost = 4
 abbrev pub given_cost : ℕ → ℕ
 given_cost rows = 3 + listed_cost rows
 
--- what it costs to look a connection up, at the hint, there once more where a record comes whole, and among so many, and
+-- what it costs to look a connection up: under its hint, twice where a record comes whole, then among so many, and
 -- its slot
 abbrev pub find_cost : ℕ → ℕ
 find_cost connections = 2 * connections + 4
@@ -72,7 +72,7 @@ find_cost connections = 2 * connections + 4
 abbrev pub take_cost : ℕ → ℕ
 take_cost count = count + 1
 
--- what it costs to exchange the buffer of a record that ended for an empty one
+-- what it costs to swap the buffer of a record that ended for an empty one
 abbrev pub exchange_cost : ℕ
 exchange_cost = 1
 
@@ -80,11 +80,11 @@ exchange_cost = 1
 abbrev pub oldest_cost : ℕ → ℕ
 oldest_cost connections = 2 * connections + 1
 
--- what it costs to close those of them that are in the way of a row
+-- what it costs to make those of so many connections Lost whose lists are in the way of a row
 abbrev pub evict_cost : ℕ → ℕ
 evict_cost connections = 3 * connections + 1
 
--- what it costs to look whether there is room, whether a row wants it among those that are kept, and to make it
+-- what it costs to check whether there is room for a row, and whether a message wants it, and to make it
 abbrev pub room_cost : Sizes → ℕ
 room_cost sizes = 14 * sizes.rows + 2 * oldest_cost sizes.connections + evict_cost sizes.connections + 12
 
@@ -114,13 +114,13 @@ tell_cost connections = put_end_cost longest_reply + find_cost connections + sho
 
 -- ---- calls
 
--- to take bytes on a connection that is found: so many of them
+-- how many bytes of a piece are taken
 abbrev pub count_taken : List ℕ → Taking → ℕ
 count_taken piece TakesNone = 0
 count_taken piece (GoesOn fed) = length piece
 count_taken piece (Ends n content) = n
 
--- and to answer the record that ends with them
+-- to answer the record that ends with them, if one does
 abbrev pub record_cost : Sizes → Taking → ℕ
 record_cost sizes TakesNone = 0
 record_cost sizes (GoesOn fed) = 0

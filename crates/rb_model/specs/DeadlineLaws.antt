@@ -1,4 +1,4 @@
--- Laws of what is due: 'expire' does the one due thing of least number, and few calls of it reach nothing.
+-- Laws of what is due: `expire` does the one due thing of least number, and after a few calls of it nothing is due.
 use Rattle.std.specs.Prelude.{◌≡◌, ◌≤◌, ℕ, ◌+◌, max, replicate, All, Some, None}
 use Rattle.rb_rpc.specs.declared.reply.ReplyStatus.TheVariants.{SystemErr}
 use Rattle.rb_forward.specs.Forwards.{Entry}
@@ -47,7 +47,7 @@ pub record NothingEnded (now : ℕ) (s : State) (left : State) : Type 0 where
   pub connections : IsLeast (is_due (clock_at now s)) s.connections.all None
   pub same : left ≡ at_fresh_moment now s
 
--- the one of these that it says
+-- what `expire` says that it did is what happened
 abbrev pub DoesOneThing : ℕ → State → Expired × State → Type 0
 DoesOneThing now s (expiries.Ended told, left) = EntryEnded now s told left
 DoesOneThing now s (expiries.ConnectionClosed id, left) = ConnectionEnded now s id left

@@ -34,11 +34,12 @@ refused_by xid (answers.Results results) = Silent
 refused_by xid answers.Forwarded = Silent
 refused_by xid answers.Silent = Silent
 
--- what the caller of a call is told that failed so
+-- what the caller is told where its forwarded call failed with this status
 abbrev pub told_failed : Forward → ReplyStatus → Outcome
 told_failed forward status = refused_by forward.xid (refusal forward.kind status)
 
--- what the caller of a call is told that ended so, by this datagram of its target: the results are its last bytes
+-- what the caller is told where its forwarded call ended with this outcome; `message` is the datagram of the target,
+-- whose last bytes are the results
 abbrev pub told_of : Forward → List ℕ → target.Outcome → Outcome
 told_of forward message (Passed place) = Reply (success forward.xid (forwarded_bytes forward (drop place message))) None
 told_of forward message (Refused status) = told_failed forward status
@@ -61,18 +62,19 @@ abbrev pub tell : Caller → Outcome → State → Told × State
 tell (Tcp id peer) said s = (TcpReady id, on_connection id (settled s.clock said) s)
 tell (Udp peer) said s = (told_over_udp peer said, record s { reply = reply_in said })
 
--- An entry ends, if there is one, with this left behind, and its caller is told how, where it ended by this datagram.
+-- An entry has ended, if there is one, and this is the ledger after it: its caller is told how it ended. `message` is
+-- the datagram that ended it.
 abbrev pub tell_end : List ℕ → State → Option entry.Ended × Ledger → Option Told × State
 tell_end message s (None, ledger) = (None, record s { ledger = ledger })
 tell_end message s (Some ended, ledger) =
     let after : Told × State = tell ended.forward.caller (told_at message ended) (record s { ledger = ledger }) in
     (Some after.0, after.1)
 
--- the state at a moment at which the last reply over UDP is taken back
+-- the state at a moment, with no last reply over UDP
 abbrev pub at_fresh_moment : ℕ → State → State
 at_fresh_moment now s = record (at_moment now s) { reply = [] }
 
--- A datagram of a target comes in: None where it is no reply to an entry.
+-- A datagram comes in where forwarded calls are sent from: None where it is no reply to an entry.
 unfoldable pub forward_reply : State → ℕ → Peer → List ℕ → Option Told × State
 forward_reply s now from message =
     tell_end message (at_fresh_moment now s) (replied s.setting.first_xid (max s.clock now) from message s.ledger)

@@ -91,7 +91,7 @@ DeadlinesEndOne = (s : State) (now : ℕ) → EndsByDeadline s now (expire s now
 
 -- ---- what callers over UDP get
 
--- the output that brings it to them
+-- the output with what they are told
 abbrev pub later_output : Peer → Outcome → Output
 later_output peer (Reply reply began) = RepliedTo peer reply
 later_output peer NoCall = outputs.Silent
@@ -143,7 +143,7 @@ EventsChangeAtMostOne = (s : State) (event : Event) → ChangesAtMostOne s (step
 abbrev pub gone_with : State → Event → List ℕ
 gone_with s event = filter (λ n. times n (numbers_in (step s event).1) == 0) (numbers_in s)
 
--- these of each event of the run, in order
+-- the same of all events of a run, in order
 abbrev pub ended_in : State → List Event → List ℕ
 ended_in s [] = []
 ended_in s (event ∷ events) = gone_with s event ++ ended_in (step s event).1 events

@@ -1,4 +1,4 @@
--- What messages say, by what they are spelled from (RFC 5531 sections 8 and 9, RFC 1833).
+-- What messages say, by the grammar of their bytes (RFC 5531 sections 8 and 9, RFC 1833).
 use Rattle.std.specs.Prelude.{◌≡◌, ◌<◌, ◌≤◌, ◌↔◌, ◌⊎◌, ℕ, List, drop, Some, None, ⊤}
 use Rattle.rb_xdr.specs.Xdr.{AreBytes}
 use Rattle.rb_rpc.specs.declared.call.CallHead.{CallHead}
@@ -40,8 +40,8 @@ pub record IsOfNoProcedure (head : CallHead) : Type 0 where
 
 -- ---- messages
 
--- The bytes begin with a call of program 100000, and behind its head with the arguments of the request, whose
--- procedure the head's version has under the head's number.
+-- The bytes begin with a call of program 100000, and behind its head with the arguments of the request; its procedure
+-- is the one that the head's version and number name.
 pub record BeginsWithRequest (call : Call) (bytes : List ℕ) : Type 0 where
   pub place : ℕ
   pub head : BeginsWithCall call.head place bytes
@@ -58,7 +58,7 @@ pub record HasUnreadableArguments (head : CallHead) (bytes : List ℕ) : Type 0 
   pub known : procedure_at head.vers head.proc ≡ Some procedure
   pub unreadable : (r : Request) → Asks head.vers head.proc r (drop place bytes) → ⊥
 
--- They begin with a call by this xid, whose head is such a one.
+-- They begin with a call of this xid, and its head has this property.
 pub record BeginsWithCallBy (xid : ℕ) (is_such : CallHead → Type 0) (bytes : List ℕ) : Type 0 where
   pub head : CallHead
   pub place : ℕ

@@ -40,7 +40,7 @@ IsKeptIfRefused (Refused fault) old new = new ≡ old
 IsKeptIfRefused TooMuch old new = new ≡ old
 IsKeptIfRefused other old new = ⊤
 
--- the clock too
+-- A refused event changes nothing, not even the clock.
 abbrev pub RefusedEventsChangeNothing : Type 0
 RefusedEventsChangeNothing =
     (s : State) (event : Event) → IsKeptIfRefused (step s event).0 s (step s event).1
@@ -82,7 +82,7 @@ SameInOnePiece s now id first second =
     let before : Result Taken CoreFault × State = bytes s now id first in
     AreTogether (bytes s now id (first ++ second)) before (bytes before.1 now id second)
 
--- where the connection is fed, no record ends in the piece
+-- no record ends in the piece, where a live connection of the number takes it
 abbrev pub NoRecordEnds : State → ℕ → List ℕ → Type 0
 NoRecordEnds s id piece =
     IfSome (live_connection id s.connections.all) (λ (c : Connection).
@@ -129,7 +129,7 @@ taken_of a = (bytes a.state a.now a.id a.piece).0
 abbrev pub state_after : Arrival → State
 state_after a = (bytes a.state a.now a.id a.piece).1
 
--- the connection is live after it, and nothing of it but `phase` and `since` can be another
+-- the connection is live after the piece, in this phase and with this `since`, and else as it was
 abbrev pub IsNow : Arrival → Phase → ℕ → Type 0
 IsNow a phase since = IsLive (state_after a) a.id (record a.connection { phase = phase; since = since })
 
@@ -152,7 +152,7 @@ pub record ReadsOn (a : Arrival) (fed : List ℕ) : Type 0 where
   pub taken : taken_of a ≡ Ok (record { count = length a.piece; closed = false })
   pub reads : IsNow a (Reading (fed ++ a.piece)) (since_of_record a)
 
--- what a call in these bytes of a record is answered with
+-- the outcome of the record with these bytes
 abbrev pub said_to : Arrival → List ℕ → Outcome
 said_to a record_bytes =
     (serve (at_moment a.now a.state) (Tcp a.id a.connection.peer) (data_of record_bytes)).0
@@ -260,7 +260,7 @@ OwedRepliesStay =
 
 -- ---- the ledger
 
--- What is remembered of the calls.
+-- What is true of all that is remembered of the calls.
 pub record IsWellKept (s : State) : Type 0 where
   -- The own rows are the listener's, and each change was accepted by the rows that were live before it.
   pub own : s.ledger.own ≡ own_rows s.setting.listener

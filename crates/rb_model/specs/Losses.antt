@@ -29,7 +29,8 @@ reading_time = 30000
 abbrev pub owing_time : ℕ
 owing_time = 30000
 
--- In this phase, from `since` on. A call that is awaited has a deadline of its own.
+-- How long a connection may stay in this phase, from `since` on. One that is Awaiting has no
+-- deadline: its forwarded call has one.
 abbrev pub time_in : Phase → Option ℕ
 time_in Idle = Some idle_time
 time_in (Reading fed) = Some reading_time
@@ -39,7 +40,7 @@ time_in Lost = None
 
 -- ---- what is due
 
--- the moment from which a connection is due, by its `since` and its phase; a sum ends at the greatest moment
+-- the moment from which a connection is due, by its `since` and its phase; at most the greatest moment
 abbrev pub deadline : ℕ → Phase → Option ℕ
 deadline since phase = option_map (later since) (time_in phase)
 
@@ -70,7 +71,7 @@ expiring clock c = (first_due clock c, with_lost (first_due clock c) c)
 
 -- ---- retained rows
 
--- the number of changes after which a streamed list began that is unfinished
+-- the stamp of the unfinished list on a connection: how many changes were accepted before it began
 abbrev pub began_in : Phase → Option ℕ
 began_in (Owing o) = o.began
 began_in Idle = None
@@ -106,7 +107,8 @@ asks_room context (says.Garbage head) l = false
 abbrev pub is_crowded : ℕ → List Connection → Ledger → Bool
 is_crowded limit all l = not (nat_lt (length (rows_in l) + length (retained_removals all l)) limit)
 
--- the changes that removed the rows of which one has to go, where a message wants room and there is none
+-- where a message wants room for a row and there is none, the changes that removed the retained rows, of which one
+-- has to go
 unfoldable pub crowding : Context → Message → List Connection → Ledger → List ℕ
 crowding context message all l =
     if asks_room context message l && is_crowded context.limit all l then retained_removals all l else []

@@ -23,21 +23,21 @@ use Rattle.rb_model.specs.Ending.{told_at}
 use Rattle.rb_model.specs.Calls.Outcome.{NoCall, Reply, Forwarded, Silent}
 use Rattle.rb_model.specs.Laws.{IsLive, owed_in, is_awaiting}
 
--- the data of a record, and what was said to it: at the moment that the record ended, or at the end of the call that was
--- forwarded for it
+-- The data of a record, and its outcome: `Forwarded` while its call is forwarded, and then what the connection was
+-- told at the end of that call.
 pub record Exchange : Type 0 where
   pub content : List ℕ
   pub said : Outcome
 
--- What passed on a connection so far: the bytes that were taken, joined, and those that were given, joined;
--- of the former, those behind the last record; and the calls in the records.
+-- What passed on a connection so far: all bytes that were taken, all that were given, those taken behind the last
+-- whole record, and the calls in the records.
 pub record Session : Type 0 where
   pub taken : List ℕ
   pub given : List ℕ
   pub unfinished : List ℕ
   pub calls : List Exchange
 
--- ---- what one event takes and gives, as its line and its output say
+-- ---- what one event takes and gives, by the event and its output
 
 abbrev pub piece_to : ℕ → Event → List ℕ
 piece_to id (Bytes now other piece) = if other == id then piece else []
@@ -62,21 +62,21 @@ given_by s id event other = []
 
 -- ---- the calls
 
--- the state at the moment of a piece
+-- the state at the moment of an event that brings bytes
 abbrev pub at_event : Event → State → State
 at_event (Bytes now id piece) s = at_moment now s
 at_event other s = s
 
--- the call in a record's bytes, and what is said to it where it comes from this caller
+-- a record with this data from this caller, and its outcome in this state
 abbrev pub exchange_in : State → Caller → List ℕ → Exchange
 exchange_in s caller content = record { content = content; said = (serve s caller content).0 }
 
--- the call of a live connection in a record's bytes
+-- the call in these bytes of a record, none where no connection of the number is live
 abbrev pub call_in : State → ℕ → List ℕ → Option Connection → List Exchange
 call_in s id record_bytes None = []
 call_in s id record_bytes (Some c) = exchange_in s (Tcp id c.peer) (data_of record_bytes) ∷ []
 
--- where the bytes since the last record are a record
+-- the call that ended, where the bytes since the last record are a whole record
 abbrev pub calls_ended : State → ℕ → List ℕ → Option ℕ → List Exchange
 calls_ended s id bytes None = []
 calls_ended s id bytes (Some n) = call_in s id bytes (live_connection id s.connections.all)
@@ -85,7 +85,7 @@ abbrev pub left_behind : List ℕ → Option ℕ → List ℕ
 left_behind bytes None = bytes
 left_behind bytes (Some n) = []
 
--- what the end of an entry tells a connection
+-- what a connection is told where a forwarded call ended, if that was one of its own
 abbrev pub told_ended : ℕ → List ℕ → Option Ended → Option Outcome
 told_ended id message None = None
 told_ended id message (Some ended) = if is_connection id ended.forward.caller then Some (told_at message ended) else None
@@ -97,7 +97,7 @@ told_by s id (Forward now from message) =
 told_by s id (Expire now) = told_ended id [] (fell_due (max s.clock now) s.ledger).0
 told_by s id other = None
 
--- the last call is told so
+-- the calls, with this outcome for the last one
 abbrev pub with_last_told : Outcome → List Exchange → List Exchange
 with_last_told said [] = []
 with_last_told said (call ∷ []) = record call { said = said } ∷ []
@@ -112,7 +112,7 @@ with_told (Some said) calls = with_last_told said calls
 abbrev pub nothing_passed : Session
 nothing_passed = record { taken = []; given = []; unfinished = []; calls = [] }
 
--- `more` is taken and `gave` is given
+-- the session once the bytes `more` were taken and the bytes `gave` were given
 abbrev pub passed : State → ℕ → List ℕ → List ℕ → Session → Session
 passed s id more gave t = record {
   taken = t.taken ++ more;
@@ -203,7 +203,7 @@ pub record IsLiveSession (id : ℕ) (s : State) (c : Connection) (t : Session) :
 pub record IsWholeSession (id : ℕ) (s : State) (t : Session) : Type 0 where
   -- The bytes taken are the marked records of the calls, joined, and then those of no whole record.
   pub records : AreBytes t.taken → Records t.taken (contents_of t.calls) t.unfinished
-  -- They are so in no other way.
+  -- No other split of them into records is right.
   pub only : (contents : List (List ℕ)) (rest : List ℕ) → AreBytes t.taken
       → Records t.taken contents rest → (contents ≡ contents_of t.calls) × (rest ≡ t.unfinished)
   -- The bytes given are a front of the marked replies, joined.

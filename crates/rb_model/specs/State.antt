@@ -8,7 +8,7 @@ use Rattle.rb_model.specs.declared.types.Limits.{Limits}
 use Rattle.rb_model.specs.declared.types.CoreFault.{CoreFault}
 use Rattle.rb_model.specs.declared.types.CoreFault.TheVariants.{NoMemory, Full, BadLimits, Gone, Spent}
 
--- what no event changes: the first call that is forwarded has the first xid
+-- what no event changes; `first_xid` is the xid of the first call that is forwarded
 pub record Setting : Type 0 where
   pub limits : Limits
   pub listener : Listener
@@ -16,15 +16,15 @@ pub record Setting : Type 0 where
 
 -- ---- connections
 
--- A reply that is being given: its marked bytes, how many of them were given, and where it is a list that is streamed, the
--- number of changes after which it began.
+-- A reply that is being given: its bytes with the headers of its fragments (RFC 5531 section 11), how many of them
+-- were given, and where it is a streamed list, how many changes were accepted before it began.
 pub record Owed : Type 0 where
   pub marked : List ℕ
   pub given : ℕ
   pub began : Option ℕ
 
--- what a connection is about: `Reading` has the bytes that were fed since the last record's end, and while it is
--- `Awaiting` its call is forwarded
+-- the state of a connection: `Reading` has the bytes that came since the last record's end, `Awaiting` waits for the
+-- end of a forwarded call, and `Lost` is given up and to be closed
 pub data Phase : Type 0 where
   Idle : Phase
   Reading : List ℕ → Phase

@@ -41,12 +41,13 @@ context_in s caller = record {
 abbrev pub with_ledger : State → Outcome × Ledger → Outcome × State
 with_ledger s (given, ledger) = (given, record s { ledger = ledger })
 
--- a message from a caller is answered, behind whose head are these bytes, once there is room for what it adds
+-- A message from a caller is answered, once there is room for the row that it may add; `arguments` are the bytes
+-- behind its head.
 abbrev pub serve_message : State → Caller → Message → List ℕ → Outcome × State
 serve_message s caller message arguments =
     with_ledger (with_room (context_in s caller) message s) (outcome (context_in s caller) message arguments s.ledger)
 
--- so is what the data of a record, or a datagram, says
+-- the same of the data of a record, or of a datagram
 unfoldable pub serve : State → Caller → List ℕ → Outcome × State
 serve s caller content = serve_message s caller (message_of content) (arguments_of content)
 
@@ -59,11 +60,11 @@ moved now s (Ok x, connections) = (Ok x, record (at_moment now s) { connections 
 
 -- ---- bytes that arrive on a connection
 
--- the connection goes on as its record is answered: whether it is Lost now
+-- the connection goes on by the outcome; and whether it is Lost now, since the record is no call
 abbrev pub settled_in : ℕ → Outcome × State → Bool × State
 settled_in id (given, s) = (is_no_call given, on_connection id (settled s.clock given) s)
 
--- what the data of a record on a connection says is answered
+-- the data of a record on a connection is answered, and the connection goes on
 unfoldable pub answering : State → ℕ → Peer → List ℕ → Bool × State
 answering s id peer content = settled_in id (serve s (Tcp id peer) content)
 
@@ -90,7 +91,7 @@ abbrev pub pending_on : Option Connection → Result (List ℕ) CoreFault
 pending_on None = Err Gone
 pending_on (Some c) = Ok (pending_in c.phase)
 
--- on the live connection of the number
+-- what is pending on the live connection of the number, `Gone` where there is none
 abbrev pub pending_at : ℕ → Connections → Result (List ℕ) CoreFault
 pending_at id c = pending_on (live_connection id c.all)
 
@@ -98,7 +99,7 @@ pending_at id c = pending_on (live_connection id c.all)
 unfoldable pub pending : State → ℕ → Result (List ℕ) CoreFault
 pending s id = pending_at id s.connections
 
--- n bytes of it were given, or as many as there are
+-- n bytes of the current fragment were given, or all that were left of it
 unfoldable pub gave : State → ℕ → ℕ → ℕ → Result (Unit {0}) CoreFault × State
 gave s now id n = moved now s (on_live id (giving (max s.clock now) n) s.connections)
 
@@ -112,13 +113,13 @@ is_too_much n (Ok bytes) = nat_lt (length bytes) n
 unfoldable pub open_connection : State → ℕ → Peer → Result ℕ CoreFault × State
 open_connection s now peer = moved now s (opening_of s.setting.limits.conns peer (max s.clock now) s.connections)
 
--- with a connection the call ends that was forwarded for it
+-- where a connection is closed, the call that was forwarded for it ends
 abbrev pub dropped_with : State → ℕ → Result (Unit {0}) CoreFault × Connections → Result (Unit {0}) CoreFault × State
 dropped_with s id (Err fault, connections) = (Err fault, s)
 dropped_with s id (Ok u, connections) =
     (Ok u, record s { connections = connections; ledger = (caller_dropped id s.ledger).1 })
 
--- (closing takes no moment)
+-- closing has no moment, and leaves the clock
 unfoldable pub close_connection : State → ℕ → Result (Unit {0}) CoreFault × State
 close_connection s id = dropped_with s id (closing_of id s.connections)
 
@@ -128,7 +129,7 @@ next_lost s = first_lost s.connections
 
 -- ---- datagrams
 
--- the last reply is taken back, and this is held, if there is one
+-- the last reply over UDP is replaced by this one, or by nothing where there is none
 abbrev pub with_reply : Outcome × State → Outcome × State
 with_reply (given, s) = (given, record s { reply = reply_in given })
 
@@ -146,7 +147,7 @@ unfoldable pub sent_call : State → ℕ → Result (Unit {0}) CoreFault × Stat
 sent_call s number =
     if can_be_sent number s.ledger.forwards then (Ok tt, record s { ledger = call_sent number s.ledger }) else (Err Gone, s)
 
--- ---- events, one for each line of a script
+-- ---- events, one for each event line (docs/EVENTS.md)
 
 pub data Event : Type 0 where
   Open : ℕ → Peer → Event
@@ -161,7 +162,7 @@ pub data Event : Type 0 where
   Forward : ℕ → Peer → List ℕ → Event
   Expire : ℕ → Event
 
--- what the line is answered with
+-- the result of an event, as an output line shows it
 pub data Output : Type 0 where
   Opened : ℕ → Output
   Refused : CoreFault → Output
@@ -191,14 +192,14 @@ show_taken t = if t.closed then TookAndClosed t.count else Took t.count
 abbrev pub show_done : Unit {0} → Output
 show_done u = Done
 
--- where there is a reply, the event is the datagram and the look at the reply after it
+-- The output of a datagram has its reply: the event is the call and the look at the reply after it.
 abbrev pub show_outcome : Outcome × State → Output × State
 show_outcome (outcomes.NoCall, s) = (Silent, s)
 show_outcome (outcomes.Reply reply began, s) = (Replied reply, s)
 show_outcome (outcomes.Forwarded, s) = (Forwarded, s)
 show_outcome (outcomes.Silent, s) = (Silent, s)
 
--- whom a caller is told something, with the last reply over UDP
+-- the output where a forwarded call ended; `reply` is the last reply over UDP
 abbrev pub show_told : List ℕ → Told → Output
 show_told reply (TcpReady id) = Ready id
 show_told reply (ends.Datagram peer) = RepliedTo peer reply
@@ -238,7 +239,7 @@ abbrev pub after : State → List Event → State
 after s [] = s
 after s (event ∷ events) = after (step s event).1 events
 
--- the state after some events, from an opening
+-- it is the state after some list of events from an opening
 pub record IsReached (s : State) : Type 0 where
   pub limits : Limits
   pub listener : Listener

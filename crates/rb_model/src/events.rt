@@ -2,31 +2,31 @@
 use crate::types::CoreFault;
 use rb_rpc::Peer;
 
-/// An event of a run: a call on a core, and the look at its reply where there is one. Moments are milliseconds
-/// since the start of 1970.
+/// An event of a run: one call on a core, and where that makes a reply over UDP, the look at this reply. Moments are
+/// milliseconds since the start of 1970.
 #[derive(Debug, Drop)]
 pub enum Event {
     /// A connection is opened: the moment, and where it came from.
     Open(u64, Peer),
     /// Bytes arrive on a connection: the moment, its number, and the bytes.
     Bytes(u64, u64, Vec<u8>),
-    /// The look at what is pending on the connection of the number.
+    /// Asks which bytes are to be sent next on the connection of this number.
     Pending(u64),
-    /// Bytes were given on a connection: the moment, its number, and how many.
+    /// Pending bytes were sent on a connection: the moment, its number, and how many.
     Gave(u64, u64, u64),
     /// The connection of the number was closed.
     Closed(u64),
-    /// The look for a connection that is Lost.
+    /// Asks for the Lost connection of least number.
     NextLost,
     /// A datagram: the moment, where it came from, and its bytes.
     Datagram(u64, Peer, Vec<u8>),
-    /// The look for a forwarded call that is to be sent.
+    /// Asks for the forwarded call that is to be sent next.
     Unsent,
     /// The forwarded call of the number was sent.
     Sent(u64),
-    /// A datagram where forwarded calls are sent from: the moment, where it came from, and its bytes.
+    /// A datagram on the socket that sends forwarded calls: the moment, where it came from, and its bytes.
     Forward(u64, Peer, Vec<u8>),
-    /// One thing that is due is done: the moment.
+    /// Does one thing that is due, if anything is: the moment.
     Expire(u64),
 }
 
@@ -41,14 +41,14 @@ pub struct UnsentCall {
     pub call: Vec<u8>,
 }
 
-/// What an event gave.
+/// The result of an event.
 #[derive(Debug, Drop)]
 pub enum Output {
     /// The number of the new connection.
     Opened(u64),
     /// The call on the core was refused, and changed nothing.
     Refused(CoreFault),
-    /// More bytes were reported as given than are pending, so nothing was called.
+    /// More bytes were reported as sent than are pending, so `gave` was not called.
     TooMuch,
     /// So many bytes were taken.
     Took(usize),
@@ -56,7 +56,7 @@ pub enum Output {
     TookAndClosed(usize),
     /// The rest of the current fragment, at most 1,028 bytes; none where no reply is owed.
     Pending(Vec<u8>),
-    /// The call was done.
+    /// The event was accepted, and has no other result.
     Done,
     /// The least number of a connection that is Lost.
     Lost(Option<u64>),
@@ -66,7 +66,7 @@ pub enum Output {
     Forwarded,
     /// A datagram has no reply, or a forwarded call that came over UDP has ended without one.
     Silent,
-    /// The forwarded call that is to be sent.
+    /// The forwarded call that is to be sent next, if there is one.
     Unsent(Option<UnsentCall>),
     /// The datagram is no reply to a forwarded call.
     Ignored,
@@ -74,7 +74,7 @@ pub enum Output {
     Nothing,
     /// The deadline of the connection of the number has come: it is Lost now, and the caller has to close it.
     ConnectionClosed(u64),
-    /// A forwarded call has ended, and the connection of the number goes on.
+    /// A forwarded call has ended, and its connection, of this number, awaits it no longer.
     Ready(u64),
     /// A forwarded call has ended, and this is the reply to the peer.
     RepliedTo(Peer, Vec<u8>),

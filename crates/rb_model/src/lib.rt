@@ -1,7 +1,7 @@
 //! What the port mapper is to do, in definitions over plain data: what a message says and is answered with, what the
 //! daemon knows between two events, what each event does to that, what it costs, and what is promised of all runs.
 //!
-//! No definition speaks of memory. That what is promised holds is proved by the crate of laws.
+//! No definition speaks of memory. rb_laws proves that the promises hold.
 #![tactic(auto)]
 
 mod events;
