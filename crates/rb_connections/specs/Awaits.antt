@@ -53,7 +53,7 @@ pub record IsIdleSince (id clock : ℕ) (table : Table) : Type 0 where
   pub is_idle : has_idle id table ≡ true
   pub is_settled : IsSettled id clock table
 
--- each that was Idle since a moment is so
+-- each connection that was Idle since a moment still is
 abbrev pub KeepsSettled : Table → Table → Type 0
 KeepsSettled old new = (id clock : ℕ) → IsSettled id clock old → IsSettled id clock new
 
@@ -75,7 +75,7 @@ pub record StayOpen (old new : Table) : Type 0 where
   pub stays : StaysTable old new
   pub as_many : length new.slots ≡ length old.slots
 
--- or it is the one of this number
+-- no connection is free that was not so before, but that of this number
 abbrev pub OnlyIsFreed : ℕ → Table → Table → Type 0
 OnlyIsFreed number old new = (id : ℕ) → (id == number) ≡ false → is_free id old ≡ false → is_free id new ≡ false
 

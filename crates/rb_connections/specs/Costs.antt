@@ -22,7 +22,7 @@ abbrev pub next_cost : Registry → Rest → ℕ
 next_cost registry (rests.Held start) = show_cost
 next_cost registry (rests.Listed list) = listed_cost (row_count registry)
 
--- what it costs to begin what a message is answered with
+-- what it costs to begin to give what a message is answered with
 abbrev pub answered_cost : Registry → Served → ℕ
 answered_cost registry (Answered given) = show_cost + 1
 answered_cost registry (Listed xid listing) = listed_cost (row_count registry) + 1
@@ -31,12 +31,12 @@ answered_cost registry (Listed xid listing) = listed_cost (row_count registry) +
 abbrev pub settling_cost : ℕ → Registry → Served → ℕ
 settling_cost connections registry served = find_cost connections + answered_cost registry served + recount_cost
 
--- what it costs to exchange the buffer of a record, where one ended
+-- what it costs to swap the buffer of a record, where one ended
 abbrev pub heard_cost : Option Heard → ℕ
 heard_cost None = 0
 heard_cost (Some heard) = exchange_cost
 
--- what it costs to take so many bytes of a piece, and to exchange the buffer of the record that ended with them
+-- what it costs to take so many bytes of a piece, and to swap the buffer of the record that ended with them
 abbrev pub received_cost : Received → ℕ
 received_cost got = take_cost got.count + heard_cost got.heard
 

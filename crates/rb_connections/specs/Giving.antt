@@ -23,7 +23,7 @@ pub record GoesOnBy (source : Source) (buffer : List ℕ) (giving : Giving) : Ty
   pub made : CanMake source giving.rest
   pub some : giving.last ≡ false → 0 < length (rest_in source buffer giving.rest)
 
--- The next fragment of a reply is shown, whose bytes that were not shown yet are these, and so the giving goes on.
+-- The next fragment of a reply is shown, where `rest` was not shown yet, and `giving` is how it goes on.
 pub record ShowsNext (source : Source) (buffer : List ℕ) (rest : Rest) (before shown : Kept) (giving : Giving) : Type 0 where
   pub fragment : shown ≡ record before { bytes = take longest_fragment (marked (rest_in source buffer rest)) }
   pub rest_is : rest_in source buffer giving.rest ≡ drop longest_part (rest_in source buffer rest)
@@ -37,7 +37,7 @@ abbrev pub pending_count : Result (List ℕ) CoreFault → Result ℕ CoreFault
 pending_count (Ok bytes) = Ok (length bytes)
 pending_count (Err fault) = Err fault
 
--- A slot gives on with the next fragment of a reply, whose bytes that were not shown yet are these.
+-- A slot shows the next fragment of a reply, where `rest` was not shown yet.
 pub record SlotShowsNext (source : Source) (rest : Rest) (old new : Slot) : Type 0 where
   pub giving : Giving
   pub is : new ≡ record old { stage = stages.Giving giving; window = new.window }
@@ -52,7 +52,7 @@ pub record IsGivenWhole (before after : Kept) (given : List ℕ) : Type 0 where
   pub is_marked : given ≡ marked before.bytes
   pub is_empty : after ≡ record before { bytes = [] }
 
--- with how many bytes a reply of so many is given whole, where there is this room: 0 where it is not
+-- how many bytes are written where a reply of n bytes is given whole in this room: 0 where it is not
 abbrev pub whole_length : ℕ → ℕ → ℕ
 whole_length room n = if not (nat_lt fragment_size n) && not (nat_lt room longest_fragment) then 4 + n else 0
 

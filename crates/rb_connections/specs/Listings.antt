@@ -12,7 +12,7 @@ use Rattle.rb_connections.specs.Slots.{TableBecomes}
 
 -- ---- one slot
 
--- after how many changes the list began that is given on it
+-- the stamp of the list that is given: how many changes were accepted before it began
 abbrev pub began_stage : Stage → Option ℕ
 began_stage (stages.Giving giving) = stamp_in giving.rest
 began_stage stages.Idle = None
@@ -23,7 +23,7 @@ began_stage stages.Lost = None
 abbrev pub slot_began : Slot → Option ℕ
 slot_began slot = began_stage slot.stage
 
--- the source can tell the rest of the reply that is given in this stage
+-- the source can make the rest of the reply that is given in this stage
 abbrev pub StageListsOn : Source → List ℕ → Stage → Type 0
 StageListsOn source buffer (stages.Giving giving) = GoesOnBy source buffer giving
 StageListsOn source buffer stages.Idle = ⊤
@@ -34,11 +34,11 @@ StageListsOn source buffer stages.Lost = ⊤
 abbrev pub SlotListsOn : Source → Slot → Type 0
 SlotListsOn source slot = StageListsOn source slot.buffer.bytes slot.stage
 
--- whatever lists are made from
+-- for every source of lists
 abbrev pub SlotListsOnByAll : Slot → Type 0
 SlotListsOnByAll slot = (source : Source) → SlotListsOn source slot
 
--- where a source could tell the rest of the old list, it can tell that of the new one
+-- each source that could make the rest of the old list can make that of the new one
 abbrev pub SlotKeepsListing : Slot → Slot → Type 0
 SlotKeepsListing old new = (source : Source) → SlotListsOn source old → SlotListsOn source new
 
@@ -50,7 +50,7 @@ CanListOn source table = All (SlotListsOn source) (values_of table.slots)
 abbrev pub KeepsListing : Table → Table → Type 0
 KeepsListing old new = (source : Source) → CanListOn source old → CanListOn source new
 
--- after how many changes the lists began that are given
+-- the stamps of the lists that are given
 abbrev pub stamps_in : List (ℕ × Slot) → List ℕ
 stamps_in slots = filter_map slot_began (values_of slots)
 
@@ -62,7 +62,7 @@ abbrev pub IsOldest : List ℕ → Option ℕ → Type 0
 IsOldest numbers None = numbers ≡ []
 IsOldest numbers (Some oldest) = Contains numbers oldest × All (λ n. oldest ≤ n) numbers
 
--- the lesser of two numbers, as far as they are there
+-- the lesser of two numbers, each of which may be missing
 abbrev pub earlier : Option ℕ → Option ℕ → Option ℕ
 earlier None b = b
 earlier (Some a) None = Some a
@@ -85,7 +85,7 @@ abbrev pub EvictsBefore : ℕ → Table → Table → Type 0
 EvictsBefore earliest old new =
     (changes : List ℕ) → IsEarliest changes earliest → TableBecomes (evicting changes) old new
 
--- a slot after it, Lost where its list began before the change
+-- a slot after the eviction, Lost where its list began before the change
 abbrev pub evicted_slot : ℕ → Slot → Slot
 evicted_slot earliest slot = if began_early earliest (slot_began slot) then record slot { stage = stages.Lost } else slot
 

@@ -24,7 +24,8 @@ abbrev pub FindsLive : ℕ → List (ℕ × Slot) → Option Slot → Type 0
 FindsLive id slots None = option_map (λ (e : ℕ × Slot). e.0) (wanted_slot (wanted.Live id) slots) ≡ None
 FindsLive id slots (Some slot) = IsLiveSlot id slots slot
 
--- Once the borrow of it ends, it has the last value written through that, and at `None` the slots stay as they are.
+-- Once the borrow of the slot ends, the slot has the last value written through it; at `None` the slots stay as they
+-- are.
 abbrev pub LendsLive : MutBor (Pool Slot) → ℕ → Option (MutBor Slot) → Fml
 LendsLive slots id found = lends_entry the_row slots (live_key id slots.now.entries) found
 

@@ -14,12 +14,14 @@ pub use Rattle.rb_connections.specs.declared.reading.Reader.{Reader}
 
 -- ---- a record that is read
 
--- behind these bytes, a piece is taken up to the end of the first record, whose verdict is told, or whole
+-- what is told of a piece behind the bytes `fed`: it is taken up to the end of the first record, with the verdict on
+-- that, or whole
 abbrev pub fed_until : List ℕ → List ℕ → Option ℕ → Fed
 fed_until fed piece None = record { count = length piece; verdict = None }
 fed_until fed piece (Some n) = record { count = n - length fed; verdict = Some (verdict (data_of (take n (fed ++ piece)))) }
 
--- behind all these bytes, or behind the first record in them, of which what is kept is there
+-- The reader and the buffer stand for all these bytes, or where they have a whole record, the
+-- buffer has what is kept of the first.
 abbrev pub StandsBehind : Reader → Kept → List ℕ → Option ℕ → Type 0
 StandsBehind reader kept all None = IsReading reader kept all
 StandsBehind reader kept all (Some n) = kept.bytes ≡ kept_of (data_of (take n all))

@@ -13,7 +13,7 @@ use Rattle.rb_connections.specs.StandsFor.{Source, Table}
 use Rattle.rb_connections.specs.Slots.{SlotBecomesFrom, BecomesFrom}
 use Rattle.rb_connections.specs.declared.slot.Slot.{Slot}
 
--- what the code says of a message, with the reply that it wrote
+-- the outcome of the model for this outcome of the code, with the reply that it wrote
 abbrev pub outcome_with : Written → List ℕ → Outcome
 outcome_with outcomes.NoCall reply = said.NoCall
 outcome_with outcomes.Reply reply = said.Reply reply None
@@ -25,12 +25,12 @@ abbrev pub listing_outcome : Source → ℕ → Listing → Outcome
 listing_outcome source xid listing =
     said.Reply (list_reply source.host xid (rows_of source.registry) listing) (Some source.registry.stamp)
 
--- what the code answers a message with, where this is written
+-- the outcome of the model for what the code answers a message with, where `reply` is what it wrote
 abbrev pub served_in : Source → Served → List ℕ → Outcome
 served_in source (Answered given) reply = outcome_with given reply
 served_in source (Listed xid listing) reply = listing_outcome source xid listing
 
--- The connection that a slot stands for goes on with what its record is answered with, where this is written.
+-- The connection that a slot stands for goes on with what its record is answered with, where `written` is the reply.
 abbrev pub SlotSettles : Source → ℕ → Served → List ℕ → Slot → Slot → Type 0
 SlotSettles source clock served written old new = SlotBecomesFrom source (settled clock (served_in source served written)) old new
 
@@ -46,7 +46,7 @@ abbrev pub kind_in : Served → Written
 kind_in (Answered given) = given
 kind_in (Listed xid listing) = outcomes.Reply
 
--- a reply is written where it is to be, and else nothing
+-- Where the answer is a reply that is no streamed list, some bytes are written, and else none.
 abbrev pub IsWritten : Served → List ℕ → Type 0
 IsWritten (Answered outcomes.Reply) reply = 0 < length reply
 IsWritten (Answered outcomes.NoCall) reply = reply ≡ []

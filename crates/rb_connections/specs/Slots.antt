@@ -27,13 +27,13 @@ use Rattle.rb_connections.specs.declared.slot.Wanted.TheVariants as wanted
 use Rattle.rb_connections.specs.declared.slot.Buffers.{Buffers}
 use Rattle.rb_connections.specs.StandsFor.{buffer_size, IsReading, Source, StandsForConnection, Table, StandsForConnections, held_in, AreWithin}
 
--- An act on what something stands for, which gives a result: from whatever the old one stood for, this result came,
--- and the new one stands for what is there after the act.
+-- A call does an act of the model: whatever plain value `x` the old value stood for, the result is that of `act x`,
+-- and the new value stands for what `act x` leaves.
 pub record Acts {Held Plain Result : Type 0} (StandsFor : Held → Plain → Type 0) (act : Plain → Result × Plain) (old new : Held) (result : Result) : Type 0 where
   pub gives : (x : Plain) → StandsFor old x → result ≡ (act x).0
   pub stands : (x : Plain) → StandsFor old x → StandsFor new (act x).1
 
--- From whatever it stands for, this is what it shows.
+-- Whatever plain value the held one stands for, the result is what `show` gives of it.
 abbrev pub Shows : {Held Plain Result : Type 0} → (Held → Plain → Type 0) → (Plain → Result) → Held → Result → Type 0
 Shows {Held} {Plain} {Result} StandsFor show held result = (x : Plain) → StandsFor held x → result ≡ show x
 
@@ -44,7 +44,7 @@ Lends {Held} {Plain} StandsFor show held result =
 
 -- ---- one slot
 
--- an act on the connection that a slot stands for, whatever lists are made from
+-- an act on the connection that a slot stands for, for every source of lists
 abbrev pub SlotActs : {Result : Type 0} → (Connection → Result × Connection) → Slot → Slot → Result → Type 0
 SlotActs act old new result = (source : Source) → Acts (StandsForConnection source) act old new result
 
@@ -62,11 +62,12 @@ abbrev pub emptied_slot : Slot → Slot
 emptied_slot slot =
     record slot { buffer = record slot.buffer { bytes = [] }; window = record slot.window { bytes = [] } }
 
--- what a slot shows, whatever lists are made from
+-- what a slot shows of its connection, for every source of lists
 abbrev pub SlotShows : {Result : Type 0} → (Connection → Result) → Slot → Result → Type 0
 SlotShows show slot result = (source : Source) → Shows (StandsForConnection source) show slot result
 
--- The slot is about to be fed a piece behind these bytes of a record.
+-- A slot that stands for the connection, but for `since`, is about to be fed a piece behind the
+-- bytes `fed` of a record.
 pub record IsBeforePiece (slot : Slot) (reader : Reader) (clock : ℕ) (c : Connection) (fed : List ℕ) : Type 0 where
   pub number : slot.number ≡ c.number
   pub peer : slot.peer ≡ c.peer
@@ -74,7 +75,7 @@ pub record IsBeforePiece (slot : Slot) (reader : Reader) (clock : ℕ) (c : Conn
   pub reads : IsReading reader slot.buffer fed
   pub window : slot.window.bytes ≡ []
 
--- what is heard by a record with this data from a peer
+-- the verdict on a record with this data, and the peer that sent it
 abbrev pub heard_of : Peer → List ℕ → Heard
 heard_of peer content = record { peer = peer; verdict = verdict content }
 
@@ -94,24 +95,24 @@ arguments_after before TakesNone = before
 arguments_after before (GoesOn fed) = before
 arguments_after before (Ends n content) = kept_of content
 
--- the connection meanwhile: it is Idle until the record that ended is answered
+-- the connection after the piece: where a record ended, Idle until that is answered
 abbrev pub fed_with : ℕ → Connection → Taking → Connection
 fed_with clock c TakesNone = c
 fed_with clock c (GoesOn fed) = reading clock fed c
 fed_with clock c (Ends n content) = record c { phase = Idle; since = clock }
 
--- Whatever the slot is fed behind, this is what the core is told of a piece.
+-- Whatever bytes of a record were fed before, this is what the core is told of the piece.
 abbrev pub ReceivesPiece : Slot → Reader → ℕ → List ℕ → Received → Type 0
 ReceivesPiece slot reader clock piece result =
     (c : Connection) (fed : List ℕ) → IsBeforePiece slot reader clock c fed → result ≡ received piece c (taking_on fed piece)
 
--- the new slot stands for the connection meanwhile
+-- the new slot stands for the connection after the piece
 abbrev pub StandsBehindPiece : Slot → Slot → Reader → ℕ → List ℕ → Type 0
 StandsBehindPiece old new reader clock piece =
     (source : Source) (c : Connection) (fed : List ℕ) → IsBeforePiece old reader clock c fed
     → StandsForConnection source new (fed_with clock c (taking_on fed piece))
 
--- the core has these arguments after it, in the buffer that it hands in
+-- the buffer that the core handed in has these arguments after it
 abbrev pub HearsPiece : Slot → Reader → ℕ → List ℕ → Kept → Kept → Type 0
 HearsPiece slot reader clock piece before after =
     (c : Connection) (fed : List ℕ) → IsBeforePiece slot reader clock c fed
@@ -125,21 +126,21 @@ feeding clock piece c = (received piece c (taking c.phase piece), fed_with clock
 abbrev pub arguments_heard : List ℕ → List ℕ → Connection → List ℕ
 arguments_heard before piece c = arguments_after before (taking c.phase piece)
 
--- so in the buffer that it hands in
+-- the buffer that the core handed in has them
 abbrev pub SlotHears : List ℕ → Slot → Kept → Kept → Type 0
 SlotHears piece slot before after = SlotShows (arguments_heard before.bytes piece) slot after.bytes
 
 -- ---- the table
 
--- an act on the connections, whatever lists are made from
+-- an act on the connections, for every source of lists
 abbrev pub TableActs : {Result : Type 0} → (Connections → Result × Connections) → Table → Table → Result → Type 0
 TableActs act old new result = (source : Source) → Acts (StandsForConnections source) act old new result
 
--- what a table shows of them, whatever lists are made from
+-- what a table shows of them, for every source of lists
 abbrev pub TableShows : {Result : Type 0} → (Connections → Result) → Table → Result → Type 0
 TableShows show table result = (source : Source) → Shows (StandsForConnections source) show table result
 
--- the bytes that a table lends of them, or refuses, whatever lists are made from
+-- the bytes that a table lends of them, or refuses, for every source of lists
 abbrev pub TableLends : (Connections → Result (List ℕ) CoreFault) → Table → Result (Bor (List ℕ)) CoreFault → Type 0
 TableLends show table result = (source : Source) → Lends (StandsForConnections source) show table result
 
@@ -148,7 +149,7 @@ abbrev pub BecomesFrom : Source → (Connections → Connections) → Table → 
 BecomesFrom source change old new =
     (c : Connections) → StandsForConnections source old c → StandsForConnections source new (change c)
 
--- the same whatever lists are made from
+-- the same for every source of lists
 abbrev pub TableBecomes : (Connections → Connections) → Table → Table → Type 0
 TableBecomes change old new = (source : Source) → BecomesFrom source change old new
 
@@ -156,7 +157,7 @@ TableBecomes change old new = (source : Source) → BecomesFrom source change ol
 abbrev pub arguments_on : ℕ → List ℕ → List ℕ → Connections → List ℕ
 arguments_on id before piece connections = option_map_or (arguments_heard before piece) (live_connection id connections.all) before
 
--- so in the buffer that it hands in
+-- the buffer that the core handed in has them
 abbrev pub TableHears : ℕ → List ℕ → Table → Kept → Kept → Type 0
 TableHears id piece table before after = TableShows (arguments_on id before.bytes piece) table after.bytes
 
@@ -164,7 +165,7 @@ TableHears id piece table before after = TableShows (arguments_on id before.byte
 abbrev pub TableTakes : ℕ → ℕ → List ℕ → Table → Table → Received → Type 0
 TableTakes id clock piece old new got = TableActs (on_live id (feeding clock piece)) old new (Ok got)
 
--- what is heard by a record that came whole,
+-- the verdict on a record that came whole, and its peer,
 abbrev pub heard_in : Whole → Heard
 heard_in whole = heard_of whole.peer whole.content.now
 
@@ -176,7 +177,7 @@ kept_in whole = kept_of whole.content.now
 abbrev pub TakesWhole : ℕ → ℕ → List ℕ → Whole → Table → Table → Type 0
 TakesWhole id clock piece whole old new = TableTakes id clock piece old new (heard_whole whole.peer whole.content.now)
 
--- where the core has its arguments after it
+-- and the core has its arguments after it
 abbrev pub KeepsWhole : ℕ → List ℕ → Whole → Table → Type 0
 KeepsWhole id piece whole old = (before : List ℕ) → TableShows (arguments_on id before piece) old (kept_in whole)
 
@@ -185,13 +186,13 @@ abbrev pub TableGives : Source → ℕ → ℕ → ℕ → Table → Table → R
 TableGives source id clock n old new result =
     Acts (StandsForConnections source) (on_live id (giving clock n)) old new result
 
--- of at most so many connections, counted by this meter
+-- a table without connections, for at most so many, counted by this meter
 abbrev pub empty_table : ℕ → ℕ → Table
 empty_table conns tie = record { slots = []; given = 0; conns = conns; tie = tie }
 
 -- ---- what is looked for
 
--- a phase of this stage, whatever else there is to know of it
+-- a phase of the same kind as this stage, without its data
 abbrev pub phase_like : Stage → Phase
 phase_like stages.Idle = Idle
 phase_like (stages.Reading reader) = Reading []
@@ -235,7 +236,7 @@ is_by_number (wanted.Numbered id) = true
 is_by_number wanted.AnyLost = false
 is_by_number (wanted.Due clock) = false
 
--- by which, and else by 0, which none has
+-- that number, or 0, which no connection has
 abbrev pub number_wanted : Wanted → ℕ
 number_wanted (wanted.Live id) = id
 number_wanted (wanted.Numbered id) = id
@@ -263,7 +264,7 @@ Finds sought table result =
 abbrev pub is_numbered : ℕ → Slot → Bool
 is_numbered id slot = slot.number == id
 
--- no two slots have one number, and each number was given
+-- no two slots have one number, and none has one above the last that was given
 abbrev pub AreNumbered : ℕ → List Slot → Type 0
 AreNumbered given [] = ⊤
 AreNumbered given (slot ∷ rest) = (slot.number ≤ given) × (list_any (is_numbered slot.number) rest ≡ false) × AreNumbered given rest

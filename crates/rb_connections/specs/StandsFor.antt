@@ -31,18 +31,18 @@ pub record IsHeld (head : CallFeed) (kept : Kept) (content : List ℕ) : Type 0 
   pub kept_is : kept.bytes ≡ kept_of content
   pub cap : kept.cap ≡ buffer_size
 
--- The marking state besides stands for the bytes fed since the last record's end.
+-- The reader and the buffer stand for the bytes fed since the last record's end.
 pub record IsReading (reader : Reader) (kept : Kept) (fed : List ℕ) : Type 0 where
   pub marks_are : StandsForFed reader.marks fed
   pub data_is : IsHeld reader.head kept (data_of fed)
 
 -- ---- a reply that is given
 
--- the whole fragment in which the giving stands
+-- the whole current fragment, in which the next byte to be given stands
 unfoldable pub window : Owed → List ℕ
 window o = take longest_fragment (drop (longest_fragment * (o.given / longest_fragment)) o.marked)
 
--- A window shows the fragment of this reply in which the giving stands.
+-- A window shows the current fragment of this reply.
 pub record IsShown (reply : List ℕ) (shown : Kept) (o : Owed) : Type 0 where
   pub marked : o.marked ≡ marked reply
   pub owes : o.given < length o.marked
@@ -62,7 +62,7 @@ abbrev pub rest_in : Source → List ℕ → Rest → List ℕ
 rest_in source buffer (rests.Held start) = drop start buffer
 rest_in source buffer (rests.Listed list) = rest_of source.host source.registry list
 
--- after how many changes the reply began, where it is a list
+-- the stamp of the reply, where it is a list: how many changes were accepted before it began
 abbrev pub stamp_in : Rest → Option ℕ
 stamp_in (rests.Held start) = None
 stamp_in (rests.Listed list) = Some list.stamp

@@ -141,7 +141,7 @@ fn earlier(a: Option<u64>, b: Option<u64>) -> Option<u64>
     }
 }
 
-/// The least number of changes after which a list began that is being given.
+/// The least stamp of the lists that are being given.
 fn oldest_in(slots: &Pool<Slot>, meter: &mut Meter) -> Option<u64>
     requires tie { meter.old.tie ≡ slots.now.tie }
     ensures oldest { IsOldest (stamps_in slots.now.entries) result }
@@ -156,7 +156,7 @@ fn oldest_in(slots: &Pool<Slot>, meter: &mut Meter) -> Option<u64>
     oldest
 }
 
-/// Whether a list that began after so many changes did so before a change.
+/// Whether a list with this stamp began before a change.
 fn is_early(began: Option<u64>, earliest: u64) -> bool
     ensures { result ≡ began_early earliest began }
 {
@@ -166,7 +166,7 @@ fn is_early(began: Option<u64>, earliest: u64) -> bool
     }
 }
 
-/// Each slot becomes Lost whose list began before a change.
+/// Makes each slot Lost whose list began before this change.
 fn evict_slots(slots: &mut Pool<Slot>, earliest: u64, meter: &mut Meter)
     requires tie { meter.old.tie ≡ slots.old.tie }
     requires distinct { HasDistinctKeys slots.old.entries }
@@ -185,7 +185,7 @@ fn evict_slots(slots: &mut Pool<Slot>, earliest: u64, meter: &mut Meter)
     }
 }
 
-/// As many buffers as there may be connections.
+/// The buffers of as many connections as there may be.
 #[tactic(auto, unfolding(rb_model::specs::Calls::longest_arguments, crate::specs::StandsFor::buffer_size, rb_model::specs::Calls::longest_reply, rb_model::specs::Connections::longest_fragment))]
 fn make_spare(alloc: Global, conns: usize, meter: &mut Meter) -> Result<Pool<Buffers>, NoMemory>
     ensures distinct { IfOk result (λ spare. HasDistinctKeys spare.entries) }
@@ -224,8 +224,8 @@ fn wanted_key(slots: &Pool<Slot>, hints: &Hints, wanted: Wanted, meter: &mut Met
     }
 }
 
-/// The slot of the live connection of the number, which is about to change. What it counts as is taken off the bytes
-/// that are held, and what it counts as after the change is to be added. The hint for the number is noted.
+/// The slot of the live connection of the number, which is about to change. Its charge is taken off `held`; the
+/// caller adds its charge after the change. The hint for the number is noted.
 #[inline(always)]
 fn live_slot<'a>(
     slots: &'a mut Pool<Slot>,
@@ -361,8 +361,8 @@ impl Connections {
         Some(Whole { peer, content })
     }
 
-    /// Takes bytes that arrive on the live connection of the number, up to the end of a record, and says what the
-    /// record is, whose arguments go into the buffer: `Gone` where there is no such connection.
+    /// Takes bytes that arrive on the live connection of the number, up to the end of a record, and returns the
+    /// verdict on a record that ended, whose arguments go into `arguments`: `Gone` where there is no such connection.
     pub fn take(
         &mut self,
         id: u64,
@@ -394,9 +394,9 @@ impl Connections {
         Ok(received)
     }
 
-    /// The live connection of the number goes on as its record is answered, or its call that was forwarded. It owes a
-    /// reply, for which it gives an empty buffer, or a list, whose first fragment is made in this one; or it is
-    /// Awaiting, Idle or Lost.
+    /// The live connection of the number goes on as its record is answered, or the call that was forwarded for it has
+    /// ended. It owes the reply in `draft`, for which it gives an empty buffer, or a list, whose first fragment is
+    /// made in `draft`; or it is Awaiting, Idle or Lost.
     pub fn settle(
         &mut self,
         id: u64,
@@ -466,7 +466,7 @@ impl Connections {
         Ok(())
     }
 
-    /// The least number of changes after which a list began that is being given.
+    /// The least stamp of the lists that are being given.
     pub fn oldest(&self, meter: &mut Meter) -> Option<u64>
         requires { meter.old.tie ≡ self.now.tie }
         ensures oldest { IsOldest (stamps_of self.now) result }
@@ -475,7 +475,7 @@ impl Connections {
         oldest_in(&self.slots, meter)
     }
 
-    /// Each connection becomes Lost whose list began before a change.
+    /// Makes each connection Lost whose list began before this change.
     pub fn evict(&mut self, earliest: u64, meter: &mut Meter)
         requires { meter.old.tie ≡ self.old.tie }
         ensures evicts { EvictsBefore earliest self.old self.new }

@@ -21,11 +21,11 @@ use rb_registry::Registry;
 use rb_rpc::{FRAGMENT_HEADER, fragment_header};
 use rb_xdr::{Kept, Meter};
 
-/// The length of a whole marked fragment of a reply, of which each has as many data bytes but the last, which has 1
-/// to as many.
+/// The length of a full fragment of a reply, 1,028 bytes with its header. Each fragment is full but the last, which
+/// has 1 to 1,024 bytes of data.
 pub const LONGEST_FRAGMENT: usize = FRAGMENT_HEADER + LONGEST_PART;
 
-/// What of a reply was not shown yet.
+/// What of a reply was not yet put in the window.
 #[derive(Clone, Copy, Debug, PartialEq, Eq)]
 pub enum Rest {
     /// The bytes of the buffer from this place on.
@@ -38,7 +38,7 @@ impl Rest {
     ghost use Rattle.std.specs.Prelude.{◌≡◌};
     ghost use Rattle.rb_connections.specs.StandsFor.{stamp_in};
 
-    /// After how many changes the reply began, where it is a list.
+    /// The stamp of the reply, where it is a list: how many changes were accepted before it began.
     pub fn stamp(self) -> Option<u64>
         ensures { result ≡ stamp_in self }
     {
@@ -87,7 +87,7 @@ fn put(window: &mut Kept, bytes: &[u8], meter: &mut Meter)
     };
 }
 
-/// Shows a fragment with this data.
+/// Puts a fragment with this data in the window.
 #[tactic(auto, unfolding(rb_model::specs::Connections::longest_fragment))]
 fn show(part: &[u8], last: bool, window: &mut Kept, meter: &mut Meter)
     requires tie { meter.old.tie ≡ window.old.tie }
@@ -103,7 +103,7 @@ fn show(part: &[u8], last: bool, window: &mut Kept, meter: &mut Meter)
     put(window, part, meter);
 }
 
-/// Shows the fragment of a reply that begins at this place of the buffer.
+/// Puts in the window the fragment of a reply that begins at this place of the buffer.
 fn show_held(start: usize, buffer: &Kept, window: &mut Kept, meter: &mut Meter) -> Giving
     requires buffer_tie { meter.old.tie ≡ buffer.now.tie }
     requires window_tie { meter.old.tie ≡ window.old.tie }
@@ -124,7 +124,8 @@ fn show_held(start: usize, buffer: &Kept, window: &mut Kept, meter: &mut Meter) 
     }
 }
 
-/// Shows the next fragment of a list, made in a buffer that is empty before and after.
+/// Puts the next fragment of a list in the window, made in `scratch`, which is empty before and
+/// after.
 #[tactic(auto, unfolding(rb_model::specs::Connections::longest_fragment, rb_model::specs::Calls::longest_arguments, crate::specs::StandsFor::buffer_size, rb_model::specs::Calls::longest_reply))]
 fn show_list(
     mut list: ListReply,
@@ -156,8 +157,8 @@ fn show_list(
     }
 }
 
-/// Shows the next fragment of a reply, of which this was not shown yet: of what the buffer has, or of a list, whose
-/// fragment is made in another buffer, which is empty before and after.
+/// Puts the next fragment of a reply in the window, where `rest` was not shown yet: from `buffer`, or of a list,
+/// whose fragment is made in `scratch`, which is empty before and after.
 pub fn show_next(
     rest: Rest,
     buffer: &Kept,
@@ -185,8 +186,8 @@ pub fn show_next(
     }
 }
 
-/// Gives a reply of one fragment whole, marked, where there is room for the longest: its buffer is empty then. It
-/// says how many bytes were given, 0 where none were.
+/// Writes a reply of one fragment, with its header, to `room`, where that has place for the longest fragment, and
+/// empties its buffer. Returns the number of bytes written, 0 where nothing was.
 #[tactic(auto, unfolding(rb_model::specs::Connections::longest_fragment))]
 pub fn give_whole(reply: &mut Kept, room: &mut [u8], meter: &mut Meter) -> usize
     requires tie { meter.old.tie ≡ reply.old.tie }

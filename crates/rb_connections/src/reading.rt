@@ -14,10 +14,10 @@ use rb_xdr::{Kept, Meter};
 /// The greatest length of arguments that are served.
 pub const LONGEST_ARGUMENTS: usize = 8_816;
 
-/// A record that is read, but for its call's arguments, which are in a buffer.
+/// A record that is being read. The arguments of its call are not here, but in a buffer.
 #[derive(Clone, Copy, Debug, PartialEq, Eq)]
 pub struct Reader {
-    /// Where its next byte stands.
+    /// Where its next byte stands: in the header of a fragment, or in its data.
     marks: Marks,
     /// The head of its call as far as it came.
     head: CallFeed,
@@ -34,7 +34,7 @@ fn layout(reader: &Reader) {
 #[derive(Clone, Copy)]
 struct Intake {
     head: CallFeed,
-    /// How many more bytes of its arguments are kept.
+    /// How many more bytes of its arguments are to be kept.
     room: usize,
 }
 
@@ -47,7 +47,7 @@ pub struct Fed {
     pub verdict: Option<Verdict>,
 }
 
-/// The bytes in front of others that are of one kind.
+/// Bytes at the front of a piece that are of one kind, header or data.
 #[derive(Clone, Copy)]
 struct Run {
     count: usize,
@@ -97,7 +97,8 @@ fn keep(kept: &mut Kept, room: usize, arguments: &[u8], meter: &mut Meter) -> us
 }
 
 impl Intake {
-    /// Goes on with a call whose head came so far, and whose arguments are in the buffer.
+    /// Goes on with a call of whose head so much came, and whose arguments so far are in the
+    /// buffer.
     fn begin(head: CallFeed, kept: &Kept, meter: &mut Meter) -> Intake
         requires { meter.old.tie ≡ kept.now.tie }
         ensures data { (content : List ℕ) → IsHeld head kept.now content

@@ -22,7 +22,7 @@ pub enum Outcome {
 pub enum Served {
     /// A reply that is written, or none.
     Answered(Outcome),
-    /// A list under this xid that is streamed, of which nothing is written yet.
+    /// A streamed list in reply to the call of this xid, of which nothing is written yet.
     Listed(u32, Listing),
 }
 
@@ -31,7 +31,7 @@ impl Served {
     ghost use Rattle.rb_connections.specs.StandsFor.{Source};
     ghost use Rattle.rb_connections.specs.Settling.{is_closed_by};
 
-    /// Whether it is no call, so that a connection on which it came is Lost.
+    /// Whether the message is no call: then the connection on which it came is Lost.
     pub fn is_no_call(self) -> bool
         ensures { (source : Source) (reply : List ℕ) → result ≡ is_closed_by source self reply }
     {

@@ -16,7 +16,7 @@ use std::mem;
 /// What the fixed part of a connection counts as, in bytes.
 pub const CHARGE: u64 = 128;
 
-/// What a connection is about.
+/// The state of a connection, as the phase of the model.
 #[derive(Clone, Copy, Debug, PartialEq, Eq)]
 pub enum Stage {
     /// Between a reply and the next record.
@@ -25,7 +25,7 @@ pub enum Stage {
     Reading(Reader),
     /// A reply is being given.
     Giving(Giving),
-    /// Its call is forwarded, and takes its reply from there.
+    /// Its call is forwarded, and its reply comes when that call ends.
     Awaiting,
     /// It takes and gives nothing more, and waits to be closed.
     Lost,
@@ -63,8 +63,8 @@ pub struct Heard {
     pub verdict: Verdict,
 }
 
-/// What came of a piece of bytes: how many of them were taken, and what was heard by the record that ended with the
-/// last.
+/// What came of a piece of bytes: how many of them were taken, and the verdict on the record that ended with the last
+/// of them, if one did.
 #[derive(Clone, Copy, Debug, PartialEq, Eq)]
 pub struct Received {
     pub count: usize,
@@ -138,7 +138,7 @@ fn nothing() -> Received
 }
 
 impl Slot {
-    /// What is written to a place before any connection has it: its buffers have no memory.
+    /// A slot for a place of the pool that no connection had yet: its buffers have no memory.
     pub fn blank(alloc: Global) -> Result<Slot, NoMemory> {
         let meter = &mut Meter::new();
         Ok(Slot {
@@ -186,7 +186,7 @@ impl Slot {
         matches!(self.stage, Stage::Lost)
     }
 
-    /// After how many changes the list began that is being given.
+    /// The stamp of the list that is being given: how many changes were accepted before it began.
     pub fn began(&self) -> Option<u64>
         ensures { result ≡ slot_began self.now }
     {
@@ -207,7 +207,8 @@ impl Slot {
         }
     }
 
-    /// Feeds the piece to the record that is read, up to the end of the record, whose arguments go into this buffer.
+    /// Feeds the piece to the record that is being read, up to its end. The arguments of a record that ended go into
+    /// `arguments`.
     fn feed(
         &mut self,
         mut reader: Reader,
@@ -245,8 +246,8 @@ impl Slot {
         }
     }
 
-    /// Goes on as a record comes whole at this moment, where it is the connection of the number and Idle, and says
-    /// who sends it: it stays Idle, until it is settled. `None` where it is not so, and nothing changed.
+    /// Goes on as a record comes whole at this moment, and returns its sender. The connection stays Idle until it is
+    /// settled. `None` where it is not the connection of this number, or not Idle; then nothing changed.
     pub fn hear_whole(&mut self, id: u64, clock: u64) -> Option<Peer>
         ensures idle { IfSome result (λ peer. self.old.stage ≡ Stage.Idle) }
         ensures number { IfSome result (λ peer. self.old.number ≡ id) }
@@ -263,9 +264,9 @@ impl Slot {
         Some(self.peer)
     }
 
-    /// Takes bytes of the piece up to the one that ends a record, or all, and says what the record is: its arguments
-    /// go into the buffer, in exchange for its own. Nothing is taken while a reply is owed or awaited. From the end
-    /// of a record on the connection is Idle, until it is settled.
+    /// Takes the bytes of the piece up to the end of a record, or all, and returns the verdict on a record that
+    /// ended. Its arguments go into `arguments`, which is swapped for the connection's buffer. Nothing is taken while
+    /// a reply is owed or awaited. From the end of a record on, the connection is Idle until it is settled.
     pub fn take(
         &mut self,
         piece: &[u8],
@@ -298,7 +299,7 @@ impl Slot {
         }
     }
 
-    /// Empties its buffers, and that for a reply.
+    /// Empties its buffers, and the one for a reply.
     fn empty(&mut self, reply: &mut Kept, meter: &mut Meter)
         requires buffers { HasBuffers meter.old.tie self.old }
         requires draft { IsDraft meter.old.tie reply.old }
@@ -311,9 +312,9 @@ impl Slot {
         reply.clear(meter);
     }
 
-    /// Goes on as its record is answered, or its call that was forwarded. It owes a reply, which it takes in exchange
-    /// for its own buffer, or a list, whose fragments are made in this one; or it is Awaiting, Idle or Lost. The
-    /// buffer that it is handed is empty after it.
+    /// Goes on as its record is answered, or the call that was forwarded for it has ended. It owes the reply in
+    /// `draft`, which is swapped for its own buffer, or a list, whose first fragment is made in `draft`; or it is
+    /// Awaiting, Idle or Lost. `draft` is empty after it.
     pub fn settle(
         &mut self,
         served: Served,
@@ -363,7 +364,7 @@ impl Slot {
         }
     }
 
-    /// Goes on giving, with the next fragment of a reply, of which this was not shown yet.
+    /// Puts the next fragment of a reply in its window, where `rest` was not shown yet.
     fn show(
         &mut self,
         rest: Rest,
@@ -437,7 +438,7 @@ impl Slot {
         }
     }
 
-    /// How many bytes are held of it: those of its buffer and its window, and 128 for the rest.
+    /// How many bytes it counts as held: those of its buffer and its window, and 128 for the rest.
     #[tactic(auto, unfolding(rb_model::specs::Calls::longest_reply, rb_model::specs::Calls::longest_arguments, crate::specs::StandsFor::buffer_size, rb_model::specs::Connections::longest_fragment))]
     pub fn charge(&self, meter: &mut Meter) -> u64
         requires { HasBuffers meter.old.tie self.now }
