@@ -54,7 +54,8 @@ abbrev pub at_once_on : ℕ → Option Connection → ℕ
 at_once_on room None = 0
 at_once_on room (Some c) = at_once_in room c.phase
 
--- It owes none that was not given at once, and is not Lost.
+-- how many bytes are given at once by the result of taking bytes: none where that is refused, a
+-- reply was owed before, or the record is no call
 abbrev pub at_once_of : ℕ → ℕ → Connection → Result Taken CoreFault × State → ℕ
 at_once_of room id before (Err fault, s) = 0
 at_once_of room id before (Ok taken, s) =
@@ -84,7 +85,7 @@ abbrev pub count_given : Result Exchanged CoreFault → ℕ
 count_given (Ok exchanged) = exchanged.given
 count_given (Err fault) = 0
 
--- They are as many as are given at once, where there is this room.
+-- The result gives as many bytes as are given at once in this room.
 abbrev pub CountsGiven : ℕ → ℕ → List ℕ → List ℕ → Held → Result Exchanged CoreFault → Type 0
 CountsGiven now id piece room held result =
     Shows StandsFor (count_now now id piece (length room)) held (count_given result)
@@ -102,15 +103,15 @@ given_when_answered room id (closed, s) = if closed then 0 else at_once_on room 
 abbrev pub answered_giving : ℕ → ℕ → Bool × State → (Bool × List ℕ) × State
 answered_giving id n (closed, s) = ((closed, front n id s), on_connection id (when_given s.clock n) s)
 
--- The record on a connection of a number that said this is answered, with its arguments, and the first n bytes in this room
--- are given of the reply. No arguments are held after it.
+-- The record that ended on the connection of the number, with this verdict and these arguments, is answered, and the
+-- first n bytes in `room` are those of its reply that were given at once. No arguments are held after it.
 abbrev pub AnswersGiving : ℕ → Heard → Option (Bor (List ℕ)) → Held → Held → Bool × ℕ → List ℕ → Type 0
 AnswersGiving id heard arguments old new (closed, n) room =
     Acts StandsFor
     (λ s. answered_giving id (length (take n room)) (answering_heard id heard (arguments_in arguments old.arguments) s))
     (without_arguments old) new (closed, take n room)
 
--- They are as many as are given at once where there is this room.
+-- `n` is how many bytes of the reply are given at once in this room.
 abbrev pub GivesAtOnce : List ℕ → ℕ → Heard → Option (Bor (List ℕ)) → Held → ℕ → Type 0
 GivesAtOnce room id heard arguments old n =
     (s : State) → StandsFor (without_arguments old) s
@@ -118,7 +119,8 @@ GivesAtOnce room id heard arguments old n =
 
 -- ---- a reply
 
--- with how many what a message is answered with is given at once, where this is written
+-- how many bytes are given at once of what a message is answered with, where `reply` is what was
+-- written
 abbrev pub count_at_once : ℕ → Served → List ℕ → ℕ
 count_at_once room (Answered outcomes.Reply) reply = whole_length room (length reply)
 count_at_once room (Answered outcomes.NoCall) reply = 0

@@ -24,7 +24,7 @@ use Rattle.rb_core.specs.AtOnce.{count_given}
 abbrev pub kept_count : Books → ℕ
 kept_count books = row_count books.registry
 
--- by what a call's costs grow, where the old books become the new ones
+-- what the costs of a call depend on; `old` and `new` are the books before and after it
 abbrev pub sizes : Table → Books → Books → Sizes
 sizes table old new = record {
   connections = slot_count table;
@@ -67,7 +67,7 @@ PaysToAnswer old new args room n before now =
     PaysAtMost before now
     (answer_cost (sizes_of old new) (length (arguments_in args old.arguments)) + whole_cost (length room) n)
 
--- for a piece of bytes on the connection of the number, from whatever state was held
+-- for a piece of bytes on the connection of the number, from whatever state the core stood for
 abbrev pub PaysForBytes : Held → Held → ℕ → List ℕ → Meter → Meter → Type 0
 PaysForBytes old new id piece before now =
     (s : State) → StandsFor old s

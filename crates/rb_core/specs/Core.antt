@@ -50,7 +50,7 @@ pub record IsCore (setting : Setting) (connections : Table) (books : Books) (rep
 
 -- ---- what calls answer
 
--- the same with the reply in this buffer
+-- the outcome of the model for this outcome of the code, with the reply in this buffer
 abbrev pub given_in : outcome.Outcome → Kept → Outcome
 given_in given kept = outcome_with given kept.bytes
 
@@ -78,21 +78,22 @@ abbrev pub arguments_in : Option (Bor (List ℕ)) → List ℕ → List ℕ
 arguments_in (Some lent) held = lent.now
 arguments_in None held = held
 
--- They are there after a piece for the connection of the number, where the buffer for them was this one and is that one.
+-- These are the arguments that the core has after a piece for the connection of the number; `before` and `after` are
+-- the buffer that was handed in for them.
 abbrev pub HasArguments : ℕ → List ℕ → Table → Kept → Kept → Result Piece CoreFault → Type 0
 HasArguments id piece table before after result =
     IfOk result (λ got. TableShows (arguments_on id before.bytes piece) table (arguments_in got.arguments after.bytes))
 
--- what a record says of this verdict and these arguments is answered
+-- a record with this verdict and these arguments is answered, and its connection goes on
 abbrev pub answering_heard : ℕ → Heard → List ℕ → State → Bool × State
 answering_heard id heard arguments s =
     settled_in id (serve_message s (Tcp id heard.peer) (message_with heard.verdict arguments) arguments)
 
--- the same once the arguments are taken out
+-- what is held, once the arguments are taken out
 abbrev pub without_arguments : Held → Held
 without_arguments held = record held { arguments = [] }
 
--- The caller of a call that ended is told how, where it ended by this datagram.
+-- The caller of a forwarded call that ended is told how; `message` is the datagram that ended it.
 abbrev pub TellsCaller : List ℕ → Ended → Held → Held → Told → Type 0
 TellsCaller message ended old new given = Acts StandsFor (tell ended.forward.caller (told_at message ended)) old new given
 

@@ -47,15 +47,15 @@ greatest_count = 2 ^ 128 - 1
 abbrev pub shown : Meter → ℕ
 shown meter = min meter.steps greatest_count
 
--- Nothing is another but what the meter showed as the last event began.
+-- Nothing has changed but `begun`, what the meter showed as the last event began.
 abbrev pub OnlyBegins : Held → Held → Type 0
 OnlyBegins old new = new ≡ record old { begun = new.begun }
 
--- Nothing is another, and the meter showed this as the last event began.
+-- Nothing has changed but `begun`, which is what this meter shows.
 abbrev pub BeginsAt : Meter → Held → Held → Type 0
 BeginsAt before old new = new ≡ record old { begun = shown before }
 
--- so once what is lent is given back
+-- the same once the borrow of what is lent ends
 abbrev pub LendsFrom : MutBor Held → Meter → Fml
 LendsFrom core before = Rests the_row core (BeginsAt before core.now)
 
@@ -77,18 +77,18 @@ abbrev pub lent_by : Result (Bor (List ℕ)) CoreFault → ℕ
 lent_by (Ok bytes) = length bytes.now
 lent_by (Err fault) = 0
 
--- so many bytes that it tells as given
+-- the bytes that it reports as given, none where it is refused
 abbrev pub given_by : Result (Unit {0}) CoreFault → ℕ → ℕ
 given_by (Ok u) n = n
 given_by (Err fault) n = 0
 
--- A call that takes so many bytes, and lends or tells as given so many, pays no more than the bound, whatever state that a
--- run reaches the core stood for.
+-- A call that takes so many bytes, and lends or reports as given so many, pays no more than the bound, whatever state
+-- that a run reaches the core stood for.
 pub record StaysWithinSteps (core : Held) (taken given : ℕ) (before now : Meter) : Type 0 where
   pub within : (s : State) → StandsFor core s → IsReached s
       → PaysAtMost before now (steps_bound core.setting.limits taken given)
 
--- the same of bytes that are exchanged
+-- the same of a call of `exchange`
 abbrev pub ExchangesWithinSteps : Held → Result Exchanged CoreFault → Meter → Meter → Type 0
 ExchangesWithinSteps core result before now =
     StaysWithinSteps core (taken_by (taken_in result)) (count_given result) before now

@@ -17,7 +17,7 @@ HasRoom context says.NoCall books = ⊤
 HasRoom context (says.Refused head) books = ⊤
 HasRoom context (says.Garbage head) books = ⊤
 
--- what lists are made from that show a host
+-- what lists are made from: the host that they show, and the registry of the books
 abbrev pub source_in : List ℕ → Books → Source
 source_in host books = source_for host books.registry
 

@@ -27,16 +27,18 @@ pub record Happened (s : State) (events : List Event) (before now : List Output)
   pub outputs : now ≡ before ++ run s events
   pub state : StandsFor core (after s events)
 
--- At most the cost of these events is paid, from whatever state was held.
+-- At most the cost of these events is paid, from whatever state the core stood for.
 abbrev pub PaysForRun : Held → List Event → Meter → Meter → Type 0
 PaysForRun core events before now = (s : State) → StandsFor core s → PaysAtMost before now (run_cost s events)
 
--- From each such state that was held, no more is paid for these events than their bound.
+-- From each state that a run reaches at good limits and that the core stood for, no more is paid
+-- for these events than their bounds.
 abbrev pub PaysWithinBound : Held → List Event → Meter → Meter → Type 0
 PaysWithinBound core events before now =
     (s : State) → StandsFor core s → IsReached s → are_good s.setting.limits ≡ true → PaysAtMost before now (run_bound s events)
 
--- From each such state that the old core stood for, the new one holds no more than the bound.
+-- From each state that a run reaches, with a listener on a port of 16 bits, and that the old core
+-- stood for, the new one holds no more than the bound.
 abbrev pub StaysWithinBound : Held → Held → Type 0
 StaysWithinBound old new =
     (s : State) → StandsFor old s → IsReached s → s.setting.listener.port < 2 ^ 16 → held new ≤ bytes_bound s.setting.limits

@@ -28,20 +28,20 @@ use Rattle.rb_core.specs.Messages.{null_message}
 use Rattle.rb_core.specs.Eviction.{source_in}
 use Rattle.rb_core.specs.Awaits.{StayUnlessForwarded}
 
--- From each ledger that the books stand for, an answer is told so.
+-- For each ledger that the books stand for, what is served is the outcome of the answer.
 abbrev pub TellsAnswer : Books → Context → ℕ → Answer → Served → List ℕ → Type 0
 TellsAnswer books context xid given served reply =
     (l : Ledger) → StandsForLedger books l
     → served_in (source_in context.listener.host books) served reply
     ≡ answer_outcome context.caller (length l.changes) xid (result_bytes context.listener.host (shown_of l)) given
 
--- A message is served as the outcome says, with what is written in this buffer.
+-- A message is served as the model's `outcome` says, where `out` is the buffer with its reply.
 abbrev pub ServesMessage : Context → Message → List ℕ → Books → Books → Served → Kept → Type 0
 ServesMessage context message arguments old new served out =
     ActsAs (outcome context message arguments) old new (served_in (source_in context.listener.host new) served out.bytes)
 
--- A message is served as the outcome says, once there is room for its row: from the connections and each ledger that were
--- stood for before.
+-- A message is served as the model's `outcome` says, once there is room for its row, for all connections and each
+-- ledger that were stood for before.
 pub record ServesInRoom (context : Context) (message : Message) (arguments : List ℕ) (table : Table) (old : Books) (left : Table) (new : Books) (given : Outcome) : Type 0 where
   pub gives : (c : Connections) (l : Ledger) → StandsForConnections (source_in context.listener.host old) table c
       → StandsForLedger old l → given ≡ (outcome context message arguments l).0
@@ -50,13 +50,13 @@ pub record ServesInRoom (context : Context) (message : Message) (arguments : Lis
   pub connections : (c : Connections) (l : Ledger) → StandsForConnections (source_in context.listener.host old) table c
       → StandsForLedger old l → StandsForConnections (source_in context.listener.host new) left (evicting (crowding context message c.all l) c)
 
--- The data on which this is the verdict is served so, behind whose head are these bytes.
+-- The same of the message on which this is the verdict; `arguments` are the bytes behind its head.
 abbrev pub ServesVerdict : Context → Verdict → List ℕ → Table → Books → Table → Books → Served → Kept → Type 0
 ServesVerdict context verdict arguments table old left new served out =
     ServesInRoom context (message_with verdict arguments) arguments table old left new
     (served_in (source_in context.listener.host new) served out.bytes)
 
--- A call of NULL of this head is served so, whatever it sees.
+-- A call of NULL with this head is served so in every context.
 abbrev pub ServesNull : CallHead → Books → Books → Served → Kept → Type 0
 ServesNull head old new served out =
     (context : Context) (arguments : List ℕ) → ServesMessage context (null_message head) arguments old new served out
@@ -84,7 +84,7 @@ pub record WritesReply (before after : Kept) : Type 0 where
   pub tie : after.tie ≡ before.tie
   pub short : length after.bytes ≤ longest_reply
 
--- A message can be served from these books for a call that sees this.
+-- A message can be served from these books in this context.
 pub record CanServe (tie : ℕ) (context : Context) (books : Books) : Type 0 where
   pub tied : AreTied tie books
   pub limit : books.registry.limit ≡ context.limit

@@ -21,8 +21,8 @@ pub record Held : Type 0 where
 abbrev pub source_of : Held → Source
 source_of held = source_for held.setting.listener.host held.books.registry
 
--- Neither the changes nor the history of calls is held, nor a list as a whole. Between two events no arguments are, and no
--- more bytes of a connection and of the reply than there is room for. No state knows when the last event began.
+-- Neither the changes nor the history of calls is held, nor a list as a whole. Between two events no arguments are,
+-- and no more bytes of a connection and of the reply than there is room for. A state has nothing like `begun`.
 pub record StandsFor (held : Held) (s : State) : Type 0 where
   pub setting : held.setting ≡ s.setting
   pub clock : held.clock ≡ s.clock

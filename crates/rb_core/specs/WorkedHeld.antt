@@ -1,9 +1,9 @@
--- Worked examples: held bytes and their bound, and the bound of steps.
+-- A worked example: the bytes that a new core holds.
 use Rattle.std.specs.Prelude.{◌≡◌}
 use Rattle.rb_model.specs.Worked.{fresh}
 use Rattle.rb_core.specs.StandsFor.{Held, StandsFor}
 use Rattle.rb_core.specs.HeldBytes.{held}
 
--- the own rows alone: six times 32, and the 13 bytes of 0.0.0.0.0.111
+-- the six own rows alone, each of 32 bytes and the 13 of 0.0.0.0.0.111
 abbrev pub FreshCoreHolds : Type 0
 FreshCoreHolds = (core : Held) → StandsFor core fresh → held core ≡ 270

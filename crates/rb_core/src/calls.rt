@@ -83,10 +83,12 @@ pub fn lend_arguments<'a>(piece: Option<&'a [u8]>, buffer: &'a Kept, meter: &mut
     }
 }
 
-/// Serves what the data on which this is the verdict says, behind whose head are these bytes, once there is room for
-/// the row that it adds. The reply is written into an empty buffer, unless it is a list that is streamed.
+/// Serves the message on which this is the verdict, once there is room for the row that it adds; `arguments` are the
+/// bytes behind its head. The reply is written into `out`, which is empty before, unless it is a list that is
+/// streamed.
 ///
-/// A call of NULL has no arguments, adds no row and wants no more than a head (RFC 1833 sections 2.2 and 3.2).
+/// A call of NULL is served by itself: it has no arguments, adds no row, and its reply is a head alone (RFC 1833
+/// sections 2.2 and 3.2).
 #[tactic(auto, unfolding(rb_model::specs::Calls::longest_reply))]
 pub fn serve_verdict(
     connections: &mut Connections,

@@ -38,9 +38,11 @@ pub struct Core {
     /// The last reply over UDP, and how many bytes it has.
     reply: Kept,
     reply_len: u64,
-    /// Where a reply on a connection is written, empty between two events: the connection takes it for its own.
+    /// Where the reply on a connection is written; empty between two events. The connection swaps its own buffer for
+    /// it.
     draft: Kept,
-    /// The arguments of a record that ended, empty between two events: the connection gives its own buffer for it.
+    /// The arguments of a record that ended; empty between two events. The connection swaps its own buffer, with the
+    /// arguments, for it.
     arguments: Kept,
     /// What the meter showed as the last event began.
     begun: u128,
@@ -92,7 +94,8 @@ impl Model for Core {
         c.connections c.books c.reply c.draft c.arguments c.reply_len };
 }
 
-// Written out: whoever lets a core go, as each `?` behind one does, calls this once, and does not free it part by part.
+// Written out, so that each place that drops a core, as each `?` behind one does, calls this once, in place of code
+// that frees it part by part.
 impl Drop for Core {
     fn drop(self) {
         let Core {
@@ -116,8 +119,9 @@ impl Drop for Core {
     }
 }
 
-/// How many bytes a core of these limits may hold: of each connection, beside its fixed part, a whole call and a whole
-/// fragment; of each row an address text of 128 bytes; of each forwarded call itself; the keys of the statistics; and a reply.
+/// How many bytes a core of these limits may hold: for each connection its fixed part, a whole call and a whole
+/// fragment; for each row its fixed part and an address text of 128 bytes; for each forwarded call its fixed part and
+/// the call; the keys of the statistics; and a reply.
 #[tactic(auto, unfolding(rb_model::specs::Calls::longest_reply, rb_model::specs::Connections::longest_fragment, rb_forward::specs::Forwards::longest_arguments))]
 fn bytes_bound(limits: &Limits) -> u64
     requires conns { limits.now.conns ≤ 256 }

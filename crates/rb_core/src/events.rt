@@ -238,7 +238,7 @@ fn expire(alloc: Global, core: &mut Core, now: u64, meter: &mut Meter) -> Result
     }
 }
 
-/// Lets one event happen, or none where memory is wanted.
+/// Does one event; `NoMemory`, and nothing is done, where the allocation for its output is refused.
 pub(crate) fn happen(
     alloc: Global,
     core: &mut Core,

@@ -44,7 +44,7 @@ impl Called<'_> {
         matches!(self.procedure, Procedure::Void(VoidProcedure::Null))
     }
 
-    /// What it says, where these bytes stand behind its head.
+    /// What the call says; `arguments` are the bytes behind its head.
     pub fn message<'a>(&self, arguments: &'a [u8]) -> Message<'a>
         ensures message { result
             ≡ asked_of self.now.head.now (arguments_in self.now.procedure arguments.now) }
@@ -60,8 +60,8 @@ impl Called<'_> {
     }
 }
 
-/// The procedure that is called, by its program, version and number. Where there is none, what the message says in its place: it
-/// is no call, or is refused.
+/// The procedure that is called, by its program, version and number; where there is none, what the message says
+/// instead: that it is no call, or is refused.
 #[tactic(auto, unfolding(rb_model::specs::Calls::call_of), using(crate::proofs::Procedures::calls, crate::proofs::Procedures::unavailable))]
 pub fn procedure_of(verdict: &Verdict) -> Result<Called<'_>, Message<'static>>
     ensures calls { IfOk result
@@ -88,7 +88,7 @@ pub fn procedure_of(verdict: &Verdict) -> Result<Called<'_>, Message<'static>>
     }
 }
 
-/// The bytes behind the head of a call, none where the data on which this is the verdict is no call that can be read.
+/// The bytes behind the head of a call; `verdict` is that on `bytes`, and where it is not `Call` there are none.
 #[tactic(auto, unfolding(rb_feed::specs::Feeds::arguments_of))]
 pub fn arguments_behind(verdict: Verdict, bytes: &[u8]) -> &[u8]
     requires verdict { verdict ≡ verdict_of bytes.now }
@@ -102,7 +102,8 @@ pub fn arguments_behind(verdict: Verdict, bytes: &[u8]) -> &[u8]
     }
 }
 
-/// What is kept of a record that came whole, on whose data this is the verdict: the first 8,816 bytes of its call's arguments.
+/// The first 8,816 bytes of the arguments of a record that came whole, as they are kept of one that comes in pieces;
+/// `verdict` is that on its data.
 #[tactic(auto, unfolding(rb_model::specs::Calls::longest_arguments))]
 pub fn kept_arguments(verdict: Verdict, content: &[u8]) -> &[u8]
     requires verdict { verdict ≡ verdict_of content.now }

@@ -101,7 +101,8 @@ fn put_reply_with(
     }
 }
 
-/// The list that results are, as they are given on a connection: None where they are written as a whole.
+/// The list that is streamed, where the results are rows and the caller is on a connection; else None, and they are
+/// written as a whole.
 fn list_in(results: &Results, caller: Caller) -> Option<Listing>
     ensures { result ≡ streamed caller results.now }
 {
@@ -151,8 +152,8 @@ fn put_answer(
     }
 }
 
-/// Serves a message, behind whose head are these bytes, and writes its reply into an empty buffer, unless it is a list that
-/// is streamed.
+/// Serves a message, and writes its reply into an empty buffer, unless it is a list that is streamed; `arguments` are
+/// the bytes behind its head.
 #[tactic(auto, unfolding(rb_model::specs::Calls::outcome, rb_model::specs::Calls::longest_reply))]
 pub fn serve(
     books: &mut Books,
@@ -213,8 +214,8 @@ pub fn serve_null(books: &mut Books, head: &CallHead, out: &mut Kept, meter: &mu
     Served::Answered(Outcome::Reply)
 }
 
-/// Writes the reply into `room` where it is one fragment and `room` has place for the longest: its buffer is empty then. Returns
-/// the number of bytes written, 0 where nothing was.
+/// Writes the reply into `room`, with its header, where it is one fragment and `room` has place for the longest, and
+/// then empties its buffer. Returns the number of bytes written, 0 where nothing was.
 pub fn give_at_once(served: Served, draft: &mut Kept, room: &mut [u8], meter: &mut Meter) -> usize
     requires draft { IsDraft meter.old.tie draft.old }
     requires written { IsWritten served draft.old.bytes }

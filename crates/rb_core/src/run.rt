@@ -12,8 +12,8 @@ use rb_model::{Event, Output};
 use rb_xdr::{Meter, NoMemory};
 use std::alloc::Global;
 
-/// Lets the events happen, one after another, and appends the output of each. `NoMemory` where an allocation for an
-/// output is refused: then those events have happened whose outputs were appended, and no other.
+/// Does the events, one after another, and appends the output of each. `NoMemory` where an allocation for an output
+/// is refused: then those events were done whose outputs were appended, and no other.
 pub fn replay(
     alloc: Global,
     core: &mut Core,
