@@ -107,7 +107,7 @@ IsWithin slot = charge slot ≤ most_charge
 -- ---- all connections
 
 -- the slots of connections with their keys, in order of opening, how many numbers were given, how many connections
--- there may be, and the number of the meter that counts the calls
+-- there may be, and the number of the meter that counts the accesses
 pub record Table : Type 0 where
   pub slots : List (ℕ × Slot)
   pub given : ℕ

@@ -47,13 +47,14 @@ CallerGets s clock said (Tcp id peer) told after =
 CallerGets s clock said (Udp peer) told after =
     (told ≡ told_over_udp peer said) × (after.connections ≡ s.connections) × (after.reply ≡ reply_in said)
 
--- The first entry that is such a one ends, and is there no longer; its caller is told this.
+-- The first entry for which `Is` holds ends, and is there no longer; its caller is told what `says`
+-- gives for it.
 pub record EndsFirst (Is : Entry → Type 0) (says : Entry → Outcome) (s : State) (clock : ℕ) (told : Told) (after : State) : Type 0 where
   pub entry : Entry
   pub first : IsFirst Is s.ledger.forwards.all entry after.ledger.forwards.all
   pub tells : CallerGets s clock (says entry) entry.forward.caller told after
 
--- No entry is such a one. But for the clock and the last reply over UDP, nothing changes.
+-- `Is` holds for no entry. But for the clock and the last reply over UDP, nothing changes.
 pub record EndsNone (Is : Entry → Type 0) (s : State) (now : ℕ) (after : State) : Type 0 where
   pub none : NoneIs Is s.ledger.forwards.all
   pub stays : after ≡ at_fresh_moment now s
@@ -98,7 +99,8 @@ later_output peer NoCall = outputs.Silent
 later_output peer Forwarded = outputs.Silent
 later_output peer Silent = outputs.Silent
 
--- The event ends the first of the entries that are such ones: where its caller is over UDP, this is the output.
+-- Where the caller of the first entry for which `Is` holds is over UDP, the output of the event has what `says` gives
+-- for it.
 abbrev pub TellsOverUdp : (Entry → Type 0) → (Entry → Outcome) → State → Event → Type 0
 TellsOverUdp Is says s event =
     (e : Entry) (rest : List Entry) (peer : Peer) → IsFirst Is s.ledger.forwards.all e rest → e.forward.caller ≡ Udp peer
