@@ -124,8 +124,7 @@ fn show_held(start: usize, buffer: &Kept, window: &mut Kept, meter: &mut Meter) 
     }
 }
 
-/// Puts the next fragment of a list in the window, made in `scratch`, which is empty before and
-/// after.
+/// Puts the next fragment of a list in the window. It is made in `scratch`, empty before and after.
 #[tactic(auto, unfolding(rb_model::specs::Connections::longest_fragment, rb_model::specs::Calls::longest_arguments, crate::specs::StandsFor::buffer_size, rb_model::specs::Calls::longest_reply))]
 fn show_list(
     mut list: ListReply,

@@ -97,8 +97,7 @@ fn keep(kept: &mut Kept, room: usize, arguments: &[u8], meter: &mut Meter) -> us
 }
 
 impl Intake {
-    /// Goes on with a call of whose head so much came, and whose arguments so far are in the
-    /// buffer.
+    /// Goes on with a call whose head came so far; its arguments so far are in the buffer.
     fn begin(head: CallFeed, kept: &Kept, meter: &mut Meter) -> Intake
         requires { meter.old.tie ≡ kept.now.tie }
         ensures data { (content : List ℕ) → IsHeld head kept.now content

@@ -119,8 +119,7 @@ GivesAtOnce room id heard arguments old n =
 
 -- ---- a reply
 
--- how many bytes are given at once of what a message is answered with, where `reply` is what was
--- written
+-- how many bytes are given at once of what is served; `reply` is what was written of it
 abbrev pub count_at_once : ℕ → Served → List ℕ → ℕ
 count_at_once room (Answered outcomes.Reply) reply = whole_length room (length reply)
 count_at_once room (Answered outcomes.NoCall) reply = 0

@@ -38,8 +38,7 @@ HoldsArguments slot c = takes_bytes c ≡ true → charge slot ≤ 128 + longest
 abbrev pub unheld_share : ℕ
 unheld_share = 840 + 1028
 
--- What is held, and this share for each connection that is Idle or Reading, is together within the
--- bound.
+-- What is held, with this share for each connection that is Idle or Reading, is within the bound.
 pub record IsBounded (core : Held) (s : State) : Type 0 where
   pub each : AllZip HoldsArguments (values_of core.connections.slots) s.connections.all
   pub whole : held core + unheld_share * count_by takes_bytes s.connections.all ≤ bytes_bound s.setting.limits

@@ -6,8 +6,7 @@ use Rattle.rb_model.specs.Calls.{longest_reply}
 use Rattle.rb_model.specs.State.{Setting, State}
 use Rattle.rb_connections.specs.StandsFor.{Source, source_for, Table, StandsForConnections, AreWithin}
 
--- `begun` is what the meter showed as the last event began, and `tie` the number of the meter that counts the
--- accesses
+-- `begun` is what the meter showed as the last event began, and `tie` is the number of that meter
 pub record Held : Type 0 where
   pub setting : Setting
   pub clock : ℕ
