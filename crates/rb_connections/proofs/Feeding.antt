@@ -1,5 +1,5 @@
 -- What is read behind the first bytes of a piece.
-use Rattle.std.proofs.Common.{◌≡◌, ◌≤◌, ◌+◌, ◌-◌, ℕ, Bool, true, false, cond, List, [], ◌++◌, length, take, drop, Option, Some, None, refl, sym, ap, subst, ◌∙◌, append_assoc, append-nil, arith, length-append}
+use Rattle.std.proofs.Common.{◌≡◌, ◌≤◌, ◌+◌, ◌-◌, ℕ, Bool, true, false, cond, List, [], ◌++◌, length, take, drop, Option, Some, None, refl, sym, ap, subst, ◌∙◌, append_assoc, arith, length-append}
 use Rattle.std.proofs.Math.Seq.{take-add}
 use Rattle.std.proofs.lemmas.List.{take_all, take-append-drop, length-take-le, length-drop, take_at}
 use Rattle.rb_xdr.specs.Kept.{Kept}
@@ -62,13 +62,6 @@ more fed piece i n =
     ∙ ap (λ (xs : List ℕ). fed ++ xs) (ap (λ (xs : List ℕ). take i piece ++ take n xs) (rest_is piece i) ∙ sym (take-add i n piece))
 
 -- ---- no record ended
-
-pub nothing_fed : (reader : Reader) (intake : Intake) (kept : Kept) → ((fed : List ℕ) → IsReading reader kept fed → HasData intake kept (data_of fed)) → IsBehind reader kept reader.marks intake kept []
-nothing_fed reader intake kept begins = record {
-  inside = λ fed h. subst (λ (xs : List ℕ). IsInside reader.marks intake kept xs) (sym (append-nil fed)) (record { marks_are = h.marks_are; data_is = begins fed h });
-  cap = refl;
-  tie = refl;
-}
 
 pub run_fed : (first_marks : Marks) (first : Intake) (was : Kept) (marks : Marks) (intake : Intake) (kept : Kept) (ended : Bool) (before run : List ℕ) → IsInside first_marks first was before
     → RecordEnds first_marks run ended → StandsForMore first_marks run ended marks

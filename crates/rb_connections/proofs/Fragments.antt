@@ -1,6 +1,6 @@
 -- The fragments of a marked reply, and where the giving of it stands.
 use Rattle.std.specs.Prelude.{slice_range}
-use Rattle.std.proofs.Common.{Option, ◌≡◌, ◌<◌, ◌≤◌, ◌+◌, ◌-◌, ◌*◌, ◌/◌, ◌%◌, ℕ, zero, suc, Bool, true, false, leb, List, [], ◌++◌, length, take, drop, min, refl, sym, ap, ◌∙◌, arith, inl, inr, ◌⊎◌, length-append}
+use Rattle.std.proofs.Common.{Option, ◌≡◌, ◌<◌, ◌≤◌, ◌+◌, ◌-◌, ◌*◌, ◌/◌, ◌%◌, ℕ, zero, suc, Bool, true, false, leb, List, ◌++◌, length, take, drop, min, refl, sym, ap, ◌∙◌, arith, inl, inr, ◌⊎◌, length-append}
 use Rattle.std.proofs.lemmas.Slice.{take-put_mid}
 use Rattle.std.proofs.lemmas.List.{length-take, length-drop, take_at, drop_at, take_all, take_min, drop-drop, drop_all, drop-take}
 use Rattle.std.proofs.lemmas.Bool.{cases_lt, le-leb, lt-leb}
@@ -60,12 +60,6 @@ part_shown rest part last is last_is =
           (sym (marked-short rest few)
           ∙ sym (take_all longest_fragment (marked rest) (omega (arith, longest_is, few, length-short rest few))))
     ]
-
--- its data has at least one byte
-pub part_some : (rest part : List ℕ) → part ≡ take 1024 rest → 0 < length rest → (0 < length part) × (length part ≤ 1024)
-part_some rest part is some =
-    let size : length part ≡ min 1024 (length rest) = ap (λ (xs : List ℕ). length xs) is ∙ length-take 1024 rest in
-    (omega (arith, size, some), omega (arith, size))
 
 -- so the data that begins at a place of a buffer, and so what is behind it
 pub held_part : (buffer : List ℕ) (start left count end : ℕ) → left ≡ length buffer - start → count ≡ min left 1024 → end ≡ start + count
@@ -222,14 +216,6 @@ fragment_few reply shown o g = omega (arith, (place_of reply shown o g).few, lon
 pub fragment_full : (reply : List ℕ) (shown : Kept) (o : Owed) → IsShown reply shown o → 1024 * (o.given / 1028) + 1024 < length reply → length shown.bytes ≡ 1028
 fragment_full reply shown o g more =
     elim (place_of reply shown o g).ends [ inl there ↦ there.1 | inr none ↦ absurd (omega (arith, none.0, more)) ]
-
-pub written_twice : (before cleared first second : Kept) (header content whole : List ℕ) → cleared ≡ record before { bytes = [] }
-    → first ≡ record cleared { bytes = cleared.bytes ++ header } → second ≡ record first { bytes = first.bytes ++ content }
-    → header ++ content ≡ whole → second ≡ record before { bytes = whole }
-written_twice before cleared first second header content whole c f s w =
-    s
-    ∙ ap (λ (kept : Kept). record kept { bytes = kept.bytes ++ content }) (f ∙ ap (λ (kept : Kept). record kept { bytes = kept.bytes ++ header }) c)
-    ∙ ap (λ (bytes : List ℕ). record before { bytes = bytes }) w
 
 -- the header and the bytes of a reply that are written one behind the other
 pub written_whole : (reply header lent room : List ℕ) (n : ℕ) → length reply ≤ fragment_size → n ≡ length reply → header ≡ fragment_header n true → lent ≡ slice_range reply 0 n → 4 ≤ length room

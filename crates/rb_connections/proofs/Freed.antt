@@ -17,7 +17,7 @@ use Rattle.rb_connections.specs.declared.slot.Heard.{Heard}
 use Rattle.rb_connections.specs.declared.slot.Received.{Received}
 use Rattle.rb_connections.specs.StandsFor.{Table}
 use Rattle.rb_connections.specs.Slots.{AreNumbered, is_numbered, is_idle_stage, is_lost_stage, is_wanted_slot, wanted_slot}
-use Rattle.rb_connections.specs.Awaits.{is_awaiting_stage, is_free_slot, is_free, is_idle_slot, has_idle, is_unsettled_slot, IsSettled, NoneIsFreed, OnlyIsFreed, HearsSlot, HeardFrom, HearsFree}
+use Rattle.rb_connections.specs.Awaits.{is_awaiting_stage, is_free_slot, is_free, is_idle_slot, has_idle, is_not_idle_since, IsIdleIfThere, NoneIsFreed, OnlyIsFreed, HearsSlot, HeardFrom, HearsFree}
 use Rattle.rb_connections.proofs.Slots.{any-without}
 
 -- ---- whether any slot is so
@@ -113,9 +113,6 @@ either-false : (a b : Bool) → (a || b) ≡ false → (a ≡ false) × (b ≡ f
 either-false true b e = absurd cc
 either-false false b e = (refl, e)
 
-both-of : (a b : Bool) → a ≡ true → b ≡ true → (a && b) ≡ true
-both-of a b p q = rw (p, q) refl
-
 free-alike : (id : ℕ) (old new : Slot) → new.number ≡ old.number → is_awaiting_stage new.stage ≡ is_awaiting_stage old.stage → is_free_slot id old ≡ false → is_free_slot id new ≡ false
 free-alike id old new number stage none = rw (number, stage) none
 
@@ -187,9 +184,9 @@ module _ (table : Table) where
 
   -- it is Idle since this moment
   now_settled : (id clock k : ℕ) (old new : Slot) → AreNumbered table.given (values_of table.slots) → value_at table.slots k ≡ Some old → old.number ≡ id → is_idle_stage new.stage ≡ true → new.since ≡ clock
-      → IsSettled id clock (record table { slots = with_value table.slots k new })
+      → IsIdleIfThere id clock (record table { slots = with_value table.slots k new })
   now_settled id clock k old new n v number idle since =
-      alone-changed (is_unsettled_slot id clock) id table.given (λ s e. rw e refl) table.slots k old new n v number (rw (idle, eq-eqb new.since clock since) (both-not (eqb new.number id)))
+      alone-changed (is_not_idle_since id clock) id table.given (λ s e. rw e refl) table.slots k old new n v number (rw (idle, eq-eqb new.since clock since) (both-not (eqb new.number id)))
     where
       both-not : (b : Bool) → (b && false) ≡ false
       both-not true = refl
@@ -201,7 +198,7 @@ module _ (table : Table) where
   heard_on id clock k old new n v number same h = record {
     was_free = was_free id k old v number h.awaited_none;
     is_idle = is_idle id k old new v (same ∙ number) h.is_idle;
-    is_settled = now_settled id clock k old new n v number h.is_idle h.since;
+    if_there = now_settled id clock k old new n v number h.is_idle h.since;
   }
 
 -- the slot that was found is live, and of the number

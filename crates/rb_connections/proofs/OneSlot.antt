@@ -126,9 +126,6 @@ pub has_ended : (fed piece : List ℕ) (m : Option ℕ) (r : Fed) (said : Verdic
 has_ended fed piece None r said is ended = let clash : Some said ≡ None = sym ended ∙ ap (λ (f : Fed). f.verdict) is in absurd cc
 has_ended fed piece (Some n) r said is ended = record { at = n; is = refl; says = same_verdict said _ (sym ended ∙ ap (λ (f : Fed). f.verdict) is) }
 
-pub counts_all : (fed piece : List ℕ) (m : Option ℕ) (r : Fed) → r ≡ fed_until fed piece m → m ≡ None → r.count ≡ length piece
-counts_all fed piece m r is none = ap (λ (f : Fed). f.count) (is ∙ ap (fed_until fed piece) none)
-
 pub counts_to : (fed piece : List ℕ) (n : ℕ) (m : Option ℕ) (r : Fed) → r ≡ fed_until fed piece m → m ≡ Some n → r.count ≡ n - length fed
 counts_to fed piece n m r is some = ap (λ (f : Fed). f.count) (is ∙ ap (fed_until fed piece) some)
 

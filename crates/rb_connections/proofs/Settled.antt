@@ -20,7 +20,7 @@ use Rattle.rb_connections.specs.declared.slot.Stage.TheVariants as stages
 use Rattle.rb_connections.specs.declared.slot.Wanted.TheVariants as wanted
 use Rattle.rb_connections.specs.StandsFor.{IsWithin, Source, Table, StandsForConnection, StandsForConnections, stamp_in}
 use Rattle.rb_connections.specs.Slots.{Acts, Shows, AreNumbered, HasBuffers, IsTable, feeding, arguments_heard, arguments_on, heard_whole, is_idle_stage, is_wanted_slot, wanted_slot}
-use Rattle.rb_connections.specs.Awaits.{GoOn, is_awaiting_stage, is_unsettled_slot, IsSettled, HeardFrom}
+use Rattle.rb_connections.specs.Awaits.{GoOn, is_awaiting_stage, is_not_idle_since, IsIdleIfThere, HeardFrom}
 use Rattle.rb_connections.specs.Listings.{SlotListsOn, began_early, evicted_slot}
 use Rattle.rb_connections.proofs.Evicting.{all_evicted}
 use Rattle.rb_connections.proofs.Freed.{heard_on}
@@ -35,27 +35,27 @@ either-false false b e = (refl, e)
 
 -- ---- those whose lists are in the way of a row are others
 
-unsettled_alike : (earliest id clock : ℕ) (slot : Slot) → is_unsettled_slot id clock slot ≡ false → is_unsettled_slot id clock (evicted_slot earliest slot) ≡ false
+unsettled_alike : (earliest id clock : ℕ) (slot : Slot) → is_not_idle_since id clock slot ≡ false → is_not_idle_since id clock (evicted_slot earliest slot) ≡ false
 unsettled_alike earliest id clock slot none = by_stage slot.stage refl
   where
-    by_stage : (stage : Stage) → slot.stage ≡ stage → is_unsettled_slot id clock (evicted_slot earliest slot) ≡ false
+    by_stage : (stage : Stage) → slot.stage ≡ stage → is_not_idle_since id clock (evicted_slot earliest slot) ≡ false
     by_stage stages.Idle is = rw is (rw is at none)
     by_stage (stages.Reading reader) is = rw is (rw is at none)
     by_stage (stages.Giving giving) is = by_test (began_early earliest (stamp_in giving.rest)) refl
       where
-        by_test : (b : Bool) → began_early earliest (stamp_in giving.rest) ≡ b → is_unsettled_slot id clock (evicted_slot earliest slot) ≡ false
+        by_test : (b : Bool) → began_early earliest (stamp_in giving.rest) ≡ b → is_not_idle_since id clock (evicted_slot earliest slot) ≡ false
         by_test true t = rw (is, t) (rw is at none)
         by_test false t = rw (is, t) (rw is at none)
     by_stage stages.Awaiting is = rw is (rw is at none)
     by_stage stages.Lost is = rw is (rw is at none)
 
-none_unsettled : (earliest id clock : ℕ) (es : List (ℕ × Slot)) → list_any (is_unsettled_slot id clock) (values_of es) ≡ false → list_any (is_unsettled_slot id clock) (values_of (all_evicted earliest es)) ≡ false
+none_unsettled : (earliest id clock : ℕ) (es : List (ℕ × Slot)) → list_any (is_not_idle_since id clock) (values_of es) ≡ false → list_any (is_not_idle_since id clock) (values_of (all_evicted earliest es)) ≡ false
 none_unsettled earliest id clock [] h = h
 none_unsettled earliest id clock (e ∷ es) h =
-    let p = either-false (is_unsettled_slot id clock e.1) (list_any (is_unsettled_slot id clock) (values_of es)) h in
+    let p = either-false (is_not_idle_since id clock e.1) (list_any (is_not_idle_since id clock) (values_of es)) h in
     rw (unsettled_alike earliest id clock e.1 p.0) (none_unsettled earliest id clock es p.1)
 
-pub settled_evicted : (earliest id clock : ℕ) (table : Table) → IsSettled id clock table → IsSettled id clock (record table { slots = all_evicted earliest table.slots })
+pub settled_evicted : (earliest id clock : ℕ) (table : Table) → IsIdleIfThere id clock table → IsIdleIfThere id clock (record table { slots = all_evicted earliest table.slots })
 settled_evicted earliest id clock table h = none_unsettled earliest id clock table.slots h
 
 -- ---- nothing is left to do for one that is so
@@ -72,7 +72,7 @@ both-true true true e = (refl, refl)
 both-true true false e = absurd cc
 both-true false b e = absurd cc
 
-settled_is_same : (source : Source) (id clock : ℕ) (slot : Slot) (c : Connection) → StandsForConnection source slot c → is_unsettled_slot id clock slot ≡ false → is_live id c ≡ true → settled clock Silent c ≡ c
+settled_is_same : (source : Source) (id clock : ℕ) (slot : Slot) (c : Connection) → StandsForConnection source slot c → is_not_idle_since id clock slot ≡ false → is_live id c ≡ true → settled clock Silent c ≡ c
 unfolding is_live settled
 settled_is_same source id clock slot c h none live =
     let number : eqb slot.number id ≡ true = ap (λ (n : ℕ). eqb n id) h.number ∙ (and_parts (eqb c.number id) (not (is_lost c.phase)) live).0 in
@@ -81,20 +81,20 @@ settled_is_same source id clock slot c h none live =
     let since : c.since ≡ clock = sym h.since ∙ eqb-true slot.since clock idle.1 in
     ap (λ (p : Phase). record c { phase = p; since = clock }) (sym phase) ∙ ap (λ (m : ℕ). record c { since = m }) (sym since)
 
-settled_among : (source : Source) (id clock : ℕ) (slots : List Slot) (all : List Connection) → AllZip (StandsForConnection source) slots all → list_any (is_unsettled_slot id clock) slots ≡ false
+settled_among : (source : Source) (id clock : ℕ) (slots : List Slot) (all : List Connection) → AllZip (StandsForConnection source) slots all → list_any (is_not_idle_since id clock) slots ≡ false
     → change_first (is_live id) (settled clock Silent) all ≡ all
 settled_among source id clock [] [] zip none = refl
 settled_among source id clock [] (c ∷ all) zip none = absurd zip
 settled_among source id clock (slot ∷ slots) [] zip none = refl
 settled_among source id clock (slot ∷ slots) (c ∷ all) zip none =
-    let p = either-false (is_unsettled_slot id clock slot) (list_any (is_unsettled_slot id clock) slots) none in
+    let p = either-false (is_not_idle_since id clock slot) (list_any (is_not_idle_since id clock) slots) none in
     by_live (is_live id c) refl p.0 (settled_among source id clock slots all zip.1 p.1)
   where
-    by_live : (b : Bool) → is_live id c ≡ b → is_unsettled_slot id clock slot ≡ false → change_first (is_live id) (settled clock Silent) all ≡ all → change_first (is_live id) (settled clock Silent) (c ∷ all) ≡ c ∷ all
+    by_live : (b : Bool) → is_live id c ≡ b → is_not_idle_since id clock slot ≡ false → change_first (is_live id) (settled clock Silent) all ≡ all → change_first (is_live id) (settled clock Silent) (c ∷ all) ≡ c ∷ all
     by_live true t one further = rw t (ap (λ (x : Connection). x ∷ all) (settled_is_same source id clock slot c zip.0 one t))
     by_live false t one further = rw t (ap (λ (xs : List Connection). c ∷ xs) further)
 
-pub settled_stays : (source : Source) (id clock : ℕ) (table : Table) (c : Connections) → IsSettled id clock table → StandsForConnections source table c → changed_at id (settled clock Silent) c ≡ c
+pub settled_stays : (source : Source) (id clock : ℕ) (table : Table) (c : Connections) → IsIdleIfThere id clock table → StandsForConnections source table c → changed_at id (settled clock Silent) c ≡ c
 settled_stays source id clock table c none h = ap (λ (xs : List Connection). record c { all = xs }) (settled_among source id clock (values_of table.slots) c.all h.all none)
 
 -- ---- a record comes whole

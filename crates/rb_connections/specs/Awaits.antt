@@ -41,21 +41,21 @@ unfoldable pub has_idle : ℕ → Table → Bool
 has_idle id table = list_any (is_idle_slot id) (values_of table.slots)
 
 -- it has this number, and is anything but Idle since this moment
-abbrev pub is_unsettled_slot : ℕ → ℕ → Slot → Bool
-is_unsettled_slot id clock slot = slot.number == id && not (is_idle_stage slot.stage && slot.since == clock)
+abbrev pub is_not_idle_since : ℕ → ℕ → Slot → Bool
+is_not_idle_since id clock slot = slot.number == id && not (is_idle_stage slot.stage && slot.since == clock)
 
 -- The connection of this number, where there is one, is Idle since this moment.
-abbrev pub IsSettled : ℕ → ℕ → Table → Type 0
-IsSettled id clock table = list_any (is_unsettled_slot id clock) (values_of table.slots) ≡ false
+abbrev pub IsIdleIfThere : ℕ → ℕ → Table → Type 0
+IsIdleIfThere id clock table = list_any (is_not_idle_since id clock) (values_of table.slots) ≡ false
 
 -- It is there, and Idle since this moment.
 pub record IsIdleSince (id clock : ℕ) (table : Table) : Type 0 where
   pub is_idle : has_idle id table ≡ true
-  pub is_settled : IsSettled id clock table
+  pub if_there : IsIdleIfThere id clock table
 
 -- each connection that was Idle since a moment still is
-abbrev pub KeepsSettled : Table → Table → Type 0
-KeepsSettled old new = (id clock : ℕ) → IsSettled id clock old → IsSettled id clock new
+abbrev pub KeepsIdle : Table → Table → Type 0
+KeepsIdle old new = (id clock : ℕ) → IsIdleIfThere id clock old → IsIdleIfThere id clock new
 
 -- no connection is free that was not so before
 abbrev pub NoneIsFreed : Table → Table → Type 0
@@ -70,7 +70,7 @@ pub record GoOn (old new : Table) : Type 0 where
 -- What stays of connections while those are closed whose lists are in the way of a row.
 pub record StayOpen (old new : Table) : Type 0 where
   pub idle : (id : ℕ) → has_idle id old ≡ true → has_idle id new ≡ true
-  pub settled : KeepsSettled old new
+  pub if_there : KeepsIdle old new
   pub free : NoneIsFreed old new
   pub stays : StaysTable old new
   pub as_many : length new.slots ≡ length old.slots
@@ -97,7 +97,7 @@ pub record HearsSlot (clock : ℕ) (old new : Slot) : Type 0 where
 pub record HeardFrom (id clock : ℕ) (old new : Table) : Type 0 where
   pub was_free : is_free id old ≡ true
   pub is_idle : has_idle id new ≡ true
-  pub is_settled : IsSettled id clock new
+  pub if_there : IsIdleIfThere id clock new
 
 abbrev pub HearsFree : ℕ → ℕ → Table → Table → Result Received CoreFault → Type 0
 HearsFree id clock old new result = IfOk result (λ got. IfSome got.heard (λ heard. HeardFrom id clock old new))

@@ -2,7 +2,7 @@
 use Rattle.std.specs.Prelude.{ℕ, ◌+◌, length, Option, Some, None, Result, Ok, Err}
 use Rattle.rb_registry.specs.Registry.{Registry, slots_of}
 use Rattle.rb_model.specs.declared.types.CoreFault.{CoreFault}
-use Rattle.rb_model.specs.Costs.{show_cost, listed_cost, recount_cost, find_cost, take_cost, exchange_cost}
+use Rattle.rb_model.specs.Costs.{show_cost, listed_cost, recount_cost, find_cost, take_cost, swap_cost}
 use Rattle.rb_connections.specs.declared.giving.Rest.{Rest}
 use Rattle.rb_connections.specs.declared.giving.Rest.TheVariants as rests
 use Rattle.rb_connections.specs.declared.served.Served.{Served}
@@ -34,7 +34,7 @@ settling_cost connections registry served = find_cost connections + answered_cos
 -- what it costs to swap the buffer of a record, where one ended
 abbrev pub heard_cost : Option Heard → ℕ
 heard_cost None = 0
-heard_cost (Some heard) = exchange_cost
+heard_cost (Some heard) = swap_cost
 
 -- what it costs to take so many bytes of a piece, and to swap the buffer of the record that ended with them
 abbrev pub received_cost : Received → ℕ

@@ -165,11 +165,7 @@ TableHears id piece table before after = TableShows (arguments_on id before.byte
 abbrev pub TableTakes : ℕ → ℕ → List ℕ → Table → Table → Received → Type 0
 TableTakes id clock piece old new got = TableActs (on_live id (feeding clock piece)) old new (Ok got)
 
--- the verdict on a record that came whole, and its peer,
-abbrev pub heard_in : Whole → Heard
-heard_in whole = heard_of whole.peer whole.content.now
-
--- and which arguments are kept of it
+-- which arguments are kept of a record that came whole
 abbrev pub kept_in : Whole → List ℕ
 kept_in whole = kept_of whole.content.now
 

@@ -2,14 +2,10 @@
 use Rattle.std.specs.Prelude.{All}
 use Rattle.std.proofs.Common.{◌≡◌, ◌≤◌, false, ℕ, List, sym, ap, subst, ◌∙◌}
 use Rattle.rb_rpc.specs.declared.peer.Caller.{Caller}
-use Rattle.rb_rpc.specs.declared.peer.Caller.TheVariants.{Tcp}
-use Rattle.rb_rpc.specs.declared.peer.Peer.{Peer}
 use Rattle.rb_registry.specs.Cursors.{GoesOn}
-use Rattle.rb_forward.specs.StandsFor.{slots_of}
-use Rattle.rb_forward.specs.Table.{is_waiting}
 use Rattle.rb_proto.specs.declared.books.Books.{Books}
 use Rattle.rb_proto.specs.declared.context.Context.{Context}
-use Rattle.rb_proto.specs.Books.{ActsAs, AreTied, SameFrame}
+use Rattle.rb_proto.specs.Books.{ActsAs, SameFrame}
 use Rattle.rb_proto.specs.Ledger.{Ledger}
 use Rattle.rb_model.specs.declared.message.Message.{Message}
 use Rattle.rb_model.specs.Calls.{Outcome, outcome}
@@ -22,18 +18,12 @@ use Rattle.rb_connections.proofs.ListsGoOn.{lists_on, stands_on, stamps_low}
 use Rattle.rb_core.specs.StandsFor.{Held, source_of}
 use Rattle.rb_core.specs.Core.{context_of}
 use Rattle.rb_core.specs.Eviction.{Evicts, source_in}
-use Rattle.rb_core.specs.Serving.{CanServe, ServesInRoom}
+use Rattle.rb_core.specs.Serving.{ServesInRoom}
 use Rattle.rb_core.proofs.Steps.{Served, same_source}
 
 -- what a call sees, of what is held by its other name
 pub sees : (view now : Held) (context : Context) (caller : Caller) → view ≡ now → context ≡ context_of now caller → context ≡ context_of view caller
 sees view now context caller same is = is ∙ ap (λ (h : Held). context_of h caller) (sym same)
-
--- so a call on a connection for which none is forwarded can be served
-pub can_serve : (tie : ℕ) (held : Held) (id : ℕ) (peer : Peer) (context : Context) → context ≡ context_of held (Tcp id peer) → AreTied tie held.books
-    → held.books.registry.limit ≡ held.setting.limits.rows → held.books.forwards.cap ≡ held.setting.limits.forwards → is_waiting id (slots_of held.books.forwards) ≡ false
-    → CanServe tie context held.books
-can_serve tie held id peer context is tied limit forwards none = rw is (record { tied = tied; limit = limit; forwards = forwards; caller = none })
 
 -- The source tells the lists that are given once a message was served too.
 pub lists_then : (host : List ℕ) (table : Table) (mid books : Books) → GoesOn mid.registry books.registry → books.registry.floor ≡ mid.registry.floor → CanListOn (source_in host mid) table → CanListOn (source_in host books) table

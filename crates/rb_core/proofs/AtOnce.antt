@@ -19,6 +19,7 @@ use Rattle.rb_model.specs.Connections.{longest_fragment, pending_of, owed_of, ph
 use Rattle.rb_model.specs.Losses.{evicting}
 use Rattle.rb_model.specs.Step.{settled_in, serve_message, bytes, pending, pending_at, pending_on, gave, with_count}
 use Rattle.rb_model.specs.Laws.{is_owing}
+use Rattle.rb_model.specs.Sessions.{pending_bytes}
 use Rattle.rb_model.proofs.Fragments.{length-short, length-long, some-marked}
 use Rattle.rb_laws.proofs.Cuts.{IsFeeding, find-changed, changed-twice}
 use Rattle.rb_connections.specs.declared.served.Served.{Served as CodeServed}
@@ -34,7 +35,7 @@ use Rattle.rb_connections.proofs.IdleSlots.{Lives, idle_is_live}
 use Rattle.rb_core.specs.StandsFor.{Held, StandsFor, source_of}
 use Rattle.rb_core.specs.Eviction.{source_in}
 use Rattle.rb_core.specs.Core.{context_of, answering_heard}
-use Rattle.rb_core.specs.AtOnce.{pending_bytes, at_once_in, at_once_on, at_once, count_at_once, given_when_answered, front, without_front, then_giving, exchanging, answered_giving, IsGivenAtOnce}
+use Rattle.rb_core.specs.AtOnce.{at_once_in, at_once_on, at_once, count_at_once, given_when_answered, front, without_front, then_giving, exchanging, answered_giving, IsGivenAtOnce}
 use Rattle.rb_core.proofs.Steps.{Served, serve_gives, serve_stands, serve_connections, crowd_in, change_alike, change_nothing, RecordEnded, ended_by, taken_of}
 
 -- ---- what is left of an answer

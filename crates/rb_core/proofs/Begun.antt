@@ -4,7 +4,7 @@ use Rattle.rb_xdr.specs.Meter.{Meter}
 use Rattle.rb_model.specs.State.{State}
 use Rattle.rb_connections.specs.Slots.{Acts}
 use Rattle.rb_core.specs.StandsFor.{Held, StandsFor}
-use Rattle.rb_core.specs.Events.{shown, BeginsAt}
+use Rattle.rb_core.specs.Events.{count_shown, BeginsAt}
 
 -- what is held once an event began as the meter showed this
 abbrev pub began : Held → ℕ → Held
@@ -36,7 +36,7 @@ pub shows_begun : {A : Type 0} (show : State → A) (view now : Held) (n : ℕ) 
 shows_begun show view now n x is shows = subst (λ (held : Held). (s : State) → StandsFor held s → x ≡ show s) is (λ s h. shows s (still_stands view n s h))
 
 -- that event alone, of a core by its other name
-pub begins_at : (view now : Held) (n : ℕ) (before : Meter) → view ≡ now → n ≡ shown before → BeginsAt before now (began view n)
+pub begins_at : (view now : Held) (n : ℕ) (before : Meter) → view ≡ now → n ≡ count_shown before → BeginsAt before now (began view n)
 begins_at view now n before is count = ap (λ (held : Held). began held n) is ∙ ap (began now) count
 
 -- what is held after it stands for the same states

@@ -29,7 +29,7 @@ use Rattle.rb_connections.specs.Costs.{look_cost}
 use Rattle.rb_core.specs.StandsFor.{Held, StandsFor}
 use Rattle.rb_core.specs.AtOnce.{without_front, exchanging}
 use Rattle.rb_core.specs.CallCosts.{sizes_of, PaysForBytes, PaysForDatagram}
-use Rattle.rb_core.specs.Events.{StaysCheapIfQuiet, StaysWithinSteps, taken_by}
+use Rattle.rb_core.specs.Events.{StaysCheapIfQuiet, StaysWithinSteps, length_taken}
 use Rattle.rb_core.proofs.RunSteps.{datagram_shown, same_state}
 use Rattle.rb_core.proofs.Spending.{at_most, connections_held, rows_held}
 
@@ -80,9 +80,6 @@ module _ (core : Held) (a b : Meter) where
   pub unsent_within : (given : ℕ) → PaysAtMost a b (unsent_cost core.books.forwards.cap given) → StaysWithinSteps core 0 given a b
   unsent_within given pays = record { within = λ s h reached. at_most a b (unsent_cost core.books.forwards.cap given) _ (omega (arith, entries s h)) pays }
 
-  pub reply_within : (given : ℕ) → PaysAtMost a b (1 + given) → StaysWithinSteps core 0 given a b
-  reply_within given pays = record { within = λ s h reached. at_most a b (1 + given) _ (omega arith) pays }
-
   pub ending_within : (taken : ℕ) → PaysAtMost a b (ended_cost (sizes_of core core)) → StaysWithinSteps core taken 0 a b
   unfolding longest_reply longest_arguments buffer_size longest_args
   ending_within taken pays = record { within = λ s h reached. at_most a b (ended_cost (sizes_of core core)) _ (omega (arith, few_connections s h reached, entries s h)) pays }
@@ -122,7 +119,7 @@ module _ (core : Held) (a b : Meter) where
     same_taken x y e = cc
 
     -- as many bytes are taken of it as the model says
-    counts : (s : State) (c : Connection) (result : Result Taken CoreFault) → live_connection id s.connections.all ≡ Some c → result ≡ (bytes s now id piece).0 → taken_by result ≡ count_taken piece (taking c.phase piece)
+    counts : (s : State) (c : Connection) (result : Result Taken CoreFault) → live_connection id s.connections.all ≡ Some c → result ≡ (bytes s now id piece).0 → length_taken result ≡ count_taken piece (taking c.phase piece)
     unfolding bytes
     counts s c (Err fault) there gives = let clash = rw there at gives in absurd cc
     counts s c (Ok taken) there gives =
@@ -130,7 +127,7 @@ module _ (core : Held) (a b : Meter) where
         same_taken taken (when_taken (at_moment now s) id piece c (taking c.phase piece)).0 same ∙ taken-counts (at_moment now s) id piece c (taking c.phase piece)
 
     pub exchange_within : (new : Held) (room n more : ℕ) (result : Result Taken CoreFault) (given : List ℕ) → Acts StandsFor (exchanging now id piece room) core new (result, given) → more ≤ n + 2
-        → ((s : State) → StandsFor core s → PaysAtMost a b (bytes_cost (sizes_of core new) piece (live_connection id s.connections.all) + more)) → StaysWithinSteps core (taken_by result) n a b
+        → ((s : State) → StandsFor core s → PaysAtMost a b (bytes_cost (sizes_of core new) piece (live_connection id s.connections.all) + more)) → StaysWithinSteps core (length_taken result) n a b
     unfolding step longest_reply longest_arguments buffer_size longest_args
     exchange_within new room n more result given acts few pays = record { within = λ s h reached. by_there s h reached (live_connection id s.connections.all) refl (pays s h) }
       where
@@ -141,15 +138,15 @@ module _ (core : Held) (a b : Meter) where
             ∙ ap (λ (t : State). t.setting) (sym (same_state show_taken (λ t. bytes t now id piece) core new (bytes s now id piece))) ∙ (step-follows s (Bytes now id piece)).setting in
             rows_left new s _ h (acts.stands s h) same
 
-        by_taking : (s : State) → StandsFor core s → IsReached s → (t : Taking) → taken_by result ≡ count_taken piece t
-            → PaysAtMost a b (find_cost (length core.connections.slots) + take_cost (count_taken piece t) + recount_cost + record_cost (sizes_of core new) t + more) → PaysAtMost a b (steps_bound core.setting.limits (taken_by result) n)
+        by_taking : (s : State) → StandsFor core s → IsReached s → (t : Taking) → length_taken result ≡ count_taken piece t
+            → PaysAtMost a b (find_cost (length core.connections.slots) + take_cost (count_taken piece t) + recount_cost + record_cost (sizes_of core new) t + more) → PaysAtMost a b (steps_bound core.setting.limits (length_taken result) n)
         by_taking s h reached TakesNone k paid = at_most a b (find_cost (length core.connections.slots) + take_cost 0 + recount_cost + 0 + more) _ (omega (arith, few, few_connections s h reached)) paid
         by_taking s h reached (GoesOn fed) k paid = at_most a b (find_cost (length core.connections.slots) + take_cost (length piece) + recount_cost + 0 + more) _ (omega (arith, few, few_connections s h reached, k)) paid
         by_taking s h reached (Ends m content) k paid =
             at_most a b (find_cost (length core.connections.slots) + take_cost m + recount_cost + record_cost (sizes_of core new) (Ends m content) + more) _
             (omega (arith, few, few_connections s h reached, few_rows s h, left s h, k, length-take longest_arguments (arguments_of content))) paid
 
-        by_there : (s : State) → StandsFor core s → IsReached s → (m : Option Connection) → live_connection id s.connections.all ≡ m → PaysAtMost a b (bytes_cost (sizes_of core new) piece m + more) → PaysAtMost a b (steps_bound core.setting.limits (taken_by result) n)
+        by_there : (s : State) → StandsFor core s → IsReached s → (m : Option Connection) → live_connection id s.connections.all ≡ m → PaysAtMost a b (bytes_cost (sizes_of core new) piece m + more) → PaysAtMost a b (steps_bound core.setting.limits (length_taken result) n)
         by_there s h reached None there paid = at_most a b (find_cost (length core.connections.slots) + more) _ (omega (arith, few, few_connections s h reached)) paid
         by_there s h reached (Some c) there paid = by_taking s h reached (taking c.phase piece) (counts s c result there (ap (λ (x : Result Taken CoreFault × List ℕ). x.0) (acts.gives s h))) paid
 
@@ -158,7 +155,7 @@ module _ (core : Held) (a b : Meter) where
     cheap_within new result acts pays = λ s h reached none. by_there s h reached none (live_connection id s.connections.all) refl (pays s h)
       where
         by_there : (s : State) → StandsFor core s → IsReached s → NoRecordEnds s id piece → (m : Option Connection) → live_connection id s.connections.all ≡ m → PaysAtMost a b (bytes_cost (sizes_of core new) piece m)
-            → PaysAtMost a b (8 * taken_by result + 64 * core.setting.limits.conns + 64)
+            → PaysAtMost a b (8 * length_taken result + 64 * core.setting.limits.conns + 64)
         by_there s h reached none None there paid = at_most a b (find_cost (length core.connections.slots)) _ (omega (arith, few_connections s h reached)) paid
         by_there s h reached none (Some c) there paid =
             let quiet : record_cost (sizes_of core new) (taking c.phase piece) ≡ 0 = no_record (sizes_of core new) c piece (rw there at none) in

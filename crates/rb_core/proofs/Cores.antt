@@ -12,13 +12,6 @@ use Rattle.rb_core.specs.Awaits.{AreAwaited}
 use Rattle.rb_core.specs.Eviction.{source_in}
 use Rattle.rb_core.specs.Core.{IsCore}
 
-pub stays_twice : (a b c : Table) → StaysTable a b → StaysTable b c → StaysTable a c
-stays_twice a b c first then = record {
-  conns = then.conns ∙ first.conns;
-  tie = then.tie ∙ first.tie;
-  within = λ within. then.within (first.within within);
-}
-
 -- with other connections, books and buffers
 pub core_changed : (setting : Setting) (old new : Table) (books left : Books) (reply written draft after arguments heard : Kept) (len count : ℕ)
     → IsCore setting old books reply draft arguments len → StaysTable old new → SameFrame books left

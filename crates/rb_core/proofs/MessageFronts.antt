@@ -1,6 +1,6 @@
 -- The first 8,816 bytes of its arguments decide what a call says.
 use Rattle.std.specs.Prelude.{option_map, option_and_then}
-use Rattle.std.proofs.Common.{◌≡◌, ◌≤◌, ℕ, cond, List, take, Option, Some, None, Err, refl, ap, subst, arith}
+use Rattle.std.proofs.Common.{◌≡◌, ◌≤◌, ℕ, List, take, Option, Some, None, refl, ap, subst, arith}
 use Rattle.rb_xdr.specs.Xdr.{Reading, read_number, read_opaque}
 use Rattle.rb_rpc.specs.declared.call.CallHead.{CallHead}
 use Rattle.rb_rpc.specs.Verdict.{verdict}
@@ -10,12 +10,11 @@ use Rattle.rb_feed.specs.Feeds.{arguments_of}
 use Rattle.rb_forward.specs.Forwards.{longest_arguments as longest_args}
 use Rattle.rb_proto.specs.declared.procedure.Procedure.{Procedure}
 use Rattle.rb_proto.specs.declared.procedure.Procedure.TheVariants as procedures
-use Rattle.rb_proto.specs.declared.request.ArgumentFault.TheVariants.{ProcUnavail}
 use Rattle.rb_proto.specs.declared.request.Request.{Request}
 use Rattle.rb_proto.specs.declared.request.Request.TheVariants.{Mapping, Rpcb, Uaddr2taddr, Taddr2uaddr, Forward}
 use Rattle.rb_proto.specs.Remote.{read_remote}
 use Rattle.rb_proto.specs.Types.{read_mapping, read_rpcb, read_netbuf}
-use Rattle.rb_proto.specs.Arguments.{procedure_at, is_known, value_of, front, arguments, request, or_garbage, read_request, HasArgs}
+use Rattle.rb_proto.specs.Arguments.{procedure_at, value_of, front, arguments, request, HasArgs}
 use Rattle.rb_proto.specs.declared.answers.Answer.{Answer}
 use Rattle.rb_proto.specs.declared.context.Context.{Context}
 use Rattle.rb_proto.specs.Ledger.{Ledger, called}
@@ -84,9 +83,6 @@ request_of_front vers proc n bytes enough = by_procedure (procedure_at vers proc
     by_procedure : (p : Option Procedure) → option_and_then (λ procedure. arguments procedure (take n bytes)) p ≡ option_and_then (λ procedure. arguments procedure bytes) p
     by_procedure (Some procedure) = arguments_of_front procedure n bytes enough
     by_procedure None = refl
-
-pub read_of_front : (vers proc n : ℕ) (bytes : List ℕ) → longest_arguments ≤ n → read_request vers proc (take n bytes) ≡ read_request vers proc bytes
-read_of_front vers proc n bytes enough = ap (λ (r : Option Request). cond (is_known vers proc) (or_garbage r) (Err ProcUnavail)) (request_of_front vers proc n bytes enough)
 
 call_of_front : (n : ℕ) (head : CallHead) (bytes : List ℕ) → longest_arguments ≤ n → call_of head (take n bytes) ≡ call_of head bytes
 unfolding call_of

@@ -9,17 +9,14 @@ use Rattle.rb_proto.specs.declared.procedure.Procedure.{Procedure}
 use Rattle.rb_proto.specs.declared.procedure.Procedure.TheVariants.{Void}
 use Rattle.rb_proto.specs.declared.procedure.VoidProcedure.TheVariants.{Null}
 use Rattle.rb_proto.specs.declared.context.Context.{Context}
-use Rattle.rb_proto.specs.declared.books.Books.{Books}
 use Rattle.rb_proto.specs.declared.request.Request.{Request}
 use Rattle.rb_proto.specs.Arguments.{procedure_at, arguments, is_known, request, or_garbage}
 use Rattle.rb_proto.specs.Ledger.{Ledger}
 use Rattle.rb_model.specs.declared.message.Message.{Message}
 use Rattle.rb_model.specs.declared.message.Message.TheVariants as says
 use Rattle.rb_model.specs.Calls.{is_served, refusal, request_of, call_of, message_with}
-use Rattle.rb_model.specs.Grammar.{HasArgsIn}
 use Rattle.rb_model.specs.Losses.{asks_room}
 use Rattle.rb_core.specs.Messages.{AsksNothing, CallsProcedure, asked_of, null_message}
-use Rattle.rb_core.specs.Eviction.{HasRoom}
 
 module _ (head : CallHead) (bytes : List ℕ) (prog : not (head.prog == rpcb_prog) ≡ false) (served : not (is_served head.vers) ≡ false) where
   pub calls : (procedure : Procedure) → procedure_at head.vers head.proc ≡ Some procedure → call_of head bytes ≡ asked_of head (arguments procedure bytes)
@@ -40,18 +37,6 @@ unfolding arguments
 null_asked v head procedure calls is bytes = calls bytes ∙ rw is refl
 
 -- ---- a message that asks for nothing
-
-pub nothing_has : (message : Message) (bytes : List ℕ) → AsksNothing message → HasArgsIn message bytes
-nothing_has says.NoCall bytes none = tt
-nothing_has (says.Refused head) bytes none = tt
-nothing_has (says.Garbage head) bytes none = tt
-nothing_has (says.Asked call) bytes none = absurd none
-
-pub nothing_is_roomy : (context : Context) (message : Message) (books : Books) → AsksNothing message → HasRoom context message books
-nothing_is_roomy context says.NoCall books none = tt
-nothing_is_roomy context (says.Refused head) books none = tt
-nothing_is_roomy context (says.Garbage head) books none = tt
-nothing_is_roomy context (says.Asked call) books none = absurd none
 
 pub nothing_asks : (context : Context) (message : Message) (l : Ledger) → AsksNothing message → asks_room context message l ≡ false
 nothing_asks context says.NoCall l none = refl

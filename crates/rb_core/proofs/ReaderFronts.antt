@@ -1,13 +1,12 @@
 -- How many bytes a reader looks at.
 use Rattle.std.specs.Prelude.{slice_range}
-use Rattle.std.specs.Int.{cast_signed, w32, from_be_bytes}
-use Rattle.std.proofs.Common.{◌≡◌, ◌≤◌, ◌+◌, ◌-◌, ◌*◌, ℕ, zero, suc, Bool, true, false, cond, eqb, ltb, List, [], ◌∷◌, length, take, drop, Some, None, Result, Ok, Err, refl, sym, ap, ◌∙◌, arith, inl, inr}
+use Rattle.std.specs.Int.{w32, from_be_bytes}
+use Rattle.std.proofs.Common.{◌≡◌, ◌≤◌, ◌+◌, ◌-◌, ℕ, Bool, true, false, cond, ltb, List, length, take, drop, Result, Ok, Err, refl, sym, ap, ◌∙◌, arith, inl, inr}
 use Rattle.std.proofs.lemmas.List.{take-take, take_all, drop-take, length-take}
 use Rattle.std.proofs.lemmas.Bool.{cases_lt, le-ltb, ltb-false}
 use Rattle.rb_xdr.specs.declared.fault.XdrFault.{XdrFault}
-use Rattle.rb_xdr.specs.Xdr.{Reading, Reader, behind, read_on, ◌>>=◌, give, refuse, number_at, residue, are_zero, max_number, max_opaque, read_number, read_bool, read_content, read_opaque, read_numbers, read_array}
-use Rattle.rb_xdr.specs.XdrTypes.{max_optional, read_signed, read_pair, read_item, read_optional}
-use Rattle.rb_xdr.specs.declared.fault.XdrFault.TheVariants.{Short, TooLong, BadBool, BadPadding}
+use Rattle.rb_xdr.specs.Xdr.{Reading, Reader, behind, read_on, ◌>>=◌, give, refuse, number_at, residue, are_zero, max_number, max_opaque, read_number, read_content, read_opaque}
+use Rattle.rb_xdr.specs.declared.fault.XdrFault.TheVariants.{Short, TooLong, BadPadding}
 use Rattle.rb_xdr.proofs.Readers.{ok_is, bind_ok}
 
 -- ---- parts of a front
@@ -100,17 +99,6 @@ number_looks = record {
       omega (arith, used_is);
 }
 
-pub signed_looks : LooksAt max_number read_signed
-unfolding read_signed
-signed_looks = bind_looks 4 0 read_number (λ n. give (cast_signed w32 n)) number_looks (λ n. give_looks (cast_signed w32 n) 0)
-
-pub bool_looks : LooksAt max_number read_bool
-unfolding read_bool
-bool_looks =
-    bind_looks 4 0 read_number (λ n. cond (eqb n 0) (give false) (cond (eqb n 1) (give true) (refuse BadBool))) number_looks
-    (λ n. cond_looks 0 (eqb n 0) (give false) (cond (eqb n 1) (give true) (refuse BadBool)) (λ e. give_looks false 0)
-    (λ e. cond_looks 0 (eqb n 1) (give true) (refuse BadBool) (λ f. give_looks true 0) (λ f. refuse_looks BadBool 0)))
-
 passed : {A : Type 0} (b : Bool) (d : XdrFault) (x y : A) → cond b (Ok x) (Err d) ≡ Ok y → x ≡ y
 passed true d x y e = ok_is x y e
 passed false d x y e = absurd cc
@@ -141,31 +129,3 @@ opaque_looks limit =
 
     within : (count : ℕ) → ltb limit count ≡ false → LooksAt (limit + residue limit) (read_content count)
     within count e = looks_at_more (count + residue count) (limit + residue limit) (read_content count) (omega (arith, ltb-false limit count e)) (content_looks count)
-
-pub pair_looks : {A B : Type 0} (most more : ℕ) (first : Reader A) (second : Reader B) → LooksAt most first → LooksAt more second → LooksAt (most + more) (read_pair first second)
-unfolding read_pair
-pair_looks most more first second looks then_looks =
-    bind_looks most more first (λ a. second >>= λ b. give (a, b)) looks
-    (λ a. looks_at_more (more + 0) more (second >>= λ b. give (a, b)) (omega arith) (bind_looks more 0 second (λ b. give (a, b)) then_looks (λ b. give_looks (a, b) 0)))
-
-pub optional_looks : {A : Type 0} (most : ℕ) (reads : Reader A) → LooksAt most reads → LooksAt (max_optional most) (read_optional reads)
-unfolding read_optional
-optional_looks {A} most reads looks = bind_looks 4 most read_bool (read_item reads) bool_looks item_looks
-  where
-    item_looks : (there : Bool) → LooksAt most (read_item reads there)
-    item_looks true = looks_at_more (most + 0) most (reads >>= λ x. give (Some x)) (omega arith) (bind_looks most 0 reads (λ x. give (Some x)) looks (λ x. give_looks (Some x) 0))
-    item_looks false = give_looks None most
-
-pub numbers_look : (count : ℕ) → LooksAt (4 * count) (read_numbers count)
-numbers_look zero = give_looks [] 0
-numbers_look (suc k) =
-    looks_at_more (4 + (4 * k + 0)) (4 * suc k) (read_numbers (suc k)) (omega arith)
-    (bind_looks 4 (4 * k + 0) read_number (λ n. read_numbers k >>= λ more. give (n ∷ more)) number_looks
-    (λ n. bind_looks (4 * k) 0 (read_numbers k) (λ more. give (n ∷ more)) (numbers_look k) (λ more. give_looks (n ∷ more) 0)))
-
-pub array_looks : (limit : ℕ) → LooksAt (4 + 4 * limit) (read_array limit)
-unfolding read_array
-array_looks limit =
-    bind_looks 4 (4 * limit) read_number (λ count. cond (ltb limit count) (refuse TooLong) (read_numbers count)) number_looks
-    (λ count. cond_looks (4 * limit) (ltb limit count) (refuse TooLong) (read_numbers count) (λ e. refuse_looks TooLong (4 * limit))
-    (λ e. looks_at_more (4 * count) (4 * limit) (read_numbers count) (omega (arith, ltb-false limit count e)) (numbers_look count)))

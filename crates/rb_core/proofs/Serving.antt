@@ -8,10 +8,9 @@ use Rattle.rb_rpc.specs.declared.reply.ReplyStatus.TheVariants.{Success}
 use Rattle.rb_rpc.specs.Replies.{reply_head}
 use Rattle.rb_registry.specs.declared.row.Row.{Row}
 use Rattle.rb_registry.specs.Registry.{rows_of}
-use Rattle.rb_forward.specs.StandsFor.{Table}
 use Rattle.rb_proto.specs.declared.answers.Answer.{Answer}
 use Rattle.rb_proto.specs.declared.answers.Answer.TheVariants as answers
-use Rattle.rb_proto.specs.Books.{StayUnlessForwarded, ActsAs}
+use Rattle.rb_proto.specs.Books.{ActsAs}
 use Rattle.rb_proto.specs.declared.books.Books.{Books}
 use Rattle.rb_proto.specs.declared.call.Call.{Call}
 use Rattle.rb_proto.specs.declared.context.Context.{Context}
@@ -34,7 +33,6 @@ use Rattle.rb_connections.proofs.ReplyHeads.{short_head}
 use Rattle.rb_core.specs.Eviction.{source_in}
 use Rattle.rb_core.specs.Serving.{IsStreamedTo, streamed}
 use Rattle.rb_core.specs.Messages.{null_message}
-use Rattle.rb_core.specs.Awaits.{kind_of, StayUnlessForwarded as StaysUnless}
 
 -- the books stand for the ledger in which the call is noted, with the registry as it was
 pub record Notes (head : CallHead) (old new : Books) : Type 0 where
@@ -86,12 +84,6 @@ null_served context head arguments old new notes =
     (λ l h. null_told context.caller (length l.changes) head.xid context.listener.host (shown_of l))
 
 -- ---- entries of forwarded calls
-
-pub quiet_as : (given : Answer) (old new : Table) → StayUnlessForwarded given old new → StaysUnless (kind_of given) old new
-quiet_as (answers.Results results) old new same = same
-quiet_as (answers.Refused status) old new same = same
-quiet_as answers.Forwarded old new same = tt
-quiet_as answers.Silent old new same = same
 
 -- ---- lists
 

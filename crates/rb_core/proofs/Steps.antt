@@ -30,9 +30,8 @@ use Rattle.rb_model.specs.declared.types.Taken.{Taken}
 use Rattle.rb_model.specs.Laws.{is_owing}
 use Rattle.rb_model.specs.Losses.{began_in, crowding, evicted, evicting, with_room}
 use Rattle.rb_model.specs.declared.types.Told.{Told}
-use Rattle.rb_model.specs.declared.types.Told.TheVariants.{TcpReady}
 use Rattle.rb_model.specs.declared.types.Expired.TheVariants as Expires
-use Rattle.rb_model.specs.Ending.{told_at, told_over_udp, tell, tell_end, at_fresh_moment, expired_as}
+use Rattle.rb_model.specs.Ending.{told_at, tell, tell_end, at_fresh_moment, expired_as}
 use Rattle.rb_laws.proofs.Crowds.{begins_changed, evicted_changed, crowding_alike}
 use Rattle.rb_connections.specs.declared.slot.Heard.{Heard}
 use Rattle.rb_connections.specs.declared.slot.Received.{Received}
@@ -276,8 +275,6 @@ module _ (old : Held) (now clock : ℕ) (peer : Peer) (content : List ℕ) (tabl
 -- ---- a piece of bytes
 
 module _ {X : Type 0} (test : X → Bool) where
-  none_is : (x : X) → None ≡ Some x → ⊥
-  none_is x h = absurd cc
 
   some_is : (x y : X) → Some x ≡ Some y → x ≡ y
   some_is x y h = cc
@@ -296,16 +293,6 @@ module _ {X : Type 0} (test : X → Bool) where
   pub change_nothing : (xs : List X) → change_first test (λ y. y) xs ≡ xs
   change_nothing [] = refl
   change_nothing (y ∷ xs) = elim (test y) as (λ b. cond b (y ∷ xs) (y ∷ change_first test (λ z. z) xs) ≡ y ∷ xs) [ true ↦ refl | false ↦ ap (λ (zs : List X). y ∷ zs) (change_nothing xs) ]
-
-  -- one change after another, where the first leaves it the one that is found
-  pub change_twice : (f g : X → X) (xs : List X) → ((y : X) → test y ≡ true → test (f y) ≡ true) → change_first test g (change_first test f xs) ≡ change_first test (λ y. g (f y)) xs
-  change_twice f g [] still = refl
-  change_twice f g (y ∷ xs) still = by_cases (test y) refl (change_twice f g xs still)
-    where
-      by_cases : (b : Bool) → test y ≡ b → change_first test g (change_first test f xs) ≡ change_first test (λ z. g (f z)) xs
-          → change_first test g (change_first test f (y ∷ xs)) ≡ change_first test (λ z. g (f z)) (y ∷ xs)
-      by_cases true t further = rw t (rw (still y t) refl)
-      by_cases false t further = rw t (rw t (ap (λ (zs : List X). y ∷ zs) further))
 
 reading_is_live : (clock id : ℕ) (fed : List ℕ) (c : Connection) → is_live id c ≡ true → is_live id (reading clock fed c) ≡ true
 unfolding is_live reading
@@ -624,48 +611,6 @@ module _ (old : Held) (number : ℕ) (books : Books) where
     gives = λ s h. rw (cannot s.ledger h.ledger) refl;
     stands = λ s h. rw (cannot s.ledger h.ledger) h;
   }
-
--- the caller is told
-pub tcp_told : (old : Held) (id : ℕ) (peer : Peer) (said : Outcome) (table : Table) → StaysTable old.connections table
-    → ((c : Connections) → StandsForConnections (source_of old) old.connections c → StandsForConnections (source_of old) table (changed_at id (settled old.clock said) c))
-    → Acts StandsFor (tell (Tcp id peer) said) old (record old { connections = table }) (TcpReady id)
-tcp_told old id peer said table stays settles = record {
-  gives = λ s h. refl;
-  stands = λ s h. record {
-    setting = h.setting;
-    clock = h.clock;
-    conns = stays.conns ∙ h.conns;
-    within = stays.within h.within;
-    connections = subst (λ (n : ℕ). StandsForConnections (source_of old) table (changed_at id (settled n said) s.connections)) h.clock (settles s.connections h.connections);
-    limit = h.limit;
-    forwards = h.forwards;
-    first_xid = h.first_xid;
-    ledger = h.ledger;
-    reply = h.reply;
-    short = h.short;
-    arguments = h.arguments;
-  };
-}
-
-pub udp_told : (old : Held) (peer : Peer) (said : Outcome) (reply : List ℕ) (tie : ℕ) (told : Told) → length reply ≤ longest_reply → reply ≡ reply_in said → told ≡ told_over_udp peer said
-    → Acts StandsFor (tell (Udp peer) said) old (record old { reply = reply; tie = tie }) told
-udp_told old peer said reply tie told few holds is = record {
-  gives = λ s h. is;
-  stands = λ s h. record {
-    setting = h.setting;
-    clock = h.clock;
-    conns = h.conns;
-    within = h.within;
-    connections = h.connections;
-    limit = h.limit;
-    forwards = h.forwards;
-    first_xid = h.first_xid;
-    ledger = h.ledger;
-    reply = holds;
-    short = few;
-    arguments = h.arguments;
-  };
-}
 
 -- an entry ends, or none does
 module _ (old : Held) (now clock : ℕ) (is : clock ≡ max old.clock now) (message : List ℕ) (books : Books) (tie : ℕ) (act : Ledger → Option Ended × Ledger) (plain : State → Ledger → Option Ended × Ledger)

@@ -17,7 +17,7 @@ use Rattle.rb_connections.specs.declared.slot.Stage.{Stage}
 use Rattle.rb_connections.specs.declared.slot.Stage.TheVariants as stages
 use Rattle.rb_connections.specs.StandsFor.{Source, StandsForPhase, StandsForConnection}
 use Rattle.rb_core.specs.StandsFor.{Held, StandsFor, source_of}
-use Rattle.rb_core.specs.Events.{shown, greatest_count}
+use Rattle.rb_core.specs.Events.{count_shown, greatest_count}
 use Rattle.rb_core.specs.Runs.{buffer_bytes}
 use Rattle.rb_core.proofs.Spending.{at_most}
 
@@ -62,5 +62,5 @@ no_buffer_bytes core s h none = by_slots (values_of core.connections.slots) s.co
     by_slots (slot ∷ slots) (c ∷ all) z e = absurd cc
 
 -- what a meter shows more than before
-pub shown_within : (a b : Meter) (bound : ℕ) → PaysAtMost a b bound → shown b - shown a ≤ min bound greatest_count
+pub shown_within : (a b : Meter) (bound : ℕ) → PaysAtMost a b bound → count_shown b - count_shown a ≤ min bound greatest_count
 shown_within a b bound pays = omega (arith, pays.steps, pays.rises)

@@ -9,6 +9,7 @@ use Rattle.rb_model.specs.State.{Owed, Phase, Connection, State}
 use Rattle.rb_model.specs.State.Phase.{Idle, Reading, Owing, Awaiting, Lost}
 use Rattle.rb_model.specs.Connections.{longest_fragment, when_given, live_connection, on_connection}
 use Rattle.rb_model.specs.Laws.{is_owing}
+use Rattle.rb_model.specs.Sessions.{pending_bytes}
 use Rattle.rb_model.specs.Step.{bytes, pending, gave}
 use Rattle.rb_connections.specs.declared.served.Served.{Served}
 use Rattle.rb_connections.specs.declared.served.Served.TheVariants.{Answered, Listed}
@@ -21,11 +22,6 @@ use Rattle.rb_core.specs.StandsFor.{Held, StandsFor}
 use Rattle.rb_core.specs.Core.{arguments_in, answering_heard, without_arguments}
 
 -- ---- two events
-
--- the bytes that are pending, none where there is no such connection
-abbrev pub pending_bytes : Result (List ℕ) CoreFault → List ℕ
-pending_bytes (Ok bytes) = bytes
-pending_bytes (Err fault) = []
 
 -- the first n bytes of what is pending on the connection
 abbrev pub front : ℕ → ℕ → State → List ℕ

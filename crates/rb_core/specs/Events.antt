@@ -44,8 +44,8 @@ abbrev pub greatest_count : ℕ
 greatest_count = 2 ^ 128 - 1
 
 -- the count that a meter shows
-abbrev pub shown : Meter → ℕ
-shown meter = min meter.steps greatest_count
+abbrev pub count_shown : Meter → ℕ
+count_shown meter = min meter.steps greatest_count
 
 -- Nothing has changed but `begun`, what the meter showed as the last event began.
 abbrev pub OnlyBegins : Held → Held → Type 0
@@ -53,7 +53,7 @@ OnlyBegins old new = new ≡ record old { begun = new.begun }
 
 -- Nothing has changed but `begun`, which is what this meter shows.
 abbrev pub BeginsAt : Meter → Held → Held → Type 0
-BeginsAt before old new = new ≡ record old { begun = shown before }
+BeginsAt before old new = new ≡ record old { begun = count_shown before }
 
 -- the same once the borrow of what is lent ends
 abbrev pub LendsFrom : MutBor Held → Meter → Fml
@@ -62,25 +62,25 @@ LendsFrom core before = Rests the_row core (BeginsAt before core.now)
 -- These are the steps since the meter was `before`, if the last event began then, while its count is below the greatest.
 abbrev pub TellsSteps : Held → Meter → ℕ → Type 0
 TellsSteps core now steps =
-    (before : Meter) → core.begun ≡ shown before → before.steps ≤ now.steps → now.steps < greatest_count
+    (before : Meter) → core.begun ≡ count_shown before → before.steps ≤ now.steps → now.steps < greatest_count
     → before.steps + steps ≡ now.steps
 
 -- ---- the steps of one call
 
 -- the bytes that a call takes, by its result: what is refused takes none
-abbrev pub taken_by : Result Taken CoreFault → ℕ
-taken_by (Ok taken) = taken.count
-taken_by (Err fault) = 0
+abbrev pub length_taken : Result Taken CoreFault → ℕ
+length_taken (Ok taken) = taken.count
+length_taken (Err fault) = 0
 
 -- the bytes that it lends
-abbrev pub lent_by : Result (Bor (List ℕ)) CoreFault → ℕ
-lent_by (Ok bytes) = length bytes.now
-lent_by (Err fault) = 0
+abbrev pub length_lent : Result (Bor (List ℕ)) CoreFault → ℕ
+length_lent (Ok bytes) = length bytes.now
+length_lent (Err fault) = 0
 
 -- the bytes that it reports as given, none where it is refused
-abbrev pub given_by : Result (Unit {0}) CoreFault → ℕ → ℕ
-given_by (Ok u) n = n
-given_by (Err fault) n = 0
+abbrev pub length_given : Result (Unit {0}) CoreFault → ℕ → ℕ
+length_given (Ok u) n = n
+length_given (Err fault) n = 0
 
 -- A call that takes so many bytes, and lends or reports as given so many, pays no more than the bound, whatever state
 -- that a run reaches the core stood for.
@@ -91,14 +91,14 @@ pub record StaysWithinSteps (core : Held) (taken given : ℕ) (before now : Mete
 -- the same of a call of `exchange`
 abbrev pub ExchangesWithinSteps : Held → Result Exchanged CoreFault → Meter → Meter → Type 0
 ExchangesWithinSteps core result before now =
-    StaysWithinSteps core (taken_by (taken_in result)) (count_given result) before now
+    StaysWithinSteps core (length_taken (taken_in result)) (count_given result) before now
 
 -- From each state that a run reaches and that the core stood for: where no record ends in a piece on a connection, no more
 -- is paid than 8 steps for each byte that is taken, 64 for each connection that there may be, and 64.
 abbrev pub StaysCheapIfQuiet : Held → ℕ → List ℕ → Result Taken CoreFault → Meter → Meter → Type 0
 StaysCheapIfQuiet core id piece result before now =
     (s : State) → StandsFor core s → IsReached s → NoRecordEnds s id piece
-    → PaysAtMost before now (8 * taken_by result + 64 * core.setting.limits.conns + 64)
+    → PaysAtMost before now (8 * length_taken result + 64 * core.setting.limits.conns + 64)
 
 -- ---- what is told of a run's steps
 

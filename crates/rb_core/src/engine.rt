@@ -167,7 +167,7 @@ impl Core {
     ghost use Rattle.rb_core.specs.HeldBytes.{held};
     ghost use Rattle.rb_model.specs.Bounds.{bytes_bound};
     ghost use Rattle.rb_core.specs.HeldBytes.{NeverPasses};
-    ghost use Rattle.rb_core.specs.Events.{shown, OnlyBegins, BeginsAt, LendsFrom, TellsSteps, taken_by, lent_by, given_by, StaysWithinSteps, ExchangesWithinSteps, StaysCheapIfQuiet};
+    ghost use Rattle.rb_core.specs.Events.{count_shown, OnlyBegins, BeginsAt, LendsFrom, TellsSteps, length_taken, length_lent, length_given, StaysWithinSteps, ExchangesWithinSteps, StaysCheapIfQuiet};
     ghost use Rattle.rb_connections.specs.Slots.{Acts, Shows, Lends};
     ghost use Rattle.rb_core.specs.StandsFor.{StandsFor};
     ghost use Rattle.rb_core.specs.Core.{ActsWithReply, TellsCaller, context_of};
@@ -191,7 +191,7 @@ impl Core {
         ensures made { IfOk result
             (λ core. StandsFor core (opening limits listener first_xid now)) }
         ensures tie { IfOk result (λ core. core.tie ≡ meter.old.tie) }
-        ensures begun { IfOk result (λ core. core.begun ≡ shown meter.new) }
+        ensures begun { IfOk result (λ core. core.begun ≡ count_shown meter.new) }
         ensures bad { IsErrOf result CoreFault.BadLimits ↔ IsTrue (not (are_good limits)) }
         ensures memory { IfErr result
             (λ fault. IsTrue (are_good limits) → fault ≡ CoreFault.NoMemory) }
@@ -252,7 +252,7 @@ impl Core {
         requires { meter.old.tie ≡ self.old.tie }
         ensures acts { ActsWithReply (λ s. datagram s now peer content.now) self.old self.new result }
         ensures tie { self.new.tie ≡ self.old.tie }
-        ensures begun { self.new.begun ≡ shown meter.old }
+        ensures begun { self.new.begun ≡ count_shown meter.old }
         ensures held { NeverPasses self.new }
         ensures short { length self.new.reply ≤ longest_reply }
         ensures cost { PaysForDatagram self.old self.new content.now meter.old meter.new }
@@ -305,7 +305,7 @@ impl Core {
             self.old self.new result }
         ensures refused { OnErr result (OnlyBegins self.old self.new) }
         ensures tie { self.new.tie ≡ self.old.tie }
-        ensures begun { self.new.begun ≡ shown meter.old }
+        ensures begun { self.new.begun ≡ count_shown meter.old }
         ensures held { NeverPasses self.new }
         ensures cost { PaysAtMost meter.old meter.new 4 }
         ensures bound { StaysWithinSteps self.old 0 0 meter.old meter.new }
@@ -333,11 +333,11 @@ impl Core {
         ensures within { IfOk result (λ taken. taken.count ≤ length piece.now) }
         ensures refused { OnErr result (OnlyBegins self.old self.new) }
         ensures tie { self.new.tie ≡ self.old.tie }
-        ensures begun { self.new.begun ≡ shown meter.old }
+        ensures begun { self.new.begun ≡ count_shown meter.old }
         ensures held { NeverPasses self.new }
         ensures same_meter { meter.new.tie ≡ meter.old.tie }
         ensures cost { PaysForBytes self.old self.new id piece.now meter.old meter.new }
-        ensures bound { StaysWithinSteps self.old (taken_by result) 0 meter.old meter.new }
+        ensures bound { StaysWithinSteps self.old (length_taken result) 0 meter.old meter.new }
         ensures quiet { StaysCheapIfQuiet self.old id piece.now result meter.old meter.new }
     {
         let Exchanged { taken, given: _ } = self.exchange(now, id, piece, &mut [], meter)?;
@@ -363,7 +363,7 @@ impl Core {
         ensures within { IfOk result (λ done. done.taken.count ≤ length piece.now) }
         ensures refused { OnErr result (OnlyBegins self.old self.new) }
         ensures tie { self.new.tie ≡ self.old.tie }
-        ensures begun { self.new.begun ≡ shown meter.old }
+        ensures begun { self.new.begun ≡ count_shown meter.old }
         ensures held { NeverPasses self.new }
         ensures same_meter { meter.new.tie ≡ meter.old.tie }
         ensures cost { PaysForExchange
@@ -463,7 +463,7 @@ impl Core {
         ensures lent { Lends StandsFor (λ s. pending s id) self.old result }
         ensures few { IfOk result (λ bytes. length bytes.now ≤ longest_fragment) }
         ensures cost { PaysAtMost meter.old meter.new (look_cost self.old.connections + pending_cost) }
-        ensures bound { StaysWithinSteps self.old 0 (lent_by result) meter.old meter.new }
+        ensures bound { StaysWithinSteps self.old 0 (length_lent result) meter.old meter.new }
     {
         self.begun = meter.count();
         self.connections.pending(id, meter)
@@ -477,10 +477,10 @@ impl Core {
         ensures acts { Acts StandsFor (λ s. gave s now id n) self.old self.new result }
         ensures refused { OnErr result (OnlyBegins self.old self.new) }
         ensures tie { self.new.tie ≡ self.old.tie }
-        ensures begun { self.new.begun ≡ shown meter.old }
+        ensures begun { self.new.begun ≡ count_shown meter.old }
         ensures held { NeverPasses self.new }
         ensures cost { PaysAtMost meter.old meter.new (gave_cost (sizes_of self.old self.new)) }
-        ensures bound { StaysWithinSteps self.old 0 (given_by result n) meter.old meter.new }
+        ensures bound { StaysWithinSteps self.old 0 (length_given result n) meter.old meter.new }
     {
         self.begun = meter.count();
         let clock = self.clock.max(now);
@@ -505,7 +505,7 @@ impl Core {
         ensures acts { Acts StandsFor (λ s. close_connection s id) self.old self.new result }
         ensures refused { OnErr result (OnlyBegins self.old self.new) }
         ensures tie { self.new.tie ≡ self.old.tie }
-        ensures begun { self.new.begun ≡ shown meter.old }
+        ensures begun { self.new.begun ≡ count_shown meter.old }
         ensures held { NeverPasses self.new }
         ensures cost { PaysAtMost meter.old meter.new (close_cost (sizes_of self.old self.new)) }
         ensures bound { StaysWithinSteps self.old 0 0 meter.old meter.new }
@@ -552,7 +552,7 @@ impl Core {
         ensures acts { Acts StandsFor (λ s. sent_call s id.number) self.old self.new result }
         ensures refused { OnErr result (OnlyBegins self.old self.new) }
         ensures tie { self.new.tie ≡ self.old.tie }
-        ensures begun { self.new.begun ≡ shown meter.old }
+        ensures begun { self.new.begun ≡ count_shown meter.old }
         ensures held { NeverPasses self.new }
         ensures cost { PaysAtMost meter.old meter.new (sent_cost self.old.books.forwards.cap) }
         ensures bound { StaysWithinSteps self.old 0 0 meter.old meter.new }
@@ -578,7 +578,7 @@ impl Core {
         requires { meter.old.tie ≡ self.old.tie }
         ensures acts { Acts StandsFor (λ s. forward_reply s now from bytes.now) self.old self.new result }
         ensures tie { self.new.tie ≡ self.old.tie }
-        ensures begun { self.new.begun ≡ shown meter.old }
+        ensures begun { self.new.begun ≡ count_shown meter.old }
         ensures held { NeverPasses self.new }
         ensures short { length self.new.reply ≤ longest_reply }
         ensures cost { PaysAtMost meter.old meter.new (ended_cost (sizes_of self.old self.new)) }
@@ -601,7 +601,7 @@ impl Core {
         requires { meter.old.tie ≡ self.old.tie }
         ensures acts { Acts StandsFor (λ s. expire s now) self.old self.new result }
         ensures tie { self.new.tie ≡ self.old.tie }
-        ensures begun { self.new.begun ≡ shown meter.old }
+        ensures begun { self.new.begun ≡ count_shown meter.old }
         ensures held { NeverPasses self.new }
         ensures short { length self.new.reply ≤ longest_reply }
         ensures cost { PaysAtMost meter.old meter.new (ended_cost (sizes_of self.old self.new)) }

@@ -120,18 +120,18 @@ fn datagram(
     core: &mut Core,
     now: u64,
     peer: Peer,
-    data: &[u8],
+    content: &[u8],
     meter: &mut Meter,
 ) -> Result<Output, NoMemory>
     requires { meter.old.tie ≡ core.old.tie }
-    ensures ok { MayHappen (Datagram now peer data.now) core.old core.new meter.old meter.new result }
+    ensures ok { MayHappen (Datagram now peer content.now) core.old core.new meter.old meter.new result }
     ensures err { OnErr result (core.new ≡ core.old) }
     ensures free { OnErr result (meter.new ≡ meter.old) }
 {
     let Ok(mut reply) = Vec::with_capacity(alloc, LONGEST_REPLY) else {
         return Err(NoMemory);
     };
-    match core.datagram(now, peer, data, meter) {
+    match core.datagram(now, peer, content, meter) {
         Outcome::NoCall | Outcome::Silent => Ok(Output::Silent),
         Outcome::Forwarded => Ok(Output::Forwarded),
         Outcome::Reply => {

@@ -99,23 +99,23 @@ impl Engine {
     ghost use Rattle.rb_daemon.specs.Moves.{BeginsAt, Moves, ActsNow, Gives, Recorded, CountsGiven};
 
     /// A new core at this moment, which is the first. The first forwarded call has the low 32 bits of it for its
-    /// number. Up to `record` bytes are recorded of its events. `BadLimits` where a limit is out of its range, else
+    /// number. Up to `record_limit` bytes of its events are recorded. `BadLimits` where a limit is out of its range, else
     /// `NoMemory` where an allocation is refused.
     pub(crate) fn new(
         alloc: Global,
         limits: Limits,
         listener: Listener,
         moment: u64,
-        record: usize,
+        record_limit: usize,
     ) -> Result<Engine, CoreFault>
         ensures made { IfOk result (BeginsAt moment limits listener) }
-        ensures record { IfOk result (λ engine. engine.tape.limit ≡ «record») }
+        ensures record { IfOk result (λ engine. engine.tape.limit ≡ record_limit) }
         ensures bad { IsErrOf result CoreFault.BadLimits ↔ IsTrue (not (are_good limits)) }
     {
         let mut meter = Meter::new();
         let first_xid = (moment % 0x1_0000_0000) as u32;
         let core = Core::new(alloc, limits, listener, first_xid, moment, &mut meter)?;
-        let Ok(mut tape) = Tape::new(alloc, record) else {
+        let Ok(mut tape) = Tape::new(alloc, record_limit) else {
             return Err(CoreFault::NoMemory);
         };
         tape.begin(&Start {

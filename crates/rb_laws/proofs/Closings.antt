@@ -38,7 +38,7 @@ use Rattle.rb_model.specs.DeadlineLaws.{NoEntryIsDue}
 use Rattle.rb_model.specs.declared.types.Expired.{Expired}
 use Rattle.rb_model.specs.Losses.{is_due, lost, began_in, retained_removals, asks_room, is_crowded, crowding, began_before, evicted, evicting}
 use Rattle.rb_model.specs.Ending.{at_fresh_moment, expire}
-use Rattle.rb_model.specs.Closings.{EndsNoCall, EndsAtDeadline, EndsRecord, Brings, EndsForRoom, ClosesExactly, ConnectionsCloseExactly}
+use Rattle.rb_model.specs.Closings.{EndsNoCall, EndsAtDeadline, BringsEnd, Brings, EndsForRoom, ClosesExactly, ConnectionsCloseExactly}
 use Rattle.rb_model.proofs.Found.{none_any}
 use Rattle.rb_model.proofs.Expiring.{AreApart, due-one}
 use Rattle.rb_laws.proofs.LeastLost.{first-least}
@@ -536,7 +536,7 @@ module _ (s : State) (reached : IsReached s) (id : ℕ) (c : Connection) (there 
       let who : d ≡ c = one d (ap (λ (j : ℕ). live_connection j s.connections.all) (sym (eqb-true k id e)) ∙ here) in
       absurd (none-some n (sym (fed-no-list d.phase fed feeds) ∙ ap (λ (x : Connection). began_in x.phase) who ∙ lists))
 
-  way-at : (at k n : ℕ) (piece : List ℕ) (caller : Caller) (content : List ℕ) → EndsRecord s k piece caller content → began_in c.phase ≡ Some n
+  way-at : (at k n : ℕ) (piece : List ℕ) (caller : Caller) (content : List ℕ) → BringsEnd s k piece caller content → began_in c.phase ≡ Some n
       → list_any (is_lost_one id) (map (evicted (crowd_at s at caller content)) s.connections.all) ≡ true
       → (r : Result Taken CoreFault × State) → Arriving s at k piece r → lost_in id (output_or show_taken r).1.connections.all ≡ true
   unfolding serve
@@ -565,7 +565,7 @@ module _ (s : State) (reached : IsReached s) (id : ℕ) (c : Connection) (there 
       ∙ lost_stays id k (settled (max s.clock at) (said_in s at k d (take m (other ++ piece)))) (settled-keeps (max s.clock at) (said_in s at k d (take m (other ++ piece)))).number apart
       (map (evicted (crowd_at s at caller content)) s.connections.all) goes
 
-  lost-by-bytes : (at k n : ℕ) (piece : List ℕ) (caller : Caller) (content : List ℕ) → EndsRecord s k piece caller content → began_in c.phase ≡ Some n
+  lost-by-bytes : (at k n : ℕ) (piece : List ℕ) (caller : Caller) (content : List ℕ) → BringsEnd s k piece caller content → began_in c.phase ≡ Some n
       → list_any (is_lost_one id) (map (evicted (crowd_at s at caller content)) s.connections.all) ≡ true → lost_in id (step s (Bytes at k piece)).1.connections.all ≡ true
   unfolding step
   lost-by-bytes at k n piece caller content e lists goes = way-at at k n piece caller content e lists goes (bytes s at k piece) (arriving s at k piece)

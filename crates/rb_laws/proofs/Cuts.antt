@@ -181,10 +181,6 @@ record Same (one : Result Taken CoreFault × State) (before : ℕ) (rest : Resul
   taken : one.0 ≡ one_after_another (Ok (record { count = before; closed = false })) rest.0
   state : one.1 ≡ rest.1
 
--- a record ends after so many bytes, and its message is answered
-abbrev ended : ℕ → Bool × State → Result Taken CoreFault × State
-ended n r = (Ok (record { count = n; closed = r.0 }), r.1)
-
 along-fed : (t : State) (id : ℕ) (front : List ℕ) (peer : Peer) (whole : List ℕ) (c : Connection) → live_connection id t.connections.all ≡ Some c → began_in c.phase ≡ None → answering (fed_on t id front) id peer whole ≡ answering t id peer whole
 unfolding live_connection
 along-fed t id front peer whole c here none =

@@ -1,7 +1,7 @@
 -- While a connection is Awaiting, one entry is of it, and no other connection has one.
 use Rattle.std.specs.Prelude.{find, map, option_map, ◌&&◌}
 use Rattle.std.specs.List.{list_any, sum_by}
-use Rattle.std.proofs.Common.{◌≡◌, ◌⊎◌, inl, inr, ◌≤◌, ℕ, ◌+◌, max, min, Bool, true, false, cond, eqb, nat_lt, Option, Some, None, Result, Ok, Err, List, [], ◌∷◌, ◌++◌, length, take, refl, sym, ap, subst, ◌∙◌, arith}
+use Rattle.std.proofs.Common.{◌≡◌, ◌≤◌, ℕ, ◌+◌, max, min, Bool, true, false, cond, eqb, nat_lt, Option, Some, None, Result, Ok, Err, List, [], ◌∷◌, ◌++◌, length, take, refl, sym, ap, subst, ◌∙◌, arith}
 use Rattle.std.proofs.lemmas.List.Sums.{sum_by-cons, sum_by_push}
 use Rattle.std.proofs.lemmas.Bool.{eqb-true, eq-eqb}
 use Rattle.rb_rpc.specs.declared.peer.Peer.{Peer}
@@ -198,14 +198,6 @@ module _ (k : ℕ) (all : List Connection) (c : Connection) (there : live_connec
       by_said (Reply reply began) e = lives (Reply reply began) refl
       by_said Forwarded e = lives Forwarded refl
       by_said Silent e = lives Silent refl
-
-none-kept : (k clock : ℕ) (said : Outcome) (all : List Connection) → live_connection k all ≡ None → (id : ℕ) → (eqb k id ≡ true) ⊎ (awaits id (change_first (is_live k) (settled clock said) all) ≡ awaits id all)
-unfolding live_connection
-none-kept k clock said all none id = by_number (eqb k id) refl
-  where
-    by_number : (b : Bool) → eqb k id ≡ b → (b ≡ true) ⊎ (count_awaiting (find (is_live id) (change_first (is_live k) (settled clock said) all)) ≡ count_awaiting (find (is_live id) all))
-    by_number true e = inl refl
-    by_number false e = inr (ap count_awaiting (changed-other id k (settled clock said) (settled-keeps clock said).number e all))
 
 opened-awaits : (id : ℕ) (all : List Connection) (new : Connection) → is_awaiting new.phase ≡ false → awaits id (all ++ new ∷ []) ≡ awaits id all
 unfolding live_connection

@@ -57,10 +57,6 @@ pub data Goes (cap : ℕ) (old new : Forwards) : Type 0 where
   IsSent : (number : ℕ) → new ≡ sent number old → Goes cap old new
   Ends1 : (test : Entry → Bool) → new ≡ record old { all = without_first test old.all } → Goes cap old new
 
-change-stays : (cap : ℕ) (l : Ledger) (b : Bool) (x y : Ledger) → x.forwards ≡ l.forwards → y.forwards ≡ l.forwards → Goes cap l.forwards (cond b x y).forwards
-change-stays cap l true x y p q = Same p
-change-stays cap l false x y p q = Same q
-
 set-stays : (cap : ℕ) (context : Context) (head : CallHead) (o : Option Row) (l : Ledger) → Goes cap l.forwards (set_row context head o l).1.forwards
 unfolding set_row
 set-stays cap context head None l = Same refl

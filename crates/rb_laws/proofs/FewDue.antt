@@ -101,11 +101,6 @@ tell-count : (s : State) (caller : Caller) (said : Outcome) → due_count (tell 
 tell-count s (Tcp id peer) said = let less = changed-count id (settled s.clock said) s.connections.all in omega (arith, less)
 tell-count s (Udp peer) said = omega arith
 
-is_nothing : Expired → Bool
-is_nothing expiries.Nothing = true
-is_nothing (expiries.Ended told) = false
-is_nothing (expiries.ConnectionClosed id) = false
-
 less-due : (s : State) (now : ℕ) (r : Expired × State) → Expiry s (max s.clock now) (at_fresh_moment now s) r → (r.0 ≡ expiries.Nothing) ⊎ (due_count r.1 + 1 ≤ due_count s)
 less-due s now r (EntryEnds e found ledger left is) =
     let told = tell-count (record (at_fresh_moment now s) { ledger = ledger }) e.forward.caller (told_at [] (end_of e)) in

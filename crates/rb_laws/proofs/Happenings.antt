@@ -82,10 +82,6 @@ arriving s now id piece = by_live (live_connection id s.connections.all) refl
 
 -- ---- events
 
-abbrev pub is_done : Output → Bool
-is_done Done = true
-is_done other = false
-
 -- no number is given, no byte is taken, and none is given
 pub record IsQuiet (s : State) (event : Event) (output : Output) : Type 0 where
   pub no_number : number_given output ≡ None

@@ -62,9 +62,6 @@ one-more-reply calls call =
 
 -- ---- the end of a record
 
-absurd_none : (n : ℕ) → ◌≡◌ {A = Option ℕ} (Some n) None → ⊥
-absurd_none n e = cc
-
 -- the bytes up to the end of the first record are a first record themselves
 pub first-alone : (bytes : List ℕ) (n : ℕ) → first_record bytes ≡ Some n → first_record (take n bytes) ≡ Some n
 first-alone bytes n is = by_value (first_record (take n bytes)) refl

@@ -20,7 +20,7 @@ use Rattle.rb_model.specs.Step.{Event, Output, pending, pending_on, show_taken, 
 use Rattle.rb_model.specs.declared.types.Taken.{Taken}
 use Rattle.rb_model.specs.Step.Event.{Bytes, Gave}
 use Rattle.rb_model.specs.Step.Output.{Opened, Took, TookAndClosed, Done}
-use Rattle.rb_model.specs.Sessions.{Exchange, Session, at_event, piece_to, taken_by, gave_to, shown, given_by, nothing_passed, passed, passed_by, told_by, with_told, with_last_told, replies_to, marked_reply, IsFinal, is_answered, AwaitsLast, AreAnswered, IsFront}
+use Rattle.rb_model.specs.Sessions.{Exchange, Session, at_event, piece_to, taken_by, gave_to, pending_bytes, given_by, nothing_passed, passed, passed_by, told_by, with_told, with_last_told, replies_to, marked_reply, IsFinal, is_answered, AwaitsLast, AreAnswered, IsFront}
 use Rattle.rb_model.specs.Bounds.{count_in}
 use Rattle.rb_model.specs.Losses.{lost as timed_out, evicted, evicting}
 use Rattle.rb_laws.proofs.Cuts.{IsFeeding, find-changed, find-holds, number-is, reading-feeds, fed-no-list}
@@ -181,7 +181,7 @@ count-shown t = elim (t.closed) as (λ b. count_in (cond b (TookAndClosed t.coun
 -- ---- events that pass nothing
 
 none-gave : (s : State) (id : ℕ) (event : Event) (output : Output) → gave_to id event ≡ 0 → given_by s id event output ≡ []
-none-gave s id event Done is = ap (λ (n : ℕ). take n (shown (pending s id))) is
+none-gave s id event Done is = ap (λ (n : ℕ). take n (pending_bytes (pending s id))) is
 none-gave s id event other is = refl
 
 not-none : (c : Connection) → ◌≡◌ {A = Option Connection} (Some c) None → ⊥
@@ -410,8 +410,8 @@ module _ (id : ℕ) (s : State) (t : Session) (h : Holds id s.connections t) whe
     given-is : (at n : ℕ) → given_by s id (Gave at id n) Done ≡ take n (pending_in c.phase)
     unfolding pending
     given-is at n =
-        ap (λ (b : Bool). take (cond b n 0) (shown (pending s id))) (eq-eqb id id refl)
-        ∙ ap (λ (o : Option Connection). take n (shown (pending_on o))) there
+        ap (λ (b : Bool). take (cond b n 0) (pending_bytes (pending s id))) (eq-eqb id id refl)
+        ∙ ap (λ (o : Option Connection). take n (pending_bytes (pending_on o))) there
 
   -- the three events that pass bytes, on the connection of the number or on another
   reads-at : (at k : ℕ) (piece : List ℕ) (c : Connection) (fed : List ℕ) (now : Connections) → Goes now → live_connection k s.connections.all ≡ Some c → fed_in c.phase ≡ Some fed → first_record (fed ++ piece) ≡ None

@@ -1,10 +1,10 @@
 -- The values of the options of `serve`.
-use Rattle.std.proofs.Common.{◌≡◌, ◌≢◌, ◌<◌, ◌≤◌, ◌+◌, ◌^◌, ℕ, true, List, [], ◌∷◌, ◌++◌, length, get_or, drop, arith, inl, inr, None, Result, Ok, Err, refl, sym, ap, subst, ◌∙◌, append_assoc, append-nil}
 use Rattle.std.specs.Borrow.{Bor}
 use Rattle.std.specs.List.{list_all}
 use Rattle.std.specs.Char.{digit_value}
 use Rattle.std.specs.Str.Parse.{IsNumeral, AllDigits, without_leading_plus, digits_value}
 use Rattle.std.specs.declared.net.ipv4_addr.Ipv4Addr.{Ipv4Addr}
+use Rattle.std.proofs.Common.{◌≡◌, ◌≢◌, ◌<◌, ◌≤◌, ◌+◌, ◌^◌, ℕ, true, List, [], ◌∷◌, ◌++◌, length, get_or, drop, arith, inl, inr, None, Result, Ok, Err, refl, sym, ap, subst, ◌∙◌, append_assoc, append-nil}
 use Rattle.std.proofs.lemmas.List.{drop_more, drop_all, length_push}
 use Rattle.std.proofs.lemmas.Bool.{cases_lt, and_parts, ltb-true}
 use Rattle.std.proofs.lemmas.Str.Parse.{without_leading_plus_none}
@@ -21,10 +21,6 @@ with_front front (Err bad) = Err bad
 
 abbrev onto : Ipv4Addr → Result (List Ipv4Addr) Valued → Result (List Ipv4Addr) Valued
 onto host rest = rest >>= λ others. Ok (host ∷ others)
-
-pub none_yet : (all : Result (List Ipv4Addr) Valued) → with_front [] all ≡ all
-none_yet (Ok hosts) = refl
-none_yet (Err bad) = refl
 
 with_front-onto : (front : List Ipv4Addr) (host : Ipv4Addr) (rest : Result (List Ipv4Addr) Valued) → with_front front (onto host rest) ≡ with_front (front ++ host ∷ []) rest
 with_front-onto front host (Ok hosts) = ap Ok (sym (append_assoc front (host ∷ []) hosts))

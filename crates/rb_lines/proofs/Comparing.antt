@@ -1,10 +1,10 @@
 -- Output lines of a text, line by line, against those of a run.
-use Rattle.std.proofs.Common.{◌≡◌, ◌<◌, ◌≤◌, ◌+◌, ◌-◌, ℕ, Bool, true, List, [], ◌∷◌, ◌++◌, length, get_or, codes, take, drop, Option, Some, None, Result, Ok, Err, IfSome, arith, sym, ap, subst, ◌∙◌, ◌⊎◌, append_assoc, append-nil, take-append-drop, inl, inr}
 use Rattle.std.specs.List.{flat_map}
 use Rattle.std.specs.Borrow.{Bor}
 use Rattle.std.specs.Prelude.{nat_eq, OnOk, IfOk, IfErr}
 use Rattle.std.specs.Bool.{Decides}
 use Rattle.std.specs.Cmp.Lexicographic.{pointwise}
+use Rattle.std.proofs.Common.{◌≡◌, ◌<◌, ◌≤◌, ◌+◌, ◌-◌, ℕ, Bool, true, List, [], ◌∷◌, ◌++◌, length, get_or, codes, take, drop, Option, Some, None, Result, Ok, Err, IfSome, arith, sym, ap, subst, ◌∙◌, ◌⊎◌, append_assoc, append-nil, take-append-drop, inl, inr}
 use Rattle.std.proofs.lemmas.Bool.{cases_lt, lt-ltb}
 use Rattle.std.proofs.lemmas.Bool.Decides.{Decides-eqb}
 use Rattle.std.proofs.lemmas.Slice.Eq.{strip_suffix_is}
@@ -14,13 +14,13 @@ use Rattle.std.proofs.Math.ListN.{get_or-map}
 use Rattle.rb_model.specs.declared.events.Output as output
 use Rattle.rb_model.specs.Plain.{output_of, outputs_of}
 use Rattle.rb_model.specs.Step.{Event, Output}
+use Rattle.rb_record.specs.Printing.{text_of}
 use Rattle.rb_lines.specs.declared.lines.ReadFault.{ReadFault}
 use Rattle.rb_lines.specs.declared.lines.ReadFault.TheVariants as reading
 use Rattle.rb_lines.specs.declared.running.Beginning.{Beginning}
 use Rattle.rb_lines.specs.declared.running.Fault.{Fault}
 use Rattle.rb_lines.specs.declared.running.Fault.TheVariants.{NotText, Lines, NoMemory, BadLimits, SocketFailed, ReadFailed, WriteFailed, NoOutputs, Differs, Lacks}
 use Rattle.rb_lines.specs.Lines.{read, lines_of, longest_input, Fails}
-use Rattle.rb_record.specs.Printing.{text_of}
 use Rattle.rb_lines.specs.Checking.{said_by, said, printed, IsFrontOf, IsFirstOther, Agrees, AgreesWith, IsUnlike, OfRun, CannotBeChecked, IsWrongWith, IsLacking, IsWrongInput, GoesOn, IsWrongAt, IsEnd}
 use Rattle.rb_lines.specs.Running.{status_of, IsRead, IsRefused}
 use Rattle.rb_lines.proofs.Reading.{IsAt, read-take}
@@ -224,6 +224,3 @@ unread beginning (Some input) fault any = any input
 pub not_read : (beginning : Beginning) (left : Option (List ℕ)) (fault : Fault) → (fault ≡ NoMemory) ⊎ (fault ≡ ReadFailed) → IfSome left (λ input. IsWrongInput beginning input fault)
 not_read beginning left fault (inl is) = rw is (unread beginning left NoMemory (λ input. tt))
 not_read beginning left fault (inr is) = rw is (unread beginning left ReadFailed (λ input. tt))
-
-pub not_written : (beginning : Beginning) (left : Option (List ℕ)) (fault : Fault) → fault ≡ WriteFailed → IfSome left (λ input. IsWrongInput beginning input fault)
-not_written beginning left fault is = rw is (unread beginning left WriteFailed (λ input. tt))

@@ -1,7 +1,7 @@
 -- What was read of an input, and what is printed for it.
-use Rattle.std.proofs.Common.{◌≡◌, ◌+◌, List, ℕ, take, Option, Some, None, Result, Ok, Err, ap, subst, ◌∙◌}
 use Rattle.std.specs.Prelude.{OnOk, IfErr}
 use Rattle.std.specs.Option.{IfSome}
+use Rattle.std.proofs.Common.{◌≡◌, ◌+◌, List, ℕ, take, Option, Some, None, Result, Ok, Err, ap, subst, ◌∙◌}
 use Rattle.rb_model.specs.Step.{Event}
 use Rattle.rb_lines.specs.declared.lines.ReadFault.{ReadFault}
 use Rattle.rb_lines.specs.declared.running.Fault.{Fault}

@@ -1,19 +1,15 @@
 -- Event lines, one after another.
-use Rattle.std.proofs.Common.{zero-add, ◌≡◌, ◌<◌, ◌≤◌, ◌+◌, ℕ, List, [], ◌∷◌, ◌++◌, length, get_or, drop, take, arith, inl, inr, Result, Ok, Err, refl, sym, ap, subst, ◌∙◌, append_assoc, append-nil}
-use Rattle.std.proofs.lemmas.List.{drop_more, drop_all, length-take, take_all, length_push}
-use Rattle.std.proofs.lemmas.List.FromFn.{length-enumerate_from, get_or-enumerate_from}
 use Rattle.std.specs.List.{enumerate_from}
 use Rattle.std.specs.Borrow.{Bor}
+use Rattle.std.proofs.Common.{zero-add, ◌≡◌, ◌<◌, ◌≤◌, ◌+◌, ℕ, List, [], ◌∷◌, ◌++◌, length, get_or, drop, take, arith, inl, inr, Result, Ok, Err, refl, sym, ap, subst, ◌∙◌, append-nil}
+use Rattle.std.proofs.lemmas.List.{drop_more, drop_all, length-take, take_all, length_push}
+use Rattle.std.proofs.lemmas.List.FromFn.{length-enumerate_from, get_or-enumerate_from}
 use Rattle.std.proofs.lemmas.Bool.{cases_lt, lt-ltb}
 use Rattle.rb_model.specs.Step.{Event}
 use Rattle.rb_lines.specs.declared.lines.ReadFault.{ReadFault}
 use Rattle.rb_lines.specs.declared.lines.ReadFault.TheVariants.{BadLine, TooLong, NoMemory}
 use Rattle.rb_lines.specs.Lines.{read, Line, line, onto, events_from, with_front, Fails, IsFaultOf, longest_input}
-use Rattle.rb_lines.specs.Lines.Line.{Happens, Bad}
-
-pub with_front-onto : (front : List Event) (k : ℕ) (event : Event) (rest : Result (List Event) ReadFault) → with_front front (onto k (Happens event) rest) ≡ with_front (front ++ event ∷ []) rest
-with_front-onto front k event (Ok events) = ap Ok (sym (append_assoc front (event ∷ []) events))
-with_front-onto front k event (Err fault) = refl
+use Rattle.rb_lines.specs.Lines.Line.{Bad}
 
 -- the lines from a place on are the line there and the lines after it
 taken : (k i : ℕ) (texts : List (List ℕ)) (text : List ℕ) → i < length texts → text ≡ get_or texts i text → events_from k (drop i texts) ≡ onto k (line text) (events_from (k + 1) (drop (i + 1) texts))

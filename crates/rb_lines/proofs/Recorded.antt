@@ -1,13 +1,11 @@
 -- Lines that were recorded, read back.
-use Rattle.std.proofs.Common.{◌≡◌, ◌<◌, ◌/◌, ◌%◌, ℕ, zero, suc, Bool, true, false, cond, eqb, codes, List, [], ◌∷◌, ◌++◌, length, map, slice_index, Option, Some, None, refl, sym, ap, subst, ◌∙◌, arith, inl, inr, ◌⊎◌, All, append_assoc, take}
-use mathlib.Core.Bool.{true≢false}
 use Rattle.std.specs.List.{flat_map, concat, onto_first, AllByRecursion}
 use Rattle.std.specs.Fmt.{decimal}
 use Rattle.std.specs.Char.{digit_value}
+use Rattle.std.proofs.Common.{◌≡◌, ◌<◌, ◌/◌, ◌%◌, ℕ, zero, suc, Bool, true, false, cond, eqb, codes, List, [], ◌∷◌, ◌++◌, length, map, slice_index, Option, Some, None, refl, sym, ap, subst, ◌∙◌, arith, inl, inr, ◌⊎◌, All, append_assoc, take}
 use Rattle.std.proofs.lemmas.Fmt.{decimal_is_IsNumeral}
 use Rattle.std.proofs.lemmas.List.Elements.{All-append, All-cons, All-nil, All-head, All-tail}
 use Rattle.std.proofs.lemmas.List.Splits.{slice_split-cons_yes, slice_split-cons_no}
-use Rattle.hex.specs.Hex.{encode_with, encode_lower, lower_digits}
 use Rattle.rb_rpc.specs.declared.peer.Peer.{Peer}
 use Rattle.rb_rpc.specs.Peers.{peer_text}
 use Rattle.rb_forward.specs.Forwards.{Unsent as UnsentCall}
@@ -31,6 +29,8 @@ use Rattle.rb_lines.specs.RecordLaws.{Fits, AreBytes, IsPeer, HasLine, HasUnsent
 use Rattle.rb_lines.proofs.LineLaws.{reads_the_events}
 use Rattle.rb_lines.proofs.Words.{IsWithout, numeral_without, peer_without}
 use Rattle.rb_lines.proofs.LineWords.{line_of, skipped_say_nothing}
+use Rattle.hex.specs.Hex.{encode_with, encode_lower, lower_digits}
+use mathlib.Core.Bool.{true≢false}
 
 -- ---- lines of a text
 

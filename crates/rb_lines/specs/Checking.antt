@@ -6,13 +6,13 @@ use Rattle.std.specs.Fmt.{decimal}
 use Rattle.std.specs.Borrow.{Bor}
 use Rattle.std.specs.declared.io.buffered.BufWriter.{BufWriter}
 use Rattle.rb_model.specs.Step.{Event, Output, run}
+use Rattle.rb_record.specs.Printing.{text_of}
 use Rattle.rb_lines.specs.declared.lines.ReadFault.{ReadFault}
 use Rattle.rb_lines.specs.declared.running.Beginning.{Beginning}
 use Rattle.rb_lines.specs.declared.running.Ending.{Ending}
 use Rattle.rb_lines.specs.declared.running.Fault.{Fault}
 use Rattle.rb_lines.specs.declared.running.Fault.TheVariants.{NotText, Lines, NoMemory, BadLimits, SocketFailed, ReadFailed, WriteFailed, NoOutputs, Differs, Lacks}
 use Rattle.rb_lines.specs.Lines.{lines_of, read, Fails}
-use Rattle.rb_record.specs.Printing.{text_of}
 use Rattle.rb_lines.specs.Running.{first, status_of, IsCoreFault, IsRead, IsRefused, BufWrites, EndsBy}
 
 -- ---- what an input says of outputs

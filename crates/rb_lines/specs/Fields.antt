@@ -7,8 +7,8 @@ use Rattle.std.specs.Char.{digit_value}
 use Rattle.std.specs.Str.{bytes_eq}
 use Rattle.std.specs.Str.Parse.{digits_value}
 use Rattle.std.specs.Borrow.{Bor}
-use Rattle.hex.specs.Hex.{decode_of}
 use Rattle.rb_rpc.specs.declared.peer.Peer.{Peer}
+use Rattle.hex.specs.Hex.{decode_of}
 
 infixl 10 ◌>>=◌
 abbrev pub ◌>>=◌ : {A B : Type 0} → Option A → (A → Option B) → Option B

@@ -7,6 +7,7 @@ use Rattle.rb_model.specs.State.{State, are_good, opening}
 use Rattle.rb_model.specs.declared.types.Limits.{Limits}
 use Rattle.rb_model.specs.Step.{Event, run, IsReached}
 use Rattle.rb_model.specs.Plain.{outputs_of}
+use Rattle.rb_record.specs.Printing.{Writes}
 use Rattle.rb_core.specs.Events.{bound_shown}
 use Rattle.rb_core.specs.StandsFor.{Held, StandsFor}
 use Rattle.rb_lines.specs.declared.lines.ReadFault.{ReadFault}
@@ -19,7 +20,6 @@ use Rattle.rb_lines.specs.declared.limits.BadLimit.{BadLimit}
 use Rattle.rb_lines.specs.Limits.{bad_limit, limit_text}
 use Rattle.rb_lines.specs.declared.running.Fault.TheVariants.{NotText, Lines, NoMemory, BadLimits, SocketFailed, ReadFailed, WriteFailed, NoOutputs, Differs, Lacks}
 use Rattle.rb_lines.specs.Lines.{longest_input, read, Fails}
-use Rattle.rb_record.specs.Printing.{Writes}
 use Rattle.rb_lines.specs.Printing.{report_of, report, ending}
 
 -- the core with which a replay begins

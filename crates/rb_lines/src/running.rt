@@ -4,7 +4,7 @@ ghost use Rattle.std.specs.Io.Buffered.{writer_buffer};
 ghost use Rattle.rb_model.specs.State.{State, are_good};
 ghost use Rattle.rb_core.specs.StandsFor.{StandsFor};
 ghost use Rattle.rb_model.specs.Plain.{events_of};
-ghost use Rattle.rb_core.specs.Events.{shown};
+ghost use Rattle.rb_core.specs.Events.{count_shown};
 ghost use Rattle.rb_lines.specs.Lines.{read};
 ghost use Rattle.rb_record.specs.Printing.{Writes};
 ghost use Rattle.rb_lines.specs.Printing.{report, ending};
@@ -151,7 +151,7 @@ fn run_on(
 ) -> Result<Ran, Fault>
     requires { meter.old.tie ≡ core.old.tie }
     ensures ok { RunsFrom limits.now (events_of events.now) core.old result }
-    ensures steps { IfOk result (λ ran. ran.steps ≡ shown meter.new - shown meter.old) }
+    ensures steps { IfOk result (λ ran. ran.steps ≡ count_shown meter.new - count_shown meter.old) }
     ensures within { (s : State) → StandsFor core.old s → IsFresh limits.now s
         → IfOk result KeepsBound }
     ensures err { IfErr result (λ fault. fault ≡ Fault.NoMemory) }

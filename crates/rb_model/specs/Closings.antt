@@ -34,7 +34,7 @@ pub record EndsAtDeadline (s : State) (id : ℕ) (c : Connection) (event : Event
   pub least : All (λ (d : Connection). is_due (clock_at now s) d ≡ true → id ≤ d.number) s.connections.all
 
 -- the data of a record that ends in a piece for a live connection
-pub record EndsRecord (s : State) (id : ℕ) (piece : List ℕ) (caller : Caller) (content : List ℕ) : Type 0 where
+pub record BringsEnd (s : State) (id : ℕ) (piece : List ℕ) (caller : Caller) (content : List ℕ) : Type 0 where
   pub connection : Connection
   pub live : IsLive s id connection
   pub fed : List ℕ
@@ -47,7 +47,7 @@ pub record EndsRecord (s : State) (id : ℕ) (piece : List ℕ) (caller : Caller
 -- the event brings this data of a datagram, or of a record, from this caller, at this moment
 abbrev pub Brings : State → Event → ℕ → Caller → List ℕ → Type 0
 Brings s (Datagram at peer bytes) now caller content = (now ≡ at) × (caller ≡ Udp peer) × (content ≡ bytes)
-Brings s (Bytes at id piece) now caller content = (now ≡ at) × EndsRecord s id piece caller content
+Brings s (Bytes at id piece) now caller content = (now ≡ at) × BringsEnd s id piece caller content
 Brings s other now caller content = ⊥
 
 -- The event brings a SET that is accepted, the live and the retained rows reach the limit, and the connection is given a list

@@ -73,8 +73,8 @@ abbrev pub take_cost : ℕ → ℕ
 take_cost count = count + 1
 
 -- what it costs to swap the buffer of a record that ended for an empty one
-abbrev pub exchange_cost : ℕ
-exchange_cost = 1
+abbrev pub swap_cost : ℕ
+swap_cost = 1
 
 -- what it costs to look for the oldest of the lists that are given on so many connections
 abbrev pub oldest_cost : ℕ → ℕ
@@ -124,7 +124,7 @@ count_taken piece (Ends n content) = n
 abbrev pub record_cost : Sizes → Taking → ℕ
 record_cost sizes TakesNone = 0
 record_cost sizes (GoesOn fed) = 0
-record_cost sizes (Ends n content) = exchange_cost + answer_cost sizes (length (kept_of content))
+record_cost sizes (Ends n content) = swap_cost + answer_cost sizes (length (kept_of content))
 
 -- to take bytes where this is the connection, if there is one
 abbrev pub bytes_cost : Sizes → List ℕ → Option Connection → ℕ

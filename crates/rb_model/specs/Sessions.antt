@@ -51,13 +51,13 @@ abbrev pub gave_to : ℕ → Event → ℕ
 gave_to id (Gave now other n) = if other == id then n else 0
 gave_to id other = 0
 
-abbrev pub shown : Result (List ℕ) CoreFault → List ℕ
-shown (Ok bytes) = bytes
-shown (Err fault) = []
+abbrev pub pending_bytes : Result (List ℕ) CoreFault → List ℕ
+pending_bytes (Ok bytes) = bytes
+pending_bytes (Err fault) = []
 
 -- of what was pending on a connection, as many bytes as an event says, where it is not refused
 abbrev pub given_by : State → ℕ → Event → Output → List ℕ
-given_by s id event Done = take (gave_to id event) (shown (pending s id))
+given_by s id event Done = take (gave_to id event) (pending_bytes (pending s id))
 given_by s id event other = []
 
 -- ---- the calls

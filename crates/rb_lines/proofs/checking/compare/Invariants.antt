@@ -1,5 +1,5 @@
-use Rattle.std.proofs.Common.{◌≡◌, ◌≤◌, take, length}
 use Rattle.std.specs.List.{flat_map}
+use Rattle.std.proofs.Common.{◌≡◌, ◌≤◌, take, length}
 use Rattle.rb_model.specs.Plain.{outputs_of}
 use Rattle.rb_lines.specs.Lines.{lines_of}
 use Rattle.rb_lines.specs.Checking.{said_by, printed}

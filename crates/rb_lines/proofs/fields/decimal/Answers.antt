@@ -1,5 +1,5 @@
-use Rattle.std.proofs.Common.{arith, ◌≡◌, ◌<◌, ◌+◌, ◌*◌, ◌∙◌, ℕ, get_or, ap, subst}
 use Rattle.std.specs.Char.{digit_value}
+use Rattle.std.proofs.Common.{arith, ◌≡◌, ◌<◌, ◌+◌, ◌*◌, ◌∙◌, ℕ, get_or, ap, subst}
 use Rattle.rb_lines.proofs.Digits.{goes_on, too_large, whole, not_below}
 use Rattle.rb_lines.proofs.fields.decimal.Goals as goal
 

@@ -1,5 +1,5 @@
-use Rattle.rb_lines.specs.Printing.{report_of}
 use Rattle.std.proofs.KnownBytes.{Appends-nil}
+use Rattle.rb_lines.specs.Printing.{report_of}
 use Rattle.rb_lines.proofs.Prints.{line_more}
 use Rattle.rb_lines.proofs.printing.print_outputs.Goals as goal
 

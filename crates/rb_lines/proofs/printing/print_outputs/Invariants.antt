@@ -1,5 +1,5 @@
-use Rattle.std.proofs.Common.{take}
 use Rattle.std.specs.Io.KnownBytes.{Appends}
+use Rattle.std.proofs.Common.{take}
 use Rattle.rb_model.specs.Plain.{outputs_of}
 use Rattle.rb_lines.specs.Printing.{report_of}
 use Rattle.rb_lines.proofs.printing.print_outputs.Given as goal

@@ -1,11 +1,11 @@
-use Rattle.std.proofs.Common.{◌≡◌, ◌++◌, ℕ, List, [], sym, ap, ◌∙◌, arith}
 use Rattle.std.specs.Prelude.{min}
+use Rattle.std.proofs.Common.{◌≡◌, ◌++◌, ℕ, List, [], sym, ap, ◌∙◌, arith}
 use Rattle.rb_model.specs.declared.types.Limits.{Limits}
-use Rattle.rb_core.specs.Events.{greatest_count}
 use Rattle.rb_model.specs.Plain.{events_of, outputs_of}
 use Rattle.rb_model.specs.Step.{Output, run}
-use Rattle.rb_core.specs.Runs.{buffer_bytes}
 use Rattle.rb_model.specs.WholeRuns.{whole_bound}
+use Rattle.rb_core.specs.Events.{greatest_count}
+use Rattle.rb_core.specs.Runs.{buffer_bytes}
 use Rattle.rb_core.proofs.Runs.{all_answered}
 use Rattle.rb_core.proofs.WholeRuns.{no_buffer_bytes, shown_within}
 use Rattle.rb_lines.proofs.running.run_on.Goals as goal

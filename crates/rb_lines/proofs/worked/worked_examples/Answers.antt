@@ -1,10 +1,10 @@
-use Rattle.std.proofs.Common.{refl}
 use Rattle.std.specs.Fmt.{digits}
-use Rattle.hex.proofs.OnLiterals.{hex_on_literals}
+use Rattle.std.proofs.Common.{refl}
 use Rattle.rb_lines.specs.Fields.{cut, decimal, plain, host, peer, hex_bytes}
 use Rattle.rb_lines.specs.Lines.{datagram_line, open_line, bytes_line, gave_line, event, lone_event, line, events_from, lines_of, longest_input, read}
 use Rattle.rb_lines.specs.Printing.{report_of}
 use Rattle.rb_lines.proofs.worked.worked_examples.Goals as goal
+use Rattle.hex.proofs.OnLiterals.{hex_on_literals}
 
 pub returns-clause-stored_run_is_read : goal.returns-clause-stored_run_is_read
 unfolding hex_on_literals cut decimal plain host peer hex_bytes datagram_line open_line bytes_line gave_line event lone_event line events_from lines_of longest_input read

@@ -2,7 +2,7 @@ use Rattle.std.proofs.Common.{◌≡◌, ◌∙◌, length, true, ap, sym, subst
 use Rattle.rb_xdr.specs.Pool.{Pool}
 use Rattle.rb_connections.specs.contracts.connections.Connections.{the_view}
 use Rattle.rb_connections.specs.declared.slot.Slot.{Slot}
-use Rattle.rb_connections.specs.Awaits.{has_idle, IsSettled}
+use Rattle.rb_connections.specs.Awaits.{has_idle, IsIdleIfThere}
 use Rattle.rb_connections.specs.Slots.{IsTable}
 use Rattle.rb_connections.specs.StandsFor.{StandsForConnections}
 use Rattle.rb_connections.specs.Listings.{SlotListsOn, CanListOn}
@@ -32,7 +32,7 @@ returns-clause-later c = rw c.evict_slots.ensures.evicted (later_evicted c.args.
 pub returns-clause-open : goal.returns-clause-open
 returns-clause-open c = rw c.evict_slots.ensures.evicted (record {
   idle = λ id idle. idle_evicted c.args.earliest id (the_view c.self.inside) (subst (λ t. has_idle id t ≡ true) (sym c.self.view_is) idle);
-  settled = λ id clock settled. settled_evicted c.args.earliest id clock (the_view c.self.inside) (subst (λ t. IsSettled id clock t) (sym c.self.view_is) settled);
+  if_there = λ id clock settled. settled_evicted c.args.earliest id clock (the_view c.self.inside) (subst (λ t. IsIdleIfThere id clock t) (sym c.self.view_is) settled);
   free = freed_from (the_view c.self.inside) c.args.self.now _ c.self.view_is (none_freed_by_eviction c.args.earliest (the_view c.self.inside));
   stays = stays_evicted c.args.earliest (the_view c.self.inside) c.args.self.now c.self.view_is;
   as_many = length_evicted c.args.earliest c.self.inside.slots.entries ∙ ap (λ t. length t.slots) c.self.view_is;

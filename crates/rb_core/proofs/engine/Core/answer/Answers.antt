@@ -98,7 +98,7 @@ returns-then-given-gt0-clause-acts c =
     (leaves_none (source_then c) v.result v.new.out once.new.draft _ (omega (arith, length-take once.result once.new.room, once.ensures.within, c.if-given-gt0.true)) reply)
     (λ o h.
     subst (λ (t : Connections). StandsForConnections (source_then c) v.new.connections t)
-    (sym (settled_stays (source_then c) c.args.id c.self.inside.clock v.new.connections o (v.ensures.open.settled c.args.id c.self.inside.clock (idle_then c).is_settled) h)) h)
+    (sym (settled_stays (source_then c) c.args.id c.self.inside.clock v.new.connections o (v.ensures.open.if_there c.args.id c.self.inside.clock (idle_then c).if_there) h)) h)
     false (rw reply.is_reply refl)))
 
 pub returns-then-given-gt0-clause-count : goal.returns-then-given-gt0-clause-count

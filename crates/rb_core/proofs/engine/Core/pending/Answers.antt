@@ -4,7 +4,7 @@ use Rattle.rb_model.specs.Costs.{pending_cost}
 use Rattle.rb_model.specs.Step.{pending}
 use Rattle.rb_connections.specs.Costs.{look_cost}
 use Rattle.rb_core.specs.StandsFor.{Held, StandsFor, source_of}
-use Rattle.rb_core.specs.Events.{lent_by}
+use Rattle.rb_core.specs.Events.{length_lent}
 use Rattle.rb_core.specs.contracts.engine.Core.{the_view}
 use Rattle.rb_core.proofs.Begun.{begins_at}
 use Rattle.rb_core.proofs.CallBounds.{pending_within}
@@ -24,6 +24,6 @@ returns c = (
         c.pending.ensures.lent (source_of (the_view c.self.inside)) s.connections z.connections;
     few = c.pending.ensures.few;
     cost = paid c;
-    bound = pending_within c.args.self.now _ _ (lent_by c.pending.result) (paid c);
+    bound = pending_within c.args.self.now _ _ (length_lent c.pending.result) (paid c);
   },
 )
