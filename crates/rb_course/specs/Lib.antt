@@ -2,3 +2,4 @@ pub mod Fallback
 pub mod Lacks
 pub mod Next
 pub mod Laws
+pub mod Networks

@@ -5,10 +5,12 @@ mod course;
 mod fall_back;
 mod lack;
 mod laws;
+mod networks;
 mod stages;
 
 pub use course::{Aim, Answer, Course, End, Place, Stage, Step, Way};
 pub use fall_back::fallback;
 pub use lack::show_lack;
 pub use laws::courses_are_whole;
+pub use networks::read_networks;
 pub use stages::{asked, begin, next, transport_of};

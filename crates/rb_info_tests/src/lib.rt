@@ -11,6 +11,8 @@ mod courses;
 #[cfg(test)]
 mod lists;
 #[cfg(test)]
+mod networks;
+#[cfg(test)]
 mod pings;
 #[cfg(test)]
 mod turns;

@@ -1,7 +1,8 @@
-//! Calls that the portmappers of a network are asked to make.
+//! Calls that the portmappers of networks are asked to make.
 use crate::fault::Fault;
 use crate::input::FIRST_XID;
 use crate::net::{HEADER, LONGEST_DATAGRAM, marked};
+use crate::networks::networks_of;
 use crate::waits::{WAITS, left_of};
 use crate::words::Words;
 use rb_show::{Form, HeldBytes, InfoFault, Question, Shown, show_reply, write_call};
@@ -9,19 +10,23 @@ use std::alloc::Global;
 use std::io;
 use std::io::{ErrorKind, Write};
 use std::net::{IpAddr, Ipv4Addr, Net, SocketAddr, UdpSocket};
-use std::rt::Clock;
+use std::rt::{Clock, Files};
 use std::time::{Duration, Instant};
 
 /// At most so many datagrams are looked at.
 const MOST_DATAGRAMS: u32 = 4096;
 
-/// A socket from which the call went to every host of the network.
-fn call_all<N: Net>(net: &N, network: SocketAddr, call: &[u8]) -> io::Result<UdpSocket> {
+/// A socket from which the call went to the hosts of these networks; `None` where it went to none.
+fn call_all<N: Net>(net: &N, networks: &[[u8; 4]], port: u16, call: &[u8]) -> Option<UdpSocket> {
     let any = SocketAddr::new(IpAddr::V4(Ipv4Addr::UNSPECIFIED), 0);
-    let socket = UdpSocket::bind(net, any)?;
-    socket.set_broadcast(true)?;
-    socket.send_to(call, network)?;
-    Ok(socket)
+    let socket = UdpSocket::bind(net, any).ok()?;
+    socket.set_broadcast(true).ok()?;
+    let mut sent = false;
+    for network in networks {
+        let address = SocketAddr::new(IpAddr::V4(Ipv4Addr::from(*network)), port);
+        sent |= socket.send_to(call, address).is_ok();
+    }
+    if sent { Some(socket) } else { None }
 }
 
 /// The next datagram and its sender; none once the time for answers is over.
@@ -78,32 +83,23 @@ fn show_responder<O: Write>(host: IpAddr, port: u32, output: &mut O) -> Result<(
     Ok(())
 }
 
-/// Has each portmapper of the network call procedure 0 of a program, and shows where it answered, each host once.
-pub fn broadcast<N: Net + Clock, O: Write>(
+/// Shows where the program answered, each host once, until the time for answers is over. Returns how many hosts.
+fn show_answers<C: Clock, O: Write>(
     alloc: Global,
-    net: &N,
+    clock: &C,
     words: &Words<'_, '_>,
-    prog: u32,
-    vers: u32,
+    question: Question,
+    socket: &UdpSocket,
+    begun: Instant,
     output: &mut O,
 ) -> Result<Shown, Fault> {
-    let question = Question::Callit(prog, vers);
-    let mut call = Vec::new(alloc);
-    write_call(alloc, &words.ask(question), FIRST_XID, &mut call).map_err(Fault::Info)?;
-    let network = SocketAddr::new(IpAddr::V4(words.network), words.request.port);
-    let Ok(begun) = Instant::now(net) else {
-        return Err(Fault::NoConnection);
-    };
-    let Ok(socket) = call_all(net, network, call.get(HEADER..).unwrap_or(&[])) else {
-        return Err(Fault::NoConnection);
-    };
     let mut datagram = Vec::new(alloc);
     if datagram.resize(LONGEST_DATAGRAM, 0).is_err() {
         return Err(Fault::Info(InfoFault::Memory));
     }
     let mut seen = Vec::new(alloc);
     for _ in 0..MOST_DATAGRAMS {
-        let Ok((len, sender)) = next_answer(net, &socket, begun, &mut datagram) else {
+        let Ok((len, sender)) = next_answer(clock, socket, begun, &mut datagram) else {
             break;
         };
         let host = sender.ip();
@@ -120,4 +116,28 @@ pub fn broadcast<N: Net + Clock, O: Write>(
         }
     }
     Ok(Shown::Rows(u32::try_from(seen.len()).unwrap_or(u32::MAX)))
+}
+
+/// Has each portmapper of the networks of this machine, or of the one that the words name, call procedure 0 of a
+/// program, and shows where it answered, each host once.
+pub fn broadcast<N: Net + Clock + Files, O: Write>(
+    alloc: Global,
+    net: &N,
+    words: &Words<'_, '_>,
+    prog: u32,
+    vers: u32,
+    output: &mut O,
+) -> Result<Shown, Fault> {
+    let question = Question::Callit(prog, vers);
+    let mut call = Vec::new(alloc);
+    write_call(alloc, &words.ask(question), FIRST_XID, &mut call).map_err(Fault::Info)?;
+    let networks = networks_of(alloc, net, words.network).map_err(Fault::Info)?;
+    let Ok(begun) = Instant::now(net) else {
+        return Err(Fault::NoConnection);
+    };
+    let call = call.get(HEADER..).unwrap_or(&[]);
+    let Some(socket) = call_all(net, &networks, words.request.port, call) else {
+        return Err(Fault::NoConnection);
+    };
+    show_answers(alloc, net, words, question, &socket, begun, output)
 }

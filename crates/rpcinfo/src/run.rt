@@ -38,7 +38,7 @@ fn ask_input<I: Read, O: Write>(
 }
 
 /// Does what the words say.
-fn carry_out<N: Net + Clock, I: Read, O: Write>(
+fn carry_out<N: Net + Clock + Files, I: Read, O: Write>(
     alloc: Global,
     net: &N,
     words: &Words<'_, '_>,
@@ -59,7 +59,7 @@ fn carry_out<N: Net + Clock, I: Read, O: Write>(
 }
 
 /// Does what the words say that ask for more than one question.
-fn carry_course<N: Net + Clock, O: Write>(
+fn carry_course<N: Net + Clock + Files, O: Write>(
     alloc: Global,
     net: &N,
     words: &Words<'_, '_>,
@@ -87,7 +87,7 @@ fn flushed<O: Write>(answer: Result<Shown, Fault>, output: &mut O) -> Result<Sho
 
 /// Does what the words say, and says what is wrong: the answer, with how the command ends by it. Where the words name
 /// standard input, the answer is what the reply in its text tells.
-fn run_words<N: Net + Clock, I: Read, O: Write, E: Write>(
+fn run_words<N: Net + Clock + Files, I: Read, O: Write, E: Write>(
     alloc: Global,
     net: &N,
     words: &Words<'_, '_>,
@@ -106,7 +106,7 @@ fn run_words<N: Net + Clock, I: Read, O: Write, E: Write>(
 }
 
 /// Runs the command that the words' shape names, where programs have these names.
-fn run_named<N: Net + Clock, I: Read, O: Write, E: Write>(
+fn run_named<N: Net + Clock + Files, I: Read, O: Write, E: Write>(
     alloc: Global,
     net: &N,
     matches: &ArgMatches<'_>,

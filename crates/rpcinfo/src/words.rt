@@ -93,8 +93,8 @@ pub struct Words<'a, 'n> {
     pub address: Option<Uaddr>,
     /// The path of `--local`.
     pub local: Option<&'a str>,
-    /// Where a broadcast goes.
-    pub network: Ipv4Addr,
+    /// Where a broadcast goes, in place of the networks of this machine.
+    pub network: Option<Ipv4Addr>,
     /// How a list is written.
     pub form: Form<'n>,
 }
@@ -334,16 +334,19 @@ fn read_address<E: Write>(
     }
 }
 
-/// The address of `--broadcast`, or that of this network.
-fn read_network<E: Write>(shape: &Shape<'_, '_, '_>, faults: &mut E) -> Result<Ipv4Addr, Ending>
+/// The address of `--broadcast`.
+fn read_network<E: Write>(
+    shape: &Shape<'_, '_, '_>,
+    faults: &mut E,
+) -> Result<Option<Ipv4Addr>, Ending>
     ensures read { OnOk result (faults.new ≡ faults.old) }
     ensures refused { IfErr result (λ ending. ending.status ≡ 2) }
 {
     let Some(text) = shape.broadcast else {
-        return Ok(Ipv4Addr::BROADCAST);
+        return Ok(None);
     };
     match text.parse::<Ipv4Addr>() {
-        Ok(address) => Ok(address),
+        Ok(address) => Ok(Some(address)),
         Err(_) => {
             let refusal = Refusal {
                 at: Spot::Broadcast,

@@ -1,0 +1,61 @@
+-- The networks of this machine, as Linux lists its routes: a line each, of fields with tabs between them (proc(5),
+-- /proc/net/route).
+use Rattle.std.specs.Prelude.{◌≡◌, ℕ, ◌-◌, ◌==◌, ◌++◌, Bool, if◌then◌else◌, List, [], ◌∷◌, reverse, codes, bit_or, Option, Some, None, Result, Ok, Err}
+use Rattle.std.specs.List.{slice_split, flat_map}
+use Rattle.std.specs.Global.{Vec}
+use Rattle.std.specs.Vec.{vec_items}
+use Rattle.std.specs.Str.{bytes_eq}
+use Rattle.hex.specs.Hex.{decode_sized}
+use Rattle.hex.specs.declared.error.FromHexError.{FromHexError}
+
+-- the pieces of a text between bytes of this value
+abbrev pub pieces_of : ℕ → List ℕ → List (List ℕ)
+pieces_of between text = slice_split (λ b. b == between) text
+
+abbrev pub tab : ℕ
+tab = 9
+
+abbrev pub newline : ℕ
+newline = 10
+
+abbrev pub turned : Result (List ℕ) FromHexError → Option (List ℕ)
+turned (Ok octets) = Some (reverse octets)
+turned (Err fault) = None
+
+-- an IPv4 address: eight hexadecimal digits, the octets from the last to the first
+abbrev pub address_in : List ℕ → Option (List ℕ)
+address_in field = turned (decode_sized field 4)
+
+-- a network's address with each bit of its hosts set (RFC 919 section 7, RFC 922 section 7)
+abbrev pub broadcast_of : List ℕ → List ℕ → List ℕ
+broadcast_of (octet ∷ octets) (mask ∷ masks) = bit_or octet (255 - mask) ∷ broadcast_of octets masks
+broadcast_of octets masks = []
+
+abbrev pub broadcast_by : Option (List ℕ) → Option (List ℕ) → Option (List ℕ)
+broadcast_by (Some network) (Some mask) = Some (broadcast_of network mask)
+broadcast_by network mask = None
+
+-- a route that is up, and goes through no gateway, nor to one host
+abbrev pub is_direct : List ℕ → Bool
+is_direct flags = bytes_eq flags (codes "0001")
+
+abbrev pub network_of : List (List ℕ) → Option (List ℕ)
+network_of (interface ∷ network ∷ gateway ∷ flags ∷ count ∷ uses ∷ metric ∷ mask ∷ more) =
+    if is_direct flags then broadcast_by (address_in network) (address_in mask) else None
+network_of fields = None
+
+abbrev pub listed : Option (List ℕ) → List (List ℕ)
+listed None = []
+listed (Some network) = network ∷ []
+
+-- the broadcast address of the network that a line's route leads to, where this machine is on it
+abbrev pub networks_in_line : List ℕ → List (List ℕ)
+networks_in_line line = listed (network_of (pieces_of tab line))
+
+-- those of all lines, in their order
+abbrev pub networks_in : List ℕ → List (List ℕ)
+networks_in routes = flat_map networks_in_line (pieces_of newline routes)
+
+-- these addresses stand behind those that were there
+abbrev pub Adds : Vec (List ℕ) → Vec (List ℕ) → List (List ℕ) → Type 0
+Adds old new networks = vec_items new ≡ vec_items old ++ networks
