@@ -275,7 +275,6 @@ module _ (old : Held) (now clock : ℕ) (peer : Peer) (content : List ℕ) (tabl
 -- ---- a piece of bytes
 
 module _ {X : Type 0} (test : X → Bool) where
-
   some_is : (x y : X) → Some x ≡ Some y → x ≡ y
   some_is x y h = cc
 
