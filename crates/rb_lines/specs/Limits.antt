@@ -1,5 +1,6 @@
 -- Which limit is out of its range.
-use Rattle.std.specs.Prelude.{ℕ, Bool, ◌||◌, nat_lt, if◌then◌else◌, List, codes, Option, Some, None}
+use Rattle.std.specs.Prelude.{ℕ, Bool, ◌||◌, nat_lt, if◌then◌else◌, List, ◌++◌, codes, Option, Some, None}
+use Rattle.std.specs.Fmt.{decimal}
 use Rattle.rb_model.specs.declared.types.Limits.{Limits}
 use Rattle.rb_lines.specs.declared.limits.BadLimit.{BadLimit}
 use Rattle.rb_lines.specs.declared.limits.BadLimit.TheVariants.{Conns, Rows, Forwards}
