@@ -1,7 +1,7 @@
 -- An answer whose lines are written out.
-use Rattle.std.proofs.Common.{ℕ, List, Option, Some, None, Result, Ok, Err, ◌∙◌, inl, inr}
 use Rattle.std.specs.Prelude.{IfSome}
 use Rattle.std.specs.Io.KnownBytes.{Appends, Keeps}
+use Rattle.std.proofs.Common.{ℕ, List, Option, Some, None, Result, Ok, Err, ◌∙◌, inl, inr}
 use Rattle.rb_ask.specs.declared.fault.InfoFault.{InfoFault}
 use Rattle.rb_ask.specs.declared.fault.InfoFault.TheVariants.{Read, Write, Unreadable, CutOff, TooLong, Refused, TooMany, Memory}
 use Rattle.rb_ask.specs.Sources.{Supply}
@@ -16,7 +16,7 @@ use Rattle.rb_words.specs.declared.plan.Source.TheVariants.{Here, Input, Named}
 use Rattle.rb_show.specs.declared.ask.Question.{Question}
 use Rattle.rpcinfo.specs.Plans.{plan_question}
 use Rattle.rpcinfo.specs.declared.words.Words.{Words}
-use Rattle.rpcinfo.specs.Input.{tell_text, IsTold, IsToldOr, FailsUnread, ShowsIn}
+use Rattle.rpcinfo.specs.Input.{tell_text, IsTold, IsToldOr}
 use Rattle.rpcinfo.specs.Running.{ask_of, IsToldAs, OfSource, ShowsAs, Answers, IsOut, IsFlushed}
 
 grown : (a b c : Option (List ℕ)) (text : List ℕ) → Appends a b text → Keeps b c → Appends a c text
@@ -85,8 +85,3 @@ answers_out {I} {O} remaining contents words input output output' output'' answe
     by_source (Some (Here, question)) p = tt
     by_source (Some (Named, question)) p = tt
     by_source None p = tt
-
--- what the reply on the input tells is the answer of words that name it
-pub answers_shown : {I O : Type 0} (remaining : I → Option (List ℕ)) (contents : O → Option (List ℕ)) (ask : Ask) (form : Form) (input : I) (output output' : O) (shown : Shown)
-    → ShowsIn remaining contents ask form input output output' (Ok shown) → ShowsAs remaining contents ask form input output output' (Ok shown)
-answers_shown remaining contents ask form input output output' shown p = p

@@ -1,7 +1,7 @@
 -- What is read of an input, and what is told of it.
-use Rattle.std.proofs.Common.{◌≡◌, ◌+◌, ◌⊎◌, ℕ, false, List, [], length, take, Option, Some, None, Result, Ok, Err, refl, ap, ◌∙◌, subst, arith, inl, inr}
 use Rattle.std.specs.Prelude.{IfSome}
 use Rattle.std.specs.Io.KnownBytes.{Keeps}
+use Rattle.std.proofs.Common.{◌≡◌, ◌+◌, ◌⊎◌, ℕ, false, List, [], length, take, Option, Some, None, Result, Ok, Err, refl, ap, ◌∙◌, subst, arith, inl, inr}
 use Rattle.std.proofs.KnownBytes.{Appends-nil}
 use Rattle.std.proofs.lemmas.List.{length-take, take_all}
 use Rattle.std.proofs.lemmas.Bool.{cases_lt, lt-ltb, le-ltb}
@@ -15,7 +15,7 @@ use Rattle.rb_show.specs.declared.ask.Ask.{Ask}
 use Rattle.rb_show.specs.declared.form.Form.{Form}
 use Rattle.rb_show.specs.declared.show.Shown.{Shown}
 use Rattle.rb_show.specs.Replies.{tell_bytes}
-use Rattle.rpcinfo.specs.Input.{longest_text, bytes_of, tell_read, tell_text, IsEnoughOf, IsTold, IsToldOr, FailsUnread}
+use Rattle.rpcinfo.specs.Input.{longest_text, bytes_of, tell_read, tell_text, IsEnoughOf, IsToldOr}
 use Rattle.rpcinfo.proofs.HexTexts.{others}
 
 -- enough of a text gives what it gives

@@ -1,7 +1,11 @@
 -- What the command does with words that were read.
-use Rattle.std.specs.Prelude.{◌≡◌, ◌≤◌, ◌⊎◌, ℕ, false, List, ◌++◌, Option, Some, None, IfSome, Result, Ok, Err, ⊤}
+use Rattle.std.specs.Prelude.{◌≡◌, ◌≤◌, ◌⊎◌, ℕ, false, List, ◌++◌, Option, Some, None, IfSome, option_map, Result, Ok, Err, ⊤}
 use Rattle.std.specs.Borrow.{Bor}
 use Rattle.std.specs.Io.KnownBytes.{Keeps}
+use Rattle.std.specs.declared.net.ipv4_addr.Ipv4Addr.{Ipv4Addr}
+use Rattle.std.specs.Net.Grammar.{IsIpv4Text}
+use Rattle.rb_uaddr.specs.declared.address.Uaddr.{Uaddr}
+use Rattle.rb_uaddr.specs.Uaddr.{parse}
 use Rattle.rb_ask.specs.declared.fault.InfoFault.TheVariants.{Write}
 use Rattle.rb_ask.specs.Telling.{Told}
 use Rattle.rb_names.specs.declared.services.Service.{Service}
@@ -50,6 +54,17 @@ abbrev pub form_of : Request → Bor (List Service) → Form
 form_of request services = form_by request.plan request.layout services
 
 -- ---- words
+
+-- the address of `-a`, none where it is not given; nothing where its text is no address
+abbrev pub address_of : Option (Bor (List ℕ)) → Option (Option Uaddr)
+address_of None = Some None
+address_of (Some text) = option_map (λ address. Some address) (parse text.now)
+
+-- The network of `--broadcast` is the IPv4 address that its text writes, where it is given.
+abbrev pub IsNetworkOf : Option (Bor (List ℕ)) → Option Ipv4Addr → Type 0
+IsNetworkOf None network = network ≡ None
+IsNetworkOf (Some text) None = ⊥
+IsNetworkOf (Some text) (Some address) = IsIpv4Text text.now address
 
 -- The shape of the words is read as what they ask for, or what can't be read is named.
 abbrev pub ReadsShape : {E : Type 0} → (E → Option (List ℕ)) → Shape → E → E → Result Request Ending → Type 0

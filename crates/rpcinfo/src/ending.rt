@@ -1,5 +1,5 @@
 //! How the command ends.
-ghost use Rattle.std.specs.Prelude.{◌≡◌, None, true, false};
+ghost use Rattle.std.specs.Prelude.{◌≡◌, None, true, false, IsOk};
 ghost use Rattle.rb_words.specs.Refusals.{Prints};
 ghost use Rattle.rpcinfo.specs.Ending.{info_text, fault_line, auth_text, server_line, versions_line, auth_line, status_line, status_in, detail_line, fault_lines, removed_line, answered_line, old_line, notice_lines, shown_status, status_of, said_of, EndsBy, IsNothing, Says, SaysWhere};
 
@@ -244,6 +244,7 @@ fn end_answer<E: Write>(answer: Result<Shown, Fault>, faults: &mut E) -> Ending
 fn write_answered<E: Write>(answered: Option<IpAddr>, faults: &mut E) -> io::Result<()>
     ensures said { Prints E.contents faults.old faults.new (answered_line answered) result }
     ensures quiet { answered ≡ None → faults.new ≡ faults.old }
+    ensures fine { answered ≡ None → IsOk result }
 {
     match answered {
         Some(address) => writeln!(faults, "rpcinfo: {address} answered"),
@@ -256,6 +257,7 @@ fn write_answered<E: Write>(answered: Option<IpAddr>, faults: &mut E) -> io::Res
 fn write_old<E: Write>(is_old: bool, faults: &mut E) -> io::Result<()>
     ensures said { Prints E.contents faults.old faults.new (old_line is_old) result }
     ensures quiet { is_old ≡ false → faults.new ≡ faults.old }
+    ensures fine { is_old ≡ false → IsOk result }
 {
     if is_old {
         writeln!(faults, "rpcinfo: asked by version 2")
@@ -268,6 +270,7 @@ fn write_old<E: Write>(is_old: bool, faults: &mut E) -> io::Result<()>
 fn write_notices<E: Write>(notices: Notices, faults: &mut E) -> io::Result<()>
     ensures said { Prints E.contents faults.old faults.new (notice_lines notices) result }
     ensures quiet { IsNothing notices → faults.new ≡ faults.old }
+    ensures fine { IsNothing notices → IsOk result }
 {
     write_answered(notices.answered, faults)?;
     write_old(notices.is_old, faults)
@@ -277,6 +280,7 @@ fn write_notices<E: Write>(notices: Notices, faults: &mut E) -> io::Result<()>
 fn is_noticed<E: Write>(notices: Notices, faults: &mut E) -> bool
     ensures said { SaysWhere E.contents faults.old faults.new result (notice_lines notices) }
     ensures quiet { IsNothing notices → faults.new ≡ faults.old }
+    ensures fine { IsNothing notices → result ≡ true }
 {
     write_notices(notices, faults).is_ok()
 }

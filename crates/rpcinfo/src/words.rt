@@ -1,8 +1,9 @@
 //! The words of the command line.
-ghost use Rattle.std.specs.Prelude.{◌≡◌, ◌≤◌, IfErr, OnOk};
+ghost use Rattle.std.specs.Prelude.{◌≡◌, ◌≤◌, true, IfErr, IfOk, OnOk};
+ghost use Rattle.std.specs.Result.{result_ok};
 ghost use Rattle.rb_words.specs.Refusals.{refusal_lines};
 ghost use Rattle.rpcinfo.specs.Ending.{Says};
-ghost use Rattle.rpcinfo.specs.Running.{ask_of, form_of, EndsSaying, EndsUnread, ReadsShape};
+ghost use Rattle.rpcinfo.specs.Running.{address_of, ask_of, form_of, IsNetworkOf, EndsSaying, EndsUnread, ReadsShape};
 
 use crate::ending::{Ending, UNREADABLE, explain};
 use crate::fault::Fault;
@@ -230,7 +231,8 @@ pub fn programs_path<'a>(matches: &ArgMatches<'a>) -> &'a str {
 
 /// Writes the text of help, or what is wrong with the words.
 pub fn show<O: Write, E: Write>(error: &Error, output: &mut O, faults: &mut E) -> Ending
-    ensures { EndsUnread E.contents output.old output.new faults.old faults.new result }
+    ensures ends { EndsUnread E.contents output.old output.new faults.old faults.new result }
+    ensures told { result.status ≡ 0 → result.is_told ≡ true }
 {
     if error.kind() == ErrorKind::OutOfMemory {
         return explain(Fault::Info(InfoFault::Memory), faults);
@@ -316,6 +318,7 @@ fn read_address<E: Write>(
     shape: &Shape<'_, '_, '_>,
     faults: &mut E,
 ) -> Result<Option<Uaddr>, Ending>
+    ensures value { result_ok result ≡ address_of shape.now.address }
     ensures read { OnOk result (faults.new ≡ faults.old) }
     ensures refused { IfErr result (λ ending. ending.status ≡ 2) }
 {
@@ -334,11 +337,12 @@ fn read_address<E: Write>(
     }
 }
 
-/// The address of `--broadcast`.
+/// The address of `--broadcast`, where it is given.
 fn read_network<E: Write>(
     shape: &Shape<'_, '_, '_>,
     faults: &mut E,
 ) -> Result<Option<Ipv4Addr>, Ending>
+    ensures value { IfOk result (IsNetworkOf shape.now.broadcast) }
     ensures read { OnOk result (faults.new ≡ faults.old) }
     ensures refused { IfErr result (λ ending. ending.status ≡ 2) }
 {
