@@ -18,7 +18,7 @@ use Rattle.rb_ask.specs.declared.fault.InfoFault.{InfoFault}
 use Rattle.rb_ask.specs.declared.fault.InfoFault.TheVariants.{Unreadable}
 use Rattle.rb_ask.specs.Telling.{Told, Teller, ◌>>=◌, give, stop, take_one, add_lines, tell_on, told_by}
 use Rattle.rb_ask.specs.Telling.Told.{Done, Stop}
-use Rattle.rb_ask.specs.Heads.{two_numbers, verified, status_of, accept_stat, auth_error, reject_stat, reply_stat, reply_words, take_accepted, take_denied, take_head}
+use Rattle.rb_ask.specs.Heads.{two_numbers, read_verifier_and_stat, head_with_status, accept_stat, auth_error, reject_stat, reply_stat, reply_words, take_accepted, take_denied, take_head}
 use Rattle.rb_ask.specs.HeadLaws.{IsHead, HeadsAreRead}
 
 -- what is told of data whose end is told as `Unreadable`
@@ -359,7 +359,7 @@ accept_alike n =
 
 accepted_alike : EndsAlike take_accepted
 unfolding take_accepted
-accepted_alike = bind_alike _ _ (take_alike verified) (λ (v : (ℕ × List ℕ) × ℕ). accept_alike v.1)
+accepted_alike = bind_alike _ _ (take_alike read_verifier_and_stat) (λ (v : (ℕ × List ℕ) × ℕ). accept_alike v.1)
 
 error_alike : (stat : Option AuthStat) → EndsAlike (auth_error stat)
 error_alike (Some stat) = give_alike (AuthError stat)
@@ -374,7 +374,7 @@ denied_alike : EndsAlike take_denied
 unfolding take_denied
 denied_alike = bind_alike _ _ (take_alike read_number) reject_alike
 
-status_alike : (xid n : ℕ) → EndsAlike (status_of xid n)
+status_alike : (xid n : ℕ) → EndsAlike (head_with_status xid n)
 status_alike xid n =
     bind_alike _ _ (cond_alike (eqb n 0) _ _ accepted_alike (cond_alike (eqb n 1) _ _ denied_alike (stop_alike Unreadable))) (λ status. give_alike _)
 

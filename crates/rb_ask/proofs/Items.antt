@@ -16,9 +16,9 @@ use Rattle.rb_ask.specs.Sources.{Supply}
 use Rattle.rb_ask.specs.declared.fault.InfoFault.{InfoFault}
 use Rattle.rb_ask.specs.declared.fault.InfoFault.TheVariants.{Read, Write, Unreadable, CutOff, Refused, TooMany, Memory}
 use Rattle.rb_ask.specs.declared.fault.InfoFault.TheVariants as infos
-use Rattle.rb_ask.specs.Data.{end_of, Stands}
-use Rattle.rb_ask.specs.Reading.{DataEnds, Ends, Gives, Holds}
-use Rattle.rb_ask.specs.Telling.{Told, take_one, told_by, Tells, Begun, lines_of}
+use Rattle.rb_ask.specs.Data.{end_of, StandsBefore}
+use Rattle.rb_ask.specs.Reading.{DataEnds, HasNoData, GivesByte, HasReadData}
+use Rattle.rb_ask.specs.Telling.{Told, take_one, told_by, Tells, HasBegun, told_lines}
 use Rattle.rb_ask.specs.Telling.Told.{Done, Stop}
 use Rattle.rb_ask.proofs.Settles.{form_settles}
 
@@ -50,7 +50,7 @@ whole_value {A} is_value spelling reads complete bytes x n begins short =
 
 -- a value was read
 pub item_found : {A : Type 0} (is_value : A → Type 0) (spelling : A → List ℕ) (reads : Reader A) → IsComplete is_value spelling reads
-    → (known known' : Supply) (at at' : Record) (bytes : List ℕ) (x : A) (n : ℕ) → BeginsWith is_value spelling bytes (x, n) → IsShort reads bytes → Holds known known' at at' bytes
+    → (known known' : Supply) (at at' : Record) (bytes : List ℕ) (x : A) (n : ℕ) → BeginsWith is_value spelling bytes (x, n) → IsShort reads bytes → HasReadData known known' at at' bytes
     → (held : Option (List ℕ)) → Tells (take_one reads) known known' at at' held held (Ok x)
 unfolding take_one
 item_found {A} is_value spelling reads complete known known' at at' bytes x n begins short holds held =
@@ -89,7 +89,7 @@ still_refused {A} reads form has bytes more fault e other end content =
 
 -- the bytes begin with no value, whatever follows them
 pub item_broken : {A : Type 0} (reads : Reader A) (form : Form) → HasForm form reads
-    → (known known' : Supply) (at at' : Record) (bytes : List ℕ) (fault : XdrFault) → Holds known known' at at' bytes → reads bytes ≡ Err fault → (fault ≡ Short → ⊥)
+    → (known known' : Supply) (at at' : Record) (bytes : List ℕ) (fault : XdrFault) → HasReadData known known' at at' bytes → reads bytes ≡ Err fault → (fault ≡ Short → ⊥)
     → (held : Option (List ℕ)) → Tells {A = A} (take_one reads) known known' at at' held held (Err Unreadable)
 unfolding take_one
 item_broken {A} reads form has known known' at at' bytes fault holds e other held = record {
@@ -103,8 +103,8 @@ item_broken {A} reads form has known known' at at' bytes fault holds e other hel
 }
 
 -- the data ends before the value does
-item_cut : {A : Type 0} (reads : Reader A) (fault : InfoFault) (known between : Supply) (at at' : Record) (bytes : List ℕ) → Holds known between at at' bytes → reads bytes ≡ Err Short → Ends between at' fault
-    → (all content : List ℕ) → Stands all known at content → take_one reads (end_of all) content ≡ Stop [] fault
+item_cut : {A : Type 0} (reads : Reader A) (fault : InfoFault) (known between : Supply) (at at' : Record) (bytes : List ℕ) → HasReadData known between at at' bytes → reads bytes ≡ Err Short → HasNoData between at' fault
+    → (all content : List ℕ) → StandsBefore all known at content → take_one reads (end_of all) content ≡ Stop [] fault
 unfolding take_one
 item_cut {A} reads fault known between at at' bytes holds e ends all content st =
     let h = holds all content st in
@@ -113,12 +113,12 @@ item_cut {A} reads fault known between at at' bytes holds e ends all content st 
     ap (λ (xs : List ℕ). told_by (end_of all) (reads xs) content) text ∙ ap (λ (r : Reading A). told_by (end_of all) r content) e ∙ ap (λ (f : InfoFault). Stop [] f) (sym ended.1)
 
 -- Nothing was written yet.
-nothing_written : {A : Type 0} (told : Told A) (held : Option (List ℕ)) → Begun told held held
-nothing_written told held = record { lines = []; more = lines_of told; lines_are = refl; written = Appends-nil held }
+nothing_written : {A : Type 0} (told : Told A) (held : Option (List ℕ)) → HasBegun told held held
+nothing_written told held = record { lines = []; more = told_lines told; lines_are = refl; written = Appends-nil held }
 
 -- no further byte of the data was read
 pub item_fault : {A : Type 0} (reads : Reader A) (known between known' : Supply) (at at' at'' : Record) (bytes : List ℕ) (fault : InfoFault)
-    → Holds known between at at' bytes → reads bytes ≡ Err Short → DataEnds between known' at' fault
+    → HasReadData known between at at' bytes → reads bytes ≡ Err Short → DataEnds between known' at' fault
     → (held : Option (List ℕ)) → Tells {A = A} (take_one reads) known known' at at'' held held (Err fault)
 item_fault {A} reads known between known' at at' at'' bytes Read holds e ends held = record { outcome = λ all content st. (nothing_written (take_one reads (end_of all) content) held, ends) }
 item_fault {A} reads known between known' at at' at'' bytes CutOff holds e ends held = record {
@@ -135,19 +135,13 @@ item_fault {A} reads known between known' at at' at'' bytes Memory holds e ends 
 
 -- one more byte was read
 pub holds_more : {B : Type 0} (left : B → Supply) (known : Supply) (source source' : B) (at at' at'' : Record) (bytes : List ℕ) (b : ℕ)
-    → Holds known (left source) at at' bytes → Gives left source source' at' at'' b → Holds known (left source') at at'' (bytes ++ b ∷ [])
+    → HasReadData known (left source) at at' bytes → GivesByte left source source' at' at'' b → HasReadData known (left source') at at'' (bytes ++ b ∷ [])
 holds_more left known source source' at at' at'' bytes b holds gives = λ all content st.
     let h = holds all content st in
     let g = gives all h.2.read h.0 h.2.passed in
     (g.0, h.1 ∙ ap (λ (xs : List ℕ). bytes ++ xs) g.1 ∙ sym (append_assoc bytes (b ∷ []) g.0), g.2)
 
-pub holds_none : (known : Supply) (at : Record) → Holds known known at at []
-holds_none known at = λ all content st. (content, refl, st)
-
 pub short_more : {A : Type 0} (reads : Reader A) (bytes : List ℕ) (b : ℕ) → reads bytes ≡ Err Short → IsShort reads (bytes ++ b ∷ [])
 short_more reads bytes b e k len =
     let size : k ≡ length bytes = omega (arith, len, length-append bytes (b ∷ [])) in
     ap (λ (m : ℕ). reads (take m (bytes ++ b ∷ []))) size ∙ ap reads (take_at bytes (b ∷ []) (length bytes) refl) ∙ e
-
-pub short_none : {A : Type 0} (reads : Reader A) → IsShort reads []
-short_none reads k len = absurd (omega (arith, len))

@@ -15,8 +15,8 @@ use Rattle.rb_ask.specs.declared.fault.InfoFault.{InfoFault}
 use Rattle.rb_ask.specs.declared.fault.InfoFault.TheVariants.{CutOff, TooLong}
 use Rattle.rb_ask.specs.declared.record.Record.{Record}
 use Rattle.rb_ask.specs.Sources.{Supply}
-use Rattle.rb_ask.specs.Data.{longest_record, front_of, is_whole, end_of, data_left, ends_in, Passed, Stands, EndsInData}
-use Rattle.rb_ask.specs.Reading.{HasFewer, HasMany, Ends}
+use Rattle.rb_ask.specs.Data.{longest_record, front_of, is_whole, end_of, data_left, ends_in, HasPassed, StandsBefore, EndsInData}
+use Rattle.rb_ask.specs.Reading.{HasFewer, HasMany, HasNoData}
 
 -- ---- fuel
 
@@ -228,9 +228,9 @@ record More (read front : List ℕ) (at at' : Record) (found : List ℕ) : Type 
   goes_on : (more : List ℕ) → data_left at (front ++ more) ≡ found ++ data_left at' more
   ends_on : (more : List ℕ) → ends_in at (front ++ more) ≡ ends_in at' more
 
-more_read : (bytes read front found rest' : List ℕ) (known known' : Supply) (at at' : Record) (content : List ℕ) (p : Passed bytes read known at content)
+more_read : (bytes read front found rest' : List ℕ) (known known' : Supply) (at at' : Record) (content : List ℕ) (p : HasPassed bytes read known at content)
     → More read front at at' found → known'.bytes ≡ Some rest' → p.rest ≡ front ++ rest' → at.allowed ≡ length front + at'.allowed
-    → (content ≡ found ++ data_left at' (take at'.allowed rest')) × (data_of (read ++ front) ≡ data_of read ++ found) × Passed bytes (read ++ front) known' at' (data_left at' (take at'.allowed rest'))
+    → (content ≡ found ++ data_left at' (take at'.allowed rest')) × (data_of (read ++ front) ≡ data_of read ++ found) × HasPassed bytes (read ++ front) known' at' (data_left at' (take at'.allowed rest'))
 more_read bytes read front found rest' known known' at at' content p m known_is rest_is pays =
     let ahead : (more : List ℕ) → data_of ((read ++ front) ++ more) ≡ data_of read ++ (found ++ data_left at' more) =
     λ more. ap data_of (append_assoc read front more) ∙ p.stands (front ++ more) ∙ ap (λ (xs : List ℕ). data_of read ++ xs) (m.goes_on more) in
@@ -258,7 +258,7 @@ mark left last allowed = record { left = left; last = last; allowed = allowed }
 
 pub header_passes : (n : ℕ) (known known' : Supply) (at at' : Record) → n < 2 ^ 32 → at.left ≡ 0 → at.last ≡ false → at'.left ≡ n % 2 ^ 31 → at'.last ≡ leb (2 ^ 31) n
     → at.allowed ≡ at'.allowed + 4 → Consumes known.bytes known'.bytes (number n)
-    → (bytes read content : List ℕ) → Passed bytes read known at content → (read' : List ℕ) × Passed bytes read' known' at' content
+    → (bytes read content : List ℕ) → HasPassed bytes read known at content → (read' : List ℕ) × HasPassed bytes read' known' at' content
 header_passes n known known' at at' small over more left last pays took bytes read content p =
     let c = consumed known.bytes known'.bytes (number n) p.rest p.known_is took in
     let same : ◌≡◌ {A = Record} (record { left = n % 2 ^ 31; last = not (ltb n (2 ^ 31)); allowed = at'.allowed }) at' =
@@ -268,7 +268,7 @@ header_passes n known known' at at' small over more left last pays took bytes re
     let ends_on : (rest : List ℕ) → ends_in at (number n ++ rest) ≡ ends_in at' rest =
     λ rest. ends_none at (number n ++ rest) over more ∙ whole_behind n at'.allowed rest small ∙ ap (λ (r : Record). ends_in r rest) same in
     let m = more_read bytes read (number n) [] c.0 known known' at at' content p (record { goes_on = goes_on; ends_on = ends_on }) c.1 c.2 (omega (arith, pays, length-number n)) in
-    (read ++ number n, subst (Passed bytes (read ++ number n) known' at') (sym m.0) m.2)
+    (read ++ number n, subst (HasPassed bytes (read ++ number n) known' at') (sym m.0) m.2)
 
 snoc_is : (xs ys : List ℕ) (a b : ℕ) → xs ++ a ∷ [] ≡ ys ++ b ∷ [] → (xs ≡ ys) × (a ≡ b)
 snoc_is xs ys a b e =
@@ -278,7 +278,7 @@ snoc_is xs ys a b e =
     (front, cc)
 
 pub byte_gives : (b : ℕ) (known known' : Supply) (at at' : Record) → at.left ≡ at'.left + 1 → at'.last ≡ at.last → at.allowed ≡ at'.allowed + 1 → Consumes known.bytes known'.bytes (b ∷ [])
-    → (bytes read content : List ℕ) → Passed bytes read known at content → (left : List ℕ) × (content ≡ b ∷ left) × Stands bytes known' at' left
+    → (bytes read content : List ℕ) → HasPassed bytes read known at content → (left : List ℕ) × (content ≡ b ∷ left) × StandsBefore bytes known' at' left
 byte_gives b known known' at at' left last pays took bytes read content p =
     let c = consumed known.bytes known'.bytes (b ∷ []) p.rest p.known_is took in
     let m = more_read bytes read (b ∷ []) (b ∷ []) c.0 known known' at at' content p (record { goes_on = λ rest. left_some at at' b rest left last; ends_on = λ rest. ends_some at at' b rest left last }) c.1 c.2 (omega (arith, pays)) in
@@ -289,14 +289,14 @@ byte_gives b known known' at at' left last pays took bytes read content p =
 -- ---- where there is no more
 
 -- what may be read is what was read, and as much as is allowed
-front_is : (bytes read : List ℕ) (known : Supply) (at : Record) (content : List ℕ) (p : Passed bytes read known at content) → front_of bytes ≡ read ++ take at.allowed p.rest
+front_is : (bytes read : List ℕ) (known : Supply) (at : Record) (content : List ℕ) (p : HasPassed bytes read known at content) → front_of bytes ≡ read ++ take at.allowed p.rest
 unfolding front_of
 front_is bytes read known at content p = by_limit longest_record p.counted
   where
     by_limit : (n : ℕ) → length read + at.allowed ≡ n → take n bytes ≡ read ++ take at.allowed p.rest
     by_limit n e = ap (take n) p.whole ∙ take_more n at.allowed read p.rest (sym e)
 
-whole_is : (bytes read : List ℕ) (known : Supply) (at : Record) (content : List ℕ) (p : Passed bytes read known at content) → is_whole (front_of bytes) ≡ ends_in at (take at.allowed p.rest)
+whole_is : (bytes read : List ℕ) (known : Supply) (at : Record) (content : List ℕ) (p : HasPassed bytes read known at content) → is_whole (front_of bytes) ≡ ends_in at (take at.allowed p.rest)
 whole_is bytes read known at content p = ap is_whole (front_is bytes read known at content p) ∙ p.ends (take at.allowed p.rest)
 
 by_tests : (a b c d : Bool) → a ≡ b → c ≡ d → cond (a || c) CutOff TooLong ≡ cond (b || d) CutOff TooLong
@@ -307,7 +307,7 @@ either true = refl
 either false = refl
 
 -- the input ends
-input_short : (bytes read : List ℕ) (known : Supply) (at : Record) (content : List ℕ) (p : Passed bytes read known at content) → length p.rest < at.allowed → CutOff ≡ end_of bytes
+input_short : (bytes read : List ℕ) (known : Supply) (at : Record) (content : List ℕ) (p : HasPassed bytes read known at content) → length p.rest < at.allowed → CutOff ≡ end_of bytes
 unfolding end_of
 input_short bytes read known at content p short =
     let few : length bytes < longest_record = omega (arith, short, p.counted, ap length p.whole, length-append read p.rest) in
@@ -327,14 +327,14 @@ few_taken : (n : ℕ) (bytes : List ℕ) → length bytes < 4 → length (take n
 few_taken n bytes few = omega (arith, few, length-take n bytes)
 
 -- a header that the input cuts short
-pub header_cut : (known : Supply) (at : Record) → at.left ≡ 0 → at.last ≡ false → HasFewer 4 known → HasFewer at.allowed known → Ends known at CutOff
+pub header_cut : (known : Supply) (at : Record) → at.left ≡ 0 → at.last ≡ false → HasFewer 4 known → HasFewer at.allowed known → HasNoData known at CutOff
 header_cut known at over more few short bytes read content p = (
   p.content_is ∙ left_none at (take at.allowed p.rest) over more ∙ none_short (take at.allowed p.rest) (few_taken at.allowed p.rest (few p.rest p.known_is)),
   input_short bytes read known at content p (short p.rest p.known_is),
 )
 
 -- a header that the limit cuts short
-pub header_limited : (known : Supply) (at : Record) → at.left ≡ 0 → at.last ≡ false → at.allowed < 4 → HasMany at.allowed known → Ends known at TooLong
+pub header_limited : (known : Supply) (at : Record) → at.left ≡ 0 → at.last ≡ false → at.allowed < 4 → HasMany at.allowed known → HasNoData known at TooLong
 header_limited known at over more few there bytes read content p =
     let size : length (take at.allowed p.rest) < 4 = omega (arith, few, length-take at.allowed p.rest) in
     let long : longest_record ≤ length bytes = omega (arith, there p.rest p.known_is, p.counted, ap length p.whole, length-append read p.rest) in (
@@ -343,7 +343,7 @@ header_limited known at over more few there bytes read content p =
     )
 
 -- behind the last fragment
-pub last_ends : (known : Supply) (at : Record) → at.left ≡ 0 → at.last ≡ true → Ends known at CutOff
+pub last_ends : (known : Supply) (at : Record) → at.left ≡ 0 → at.last ≡ true → HasNoData known at CutOff
 last_ends known at over last bytes read content p = (
   p.content_is ∙ left_over at (take at.allowed p.rest) over last,
   record_ends bytes (whole_is bytes read known at content p ∙ ends_over at (take at.allowed p.rest) over last),
@@ -354,13 +354,13 @@ no_bytes [] few = refl
 no_bytes (b ∷ bytes) few = absurd (omega (arith, few))
 
 -- data that the input cuts short
-pub data_cut : (known : Supply) (at : Record) → HasFewer 1 known → HasFewer at.allowed known → Ends known at CutOff
+pub data_cut : (known : Supply) (at : Record) → HasFewer 1 known → HasFewer at.allowed known → HasNoData known at CutOff
 data_cut known at few short bytes read content p =
     let none : take at.allowed p.rest ≡ [] = no_bytes (take at.allowed p.rest) (omega (arith, few p.rest p.known_is, length-take at.allowed p.rest)) in
     (p.content_is ∙ ap (data_left at) none ∙ left_nil at, input_short bytes read known at content p (short p.rest p.known_is))
 
 -- data that the limit cuts short
-pub data_limited : (known : Supply) (at : Record) → 0 < at.left → at.allowed < 1 → HasMany at.allowed known → Ends known at TooLong
+pub data_limited : (known : Supply) (at : Record) → 0 < at.left → at.allowed < 1 → HasMany at.allowed known → HasNoData known at TooLong
 data_limited known at more few there bytes read content p =
     let none : take at.allowed p.rest ≡ [] = no_bytes (take at.allowed p.rest) (omega (arith, few, length-take at.allowed p.rest)) in
     let long : longest_record ≤ length bytes = omega (arith, there p.rest p.known_is, p.counted, ap length p.whole, length-append read p.rest) in (

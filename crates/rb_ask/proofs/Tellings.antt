@@ -8,17 +8,17 @@ use Rattle.rb_ask.specs.Sources.{Supply}
 use Rattle.rb_ask.specs.declared.fault.InfoFault.{InfoFault}
 use Rattle.rb_ask.specs.declared.fault.InfoFault.TheVariants.{Read, Write, Unreadable, CutOff, TooLong, Refused, TooMany, Memory}
 use Rattle.rb_ask.specs.Data.{end_of}
-use Rattle.rb_ask.specs.Telling.{Told, Teller, add_lines, tell_on, ◌>>=◌, give, stop, tell, joined, lines_of, Tells, Outcome, AfterFault, Stopped, Begun}
+use Rattle.rb_ask.specs.Telling.{Told, Teller, add_lines, tell_on, ◌>>=◌, give, stop, tell, lines_text, told_lines, Tells, Outcome, AfterFault, HasStopped, HasBegun}
 use Rattle.rb_ask.specs.Telling.Told.{Done, Stop}
 
-wrote : (a b c : Option (List ℕ)) (lines more : List (List ℕ)) → Appends a b (joined lines) → Appends b c (joined more) → Appends a c (joined (lines ++ more))
-wrote a b c lines more p q = subst (Appends a c) (sym (flat_map-append (λ (line : List ℕ). line) lines more)) (Appends-trans a b c (joined lines) (joined more) p q)
+wrote : (a b c : Option (List ℕ)) (lines more : List (List ℕ)) → Appends a b (lines_text lines) → Appends b c (lines_text more) → Appends a c (lines_text (lines ++ more))
+wrote a b c lines more p q = subst (Appends a c) (sym (flat_map-append (λ (line : List ℕ). line) lines more)) (Appends-trans a b c (lines_text lines) (lines_text more) p q)
 
-lines-add : {A : Type 0} (lines : List (List ℕ)) (told : Told A) → lines_of (add_lines lines told) ≡ lines ++ lines_of told
+lines-add : {A : Type 0} (lines : List (List ℕ)) (told : Told A) → told_lines (add_lines lines told) ≡ lines ++ told_lines told
 lines-add lines (Done more x left) = refl
 lines-add lines (Stop more fault) = refl
 
-cut : {A : Type 0} (told : Told A) (lines : List (List ℕ)) (a b c : Option (List ℕ)) → Appends a b (joined lines) → Begun told b c → Begun (add_lines lines told) a c
+cut : {A : Type 0} (told : Told A) (lines : List (List ℕ)) (a b c : Option (List ℕ)) → Appends a b (lines_text lines) → HasBegun told b c → HasBegun (add_lines lines told) a c
 cut told lines a b c p o = record {
   lines = lines ++ o.lines;
   more = o.more;
@@ -26,25 +26,25 @@ cut told lines a b c p o = record {
   written = wrote a b c lines o.lines p o.written;
 }
 
-stopped : {A : Type 0} (told : Told A) (lines : List (List ℕ)) (a b c : Option (List ℕ)) (fault : InfoFault) → Appends a b (joined lines) → Stopped told fault b c → Stopped (add_lines lines told) fault a c
+stopped : {A : Type 0} (told : Told A) (lines : List (List ℕ)) (a b c : Option (List ℕ)) (fault : InfoFault) → Appends a b (lines_text lines) → HasStopped told fault b c → HasStopped (add_lines lines told) fault a c
 stopped told lines a b c fault p o = record {
   lines = lines ++ o.lines;
   told_is = ap (add_lines lines) o.told_is;
   written = wrote a b c lines o.lines p o.written;
 }
 
-still_cut : {A B : Type 0} (told : Told A) (next : A → List ℕ → Told B) (a b : Option (List ℕ)) → Begun told a b → Begun (tell_on told next) a b
+still_cut : {A B : Type 0} (told : Told A) (next : A → List ℕ → Told B) (a b : Option (List ℕ)) → HasBegun told a b → HasBegun (tell_on told next) a b
 still_cut (Done lines x left) next a b o = record {
   lines = o.lines;
-  more = o.more ++ lines_of (next x left);
-  lines_are = lines-add lines (next x left) ∙ ap (λ (xs : List (List ℕ)). xs ++ lines_of (next x left)) o.lines_are ∙ append_assoc o.lines o.more (lines_of (next x left));
+  more = o.more ++ told_lines (next x left);
+  lines_are = lines-add lines (next x left) ∙ ap (λ (xs : List (List ℕ)). xs ++ told_lines (next x left)) o.lines_are ∙ append_assoc o.lines o.more (told_lines (next x left));
   written = o.written;
 }
 still_cut (Stop lines fault) next a b o = record { lines = o.lines; more = o.more; lines_are = o.lines_are; written = o.written }
 
 -- the outcome of the second is that of both, behind the lines of the first
 behind_lines : {A : Type 0} (told : Told A) (lines : List (List ℕ)) (bytes : List ℕ) (known : Supply) (at : Record) (a b c : Option (List ℕ)) (result : Result A InfoFault)
-    → Appends a b (joined lines) → Outcome told bytes known at b c result → Outcome (add_lines lines told) bytes known at a c result
+    → Appends a b (lines_text lines) → Outcome told bytes known at b c result → Outcome (add_lines lines told) bytes known at a c result
 behind_lines {A} told lines bytes known at a b c (Ok x) p o = record {
   lines = lines ++ o.lines;
   left = o.left;
@@ -99,7 +99,7 @@ tells_stop known at held = record {
 }
 
 -- lines were written
-pub tells_lines : (lines : List (List ℕ)) (known : Supply) (at : Record) (old new : Option (List ℕ)) → Appends old new (joined lines) → Tells (tell lines) known known at at old new (Ok tt)
+pub tells_lines : (lines : List (List ℕ)) (known : Supply) (at : Record) (old new : Option (List ℕ)) → Appends old new (lines_text lines) → Tells (tell lines) known known at at old new (Ok tt)
 tells_lines lines known at old new p = record {
   outcome = λ bytes content st. record { lines = lines; left = content; told_is = refl; stands = st; written = p };
 }
@@ -107,8 +107,8 @@ tells_lines lines known at old new p = record {
 pub tells_line : (line : List ℕ) (known : Supply) (at : Record) (old new : Option (List ℕ)) → Appends old new line → Tells (tell (line ∷ [])) known known at at old new (Ok tt)
 tells_line line known at old new p = tells_lines (line ∷ []) known at old new (subst (Appends old new) (sym (append-nil line)) p)
 
-nothing : {A : Type 0} (told : Told A) (held : Option (List ℕ)) → Begun told held held
-nothing told held = record { lines = []; more = lines_of told; lines_are = refl; written = Appends-nil held }
+nothing : {A : Type 0} (told : Told A) (held : Option (List ℕ)) → HasBegun told held held
+nothing told held = record { lines = []; more = told_lines told; lines_are = refl; written = Appends-nil held }
 
 -- whatever was to be told
 pub tells_write_fault : {A : Type 0} (teller : Teller A) (known known' : Supply) (at at' : Record) (old new : Option (List ℕ)) → Tells teller known known' at at' old new (Err Write)

@@ -37,7 +37,7 @@ ends_in at bytes = nat_le at.left (length bytes) && (at.last || is_whole (drop a
 
 -- Of all bytes of an input these were read, and `rest` is left. Whatever follows those that were read, its data stands
 -- behind theirs, and the record ends there, as the record's place says.
-pub record Passed (bytes read : List ℕ) (known : Supply) (at : Record) (content : List ℕ) : Type 0 where
+pub record HasPassed (bytes read : List ℕ) (known : Supply) (at : Record) (content : List ℕ) : Type 0 where
   pub rest : List ℕ
   pub known_is : known.bytes ≡ Some rest
   pub whole : bytes ≡ read ++ rest
@@ -51,13 +51,13 @@ abbrev pub EndsInData : List ℕ → Type 0
 EndsInData read = (front : List ℕ) (b : ℕ) → read ≡ front ++ b ∷ [] → data_of read ≡ data_of front ++ b ∷ []
 
 -- This data of an input's first record is still to come, and nothing behind the data before it was read.
-pub record Stands (bytes : List ℕ) (known : Supply) (at : Record) (content : List ℕ) : Type 0 where
+pub record StandsBefore (bytes : List ℕ) (known : Supply) (at : Record) (content : List ℕ) : Type 0 where
   pub read : List ℕ
-  pub passed : Passed bytes read known at content
+  pub passed : HasPassed bytes read known at content
   pub ends : EndsInData read
 
 -- a byte more was read
-pub record Counts (old new : Record) : Type 0 where
+pub record CountsByte (old new : Record) : Type 0 where
   pub allowed : old.allowed ≡ new.allowed + 1
   pub left : new.left ≡ old.left
   pub last : new.last ≡ old.last

@@ -26,11 +26,11 @@ accept_stat n =
     else stop Unreadable
 
 -- a verifier of any flavor, and accept_stat
-abbrev pub verified : Reader ((ℕ × List ℕ) × ℕ)
-verified = read_pair (read_pair read_number (read_opaque max_auth_body)) read_number
+abbrev pub read_verifier_and_stat : Reader ((ℕ × List ℕ) × ℕ)
+read_verifier_and_stat = read_pair (read_pair read_number (read_opaque max_auth_body)) read_number
 
 unfoldable pub take_accepted : Teller ReplyStatus
-take_accepted = take_one verified >>= (λ (v : (ℕ × List ℕ) × ℕ). accept_stat v.1)
+take_accepted = take_one read_verifier_and_stat >>= (λ (v : (ℕ × List ℕ) × ℕ). accept_stat v.1)
 
 abbrev pub auth_error : Option AuthStat → Teller ReplyStatus
 auth_error (Some stat) = give (AuthError stat)
@@ -51,12 +51,12 @@ abbrev pub reply_stat : ℕ → Teller ReplyStatus
 reply_stat n = if n == 0 then take_accepted else if n == 1 then take_denied else stop Unreadable
 
 -- xid, REPLY, and reply_stat
-abbrev pub status_of : ℕ → ℕ → Teller ReplyHead
-status_of xid stat = reply_stat stat >>= λ status. give (record { xid = xid; status = status })
+abbrev pub head_with_status : ℕ → ℕ → Teller ReplyHead
+head_with_status xid stat = reply_stat stat >>= λ status. give (record { xid = xid; status = status })
 
 -- 1 is REPLY
 abbrev pub reply_words : ℕ → ℕ × ℕ → Teller ReplyHead
-reply_words xid w = if w.0 == 1 then status_of xid w.1 else stop Unreadable
+reply_words xid w = if w.0 == 1 then head_with_status xid w.1 else stop Unreadable
 
 unfoldable pub take_head : Teller ReplyHead
 take_head = take_one (read_pair read_number two_numbers) >>= λ (w : ℕ × (ℕ × ℕ)). reply_words w.0 w.1

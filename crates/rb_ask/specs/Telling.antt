@@ -5,7 +5,7 @@ use Rattle.std.specs.Io.KnownBytes.{Appends}
 use Rattle.rb_xdr.specs.Xdr.{Reader, Reading}
 use Rattle.rb_xdr.specs.declared.fault.XdrFault.TheVariants as faults
 use Rattle.rb_ask.specs.Sources.{Supply}
-use Rattle.rb_ask.specs.Data.{end_of, Stands}
+use Rattle.rb_ask.specs.Data.{end_of, StandsBefore}
 use Rattle.rb_ask.specs.declared.record.Record.{Record}
 use Rattle.rb_ask.specs.declared.fault.InfoFault.TheVariants.{Read, Write, Unreadable, CutOff, TooLong, Refused, TooMany, Memory}
 pub use Rattle.rb_ask.specs.declared.fault.InfoFault.{InfoFault}
@@ -59,54 +59,54 @@ take_one reads = λ end content. told_by end (reads content) content
 
 -- ---- when a program tells it
 
-abbrev pub joined : List (List ℕ) → List ℕ
-joined lines = flat_map (λ (line : List ℕ). line) lines
+abbrev pub lines_text : List (List ℕ) → List ℕ
+lines_text lines = flat_map (λ (line : List ℕ). line) lines
 
-abbrev pub lines_of : {A : Type 0} → Told A → List (List ℕ)
-lines_of (Done lines x left) = lines
-lines_of (Stop lines fault) = lines
+abbrev pub told_lines : {A : Type 0} → Told A → List (List ℕ)
+told_lines (Done lines x left) = lines
+told_lines (Stop lines fault) = lines
 
 -- all the lines were written, and the record stands behind what was read
-pub record Finished {A : Type 0} (told : Told A) (x : A) (bytes : List ℕ) (known : Supply) (at : Record) (old new : Option (List ℕ)) : Type 0 where
+pub record HasFinished {A : Type 0} (told : Told A) (x : A) (bytes : List ℕ) (known : Supply) (at : Record) (old new : Option (List ℕ)) : Type 0 where
   pub lines : List (List ℕ)
   pub left : List ℕ
   pub told_is : told ≡ Done lines x left
-  pub stands : Stands bytes known at left
-  pub written : Appends old new (joined lines)
+  pub stands : StandsBefore bytes known at left
+  pub written : Appends old new (lines_text lines)
 
 -- all the lines were written before the stop
-pub record Stopped {A : Type 0} (told : Told A) (fault : InfoFault) (old new : Option (List ℕ)) : Type 0 where
+pub record HasStopped {A : Type 0} (told : Told A) (fault : InfoFault) (old new : Option (List ℕ)) : Type 0 where
   pub lines : List (List ℕ)
   pub told_is : told ≡ Stop lines fault
-  pub written : Appends old new (joined lines)
+  pub written : Appends old new (lines_text lines)
 
 -- the first lines were written, each of them whole
-pub record Begun {A : Type 0} (told : Told A) (old new : Option (List ℕ)) : Type 0 where
+pub record HasBegun {A : Type 0} (told : Told A) (old new : Option (List ℕ)) : Type 0 where
   pub lines : List (List ℕ)
   pub more : List (List ℕ)
-  pub lines_are : lines_of told ≡ lines ++ more
-  pub written : Appends old new (joined lines)
+  pub lines_are : told_lines told ≡ lines ++ more
+  pub written : Appends old new (lines_text lines)
 
 -- What was written before a fault. After one of the writer nothing is known of it. A source that never fails has no
 -- fault of its own.
 abbrev pub AfterFault : {A : Type 0} → Told A → InfoFault → Supply → Option (List ℕ) → Option (List ℕ) → Type 0
 AfterFault told Write known old new = Unit {0}
-AfterFault told Read known old new = Begun told old new × IsTrue known.can_fail
-AfterFault told Memory known old new = Begun told old new
-AfterFault told Unreadable known old new = Stopped told Unreadable old new
-AfterFault told CutOff known old new = Stopped told CutOff old new
-AfterFault told TooLong known old new = Stopped told TooLong old new
-AfterFault told TooMany known old new = Stopped told TooMany old new
-AfterFault told (Refused head) known old new = Stopped told (Refused head) old new
+AfterFault told Read known old new = HasBegun told old new × IsTrue known.can_fail
+AfterFault told Memory known old new = HasBegun told old new
+AfterFault told Unreadable known old new = HasStopped told Unreadable old new
+AfterFault told CutOff known old new = HasStopped told CutOff old new
+AfterFault told TooLong known old new = HasStopped told TooLong old new
+AfterFault told TooMany known old new = HasStopped told TooMany old new
+AfterFault told (Refused head) known old new = HasStopped told (Refused head) old new
 
 abbrev pub Outcome : {A : Type 0} → Told A → List ℕ → Supply → Record → Option (List ℕ) → Option (List ℕ) → Result A InfoFault → Type 0
-Outcome told bytes known at old new (Ok x) = Finished told x bytes known at old new
+Outcome told bytes known at old new (Ok x) = HasFinished told x bytes known at old new
 Outcome told bytes known at old new (Err fault) = AfterFault told fault known old new
 
 -- Of each input where the record stood before the data, its outcome is what the teller says of the data. The source had
 -- `known` left, then `known'`, and the writer held `old`, then `new`.
 pub record Tells {A : Type 0} (teller : Teller A) (known known' : Supply) (at at' : Record) (old new : Option (List ℕ)) (result : Result A InfoFault) : Type 0 where
-  pub outcome : (bytes content : List ℕ) → Stands bytes known at content → Outcome (teller (end_of bytes) content) bytes known' at' old new result
+  pub outcome : (bytes content : List ℕ) → StandsBefore bytes known at content → Outcome (teller (end_of bytes) content) bytes known' at' old new result
 
 -- the same of what is not written, whatever any writer holds
 abbrev pub Takes : {A B : Type 0} → (B → Supply) → B → B → Record → Record → Teller A → Result A InfoFault → Type 0
@@ -117,5 +117,5 @@ abbrev pub Shows : {A B W : Type 0} → (B → Supply) → (W → Option (List �
 Shows left contents source source' at at' writer writer' teller result = Tells teller (left source) (left source') at at' (contents writer) (contents writer') result
 
 -- of what is written, wherever any reader stands
-abbrev pub Writes : {A W : Type 0} → (W → Option (List ℕ)) → W → W → Teller A → Result A InfoFault → Type 0
-Writes contents writer writer' teller result = (known : Supply) (at : Record) → Tells teller known known at at (contents writer) (contents writer') result
+abbrev pub WritesOnly : {A W : Type 0} → (W → Option (List ℕ)) → W → W → Teller A → Result A InfoFault → Type 0
+WritesOnly contents writer writer' teller result = (known : Supply) (at : Record) → Tells teller known known at at (contents writer) (contents writer') result

@@ -2,7 +2,7 @@
 ghost use Rattle.std.specs.Prelude.{◌≡◌, List, [], ◌∷◌, ℕ, IfOk};
 ghost use Rattle.std.specs.String.{string_bytes};
 ghost use Rattle.rb_ask.specs.Lists.{tell_items, greatest_list};
-ghost use Rattle.rb_ask.specs.Telling.{tell, Shows, Writes};
+ghost use Rattle.rb_ask.specs.Telling.{tell, Shows, WritesOnly};
 
 use crate::fault::InfoFault;
 use crate::item::take_item;
@@ -33,7 +33,7 @@ pub fn show_item<T: Xdr, S: Style<T>, W: Write>(
     item: &T,
     writer: &mut W,
 ) -> Result<(), InfoFault>
-    ensures { Writes W.contents writer.old writer.new (tell (S.text style.now item.now ∷ [])) result }
+    ensures { WritesOnly W.contents writer.old writer.new (tell (S.text style.now item.now ∷ [])) result }
 {
     let Ok(line) = style.line(alloc, item) else {
         return Err(InfoFault::Memory);

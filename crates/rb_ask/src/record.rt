@@ -1,8 +1,8 @@
 //! The data of a marked record, byte by byte (RFC 5531 section 11).
 ghost use Rattle.std.specs.Prelude.{◌≡◌, ◌+◌, ◌<◌, ◌∷◌, [], false, IfOk, IfErr, OnOk};
 ghost use Rattle.rb_xdr.specs.Xdr.{number};
-ghost use Rattle.rb_ask.specs.Data.{longest_record, Counts};
-ghost use Rattle.rb_ask.specs.Reading.{HasRead, FailsWithin, DataEnds, Passes, Gives};
+ghost use Rattle.rb_ask.specs.Data.{longest_record, CountsByte};
+ghost use Rattle.rb_ask.specs.Reading.{HasRead, FailsWithin, DataEnds, Passes, GivesByte};
 
 use crate::fault::InfoFault;
 use crate::source::ByteSource;
@@ -39,7 +39,7 @@ impl Record {
     /// Reads the next byte of the source, of whichever part of a record.
     fn raw<B: ByteSource>(&mut self, source: &mut B) -> Result<u8, InfoFault>
         ensures took { IfOk result (λ b. HasRead B.left source.old source.new (b ∷ [])) }
-        ensures counts { OnOk result (Counts self.old self.new) }
+        ensures counts { OnOk result (CountsByte self.old self.new) }
         ensures faults { IfErr result (FailsWithin 1 (B.left source.old) (B.left source.new) self.old) }
     {
         if self.allowed == 0 {
@@ -90,7 +90,7 @@ impl Record {
     /// read before it, and `Read` where the source fails.
     #[tactic(auto, using(crate::proofs::Records::byte_gives))]
     pub fn byte<B: ByteSource>(&mut self, source: &mut B) -> Result<u8, InfoFault>
-        ensures gives { IfOk result (Gives B.left source.old source.new self.old self.new) }
+        ensures gives { IfOk result (GivesByte B.left source.old source.new self.old self.new) }
         ensures allowed { OnOk result (self.new.allowed < self.old.allowed) }
         ensures faults { IfErr result (DataEnds (B.left source.old) (B.left source.new) self.old) }
     {

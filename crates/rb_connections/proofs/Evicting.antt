@@ -10,22 +10,22 @@ use Rattle.rb_xdr.specs.Kept.{Kept}
 use Rattle.rb_xdr.specs.Pool.{Pool, value_at, HasDistinctKeys}
 use Rattle.rb_model.specs.State.{Phase, Connection, Connections}
 use Rattle.rb_model.specs.State.Phase.{Lost}
-use Rattle.rb_model.specs.Losses.{began_in, began_before, evicted, evicting}
+use Rattle.rb_model.specs.Losses.{stamp_in, began_before, evict_early, evict}
 use Rattle.rb_connections.specs.declared.slot.Slot.{Slot}
 use Rattle.rb_connections.specs.declared.slot.Buffers.{Buffers}
 use Rattle.rb_connections.specs.declared.slot.Stage.{Stage}
 use Rattle.rb_connections.specs.declared.slot.Stage.TheVariants as stages
-use Rattle.rb_connections.specs.StandsFor.{Source, Table, StandsForPhase, StandsForConnection, StandsForConnections, charge, held_in, IsWithin, stamp_in}
+use Rattle.rb_connections.specs.StandsFor.{Source, Table, StandsForPhase, StandsForConnection, StandsForConnections, charge, held_in, IsWithin, stamp_of_rest}
 use Rattle.rb_connections.specs.Slots.{IsTable, StaysTable, HasBuffers, AreNumbered, is_numbered, is_idle_stage}
 use Rattle.rb_connections.specs.Awaits.{is_free_slot, is_free, is_idle_slot, has_idle, NoneIsFreed}
-use Rattle.rb_connections.specs.Listings.{began_stage, slot_began, SlotListsOn, IsOldest, earlier, IsEarliest, began_early, evicted_slot, with_evicted}
+use Rattle.rb_connections.specs.Listings.{stamp_of_stage, stamp_of_slot, SlotListsOn, IsOldest, earlier_of, IsEarliest, began_early, evicted_slot, with_evicted}
 use Rattle.rb_connections.proofs.Phases.{by_phase}
 
 -- ---- one slot
 
-pub began_alike : (source : Source) (stage : Stage) (buffer window : Kept) (phase : Phase) → StandsForPhase source stage buffer window phase → began_stage stage ≡ began_in phase
+pub began_alike : (source : Source) (stage : Stage) (buffer window : Kept) (phase : Phase) → StandsForPhase source stage buffer window phase → stamp_of_stage stage ≡ stamp_in phase
 began_alike source stage buffer window phase h =
-    by_phase source buffer window (λ s p. began_stage s ≡ began_in p) (λ z. refl) (λ reader fed z. refl) (λ giving o z. sym z.began) (λ z. refl) refl stage phase h
+    by_phase source buffer window (λ s p. stamp_of_stage s ≡ stamp_in p) (λ z. refl) (λ reader fed z. refl) (λ giving o z. sym z.stamp) (λ z. refl) refl stage phase h
 
 -- before the earliest change is before all of them
 before_all : (changes : List ℕ) (earliest n : ℕ) → IsEarliest changes earliest → list_all (λ later. nat_lt n later) changes ≡ nat_lt n earliest
@@ -53,21 +53,21 @@ before_earliest (change ∷ changes) earliest None e = refl
 before_earliest (change ∷ changes) earliest (Some n) e = before_all (change ∷ changes) earliest n e
 
 pub evicted_stands : (source : Source) (changes : List ℕ) (earliest : ℕ) (slot : Slot) (c : Connection) → IsEarliest changes earliest → StandsForConnection source slot c
-    → StandsForConnection source (evicted_slot earliest slot) (evicted changes c)
-unfolding evicted
+    → StandsForConnection source (evicted_slot earliest slot) (evict_early changes c)
+unfolding evict_early
 evicted_stands source changes earliest slot c e h =
-    let same : began_before changes (began_in c.phase) ≡ began_early earliest (slot_began slot) =
-    before_earliest changes earliest (began_in c.phase) e ∙ ap (began_early earliest) (sym (began_alike source slot.stage slot.buffer slot.window c.phase h.phase)) in
-    rw same (by_test (began_early earliest (slot_began slot)))
+    let same : began_before changes (stamp_in c.phase) ≡ began_early earliest (stamp_of_slot slot) =
+    before_earliest changes earliest (stamp_in c.phase) e ∙ ap (began_early earliest) (sym (began_alike source slot.stage slot.buffer slot.window c.phase h.phase)) in
+    rw same (by_test (began_early earliest (stamp_of_slot slot)))
   where
     by_test : (b : Bool) → StandsForConnection source (cond b (record slot { stage = stages.Lost }) slot) (cond b (record c { phase = Lost }) c)
     by_test true = record { number = h.number; peer = h.peer; since = h.since; phase = tt }
     by_test false = h
 
-pub marked_is : (earliest : ℕ) (slot gone : Slot) → gone ≡ slot → began_early earliest (slot_began slot) ≡ true → record gone { stage = stages.Lost } ≡ evicted_slot earliest slot
+pub marked_is : (earliest : ℕ) (slot gone : Slot) → gone ≡ slot → began_early earliest (stamp_of_slot slot) ≡ true → record gone { stage = stages.Lost } ≡ evicted_slot earliest slot
 marked_is earliest slot gone same early = rw (same, early) refl
 
-pub not_marked : (earliest : ℕ) (slot : Slot) → began_early earliest (slot_began slot) ≡ false → evicted_slot earliest slot ≡ slot
+pub not_marked : (earliest : ℕ) (slot : Slot) → began_early earliest (stamp_of_slot slot) ≡ false → evicted_slot earliest slot ≡ slot
 not_marked earliest slot early = rw early refl
 
 -- ---- all of them
@@ -76,14 +76,14 @@ abbrev pub all_evicted : ℕ → List (ℕ × Slot) → List (ℕ × Slot)
 all_evicted earliest es = map (λ e. (e.0, evicted_slot earliest e.1)) es
 
 all_stand : (source : Source) (changes : List ℕ) (earliest : ℕ) → IsEarliest changes earliest → (es : List (ℕ × Slot)) (all : List Connection) → AllZip (StandsForConnection source) (values_of es) all
-    → AllZip (StandsForConnection source) (values_of (all_evicted earliest es)) (map (evicted changes) all)
+    → AllZip (StandsForConnection source) (values_of (all_evicted earliest es)) (map (evict_early changes) all)
 all_stand source changes earliest e [] [] z = tt
 all_stand source changes earliest e [] (c ∷ all) z = absurd z
 all_stand source changes earliest e (s ∷ es) [] z = absurd z
 all_stand source changes earliest e (s ∷ es) (c ∷ all) z = (evicted_stands source changes earliest s.1 c e z.0, all_stand source changes earliest e es all z.1)
 
 pub table_evicts : (source : Source) (changes : List ℕ) (earliest : ℕ) (table : Table) (c : Connections) → IsEarliest changes earliest → StandsForConnections source table c
-    → StandsForConnections source (record table { slots = all_evicted earliest table.slots }) (evicting changes c)
+    → StandsForConnections source (record table { slots = all_evicted earliest table.slots }) (evict changes c)
 table_evicts source changes earliest table c e z = record { all = all_stand source changes earliest e table.slots c.all z.all; next = z.next }
 
 module _ (P : Slot → Type 0) (earliest : ℕ) (keeps : (slot : Slot) → P slot → P (evicted_slot earliest slot)) where
@@ -92,21 +92,21 @@ module _ (P : Slot → Type 0) (earliest : ℕ) (keeps : (slot : Slot) → P slo
   all_keep (e ∷ es) h = All-cons P _ _ (keeps e.1 (All-head P e.1 (values_of es) h)) (all_keep es (All-tail P e.1 (values_of es) h))
 
 pub lists_evicted : (source : Source) (earliest : ℕ) (slot : Slot) → SlotListsOn source slot → SlotListsOn source (evicted_slot earliest slot)
-lists_evicted source earliest slot told = by_test (began_early earliest (slot_began slot))
+lists_evicted source earliest slot told = by_test (began_early earliest (stamp_of_slot slot))
   where
     by_test : (b : Bool) → SlotListsOn source (cond b (record slot { stage = stages.Lost }) slot)
     by_test true = tt
     by_test false = told
 
 buffers_evicted : (tie earliest : ℕ) (slot : Slot) → HasBuffers tie slot → HasBuffers tie (evicted_slot earliest slot)
-buffers_evicted tie earliest slot h = by_test (began_early earliest (slot_began slot))
+buffers_evicted tie earliest slot h = by_test (began_early earliest (stamp_of_slot slot))
   where
     by_test : (b : Bool) → HasBuffers tie (cond b (record slot { stage = stages.Lost }) slot)
     by_test true = h
     by_test false = h
 
 charge_evicted : (earliest : ℕ) (slot : Slot) → charge (evicted_slot earliest slot) ≡ charge slot
-charge_evicted earliest slot = by_test (began_early earliest (slot_began slot))
+charge_evicted earliest slot = by_test (began_early earliest (stamp_of_slot slot))
   where
     by_test : (b : Bool) → charge (cond b (record slot { stage = stages.Lost }) slot) ≡ charge slot
     by_test true = refl
@@ -127,7 +127,7 @@ stays_evicted earliest view now is =
     rw (← is) (record { conns = refl; tie = refl; within = λ within. all_keep IsWithin earliest (within_evicted earliest) view.slots within })
 
 number_evicted : (earliest : ℕ) (slot : Slot) → (evicted_slot earliest slot).number ≡ slot.number
-number_evicted earliest slot = by_test (began_early earliest (slot_began slot))
+number_evicted earliest slot = by_test (began_early earliest (stamp_of_slot slot))
   where
     by_test : (b : Bool) → (cond b (record slot { stage = stages.Lost }) slot).number ≡ slot.number
     by_test true = refl
@@ -175,16 +175,16 @@ table_evicted slots spare given conns held earliest t = record {
 }
 
 -- those that are left began later
-pub later_evicted : (earliest : ℕ) (slots : List (ℕ × Slot)) → All (λ stamp. earliest ≤ stamp) (filter_map slot_began (values_of (all_evicted earliest slots)))
+pub later_evicted : (earliest : ℕ) (slots : List (ℕ × Slot)) → All (λ stamp. earliest ≤ stamp) (filter_map stamp_of_slot (values_of (all_evicted earliest slots)))
 later_evicted earliest [] = All-nil (λ stamp. earliest ≤ stamp)
-later_evicted earliest (e ∷ es) = by_began (slot_began e.1) refl (later_evicted earliest es)
+later_evicted earliest (e ∷ es) = by_began (stamp_of_slot e.1) refl (later_evicted earliest es)
   where
-    by_began : (began : Option ℕ) → slot_began e.1 ≡ began → All (λ stamp. earliest ≤ stamp) (filter_map slot_began (values_of (all_evicted earliest es)))
-        → All (λ stamp. earliest ≤ stamp) (filter_map slot_began (values_of (all_evicted earliest (e ∷ es))))
+    by_began : (began : Option ℕ) → stamp_of_slot e.1 ≡ began → All (λ stamp. earliest ≤ stamp) (filter_map stamp_of_slot (values_of (all_evicted earliest es)))
+        → All (λ stamp. earliest ≤ stamp) (filter_map stamp_of_slot (values_of (all_evicted earliest (e ∷ es))))
     by_began None b later = rw (b, b) later
     by_began (Some n) b later = by_test (nat_lt n earliest) refl
       where
-        by_test : (t : Bool) → nat_lt n earliest ≡ t → All (λ stamp. earliest ≤ stamp) (filter_map slot_began (values_of (all_evicted earliest (e ∷ es))))
+        by_test : (t : Bool) → nat_lt n earliest ≡ t → All (λ stamp. earliest ≤ stamp) (filter_map stamp_of_slot (values_of (all_evicted earliest (e ∷ es))))
         by_test true t = rw (b, t) later
         by_test false t = rw (b, t, b) (All-cons (λ stamp. earliest ≤ stamp) n _ (ltb-false n earliest t) later)
 
@@ -223,9 +223,9 @@ free_alike earliest id slot = by_stage slot.stage refl
     by_stage : (stage : Stage) → slot.stage ≡ stage → is_free_slot id (evicted_slot earliest slot) ≡ is_free_slot id slot
     by_stage stages.Idle is = rw is refl
     by_stage (stages.Reading reader) is = rw is refl
-    by_stage (stages.Giving giving) is = by_test (began_early earliest (stamp_in giving.rest)) refl
+    by_stage (stages.Giving giving) is = by_test (began_early earliest (stamp_of_rest giving.rest)) refl
       where
-        by_test : (b : Bool) → began_early earliest (stamp_in giving.rest) ≡ b → is_free_slot id (evicted_slot earliest slot) ≡ is_free_slot id slot
+        by_test : (b : Bool) → began_early earliest (stamp_of_rest giving.rest) ≡ b → is_free_slot id (evicted_slot earliest slot) ≡ is_free_slot id slot
         by_test true t = rw (is, t) refl
         by_test false t = rw (is, t) refl
     by_stage stages.Awaiting is = rw is refl
@@ -257,19 +257,19 @@ least_of_two a b ns (Some k) h =
 
 abbrev pub oldest_from : Option ℕ → List Slot → Option ℕ
 oldest_from oldest [] = oldest
-oldest_from oldest (slot ∷ slots) = oldest_from (earlier oldest (slot_began slot)) slots
+oldest_from oldest (slot ∷ slots) = oldest_from (earlier_of oldest (stamp_of_slot slot)) slots
 
-oldest_is : (oldest : Option ℕ) (slots : List Slot) → IsOldest (joined oldest (filter_map slot_began slots)) (oldest_from oldest slots)
+oldest_is : (oldest : Option ℕ) (slots : List Slot) → IsOldest (joined oldest (filter_map stamp_of_slot slots)) (oldest_from oldest slots)
 oldest_is None [] = refl
 oldest_is (Some n) [] = ((0, omega arith, refl), All-cons (λ m. n ≤ m) n [] (omega arith) (All-nil (λ m. n ≤ m)))
-oldest_is oldest (slot ∷ slots) = by_began oldest (slot_began slot) refl (λ o. oldest_is o slots)
+oldest_is oldest (slot ∷ slots) = by_began oldest (stamp_of_slot slot) refl (λ o. oldest_is o slots)
   where
-    by_began : (oldest : Option ℕ) (began : Option ℕ) → slot_began slot ≡ began → ((o : Option ℕ) → IsOldest (joined o (filter_map slot_began slots)) (oldest_from o slots))
-        → IsOldest (joined oldest (filter_map slot_began (slot ∷ slots))) (oldest_from oldest (slot ∷ slots))
+    by_began : (oldest : Option ℕ) (began : Option ℕ) → stamp_of_slot slot ≡ began → ((o : Option ℕ) → IsOldest (joined o (filter_map stamp_of_slot slots)) (oldest_from o slots))
+        → IsOldest (joined oldest (filter_map stamp_of_slot (slot ∷ slots))) (oldest_from oldest (slot ∷ slots))
     by_began None None b further = rw b (further None)
     by_began None (Some m) b further = rw b (further (Some m))
     by_began (Some n) None b further = rw b (further (Some n))
     by_began (Some n) (Some m) b further = rw b (least_of_two n m _ _ (further (Some (min n m))))
 
-pub oldest_found : (slots : List Slot) (oldest : Option ℕ) → oldest ≡ oldest_from None slots → IsOldest (filter_map slot_began slots) oldest
-oldest_found slots oldest is = subst (IsOldest (filter_map slot_began slots)) (sym is) (oldest_is None slots)
+pub oldest_found : (slots : List Slot) (oldest : Option ℕ) → oldest ≡ oldest_from None slots → IsOldest (filter_map stamp_of_slot slots) oldest
+oldest_found slots oldest is = subst (IsOldest (filter_map stamp_of_slot slots)) (sym is) (oldest_is None slots)

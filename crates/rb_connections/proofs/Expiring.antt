@@ -7,7 +7,7 @@ use Rattle.rb_xdr.specs.Pool.{value_at, with_value, HasDistinctKeys}
 use Rattle.rb_forward.proofs.Tables.{some_is, is_first}
 use Rattle.rb_model.specs.State.{Connection}
 use Rattle.rb_model.specs.Connections.{has_number}
-use Rattle.rb_model.specs.Losses.{has_come, deadline, first_due, lost, expiring}
+use Rattle.rb_model.specs.Losses.{has_come, deadline, first_due, lose, expire_first}
 use Rattle.rb_model.proofs.Expiring.{AreApart, due-changed}
 use Rattle.rb_connections.specs.declared.slot.Slot.{Slot}
 use Rattle.rb_connections.specs.declared.slot.Stage.{Stage}
@@ -31,26 +31,26 @@ abbrev first-number : Option Connection → Option ℕ
 first-number o = option_map (λ (x : Connection). x.number) o
 
 module _ (source : Source) (clock : ℕ) (table : Table) where
-  pub none_expires : option_map (λ e. e.0) (wanted_slot (wanted.Due clock) table.slots) ≡ None → Acts (StandsForConnections source) (expiring clock) table table None
-  unfolding expiring first_due is_wanted
+  pub none_expires : option_map (λ e. e.0) (wanted_slot (wanted.Due clock) table.slots) ≡ None → Acts (StandsForConnections source) (expire_first clock) table table None
+  unfolding expire_first first_due is_wanted
   none_expires h = record {
     gives = λ c z. rw (no_slot source (wanted.Due clock) table.slots c.all z.all h) refl;
     stands = λ c z. rw (no_slot source (wanted.Due clock) table.slots c.all z.all h) z;
   }
 
-  pub one_expires : (k : ℕ) (slot new : Slot) (x : ℕ) → HasDistinctKeys table.slots → AreNumbered table.given (values_of table.slots)
+  pub one_expires : (k : ℕ) (slot new : Slot) (x : ℕ) → HasDistinctKeys table.slots → AreNumbered table.last_number (values_of table.slots)
       → option_map (λ e. e.0) (wanted_slot (wanted.Due clock) table.slots) ≡ Some k → value_at table.slots k ≡ Some slot
-      → new ≡ record slot { stage = stages.Lost } → x ≡ slot.number → Acts (StandsForConnections source) (expiring clock) table (record table { slots = with_value table.slots k new }) (Some x)
-  unfolding expiring first_due is_wanted wanted_slot
+      → new ≡ record slot { stage = stages.Lost } → x ≡ slot.number → Acts (StandsForConnections source) (expire_first clock) table (record table { slots = with_value table.slots k new }) (Some x)
+  unfolding expire_first first_due is_wanted wanted_slot
   one_expires k slot new x d n h v becomes number = record {
     gives = λ c z.
         let l = locate (StandsForConnection source) (is_wanted_slot (wanted.Due clock)) (is_wanted (wanted.Due clock)) (wanted_alike source (wanted.Due clock)) table.slots c.all k slot d z.all h v in
         ap Some (number ∙ l.related.number) ∙ sym (ap first-number l.found);
     stands = λ c z.
         let l = locate (StandsForConnection source) (is_wanted_slot (wanted.Due clock)) (is_wanted (wanted.Due clock)) (wanted_alike source (wanted.Due clock)) table.slots c.all k slot d z.all h v in
-        let same = due-changed clock lost c.all l.value (apart source table.given (values_of table.slots) c.all z.all n) l.found in
+        let same = due-changed clock lose c.all l.value (apart source table.last_number (values_of table.slots) c.all z.all n) l.found in
         rw l.found (record {
-          all = rw same (l.changed new lost (rw becomes (record { number = l.related.number; peer = l.related.peer; since = l.related.since; phase = tt })));
+          all = rw same (l.changed new lose (rw becomes (record { number = l.related.number; peer = l.related.peer; since = l.related.since; phase = tt })));
           next = z.next;
         });
   }

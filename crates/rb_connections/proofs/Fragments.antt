@@ -5,7 +5,7 @@ use Rattle.std.proofs.lemmas.Slice.{take-put_mid}
 use Rattle.std.proofs.lemmas.List.{length-take, length-drop, take_at, drop_at, take_all, take_min, drop-drop, drop_all, drop-take}
 use Rattle.std.proofs.lemmas.Bool.{cases_lt, le-leb, lt-leb}
 use Rattle.rb_xdr.specs.Kept.{Kept}
-use Rattle.rb_rpc.specs.Records.{fragment_header, fragment_size, marked}
+use Rattle.rb_rpc.specs.Records.{fragment_header, fragment_size, marked_reply}
 use Rattle.rb_rpc.proofs.Markings.{length-header}
 use Rattle.rb_model.specs.State.{Owed}
 use Rattle.rb_model.specs.Connections.{longest_fragment, pending_of, owed_of}
@@ -16,8 +16,8 @@ use borrow.Rule.Slice.PartMut.{put_mid}
 -- ---- its fragments
 
 -- behind k whole fragments stands what follows their data, marked
-behind : (k a b : ℕ) (reply : List ℕ) → a ≡ 1028 * k → b ≡ 1024 * k → a < length (marked reply)
-    → (drop a (marked reply) ≡ marked (drop b reply)) × (b ≤ length reply)
+behind : (k a b : ℕ) (reply : List ℕ) → a ≡ 1028 * k → b ≡ 1024 * k → a < length (marked_reply reply)
+    → (drop a (marked_reply reply) ≡ marked_reply (drop b reply)) × (b ≤ length reply)
 behind zero a b reply is_a is_b within =
     let none : a ≡ 0 = omega (arith, is_a) in
     let no : b ≡ 0 = omega (arith, is_b) in
@@ -26,17 +26,17 @@ behind (suc k) a b reply is_a is_b within =
     elim (cases_lt fragment_size (length reply)) [
       | inl long ↦
           let front : List ℕ = fragment_header fragment_size false ++ take fragment_size reply in
-          let more : List ℕ = marked (drop fragment_size reply) in
+          let more : List ℕ = marked_reply (drop fragment_size reply) in
           let a_is : a ≡ 1028 + 1028 * k = omega (arith, is_a) in
           let b_is : b ≡ fragment_size + 1024 * k = omega (arith, is_b) in
           let rest = behind k (1028 * k) (1024 * k) (drop fragment_size reply) refl refl (omega (arith, a_is, within, length-long reply long)) in (
-            ap (λ (n : ℕ). drop n (marked reply)) a_is
-                ∙ sym (drop-drop (1028 * k) 1028 (marked reply))
+            ap (λ (n : ℕ). drop n (marked_reply reply)) a_is
+                ∙ sym (drop-drop (1028 * k) 1028 (marked_reply reply))
                 ∙ ap (λ (xs : List ℕ). drop (1028 * k) (drop 1028 xs)) (marked-long reply long)
                 ∙ ap (λ (xs : List ℕ). drop (1028 * k) xs) (drop_at front more 1028 (length-front reply long))
                 ∙ rest.0
-                ∙ ap (λ (xs : List ℕ). marked xs) (drop-drop (1024 * k) fragment_size reply)
-                ∙ ap (λ (n : ℕ). marked (drop n reply)) (sym b_is),
+                ∙ ap (λ (xs : List ℕ). marked_reply xs) (drop-drop (1024 * k) fragment_size reply)
+                ∙ ap (λ (n : ℕ). marked_reply (drop n reply)) (sym b_is),
             omega (arith, rest.1, b_is, long, length-drop fragment_size reply),
           )
       | inr few ↦ absurd (omega (arith, is_a, within, few, length-short reply few))
@@ -44,7 +44,7 @@ behind (suc k) a b reply is_a is_b within =
 
 -- a fragment with this data is the first one of what is not shown yet, where it has the first 1,024 bytes of that
 pub part_shown : (rest part : List ℕ) (last : Bool) → part ≡ take 1024 rest → last ≡ leb (length rest) 1024
-    → fragment_header (length part) last ++ part ≡ take longest_fragment (marked rest)
+    → fragment_header (length part) last ++ part ≡ take longest_fragment (marked_reply rest)
 part_shown rest part last is last_is =
     elim (cases_lt fragment_size (length rest)) [
       | inl long ↦
@@ -52,13 +52,13 @@ part_shown rest part last is last_is =
           let flag : last ≡ false = last_is ∙ lt-leb (length rest) 1024 (omega (arith, long)) in
           rw (full, flag)
           (ap (λ (xs : List ℕ). fragment_header fragment_size false ++ xs) is
-          ∙ sym (ap (λ (xs : List ℕ). take longest_fragment xs) (marked-long rest long) ∙ take_at (fragment_header fragment_size false ++ take fragment_size rest) (marked (drop fragment_size rest)) longest_fragment (length-front rest long ∙ sym longest_is)))
+          ∙ sym (ap (λ (xs : List ℕ). take longest_fragment xs) (marked-long rest long) ∙ take_at (fragment_header fragment_size false ++ take fragment_size rest) (marked_reply (drop fragment_size rest)) longest_fragment (length-front rest long ∙ sym longest_is)))
       | inr few ↦
           let whole : part ≡ rest = is ∙ take_all 1024 rest (omega (arith, few)) in
           let flag : last ≡ true = last_is ∙ le-leb (length rest) 1024 (omega (arith, few)) in
           rw (flag, whole)
           (sym (marked-short rest few)
-          ∙ sym (take_all longest_fragment (marked rest) (omega (arith, longest_is, few, length-short rest few))))
+          ∙ sym (take_all longest_fragment (marked_reply rest) (omega (arith, longest_is, few, length-short rest few))))
     ]
 
 -- so the data that begins at a place of a buffer, and so what is behind it
@@ -80,12 +80,12 @@ held_part buffer start left count end left_is count_is end_is =
 
 -- ---- where the giving stands
 
-pub window_at : (reply : List ℕ) (o : Owed) → o.marked ≡ marked reply → o.given < length o.marked
-    → window o ≡ take longest_fragment (marked (drop (1024 * (o.given / 1028)) reply))
+pub window_at : (reply : List ℕ) (o : Owed) → o.marked ≡ marked_reply reply → o.given < length o.marked
+    → window o ≡ take longest_fragment (marked_reply (drop (1024 * (o.given / 1028)) reply))
 unfolding window
 window_at reply o is within =
     let k : ℕ = o.given / 1028 in
-    let same : length o.marked ≡ length (marked reply) = ap (λ (xs : List ℕ). length xs) is in
+    let same : length o.marked ≡ length (marked_reply reply) = ap (λ (xs : List ℕ). length xs) is in
     ap (λ (n : ℕ). take longest_fragment (drop (n * (o.given / n)) o.marked)) longest_is
     ∙ ap (λ (xs : List ℕ). take longest_fragment (drop (1028 * k) xs)) is
     ∙ ap (λ (xs : List ℕ). take longest_fragment xs) (behind k (1028 * k) (1024 * k) reply refl refl (omega (arith, within, same))).0
@@ -95,20 +95,20 @@ record Place (reply shown : List ℕ) (given : ℕ) : Type 0 where
   begins : 1024 * (given / 1028) ≤ length reply
   inside : given % 1028 < length shown
   few : length shown ≤ 1028
-  ends : ((1024 * (given / 1028) + 1024 < length reply) × (length shown ≡ 1028) × (1028 * (given / 1028) + 1028 < length (marked reply)))
-      ⊎ ((length reply ≤ 1024 * (given / 1028) + 1024) × (length (marked reply) ≡ 1028 * (given / 1028) + length shown))
+  ends : ((1024 * (given / 1028) + 1024 < length reply) × (length shown ≡ 1028) × (1028 * (given / 1028) + 1028 < length (marked_reply reply)))
+      ⊎ ((length reply ≤ 1024 * (given / 1028) + 1024) × (length (marked_reply reply) ≡ 1028 * (given / 1028) + length shown))
 
 place_of : (reply : List ℕ) (shown : Kept) (o : Owed) → IsShown reply shown o → Place reply shown.bytes o.given
 place_of reply shown o g =
     let k : ℕ = o.given / 1028 in
     let rest : List ℕ = drop (1024 * k) reply in
-    let same : length o.marked ≡ length (marked reply) = ap (λ (xs : List ℕ). length xs) g.marked in
-    let within : o.given < length (marked reply) = omega (arith, g.owes, same) in
+    let same : length o.marked ≡ length (marked_reply reply) = ap (λ (xs : List ℕ). length xs) g.marked in
+    let within : o.given < length (marked_reply reply) = omega (arith, g.owes, same) in
     let at = behind k (1028 * k) (1024 * k) reply refl refl (omega (arith, within)) in
-    let left : length (marked reply) - 1028 * k ≡ length (marked rest) = sym (length-drop (1028 * k) (marked reply)) ∙ ap (λ (xs : List ℕ). length xs) at.0 in
-    let shown_at : shown.bytes ≡ take longest_fragment (marked rest) =
+    let left : length (marked_reply reply) - 1028 * k ≡ length (marked_reply rest) = sym (length-drop (1028 * k) (marked_reply reply)) ∙ ap (λ (xs : List ℕ). length xs) at.0 in
+    let shown_at : shown.bytes ≡ take longest_fragment (marked_reply rest) =
     g.shown_is ∙ window_at reply o g.marked g.owes in
-    let size : length shown.bytes ≡ min 1028 (length (marked rest)) = ap (λ (xs : List ℕ). length xs) shown_at ∙ length-take longest_fragment (marked rest) ∙ ap (λ (n : ℕ). min n (length (marked rest))) longest_is in
+    let size : length shown.bytes ≡ min 1028 (length (marked_reply rest)) = ap (λ (xs : List ℕ). length xs) shown_at ∙ length-take longest_fragment (marked_reply rest) ∙ ap (λ (n : ℕ). min n (length (marked_reply rest))) longest_is in
     let rest_size : length rest ≡ length reply - 1024 * k = length-drop (1024 * k) reply in
     let begins : 1024 * k ≤ length reply = at.1 in
     elim (cases_lt fragment_size (length rest)) [
@@ -146,7 +146,7 @@ pending_shown reply shown o g =
 
 -- ---- the giving begins, stays in its fragment, moves to the next one, ends
 
-pub giving_begins : (reply : List ℕ) (shown : Kept) (began : Option ℕ) → shown.bytes ≡ take longest_fragment (marked (drop 0 reply)) → shown.cap ≡ longest_fragment → IsShown reply shown (owed_of reply began 0)
+pub giving_begins : (reply : List ℕ) (shown : Kept) (began : Option ℕ) → shown.bytes ≡ take longest_fragment (marked_reply (drop 0 reply)) → shown.cap ≡ longest_fragment → IsShown reply shown (owed_of reply began 0)
 giving_begins reply shown began is cap = record {
   marked = refl;
   owes = omega (arith, some-marked reply);
@@ -158,7 +158,7 @@ pub giving_stays : (reply : List ℕ) (shown : Kept) (n : ℕ) (o : Owed) → Is
     → IsShown reply shown (record o { given = o.given + n })
 giving_stays reply shown n o g less =
     let p = place_of reply shown o g in
-    let same : length o.marked ≡ length (marked reply) = ap (λ (xs : List ℕ). length xs) g.marked in
+    let same : length o.marked ≡ length (marked_reply reply) = ap (λ (xs : List ℕ). length xs) g.marked in
     let small : o.given % 1028 + n < length shown.bytes = omega (arith, less, ap (λ (m : ℕ). o.given % m) longest_is) in
     let stays : o.given / 1028 ≡ (o.given + n) / 1028 = omega (arith, small, p.few) in
     let within : o.given + n < length o.marked =
@@ -166,34 +166,34 @@ giving_stays reply shown n o g less =
     record {
       marked = g.marked;
       owes = within;
-      shown_is = g.shown_is ∙ window_at reply o g.marked g.owes ∙ ap (λ (k : ℕ). take longest_fragment (marked (drop (1024 * k) reply))) stays
+      shown_is = g.shown_is ∙ window_at reply o g.marked g.owes ∙ ap (λ (k : ℕ). take longest_fragment (marked_reply (drop (1024 * k) reply))) stays
           ∙ sym (window_at reply (record o { given = o.given + n }) g.marked within);
       cap = g.cap;
     }
 
 pub giving_moves : (reply : List ℕ) (shown next : Kept) (n : ℕ) (o : Owed) → IsShown reply shown o → o.given % longest_fragment + n ≡ length shown.bytes
     → (o.given / longest_fragment + 1) * 1024 < length reply
-    → next.bytes ≡ take longest_fragment (marked (drop ((o.given / longest_fragment + 1) * 1024) reply)) → next.cap ≡ longest_fragment
+    → next.bytes ≡ take longest_fragment (marked_reply (drop ((o.given / longest_fragment + 1) * 1024) reply)) → next.cap ≡ longest_fragment
     → IsShown reply next (record o { given = o.given + n })
 giving_moves reply shown next n o g full more is cap =
     let p = place_of reply shown o g in
-    let same : length o.marked ≡ length (marked reply) = ap (λ (xs : List ℕ). length xs) g.marked in
+    let same : length o.marked ≡ length (marked_reply reply) = ap (λ (xs : List ℕ). length xs) g.marked in
     let k_is : o.given / longest_fragment ≡ o.given / 1028 = ap (λ (m : ℕ). o.given / m) longest_is in
     let used : o.given % 1028 + n ≡ length shown.bytes = omega (arith, full, ap (λ (m : ℕ). o.given % m) longest_is) in
-    let whole : (length shown.bytes ≡ 1028) × (1028 * (o.given / 1028) + 1028 < length (marked reply)) =
+    let whole : (length shown.bytes ≡ 1028) × (1028 * (o.given / 1028) + 1028 < length (marked_reply reply)) =
     elim p.ends [ inl there ↦ (there.1, there.2) | inr none ↦ absurd (omega (arith, none.0, more, k_is)) ] in
     let within : o.given + n < length o.marked = omega (arith, used, whole.0, whole.1, same) in
     let start : (o.given / longest_fragment + 1) * 1024 ≡ 1024 * ((o.given + n) / 1028) = omega (arith, used, whole.0, k_is) in
     record {
       marked = g.marked;
       owes = within;
-      shown_is = is ∙ ap (λ (m : ℕ). take longest_fragment (marked (drop m reply))) start ∙ sym (window_at reply (record o { given = o.given + n }) g.marked within);
+      shown_is = is ∙ ap (λ (m : ℕ). take longest_fragment (marked_reply (drop m reply))) start ∙ sym (window_at reply (record o { given = o.given + n }) g.marked within);
       cap = cap;
     }
 
 pub giving_ends : (reply : List ℕ) (shown : Kept) (n : ℕ) (o : Owed) → IsShown reply shown o → o.given % longest_fragment + n ≡ length shown.bytes
     → length reply ≤ (o.given / longest_fragment + 1) * 1024
-    → o.given + n ≡ length (marked reply)
+    → o.given + n ≡ length (marked_reply reply)
 giving_ends reply shown n o g full none =
     let p = place_of reply shown o g in
     let k_is : o.given / longest_fragment ≡ o.given / 1028 = ap (λ (m : ℕ). o.given / m) longest_is in
@@ -219,7 +219,7 @@ fragment_full reply shown o g more =
 
 -- the header and the bytes of a reply that are written one behind the other
 pub written_whole : (reply header lent room : List ℕ) (n : ℕ) → length reply ≤ fragment_size → n ≡ length reply → header ≡ fragment_header n true → lent ≡ slice_range reply 0 n → 4 ≤ length room
-    → take (4 + n) (put_mid 4 (4 + n - 4) (header ++ drop 4 room) lent) ≡ marked reply
+    → take (4 + n) (put_mid 4 (4 + n - 4) (header ++ drop 4 room) lent) ≡ marked_reply reply
 written_whole reply header lent room n few all is_header is_lent fits =
     let whole : lent ≡ reply = is_lent ∙ ap (λ (k : ℕ). take k reply) (omega (arith, all)) ∙ take_all (length reply) reply (omega arith) in
     let four : length header ≡ 4 = ap (λ (xs : List ℕ). length xs) is_header ∙ length-header n true in

@@ -13,11 +13,11 @@ use Rattle.rb_connections.specs.declared.slot.Slot.{Slot}
 use Rattle.rb_connections.specs.declared.slot.Stage.{Stage}
 use Rattle.rb_connections.specs.declared.slot.Stage.TheVariants as stages
 use Rattle.rb_connections.specs.declared.slot.Wanted.TheVariants as wanted
-use Rattle.rb_connections.specs.declared.slot.Heard.{Heard}
+use Rattle.rb_connections.specs.declared.slot.EndedRecord.{EndedRecord}
 use Rattle.rb_connections.specs.declared.slot.Received.{Received}
 use Rattle.rb_connections.specs.StandsFor.{Table}
 use Rattle.rb_connections.specs.Slots.{AreNumbered, is_numbered, is_idle_stage, is_lost_stage, is_wanted_slot, wanted_slot}
-use Rattle.rb_connections.specs.Awaits.{is_awaiting_stage, is_free_slot, is_free, is_idle_slot, has_idle, is_not_idle_since, IsIdleIfThere, NoneIsFreed, OnlyIsFreed, HearsSlot, HeardFrom, HearsFree}
+use Rattle.rb_connections.specs.Awaits.{is_awaiting_stage, is_free_slot, is_free, is_idle_slot, has_idle, is_not_idle_since, IsIdleIfThere, NoneIsFreed, OnlyIsFreed, EndsOnSlot, EndedOn, EndsOnFree}
 use Rattle.rb_connections.proofs.Slots.{any-without}
 
 -- ---- whether any slot is so
@@ -117,9 +117,9 @@ free-alike : (id : ℕ) (old new : Slot) → new.number ≡ old.number → is_aw
 free-alike id old new number stage none = rw (number, stage) none
 
 module _ (table : Table) where
-  parts : (id : ℕ) → is_free id table ≡ false → (nat_lt table.given id ≡ false) × (list_any (is_free_slot id) (values_of table.slots) ≡ false)
+  parts : (id : ℕ) → is_free id table ≡ false → (nat_lt table.last_number id ≡ false) × (list_any (is_free_slot id) (values_of table.slots) ≡ false)
   unfolding is_free
-  parts id none = either-false (nat_lt table.given id) (list_any (is_free_slot id) (values_of table.slots)) none
+  parts id none = either-false (nat_lt table.last_number id) (list_any (is_free_slot id) (values_of table.slots)) none
 
   -- a slot goes on as it was, as far as that goes
   pub none_freed : (k : ℕ) (old new : Slot) → value_at table.slots k ≡ Some old → new.number ≡ old.number → is_awaiting_stage new.stage ≡ is_awaiting_stage old.stage
@@ -135,13 +135,13 @@ module _ (table : Table) where
       let p = parts id none in
       rw (p.0, any-without (is_free_slot id) table.slots k p.1) refl
 
-  pub none_freed_by_open : (new : Table) (slot : Slot) → values_of new.slots ≡ values_of table.slots ++ slot ∷ [] → new.given ≡ table.given + 1 → slot.number ≡ table.given + 1 → NoneIsFreed table new
+  pub none_freed_by_open : (new : Table) (slot : Slot) → values_of new.slots ≡ values_of table.slots ++ slot ∷ [] → new.last_number ≡ table.last_number + 1 → slot.number ≡ table.last_number + 1 → NoneIsFreed table new
   unfolding is_free
   none_freed_by_open new slot more given number = λ id none.
       let p = parts id none in
-      let low : id ≤ table.given = ltb-false table.given id p.0 in
+      let low : id ≤ table.last_number = ltb-false table.last_number id p.0 in
       let other : eqb slot.number id ≡ false = ne_eqb slot.number id (λ e. omega (arith, e, number, low)) in
-      let later : nat_lt new.given id ≡ false = grind (arith, nat_tests) in
+      let later : nat_lt new.last_number id ≡ false = grind (arith, nat_tests) in
       rw (later, more) (any-pushed (is_free_slot id) (values_of table.slots) slot p.1 (rw other refl))
 
   -- the slot of this number changes
@@ -156,13 +156,13 @@ module _ (table : Table) where
       apart-not id apart e = let clash : true ≡ false = sym (eq-eqb id number e) ∙ apart in absurd cc
 
   -- it awaits a forwarded call now
-  pub now_awaits : (id k : ℕ) (old new : Slot) → AreNumbered table.given (values_of table.slots) → value_at table.slots k ≡ Some old → old.number ≡ id → new.number ≡ old.number → is_awaiting_stage new.stage ≡ true
+  pub now_awaits : (id k : ℕ) (old new : Slot) → AreNumbered table.last_number (values_of table.slots) → value_at table.slots k ≡ Some old → old.number ≡ id → new.number ≡ old.number → is_awaiting_stage new.stage ≡ true
       → is_free id (record table { slots = with_value table.slots k new }) ≡ false
   unfolding is_free
   now_awaits id k old new n v number same awaits =
-      let within : old.number ≤ table.given = numbered-within table.given table.slots k old n v in
-      let low : nat_lt table.given id ≡ false = grind (arith, nat_tests) in
-      rw low (alone-changed (is_free_slot id) id table.given (λ s e. rw e refl) table.slots k old new n v number (rw awaits (both-not (eqb new.number id))))
+      let within : old.number ≤ table.last_number = numbered-within table.last_number table.slots k old n v in
+      let low : nat_lt table.last_number id ≡ false = grind (arith, nat_tests) in
+      rw low (alone-changed (is_free_slot id) id table.last_number (λ s e. rw e refl) table.slots k old new n v number (rw awaits (both-not (eqb new.number id))))
     where
       both-not : (b : Bool) → (b && false) ≡ false
       both-not true = refl
@@ -172,7 +172,7 @@ module _ (table : Table) where
   unfolding is_free
   was_free id k a v number stage =
       let there = any-there-of (is_free_slot id) table.slots k a v (rw (eq-eqb a.number id number, stage) refl) in
-      rw there (either-true (nat_lt table.given id))
+      rw there (either-true (nat_lt table.last_number id))
     where
       either-true : (b : Bool) → (b || true) ≡ true
       either-true true = refl
@@ -183,19 +183,19 @@ module _ (table : Table) where
   is_idle id k old new v number stage = any-put (is_idle_slot id) table.slots k old new v (rw (eq-eqb new.number id number, stage) refl)
 
   -- it is Idle since this moment
-  now_settled : (id clock k : ℕ) (old new : Slot) → AreNumbered table.given (values_of table.slots) → value_at table.slots k ≡ Some old → old.number ≡ id → is_idle_stage new.stage ≡ true → new.since ≡ clock
+  now_settled : (id clock k : ℕ) (old new : Slot) → AreNumbered table.last_number (values_of table.slots) → value_at table.slots k ≡ Some old → old.number ≡ id → is_idle_stage new.stage ≡ true → new.since ≡ clock
       → IsIdleIfThere id clock (record table { slots = with_value table.slots k new })
   now_settled id clock k old new n v number idle since =
-      alone-changed (is_not_idle_since id clock) id table.given (λ s e. rw e refl) table.slots k old new n v number (rw (idle, eq-eqb new.since clock since) (both-not (eqb new.number id)))
+      alone-changed (is_not_idle_since id clock) id table.last_number (λ s e. rw e refl) table.slots k old new n v number (rw (idle, eq-eqb new.since clock since) (both-not (eqb new.number id)))
     where
       both-not : (b : Bool) → (b && false) ≡ false
       both-not true = refl
       both-not false = refl
 
   -- a record ended on it
-  pub heard_on : (id clock k : ℕ) (old new : Slot) → AreNumbered table.given (values_of table.slots) → value_at table.slots k ≡ Some old → old.number ≡ id → new.number ≡ old.number → HearsSlot clock old new
-      → HeardFrom id clock table (record table { slots = with_value table.slots k new })
-  heard_on id clock k old new n v number same h = record {
+  pub ended_on_slot : (id clock k : ℕ) (old new : Slot) → AreNumbered table.last_number (values_of table.slots) → value_at table.slots k ≡ Some old → old.number ≡ id → new.number ≡ old.number → EndsOnSlot clock old new
+      → EndedOn id clock table (record table { slots = with_value table.slots k new })
+  ended_on_slot id clock k old new n v number same h = record {
     was_free = was_free id k old v number h.awaited_none;
     is_idle = is_idle id k old new v (same ∙ number) h.is_idle;
     if_there = now_settled id clock k old new n v number h.is_idle h.since;
@@ -240,13 +240,13 @@ none_idle id es none table is idle =
         rw (idle-lost s.stage (eqb s.number id) p.0) (none_there slots p.1)
 
 -- a record ended on it
-pub heard_from : (table : Table) (id clock k : ℕ) (old new : Slot) (got : Received) → AreNumbered table.given (values_of table.slots) → value_at table.slots k ≡ Some old → old.number ≡ id → new.number ≡ old.number
-    → IfSome got.heard (λ heard. HearsSlot clock old new) → HearsFree id clock table (record table { slots = with_value table.slots k new }) (Ok got)
-heard_from table id clock k old new got n v number same hears = by_heard got.heard hears
+pub ended_from : (table : Table) (id clock k : ℕ) (old new : Slot) (got : Received) → AreNumbered table.last_number (values_of table.slots) → value_at table.slots k ≡ Some old → old.number ≡ id → new.number ≡ old.number
+    → IfSome got.ended (λ ended. EndsOnSlot clock old new) → EndsOnFree id clock table (record table { slots = with_value table.slots k new }) (Ok got)
+ended_from table id clock k old new got n v number same ends = by_ended got.ended ends
   where
-    by_heard : (m : Option Heard) → IfSome m (λ heard. HearsSlot clock old new) → IfSome m (λ heard. HeardFrom id clock table (record table { slots = with_value table.slots k new }))
-    by_heard None h = tt
-    by_heard (Some heard) h = heard_on table id clock k old new n v number same h
+    by_ended : (m : Option EndedRecord) → IfSome m (λ ended. EndsOnSlot clock old new) → IfSome m (λ ended. EndedOn id clock table (record table { slots = with_value table.slots k new }))
+    by_ended None h = tt
+    by_ended (Some ended) h = ended_on_slot table id clock k old new n v number same h
 
 -- the same of a table by its other name
 pub freed_from : (view now new : Table) → view ≡ now → NoneIsFreed view new → NoneIsFreed now new
@@ -255,5 +255,5 @@ freed_from view now new is freed = subst (λ (t : Table). NoneIsFreed t new) is 
 pub only_from : (id : ℕ) (view now new : Table) → view ≡ now → OnlyIsFreed id view new → OnlyIsFreed id now new
 only_from id view now new is freed = subst (λ (t : Table). OnlyIsFreed id t new) is freed
 
-pub hears_from : (id clock : ℕ) (view now new : Table) (r : Result Received CoreFault) → view ≡ now → HearsFree id clock view new r → HearsFree id clock now new r
-hears_from id clock view now new r is hears = subst (λ (t : Table). HearsFree id clock t new r) is hears
+pub ends_from : (id clock : ℕ) (view now new : Table) (r : Result Received CoreFault) → view ≡ now → EndsOnFree id clock view new r → EndsOnFree id clock now new r
+ends_from id clock view now new r is ends = subst (λ (t : Table). EndsOnFree id clock t new r) is ends

@@ -9,7 +9,7 @@ use Rattle.std.proofs.lemmas.Map.Entries.{length-values_of, sum_by-remove_entry}
 use Rattle.rb_xdr.specs.Meter.{Meter}
 use Rattle.rb_xdr.specs.Pool.{Pool, value_at, without, with_value}
 use Rattle.rb_xdr.proofs.PoolLemmas.{All-value_at, All-with_value}
-use Rattle.rb_model.specs.Calls.{longest_reply, longest_arguments}
+use Rattle.rb_model.specs.Calls.{longest_reply, longest_kept}
 use Rattle.rb_model.specs.Connections.{longest_fragment}
 use Rattle.rb_connections.specs.declared.slot.Slot.{Slot}
 use Rattle.rb_connections.specs.declared.slot.Buffers.{Buffers}
@@ -35,7 +35,7 @@ module _ (slots : Pool Slot) (spare : Pool Buffers) (given conns held : ℕ) (t 
       omega (arith, within, more, turned most_charge conns)
 
   pub room_for_one : held + 128 < 2 ^ 64
-  unfolding longest_reply longest_arguments buffer_size longest_fragment
+  unfolding longest_reply longest_kept buffer_size longest_fragment
   room_for_one = let few = held_few in omega (arith, few)
 
   module _ (k : ℕ) (slot : Slot) (found : value_at slots.entries k ≡ Some slot) where

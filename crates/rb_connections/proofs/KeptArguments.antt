@@ -5,7 +5,7 @@ use Rattle.std.proofs.lemmas.Bool.{cases_lt}
 use Rattle.std.proofs.lemmas.List.{take_all, length-take-le}
 use Rattle.rb_xdr.specs.Kept.{Kept}
 use Rattle.rb_xdr.specs.Puts.{Puts, Appends}
-use Rattle.rb_model.specs.Calls.{longest_arguments}
+use Rattle.rb_model.specs.Calls.{longest_kept}
 use Rattle.rb_connections.specs.StandsFor.{buffer_size}
 use Rattle.rb_connections.specs.Reading.{AreKept}
 
@@ -26,7 +26,7 @@ least m ys =
       | inr all ↦ (let is : min m (length ys) ≡ length ys = omega (arith, all) in ap (λ (k : ℕ). take k ys) is ∙ take_all (length ys) ys (omega arith) ∙ sym (take_all m ys all))
     ]
 
-has_room : (cap : ℕ) → cap ≡ buffer_size → longest_arguments ≤ cap
+has_room : (cap : ℕ) → cap ≡ buffer_size → longest_kept ≤ cap
 unfolding buffer_size
 has_room cap is = omega (arith, is)
 
@@ -38,11 +38,11 @@ kept_more old new room count bytes more r is h puts =
     let fits : length old.bytes + length (take count more) ≤ old.cap = omega (arith, size, is, h.room_is, has_room old.cap h.cap) in
     let there : new ≡ record old { bytes = old.bytes ++ take count more } = appended (take count more) old new r puts fits in
     let bytes_are : new.bytes ≡ old.bytes ++ take count more = ap (λ (k : Kept). k.bytes) there in
-    let left : room + length (take longest_arguments bytes) ≡ longest_arguments = subst (λ (xs : List ℕ). room + length xs ≡ longest_arguments) h.bytes_are h.room_is in
+    let left : room + length (take longest_kept bytes) ≡ longest_kept = subst (λ (xs : List ℕ). room + length xs ≡ longest_kept) h.bytes_are h.room_is in
     record {
       bytes_are =
           bytes_are ∙ ap (λ (k : ℕ). old.bytes ++ take k more) is ∙ ap (λ (xs : List ℕ). old.bytes ++ xs) (least room more)
-          ∙ ap (λ (xs : List ℕ). xs ++ take room more) h.bytes_are ∙ sym (take_on longest_arguments room bytes more left);
+          ∙ ap (λ (xs : List ℕ). xs ++ take room more) h.bytes_are ∙ sym (take_on longest_kept room bytes more left);
       room_is = omega (arith, ap length bytes_are, length-append old.bytes (take count more), size, is, h.room_is);
       cap = puts.cap ∙ h.cap;
     }

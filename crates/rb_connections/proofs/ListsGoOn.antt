@@ -10,7 +10,7 @@ use Rattle.rb_registry.specs.Table.{stamp_told}
 use Rattle.rb_registry.specs.Cursors.{GoesOn}
 use Rattle.rb_proto.proofs.ListReplies.{list_reply_goes_on}
 use Rattle.rb_model.specs.State.{Owed, Phase, Connection, Connections}
-use Rattle.rb_model.specs.Losses.{began_in, begins}
+use Rattle.rb_model.specs.Losses.{stamp_in, list_stamps}
 use Rattle.rb_connections.specs.declared.slot.Slot.{Slot}
 use Rattle.rb_connections.specs.declared.slot.Stage.{Stage}
 use Rattle.rb_connections.specs.declared.slot.Stage.TheVariants as stages
@@ -18,8 +18,8 @@ use Rattle.rb_connections.specs.declared.giving.Giving.{Giving}
 use Rattle.rb_connections.specs.declared.giving.Rest.{Rest}
 use Rattle.rb_connections.specs.declared.giving.Rest.TheVariants as rests
 use Rattle.rb_connections.specs.Giving.{CanMake}
-use Rattle.rb_connections.specs.StandsFor.{IsGiving, rest_in, stamp_in, Source, Table, StandsForPhase, StandsForConnection, StandsForConnections, source_for}
-use Rattle.rb_connections.specs.Listings.{began_stage, slot_began, StageListsOn, SlotListsOn, CanListOn, stamps_of, IsOldest}
+use Rattle.rb_connections.specs.StandsFor.{IsGiving, rest_in, stamp_of_rest, Source, Table, StandsForPhase, StandsForConnection, StandsForConnections, source_for}
+use Rattle.rb_connections.specs.Listings.{stamp_of_stage, stamp_of_slot, StageListsOn, SlotListsOn, CanListOn, stamps_of, IsOldest}
 use Rattle.rb_connections.proofs.Evicting.{began_alike}
 use Rattle.rb_connections.proofs.Phases.{by_phase}
 
@@ -32,10 +32,10 @@ module _ (host : List ℕ) (old new : Registry) (goes : GoesOn old new) where
 
   -- the floor isn't above what the list of a stage began after
   abbrev IsLow : Stage → Type 0
-  IsLow stage = (n : ℕ) → began_stage stage ≡ Some n → new.floor ≤ n
+  IsLow stage = (n : ℕ) → stamp_of_stage stage ≡ Some n → new.floor ≤ n
 
   -- what is not shown yet is the same
-  rest_goes_on : (rest : Rest) → ((n : ℕ) → stamp_in rest ≡ Some n → new.floor ≤ n) → CanMake before rest
+  rest_goes_on : (rest : Rest) → ((n : ℕ) → stamp_of_rest rest ≡ Some n → new.floor ≤ n) → CanMake before rest
       → CanMake after rest × ((buffer : List ℕ) → rest_in after buffer rest ≡ rest_in before buffer rest)
   rest_goes_on (rests.Held start) low t = (tt, λ buffer. refl)
   rest_goes_on (rests.Listed list) low t =
@@ -59,20 +59,20 @@ module _ (host : List ℕ) (old new : Registry) (goes : GoesOn old new) where
       goes_on : (g : Giving) (o : Owed) → IsGiving before g buffer.bytes window o → IsLow (stages.Giving g) → StageListsOn before buffer.bytes (stages.Giving g) → IsGiving after g buffer.bytes window o
       goes_on g o z l u =
           let s = rest_goes_on g.rest l u.made in
-          record { reply = z.reply; shows = z.shows; began = z.began; place = z.place; rest = s.1 buffer.bytes ∙ z.rest; last = z.last }
+          record { reply = z.reply; shows = z.shows; stamp = z.stamp; place = z.place; rest = s.1 buffer.bytes ∙ z.rest; last = z.last }
 
   abbrev AreLow : List Slot → Type 0
-  AreLow slots = All (λ n. new.floor ≤ n) (filter_map slot_began slots)
+  AreLow slots = All (λ n. new.floor ≤ n) (filter_map stamp_of_slot slots)
 
   first_low : (slot : Slot) (slots : List Slot) → AreLow (slot ∷ slots) → IsLow slot.stage × AreLow slots
-  first_low slot slots low = by_began (slot_began slot) refl
+  first_low slot slots low = by_began (stamp_of_slot slot) refl
     where
-      by_began : (began : Option ℕ) → slot_began slot ≡ began → IsLow slot.stage × AreLow slots
+      by_began : (began : Option ℕ) → stamp_of_slot slot ≡ began → IsLow slot.stage × AreLow slots
       by_began None b = ((λ n e. let clash : None ≡ Some n = sym b ∙ e in absurd cc), rw b at low)
       by_began (Some m) b =
-          let here : All (λ n. new.floor ≤ n) (m ∷ filter_map slot_began slots) = rw b at low in (
-            (λ n e. let same : Some m ≡ Some n = sym b ∙ e in let is : m ≡ n = cc in let floor : new.floor ≤ m = All-head (λ k. new.floor ≤ k) m (filter_map slot_began slots) here in omega (arith, is, floor)),
-            All-tail (λ k. new.floor ≤ k) m (filter_map slot_began slots) here,
+          let here : All (λ n. new.floor ≤ n) (m ∷ filter_map stamp_of_slot slots) = rw b at low in (
+            (λ n e. let same : Some m ≡ Some n = sym b ∙ e in let is : m ≡ n = cc in let floor : new.floor ≤ m = All-head (λ k. new.floor ≤ k) m (filter_map stamp_of_slot slots) here in omega (arith, is, floor)),
+            All-tail (λ k. new.floor ≤ k) m (filter_map stamp_of_slot slots) here,
           )
 
   all_list_on : (slots : List Slot) → AreLow slots → All (SlotListsOn before) slots → All (SlotListsOn after) slots
@@ -99,10 +99,10 @@ module _ (host : List ℕ) (old new : Registry) (goes : GoesOn old new) where
   stands_on table c low t z = record { all = all_stand (values_of table.slots) c.all low t z.all; next = z.next }
 
 abbrev pub Reach : Source → List Slot → Type 0
-Reach source slots = All (λ n. (source.registry.floor ≤ n) × (n ≤ source.registry.stamp)) (filter_map slot_began slots)
+Reach source slots = All (λ n. (source.registry.floor ≤ n) × (n ≤ source.registry.stamp)) (filter_map stamp_of_slot slots)
 
 -- the stamps of lists that can be made are from the floor to the present
-pub stamps_reach : (source : Source) (slots : List Slot) → All (SlotListsOn source) slots → All (λ n. (source.registry.floor ≤ n) × (n ≤ source.registry.stamp)) (filter_map slot_began slots)
+pub stamps_reach : (source : Source) (slots : List Slot) → All (SlotListsOn source) slots → All (λ n. (source.registry.floor ≤ n) × (n ≤ source.registry.stamp)) (filter_map stamp_of_slot slots)
 stamps_reach source [] t = All-nil (λ n. (source.registry.floor ≤ n) × (n ≤ source.registry.stamp))
 stamps_reach source (slot ∷ slots) t = by_stage slot.stage refl (All-head (SlotListsOn source) slot slots t) (stamps_reach source slots (All-tail (SlotListsOn source) slot slots t))
   where
@@ -117,7 +117,7 @@ stamps_reach source (slot ∷ slots) t = by_stage slot.stage refl (All-head (Slo
         by_rest : (rest : Rest) → giving.rest ≡ rest → CanMake source rest → Reach source (slot ∷ slots)
         by_rest (rests.Held start) r made = rw (is, r) further
         by_rest (rests.Listed list) r made =
-            rw (is, r) (All-cons (λ n. (source.registry.floor ≤ n) × (n ≤ source.registry.stamp)) list.stamp (filter_map slot_began slots) (made.place.reached.from_floor, made.place.reached.made) further)
+            rw (is, r) (All-cons (λ n. (source.registry.floor ≤ n) × (n ≤ source.registry.stamp)) list.stamp (filter_map stamp_of_slot slots) (made.place.reached.from_floor, made.place.reached.made) further)
     by_stage stages.Awaiting is t further = rw is further
     by_stage stages.Lost is t further = rw is further
 
@@ -135,11 +135,11 @@ trimmed_low source table (Some k) floor t least is = λ i d within.
 
 -- ---- when they began
 
-pub begins_alike : (source : Source) (slots : List Slot) (all : List Connection) → AllZip (StandsForConnection source) slots all → begins all ≡ filter_map slot_began slots
-unfolding begins
+pub begins_alike : (source : Source) (slots : List Slot) (all : List Connection) → AllZip (StandsForConnection source) slots all → list_stamps all ≡ filter_map stamp_of_slot slots
+unfolding list_stamps
 begins_alike source [] [] z = refl
 begins_alike source [] (c ∷ all) z = absurd z
 begins_alike source (slot ∷ slots) [] z = absurd z
 begins_alike source (slot ∷ slots) (c ∷ all) z =
-    let same : slot_began slot ≡ began_in c.phase = began_alike source slot.stage slot.buffer slot.window c.phase z.0.phase in
+    let same : stamp_of_slot slot ≡ stamp_in c.phase = began_alike source slot.stage slot.buffer slot.window c.phase z.0.phase in
     rw (same, begins_alike source slots all z.1) refl

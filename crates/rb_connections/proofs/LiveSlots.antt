@@ -5,7 +5,7 @@ use Rattle.std.specs.Map.{values_of}
 use Rattle.std.proofs.Common.{◌≡◌, ℕ, ◌+◌, ◌^◌, ◌≤◌, ◌<◌, eqb, List, Option, Some, None, ap, arith}
 use Rattle.std.proofs.lemmas.Map.Entries.{sum_by-remove_entry}
 use Rattle.rb_xdr.specs.Pool.{Pool, value_at, with_value}
-use Rattle.rb_model.specs.Calls.{longest_arguments, longest_reply}
+use Rattle.rb_model.specs.Calls.{longest_kept, longest_reply}
 use Rattle.rb_model.specs.Connections.{longest_fragment}
 use Rattle.rb_connections.specs.declared.slot.Slot.{Slot}
 use Rattle.rb_connections.specs.declared.slot.Buffers.{Buffers}
@@ -44,7 +44,7 @@ within_by slot its counts few = rw (← counts) few
 module _ (slots : Pool Slot) (spare : Pool Buffers) (given conns held : ℕ) (t : IsTable slots spare given conns held) (id : ℕ) (old new : Slot) (live : IsLiveSlot id slots.entries old)
     (rest : ℕ) (taken : rest + charge old ≡ held) (its : ℕ) (counts : its ≡ charge new) (few : its ≤ most_charge) where
   pub live_fits : rest + its < 2 ^ 64
-  unfolding longest_reply longest_arguments buffer_size longest_fragment
+  unfolding longest_reply longest_kept buffer_size longest_fragment
   live_fits = let all = held_few slots spare given conns held t in omega (arith, taken, few, all)
 
   pub live_table : new.number ≡ old.number → HasBuffers slots.tie new → IsTable (record slots { entries = with_value slots.entries (live_key id slots.entries) new }) spare given conns (rest + its)

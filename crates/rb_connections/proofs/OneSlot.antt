@@ -10,7 +10,7 @@ use Rattle.rb_rpc.specs.Verdict.{verdict}
 use Rattle.rb_rpc.specs.declared.call.Verdict.{Verdict}
 use Rattle.rb_model.specs.State.{Owed, Phase, Connection}
 use Rattle.rb_model.specs.State.Phase.{Idle, Reading, Owing, Awaiting, Lost}
-use Rattle.rb_model.specs.Connections.{Taking, taking, taking_on, taking_up_to, since_when_fed, fed_in, pending_in, phase_when_given, when_given, giving, pending_of}
+use Rattle.rb_model.specs.Connections.{Taking, taking_of, taking_on, taking_up_to, since_when_fed, fed_in, pending_in, phase_when_given, with_given, give, pending_of}
 use Rattle.rb_model.specs.Connections.Taking.{TakesNone, Ends}
 use Rattle.rb_connections.specs.declared.slot.Slot.{Slot}
 use Rattle.rb_connections.specs.declared.slot.Stage.{Stage}
@@ -19,7 +19,7 @@ use Rattle.rb_connections.specs.declared.slot.Received.{Received}
 use Rattle.rb_connections.specs.StandsFor.{IsGiving, IsReading, Source, StandsForPhase, StandsForConnection}
 use Rattle.rb_connections.specs.Reading.{Fed, Reader, fed_until}
 use Rattle.rb_connections.specs.declared.giving.Giving.{Giving}
-use Rattle.rb_connections.specs.Slots.{Acts, received, fed_with, feeding, arguments_after, arguments_heard}
+use Rattle.rb_connections.specs.Slots.{Acts, received_of, connection_after, take_piece, arguments_after, arguments_taken}
 use Rattle.rb_connections.proofs.Phases.{by_phase}
 
 -- ---- the phase by the stage
@@ -57,45 +57,45 @@ awaiting_phase source stage buffer window phase is h =
 -- What a piece comes to on the connections that a slot stands for.
 pub record Took (source : Source) (old new : Slot) (clock : ℕ) (piece : List ℕ) (result : Received) (c : Connection) : Type 0 where
   pub taken : Taking
-  pub is : taking c.phase piece ≡ taken
-  pub gives : result ≡ received piece c taken
-  pub stands : StandsForConnection source new (fed_with clock c taken)
+  pub is : taking_of c.phase piece ≡ taken
+  pub gives : result ≡ received_of piece c taken
+  pub stands : StandsForConnection source new (connection_after clock c taken)
 
 pub feeding_acts : (source : Source) (old new : Slot) (clock : ℕ) (piece : List ℕ) (result : Received)
-    → ((c : Connection) → StandsForConnection source old c → Took source old new clock piece result c) → Acts (StandsForConnection source) (feeding clock piece) old new result
-unfolding feeding
+    → ((c : Connection) → StandsForConnection source old c → Took source old new clock piece result c) → Acts (StandsForConnection source) (take_piece clock piece) old new result
+unfolding take_piece
 feeding_acts source old new clock piece result took = record {
-  gives = λ c h. let t = took c h in t.gives ∙ ap (received piece c) (sym t.is);
-  stands = λ c h. let t = took c h in subst (λ (x : Taking). StandsForConnection source new (fed_with clock c x)) (sym t.is) t.stands;
+  gives = λ c h. let t = took c h in t.gives ∙ ap (received_of piece c) (sym t.is);
+  stands = λ c h. let t = took c h in subst (λ (x : Taking). StandsForConnection source new (connection_after clock c x)) (sym t.is) t.stands;
 }
 
 -- with what is held of arguments after it
-pub taken_arguments : (before after piece : List ℕ) (c : Connection) (t : Taking) → taking c.phase piece ≡ t → after ≡ arguments_after before t → after ≡ arguments_heard before piece c
+pub taken_arguments : (before after piece : List ℕ) (c : Connection) (t : Taking) → taking_of c.phase piece ≡ t → after ≡ arguments_after before t → after ≡ arguments_taken before piece c
 taken_arguments before after piece c t is kept = kept ∙ ap (arguments_after before) (sym is)
 
 -- nothing is taken of nothing
-pub nothing_of_nothing : (phase : Phase) → taking phase [] ≡ TakesNone
-unfolding taking
+pub nothing_of_nothing : (phase : Phase) → taking_of phase [] ≡ TakesNone
+unfolding taking_of
 nothing_of_nothing Idle = refl
 nothing_of_nothing (Reading fed) = refl
 nothing_of_nothing (Owing o) = refl
 nothing_of_nothing Awaiting = refl
 nothing_of_nothing Lost = refl
 
-pub nothing_where_owing : (phase : Phase) (o : Owed) (piece : List ℕ) → phase ≡ Owing o → taking phase piece ≡ TakesNone
-unfolding taking
+pub nothing_where_owing : (phase : Phase) (o : Owed) (piece : List ℕ) → phase ≡ Owing o → taking_of phase piece ≡ TakesNone
+unfolding taking_of
 nothing_where_owing phase o piece is = rw is refl
 
-pub nothing_where_awaiting : (phase : Phase) (piece : List ℕ) → phase ≡ Awaiting → taking phase piece ≡ TakesNone
-unfolding taking
+pub nothing_where_awaiting : (phase : Phase) (piece : List ℕ) → phase ≡ Awaiting → taking_of phase piece ≡ TakesNone
+unfolding taking_of
 nothing_where_awaiting phase piece is = rw is refl
 
-pub nothing_where_lost : (phase : Phase) (piece : List ℕ) → phase ≡ Lost → taking phase piece ≡ TakesNone
-unfolding taking
+pub nothing_where_lost : (phase : Phase) (piece : List ℕ) → phase ≡ Lost → taking_of phase piece ≡ TakesNone
+unfolding taking_of
 nothing_where_lost phase piece is = rw is refl
 
-pub some_where_fed : (phase : Phase) (fed piece : List ℕ) → fed_in phase ≡ Some fed → (piece ≡ [] → ⊥) → taking phase piece ≡ taking_on fed piece
-unfolding taking
+pub some_where_fed : (phase : Phase) (fed piece : List ℕ) → fed_in phase ≡ Some fed → (piece ≡ [] → ⊥) → taking_of phase piece ≡ taking_on fed piece
+unfolding taking_of
 some_where_fed phase fed [] is some = absurd (some refl)
 some_where_fed phase fed (byte ∷ piece) is some = rw is refl
 
@@ -129,9 +129,9 @@ has_ended fed piece (Some n) r said is ended = record { at = n; is = refl; says 
 pub counts_to : (fed piece : List ℕ) (n : ℕ) (m : Option ℕ) (r : Fed) → r ≡ fed_until fed piece m → m ≡ Some n → r.count ≡ n - length fed
 counts_to fed piece n m r is some = ap (λ (f : Fed). f.count) (is ∙ ap (fed_until fed piece) some)
 
-pub heard_then : (fed piece : List ℕ) (c : Connection) (count n : ℕ) (peer : Peer) (said : Verdict) → first_record (fed ++ piece) ≡ Some n → count ≡ n - length fed → peer ≡ c.peer
-    → said ≡ verdict (data_of (take n (fed ++ piece))) → record { count = count; heard = Some (record { peer = peer; verdict = said }) } ≡ received piece c (taking_on fed piece)
-heard_then fed piece c count n peer said is counts from says = rw (is, counts, from, says) refl
+pub ended_then : (fed piece : List ℕ) (c : Connection) (count n : ℕ) (peer : Peer) (said : Verdict) → first_record (fed ++ piece) ≡ Some n → count ≡ n - length fed → peer ≡ c.peer
+    → said ≡ verdict (data_of (take n (fed ++ piece))) → record { count = count; ended = Some (record { peer = peer; verdict = said }) } ≡ received_of piece c (taking_on fed piece)
+ended_then fed piece c count n peer said is counts from says = rw (is, counts, from, says) refl
 
 pub since_of_idle : (clock since : ℕ) (phase : Phase) → phase ≡ Idle → since_when_fed clock since phase ≡ clock
 since_of_idle clock since phase is = rw is refl
@@ -142,8 +142,8 @@ since_of_reading clock since phase fed is = rw is refl
 -- ---- bytes that are given
 
 -- No byte is given.
-pub none_given : (source : Source) (old : Slot) (clock n : ℕ) → ((c : Connection) → StandsForConnection source old c → min n (length (pending_in c.phase)) ≡ 0) → Acts (StandsForConnection source) (giving clock n) old old tt
-unfolding giving when_given
+pub none_given : (source : Source) (old : Slot) (clock n : ℕ) → ((c : Connection) → StandsForConnection source old c → min n (length (pending_in c.phase)) ≡ 0) → Acts (StandsForConnection source) (give clock n) old old tt
+unfolding give with_given
 none_given source old clock n none = record {
   gives = λ c h. refl;
   stands = λ c h. rw (none c h) h;
@@ -169,8 +169,8 @@ module _ (source : Source) (old new : Slot) (clock n more : ℕ) (giving_is : Gi
     (some : 0 < more)
     (number : new.number ≡ old.number) (peer : new.peer ≡ old.peer) (since : new.since ≡ clock)
     (goes_on : (o : Owed) → IsGiving source giving_is old.buffer.bytes old.window o → StandsForPhase source new.stage new.buffer new.window (phase_when_given more (Owing o))) where
-  pub some_given : Acts (StandsForConnection source) (giving clock n) old new tt
-  unfolding giving when_given
+  pub some_given : Acts (StandsForConnection source) (give clock n) old new tt
+  unfolding give with_given
   some_given = record {
     gives = λ c h. refl;
     stands = λ c h.

@@ -4,7 +4,7 @@ use Rattle.std.proofs.lemmas.Bool.{leb-false, leb-true}
 use Rattle.std.proofs.lemmas.Bool.Decides.{nat_tests}
 use Rattle.std.proofs.lemmas.List.{length-drop, drop-drop}
 use Rattle.rb_xdr.specs.Kept.{Kept}
-use Rattle.rb_rpc.specs.Records.{marked}
+use Rattle.rb_rpc.specs.Records.{marked_reply}
 use Rattle.rb_proto.specs.ListReplies.{longest_part}
 use Rattle.rb_model.specs.State.{Owed, Connection}
 use Rattle.rb_model.specs.State.Phase.{Owing}
@@ -14,7 +14,7 @@ use Rattle.rb_connections.specs.declared.giving.Rest.{Rest}
 use Rattle.rb_connections.specs.declared.slot.Slot.{Slot}
 use Rattle.rb_connections.specs.Listings.{SlotListsOn}
 use Rattle.rb_connections.specs.Giving.{SlotShowsNext, GoesOnBy, ShowsNext}
-use Rattle.rb_connections.specs.StandsFor.{Source, IsGiving, StandsForConnection, rest_in, stamp_in}
+use Rattle.rb_connections.specs.StandsFor.{Source, IsGiving, StandsForConnection, rest_in, stamp_of_rest}
 use Rattle.rb_connections.proofs.Fragments.{pending_shown, pending_count, giving_begins, giving_stays, giving_moves, giving_ends, fragment_few, fragment_full}
 
 shifted : (l left a b : ℕ) → left ≡ l - a → b ≡ a + 1024 → a < l → nat_le left 1024 ≡ nat_le l b
@@ -40,7 +40,7 @@ module _ (source : Source) (giving : Giving) (buffer : List ℕ) (window : Kept)
         record {
           reply = g.reply;
           shows = giving_stays g.reply window more o g.shows small;
-          began = g.began;
+          stamp = g.stamp;
           place = omega (arith, is, g.place, small, few);
           rest = g.rest ∙ ap (λ (k : ℕ). drop (longest_part * (k + 1)) g.reply) (sym same);
           last = g.last ∙ ap (λ (k : ℕ). nat_le (length g.reply) (longest_part * (k + 1))) (sym same);
@@ -56,14 +56,14 @@ module _ (source : Source) (giving : Giving) (buffer : List ℕ) (window : Kept)
         let more_is : longest_part * (k + 1) < length g.reply = leb-false (length g.reply) (longest_part * (k + 1)) (sym g.last ∙ more_to_come) in
         let used : o.given % longest_fragment + more ≡ length window.bytes = omega (arith, full, g.place) in
         let moved = giving_moves g.reply window next more o g.shows used (omega (arith, more_is))
-        (ap (λ (kept : Kept). kept.bytes) shows.fragment ∙ ap (λ (xs : List ℕ). take longest_fragment (marked xs)) (g.rest ∙ ap (λ (n : ℕ). drop n g.reply) (omega arith)))
+        (ap (λ (kept : Kept). kept.bytes) shows.fragment ∙ ap (λ (xs : List ℕ). take longest_fragment (marked_reply xs)) (g.rest ∙ ap (λ (n : ℕ). drop n g.reply) (omega arith)))
         (ap (λ (kept : Kept). kept.cap) shows.fragment ∙ cap) in
         let whole : length window.bytes ≡ 1028 = fragment_full g.reply window o g.shows (omega (arith, more_is)) in
         let next_is : (o.given + more) / 1028 ≡ k + 1 = omega (arith, used, whole) in
         record {
           reply = g.reply;
           shows = moved;
-          began = g.began ∙ sym shows.stamp;
+          stamp = g.stamp ∙ sym shows.stamp;
           place = shows.place ∙ omega (arith, used, whole);
           rest = shows.rest_is ∙ ap (λ (xs : List ℕ). drop longest_part xs) g.rest ∙ drop-drop longest_part (longest_part * (k + 1)) g.reply ∙ ap (λ (n : ℕ). drop n g.reply) (omega (arith, next_is));
           last = shows.last ∙ ap (λ (xs : List ℕ). nat_le (length xs) longest_part) g.rest ∙ shifted (length g.reply) _ (longest_part * (k + 1)) _ (length-drop (longest_part * (k + 1)) g.reply) (omega (arith, next_is)) more_is;
@@ -74,7 +74,7 @@ module _ (source : Source) (giving : Giving) (buffer : List ℕ) (window : Kept)
     unfolding longest_fragment
     ends full no_more =
         let none : length g.reply ≤ longest_part * (o.given / 1028 + 1) = leb-true (length g.reply) _ (sym g.last ∙ no_more) in
-        let same : length o.marked ≡ length (marked g.reply) = ap (λ (xs : List ℕ). length xs) g.shows.marked in
+        let same : length o.marked ≡ length (marked_reply g.reply) = ap (λ (xs : List ℕ). length xs) g.shows.marked in
         let all = giving_ends g.reply window more o g.shows (omega (arith, full, g.place)) (omega (arith, none)) in
         omega (arith, same, all)
 
@@ -89,13 +89,13 @@ module _ (source : Source) (buffer : List ℕ) (rest : Rest) (before next : Kept
   }
 
   -- a reply whose first fragment is shown
-  pub begins : (reply : List ℕ) (began : Option ℕ) → rest_in source buffer rest ≡ reply → stamp_in rest ≡ began → before.cap ≡ longest_fragment
+  pub begins : (reply : List ℕ) (began : Option ℕ) → rest_in source buffer rest ≡ reply → stamp_of_rest rest ≡ began → before.cap ≡ longest_fragment
       → IsGiving source new buffer next (owed_of reply began 0)
   unfolding longest_fragment
   begins reply began whole stamp cap = record {
     reply = reply;
-    shows = giving_begins reply next began (ap (λ (kept : Kept). kept.bytes) shows.fragment ∙ ap (λ (xs : List ℕ). take longest_fragment (marked xs)) whole) (ap (λ (kept : Kept). kept.cap) shows.fragment ∙ cap);
-    began = sym stamp ∙ sym shows.stamp;
+    shows = giving_begins reply next began (ap (λ (kept : Kept). kept.bytes) shows.fragment ∙ ap (λ (xs : List ℕ). take longest_fragment (marked_reply xs)) whole) (ap (λ (kept : Kept). kept.cap) shows.fragment ∙ cap);
+    stamp = sym stamp ∙ sym shows.stamp;
     place = shows.place;
     rest = shows.rest_is ∙ ap (λ (xs : List ℕ). drop longest_part xs) whole;
     last = shows.last ∙ ap (λ (xs : List ℕ). nat_le (length xs) longest_part) whole;
@@ -107,7 +107,7 @@ module _ (source : Source) (rest : Rest) (old new : Slot) (s : SlotShowsNext sou
   slot_lists_on = subst (λ (t : Slot). SlotListsOn source t) (sym s.is) (goes_on_shown source old.buffer.bytes rest old.window new.window s.giving s.shows)
 
   pub slot_begins : (clock : ℕ) (c : Connection) (reply : List ℕ) (began : Option ℕ) → old.number ≡ c.number → old.peer ≡ c.peer → old.since ≡ clock → old.window.cap ≡ longest_fragment
-      → rest_in source old.buffer.bytes rest ≡ reply → stamp_in rest ≡ began → StandsForConnection source new (record c { phase = Owing (owed_of reply began 0); since = clock })
+      → rest_in source old.buffer.bytes rest ≡ reply → stamp_of_rest rest ≡ began → StandsForConnection source new (record c { phase = Owing (owed_of reply began 0); since = clock })
   slot_begins clock c reply began number peer since cap whole stamp =
       subst (λ (t : Slot). StandsForConnection source t (record c { phase = Owing (owed_of reply began 0); since = clock })) (sym s.is) (record {
         number = number;

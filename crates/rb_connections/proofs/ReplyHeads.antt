@@ -10,7 +10,7 @@ use Rattle.rb_proto.specs.declared.answers.Listing.{Listing}
 use Rattle.rb_proto.specs.declared.list_reply.ListReply.{ListReply}
 use Rattle.rb_proto.specs.ListParts.{ListsRows}
 use Rattle.rb_proto.specs.ListReplies.{rest_of}
-use Rattle.rb_model.specs.Calls.{fitting, longest_reply}
+use Rattle.rb_model.specs.Calls.{fitting_reply, longest_reply}
 
 pub short_head : (xid : ℕ) (status : ReplyStatus) → length (reply_head xid status) ≤ 32
 unfolding reply_head number opaque
@@ -34,8 +34,8 @@ some_head xid SystemErr = omega arith
 some_head xid (RpcMismatch low high) = omega arith
 some_head xid (AuthError stat) = omega arith
 
-pub some_fitting : (xid : ℕ) (status : ReplyStatus) (results : List ℕ) → 0 < length (fitting xid (reply_head xid status ++ results))
-unfolding fitting
+pub some_fitting : (xid : ℕ) (status : ReplyStatus) (results : List ℕ) → 0 < length (fitting_reply xid (reply_head xid status ++ results))
+unfolding fitting_reply
 some_fitting xid status results =
     let long = length-append (reply_head xid status) results in
     let some = some_head xid status in

@@ -10,7 +10,7 @@ use Rattle.rb_rpc.specs.Records.{BeginsWithRecord, first_record}
 use Rattle.rb_model.specs.State.{Phase, Connection, Connections}
 use Rattle.rb_model.specs.State.Phase.{Idle}
 use Rattle.rb_model.specs.Calls.Outcome.{Silent}
-use Rattle.rb_model.specs.Connections.{taking, fed_in, is_lost, is_live, settled, change_first, changed_at, on_live}
+use Rattle.rb_model.specs.Connections.{taking_of, fed_in, is_lost, is_live, settle, change_first, changed_at, on_live}
 use Rattle.rb_model.specs.Connections.Taking.{Ends}
 use Rattle.rb_model.specs.Calls.{kept_of}
 use Rattle.rb_connections.specs.declared.slot.Slot.{Slot}
@@ -18,12 +18,12 @@ use Rattle.rb_connections.specs.declared.slot.Buffers.{Buffers}
 use Rattle.rb_connections.specs.declared.slot.Stage.{Stage}
 use Rattle.rb_connections.specs.declared.slot.Stage.TheVariants as stages
 use Rattle.rb_connections.specs.declared.slot.Wanted.TheVariants as wanted
-use Rattle.rb_connections.specs.StandsFor.{IsWithin, Source, Table, StandsForConnection, StandsForConnections, stamp_in}
-use Rattle.rb_connections.specs.Slots.{Acts, Shows, AreNumbered, HasBuffers, IsTable, feeding, arguments_heard, arguments_on, heard_whole, is_idle_stage, is_wanted_slot, wanted_slot}
-use Rattle.rb_connections.specs.Awaits.{GoOn, is_awaiting_stage, is_not_idle_since, IsIdleIfThere, HeardFrom}
+use Rattle.rb_connections.specs.StandsFor.{IsWithin, Source, Table, StandsForConnection, StandsForConnections, stamp_of_rest}
+use Rattle.rb_connections.specs.Slots.{Acts, Shows, AreNumbered, HasBuffers, IsTable, take_piece, arguments_taken, arguments_on, received_whole, is_idle_stage, is_wanted_slot, wanted_slot}
+use Rattle.rb_connections.specs.Awaits.{GoOn, is_awaiting_stage, is_not_idle_since, IsIdleIfThere, EndedOn}
 use Rattle.rb_connections.specs.Listings.{SlotListsOn, began_early, evicted_slot}
 use Rattle.rb_connections.proofs.Evicting.{all_evicted}
-use Rattle.rb_connections.proofs.Freed.{heard_on}
+use Rattle.rb_connections.proofs.Freed.{ended_on_slot}
 use Rattle.rb_connections.proofs.ByHint.{distinct_numbers, first_by_hint}
 use Rattle.rb_connections.proofs.Slots.{live_acts, live_arguments, table_changed}
 use Rattle.rb_connections.proofs.GoingOn.{goes_on_changed}
@@ -41,9 +41,9 @@ unsettled_alike earliest id clock slot none = by_stage slot.stage refl
     by_stage : (stage : Stage) → slot.stage ≡ stage → is_not_idle_since id clock (evicted_slot earliest slot) ≡ false
     by_stage stages.Idle is = rw is (rw is at none)
     by_stage (stages.Reading reader) is = rw is (rw is at none)
-    by_stage (stages.Giving giving) is = by_test (began_early earliest (stamp_in giving.rest)) refl
+    by_stage (stages.Giving giving) is = by_test (began_early earliest (stamp_of_rest giving.rest)) refl
       where
-        by_test : (b : Bool) → began_early earliest (stamp_in giving.rest) ≡ b → is_not_idle_since id clock (evicted_slot earliest slot) ≡ false
+        by_test : (b : Bool) → began_early earliest (stamp_of_rest giving.rest) ≡ b → is_not_idle_since id clock (evicted_slot earliest slot) ≡ false
         by_test true t = rw (is, t) (rw is at none)
         by_test false t = rw (is, t) (rw is at none)
     by_stage stages.Awaiting is = rw is (rw is at none)
@@ -72,8 +72,8 @@ both-true true true e = (refl, refl)
 both-true true false e = absurd cc
 both-true false b e = absurd cc
 
-settled_is_same : (source : Source) (id clock : ℕ) (slot : Slot) (c : Connection) → StandsForConnection source slot c → is_not_idle_since id clock slot ≡ false → is_live id c ≡ true → settled clock Silent c ≡ c
-unfolding is_live settled
+settled_is_same : (source : Source) (id clock : ℕ) (slot : Slot) (c : Connection) → StandsForConnection source slot c → is_not_idle_since id clock slot ≡ false → is_live id c ≡ true → settle clock Silent c ≡ c
+unfolding is_live settle
 settled_is_same source id clock slot c h none live =
     let number : eqb slot.number id ≡ true = ap (λ (n : ℕ). eqb n id) h.number ∙ (and_parts (eqb c.number id) (not (is_lost c.phase)) live).0 in
     let idle = both-true (is_idle_stage slot.stage) (eqb slot.since clock) (rw number at none) in
@@ -82,7 +82,7 @@ settled_is_same source id clock slot c h none live =
     ap (λ (p : Phase). record c { phase = p; since = clock }) (sym phase) ∙ ap (λ (m : ℕ). record c { since = m }) (sym since)
 
 settled_among : (source : Source) (id clock : ℕ) (slots : List Slot) (all : List Connection) → AllZip (StandsForConnection source) slots all → list_any (is_not_idle_since id clock) slots ≡ false
-    → change_first (is_live id) (settled clock Silent) all ≡ all
+    → change_first (is_live id) (settle clock Silent) all ≡ all
 settled_among source id clock [] [] zip none = refl
 settled_among source id clock [] (c ∷ all) zip none = absurd zip
 settled_among source id clock (slot ∷ slots) [] zip none = refl
@@ -90,11 +90,11 @@ settled_among source id clock (slot ∷ slots) (c ∷ all) zip none =
     let p = either-false (is_not_idle_since id clock slot) (list_any (is_not_idle_since id clock) slots) none in
     by_live (is_live id c) refl p.0 (settled_among source id clock slots all zip.1 p.1)
   where
-    by_live : (b : Bool) → is_live id c ≡ b → is_not_idle_since id clock slot ≡ false → change_first (is_live id) (settled clock Silent) all ≡ all → change_first (is_live id) (settled clock Silent) (c ∷ all) ≡ c ∷ all
+    by_live : (b : Bool) → is_live id c ≡ b → is_not_idle_since id clock slot ≡ false → change_first (is_live id) (settle clock Silent) all ≡ all → change_first (is_live id) (settle clock Silent) (c ∷ all) ≡ c ∷ all
     by_live true t one further = rw t (ap (λ (x : Connection). x ∷ all) (settled_is_same source id clock slot c zip.0 one t))
     by_live false t one further = rw t (ap (λ (xs : List Connection). c ∷ xs) further)
 
-pub settled_stays : (source : Source) (id clock : ℕ) (table : Table) (c : Connections) → IsIdleIfThere id clock table → StandsForConnections source table c → changed_at id (settled clock Silent) c ≡ c
+pub settled_stays : (source : Source) (id clock : ℕ) (table : Table) (c : Connections) → IsIdleIfThere id clock table → StandsForConnections source table c → changed_at id (settle clock Silent) c ≡ c
 settled_stays source id clock table c none h = ap (λ (xs : List Connection). record c { all = xs }) (settled_among source id clock (values_of table.slots) c.all h.all none)
 
 -- ---- a record comes whole
@@ -104,22 +104,22 @@ module _ (source : Source) (slot : Slot) (piece content : List ℕ) (idle : slot
   unfolding first_record
   some_piece none = let clash : None ≡ Some (4 + length content) = rw none at begins.ends in absurd cc
 
-  takes_whole : (c : Connection) → StandsForConnection source slot c → taking c.phase piece ≡ Ends (4 + length content) content
+  takes_whole : (c : Connection) → StandsForConnection source slot c → taking_of c.phase piece ≡ Ends (4 + length content) content
   takes_whole c h =
       let p = idle_phase source slot.stage slot.buffer slot.window c.phase idle h.phase in
       some_where_fed c.phase [] piece (ap fed_in p.0) some_piece ∙ taken_whole content piece begins
 
-  pub hears_whole : (clock : ℕ) → Acts (StandsForConnection source) (feeding clock piece) slot (record slot { since = clock }) (heard_whole slot.peer content)
-  hears_whole clock = feeding_acts source slot (record slot { since = clock }) clock piece (heard_whole slot.peer content) (λ c h.
+  pub acts_whole : (clock : ℕ) → Acts (StandsForConnection source) (take_piece clock piece) slot (record slot { since = clock }) (received_whole slot.peer content)
+  acts_whole clock = feeding_acts source slot (record slot { since = clock }) clock piece (received_whole slot.peer content) (λ c h.
       let p = idle_phase source slot.stage slot.buffer slot.window c.phase idle h.phase in
       record {
         taken = Ends (4 + length content) content;
         is = takes_whole c h;
-        gives = ap (λ peer. heard_whole peer content) h.peer;
+        gives = ap (λ peer. received_whole peer content) h.peer;
         stands = record { number = h.number; peer = h.peer; since = refl; phase = rw idle (p.1, p.2) };
       })
 
-  pub keeps_whole : (before : List ℕ) → Shows (StandsForConnection source) (arguments_heard before piece) slot (kept_of content)
+  pub keeps_whole : (before : List ℕ) → Shows (StandsForConnection source) (arguments_taken before piece) slot (kept_of content)
   keeps_whole before c h = taken_arguments before (kept_of content) piece c (Ends (4 + length content) content) (takes_whole c h) refl
 
 -- Of a slot `since` is another after it, and nothing else.
@@ -143,28 +143,28 @@ since_table slots spare given conns held t k old new there kept =
     held (rw kept refl) (subst IsWithin (sym kept) (All-value_at IsWithin slots.entries k old t.within there))
 
 -- It is that of the connection of the number, which was Idle, and is so since this moment.
-module _ (id clock k : ℕ) (table : Table) (old new : Slot) (distinct : HasDistinctKeys table.slots) (numbers : AreNumbered table.given (values_of table.slots)) (there : value_at table.slots k ≡ Some old)
+module _ (id clock k : ℕ) (table : Table) (old new : Slot) (distinct : HasDistinctKeys table.slots) (numbers : AreNumbered table.last_number (values_of table.slots)) (there : value_at table.slots k ≡ Some old)
     (kept : new ≡ record old { since = new.since }) (number : old.number ≡ id) (idle : old.stage ≡ stages.Idle) (since : new.since ≡ clock) where
   abbrev with_new : Table
   with_new = record table { slots = with_value table.slots k new }
 
   found : option_map (λ e. e.0) (wanted_slot (wanted.Live id) table.slots) ≡ Some k
   unfolding wanted_slot is_wanted_slot
-  found = first_by_hint (wanted.Live id) table.slots k old (distinct_numbers table.given (values_of table.slots) numbers) there refl (rw (eq-eqb old.number id number, idle) refl)
+  found = first_by_hint (wanted.Live id) table.slots k old (distinct_numbers table.last_number (values_of table.slots) numbers) there refl (rw (eq-eqb old.number id number, idle) refl)
 
   is_marked : new ≡ record old { since = clock }
   is_marked = kept ∙ ap (λ (m : ℕ). record old { since = m }) since
 
   pub takes_whole_on : (source : Source) (piece content : List ℕ) → BeginsWithRecord content piece
-      → Acts (StandsForConnections source) (on_live id (feeding clock piece)) table with_new (Ok (heard_whole old.peer content))
+      → Acts (StandsForConnections source) (on_live id (take_piece clock piece)) table with_new (Ok (received_whole old.peer content))
   takes_whole_on source piece content begins =
-      rw is_marked (live_acts source id (feeding clock piece) table k old (record old { since = clock }) (heard_whole old.peer content) distinct found there (hears_whole source old piece content idle begins clock))
+      rw is_marked (live_acts source id (take_piece clock piece) table k old (record old { since = clock }) (received_whole old.peer content) distinct found there (acts_whole source old piece content idle begins clock))
 
   pub keeps_whole_on : (source : Source) (before piece content : List ℕ) → BeginsWithRecord content piece → Shows (StandsForConnections source) (arguments_on id before piece) table (kept_of content)
   keeps_whole_on source before piece content begins =
       live_arguments source id before piece table k old (kept_of content) distinct found there (keeps_whole source old piece content idle begins before)
 
-  pub heard_whole_on : HeardFrom id clock table with_new
-  heard_whole_on =
+  pub taken_whole_on : EndedOn id clock table with_new
+  taken_whole_on =
       let still : is_idle_stage new.stage ≡ true = ap (λ (s : Slot). is_idle_stage s.stage) kept ∙ ap is_idle_stage idle in
-      heard_on table id clock k old new numbers there number (ap (λ (s : Slot). s.number) kept) (record { awaited_none = rw idle refl; is_idle = still; since = since })
+      ended_on_slot table id clock k old new numbers there number (ap (λ (s : Slot). s.number) kept) (record { awaited_none = rw idle refl; is_idle = still; since = since })

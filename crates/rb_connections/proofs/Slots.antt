@@ -16,7 +16,7 @@ use Rattle.rb_rpc.specs.Verdict.{verdict}
 use Rattle.rb_rpc.specs.declared.peer.Peer.{Peer}
 use Rattle.rb_feed.specs.Feeds.{StandsForCall, arguments_of}
 use Rattle.rb_model.specs.declared.types.CoreFault.TheVariants.{Full, Spent, Gone}
-use Rattle.rb_model.specs.Calls.{longest_arguments, kept_of}
+use Rattle.rb_model.specs.Calls.{longest_kept, kept_of}
 use Rattle.rb_model.specs.State.{Phase, Connection, Connections, greatest_number}
 use Rattle.rb_model.specs.State.Phase.{Idle}
 use Rattle.rb_model.specs.Connections.{change_first, changed_at, is_lost, is_live, live_connection, on_live, has_number, number_for, opening_of, is_there, without_number, closing_of}
@@ -27,7 +27,7 @@ use Rattle.rb_connections.specs.declared.slot.Buffers.{Buffers}
 use Rattle.rb_connections.specs.declared.slot.Slot.{Slot}
 use Rattle.rb_connections.specs.declared.slot.Wanted.{Wanted}
 use Rattle.rb_connections.specs.declared.slot.Wanted.TheVariants as wanted
-use Rattle.rb_connections.specs.Slots.{Acts, Shows, is_lost_stage, is_wanted_slot, is_wanted, wanted_slot, IsFound, is_numbered, AreNumbered, IsTable, HasBuffers, arguments_heard, arguments_on}
+use Rattle.rb_connections.specs.Slots.{Acts, Shows, is_lost_stage, is_wanted_slot, is_wanted, wanted_slot, IsFound, is_numbered, AreNumbered, IsTable, HasBuffers, arguments_taken, arguments_on}
 use Rattle.rb_connections.specs.declared.slot.Stage.{Stage}
 use Rattle.rb_connections.proofs.DueSlots.{due_alike}
 use Rattle.rb_connections.proofs.Phases.{by_phase}
@@ -244,7 +244,7 @@ module _ {A : Type 0} (source : Source) (id : ℕ) (act : Connection → A × Co
 module _ (source : Source) (id : ℕ) (before piece : List ℕ) (table : Table) where
   pub live_arguments : (k : ℕ) (slot : Slot) (after : List ℕ) → HasDistinctKeys table.slots
       → option_map (λ e. e.0) (wanted_slot (wanted.Live id) table.slots) ≡ Some k → value_at table.slots k ≡ Some slot
-      → Shows (StandsForConnection source) (arguments_heard before piece) slot after → Shows (StandsForConnections source) (arguments_on id before piece) table after
+      → Shows (StandsForConnection source) (arguments_taken before piece) slot after → Shows (StandsForConnections source) (arguments_on id before piece) table after
   live_arguments k slot after d h v shows c z =
       let l = live_slot source id table.slots c.all k slot d z.all h v in
       rw l.there (shows l.connection l.stands)
@@ -335,13 +335,13 @@ module _ (source : Source) (id : ℕ) (table : Table) where
     stands = λ c z. rw (none_any (has_number id) c.all (no_slot source (wanted.Numbered id) table.slots c.all z.all h)) z;
   }
 
-  pub one_closed : (k : ℕ) (slot : Slot) → HasDistinctKeys table.slots → AreNumbered table.given (values_of table.slots)
+  pub one_closed : (k : ℕ) (slot : Slot) → HasDistinctKeys table.slots → AreNumbered table.last_number (values_of table.slots)
       → option_map (λ e. e.0) (wanted_slot (wanted.Numbered id) table.slots) ≡ Some k → value_at table.slots k ≡ Some slot
       → Acts (StandsForConnections source) (closing_of id) table (record table { slots = without table.slots k }) (Ok tt)
   unfolding closing_of is_there is_wanted wanted_slot is_wanted_slot without_number
   one_closed k slot d n h v = record {
     gives = λ c z. rw (there c z) refl;
-    stands = λ c z. rw (there c z) (record { all = removed source id table.given table.slots c.all k slot d n z.all h; next = z.next });
+    stands = λ c z. rw (there c z) (record { all = removed source id table.last_number table.slots c.all k slot d n z.all h; next = z.next });
   }
     where
       there : (c : Connections) → StandsForConnections source table c → list_any (has_number id) c.all ≡ true
@@ -357,7 +357,7 @@ take_nothing (suc n) = refl
 
 nothing_kept : kept_of (data_of []) ≡ []
 unfolding data_of arguments_of verdict
-nothing_kept = take_nothing longest_arguments
+nothing_kept = take_nothing longest_kept
 
 no_data : data_of [] ≡ []
 unfolding data_of
@@ -381,7 +381,7 @@ module _ (source : Source) (conns : ℕ) (peer : Peer) (clock : ℕ) (table : Ta
       no_room : (c : Connections) → StandsForConnections source table c → nat_lt (length c.all) conns ≡ false
       no_room c z = let many = as_many source table.slots c.all z.all in grind (arith, nat_tests)
 
-  pub spent_acts : length table.slots < conns → table.given ≡ greatest_number → Acts (StandsForConnections source) (opening_of conns peer clock) table table (Err Spent)
+  pub spent_acts : length table.slots < conns → table.last_number ≡ greatest_number → Acts (StandsForConnections source) (opening_of conns peer clock) table table (Err Spent)
   unfolding opening_of number_for
   spent_acts room spent = record {
     gives = λ c z. rw (has_room c z, no_number c z) refl;
@@ -394,10 +394,10 @@ module _ (source : Source) (conns : ℕ) (peer : Peer) (clock : ℕ) (table : Ta
       no_number : (c : Connections) → StandsForConnections source table c → nat_lt greatest_number c.next ≡ true
       no_number c z = let next = z.next in grind (arith, nat_tests)
 
-  pub opened_acts : (slot : Slot) (new : Table) → length table.slots < conns → table.given < greatest_number
-      → values_of new.slots ≡ values_of table.slots ++ slot ∷ [] → new.given ≡ table.given + 1
-      → StandsForConnection source slot (record { number = table.given + 1; peer = peer; phase = Idle; since = clock })
-      → Acts (StandsForConnections source) (opening_of conns peer clock) table new (Ok (table.given + 1))
+  pub opened_acts : (slot : Slot) (new : Table) → length table.slots < conns → table.last_number < greatest_number
+      → values_of new.slots ≡ values_of table.slots ++ slot ∷ [] → new.last_number ≡ table.last_number + 1
+      → StandsForConnection source slot (record { number = table.last_number + 1; peer = peer; phase = Idle; since = clock })
+      → Acts (StandsForConnections source) (opening_of conns peer clock) table new (Ok (table.last_number + 1))
   unfolding opening_of number_for
   opened_acts slot new room left more given stands = record {
     gives = λ c z. rw (has_room c z, has_number_left c z) (ap Ok (sym z.next));

@@ -27,7 +27,7 @@ is_free_slot id slot = slot.number == id && not (is_awaiting_stage slot.stage)
 
 -- the connection of this number is not open yet, or awaits no forwarded call
 unfoldable pub is_free : ℕ → Table → Bool
-is_free id table = nat_lt table.given id || list_any (is_free_slot id) (values_of table.slots)
+is_free id table = nat_lt table.last_number id || list_any (is_free_slot id) (values_of table.slots)
 
 -- it is open and Idle
 abbrev pub is_idle_slot : ℕ → Slot → Bool
@@ -88,16 +88,16 @@ abbrev pub IsIdleAt : ℕ → Slot → Type 0
 IsIdleAt clock slot = (is_idle_stage slot.stage ≡ true) × (slot.since ≡ clock)
 
 -- A record ended on it: it awaited no forwarded call, and is Idle since this moment.
-pub record HearsSlot (clock : ℕ) (old new : Slot) : Type 0 where
+pub record EndsOnSlot (clock : ℕ) (old new : Slot) : Type 0 where
   pub awaited_none : is_awaiting_stage old.stage ≡ false
   pub is_idle : is_idle_stage new.stage ≡ true
   pub since : new.since ≡ clock
 
 -- A record ended on a connection that was free, and is Idle since this moment.
-pub record HeardFrom (id clock : ℕ) (old new : Table) : Type 0 where
+pub record EndedOn (id clock : ℕ) (old new : Table) : Type 0 where
   pub was_free : is_free id old ≡ true
   pub is_idle : has_idle id new ≡ true
   pub if_there : IsIdleIfThere id clock new
 
-abbrev pub HearsFree : ℕ → ℕ → Table → Table → Result Received CoreFault → Type 0
-HearsFree id clock old new result = IfOk result (λ got. IfSome got.heard (λ heard. HeardFrom id clock old new))
+abbrev pub EndsOnFree : ℕ → ℕ → Table → Table → Result Received CoreFault → Type 0
+EndsOnFree id clock old new result = IfOk result (λ got. IfSome got.ended (λ ended. EndedOn id clock old new))

@@ -7,7 +7,7 @@ use Rattle.rb_connections.specs.declared.giving.Rest.{Rest}
 use Rattle.rb_connections.specs.declared.giving.Rest.TheVariants as rests
 use Rattle.rb_connections.specs.declared.served.Served.{Served}
 use Rattle.rb_connections.specs.declared.served.Served.TheVariants.{Answered, Listed}
-use Rattle.rb_connections.specs.declared.slot.Heard.{Heard}
+use Rattle.rb_connections.specs.declared.slot.EndedRecord.{EndedRecord}
 use Rattle.rb_connections.specs.declared.slot.Received.{Received}
 use Rattle.rb_connections.specs.StandsFor.{Table}
 
@@ -32,13 +32,13 @@ abbrev pub settling_cost : ℕ → Registry → Served → ℕ
 settling_cost connections registry served = find_cost connections + answered_cost registry served + recount_cost
 
 -- what it costs to swap the buffer of a record, where one ended
-abbrev pub heard_cost : Option Heard → ℕ
-heard_cost None = 0
-heard_cost (Some heard) = swap_cost
+abbrev pub record_swap_cost : Option EndedRecord → ℕ
+record_swap_cost None = 0
+record_swap_cost (Some ended) = swap_cost
 
 -- what it costs to take so many bytes of a piece, and to swap the buffer of the record that ended with them
 abbrev pub received_cost : Received → ℕ
-received_cost got = take_cost got.count + heard_cost got.heard
+received_cost got = take_cost got.count + record_swap_cost got.ended
 
 abbrev pub taken_cost : Result Received CoreFault → ℕ
 taken_cost (Ok got) = received_cost got + recount_cost

@@ -1,22 +1,22 @@
 -- How a reply is given fragment by fragment.
 use Rattle.std.specs.Prelude.{◌≡◌, ◌<◌, ◌≤◌, ⊤, ℕ, ◌+◌, ◌==◌, nat_le, nat_lt, false, not, ◌&&◌, if◌then◌else◌, List, [], length, take, drop, Result, Ok, Err}
 use Rattle.rb_xdr.specs.Kept.{Kept}
-use Rattle.rb_rpc.specs.Records.{fragment_size, marked}
+use Rattle.rb_rpc.specs.Records.{fragment_size, marked_reply}
 use Rattle.rb_proto.specs.ListReplies.{longest_part}
-use Rattle.rb_proto.specs.ListParts.{IsTold}
+use Rattle.rb_proto.specs.ListParts.{CanBeContinued}
 use Rattle.rb_model.specs.declared.types.CoreFault.{CoreFault}
 use Rattle.rb_model.specs.Connections.{longest_fragment}
 use Rattle.rb_connections.specs.declared.giving.Giving.{Giving}
 use Rattle.rb_connections.specs.declared.giving.Rest.{Rest}
 use Rattle.rb_connections.specs.declared.giving.Rest.TheVariants as rests
-use Rattle.rb_connections.specs.StandsFor.{Source, rest_in, stamp_in}
+use Rattle.rb_connections.specs.StandsFor.{Source, rest_in, stamp_of_rest}
 use Rattle.rb_connections.specs.declared.slot.Stage.TheVariants as stages
 use Rattle.rb_connections.specs.declared.slot.Slot.{Slot}
 
 -- The source can make what is not shown yet, where that is of a list.
 abbrev pub CanMake : Source → Rest → Type 0
 CanMake source (rests.Held start) = ⊤
-CanMake source (rests.Listed list) = IsTold source.registry list
+CanMake source (rests.Listed list) = CanBeContinued source.registry list
 
 -- It can make what is behind the fragment that is shown, which is something unless that is the last one.
 pub record GoesOnBy (source : Source) (buffer : List ℕ) (giving : Giving) : Type 0 where
@@ -25,11 +25,11 @@ pub record GoesOnBy (source : Source) (buffer : List ℕ) (giving : Giving) : Ty
 
 -- The next fragment of a reply is shown, where `rest` was not shown yet, and `giving` is how it goes on.
 pub record ShowsNext (source : Source) (buffer : List ℕ) (rest : Rest) (before shown : Kept) (giving : Giving) : Type 0 where
-  pub fragment : shown ≡ record before { bytes = take longest_fragment (marked (rest_in source buffer rest)) }
+  pub fragment : shown ≡ record before { bytes = take longest_fragment (marked_reply (rest_in source buffer rest)) }
   pub rest_is : rest_in source buffer giving.rest ≡ drop longest_part (rest_in source buffer rest)
   pub last : giving.last ≡ nat_le (length (rest_in source buffer rest)) longest_part
   pub place : giving.place ≡ 0
-  pub stamp : stamp_in giving.rest ≡ stamp_in rest
+  pub stamp : stamp_of_rest giving.rest ≡ stamp_of_rest rest
   pub made : CanMake source giving.rest
 
 -- how many bytes are pending
@@ -49,7 +49,7 @@ pub record SlotShowsNext (source : Source) (rest : Rest) (old new : Slot) : Type
 pub record IsGivenWhole (before after : Kept) (given : List ℕ) : Type 0 where
   pub some : 0 < length before.bytes
   pub few : length before.bytes ≤ fragment_size
-  pub is_marked : given ≡ marked before.bytes
+  pub is_marked : given ≡ marked_reply before.bytes
   pub is_empty : after ≡ record before { bytes = [] }
 
 -- how many bytes are written where a reply of n bytes is given whole in this room: 0 where it is not

@@ -2,26 +2,26 @@
 use Rattle.std.specs.Prelude.{◌≡◌, ◌≤◌, ⊤, ℕ, nat_lt, min, Bool, false, if◌then◌else◌, List, [], map, filter_map, All, Contains, Option, Some, None}
 use Rattle.std.specs.Map.{values_of}
 use Rattle.rb_xdr.specs.Pool.{Pool}
-use Rattle.rb_model.specs.Losses.{evicting}
+use Rattle.rb_model.specs.Losses.{evict}
 use Rattle.rb_connections.specs.declared.slot.Stage.{Stage}
 use Rattle.rb_connections.specs.declared.slot.Stage.TheVariants as stages
 use Rattle.rb_connections.specs.declared.slot.Slot.{Slot}
-use Rattle.rb_connections.specs.StandsFor.{Source, stamp_in, Table}
+use Rattle.rb_connections.specs.StandsFor.{Source, stamp_of_rest, Table}
 use Rattle.rb_connections.specs.Giving.{GoesOnBy}
 use Rattle.rb_connections.specs.Slots.{TableBecomes}
 
 -- ---- one slot
 
 -- the stamp of the list that is given: how many changes were accepted before it began
-abbrev pub began_stage : Stage → Option ℕ
-began_stage (stages.Giving giving) = stamp_in giving.rest
-began_stage stages.Idle = None
-began_stage (stages.Reading reader) = None
-began_stage stages.Awaiting = None
-began_stage stages.Lost = None
+abbrev pub stamp_of_stage : Stage → Option ℕ
+stamp_of_stage (stages.Giving giving) = stamp_of_rest giving.rest
+stamp_of_stage stages.Idle = None
+stamp_of_stage (stages.Reading reader) = None
+stamp_of_stage stages.Awaiting = None
+stamp_of_stage stages.Lost = None
 
-abbrev pub slot_began : Slot → Option ℕ
-slot_began slot = began_stage slot.stage
+abbrev pub stamp_of_slot : Slot → Option ℕ
+stamp_of_slot slot = stamp_of_stage slot.stage
 
 -- the source can make the rest of the reply that is given in this stage
 abbrev pub StageListsOn : Source → List ℕ → Stage → Type 0
@@ -52,7 +52,7 @@ KeepsListing old new = (source : Source) → CanListOn source old → CanListOn 
 
 -- the stamps of the lists that are given
 abbrev pub stamps_in : List (ℕ × Slot) → List ℕ
-stamps_in slots = filter_map slot_began (values_of slots)
+stamps_in slots = filter_map stamp_of_slot (values_of slots)
 
 abbrev pub stamps_of : Table → List ℕ
 stamps_of table = stamps_in table.slots
@@ -63,10 +63,10 @@ IsOldest numbers None = numbers ≡ []
 IsOldest numbers (Some oldest) = Contains numbers oldest × All (λ n. oldest ≤ n) numbers
 
 -- the lesser of two numbers, each of which may be missing
-abbrev pub earlier : Option ℕ → Option ℕ → Option ℕ
-earlier None b = b
-earlier (Some a) None = Some a
-earlier (Some a) (Some b) = Some (min a b)
+abbrev pub earlier_of : Option ℕ → Option ℕ → Option ℕ
+earlier_of None b = b
+earlier_of (Some a) None = Some a
+earlier_of (Some a) (Some b) = Some (min a b)
 
 -- ---- eviction
 
@@ -83,11 +83,11 @@ began_early earliest (Some n) = nat_lt n earliest
 -- The connections become Lost whose lists began before these changes, of which the earliest is this one.
 abbrev pub EvictsBefore : ℕ → Table → Table → Type 0
 EvictsBefore earliest old new =
-    (changes : List ℕ) → IsEarliest changes earliest → TableBecomes (evicting changes) old new
+    (changes : List ℕ) → IsEarliest changes earliest → TableBecomes (evict changes) old new
 
 -- a slot after the eviction, Lost where its list began before the change
 abbrev pub evicted_slot : ℕ → Slot → Slot
-evicted_slot earliest slot = if began_early earliest (slot_began slot) then record slot { stage = stages.Lost } else slot
+evicted_slot earliest slot = if began_early earliest (stamp_of_slot slot) then record slot { stage = stages.Lost } else slot
 
 abbrev pub with_evicted : ℕ → Pool Slot → Pool Slot
 with_evicted earliest slots = record slots { entries = map (λ e. (e.0, evicted_slot earliest e.1)) slots.entries }

@@ -6,7 +6,7 @@ use Rattle.rb_rpc.specs.Records.{first_record, data_of}
 use Rattle.rb_rpc.specs.Verdict.{verdict}
 use Rattle.rb_rpc.specs.Marks.{StandsForFed}
 use Rattle.rb_feed.specs.Feeds.{StandsForCall, arguments_of}
-use Rattle.rb_model.specs.Calls.{longest_arguments, kept_of}
+use Rattle.rb_model.specs.Calls.{longest_kept, kept_of}
 use Rattle.rb_connections.specs.StandsFor.{buffer_size, IsReading}
 pub use Rattle.rb_connections.specs.declared.reading.Fed.{Fed}
 pub use Rattle.rb_connections.specs.declared.reading.Intake.{Intake}
@@ -40,8 +40,8 @@ ReadsPiece reader kept piece new now =
 
 -- The first bytes of these arguments are kept, and there is room for so many more.
 pub record AreKept (kept : Kept) (room : ℕ) (arguments : List ℕ) : Type 0 where
-  pub bytes_are : kept.bytes ≡ take longest_arguments arguments
-  pub room_is : room + length kept.bytes ≡ longest_arguments
+  pub bytes_are : kept.bytes ≡ take longest_kept arguments
+  pub room_is : room + length kept.bytes ≡ longest_kept
   pub cap : kept.cap ≡ buffer_size
 
 -- More arguments are kept as far as there is room, which leaves so much.

@@ -4,7 +4,7 @@ use Rattle.rb_registry.specs.Registry.{rows_of}
 use Rattle.rb_proto.specs.declared.answers.Listing.{Listing}
 use Rattle.rb_proto.specs.ListParts.{list_reply}
 use Rattle.rb_model.specs.Calls.{Outcome, Outcome as said, is_no_call}
-use Rattle.rb_model.specs.Connections.{settled, changed_at}
+use Rattle.rb_model.specs.Connections.{settle, changed_at}
 use Rattle.rb_connections.specs.declared.served.Served.{Served}
 use Rattle.rb_connections.specs.declared.served.Served.TheVariants.{Answered, Listed}
 use Rattle.rb_connections.specs.declared.served.Outcome.{Outcome as Written}
@@ -32,12 +32,12 @@ served_in source (Listed xid listing) reply = listing_outcome source xid listing
 
 -- The connection that a slot stands for goes on with what its record is answered with, where `written` is the reply.
 abbrev pub SlotSettles : Source → ℕ → Served → List ℕ → Slot → Slot → Type 0
-SlotSettles source clock served written old new = SlotBecomesFrom source (settled clock (served_in source served written)) old new
+SlotSettles source clock served written old new = SlotBecomesFrom source (settle clock (served_in source served written)) old new
 
 -- So does the live connection of the number.
 abbrev pub Settles : Source → ℕ → ℕ → Served → List ℕ → Table → Table → Type 0
 Settles source id clock served written old new =
-    BecomesFrom source (changed_at id (settled clock (served_in source served written))) old new
+    BecomesFrom source (changed_at id (settle clock (served_in source served written))) old new
 
 abbrev pub is_closed_by : Source → Served → List ℕ → Bool
 is_closed_by source served reply = is_no_call (served_in source served reply)

@@ -11,18 +11,18 @@ use Rattle.rb_rpc.specs.declared.peer.Peer.{Peer}
 use Rattle.rb_model.specs.declared.types.CoreFault.{CoreFault}
 use Rattle.rb_model.specs.State.{Phase, Connection, Connections}
 use Rattle.rb_model.specs.Calls.{kept_of}
-use Rattle.rb_model.specs.Connections.{longest_fragment, Taking, taking_on, taking, since_when_fed, reading, giving, is_lost, has_number, is_live, live_connection, on_live}
+use Rattle.rb_model.specs.Connections.{longest_fragment, Taking, taking_on, taking_of, since_when_fed, keep_reading, give, is_lost, has_number, is_live, live_connection, on_live}
 use Rattle.rb_model.specs.Connections.Taking.{TakesNone, GoesOn, Ends}
 use Rattle.rb_model.specs.State.Phase.{Idle, Reading, Owing, Awaiting, Lost}
 use Rattle.rb_model.specs.Losses.{deadline, has_come, is_due}
 use Rattle.rb_connections.specs.declared.slot.Slot.{Slot}
 use Rattle.rb_connections.specs.declared.reading.Reader.{Reader}
-use Rattle.rb_connections.specs.declared.slot.Heard.{Heard}
+use Rattle.rb_connections.specs.declared.slot.EndedRecord.{EndedRecord}
 use Rattle.rb_connections.specs.declared.slot.Received.{Received}
 use Rattle.rb_connections.specs.declared.slot.Stage.{Stage}
 use Rattle.rb_connections.specs.declared.slot.Stage.TheVariants as stages
 use Rattle.rb_connections.specs.declared.slot.Wanted.{Wanted}
-use Rattle.rb_connections.specs.declared.slot.Whole.{Whole}
+use Rattle.rb_connections.specs.declared.slot.WholeRecord.{WholeRecord}
 use Rattle.rb_connections.specs.declared.slot.Wanted.TheVariants as wanted
 use Rattle.rb_connections.specs.declared.slot.Buffers.{Buffers}
 use Rattle.rb_connections.specs.StandsFor.{buffer_size, IsReading, Source, StandsForConnection, Table, StandsForConnections, held_in, AreWithin}
@@ -55,7 +55,7 @@ SlotBecomesFrom source change old new =
 
 -- n bytes that are pending are given on the connection that a slot stands for, or as many as there are
 abbrev pub SlotGives : Source → ℕ → ℕ → Slot → Slot → Type 0
-SlotGives source clock n old new = Acts (StandsForConnection source) (giving clock n) old new tt
+SlotGives source clock n old new = Acts (StandsForConnection source) (give clock n) old new tt
 
 -- with its buffers emptied
 abbrev pub emptied_slot : Slot → Slot
@@ -76,18 +76,18 @@ pub record IsBeforePiece (slot : Slot) (reader : Reader) (clock : ℕ) (c : Conn
   pub window : slot.window.bytes ≡ []
 
 -- the verdict on a record with this data, and the peer that sent it
-abbrev pub heard_of : Peer → List ℕ → Heard
-heard_of peer content = record { peer = peer; verdict = verdict content }
+abbrev pub ended_record : Peer → List ℕ → EndedRecord
+ended_record peer content = record { peer = peer; verdict = verdict content }
 
 -- what the core is told of a piece that a connection takes
-abbrev pub received : List ℕ → Connection → Taking → Received
-received piece c TakesNone = record { count = 0; heard = None }
-received piece c (GoesOn fed) = record { count = length piece; heard = None }
-received piece c (Ends n content) = record { count = n; heard = Some (heard_of c.peer content) }
+abbrev pub received_of : List ℕ → Connection → Taking → Received
+received_of piece c TakesNone = record { count = 0; ended = None }
+received_of piece c (GoesOn fed) = record { count = length piece; ended = None }
+received_of piece c (Ends n content) = record { count = n; ended = Some (ended_record c.peer content) }
 
 -- what the core is told of a record that is one fragment with this data
-abbrev pub heard_whole : Peer → List ℕ → Received
-heard_whole peer content = record { count = 4 + length content; heard = Some (heard_of peer content) }
+abbrev pub received_whole : Peer → List ℕ → Received
+received_whole peer content = record { count = 4 + length content; ended = Some (ended_record peer content) }
 
 -- the arguments that the core has after it: those that are kept of the record that ended, or what it had before
 abbrev pub arguments_after : List ℕ → Taking → List ℕ
@@ -96,39 +96,39 @@ arguments_after before (GoesOn fed) = before
 arguments_after before (Ends n content) = kept_of content
 
 -- the connection after the piece: where a record ended, Idle until that is answered
-abbrev pub fed_with : ℕ → Connection → Taking → Connection
-fed_with clock c TakesNone = c
-fed_with clock c (GoesOn fed) = reading clock fed c
-fed_with clock c (Ends n content) = record c { phase = Idle; since = clock }
+abbrev pub connection_after : ℕ → Connection → Taking → Connection
+connection_after clock c TakesNone = c
+connection_after clock c (GoesOn fed) = keep_reading clock fed c
+connection_after clock c (Ends n content) = record c { phase = Idle; since = clock }
 
 -- Whatever bytes of a record were fed before, this is what the core is told of the piece.
 abbrev pub ReceivesPiece : Slot → Reader → ℕ → List ℕ → Received → Type 0
 ReceivesPiece slot reader clock piece result =
-    (c : Connection) (fed : List ℕ) → IsBeforePiece slot reader clock c fed → result ≡ received piece c (taking_on fed piece)
+    (c : Connection) (fed : List ℕ) → IsBeforePiece slot reader clock c fed → result ≡ received_of piece c (taking_on fed piece)
 
 -- the new slot stands for the connection after the piece
 abbrev pub StandsBehindPiece : Slot → Slot → Reader → ℕ → List ℕ → Type 0
 StandsBehindPiece old new reader clock piece =
     (source : Source) (c : Connection) (fed : List ℕ) → IsBeforePiece old reader clock c fed
-    → StandsForConnection source new (fed_with clock c (taking_on fed piece))
+    → StandsForConnection source new (connection_after clock c (taking_on fed piece))
 
 -- the buffer that the core handed in has these arguments after it
-abbrev pub HearsPiece : Slot → Reader → ℕ → List ℕ → Kept → Kept → Type 0
-HearsPiece slot reader clock piece before after =
+abbrev pub KeepsArgumentsOfPiece : Slot → Reader → ℕ → List ℕ → Kept → Kept → Type 0
+KeepsArgumentsOfPiece slot reader clock piece before after =
     (c : Connection) (fed : List ℕ) → IsBeforePiece slot reader clock c fed
     → after.bytes ≡ arguments_after before.bytes (taking_on fed piece)
 
 -- a piece is taken, and what it says is not answered yet
-unfoldable pub feeding : ℕ → List ℕ → Connection → Received × Connection
-feeding clock piece c = (received piece c (taking c.phase piece), fed_with clock c (taking c.phase piece))
+unfoldable pub take_piece : ℕ → List ℕ → Connection → Received × Connection
+take_piece clock piece c = (received_of piece c (taking_of c.phase piece), connection_after clock c (taking_of c.phase piece))
 
 -- the arguments that the core has once a piece was taken
-abbrev pub arguments_heard : List ℕ → List ℕ → Connection → List ℕ
-arguments_heard before piece c = arguments_after before (taking c.phase piece)
+abbrev pub arguments_taken : List ℕ → List ℕ → Connection → List ℕ
+arguments_taken before piece c = arguments_after before (taking_of c.phase piece)
 
 -- the buffer that the core handed in has them
-abbrev pub SlotHears : List ℕ → Slot → Kept → Kept → Type 0
-SlotHears piece slot before after = SlotShows (arguments_heard before.bytes piece) slot after.bytes
+abbrev pub SlotHasArguments : List ℕ → Slot → Kept → Kept → Type 0
+SlotHasArguments piece slot before after = SlotShows (arguments_taken before.bytes piece) slot after.bytes
 
 -- ---- the table
 
@@ -155,36 +155,36 @@ TableBecomes change old new = (source : Source) → BecomesFrom source change ol
 
 -- the arguments that the core has once a piece for the connection of a number was taken
 abbrev pub arguments_on : ℕ → List ℕ → List ℕ → Connections → List ℕ
-arguments_on id before piece connections = option_map_or (arguments_heard before piece) (live_connection id connections.all) before
+arguments_on id before piece connections = option_map_or (arguments_taken before piece) (live_connection id connections.all) before
 
 -- the buffer that the core handed in has them
-abbrev pub TableHears : ℕ → List ℕ → Table → Kept → Kept → Type 0
-TableHears id piece table before after = TableShows (arguments_on id before.bytes piece) table after.bytes
+abbrev pub TableHasArguments : ℕ → List ℕ → Table → Kept → Kept → Type 0
+TableHasArguments id piece table before after = TableShows (arguments_on id before.bytes piece) table after.bytes
 
--- so many bytes of a piece were taken on the live connection of the number, and this was heard
+-- so many bytes of a piece were taken on the live connection of the number, and this came of it
 abbrev pub TableTakes : ℕ → ℕ → List ℕ → Table → Table → Received → Type 0
-TableTakes id clock piece old new got = TableActs (on_live id (feeding clock piece)) old new (Ok got)
+TableTakes id clock piece old new got = TableActs (on_live id (take_piece clock piece)) old new (Ok got)
 
 -- which arguments are kept of a record that came whole
-abbrev pub kept_in : Whole → List ℕ
+abbrev pub kept_in : WholeRecord → List ℕ
 kept_in whole = kept_of whole.content.now
 
 -- it was taken on the live connection of the number,
-abbrev pub TakesWhole : ℕ → ℕ → List ℕ → Whole → Table → Table → Type 0
-TakesWhole id clock piece whole old new = TableTakes id clock piece old new (heard_whole whole.peer whole.content.now)
+abbrev pub TakesWhole : ℕ → ℕ → List ℕ → WholeRecord → Table → Table → Type 0
+TakesWhole id clock piece whole old new = TableTakes id clock piece old new (received_whole whole.peer whole.content.now)
 
 -- and the core has its arguments after it
-abbrev pub KeepsWhole : ℕ → List ℕ → Whole → Table → Type 0
+abbrev pub KeepsWhole : ℕ → List ℕ → WholeRecord → Table → Type 0
 KeepsWhole id piece whole old = (before : List ℕ) → TableShows (arguments_on id before piece) old (kept_in whole)
 
 -- n bytes that are pending are given on the live connection of the number, or as many as there are
 abbrev pub TableGives : Source → ℕ → ℕ → ℕ → Table → Table → Result (Unit {0}) CoreFault → Type 0
 TableGives source id clock n old new result =
-    Acts (StandsForConnections source) (on_live id (giving clock n)) old new result
+    Acts (StandsForConnections source) (on_live id (give clock n)) old new result
 
 -- a table without connections, for at most so many, counted by this meter
 abbrev pub empty_table : ℕ → ℕ → Table
-empty_table conns tie = record { slots = []; given = 0; conns = conns; tie = tie }
+empty_table conns tie = record { slots = []; last_number = 0; conns = conns; tie = tie }
 
 -- ---- what is looked for
 
@@ -192,7 +192,7 @@ empty_table conns tie = record { slots = []; given = 0; conns = conns; tie = tie
 abbrev pub phase_like : Stage → Phase
 phase_like stages.Idle = Idle
 phase_like (stages.Reading reader) = Reading []
-phase_like (stages.Giving giving) = Owing (record { marked = []; given = 0; began = None })
+phase_like (stages.Giving giving) = Owing (record { marked = []; given = 0; stamp = None })
 phase_like stages.Awaiting = Awaiting
 phase_like stages.Lost = Lost
 
@@ -262,8 +262,8 @@ is_numbered id slot = slot.number == id
 
 -- no two slots have one number, and none has one above the last that was given
 abbrev pub AreNumbered : ℕ → List Slot → Type 0
-AreNumbered given [] = ⊤
-AreNumbered given (slot ∷ rest) = (slot.number ≤ given) × (list_any (is_numbered slot.number) rest ≡ false) × AreNumbered given rest
+AreNumbered last_number [] = ⊤
+AreNumbered last_number (slot ∷ rest) = (slot.number ≤ last_number) × (list_any (is_numbered slot.number) rest ≡ false) × AreNumbered last_number rest
 
 -- no two slots have one number
 abbrev pub HasDistinctNumbers : List Slot → Type 0
@@ -310,7 +310,7 @@ pub record StaysTable (old new : Table) : Type 0 where
 
 -- What is true of all that is kept of connections: each connection that is not open has its buffers spare, and the number of
 -- bytes that are held is counted.
-pub record IsTable (slots : Pool Slot) (spare : Pool Buffers) (given conns held : ℕ) : Type 0 where
+pub record IsTable (slots : Pool Slot) (spare : Pool Buffers) (last_number conns held : ℕ) : Type 0 where
   pub distinct : HasDistinctKeys slots.entries
   pub spare_distinct : HasDistinctKeys spare.entries
   pub room : length slots.entries + length spare.entries ≡ conns
@@ -319,7 +319,7 @@ pub record IsTable (slots : Pool Slot) (spare : Pool Buffers) (given conns held 
   pub tie : spare.tie ≡ slots.tie
   pub buffers : All (HasBuffers slots.tie) (values_of slots.entries)
   pub spare_buffers : All (AreSpare slots.tie) (values_of spare.entries)
-  pub numbers : AreNumbered given (values_of slots.entries)
+  pub numbers : AreNumbered last_number (values_of slots.entries)
   pub few : conns ≤ 256
   pub within : AreWithin slots.entries
   pub is_held : held ≡ held_in (values_of slots.entries)

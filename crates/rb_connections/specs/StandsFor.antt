@@ -4,12 +4,12 @@ use Rattle.std.specs.List.{AllZip, sum_by}
 use Rattle.std.specs.Map.{values_of}
 use Rattle.rb_xdr.specs.Kept.{Kept}
 use Rattle.rb_rpc.specs.Marks.{StandsForFed}
-use Rattle.rb_rpc.specs.Records.{data_of, marked}
+use Rattle.rb_rpc.specs.Records.{data_of, marked_reply}
 use Rattle.rb_feed.specs.declared.feed.CallFeed.{CallFeed}
 use Rattle.rb_feed.specs.Feeds.{StandsForCall}
 use Rattle.rb_registry.specs.Registry.{Registry}
 use Rattle.rb_proto.specs.ListReplies.{longest_part, rest_of}
-use Rattle.rb_model.specs.Calls.{longest_reply, kept_of, longest_arguments}
+use Rattle.rb_model.specs.Calls.{longest_reply, kept_of, longest_kept}
 use Rattle.rb_model.specs.State.{Owed, Phase, Connection, Connections}
 use Rattle.rb_model.specs.Connections.{longest_fragment}
 use Rattle.rb_model.specs.State.Phase.{Idle, Reading, Owing, Awaiting, Lost}
@@ -23,7 +23,7 @@ use Rattle.rb_connections.specs.declared.slot.Slot.{Slot}
 
 -- a connection's buffer has the arguments of the call that is read, and later the reply to it
 unfoldable pub buffer_size : ℕ
-buffer_size = max longest_arguments longest_reply
+buffer_size = max longest_kept longest_reply
 
 -- The head and the buffer stand for this data of a record.
 pub record IsHeld (head : CallFeed) (kept : Kept) (content : List ℕ) : Type 0 where
@@ -44,7 +44,7 @@ window o = take longest_fragment (drop (longest_fragment * (o.given / longest_fr
 
 -- A window shows the current fragment of this reply.
 pub record IsShown (reply : List ℕ) (shown : Kept) (o : Owed) : Type 0 where
-  pub marked : o.marked ≡ marked reply
+  pub marked : o.marked ≡ marked_reply reply
   pub owes : o.given < length o.marked
   pub shown_is : shown.bytes ≡ window o
   pub cap : shown.cap ≡ longest_fragment
@@ -63,15 +63,15 @@ rest_in source buffer (rests.Held start) = drop start buffer
 rest_in source buffer (rests.Listed list) = rest_of source.host source.registry list
 
 -- the stamp of the reply, where it is a list: how many changes were accepted before it began
-abbrev pub stamp_in : Rest → Option ℕ
-stamp_in (rests.Held start) = None
-stamp_in (rests.Listed list) = Some list.stamp
+abbrev pub stamp_of_rest : Rest → Option ℕ
+stamp_of_rest (rests.Held start) = None
+stamp_of_rest (rests.Listed list) = Some list.stamp
 
 -- The window and the rest behind it stand for what is owed: so many bytes of the fragment that is shown were given.
 pub record IsGiving (source : Source) (giving : Giving) (buffer : List ℕ) (shown : Kept) (o : Owed) : Type 0 where
   pub reply : List ℕ
   pub shows : IsShown reply shown o
-  pub began : o.began ≡ stamp_in giving.rest
+  pub stamp : o.stamp ≡ stamp_of_rest giving.rest
   pub place : giving.place ≡ o.given % longest_fragment
   pub rest : rest_in source buffer giving.rest ≡ drop (longest_part * (o.given / longest_fragment + 1)) reply
   pub last : giving.last ≡ nat_le (length reply) (longest_part * (o.given / longest_fragment + 1))
@@ -106,17 +106,17 @@ IsWithin slot = charge slot ≤ most_charge
 
 -- ---- all connections
 
--- the slots of connections with their keys, in order of opening, how many numbers were given, how many connections
+-- the slots of connections with their keys, in order of opening, the last number that was given, how many connections
 -- there may be, and the number of the meter that counts the accesses
 pub record Table : Type 0 where
   pub slots : List (ℕ × Slot)
-  pub given : ℕ
+  pub last_number : ℕ
   pub conns : ℕ
   pub tie : ℕ
 
 pub record StandsForConnections (source : Source) (table : Table) (connections : Connections) : Type 0 where
   pub all : AllZip (StandsForConnection source) (values_of table.slots) connections.all
-  pub next : connections.next ≡ table.given + 1
+  pub next : connections.next ≡ table.last_number + 1
 
 abbrev pub held_in : List Slot → ℕ
 held_in slots = sum_by charge slots

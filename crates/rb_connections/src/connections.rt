@@ -8,14 +8,14 @@ ghost use Rattle.rb_xdr.specs.Pool.{HasDistinctKeys};
 ghost use Rattle.rb_connections.specs.Slots.{wanted_slot, AreBuffers, AreSpare, HasBuffers, HasDistinctNumbers};
 ghost use Rattle.rb_connections.specs.LiveSlots.{charge_of, count_cost, FindsLive, LendsLive};
 ghost use Rattle.rb_connections.specs.StandsFor.{held_in};
-ghost use Rattle.rb_connections.specs.Listings.{earlier, began_early, with_evicted, stamps_in, IsOldest};
+ghost use Rattle.rb_connections.specs.Listings.{earlier_of, began_early, with_evicted, stamps_in, IsOldest};
 ghost use Rattle.rb_model.specs.Costs.{oldest_cost, evict_cost};
 
 use crate::giving::LONGEST_FRAGMENT;
 use crate::hints::Hints;
-use crate::reading::LONGEST_ARGUMENTS;
+use crate::reading::LONGEST_KEPT;
 use crate::served::{LONGEST_REPLY, Served};
-use crate::slot::{Buffers, CHARGE, Received, Slot, Stage, Wanted, Whole};
+use crate::slot::{Buffers, CHARGE, Received, Slot, Stage, Wanted, WholeRecord};
 use rb_model::CoreFault;
 use rb_registry::Registry;
 use rb_rpc::{Peer, one_fragment};
@@ -24,10 +24,10 @@ use std::alloc::Global;
 use std::marker::Model;
 
 /// The size of a buffer: it has the arguments of the call that is read, and later the reply to it.
-pub const BUFFER_SIZE: usize = if LONGEST_ARGUMENTS < LONGEST_REPLY {
+pub const BUFFER_SIZE: usize = if LONGEST_KEPT < LONGEST_REPLY {
     LONGEST_REPLY
 } else {
-    LONGEST_ARGUMENTS
+    LONGEST_KEPT
 };
 
 /// The connections that are open, in the order of their openings, and the buffers of those that are not.
@@ -35,7 +35,7 @@ pub const BUFFER_SIZE: usize = if LONGEST_ARGUMENTS < LONGEST_REPLY {
 pub struct Connections {
     slots: Pool<Slot>,
     spare: Pool<Buffers>,
-    given: u64,
+    last_number: u64,
     conns: usize,
     held: u64,
     hints: Hints,
@@ -47,14 +47,14 @@ fn layout(connections: &Connections) {
     let Connections {
         slots,
         spare,
-        given,
+        last_number,
         conns,
         held,
         hints,
     } = connections;
     let _: &Pool<Slot> = slots;
     let _: &Pool<Buffers> = spare;
-    let _: (u64, usize, u64, Hints) = (*given, *conns, *held, *hints);
+    let _: (u64, usize, u64, Hints) = (*last_number, *conns, *held, *hints);
 }
 
 impl Model for Connections {
@@ -63,9 +63,9 @@ impl Model for Connections {
 
     ghost Value = { Table };
 
-    ghost view = { λ c. record { slots = c.slots.entries; given = c.given; conns = c.conns; tie = c.slots.tie } };
+    ghost view = { λ c. record { slots = c.slots.entries; last_number = c.last_number; conns = c.conns; tie = c.slots.tie } };
 
-    ghost invariant = { λ c. IsTable c.slots c.spare c.given c.conns c.held };
+    ghost invariant = { λ c. IsTable c.slots c.spare c.last_number c.conns c.held };
 }
 
 /// Takes the first spare buffers out.
@@ -132,7 +132,7 @@ fn put_slot(slots: &mut Pool<Slot>, slot: Slot, meter: &mut Meter) -> usize
 
 /// The smaller of two optional numbers.
 fn earlier(a: Option<u64>, b: Option<u64>) -> Option<u64>
-    ensures { result ≡ earlier a b }
+    ensures { result ≡ earlier_of a b }
 {
     match (a, b) {
         (Some(a), Some(b)) => Some(a.min(b)),
@@ -150,17 +150,17 @@ fn oldest_in(slots: &Pool<Slot>, meter: &mut Meter) -> Option<u64>
     let mut oldest = None;
     let mut place = None;
     'slots: while let Some((key, slot)) = slots.entry_after(place, meter) {
-        oldest = earlier(oldest, slot.began());
+        oldest = earlier(oldest, slot.stamp());
         place = Some(key);
     }
     oldest
 }
 
 /// Whether a list with this stamp began before a change.
-fn is_early(began: Option<u64>, earliest: u64) -> bool
-    ensures { result ≡ began_early earliest began }
+fn is_early(stamp: Option<u64>, earliest: u64) -> bool
+    ensures { result ≡ began_early earliest stamp }
 {
-    match began {
+    match stamp {
         Some(stamp) => stamp < earliest,
         None => false,
     }
@@ -175,7 +175,7 @@ fn evict_slots(slots: &mut Pool<Slot>, earliest: u64, meter: &mut Meter)
 {
     let mut place = None;
     'slots: while let Some((key, slot)) = slots.entry_after(place, meter) {
-        if is_early(slot.began(), earliest) {
+        if is_early(slot.stamp(), earliest) {
             let Some(reader) = slots.get_mut(key, meter) else {
                 unreachable!()
             };
@@ -186,7 +186,7 @@ fn evict_slots(slots: &mut Pool<Slot>, earliest: u64, meter: &mut Meter)
 }
 
 /// The buffers of as many connections as there may be.
-#[tactic(auto, unfolding(rb_model::specs::Calls::longest_arguments, crate::specs::StandsFor::buffer_size, rb_model::specs::Calls::longest_reply, rb_model::specs::Connections::longest_fragment))]
+#[tactic(auto, unfolding(rb_model::specs::Calls::longest_kept, crate::specs::StandsFor::buffer_size, rb_model::specs::Calls::longest_reply, rb_model::specs::Connections::longest_fragment))]
 fn make_spare(alloc: Global, conns: usize, meter: &mut Meter) -> Result<Pool<Buffers>, NoMemory>
     ensures distinct { IfOk result (λ spare. HasDistinctKeys spare.entries) }
     ensures all { IfOk result (λ spare. length spare.entries ≡ conns) }
@@ -258,12 +258,12 @@ impl Connections {
     ghost use Rattle.rb_connections.specs.Giving.{pending_count};
     ghost use Rattle.rb_connections.specs.Settling.{Settles, kind_in, IsWritten};
     ghost use Rattle.rb_connections.specs.Listings.{CanListOn, KeepsListing, EvictsBefore, stamps_of, IsOldest};
-    ghost use Rattle.rb_model.specs.Losses.{expiring};
-    ghost use Rattle.rb_connections.specs.Slots.{Finds, TableActs, TableGives, TableHears, TableLends, TableShows, TakesWhole, KeepsWhole, StaysTable, IsDraft, IsEmptyDraft, empty_table, feeding, HasBuffers};
+    ghost use Rattle.rb_model.specs.Losses.{expire_first};
+    ghost use Rattle.rb_connections.specs.Slots.{Finds, TableActs, TableGives, TableHasArguments, TableLends, TableShows, TakesWhole, KeepsWhole, StaysTable, IsDraft, IsEmptyDraft, empty_table, take_piece, HasBuffers};
     ghost use Rattle.rb_model.specs.Step.{pending_at};
     ghost use Rattle.rb_connections.specs.Costs.{slot_count, look_cost, received_cost, taken_cost, settling_cost, row_count};
     ghost use Rattle.rb_model.specs.Costs.{given_cost, recount_cost, pending_cost, oldest_cost, evict_cost};
-    ghost use Rattle.rb_connections.specs.Awaits.{AwaitsIfForwarded, NoneIsFreed, OnlyIsFreed, HeardFrom, HearsFree, GoOn, StayOpen};
+    ghost use Rattle.rb_connections.specs.Awaits.{AwaitsIfForwarded, NoneIsFreed, OnlyIsFreed, EndedOn, EndsOnFree, GoOn, StayOpen};
     ghost use Rattle.rb_connections.specs.StandsFor.{held_in, most_charge, source_for};
     ghost use Rattle.std.specs.Map.{values_of};
 
@@ -277,7 +277,7 @@ impl Connections {
         Ok(Connections {
             slots: Pool::written(alloc, conns, || Slot::blank(alloc), meter)?,
             spare,
-            given: 0,
+            last_number: 0,
             conns,
             held: 0,
             hints: Hints::new(),
@@ -296,14 +296,14 @@ impl Connections {
         if self.slots.len(meter) >= self.conns {
             return Err(CoreFault::Full);
         }
-        if self.given == u64::MAX {
+        if self.last_number == u64::MAX {
             return Err(CoreFault::Spent);
         }
         let Buffers { buffer, window } = take_buffers(&mut self.spare, meter);
-        self.given += 1;
+        self.last_number += 1;
         self.held += CHARGE;
         let slot = Slot {
-            number: self.given,
+            number: self.last_number,
             peer,
             stage: Stage::Idle,
             since: clock,
@@ -311,8 +311,8 @@ impl Connections {
             window,
         };
         let key = put_slot(&mut self.slots, slot, meter);
-        self.hints.note(self.given, key);
-        Ok(self.given)
+        self.hints.note(self.last_number, key);
+        Ok(self.last_number)
     }
 
     /// Removes the connection of the number, live or Lost: `Gone` where there is none.
@@ -338,17 +338,17 @@ impl Connections {
     /// Takes a record that is one fragment and lies whole in the piece, as most do, where the live connection of the
     /// number is Idle and under its hint. The connection is Idle until it is settled. `None` where it is not so, and
     /// then nothing changed.
-    pub fn hear<'a>(
+    pub fn take_whole<'a>(
         &mut self,
         id: u64,
         piece: &'a [u8],
         clock: u64,
         meter: &mut Meter,
-    ) -> Option<Whole<'a>>
+    ) -> Option<WholeRecord<'a>>
         requires { meter.old.tie ≡ self.old.tie }
         ensures acts { IfSome result (λ whole. TakesWhole id clock piece.now whole self.old self.new) }
         ensures arguments { IfSome result (λ whole. KeepsWhole id piece.now whole self.old) }
-        ensures from { IfSome result (λ whole. HeardFrom id clock self.old self.new) }
+        ensures from { IfSome result (λ whole. EndedOn id clock self.old self.new) }
         ensures within { IfSome result (λ whole. 4 + length whole.content.now ≤ length piece.now) }
         ensures refused { IfNone result (self.new ≡ self.old) }
         ensures goes_on { GoOn self.old self.new }
@@ -357,8 +357,8 @@ impl Connections {
     {
         let content = one_fragment(piece)?;
         let slot = self.slots.get_mut(self.hints.key(Wanted::Live(id)), meter)?;
-        let peer = slot.hear_whole(id, clock)?;
-        Some(Whole { peer, content })
+        let peer = slot.take_whole(id, clock)?;
+        Some(WholeRecord { peer, content })
     }
 
     /// Takes bytes that arrive on the live connection of the number, up to the end of a record, and returns the
@@ -373,10 +373,10 @@ impl Connections {
     ) -> Result<Received, CoreFault>
         requires tie { meter.old.tie ≡ self.old.tie }
         requires arguments { IsDraft meter.old.tie arguments.old }
-        ensures acts { TableActs (on_live id (feeding clock piece.now)) self.old self.new result }
-        ensures arguments { TableHears id piece.now self.old arguments.old arguments.new }
+        ensures acts { TableActs (on_live id (take_piece clock piece.now)) self.old self.new result }
+        ensures arguments { TableHasArguments id piece.now self.old arguments.old arguments.new }
         ensures goes_on { GoOn self.old self.new }
-        ensures hears { HearsFree id clock self.old self.new result }
+        ensures ends { EndsOnFree id clock self.old self.new result }
         ensures within { IfOk result (λ got. got.count ≤ length piece.now) }
         ensures refused { OnErr result (self.new ≡ self.old) }
         ensures kept { OnErr result (arguments.new ≡ arguments.old) }
@@ -490,7 +490,7 @@ impl Connections {
     /// The connection of least number whose deadline has come becomes Lost.
     pub fn expire(&mut self, clock: u64, meter: &mut Meter) -> Option<u64>
         requires { meter.old.tie ≡ self.old.tie }
-        ensures acts { TableActs (expiring clock) self.old self.new result }
+        ensures acts { TableActs (expire_first clock) self.old self.new result }
         ensures goes_on { GoOn self.old self.new }
         ensures cost { PaysAtMost meter.old meter.new (look_cost self.old) }
     {

@@ -36,11 +36,11 @@ pub enum Rest {
 
 impl Rest {
     ghost use Rattle.std.specs.Prelude.{◌≡◌};
-    ghost use Rattle.rb_connections.specs.StandsFor.{stamp_in};
+    ghost use Rattle.rb_connections.specs.StandsFor.{stamp_of_rest};
 
     /// The stamp of the reply, where it is a list: how many changes were accepted before it began.
     pub fn stamp(self) -> Option<u64>
-        ensures { result ≡ stamp_in self }
+        ensures { result ≡ stamp_of_rest self }
     {
         match self {
             Rest::Held(_) => None,
@@ -125,7 +125,7 @@ fn show_held(start: usize, buffer: &Kept, window: &mut Kept, meter: &mut Meter) 
 }
 
 /// Puts the next fragment of a list in the window. It is made in `scratch`, empty before and after.
-#[tactic(auto, unfolding(rb_model::specs::Connections::longest_fragment, rb_model::specs::Calls::longest_arguments, crate::specs::StandsFor::buffer_size, rb_model::specs::Calls::longest_reply))]
+#[tactic(auto, unfolding(rb_model::specs::Connections::longest_fragment, rb_model::specs::Calls::longest_kept, crate::specs::StandsFor::buffer_size, rb_model::specs::Calls::longest_reply))]
 fn show_list(
     mut list: ListReply,
     registry: &Registry,

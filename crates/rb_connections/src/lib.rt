@@ -12,6 +12,6 @@ mod slot;
 
 pub use connections::{BUFFER_SIZE, Connections};
 pub use giving::{LONGEST_FRAGMENT, give_whole};
-pub use reading::LONGEST_ARGUMENTS;
+pub use reading::LONGEST_KEPT;
 pub use served::{LONGEST_REPLY, Outcome, Served};
-pub use slot::{Heard, Received, Whole};
+pub use slot::{EndedRecord, Received, WholeRecord};

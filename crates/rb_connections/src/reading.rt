@@ -12,7 +12,7 @@ use rb_rpc::{Marks, Part, Verdict};
 use rb_xdr::{Kept, Meter};
 
 /// The greatest length of arguments that are served.
-pub const LONGEST_ARGUMENTS: usize = 8_816;
+pub const LONGEST_KEPT: usize = 8_816;
 
 /// A record that is being read. The arguments of its call are not here, but in a buffer.
 #[derive(Clone, Copy, Debug, PartialEq, Eq)]
@@ -106,7 +106,7 @@ impl Intake {
     {
         Intake {
             head,
-            room: LONGEST_ARGUMENTS.saturating_sub(kept.len(meter)),
+            room: LONGEST_KEPT.saturating_sub(kept.len(meter)),
         }
     }
 

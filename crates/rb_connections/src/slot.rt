@@ -58,7 +58,7 @@ impl Wanted {
 
 /// The verdict on a record, and who sent it.
 #[derive(Clone, Copy, Debug, PartialEq, Eq)]
-pub struct Heard {
+pub struct EndedRecord {
     pub peer: Peer,
     pub verdict: Verdict,
 }
@@ -68,12 +68,12 @@ pub struct Heard {
 #[derive(Clone, Copy, Debug, PartialEq, Eq)]
 pub struct Received {
     pub count: usize,
-    pub heard: Option<Heard>,
+    pub ended: Option<EndedRecord>,
 }
 
 /// A record that is one fragment and came whole: who sent it, and its data.
 #[derive(Clone, Copy, Debug, PartialEq, Eq)]
-pub struct Whole<'a> {
+pub struct WholeRecord<'a> {
     pub peer: Peer,
     pub content: &'a [u8],
 }
@@ -129,11 +129,11 @@ fn layout(slot: &Slot, spare: &Buffers) {
 }
 
 fn nothing() -> Received
-    ensures { result ≡ record { count = 0; heard = None } }
+    ensures { result ≡ record { count = 0; ended = None } }
 {
     Received {
         count: 0,
-        heard: None,
+        ended: None,
     }
 }
 
@@ -157,14 +157,14 @@ impl Slot {
     ghost use Rattle.std.specs.Prelude.{◌≡◌, ◌≤◌, ◌<◌, ◌+◌, ℕ, List, [], true, false, length, Some, IfSome, IfNone};
     ghost use Rattle.rb_model.specs.State.{Connection};
     ghost use Rattle.rb_model.specs.Connections.{pending_in, longest_fragment};
-    ghost use Rattle.rb_connections.specs.Slots.{is_due_slot, SlotActs, SlotGives, SlotHears, SlotShows, emptied_slot, ReceivesPiece, StandsBehindPiece, HearsPiece, HasBuffers, IsDraft, IsEmptyDraft, StaysSlot, feeding, heard_whole, is_lost_stage, is_idle_stage, is_wanted_slot};
+    ghost use Rattle.rb_connections.specs.Slots.{is_due_slot, SlotActs, SlotGives, SlotHasArguments, SlotShows, emptied_slot, ReceivesPiece, StandsBehindPiece, KeepsArgumentsOfPiece, HasBuffers, IsDraft, IsEmptyDraft, StaysSlot, take_piece, received_whole, is_lost_stage, is_idle_stage, is_wanted_slot};
     ghost use Rattle.rb_connections.specs.StandsFor.{StandsForConnection, charge, most_charge, rest_in, source_for};
     ghost use Rattle.rb_model.specs.Calls.{kept_of};
-    ghost use Rattle.rb_connections.specs.Listings.{slot_began, SlotListsOn, SlotKeepsListing, SlotListsOnByAll};
+    ghost use Rattle.rb_connections.specs.Listings.{stamp_of_slot, SlotListsOn, SlotKeepsListing, SlotListsOnByAll};
     ghost use Rattle.rb_connections.specs.Giving.{CanMake};
     ghost use Rattle.rb_connections.specs.Settling.{SlotSettles, IsWritten, kind_in};
     ghost use Rattle.rb_connections.specs.Giving.{SlotShowsNext};
-    ghost use Rattle.rb_connections.specs.Awaits.{is_awaiting_stage, sender_on, HearsSlot, IsIdleAt};
+    ghost use Rattle.rb_connections.specs.Awaits.{is_awaiting_stage, sender_on, EndsOnSlot, IsIdleAt};
     ghost use Rattle.rb_connections.specs.Costs.{received_cost, next_cost, row_count, answered_cost};
     ghost use Rattle.rb_model.specs.Costs.{given_cost, pending_cost};
 
@@ -187,8 +187,8 @@ impl Slot {
     }
 
     /// The stamp of the list that is being given: how many changes were accepted before it began.
-    pub fn began(&self) -> Option<u64>
-        ensures { result ≡ slot_began self.now }
+    pub fn stamp(&self) -> Option<u64>
+        ensures { result ≡ stamp_of_slot self.now }
     {
         match self.stage {
             Stage::Giving(giving) => giving.rest.stamp(),
@@ -223,8 +223,8 @@ impl Slot {
         ensures stands { StandsBehindPiece self.old self.new reader clock piece.now }
         ensures stage { is_awaiting_stage self.new.stage ≡ false }
         ensures lists { SlotListsOnByAll self.new }
-        ensures heard { IfSome result.heard (λ heard. IsIdleAt clock self.new) }
-        ensures arguments { HearsPiece self.old reader clock piece.now arguments.old arguments.new }
+        ensures ended { IfSome result.ended (λ ended. IsIdleAt clock self.new) }
+        ensures arguments { KeepsArgumentsOfPiece self.old reader clock piece.now arguments.old arguments.new }
         ensures within { result.count ≤ length piece.now }
         ensures stays { StaysSlot meter.old.tie self.old self.new }
         ensures draft { IsDraft meter.old.tie arguments.new }
@@ -233,7 +233,7 @@ impl Slot {
         let Fed { count, verdict } = reader.feed(&mut self.buffer, piece, meter);
         let Some(verdict) = verdict else {
             self.stage = Stage::Reading(reader);
-            return Received { count, heard: None };
+            return Received { count, ended: None };
         };
         self.stage = Stage::Idle;
         self.since = clock;
@@ -242,13 +242,13 @@ impl Slot {
         let peer = self.peer;
         Received {
             count,
-            heard: Some(Heard { peer, verdict }),
+            ended: Some(EndedRecord { peer, verdict }),
         }
     }
 
     /// Goes on as a record comes whole at this moment, and returns its sender. The connection stays Idle until it is
     /// settled. `None` where it is not the connection of this number, or not Idle; then nothing changed.
-    pub fn hear_whole(&mut self, id: u64, clock: u64) -> Option<Peer>
+    pub fn take_whole(&mut self, id: u64, clock: u64) -> Option<Peer>
         ensures idle { IfSome result (λ peer. self.old.stage ≡ Stage.Idle) }
         ensures number { IfSome result (λ peer. self.old.number ≡ id) }
         ensures since { IfSome result (λ peer. self.new.since ≡ clock) }
@@ -276,11 +276,11 @@ impl Slot {
     ) -> Received
         requires buffers { HasBuffers meter.old.tie self.old }
         requires arguments { IsDraft meter.old.tie arguments.old }
-        ensures acts { SlotActs (feeding clock piece.now) self.old self.new result }
-        ensures arguments { SlotHears piece.now self.old arguments.old arguments.new }
+        ensures acts { SlotActs (take_piece clock piece.now) self.old self.new result }
+        ensures arguments { SlotHasArguments piece.now self.old arguments.old arguments.new }
         ensures awaits { is_awaiting_stage self.new.stage ≡ is_awaiting_stage self.old.stage }
         ensures lists { SlotKeepsListing self.old self.new }
-        ensures heard { IfSome result.heard (λ heard. HearsSlot clock self.old self.new) }
+        ensures ended { IfSome result.ended (λ ended. EndsOnSlot clock self.old self.new) }
         ensures within { result.count ≤ length piece.now }
         ensures stays { StaysSlot meter.old.tie self.old self.new }
         ensures draft { IsDraft meter.old.tie arguments.new }
@@ -439,7 +439,7 @@ impl Slot {
     }
 
     /// How many bytes it counts as held: those of its buffer and its window, and 128 for the rest.
-    #[tactic(auto, unfolding(rb_model::specs::Calls::longest_reply, rb_model::specs::Calls::longest_arguments, crate::specs::StandsFor::buffer_size, rb_model::specs::Connections::longest_fragment))]
+    #[tactic(auto, unfolding(rb_model::specs::Calls::longest_reply, rb_model::specs::Calls::longest_kept, crate::specs::StandsFor::buffer_size, rb_model::specs::Connections::longest_fragment))]
     pub fn charge(&self, meter: &mut Meter) -> u64
         requires { HasBuffers meter.old.tie self.now }
         ensures charge { result ≡ charge self.now }

@@ -8,13 +8,13 @@ use Rattle.rb_rpc.specs.Records.{first_record}
 use Rattle.rb_feed.specs.Feeds.{arguments_of}
 use Rattle.rb_registry.specs.Registry.{slots_of}
 use Rattle.rb_forward.specs.Costs.{sent_cost, unsent_cost}
-use Rattle.rb_forward.specs.Forwards.{longest_arguments as longest_args}
-use Rattle.rb_model.specs.Calls.{Outcome, longest_reply, longest_arguments}
+use Rattle.rb_forward.specs.Forwards.{longest_forwarded as longest_args}
+use Rattle.rb_model.specs.Calls.{Outcome, longest_reply, longest_kept}
 use Rattle.rb_model.specs.State.{State, Setting, Connection, Connections, at_moment}
 use Rattle.rb_model.specs.declared.types.CoreFault.{CoreFault}
-use Rattle.rb_model.specs.Connections.{on_live, giving, live_connection, Taking, fed_in, taking, taking_behind}
+use Rattle.rb_model.specs.Connections.{on_live, give, live_connection, Taking, fed_in, taking_of, taking_behind}
 use Rattle.rb_model.specs.Connections.Taking.{TakesNone, GoesOn, Ends}
-use Rattle.rb_model.specs.Step.{datagram, bytes, bytes_to, when_taken, gave, moved, show_taken, step, IsReached}
+use Rattle.rb_model.specs.Step.{datagram, bytes, bytes_to, when_taken, gave, unless_refused, show_taken, step, IsReached}
 use Rattle.rb_model.specs.declared.types.Taken.{Taken}
 use Rattle.rb_model.specs.Step.Event.{Bytes, Datagram}
 use Rattle.rb_model.specs.Costs.{Sizes, find_cost, pending_cost, take_cost, recount_cost, gave_cost, close_cost, ended_cost, datagram_cost, bytes_cost, count_taken, record_cost}
@@ -27,15 +27,15 @@ use Rattle.rb_connections.specs.StandsFor.{buffer_size}
 use Rattle.rb_connections.specs.Slots.{Acts}
 use Rattle.rb_connections.specs.Costs.{look_cost}
 use Rattle.rb_core.specs.StandsFor.{Held, StandsFor}
-use Rattle.rb_core.specs.AtOnce.{without_front, exchanging}
+use Rattle.rb_model.specs.Exchanges.{without_front, exchange}
 use Rattle.rb_core.specs.CallCosts.{sizes_of, PaysForBytes, PaysForDatagram}
 use Rattle.rb_core.specs.Events.{StaysCheapIfQuiet, StaysWithinSteps, length_taken}
-use Rattle.rb_core.proofs.RunSteps.{datagram_shown, same_state}
+use Rattle.rb_core.proofs.Outputs.{datagram_shown, same_state}
 use Rattle.rb_core.proofs.Spending.{at_most, connections_held, rows_held}
 
 -- where no record ends, there is none to be answered
-no_record : (sizes : Sizes) (c : Connection) (piece : List ℕ) → IfSome (fed_in c.phase) (λ fed. first_record (fed ++ piece) ≡ None) → record_cost sizes (taking c.phase piece) ≡ 0
-unfolding taking
+no_record : (sizes : Sizes) (c : Connection) (piece : List ℕ) → IfSome (fed_in c.phase) (λ fed. first_record (fed ++ piece) ≡ None) → record_cost sizes (taking_of c.phase piece) ≡ 0
+unfolding taking_of
 no_record sizes c piece none = by_fed (fed_in c.phase) piece none
   where
     by_fed : (o : Option (List ℕ)) (xs : List ℕ) → IfSome o (λ fed. first_record (fed ++ xs) ≡ None) → record_cost sizes (taking_behind o xs) ≡ 0
@@ -81,7 +81,7 @@ module _ (core : Held) (a b : Meter) where
   unsent_within given pays = record { within = λ s h reached. at_most a b (unsent_cost core.books.forwards.cap given) _ (omega (arith, entries s h)) pays }
 
   pub ending_within : (taken : ℕ) → PaysAtMost a b (ended_cost (sizes_of core core)) → StaysWithinSteps core taken 0 a b
-  unfolding longest_reply longest_arguments buffer_size longest_args
+  unfolding longest_reply longest_kept buffer_size longest_args
   ending_within taken pays = record { within = λ s h reached. at_most a b (ended_cost (sizes_of core core)) _ (omega (arith, few_connections s h reached, entries s h)) pays }
 
   -- ---- calls that serve a message
@@ -94,7 +94,7 @@ module _ (core : Held) (a b : Meter) where
 
   pub datagram_within : (new : Held) (now : ℕ) (peer : Peer) (content : List ℕ) (given : Outcome) → Acts StandsFor (λ s. datagram s now peer content) core new given
       → PaysForDatagram core new content a b → StaysWithinSteps core (length content) 0 a b
-  unfolding step longest_reply longest_arguments buffer_size longest_args
+  unfolding step longest_reply longest_kept buffer_size longest_args
   datagram_within new now peer content given acts pays = record {
     within = λ s h reached.
         let shows = datagram_shown core new (λ t. datagram t now peer content) given acts s h in
@@ -105,9 +105,9 @@ module _ (core : Held) (a b : Meter) where
   -- the state keeps its setting where bytes are given
   kept_setting : (now n id : ℕ) (s : State) → (without_front now n id s).setting ≡ s.setting
   unfolding gave
-  kept_setting now n id s = elim (eqb n 0) as (λ b. (cond b s (gave s now id n).1).setting ≡ s.setting) [ true ↦ refl | false ↦ by_result (on_live id (giving (max s.clock now) n) s.connections) ]
+  kept_setting now n id s = elim (eqb n 0) as (λ b. (cond b s (gave s now id n).1).setting ≡ s.setting) [ true ↦ refl | false ↦ by_result (on_live id (give (max s.clock now) n) s.connections) ]
     where
-      by_result : (r : Result (Unit {0}) CoreFault × Connections) → (moved now s r).1.setting ≡ s.setting
+      by_result : (r : Result (Unit {0}) CoreFault × Connections) → (unless_refused now s r).1.setting ≡ s.setting
       by_result (Err fault, c) = refl
       by_result (Ok u, c) = refl
 
@@ -119,23 +119,23 @@ module _ (core : Held) (a b : Meter) where
     same_taken x y e = cc
 
     -- as many bytes are taken of it as the model says
-    counts : (s : State) (c : Connection) (result : Result Taken CoreFault) → live_connection id s.connections.all ≡ Some c → result ≡ (bytes s now id piece).0 → length_taken result ≡ count_taken piece (taking c.phase piece)
+    counts : (s : State) (c : Connection) (result : Result Taken CoreFault) → live_connection id s.connections.all ≡ Some c → result ≡ (bytes s now id piece).0 → length_taken result ≡ count_taken piece (taking_of c.phase piece)
     unfolding bytes
     counts s c (Err fault) there gives = let clash = rw there at gives in absurd cc
     counts s c (Ok taken) there gives =
         let same : ok taken ≡ (bytes_to s now id piece (Some c)).0 = rw there at gives in
-        same_taken taken (when_taken (at_moment now s) id piece c (taking c.phase piece)).0 same ∙ taken-counts (at_moment now s) id piece c (taking c.phase piece)
+        same_taken taken (when_taken (at_moment now s) id piece c (taking_of c.phase piece)).0 same ∙ taken-counts (at_moment now s) id piece c (taking_of c.phase piece)
 
-    pub exchange_within : (new : Held) (room n more : ℕ) (result : Result Taken CoreFault) (given : List ℕ) → Acts StandsFor (exchanging now id piece room) core new (result, given) → more ≤ n + 2
+    pub exchange_within : (new : Held) (room n more : ℕ) (result : Result Taken CoreFault) (given : List ℕ) → Acts StandsFor (exchange now id piece room) core new (result, given) → more ≤ n + 2
         → ((s : State) → StandsFor core s → PaysAtMost a b (bytes_cost (sizes_of core new) piece (live_connection id s.connections.all) + more)) → StaysWithinSteps core (length_taken result) n a b
-    unfolding step longest_reply longest_arguments buffer_size longest_args
+    unfolding step longest_reply longest_kept buffer_size longest_args
     exchange_within new room n more result given acts few pays = record { within = λ s h reached. by_there s h reached (live_connection id s.connections.all) refl (pays s h) }
       where
         left : (s : State) → StandsFor core s → length (slots_of new.books.registry) ≤ core.setting.limits.rows
         left s h =
             let same =
             kept_setting now _ id (bytes s now id piece).1
-            ∙ ap (λ (t : State). t.setting) (sym (same_state show_taken (λ t. bytes t now id piece) core new (bytes s now id piece))) ∙ (step-follows s (Bytes now id piece)).setting in
+            ∙ ap (λ (t : State). t.setting) (sym (same_state show_taken (bytes s now id piece))) ∙ (step-follows s (Bytes now id piece)).setting in
             rows_left new s _ h (acts.stands s h) same
 
         by_taking : (s : State) → StandsFor core s → IsReached s → (t : Taking) → length_taken result ≡ count_taken piece t
@@ -144,11 +144,11 @@ module _ (core : Held) (a b : Meter) where
         by_taking s h reached (GoesOn fed) k paid = at_most a b (find_cost (length core.connections.slots) + take_cost (length piece) + recount_cost + 0 + more) _ (omega (arith, few, few_connections s h reached, k)) paid
         by_taking s h reached (Ends m content) k paid =
             at_most a b (find_cost (length core.connections.slots) + take_cost m + recount_cost + record_cost (sizes_of core new) (Ends m content) + more) _
-            (omega (arith, few, few_connections s h reached, few_rows s h, left s h, k, length-take longest_arguments (arguments_of content))) paid
+            (omega (arith, few, few_connections s h reached, few_rows s h, left s h, k, length-take longest_kept (arguments_of content))) paid
 
         by_there : (s : State) → StandsFor core s → IsReached s → (m : Option Connection) → live_connection id s.connections.all ≡ m → PaysAtMost a b (bytes_cost (sizes_of core new) piece m + more) → PaysAtMost a b (steps_bound core.setting.limits (length_taken result) n)
         by_there s h reached None there paid = at_most a b (find_cost (length core.connections.slots) + more) _ (omega (arith, few, few_connections s h reached)) paid
-        by_there s h reached (Some c) there paid = by_taking s h reached (taking c.phase piece) (counts s c result there (ap (λ (x : Result Taken CoreFault × List ℕ). x.0) (acts.gives s h))) paid
+        by_there s h reached (Some c) there paid = by_taking s h reached (taking_of c.phase piece) (counts s c result there (ap (λ (x : Result Taken CoreFault × List ℕ). x.0) (acts.gives s h))) paid
 
     -- where no record ends, a piece costs a step for each byte that is taken, two for each connection, and 9
     pub cheap_within : (new : Held) (result : Result Taken CoreFault) → Acts StandsFor (λ s. bytes s now id piece) core new result → PaysForBytes core new id piece a b → StaysCheapIfQuiet core id piece result a b
@@ -158,5 +158,5 @@ module _ (core : Held) (a b : Meter) where
             → PaysAtMost a b (8 * length_taken result + 64 * core.setting.limits.conns + 64)
         by_there s h reached none None there paid = at_most a b (find_cost (length core.connections.slots)) _ (omega (arith, few_connections s h reached)) paid
         by_there s h reached none (Some c) there paid =
-            let quiet : record_cost (sizes_of core new) (taking c.phase piece) ≡ 0 = no_record (sizes_of core new) c piece (rw there at none) in
+            let quiet : record_cost (sizes_of core new) (taking_of c.phase piece) ≡ 0 = no_record (sizes_of core new) c piece (rw there at none) in
             at_most a b (bytes_cost (sizes_of core new) piece (Some c)) _ (omega (arith, few_connections s h reached, quiet, counts s c result there (acts.gives s h))) paid

@@ -13,13 +13,13 @@ use Rattle.rb_core.specs.Eviction.{source_in}
 use Rattle.rb_core.specs.Core.{IsCore}
 
 -- with other connections, books and buffers
-pub core_changed : (setting : Setting) (old new : Table) (books left : Books) (reply written draft after arguments heard : Kept) (len count : ℕ)
+pub core_changed : (setting : Setting) (old new : Table) (books left : Books) (reply written draft after arguments ended : Kept) (len count : ℕ)
     → IsCore setting old books reply draft arguments len → StaysTable old new → SameFrame books left
     → written.tie ≡ reply.tie → written.cap ≡ reply.cap → count ≡ length written.bytes → length written.bytes ≤ longest_reply
     → AreAwaited left.forwards new → CanListOn (source_in setting.listener.host left) new
-    → IsDraft written.tie after → after.bytes ≡ [] → IsDraft written.tie heard
-    → IsCore setting new left written after heard count
-core_changed setting old new books left reply written draft after arguments heard len count h stays frame tie cap counted short awaited told is_draft empty has_arguments = record {
+    → IsDraft written.tie after → after.bytes ≡ [] → IsDraft written.tie ended
+    → IsCore setting new left written after ended count
+core_changed setting old new books left reply written draft after arguments ended len count h stays frame tie cap counted short awaited told is_draft empty has_arguments = record {
   conns = stays.conns ∙ h.conns;
   few_conns = h.few_conns;
   few_rows = h.few_rows;
@@ -44,12 +44,12 @@ core_changed setting old new books left reply written draft after arguments hear
 }
 
 -- with other connections, draft and arguments
-pub core_moved : (setting : Setting) (old new : Table) (books : Books) (reply draft after arguments heard : Kept) (len : ℕ)
+pub core_moved : (setting : Setting) (old new : Table) (books : Books) (reply draft after arguments ended : Kept) (len : ℕ)
     → IsCore setting old books reply draft arguments len → StaysTable old new → AreAwaited books.forwards new
     → (CanListOn (source_in setting.listener.host books) old → CanListOn (source_in setting.listener.host books) new)
-    → IsDraft reply.tie after → after.bytes ≡ [] → IsDraft reply.tie heard
-    → IsCore setting new books reply after heard len
-core_moved setting old new books reply draft after arguments heard len h stays awaited told =
-    core_changed setting old new books books reply reply draft after arguments heard len len h stays
+    → IsDraft reply.tie after → after.bytes ≡ [] → IsDraft reply.tie ended
+    → IsCore setting new books reply after ended len
+core_moved setting old new books reply draft after arguments ended len h stays awaited told =
+    core_changed setting old new books books reply reply draft after arguments ended len len h stays
     (record { limit = refl; cap = refl; first_xid = refl; registry = refl; stats = refl; forwards = refl }) refl refl h.len h.short
     awaited (told h.lists)

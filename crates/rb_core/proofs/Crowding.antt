@@ -19,7 +19,7 @@ use Rattle.rb_proto.proofs.ListReplies.{removals_kept}
 use Rattle.rb_model.specs.declared.message.Message.{Message}
 use Rattle.rb_model.specs.declared.message.Message.TheVariants as says
 use Rattle.rb_model.specs.State.{Connections}
-use Rattle.rb_model.specs.Losses.{begins, is_retained_for, removals_by, retained_removals}
+use Rattle.rb_model.specs.Losses.{list_stamps, is_retained_for, removals_by, retained_removals}
 use Rattle.rb_connections.specs.StandsFor.{Source, Table, StandsForConnections}
 use Rattle.rb_connections.specs.Listings.{CanListOn, stamps_of, IsOldest, IsEarliest}
 use Rattle.rb_connections.proofs.ListsGoOn.{stamps_reach, stamps_low, begins_alike}
@@ -125,7 +125,7 @@ unfolding retained_removals
 kept_few source table c books l t z h floor =
     let dead : removals_of books.registry ≡ filter (λ change. nat_lt books.registry.floor change) (removals_by l) =
     removals_kept books l h ∙ not_dropped books.registry.floor (all_slots l.own l.changes) in
-    let kept : filter (is_retained_for (begins c.all)) (removals_by l) ≡ filter (is_retained_for (stamps_of table)) (removals_by l) =
+    let kept : filter (is_retained_for (list_stamps c.all)) (removals_by l) ≡ filter (is_retained_for (stamps_of table)) (removals_by l) =
     ap (λ (ns : List ℕ). filter (is_retained_for ns) (removals_by l)) (begins_alike source (values_of table.slots) c.all z.all) in
     let low : All (λ n. books.registry.floor ≤ n) (stamps_of table) = subst (λ (k : ℕ). All (λ n. k ≤ n) (stamps_of table)) (sym floor) (stamps_low source table t) in
     let fewer = filter_fewer (is_retained_for (stamps_of table)) (λ change. nat_lt books.registry.floor change) (removals_by l) (λ change. retained_above books.registry.floor change (stamps_of table) low) in

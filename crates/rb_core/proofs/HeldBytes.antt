@@ -27,7 +27,7 @@ use Rattle.rb_forward.proofs.Heads.{length-head}
 use Rattle.rb_forward.proofs.Stands.{held_alike}
 use Rattle.rb_proto.specs.declared.listener.Listener.{Listener}
 use Rattle.rb_proto.specs.Callers.{own_rows}
-use Rattle.rb_model.specs.Calls.{longest_reply, longest_arguments, kept_of}
+use Rattle.rb_model.specs.Calls.{longest_reply, longest_kept, kept_of}
 use Rattle.rb_model.specs.Connections.{longest_fragment}
 use Rattle.rb_model.specs.State.{Phase, Connection}
 use Rattle.rb_model.specs.State.Phase.{Idle, Reading, Owing, Awaiting, Lost}
@@ -48,11 +48,11 @@ empty_charge : (buffer window : Kept) → buffer.bytes ≡ [] → window.bytes �
 empty_charge buffer window b w = rw (b, w) refl
 
 phase_holds : (source : Source) (stage : Stage) (buffer window : Kept) (phase : Phase) (c : Connection) → c.phase ≡ phase → StandsForPhase source stage buffer window phase → takes_bytes c ≡ true
-    → 128 + length buffer.bytes + length window.bytes ≤ 128 + longest_arguments
+    → 128 + length buffer.bytes + length window.bytes ≤ 128 + longest_kept
 phase_holds source stages.Idle buffer window Idle c is h takes = let e = empty_charge buffer window h.0 h.1 in omega (arith, e)
 phase_holds source (stages.Reading reader) buffer window (Reading fed) c is h takes =
     let kept : length buffer.bytes ≡ length (kept_of (data_of fed)) = ap (λ (xs : List ℕ). length xs) h.0.data_is.kept_is in
-    let few = length-take longest_arguments (arguments_of (data_of fed)) in
+    let few = length-take longest_kept (arguments_of (data_of fed)) in
     let none : length window.bytes ≡ 0 = ap (λ (xs : List ℕ). length xs) h.1 in
     omega (arith, kept, few, none)
 phase_holds source stage buffer window (Owing o) c is h takes = let clash : false ≡ true = rw is at takes in absurd cc
@@ -67,7 +67,7 @@ abbrev share : ℕ
 share = 128 + greatest_call + longest_fragment
 
 one_share : (source : Source) (slot : Slot) (c : Connection) → StandsForConnection source slot c → IsWithin slot → charge slot + unheld_share * cond (takes_bytes c) 1 0 ≤ share
-unfolding longest_reply longest_arguments buffer_size longest_fragment
+unfolding longest_reply longest_kept buffer_size longest_fragment
 one_share source slot c z within = by_test (takes_bytes c) refl
   where
     by_test : (b : Bool) → takes_bytes c ≡ b → charge slot + unheld_share * cond b 1 0 ≤ share

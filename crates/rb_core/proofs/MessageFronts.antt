@@ -7,7 +7,7 @@ use Rattle.rb_rpc.specs.Verdict.{verdict}
 use Rattle.rb_rpc.specs.declared.call.Verdict.{Verdict}
 use Rattle.rb_rpc.specs.declared.call.Verdict.TheVariants.{NoCall, RpcMismatch, AuthError, Call}
 use Rattle.rb_feed.specs.Feeds.{arguments_of}
-use Rattle.rb_forward.specs.Forwards.{longest_arguments as longest_args}
+use Rattle.rb_forward.specs.Forwards.{longest_forwarded as longest_args}
 use Rattle.rb_proto.specs.declared.procedure.Procedure.{Procedure}
 use Rattle.rb_proto.specs.declared.procedure.Procedure.TheVariants as procedures
 use Rattle.rb_proto.specs.declared.request.Request.{Request}
@@ -17,11 +17,11 @@ use Rattle.rb_proto.specs.Types.{read_mapping, read_rpcb, read_netbuf}
 use Rattle.rb_proto.specs.Arguments.{procedure_at, value_of, front, arguments, request, HasArgs}
 use Rattle.rb_proto.specs.declared.answers.Answer.{Answer}
 use Rattle.rb_proto.specs.declared.context.Context.{Context}
-use Rattle.rb_proto.specs.Ledger.{Ledger, called}
+use Rattle.rb_proto.specs.Ledger.{Ledger, with_call_noted}
 use Rattle.rb_proto.proofs.Remotes.{answer_of_front}
 use Rattle.rb_model.specs.declared.message.Message.{Message}
 use Rattle.rb_model.specs.declared.message.Message.TheVariants as says
-use Rattle.rb_model.specs.Calls.{call_of, message_with, message_of, reply_with, outcome, longest_arguments, kept_of}
+use Rattle.rb_model.specs.Calls.{call_of, message_with, message_of, reply_with, outcome, longest_kept, kept_of}
 use Rattle.rb_model.specs.Grammar.{HasArgsIn}
 use Rattle.rb_laws.proofs.AskedArgs.{message_has}
 use Rattle.rb_core.specs.Messages.{KeptSaysTheRecord}
@@ -66,8 +66,8 @@ front_of_front : {A : Type 0} (made : A → Request) (reads : List ℕ → Readi
     → option_map made (front reads (take n bytes)) ≡ option_map made (front reads bytes)
 front_of_front {A} made reads most n bytes looks enough = ap (λ (r : Reading A). option_map made (value_of r)) (looks.decided n bytes enough)
 
-arguments_of_front : (procedure : Procedure) (n : ℕ) (bytes : List ℕ) → longest_arguments ≤ n → arguments procedure (take n bytes) ≡ arguments procedure bytes
-unfolding arguments longest_arguments
+arguments_of_front : (procedure : Procedure) (n : ℕ) (bytes : List ℕ) → longest_kept ≤ n → arguments procedure (take n bytes) ≡ arguments procedure bytes
+unfolding arguments longest_kept
 arguments_of_front (procedures.Void procedure) n bytes enough = refl
 arguments_of_front (procedures.Mapping procedure) n bytes enough = front_of_front (Mapping procedure) read_mapping 16 n bytes mapping_looks (omega (arith, enough))
 arguments_of_front (procedures.Rpcb procedure) n bytes enough = front_of_front (Rpcb procedure) read_rpcb 308 n bytes rpcb_looks (omega (arith, enough))
@@ -76,7 +76,7 @@ arguments_of_front (procedures.Forward kind) n bytes enough = front_of_front (Fo
 arguments_of_front procedures.Taddr2uaddr n bytes enough = front_of_front Taddr2uaddr read_netbuf 136 n bytes netbuf_looks (omega (arith, enough))
 
 -- the first bytes of the arguments decide what is asked for
-pub request_of_front : (vers proc n : ℕ) (bytes : List ℕ) → longest_arguments ≤ n → request vers proc (take n bytes) ≡ request vers proc bytes
+pub request_of_front : (vers proc n : ℕ) (bytes : List ℕ) → longest_kept ≤ n → request vers proc (take n bytes) ≡ request vers proc bytes
 unfolding request
 request_of_front vers proc n bytes enough = by_procedure (procedure_at vers proc)
   where
@@ -84,11 +84,11 @@ request_of_front vers proc n bytes enough = by_procedure (procedure_at vers proc
     by_procedure (Some procedure) = arguments_of_front procedure n bytes enough
     by_procedure None = refl
 
-call_of_front : (n : ℕ) (head : CallHead) (bytes : List ℕ) → longest_arguments ≤ n → call_of head (take n bytes) ≡ call_of head bytes
+call_of_front : (n : ℕ) (head : CallHead) (bytes : List ℕ) → longest_kept ≤ n → call_of head (take n bytes) ≡ call_of head bytes
 unfolding call_of
 call_of_front n head bytes enough = rw (request_of_front head.vers head.proc n bytes enough) refl
 
-message_of_front : (v : Verdict) (n : ℕ) (arguments : List ℕ) → longest_arguments ≤ n → message_with v (take n arguments) ≡ message_with v arguments
+message_of_front : (v : Verdict) (n : ℕ) (arguments : List ℕ) → longest_kept ≤ n → message_with v (take n arguments) ≡ message_with v arguments
 message_of_front NoCall n arguments enough = refl
 message_of_front (RpcMismatch xid) n arguments enough = refl
 message_of_front (AuthError xid stat) n arguments enough = refl
@@ -96,7 +96,7 @@ message_of_front (Call head place) n arguments enough = call_of_front n head arg
 
 message_kept : (content : List ℕ) → message_with (verdict content) (kept_of content) ≡ message_of content
 unfolding message_of
-message_kept content = message_of_front (verdict content) longest_arguments (arguments_of content) (omega arith)
+message_kept content = message_of_front (verdict content) longest_kept (arguments_of content) (omega arith)
 
 -- ---- it is answered alike
 
@@ -108,7 +108,7 @@ outcome_kept content (says.Refused head) is context ledger = refl
 outcome_kept content (says.Garbage head) is context ledger = refl
 outcome_kept content (says.Asked call) is context ledger =
     let has : HasArgs call.request (kept_of content) = subst (λ (m : Message). HasArgsIn m (kept_of content)) is (message_has (verdict content) (kept_of content)) in
-    ap (λ (r : Answer × Ledger). reply_with context call.head.xid r) (answer_of_front context call longest_arguments (arguments_of content) (called call.head ledger) has)
+    ap (λ (r : Answer × Ledger). reply_with context call.head.xid r) (answer_of_front context call longest_kept (arguments_of content) (with_call_noted call.head ledger) has)
 
 pub kept_says : KeptSaysTheRecord
 kept_says content = record {

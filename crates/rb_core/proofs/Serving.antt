@@ -14,7 +14,7 @@ use Rattle.rb_proto.specs.Books.{ActsAs}
 use Rattle.rb_proto.specs.declared.books.Books.{Books}
 use Rattle.rb_proto.specs.declared.call.Call.{Call}
 use Rattle.rb_proto.specs.declared.context.Context.{Context}
-use Rattle.rb_proto.specs.Ledger.{Ledger, StandsForLedger, called, rows_in}
+use Rattle.rb_proto.specs.Ledger.{Ledger, StandsForLedger, with_call_noted, rows_in}
 use Rattle.rb_proto.specs.Answers.{answer}
 use Rattle.rb_proto.specs.declared.answers.Value.TheVariants as values
 use Rattle.rb_proto.specs.declared.procedure.VoidProcedure.TheVariants as voids
@@ -25,18 +25,18 @@ use Rattle.rb_proto.specs.declared.answers.Results.{Results}
 use Rattle.rb_proto.specs.declared.answers.Results.TheVariants as results
 use Rattle.rb_proto.specs.ListParts.{list_reply}
 use Rattle.rb_model.specs.declared.message.Message.TheVariants as says
-use Rattle.rb_model.specs.Calls.{Outcome, answer_outcome, results_outcome, reply_with, outcome, fitting, success, longest_reply}
+use Rattle.rb_model.specs.Calls.{Outcome, answer_outcome, results_outcome, reply_with, outcome, fitting_reply, success, longest_reply}
 use Rattle.rb_model.specs.Calls.Outcome.{Reply}
 use Rattle.rb_connections.specs.declared.served.Served.TheVariants.{Listed}
 use Rattle.rb_connections.specs.Settling.{listing_outcome}
 use Rattle.rb_connections.proofs.ReplyHeads.{short_head}
 use Rattle.rb_core.specs.Eviction.{source_in}
-use Rattle.rb_core.specs.Serving.{IsStreamedTo, streamed}
+use Rattle.rb_core.specs.Serving.{IsStreamedTo, list_streamed}
 use Rattle.rb_core.specs.Messages.{null_message}
 
 -- the books stand for the ledger in which the call is noted, with the registry as it was
 pub record Notes (head : CallHead) (old new : Books) : Type 0 where
-  pub stands : (l : Ledger) → StandsForLedger old l → StandsForLedger new (called head l)
+  pub stands : (l : Ledger) → StandsForLedger old l → StandsForLedger new (with_call_noted head l)
   pub registry : new.registry ≡ old.registry
 
 module _ (context : Context) (call : Call) (arguments : List ℕ) (old mid new : Books) (given : Answer) (said : Outcome) (notes : Notes call.head old mid) (acts : ActsAs (answer context call arguments) mid new given) where
@@ -49,11 +49,11 @@ module _ (context : Context) (call : Call) (arguments : List ℕ) (old mid new :
 
   pub asked_acts : ((l : Ledger) → StandsForLedger new l → said ≡ answer_outcome context.caller (length l.changes) call.head.xid (result_bytes context.listener.host (shown_of l)) given)
       → ActsAs (outcome context (says.Asked call) arguments) old new said
-  unfolding outcome called
+  unfolding outcome with_call_noted
   asked_acts told = record {
-    gives = λ l h. let k = notes.stands l h in replied told (answer context call arguments (called call.head l)) (acts.gives _ k) (acts.stands _ k);
-    stands = λ l h. rw (left (answer context call arguments (called call.head l))) (acts.stands _ (notes.stands l h));
-    kept = λ l h e. acts.kept (called call.head l) (notes.stands l h) (ap (λ (x : Ledger). x.changes) (sym (left (answer context call arguments (called call.head l)))) ∙ e) ∙ notes.registry;
+    gives = λ l h. let k = notes.stands l h in replied told (answer context call arguments (with_call_noted call.head l)) (acts.gives _ k) (acts.stands _ k);
+    stands = λ l h. rw (left (answer context call arguments (with_call_noted call.head l))) (acts.stands _ (notes.stands l h));
+    kept = λ l h e. acts.kept (with_call_noted call.head l) (notes.stands l h) (ap (λ (x : Ledger). x.changes) (sym (left (answer context call arguments (with_call_noted call.head l)))) ∙ e) ∙ notes.registry;
   }
 
 -- ---- NULL
@@ -67,7 +67,7 @@ null_acts context head arguments books = record { gives = λ l h. refl; stands =
 
 -- a head is no longer than a reply may be
 null_fits : (xid : ℕ) → success xid [] ≡ reply_head xid Success
-unfolding fitting longest_reply
+unfolding fitting_reply longest_reply
 null_fits xid =
     let same : reply_head xid Success ++ [] ≡ reply_head xid Success = append-nil (reply_head xid Success) in
     rw same (cond-false _ _ _ (le-ltb 9000 (length (reply_head xid Success)) (omega (arith, short_head xid Success))))
@@ -87,7 +87,7 @@ null_served context head arguments old new notes =
 
 -- ---- lists
 
-pub listed : (caller : Caller) (given : Results) (xid : ℕ) (books : Books) (host : List ℕ) (listing : Listing) (l : Ledger) → Some listing ≡ streamed caller given → StandsForLedger books l
+pub listed : (caller : Caller) (given : Results) (xid : ℕ) (books : Books) (host : List ℕ) (listing : Listing) (l : Ledger) → Some listing ≡ list_streamed caller given → StandsForLedger books l
     → listing_outcome (source_in host books) xid listing ≡ results_outcome caller (length l.changes) xid (result_bytes host (shown_of l) given) given
 unfolding result_bytes
 listed (Udp peer) given xid books host listing l e h = absurd cc
@@ -98,6 +98,6 @@ listed (Tcp id peer) (results.Rows rows) xid books host listing l e h =
 listed (Tcp id peer) (results.Value value) xid books host listing l e h = absurd cc
 listed (Tcp id peer) results.Statistics xid books host listing l e h = absurd cc
 
-pub streamed_to : (caller : Caller) (given : Results) (xid : ℕ) (listing : Listing) → Some listing ≡ streamed caller given → IsStreamedTo caller (Listed xid listing)
+pub streamed_to : (caller : Caller) (given : Results) (xid : ℕ) (listing : Listing) → Some listing ≡ list_streamed caller given → IsStreamedTo caller (Listed xid listing)
 streamed_to (Udp peer) given xid listing e = absurd cc
 streamed_to (Tcp id peer) given xid listing e = tt

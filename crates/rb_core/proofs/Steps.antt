@@ -16,30 +16,30 @@ use Rattle.rb_proto.specs.declared.context.Context.{Context}
 use Rattle.rb_proto.specs.declared.books.Books.{Books}
 use Rattle.rb_proto.specs.Ledger.{Ledger, StandsForLedger}
 use Rattle.rb_proto.specs.Books.{ActsAs, Becomes, SameFrame}
-use Rattle.rb_proto.specs.Forwarding.{replied, fell_due, caller_dropped, call_sent}
+use Rattle.rb_proto.specs.Forwarding.{target_replied, fell_due, caller_dropped, call_sent}
 use Rattle.rb_model.specs.declared.message.Message.{Message}
 use Rattle.rb_model.specs.declared.types.CoreFault.{CoreFault}
 use Rattle.rb_model.specs.declared.types.CoreFault.TheVariants.{Gone}
 use Rattle.rb_model.specs.Calls.{Outcome, outcome, message_with, message_of, is_no_call, reply_in, longest_reply, kept_of}
 use Rattle.rb_model.specs.State.{State, Phase, Connection, Connections, at_moment}
 use Rattle.rb_model.specs.State.Phase.{Idle, Reading, Owing, Awaiting, Lost}
-use Rattle.rb_model.specs.Connections.{Taking, taking, reading, settled, is_lost, is_live, live_connection, change_first, changed_at, on_live, opening_of, closing_of, giving}
+use Rattle.rb_model.specs.Connections.{Taking, taking_of, keep_reading, settle, is_lost, is_live, live_connection, change_first, changed_at, on_live, opening_of, closing_of, give}
 use Rattle.rb_model.specs.Connections.Taking.{TakesNone, GoesOn, Ends}
-use Rattle.rb_model.specs.Step.{context_in, with_ledger, with_reply, settled_in, serve_message, serve, answering, with_count, when_taken, bytes_to, bytes, datagram, gave, open_connection, close_connection, moved, dropped_with, unsent_call, sent_call}
+use Rattle.rb_model.specs.Step.{context_in, with_ledger, with_reply, settle_on, serve_message, serve, serve_record, with_count, when_taken, bytes_to, bytes, datagram, gave, open_connection, close_connection, unless_refused, dropped_with, unsent_call, sent_call}
 use Rattle.rb_model.specs.declared.types.Taken.{Taken}
 use Rattle.rb_model.specs.Laws.{is_owing}
-use Rattle.rb_model.specs.Losses.{began_in, crowding, evicted, evicting, with_room}
+use Rattle.rb_model.specs.Losses.{stamp_in, removals_in_the_way, evict_early, evict, with_room}
 use Rattle.rb_model.specs.declared.types.Told.{Told}
 use Rattle.rb_model.specs.declared.types.Expired.TheVariants as Expires
 use Rattle.rb_model.specs.Ending.{told_at, tell, tell_end, at_fresh_moment, expired_as}
 use Rattle.rb_laws.proofs.Crowds.{begins_changed, evicted_changed, crowding_alike}
-use Rattle.rb_connections.specs.declared.slot.Heard.{Heard}
+use Rattle.rb_connections.specs.declared.slot.EndedRecord.{EndedRecord}
 use Rattle.rb_connections.specs.declared.slot.Received.{Received}
 use Rattle.rb_connections.specs.StandsFor.{Table, StandsForConnections, Source, source_for}
-use Rattle.rb_connections.specs.Slots.{Acts, Shows, StaysTable, received, fed_with, feeding, arguments_after, arguments_heard, arguments_on}
+use Rattle.rb_connections.specs.Slots.{Acts, Shows, StaysTable, received_of, connection_after, take_piece, arguments_after, arguments_taken, arguments_on}
 use Rattle.rb_core.specs.StandsFor.{Held, StandsFor, source_of}
-use Rattle.rb_core.specs.Core.{context_of, answering_heard}
-use Rattle.rb_core.specs.AtOnce.{at_once, at_once_in}
+use Rattle.rb_core.specs.Core.{context_of, serve_ended}
+use Rattle.rb_model.specs.Exchanges.{at_once, at_once_in}
 use Rattle.rb_core.specs.Eviction.{source_in}
 use Rattle.rb_core.specs.Serving.{ServesInRoom}
 use Rattle.rb_core.proofs.MessageFronts.{kept_says}
@@ -73,33 +73,33 @@ module _ (old : Held) (s : State) (h : StandsFor old s) where
 module _ {A : Type 0} (old : Held) (now clock : ℕ) (act : State → Connections → Result A CoreFault × Connections) (table : Table) where
   pub moved_acts : (x : A) → clock ≡ max old.clock now → StaysTable old.connections table
       → ((s : State) → StandsFor old s → Acts (StandsForConnections (source_of old)) (act s) old.connections table (Ok x))
-      → Acts StandsFor (λ s. moved now s (act s s.connections)) old (record old { clock = clock; connections = table }) (Ok x)
+      → Acts StandsFor (λ s. unless_refused now s (act s s.connections)) old (record old { clock = clock; connections = table }) (Ok x)
   moved_acts x is stays acts = record {
     gives = λ s h. by_result s h (act s s.connections) ((acts s h).gives s.connections h.connections);
     stands = λ s h. by_state s h (act s s.connections) ((acts s h).gives s.connections h.connections) ((acts s h).stands s.connections h.connections);
   }
     where
-      by_result : (s : State) → StandsFor old s → (r : Result A CoreFault × Connections) → Ok x ≡ r.0 → Ok x ≡ (moved now s r).0
+      by_result : (s : State) → StandsFor old s → (r : Result A CoreFault × Connections) → Ok x ≡ r.0 → Ok x ≡ (unless_refused now s r).0
       by_result s h (Ok y, c) e = e
       by_result s h (Err f, c) e = absurd cc
 
       by_state : (s : State) → StandsFor old s → (r : Result A CoreFault × Connections) → Ok x ≡ r.0 → StandsForConnections (source_of old) table r.1
-          → StandsFor (record old { clock = clock; connections = table }) (moved now s r).1
+          → StandsFor (record old { clock = clock; connections = table }) (unless_refused now s r).1
       by_state s h (Ok y, c) e z = with_table old s h now clock table c is stays z
       by_state s h (Err f, c) e z = absurd cc
 
   pub refused_acts : (f : CoreFault) → ((s : State) → StandsFor old s → Acts (StandsForConnections (source_of old)) (act s) old.connections table (Err f))
-      → Acts StandsFor (λ s. moved now s (act s s.connections)) old old (Err f)
+      → Acts StandsFor (λ s. unless_refused now s (act s s.connections)) old old (Err f)
   refused_acts f acts = record {
     gives = λ s h. by_result s (act s s.connections) ((acts s h).gives s.connections h.connections);
     stands = λ s h. by_state s h (act s s.connections) ((acts s h).gives s.connections h.connections);
   }
     where
-      by_result : (s : State) → (r : Result A CoreFault × Connections) → Err f ≡ r.0 → Err f ≡ (moved now s r).0
+      by_result : (s : State) → (r : Result A CoreFault × Connections) → Err f ≡ r.0 → Err f ≡ (unless_refused now s r).0
       by_result s (Ok y, c) e = absurd cc
       by_result s (Err g, c) e = e
 
-      by_state : (s : State) → StandsFor old s → (r : Result A CoreFault × Connections) → Err f ≡ r.0 → StandsFor old (moved now s r).1
+      by_state : (s : State) → StandsFor old s → (r : Result A CoreFault × Connections) → Err f ≡ r.0 → StandsFor old (unless_refused now s r).1
       by_state s h (Ok y, c) e = absurd cc
       by_state s h (Err g, c) e = h
 
@@ -112,8 +112,8 @@ module _ (old : Held) (now clock : ℕ) (is : clock ≡ max old.clock now) (tabl
       → (s : State) → StandsFor old s → Acts (StandsForConnections (source_of old)) (opening_of s.setting.limits.conns peer (max s.clock now)) old.connections table r
   open_at peer r acts s h = rw (← h.conns, ← h.clock, ← is) acts
 
-  give_at : (id n : ℕ) (r : Result (Unit {0}) CoreFault) → Acts (StandsForConnections (source_of old)) (on_live id (giving clock n)) old.connections table r
-      → (s : State) → StandsFor old s → Acts (StandsForConnections (source_of old)) (on_live id (giving (max s.clock now) n)) old.connections table r
+  give_at : (id n : ℕ) (r : Result (Unit {0}) CoreFault) → Acts (StandsForConnections (source_of old)) (on_live id (give clock n)) old.connections table r
+      → (s : State) → StandsFor old s → Acts (StandsForConnections (source_of old)) (on_live id (give (max s.clock now) n)) old.connections table r
   give_at id n r acts s h = rw (← h.clock, ← is) acts
 
   pub open_done : (peer : Peer) (x : ℕ) → StaysTable old.connections table → Acts (StandsForConnections (source_of old)) (opening_of old.connections.conns peer clock) old.connections table (Ok x)
@@ -126,15 +126,15 @@ module _ (old : Held) (now clock : ℕ) (is : clock ≡ max old.clock now) (tabl
   unfolding open_connection
   open_refused peer f acts = refused_acts old now clock (λ s. opening_of s.setting.limits.conns peer (max s.clock now)) table f (open_at peer (Err f) acts)
 
-  pub gave_done : (id n : ℕ) (u : Unit {0}) → StaysTable old.connections table → Acts (StandsForConnections (source_of old)) (on_live id (giving clock n)) old.connections table (Ok u)
+  pub gave_done : (id n : ℕ) (u : Unit {0}) → StaysTable old.connections table → Acts (StandsForConnections (source_of old)) (on_live id (give clock n)) old.connections table (Ok u)
       → Acts StandsFor (λ s. gave s now id n) old (record old { clock = clock; connections = table }) (Ok u)
   unfolding gave
-  gave_done id n u stays acts = moved_acts old now clock (λ s. on_live id (giving (max s.clock now) n)) table u is stays (give_at id n (Ok u) acts)
+  gave_done id n u stays acts = moved_acts old now clock (λ s. on_live id (give (max s.clock now) n)) table u is stays (give_at id n (Ok u) acts)
 
-  pub gave_refused : (id n : ℕ) (f : CoreFault) → Acts (StandsForConnections (source_of old)) (on_live id (giving clock n)) old.connections table (Err f)
+  pub gave_refused : (id n : ℕ) (f : CoreFault) → Acts (StandsForConnections (source_of old)) (on_live id (give clock n)) old.connections table (Err f)
       → Acts StandsFor (λ s. gave s now id n) old old (Err f)
   unfolding gave
-  gave_refused id n f acts = refused_acts old now clock (λ s. on_live id (giving (max s.clock now) n)) table f (give_at id n (Err f) acts)
+  gave_refused id n f acts = refused_acts old now clock (λ s. on_live id (give (max s.clock now) n)) table f (give_at id n (Err f) acts)
 
 pub closed_acts : (old : Held) (id : ℕ) (table : Table) (books : Books) (u : Unit {0}) → books.registry ≡ old.books.registry → StaysTable old.connections table → SameFrame old.books books
     → Acts (StandsForConnections (source_of old)) (closing_of id) old.connections table (Ok u) → Becomes (λ l. (caller_dropped id l).1) old.books books
@@ -193,7 +193,7 @@ pub record Served (context : Context) (old : Held) (message : Message) (argument
 
 -- what is in the way of the row that it adds
 abbrev pub crowd_in : State → Caller → Message → List ℕ
-crowd_in s caller message = crowding (context_in s caller) message s.connections.all s.ledger
+crowd_in s caller message = removals_in_the_way (context_in s caller) message s.connections.all s.ledger
 
 module _ (old : Held) (caller : Caller) (message : Message) (arguments : List ℕ) (table : Table) (books : Books) (given : Outcome) (served : Served (context_of old caller) old message arguments table books given) (s : State) (h : StandsFor old s) where
   same_context : context_of old caller ≡ context_in s caller
@@ -205,9 +205,9 @@ module _ (old : Held) (caller : Caller) (message : Message) (arguments : List �
   pub serve_stands : StandsForLedger books (outcome (context_in s caller) message arguments s.ledger).1
   serve_stands = subst (λ (x : Context). StandsForLedger books (outcome x message arguments s.ledger).1) same_context (served.acts.ledger s.connections s.ledger h.connections h.ledger)
 
-  pub serve_connections : StandsForConnections (source_in old.setting.listener.host books) table (evicting (crowd_in s caller message) s.connections)
+  pub serve_connections : StandsForConnections (source_in old.setting.listener.host books) table (evict (crowd_in s caller message) s.connections)
   serve_connections =
-      subst (λ (x : Context). StandsForConnections (source_in old.setting.listener.host books) table (evicting (crowding x message s.connections.all s.ledger) s.connections)) same_context
+      subst (λ (x : Context). StandsForConnections (source_in old.setting.listener.host books) table (evict (removals_in_the_way x message s.connections.all s.ledger) s.connections)) same_context
       (served.acts.connections s.connections s.ledger h.connections h.ledger)
 
 -- a datagram is answered
@@ -293,8 +293,8 @@ module _ {X : Type 0} (test : X → Bool) where
   change_nothing [] = refl
   change_nothing (y ∷ xs) = elim (test y) as (λ b. cond b (y ∷ xs) (y ∷ change_first test (λ z. z) xs) ≡ y ∷ xs) [ true ↦ refl | false ↦ ap (λ (zs : List X). y ∷ zs) (change_nothing xs) ]
 
-reading_is_live : (clock id : ℕ) (fed : List ℕ) (c : Connection) → is_live id c ≡ true → is_live id (reading clock fed c) ≡ true
-unfolding is_live reading
+reading_is_live : (clock id : ℕ) (fed : List ℕ) (c : Connection) → is_live id c ≡ true → is_live id (keep_reading clock fed c) ≡ true
+unfolding is_live keep_reading
 reading_is_live clock id fed c h = let p = and_parts (eqb c.number id) (not (is_lost c.phase)) h in rw p.0 refl
 
 -- the live connection is found changed where it stays live
@@ -316,8 +316,8 @@ idle_is_live : (clock id : ℕ) (c : Connection) → is_live id c ≡ true → i
 unfolding is_live
 idle_is_live clock id c h = let p = and_parts (eqb c.number id) (not (is_lost c.phase)) h in rw p.0 refl
 
-settled_over : (now : ℕ) (given : Outcome) (clock : ℕ) (c : Connection) → settled now given (idle clock c) ≡ settled now given c
-unfolding settled
+settled_over : (now : ℕ) (given : Outcome) (clock : ℕ) (c : Connection) → settle now given (idle clock c) ≡ settle now given c
+unfolding settle
 settled_over now given clock c = refl
 
 found_passes : (test : Connection → Bool) (all : List Connection) (c : Connection) → find test all ≡ Some c → test c ≡ true
@@ -329,43 +329,43 @@ found_passes test (x ∷ all) c e = by_test (test x) refl (found_passes test all
     by_test false t further = further (rw t at e)
 
 -- A message is answered alike where the connection, which has no list, was Idle meanwhile.
-answering_alike : (clock id : ℕ) (peer : Peer) (message : Message) (arguments : List ℕ) (s : State) (c : Connection) → live_connection id s.connections.all ≡ Some c → began_in c.phase ≡ None
-    → settled_in id (serve_message (record s { connections = changed_at id (idle clock) s.connections }) (Tcp id peer) message arguments) ≡ settled_in id (serve_message s (Tcp id peer) message arguments)
+answering_alike : (clock id : ℕ) (peer : Peer) (message : Message) (arguments : List ℕ) (s : State) (c : Connection) → live_connection id s.connections.all ≡ Some c → stamp_in c.phase ≡ None
+    → settle_on id (serve_message (record s { connections = changed_at id (idle clock) s.connections }) (Tcp id peer) message arguments) ≡ settle_on id (serve_message s (Tcp id peer) message arguments)
 unfolding live_connection
 answering_alike clock id peer message arguments s c there none = by_outcome (outcome (context_in s (Tcp id peer)) message arguments s.ledger)
   where
     live : is_live id (idle clock c) ≡ true
     live = idle_is_live clock id c (found_passes (is_live id) s.connections.all c there)
 
-    same_crowd : crowding (context_in s (Tcp id peer)) message (change_first (is_live id) (idle clock) s.connections.all) s.ledger ≡ crowding (context_in s (Tcp id peer)) message s.connections.all s.ledger
+    same_crowd : removals_in_the_way (context_in s (Tcp id peer)) message (change_first (is_live id) (idle clock) s.connections.all) s.ledger ≡ removals_in_the_way (context_in s (Tcp id peer)) message s.connections.all s.ledger
     same_crowd = crowding_alike (context_in s (Tcp id peer)) message _ _ s.ledger (begins_changed id (idle clock) s.connections.all c there none refl)
 
-    twice : (given : Outcome) (changes other : List ℕ) → other ≡ changes → change_first (is_live id) (settled s.clock given) (map (evicted other) (change_first (is_live id) (idle clock) s.connections.all))
-        ≡ change_first (is_live id) (settled s.clock given) (map (evicted changes) s.connections.all)
+    twice : (given : Outcome) (changes other : List ℕ) → other ≡ changes → change_first (is_live id) (settle s.clock given) (map (evict_early other) (change_first (is_live id) (idle clock) s.connections.all))
+        ≡ change_first (is_live id) (settle s.clock given) (map (evict_early changes) s.connections.all)
     twice given changes other same =
-        ap (λ (ns : List ℕ). change_first (is_live id) (settled s.clock given) (map (evicted ns) (change_first (is_live id) (idle clock) s.connections.all))) same
-        ∙ evicted_changed id (idle clock) (settled s.clock given) changes s.connections.all c there none refl live (settled_over s.clock given clock c)
+        ap (λ (ns : List ℕ). change_first (is_live id) (settle s.clock given) (map (evict_early ns) (change_first (is_live id) (idle clock) s.connections.all))) same
+        ∙ evicted_changed id (idle clock) (settle s.clock given) changes s.connections.all c there none refl live (settled_over s.clock given clock c)
 
     by_outcome : (o : Outcome × Ledger)
-        → settled_in id (with_ledger (with_room (context_in s (Tcp id peer)) message (record s { connections = changed_at id (idle clock) s.connections })) o)
-        ≡ settled_in id (with_ledger (with_room (context_in s (Tcp id peer)) message s) o)
+        → settle_on id (with_ledger (with_room (context_in s (Tcp id peer)) message (record s { connections = changed_at id (idle clock) s.connections })) o)
+        ≡ settle_on id (with_ledger (with_room (context_in s (Tcp id peer)) message s) o)
     by_outcome o = ap (λ (xs : List Connection). (is_no_call o.0, record s { ledger = o.1; connections = record s.connections { all = xs } })) (twice o.0 _ _ same_crowd)
 
 -- So is a record, by its verdict and what is kept of its arguments.
-heard_alike : (clock id : ℕ) (heard : Heard) (arguments content : List ℕ) (s : State) (c : Connection) → live_connection id s.connections.all ≡ Some c → began_in c.phase ≡ None → heard.verdict ≡ verdict content → arguments ≡ kept_of content
-    → answering_heard id heard arguments (record s { connections = changed_at id (idle clock) s.connections }) ≡ answering s id heard.peer content
-unfolding answering serve
-heard_alike clock id heard arguments content s c there none says kept =
-    let caller : Caller = Tcp id heard.peer in
-    answering_alike clock id heard.peer (message_with heard.verdict arguments) arguments s c there none
-    ∙ ap (λ (v : Verdict). settled_in id (serve_message s caller (message_with v arguments) arguments)) says
-    ∙ ap (λ (xs : List ℕ). settled_in id (serve_message s caller (message_with (verdict content) xs) xs)) kept
-    ∙ ap (λ (m : Message). settled_in id (serve_message s caller m (kept_of content))) (kept_says content).says
-    ∙ ap (λ (o : Outcome × Ledger). settled_in id (with_ledger (with_room (context_in s caller) (message_of content) s) o)) ((kept_says content).answered (context_in s caller) s.ledger)
+ended_alike : (clock id : ℕ) (ended : EndedRecord) (arguments content : List ℕ) (s : State) (c : Connection) → live_connection id s.connections.all ≡ Some c → stamp_in c.phase ≡ None → ended.verdict ≡ verdict content → arguments ≡ kept_of content
+    → serve_ended id ended arguments (record s { connections = changed_at id (idle clock) s.connections }) ≡ serve_record s id ended.peer content
+unfolding serve_record serve
+ended_alike clock id ended arguments content s c there none says kept =
+    let caller : Caller = Tcp id ended.peer in
+    answering_alike clock id ended.peer (message_with ended.verdict arguments) arguments s c there none
+    ∙ ap (λ (v : Verdict). settle_on id (serve_message s caller (message_with v arguments) arguments)) says
+    ∙ ap (λ (xs : List ℕ). settle_on id (serve_message s caller (message_with (verdict content) xs) xs)) kept
+    ∙ ap (λ (m : Message). settle_on id (serve_message s caller m (kept_of content))) (kept_says content).says
+    ∙ ap (λ (o : Outcome × Ledger). settle_on id (with_ledger (with_room (context_in s caller) (message_of content) s) o)) ((kept_says content).answered (context_in s caller) s.ledger)
 
 -- a connection that takes bytes has no list
-pub takes_no_list : (phase : Phase) (piece : List ℕ) (n : ℕ) (content : List ℕ) → taking phase piece ≡ Ends n content → began_in phase ≡ None
-unfolding taking
+pub takes_no_list : (phase : Phase) (piece : List ℕ) (n : ℕ) (content : List ℕ) → taking_of phase piece ≡ Ends n content → stamp_in phase ≡ None
+unfolding taking_of
 takes_no_list Idle piece n content e = refl
 takes_no_list (Reading fed) piece n content e = refl
 takes_no_list (Owing o) piece n content e = absurd cc
@@ -373,8 +373,8 @@ takes_no_list Awaiting piece n content e = refl
 takes_no_list Lost piece n content e = refl
 
 -- and owes no reply
-takes_owing_none : (phase : Phase) (piece : List ℕ) (n : ℕ) (content : List ℕ) → taking phase piece ≡ Ends n content → is_owing phase ≡ false
-unfolding taking
+takes_owing_none : (phase : Phase) (piece : List ℕ) (n : ℕ) (content : List ℕ) → taking_of phase piece ≡ Ends n content → is_owing phase ≡ false
+unfolding taking_of
 takes_owing_none Idle piece n content e = refl
 takes_owing_none (Reading fed) piece n content e = refl
 takes_owing_none (Owing o) piece n content e = absurd cc
@@ -389,8 +389,8 @@ taken_of (taken, s) = (Ok taken, s)
 pub record Fed (old : Held) (clock id : ℕ) (piece : List ℕ) (table : Table) (got : Received) (s : State) : Type 0 where
   pub connection : Connection
   pub there : live_connection id s.connections.all ≡ Some connection
-  pub gives : got ≡ received piece connection (taking connection.phase piece)
-  pub stands : StandsForConnections (source_of old) table (changed_at id (λ x. fed_with clock x (taking x.phase piece)) s.connections)
+  pub gives : got ≡ received_of piece connection (taking_of connection.phase piece)
+  pub stands : StandsForConnections (source_of old) table (changed_at id (λ x. connection_after clock x (taking_of x.phase piece)) s.connections)
 
 module _ (old : Held) (now clock id : ℕ) (piece : List ℕ) (is : clock ≡ max old.clock now) (table : Table) (stays : StaysTable old.connections table)
     (arguments : List ℕ) (holds : Shows (StandsForConnections (source_of old)) (arguments_on id old.arguments piece) old.connections arguments) where
@@ -401,40 +401,40 @@ module _ (old : Held) (now clock id : ℕ) (piece : List ℕ) (is : clock ≡ ma
   ok_is a b e = cc
 
   abbrev quiet : ℕ → Received
-  quiet n = record { count = n; heard = None }
+  quiet n = record { count = n; ended = None }
 
-  abbrev heard : ℕ → Heard → Received
-  heard n said = record { count = n; heard = Some said }
+  abbrev ended : ℕ → EndedRecord → Received
+  ended n said = record { count = n; ended = Some said }
 
-  nobody : (x : Heard) → Some x ≡ None → ⊥
+  nobody : (x : EndedRecord) → Some x ≡ None → ⊥
   nobody x h = absurd cc
 
-  pub fed_by : (got : Received) → Acts (StandsForConnections (source_of old)) (on_live id (feeding clock piece)) old.connections table (Ok got) → (s : State) → StandsFor old s → Fed old clock id piece table got s
-  unfolding feeding
+  pub fed_by : (got : Received) → Acts (StandsForConnections (source_of old)) (on_live id (take_piece clock piece)) old.connections table (Ok got) → (s : State) → StandsFor old s → Fed old clock id piece table got s
+  unfolding take_piece
   fed_by got acts s h = by_there (live_connection id s.connections.all) refl (acts.gives s.connections h.connections) (acts.stands s.connections h.connections)
     where
       by_there : (m : Option Connection) → live_connection id s.connections.all ≡ m
-          → Ok got ≡ (on_live id (feeding clock piece) s.connections).0 → StandsForConnections (source_of old) table (on_live id (feeding clock piece) s.connections).1 → Fed old clock id piece table got s
+          → Ok got ≡ (on_live id (take_piece clock piece) s.connections).0 → StandsForConnections (source_of old) table (on_live id (take_piece clock piece) s.connections).1 → Fed old clock id piece table got s
       by_there None e g z = let clash = rw e at g in absurd cc
-      by_there (Some c) e g z = record { connection = c; there = e; gives = ok_is got (received piece c (taking c.phase piece)) (rw e at g); stands = rw e at z }
+      by_there (Some c) e g z = record { connection = c; there = e; gives = ok_is got (received_of piece c (taking_of c.phase piece)) (rw e at g); stands = rw e at z }
 
-  bytes_by : (s : State) (c : Connection) (t : Taking) → live_connection id s.connections.all ≡ Some c → taking c.phase piece ≡ t
+  bytes_by : (s : State) (c : Connection) (t : Taking) → live_connection id s.connections.all ≡ Some c → taking_of c.phase piece ≡ t
       → bytes s now id piece ≡ (Ok (when_taken (at_moment now s) id piece c t).0, (when_taken (at_moment now s) id piece c t).1)
   unfolding bytes
   bytes_by s c t there takes = rw there (rw takes refl)
 
   -- the connections where the one that is found takes this
-  fed_to : (s : State) (c : Connection) (t : Taking) (change : Connection → Connection) → live_connection id s.connections.all ≡ Some c → taking c.phase piece ≡ t → fed_with clock c t ≡ change c
-      → changed_at id (λ x. fed_with clock x (taking x.phase piece)) s.connections ≡ changed_at id change s.connections
+  fed_to : (s : State) (c : Connection) (t : Taking) (change : Connection → Connection) → live_connection id s.connections.all ≡ Some c → taking_of c.phase piece ≡ t → connection_after clock c t ≡ change c
+      → changed_at id (λ x. connection_after clock x (taking_of x.phase piece)) s.connections ≡ changed_at id change s.connections
   unfolding live_connection
   fed_to s c t change there takes same =
       ap (λ (xs : List Connection). record s.connections { all = xs })
-      (change_alike (is_live id) (λ x. fed_with clock x (taking x.phase piece)) change s.connections.all c there (ap (fed_with clock c) takes ∙ same))
+      (change_alike (is_live id) (λ x. connection_after clock x (taking_of x.phase piece)) change s.connections.all c there (ap (connection_after clock c) takes ∙ same))
 
   -- the arguments that are held after it
-  pub held_after : (s : State) (c : Connection) (t : Taking) → StandsFor old s → live_connection id s.connections.all ≡ Some c → taking c.phase piece ≡ t → arguments ≡ arguments_after old.arguments t
+  pub held_after : (s : State) (c : Connection) (t : Taking) → StandsFor old s → live_connection id s.connections.all ≡ Some c → taking_of c.phase piece ≡ t → arguments ≡ arguments_after old.arguments t
   held_after s c t h there takes =
-      holds s.connections h.connections ∙ ap (λ (o : Option Connection). option_map_or (arguments_heard old.arguments piece) o old.arguments) there ∙ ap (arguments_after old.arguments) takes
+      holds s.connections h.connections ∙ ap (λ (o : Option Connection). option_map_or (arguments_taken old.arguments piece) o old.arguments) there ∙ ap (arguments_after old.arguments) takes
 
   abbrev held_with : List ℕ → Held
   held_with kept = record old { clock = clock; connections = table; arguments = kept }
@@ -461,11 +461,11 @@ module _ (old : Held) (now clock id : ℕ) (piece : List ℕ) (is : clock ≡ ma
     pub gives : Ok (record { count = count; closed = false }) ≡ (bytes s now id piece).0
     pub stands : StandsFor (held_with arguments) (bytes s now id piece).1
 
-  pub quiet_acts : (count : ℕ) → Acts (StandsForConnections (source_of old)) (on_live id (feeding clock piece)) old.connections table (Ok (quiet count))
+  pub quiet_acts : (count : ℕ) → Acts (StandsForConnections (source_of old)) (on_live id (take_piece clock piece)) old.connections table (Ok (quiet count))
       → Acts StandsFor (λ s. bytes s now id piece) old (held_with arguments) (Ok (record { count = count; closed = false }))
   quiet_acts count acts = record { gives = λ s h. (goes s h).gives; stands = λ s h. (goes s h).stands }
     where
-      by_taking : (s : State) → StandsFor old s → (f : Fed old clock id piece table (quiet count) s) (t : Taking) → taking f.connection.phase piece ≡ t → Quiet s count
+      by_taking : (s : State) → StandsFor old s → (f : Fed old clock id piece table (quiet count) s) (t : Taking) → taking_of f.connection.phase piece ≡ t → Quiet s count
       by_taking s h f TakesNone t =
           let gives : quiet count ≡ quiet 0 = rw t at f.gives in
           let n : count ≡ 0 = ap (λ (r : Received). r.count) gives in
@@ -476,20 +476,20 @@ module _ (old : Held) (now clock id : ℕ) (piece : List ℕ) (is : clock ≡ ma
           let gives : quiet count ≡ quiet (length piece) = rw t at f.gives in
           let n : count ≡ length piece = ap (λ (r : Received). r.count) gives in
           let none : arguments ≡ [] = held_after s f.connection (GoesOn fed) h f.there t ∙ h.arguments in
-          let same = fed_to s f.connection (GoesOn fed) (reading (max s.clock now) fed) f.there t (ap (λ (k : ℕ). reading k fed f.connection) (is ∙ ap (λ (k : ℕ). max k now) h.clock)) in
-          record { gives = rw (bytes_by s f.connection (GoesOn fed) f.there t) (rw n refl); stands = rw (bytes_by s f.connection (GoesOn fed) f.there t) (table_with s h arguments none (changed_at id (reading (max s.clock now) fed) s.connections) (subst (StandsForConnections (source_of old) table) same f.stands)) }
+          let same = fed_to s f.connection (GoesOn fed) (keep_reading (max s.clock now) fed) f.there t (ap (λ (k : ℕ). keep_reading k fed f.connection) (is ∙ ap (λ (k : ℕ). max k now) h.clock)) in
+          record { gives = rw (bytes_by s f.connection (GoesOn fed) f.there t) (rw n refl); stands = rw (bytes_by s f.connection (GoesOn fed) f.there t) (table_with s h arguments none (changed_at id (keep_reading (max s.clock now) fed) s.connections) (subst (StandsForConnections (source_of old) table) same f.stands)) }
       by_taking s h f (Ends n content) t =
-          let gives : quiet count ≡ heard n (record { peer = f.connection.peer; verdict = verdict content }) = rw t at f.gives in
-          absurd (nobody (record { peer = f.connection.peer; verdict = verdict content }) (sym (ap (λ (r : Received). r.heard) gives)))
+          let gives : quiet count ≡ ended n (record { peer = f.connection.peer; verdict = verdict content }) = rw t at f.gives in
+          absurd (nobody (record { peer = f.connection.peer; verdict = verdict content }) (sym (ap (λ (r : Received). r.ended) gives)))
 
       goes : (s : State) → StandsFor old s → Quiet s count
-      goes s h = let f = fed_by (quiet count) acts s h in by_taking s h f (taking f.connection.phase piece) refl
+      goes s h = let f = fed_by (quiet count) acts s h in by_taking s h f (taking_of f.connection.phase piece) refl
 
   -- nothing is given at once there
-  pub quiet_gives_none : (room count : ℕ) → Acts (StandsForConnections (source_of old)) (on_live id (feeding clock piece)) old.connections table (Ok (quiet count))
+  pub quiet_gives_none : (room count : ℕ) → Acts (StandsForConnections (source_of old)) (on_live id (take_piece clock piece)) old.connections table (Ok (quiet count))
       → (s : State) → StandsFor old s → 0 ≡ at_once room id (live_connection id s.connections.all) (bytes s now id piece)
-  unfolding live_connection reading
-  quiet_gives_none room count acts s h = let f = fed_by (quiet count) acts s h in by_taking f (taking f.connection.phase piece) refl
+  unfolding live_connection keep_reading
+  quiet_gives_none room count acts s h = let f = fed_by (quiet count) acts s h in by_taking f (taking_of f.connection.phase piece) refl
     where
       owing_none : (phase : Phase) → 0 ≡ cond (is_owing phase || false) 0 (at_once_in room phase)
       owing_none (Owing o) = refl
@@ -502,39 +502,39 @@ module _ (old : Held) (now clock id : ℕ) (piece : List ℕ) (is : clock ≡ ma
       either true = refl
       either false = refl
 
-      by_taking : (f : Fed old clock id piece table (quiet count) s) (t : Taking) → taking f.connection.phase piece ≡ t → 0 ≡ at_once room id (live_connection id s.connections.all) (bytes s now id piece)
+      by_taking : (f : Fed old clock id piece table (quiet count) s) (t : Taking) → taking_of f.connection.phase piece ≡ t → 0 ≡ at_once room id (live_connection id s.connections.all) (bytes s now id piece)
       by_taking f TakesNone t = rw (bytes_by s f.connection TakesNone f.there t) (rw f.there (rw f.there (owing_none f.connection.phase)))
       by_taking f (GoesOn fed) t =
           rw (bytes_by s f.connection (GoesOn fed) f.there t)
-          (rw f.there (rw (find_changed_live id (reading (max s.clock now) fed) (reading_is_live (max s.clock now) id fed) s.connections.all f.connection f.there) (either (is_owing f.connection.phase || false))))
+          (rw f.there (rw (find_changed_live id (keep_reading (max s.clock now) fed) (reading_is_live (max s.clock now) id fed) s.connections.all f.connection f.there) (either (is_owing f.connection.phase || false))))
       by_taking f (Ends n content) t =
-          let gives : quiet count ≡ heard n (record { peer = f.connection.peer; verdict = verdict content }) = rw t at f.gives in
-          absurd (nobody (record { peer = f.connection.peer; verdict = verdict content }) (sym (ap (λ (r : Received). r.heard) gives)))
+          let gives : quiet count ≡ ended n (record { peer = f.connection.peer; verdict = verdict content }) = rw t at f.gives in
+          absurd (nobody (record { peer = f.connection.peer; verdict = verdict content }) (sym (ap (λ (r : Received). r.ended) gives)))
 
   -- where one ended: the state meanwhile, and what it said is answered from there
-  pub record RecordEnded (count : ℕ) (said : Heard) (s : State) : Type 0 where
+  pub record RecordEnded (count : ℕ) (said : EndedRecord) (s : State) : Type 0 where
     pub meanwhile : State
     pub stands : StandsFor (held_with []) meanwhile
     pub moment : meanwhile.clock ≡ max s.clock now
     pub before : Connection
     pub there : live_connection id s.connections.all ≡ Some before
     pub owes_none : is_owing before.phase ≡ false
-    pub goes : bytes s now id piece ≡ taken_of (with_count count (answering_heard id said arguments meanwhile))
+    pub goes : bytes s now id piece ≡ taken_of (with_count count (serve_ended id said arguments meanwhile))
 
-  pub ended_by : (count : ℕ) (said : Heard) → Acts (StandsForConnections (source_of old)) (on_live id (feeding clock piece)) old.connections table (Ok (heard count said))
+  pub ended_by : (count : ℕ) (said : EndedRecord) → Acts (StandsForConnections (source_of old)) (on_live id (take_piece clock piece)) old.connections table (Ok (ended count said))
       → (s : State) → StandsFor old s → RecordEnded count said s
-  ended_by count said acts s h = let f = fed_by (heard count said) acts s h in by_taking f (taking f.connection.phase piece) refl
+  ended_by count said acts s h = let f = fed_by (ended count said) acts s h in by_taking f (taking_of f.connection.phase piece) refl
     where
-      by_taking : (f : Fed old clock id piece table (heard count said) s) (t : Taking) → taking f.connection.phase piece ≡ t → RecordEnded count said s
-      by_taking f TakesNone t = let gives : heard count said ≡ quiet 0 = rw t at f.gives in absurd (nobody said (ap (λ (r : Received). r.heard) gives))
-      by_taking f (GoesOn fed) t = let gives : heard count said ≡ quiet (length piece) = rw t at f.gives in absurd (nobody said (ap (λ (r : Received). r.heard) gives))
+      by_taking : (f : Fed old clock id piece table (ended count said) s) (t : Taking) → taking_of f.connection.phase piece ≡ t → RecordEnded count said s
+      by_taking f TakesNone t = let gives : ended count said ≡ quiet 0 = rw t at f.gives in absurd (nobody said (ap (λ (r : Received). r.ended) gives))
+      by_taking f (GoesOn fed) t = let gives : ended count said ≡ quiet (length piece) = rw t at f.gives in absurd (nobody said (ap (λ (r : Received). r.ended) gives))
       by_taking f (Ends n content) t =
-          let gives : heard count said ≡ heard n (record { peer = f.connection.peer; verdict = verdict content }) = rw t at f.gives in
+          let gives : ended count said ≡ ended n (record { peer = f.connection.peer; verdict = verdict content }) = rw t at f.gives in
           let k : count ≡ n = ap (λ (r : Received). r.count) gives in
-          let who : said ≡ record { peer = f.connection.peer; verdict = verdict content } = some_is {X = Heard} (λ x. true) _ _ (ap (λ (r : Received). r.heard) gives) in
+          let who : said ≡ record { peer = f.connection.peer; verdict = verdict content } = some_is {X = EndedRecord} (λ x. true) _ _ (ap (λ (r : Received). r.ended) gives) in
           let same = fed_to s f.connection (Ends n content) (idle clock) f.there t refl in
-          let alike = heard_alike clock id said arguments content (at_moment now s) f.connection f.there (takes_no_list f.connection.phase piece n content t) (ap (λ (x : Heard). x.verdict) who) (held_after s f.connection (Ends n content) h f.there t) in
-          let from = ap (λ (x : Heard). x.peer) who in
+          let alike = ended_alike clock id said arguments content (at_moment now s) f.connection f.there (takes_no_list f.connection.phase piece n content t) (ap (λ (x : EndedRecord). x.verdict) who) (held_after s f.connection (Ends n content) h f.there t) in
+          let from = ap (λ (x : EndedRecord). x.peer) who in
           record {
             meanwhile = record (at_moment now s) { connections = changed_at id (idle clock) s.connections };
             stands = table_with s h [] refl (changed_at id (idle clock) s.connections) (subst (StandsForConnections (source_of old) table) same f.stands);
@@ -544,18 +544,18 @@ module _ (old : Held) (now clock id : ℕ) (piece : List ℕ) (is : clock ≡ ma
             owes_none = takes_owing_none f.connection.phase piece n content t;
             goes =
                 bytes_by s f.connection (Ends n content) f.there t
-                ∙ ap (λ (r : Bool × State). taken_of (with_count n r)) (ap (λ (p : Peer). answering (at_moment now s) id p content) (sym from) ∙ sym alike)
-                ∙ ap (λ (m : ℕ). taken_of (with_count m (answering_heard id said arguments (record (at_moment now s) { connections = changed_at id (idle clock) s.connections })))) (sym k);
+                ∙ ap (λ (r : Bool × State). taken_of (with_count n r)) (ap (λ (p : Peer). serve_record (at_moment now s) id p content) (sym from) ∙ sym alike)
+                ∙ ap (λ (m : ℕ). taken_of (with_count m (serve_ended id said arguments (record (at_moment now s) { connections = changed_at id (idle clock) s.connections })))) (sym k);
           }
 
-abbrev unheard : CoreFault → Result Received CoreFault
-unheard fault = Err fault
+abbrev not_ended : CoreFault → Result Received CoreFault
+not_ended fault = Err fault
 
-fault_is : (a b : CoreFault) → unheard a ≡ unheard b → a ≡ b
+fault_is : (a b : CoreFault) → not_ended a ≡ not_ended b → a ≡ b
 fault_is a b e = cc
 
 -- a connection that is not there takes nothing
-pub bytes_refused : (old : Held) (now clock id : ℕ) (piece : List ℕ) (table : Table) (f : CoreFault) → Acts (StandsForConnections (source_of old)) (on_live id (feeding clock piece)) old.connections table (Err f)
+pub bytes_refused : (old : Held) (now clock id : ℕ) (piece : List ℕ) (table : Table) (f : CoreFault) → Acts (StandsForConnections (source_of old)) (on_live id (take_piece clock piece)) old.connections table (Err f)
     → Acts StandsFor (λ s. bytes s now id piece) old old (Err f)
 unfolding bytes
 bytes_refused old now clock id piece table f acts = record {
@@ -563,18 +563,18 @@ bytes_refused old now clock id piece table f acts = record {
   stands = λ s h. by_state s h (live_connection id s.connections.all) refl (acts.gives s.connections h.connections);
 }
   where
-    by_there : (s : State) (m : Option Connection) → live_connection id s.connections.all ≡ m → Err f ≡ (on_live id (feeding clock piece) s.connections).0 → Err f ≡ (bytes_to s now id piece m).0
+    by_there : (s : State) (m : Option Connection) → live_connection id s.connections.all ≡ m → Err f ≡ (on_live id (take_piece clock piece) s.connections).0 → Err f ≡ (bytes_to s now id piece m).0
     by_there s None e g = ap Err (fault_is f Gone (rw e at g))
     by_there s (Some c) e g = let clash = rw e at g in absurd cc
 
-    by_state : (s : State) → StandsFor old s → (m : Option Connection) → live_connection id s.connections.all ≡ m → Err f ≡ (on_live id (feeding clock piece) s.connections).0 → StandsFor old (bytes_to s now id piece m).1
+    by_state : (s : State) → StandsFor old s → (m : Option Connection) → live_connection id s.connections.all ≡ m → Err f ≡ (on_live id (take_piece clock piece) s.connections).0 → StandsFor old (bytes_to s now id piece m).1
     by_state s h None e g = h
     by_state s h (Some c) e g = let clash = rw e at g in absurd cc
 
--- the same by what was heard
-pub with_heard : (source : Source) (id clock : ℕ) (piece : List ℕ) (old table : Table) (got : Received) (said : Option Heard) → got.heard ≡ said
-    → Acts (StandsForConnections source) (on_live id (feeding clock piece)) old table (Ok got) → Acts (StandsForConnections source) (on_live id (feeding clock piece)) old table (Ok (record { count = got.count; heard = said }))
-with_heard source id clock piece old table got said is acts = subst (λ (m : Option Heard). Acts (StandsForConnections source) (on_live id (feeding clock piece)) old table (Ok (record { count = got.count; heard = m }))) is acts
+-- the same by the record that ended
+pub with_ended : (source : Source) (id clock : ℕ) (piece : List ℕ) (old table : Table) (got : Received) (said : Option EndedRecord) → got.ended ≡ said
+    → Acts (StandsForConnections source) (on_live id (take_piece clock piece)) old table (Ok got) → Acts (StandsForConnections source) (on_live id (take_piece clock piece)) old table (Ok (record { count = got.count; ended = said }))
+with_ended source id clock piece old table got said is acts = subst (λ (m : Option EndedRecord). Acts (StandsForConnections source) (on_live id (take_piece clock piece)) old table (Ok (record { count = got.count; ended = m }))) is acts
 
 -- ---- forwarded calls
 
@@ -672,7 +672,7 @@ module _ (old : Held) (now clock : ℕ) (is : clock ≡ max old.clock now) (mess
 
 -- what a datagram of a target ends at a moment, or that moment
 pub replied_alike : (old : Held) (now clock : ℕ) (from : Peer) (message : List ℕ) → clock ≡ max old.clock now → (s : State) → StandsFor old s
-    → replied old.books.forwards.first_xid clock from message ≡ replied s.setting.first_xid (max s.clock now) from message
+    → target_replied old.books.forwards.first_xid clock from message ≡ target_replied s.setting.first_xid (max s.clock now) from message
 replied_alike old now clock from message is s h = rw (← h.first_xid, ← h.clock, is) refl
 
 pub due_alike : (old : Held) (now clock : ℕ) → clock ≡ max old.clock now → (s : State) → StandsFor old s → fell_due clock ≡ fell_due (max s.clock now)

@@ -14,9 +14,9 @@ use Rattle.rb_connections.specs.Giving.{whole_cost}
 use Rattle.rb_connections.specs.Costs.{look_cost, row_count, slot_count, taken_cost}
 use Rattle.rb_core.specs.StandsFor.{Held, StandsFor}
 use Rattle.rb_core.specs.declared.calls.Piece.{Piece}
-use Rattle.rb_core.specs.declared.types.Exchanged.{Exchanged}
+use Rattle.rb_model.specs.declared.types.Exchanged.{Exchanged}
 use Rattle.rb_core.specs.Core.{arguments_in, received_in}
-use Rattle.rb_core.specs.AtOnce.{count_given}
+use Rattle.rb_model.specs.Exchanges.{count_given}
 
 -- ---- by what is kept
 

@@ -14,12 +14,12 @@ use Rattle.rb_model.specs.Calls.{message_with, Outcome, longest_reply}
 use Rattle.rb_model.specs.Connections.{on_live}
 use Rattle.rb_model.specs.declared.types.Told.{Told}
 use Rattle.rb_model.specs.Ending.{told_at, tell}
-use Rattle.rb_model.specs.Step.{serve_message, settled_in}
+use Rattle.rb_model.specs.Step.{serve_message, settle_on}
 use Rattle.rb_connections.specs.declared.served.Outcome as outcome
-use Rattle.rb_connections.specs.declared.slot.Heard.{Heard}
+use Rattle.rb_connections.specs.declared.slot.EndedRecord.{EndedRecord}
 use Rattle.rb_connections.specs.declared.slot.Received.{Received}
 use Rattle.rb_connections.specs.StandsFor.{Table}
-use Rattle.rb_connections.specs.Slots.{Acts, TableActs, TableShows, feeding, arguments_on, IsDraft, received}
+use Rattle.rb_connections.specs.Slots.{Acts, TableActs, TableShows, take_piece, arguments_on, IsDraft}
 use Rattle.rb_connections.specs.Listings.{CanListOn}
 use Rattle.rb_connections.specs.Settling.{outcome_with}
 use Rattle.rb_core.specs.declared.calls.Piece.{Piece}
@@ -51,8 +51,8 @@ pub record IsCore (setting : Setting) (connections : Table) (books : Books) (rep
 -- ---- what calls answer
 
 -- the outcome of the model for this outcome of the code, with the reply in this buffer
-abbrev pub given_in : outcome.Outcome → Kept → Outcome
-given_in given kept = outcome_with given kept.bytes
+abbrev pub outcome_in : outcome.Outcome → Kept → Outcome
+outcome_in given kept = outcome_with given kept.bytes
 
 -- what a call from a caller sees
 abbrev pub context_of : Held → Caller → Context
@@ -69,9 +69,9 @@ abbrev pub received_in : Result Piece CoreFault → Result Received CoreFault
 received_in (Ok piece) = Ok piece.received
 received_in (Err fault) = Err fault
 
--- So many bytes of a piece were taken on the live connection of the number, and this was heard.
+-- So many bytes of a piece were taken on the live connection of the number, and this came of it.
 abbrev pub TakesPiece : ℕ → ℕ → List ℕ → Table → Table → Result Piece CoreFault → Type 0
-TakesPiece id clock piece old new result = TableActs (on_live id (feeding clock piece)) old new (received_in result)
+TakesPiece id clock piece old new result = TableActs (on_live id (take_piece clock piece)) old new (received_in result)
 
 -- the arguments of a record: those in the piece where it came whole, else those that are held
 abbrev pub arguments_in : Option (Bor (List ℕ)) → List ℕ → List ℕ
@@ -85,9 +85,9 @@ HasArguments id piece table before after result =
     IfOk result (λ got. TableShows (arguments_on id before.bytes piece) table (arguments_in got.arguments after.bytes))
 
 -- a record with this verdict and these arguments is answered, and its connection goes on
-abbrev pub answering_heard : ℕ → Heard → List ℕ → State → Bool × State
-answering_heard id heard arguments s =
-    settled_in id (serve_message s (Tcp id heard.peer) (message_with heard.verdict arguments) arguments)
+abbrev pub serve_ended : ℕ → EndedRecord → List ℕ → State → Bool × State
+serve_ended id ended arguments s =
+    settle_on id (serve_message s (Tcp id ended.peer) (message_with ended.verdict arguments) arguments)
 
 -- what is held, once the arguments are taken out
 abbrev pub without_arguments : Held → Held

@@ -6,7 +6,7 @@ use Rattle.rb_proto.specs.Books.{HasRowRoom}
 use Rattle.rb_proto.specs.Ledger.{Ledger, StandsForLedger}
 use Rattle.rb_model.specs.declared.message.Message.{Message}
 use Rattle.rb_model.specs.declared.message.Message.TheVariants as says
-use Rattle.rb_model.specs.Losses.{crowding, evicting}
+use Rattle.rb_model.specs.Losses.{removals_in_the_way, evict}
 use Rattle.rb_model.specs.State.{Connections}
 use Rattle.rb_connections.specs.StandsFor.{Source, source_for, Table, StandsForConnections}
 
@@ -27,5 +27,5 @@ Evicts context message connections books new_connections new_books =
     (c : Connections) (l : Ledger)
     → StandsForConnections (source_in context.listener.host books) connections c → StandsForLedger books l
     → StandsForConnections (source_in context.listener.host new_books) new_connections
-    (evicting (crowding context message c.all l) c)
+    (evict (removals_in_the_way context message c.all l) c)
     × StandsForLedger new_books l

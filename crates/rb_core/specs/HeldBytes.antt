@@ -8,7 +8,7 @@ use Rattle.rb_stats.specs.Stats.{key_count}
 use Rattle.rb_forward.specs.StandsFor.{slots_of as calls_of, held_in as held_of_calls}
 use Rattle.rb_model.specs.State.{Connection, State}
 use Rattle.rb_model.specs.Connections.{fed_in}
-use Rattle.rb_model.specs.Calls.{longest_arguments}
+use Rattle.rb_model.specs.Calls.{longest_kept}
 use Rattle.rb_model.specs.Bounds.{bytes_bound}
 use Rattle.rb_model.specs.Step.{IsReached}
 use Rattle.rb_connections.specs.StandsFor.{held_in as held_of_connections, charge}
@@ -32,7 +32,7 @@ takes_bytes c = is_some (fed_in c.phase)
 
 -- It holds the arguments of one call at most, beside its fixed part.
 abbrev pub HoldsArguments : Slot → Connection → Type 0
-HoldsArguments slot c = takes_bytes c ≡ true → charge slot ≤ 128 + longest_arguments
+HoldsArguments slot c = takes_bytes c ≡ true → charge slot ≤ 128 + longest_kept
 
 -- what such a connection never holds of its share of the bound: the head of a call, and a fragment of a reply
 abbrev pub unheld_share : ℕ

@@ -1,6 +1,5 @@
 pub mod StandsFor
 pub mod HeldBytes
-pub mod Runs
 pub mod AtOnce
 pub mod Awaits
 pub mod Messages
@@ -9,5 +8,4 @@ pub mod Core
 pub mod Serving
 pub mod CallCosts
 pub mod Events
-pub mod Headline
 pub mod WorkedHeld

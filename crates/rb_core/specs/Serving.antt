@@ -17,7 +17,7 @@ use Rattle.rb_proto.specs.Ledger.{Ledger, StandsForLedger}
 use Rattle.rb_proto.specs.Books.{ActsAs, AreTied, OnlyCallerWaits, SameFrame}
 use Rattle.rb_proto.specs.Results.{shown_of, result_bytes}
 use Rattle.rb_model.specs.State.{Connections}
-use Rattle.rb_model.specs.Losses.{crowding, evicting}
+use Rattle.rb_model.specs.Losses.{removals_in_the_way, evict}
 use Rattle.rb_model.specs.Calls.{Outcome, answer_outcome, outcome, message_with, longest_reply}
 use Rattle.rb_model.specs.declared.message.Message.{Message}
 use Rattle.rb_connections.specs.declared.served.Served.{Served}
@@ -48,7 +48,7 @@ pub record ServesInRoom (context : Context) (message : Message) (arguments : Lis
   pub ledger : (c : Connections) (l : Ledger) → StandsForConnections (source_in context.listener.host old) table c
       → StandsForLedger old l → StandsForLedger new (outcome context message arguments l).1
   pub connections : (c : Connections) (l : Ledger) → StandsForConnections (source_in context.listener.host old) table c
-      → StandsForLedger old l → StandsForConnections (source_in context.listener.host new) left (evicting (crowding context message c.all l) c)
+      → StandsForLedger old l → StandsForConnections (source_in context.listener.host new) left (evict (removals_in_the_way context message c.all l) c)
 
 -- The same of the message on which this is the verdict; `arguments` are the bytes behind its head.
 abbrev pub ServesVerdict : Context → Verdict → List ℕ → Table → Books → Table → Books → Served → Kept → Type 0
@@ -101,8 +101,8 @@ pub record LeavesBooks (context : Context) (old new : Books) (served : Served) (
   pub frame : SameFrame old new
 
 -- the list that is streamed to a caller, where results are one
-abbrev pub streamed : Caller → Results → Option Listing
-streamed (Udp peer) given = None
-streamed (Tcp id peer) (results.Rows listing) = Some listing
-streamed (Tcp id peer) (results.Value value) = None
-streamed (Tcp id peer) results.Statistics = None
+abbrev pub list_streamed : Caller → Results → Option Listing
+list_streamed (Udp peer) given = None
+list_streamed (Tcp id peer) (results.Rows listing) = Some listing
+list_streamed (Tcp id peer) (results.Value value) = None
+list_streamed (Tcp id peer) results.Statistics = None

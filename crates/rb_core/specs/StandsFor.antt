@@ -6,7 +6,7 @@ use Rattle.rb_model.specs.Calls.{longest_reply}
 use Rattle.rb_model.specs.State.{Setting, State}
 use Rattle.rb_connections.specs.StandsFor.{Source, source_for, Table, StandsForConnections, AreWithin}
 
--- `begun` is what the meter showed as the last event began, and `tie` is the number of that meter
+-- `steps_before` is what the meter showed as the last event began, and `tie` is the number of that meter
 pub record Held : Type 0 where
   pub setting : Setting
   pub clock : ℕ
@@ -14,7 +14,7 @@ pub record Held : Type 0 where
   pub books : Books
   pub reply : List ℕ
   pub arguments : List ℕ
-  pub begun : ℕ
+  pub steps_before : ℕ
   pub tie : ℕ
 
 -- what lists are made from
@@ -22,7 +22,7 @@ abbrev pub source_of : Held → Source
 source_of held = source_for held.setting.listener.host held.books.registry
 
 -- Neither the changes nor the history of calls is held, nor a list as a whole. Between two events no arguments are,
--- and no more bytes of a connection and of the reply than there is room for. A state has nothing like `begun`.
+-- and no more bytes of a connection and of the reply than there is room for. A state has nothing like `steps_before`.
 pub record StandsFor (held : Held) (s : State) : Type 0 where
   pub setting : held.setting ≡ s.setting
   pub clock : held.clock ≡ s.clock

@@ -1,7 +1,7 @@
 //! What comes of a piece of bytes on a connection, and how a record or a datagram is served.
 ghost use Rattle.std.specs.Prelude.{◌≡◌, ◌≤◌, ◌+◌, None, length, IfOk, OnErr};
 ghost use Rattle.rb_xdr.specs.Meter.{PaysAtMost};
-ghost use Rattle.rb_connections.specs.Awaits.{GoOn, HearsFree, StayOpen};
+ghost use Rattle.rb_connections.specs.Awaits.{GoOn, EndsOnFree, StayOpen};
 ghost use Rattle.rb_core.specs.CallCosts.{PaysForPiece, PaysInRoom};
 ghost use Rattle.rb_core.specs.Core.{arguments_in, received_in, HasArguments, TakesPiece};
 ghost use Rattle.rb_core.specs.Serving.{CanServe, IsEmptyReply, LeavesBooks, ServesVerdict};
@@ -12,7 +12,7 @@ ghost use Rattle.rb_connections.specs.Slots.{IsDraft};
 use crate::eviction::make_room;
 use crate::message::{kept_arguments, procedure_of};
 use crate::replies::{serve, serve_null};
-use rb_connections::{Connections, Heard, Received, Served};
+use rb_connections::{Connections, EndedRecord, Received, Served};
 use rb_model::CoreFault;
 use rb_proto::{Books, Context};
 use rb_rpc::{FRAGMENT_HEADER, Verdict, read_call};
@@ -41,9 +41,9 @@ pub fn take_piece<'a>(
     requires arguments { IsDraft meter.old.tie arguments.old }
     ensures acts { TakesPiece id clock piece.now connections.old connections.new result }
     ensures arguments { HasArguments id piece.now connections.old arguments.old arguments.new result }
-    ensures none { IfOk result (λ got. got.received.heard ≡ None → got.arguments ≡ None) }
+    ensures none { IfOk result (λ got. got.received.ended ≡ None → got.arguments ≡ None) }
     ensures goes_on { GoOn connections.old connections.new }
-    ensures hears { HearsFree id clock connections.old connections.new (received_in result) }
+    ensures ends { EndsOnFree id clock connections.old connections.new (received_in result) }
     ensures within { IfOk result (λ got. got.received.count ≤ length piece.now) }
     ensures refused { OnErr result (connections.new ≡ connections.old) }
     ensures kept { OnErr result (arguments.new ≡ arguments.old) }
@@ -51,13 +51,13 @@ pub fn take_piece<'a>(
     ensures as_many { length connections.new.slots ≡ length connections.old.slots }
     ensures cost { PaysForPiece connections.old result meter.old meter.new }
 {
-    if let Some(whole) = connections.hear(id, piece, clock, meter) {
+    if let Some(whole) = connections.take_whole(id, piece, clock, meter) {
         let verdict = read_call(whole.content);
         let peer = whole.peer;
         let count = FRAGMENT_HEADER + whole.content.len();
-        let heard = Some(Heard { peer, verdict });
+        let ended = Some(EndedRecord { peer, verdict });
         return Ok(Piece {
-            received: Received { count, heard },
+            received: Received { count, ended },
             arguments: Some(kept_arguments(verdict, whole.content)),
         });
     }

@@ -1,266 +1,702 @@
-//! Single events: a call on a core, with the look at its reply where there is one.
-ghost use Rattle.std.specs.Prelude.{◌≡◌, ◌≤◌, ◌+◌, [], length, vec_capacity, OnErr};
-ghost use Rattle.rb_model.specs.Calls.{longest_reply};
-ghost use Rattle.rb_model.specs.Step.{show_taken, show_told, pending, is_too_much};
-ghost use Rattle.rb_model.specs.Step.Event.{Open, Bytes, Pending, Gave, Closed, NextLost, Datagram, Unsent, Sent, Forward, Expire};
-ghost use Rattle.rb_core.specs.StandsFor.{StandsFor};
-ghost use Rattle.rb_model.specs.Plain.{event_of, output_of};
-ghost use Rattle.rb_core.specs.Events.{HasHappened, MayHappen, OnlyBegins};
-ghost use Rattle.rb_xdr.specs.Meter.{PaysAtMost};
-ghost use Rattle.rb_connections.specs.Slots.{Shows};
-ghost use Rattle.rb_connections.specs.Costs.{look_cost};
+//! The core: what it holds, and its calls.
+ghost use Rattle.std.specs.Prelude.{◌≡◌, ◌≤◌, IsTrue};
+ghost use Rattle.rb_model.specs.State.{are_good};
+ghost use Rattle.rb_model.specs.Bounds.{bytes_bound};
 
-use crate::engine::Core;
-use rb_connections::{LONGEST_FRAGMENT, LONGEST_REPLY, Outcome};
-use rb_forward::{FwdId, LONGEST_CALL};
-use rb_model::{Event, Expired, Output, Taken, Told, UnsentCall};
-use rb_rpc::Peer;
-use rb_xdr::{Meter, NoMemory};
+use crate::calls::{Piece, lend_arguments, serve_verdict, take_piece};
+use crate::message::arguments_behind;
+use crate::replies::{give_at_once, put_end};
+use rb_connections::{
+    BUFFER_SIZE, Connections, EndedRecord, LONGEST_FRAGMENT, LONGEST_REPLY, Outcome, Received,
+    Served,
+};
+use rb_forward::{Ended, FwdId, LONGEST_CALL, Unsent};
+use rb_model::{CoreFault, Exchanged, Expired, Limits, Taken, Told};
+use rb_proto::{Books, Context, Listener};
+use rb_rpc::{Caller, Peer, read_call};
+use rb_xdr::{Kept, Meter};
 use std::alloc::Global;
+use std::marker::Model;
 
-#[tactic(auto, unfolding(rb_model::specs::Step::step))]
-fn open(core: &mut Core, now: u64, peer: Peer, meter: &mut Meter) -> Output
-    requires { meter.old.tie ≡ core.old.tie }
-    ensures { HasHappened (Open now peer) core.old core.new meter.old meter.new result }
-{
-    match core.open(now, peer, meter) {
-        Ok(number) => Output::Opened(number),
-        Err(fault) => Output::Refused(fault),
+/// The longest call that is served: a head of 840 bytes, and arguments.
+const GREATEST_CALL: u64 = 9_656;
+
+/// The longest address text of a row.
+const LONGEST_ADDRESS: u64 = 128;
+
+/// How many keys the statistics may have.
+pub const MOST_KEYS: u64 = 192;
+
+/// The daemon's logic, over the pools and buffers that `new` makes.
+pub struct Core {
+    limits: Limits,
+    listener: Listener,
+    first_xid: u32,
+    clock: u64,
+    connections: Connections,
+    books: Books,
+    /// The last reply over UDP, and how many bytes it has.
+    reply: Kept,
+    reply_len: u64,
+    /// Where the reply on a connection is written; empty between two events. The connection swaps its own buffer for
+    /// it.
+    draft: Kept,
+    /// The arguments of a record that ended; empty between two events. The connection swaps its own buffer, with the
+    /// arguments, for it.
+    arguments: Kept,
+    /// What the meter showed as the last event began.
+    steps_before: u128,
+}
+
+/// A core keeps its bytes in pools and buffers alone. A further field would not compile here: it
+/// belongs in the table of charges of docs/RULES.md first.
+fn layout(core: &Core) {
+    let Core {
+        limits,
+        listener,
+        first_xid,
+        clock,
+        connections,
+        books,
+        reply,
+        reply_len,
+        draft,
+        arguments,
+        steps_before,
+    } = core;
+    let _: (Limits, Listener) = (*limits, *listener);
+    let _: (u32, u64, u64, u128) = (*first_xid, *clock, *reply_len, *steps_before);
+    let _: &Connections = connections;
+    let _: &Books = books;
+    let _: &Kept = reply;
+    let _: &Kept = draft;
+    let _: &Kept = arguments;
+}
+
+impl Model for Core {
+    ghost use Rattle.rb_core.specs.StandsFor.{Held};
+    ghost use Rattle.rb_core.specs.Core.{IsCore};
+
+    ghost Value = { Held };
+
+    ghost view = { λ c. record {
+      setting = record { limits = c.limits; listener = c.listener; first_xid = c.first_xid };
+      clock = c.clock;
+      connections = c.connections;
+      books = c.books;
+      reply = c.reply.bytes;
+      arguments = c.arguments.bytes;
+      steps_before = c.steps_before;
+      tie = c.reply.tie;
+    } };
+
+    ghost invariant = { λ c. IsCore (record { limits = c.limits; listener = c.listener; first_xid = c.first_xid })
+        c.connections c.books c.reply c.draft c.arguments c.reply_len };
+}
+
+// Written out, so that each place that drops a core, as each `?` behind one does, calls this once, in place of code
+// that frees it part by part.
+impl Drop for Core {
+    fn drop(self) {
+        let Core {
+            limits: _,
+            listener: _,
+            first_xid: _,
+            clock: _,
+            connections,
+            books,
+            reply,
+            reply_len: _,
+            draft,
+            arguments,
+            steps_before: _,
+        } = self;
+        drop(connections);
+        drop(books);
+        drop(reply);
+        drop(draft);
+        drop(arguments);
     }
 }
 
-#[tactic(auto, unfolding(rb_model::specs::Step::step))]
-fn bytes(core: &mut Core, now: u64, id: u64, piece: &[u8], meter: &mut Meter) -> Output
-    requires { meter.old.tie ≡ core.old.tie }
-    ensures { HasHappened (Bytes now id piece.now) core.old core.new meter.old meter.new result }
+/// How many bytes a core of these limits may hold: for each connection its fixed part, a whole call and a whole
+/// fragment; for each row its fixed part and an address text of 128 bytes; for each forwarded call its fixed part and
+/// the call; the keys of the statistics; and a reply.
+#[tactic(auto, unfolding(rb_model::specs::Calls::longest_reply, rb_model::specs::Connections::longest_fragment, rb_forward::specs::Forwards::longest_forwarded))]
+fn bytes_bound(limits: &Limits) -> u64
+    requires conns { limits.now.conns ≤ 256 }
+    requires rows { limits.now.rows ≤ 4096 }
+    requires forwards { limits.now.forwards ≤ 64 }
+    ensures { result ≡ bytes_bound limits.now }
 {
-    match core.bytes(now, id, piece, meter) {
-        Ok(taken) => show_taken(taken),
-        Err(fault) => Output::Refused(fault),
-    }
+    let conns = limits.conns as u64 * (128 + GREATEST_CALL + LONGEST_FRAGMENT as u64);
+    let rows = limits.rows as u64 * (32 + LONGEST_ADDRESS);
+    let forwards = limits.forwards as u64 * (128 + LONGEST_CALL as u64);
+    conns + rows + forwards + MOST_KEYS * 48 + LONGEST_REPLY as u64
 }
 
-fn show_taken(taken: Taken) -> Output
-    ensures { output_of result ≡ show_taken taken }
+fn are_good(limits: &Limits) -> bool
+    ensures value { result ≡ are_good limits.now }
+    ensures conns { IsTrue result → limits.now.conns ≤ 256 }
+    ensures rows { IsTrue result → 6 ≤ limits.now.rows }
+    ensures few_rows { IsTrue result → limits.now.rows ≤ 4096 }
+    ensures forwards { IsTrue result → limits.now.forwards ≤ 64 }
 {
-    if taken.closed {
-        Output::TookAndClosed(taken.count)
-    } else {
-        Output::Took(taken.count)
-    }
+    1 <= limits.conns
+        && limits.conns <= 256
+        && 8 <= limits.rows
+        && limits.rows <= 4096
+        && limits.forwards <= 64
 }
 
-/// Looks at what is pending.
-#[tactic(auto, unfolding(rb_model::specs::Step::step, rb_model::specs::Connections::longest_fragment))]
-fn pending(alloc: Global, core: &mut Core, id: u64, meter: &mut Meter) -> Result<Output, NoMemory>
-    requires { meter.old.tie ≡ core.old.tie }
-    ensures ok { MayHappen (Pending id) core.old core.new meter.old meter.new result }
-    ensures err { OnErr result (core.new ≡ core.old) }
-    ensures free { OnErr result (meter.new ≡ meter.old) }
-{
-    let Ok(mut copy) = Vec::with_capacity(alloc, LONGEST_FRAGMENT) else {
-        return Err(NoMemory);
-    };
-    match core.pending(id, meter) {
-        Ok(bytes) => {
-            copy.extend_from_slice(bytes).unwrap();
-            Ok(Output::Pending(copy))
+impl Core {
+    ghost use Rattle.std.specs.Prelude.{◌≡◌, ◌+◌, ◌*◌, ◌≤◌, ◌↔◌, [], true, false, length, take, IsTrue, IfOk, IfErr, IfSome, IsErrOf, OnErr, not};
+    ghost use Rattle.std.specs.Borrow.{sem};
+    ghost use Rattle.rb_xdr.specs.Meter.{Pays, PaysAtMost};
+    ghost use Rattle.rb_model.specs.State.{are_good, opening};
+    ghost use Rattle.rb_model.specs.Calls.{longest_reply};
+    ghost use Rattle.rb_model.specs.Connections.{longest_fragment};
+    ghost use Rattle.rb_forward.specs.Costs.{sent_cost};
+    ghost use Rattle.rb_forward.specs.Outcomes.{PassesWithin};
+    ghost use Rattle.rb_forward.specs.StandsFor.{slots_of, longest_call};
+    ghost use Rattle.rb_forward.specs.Table.{plain_unsent, count_lent, is_waiting, IsNew};
+    ghost use Rattle.rb_model.specs.Step.{datagram, open_connection, bytes, pending, gave, close_connection, next_lost, unsent_call, sent_call};
+    ghost use Rattle.rb_connections.specs.Giving.{pending_count};
+    ghost use Rattle.rb_model.specs.Ending.{forward_reply, expire_connection, expire};
+    ghost use Rattle.rb_connections.specs.Awaits.{IsIdleSince};
+    ghost use Rattle.rb_core.specs.HeldBytes.{held};
+    ghost use Rattle.rb_model.specs.Bounds.{bytes_bound};
+    ghost use Rattle.rb_core.specs.HeldBytes.{NeverPasses};
+    ghost use Rattle.rb_core.specs.Events.{count_shown, OnlyBegins, BeginsAt, LendsFrom, TellsSteps, length_taken, length_lent, length_given, StaysWithinSteps, ExchangesWithinSteps, StaysCheapIfQuiet};
+    ghost use Rattle.rb_connections.specs.Slots.{Acts, Shows, Lends};
+    ghost use Rattle.rb_core.specs.StandsFor.{StandsFor};
+    ghost use Rattle.rb_core.specs.Core.{ActsWithReply, TellsCaller, context_of};
+    ghost use Rattle.rb_model.specs.Exchanges.{count_given};
+    ghost use Rattle.rb_core.specs.AtOnce.{AnswersGiving, CountsGiven, Exchanges, GivesAtOnce};
+    ghost use Rattle.rb_core.specs.CallCosts.{sizes_of, PaysForBytes, PaysForDatagram, PaysForExchange, PaysToAnswer, lending_cost};
+    ghost use Rattle.rb_connections.specs.Costs.{look_cost, slot_count};
+    ghost use Rattle.rb_model.specs.Costs.{close_cost, ended_cost, gave_cost, tell_cost, pending_cost};
+
+    /// Makes a core with the daemon's own rows alone, at the moment `now` (milliseconds since the start of 1970). It
+    /// takes all its memory here. `first_xid` is the xid of the first call that it forwards. `BadLimits` where a limit is
+    /// out of its range, else `NoMemory` where an allocation is refused.
+    #[tactic(auto, unfolding(rb_model::specs::Calls::longest_reply, rb_model::specs::Calls::longest_kept, rb_connections::specs::StandsFor::buffer_size))]
+    pub fn new(
+        alloc: Global,
+        limits: Limits,
+        listener: Listener,
+        first_xid: u32,
+        now: u64,
+        meter: &mut Meter,
+    ) -> Result<Core, CoreFault>
+        ensures made { IfOk result
+            (λ core. StandsFor core (opening limits listener first_xid now)) }
+        ensures tie { IfOk result (λ core. core.tie ≡ meter.old.tie) }
+        ensures begun { IfOk result (λ core. core.steps_before ≡ count_shown meter.new) }
+        ensures bad { IsErrOf result CoreFault.BadLimits ↔ IsTrue (not (are_good limits)) }
+        ensures memory { IfErr result
+            (λ fault. IsTrue (are_good limits) → fault ≡ CoreFault.NoMemory) }
+        ensures cost { PaysAtMost meter.old meter.new (6 + 3 * limits.conns + 2 * limits.forwards) }
+    {
+        if !are_good(&limits) {
+            return Err(CoreFault::BadLimits);
         }
-        Err(fault) => Ok(Output::Refused(fault)),
+        let forwards = limits.forwards as u32;
+        let Ok(books) = Books::new(alloc, limits.rows, forwards, first_xid, &listener, meter) else {
+            return Err(CoreFault::NoMemory);
+        };
+        let Ok(connections) = Connections::new(alloc, limits.conns, meter) else {
+            return Err(CoreFault::NoMemory);
+        };
+        let Ok(reply) = Kept::new(alloc, LONGEST_REPLY, meter) else {
+            return Err(CoreFault::NoMemory);
+        };
+        let Ok(draft) = Kept::new(alloc, BUFFER_SIZE, meter) else {
+            return Err(CoreFault::NoMemory);
+        };
+        let Ok(arguments) = Kept::new(alloc, BUFFER_SIZE, meter) else {
+            return Err(CoreFault::NoMemory);
+        };
+        Ok(Core {
+            limits,
+            listener,
+            first_xid,
+            clock: now,
+            connections,
+            books,
+            reply,
+            reply_len: 0,
+            draft,
+            arguments,
+            steps_before: meter.count(),
+        })
     }
-}
 
-fn is_too_much(core: &Core, id: u64, n: u64, meter: &mut Meter) -> bool
-    requires { meter.old.tie ≡ core.now.tie }
-    ensures value { Shows StandsFor (λ s. is_too_much n (pending s id)) core.now result }
-    ensures cost { PaysAtMost meter.old meter.new (look_cost core.now.connections + 1) }
-{
-    match core.pending_len(id, meter) {
-        Ok(len) => (len as u64) < n,
-        Err(_) => false,
-    }
-}
-
-#[tactic(auto, unfolding(rb_model::specs::Step::step))]
-fn gave(core: &mut Core, now: u64, id: u64, n: u64, meter: &mut Meter) -> Output
-    requires { meter.old.tie ≡ core.old.tie }
-    ensures { HasHappened (Gave now id n) core.old core.new meter.old meter.new result }
-{
-    if is_too_much(core, id, n, meter) {
-        return Output::TooMuch;
-    }
-    match core.gave(now, id, n as usize, meter) {
-        Ok(()) => Output::Done,
-        Err(fault) => Output::Refused(fault),
-    }
-}
-
-#[tactic(auto, unfolding(rb_model::specs::Step::step))]
-fn closed(core: &mut Core, id: u64, meter: &mut Meter) -> Output
-    requires { meter.old.tie ≡ core.old.tie }
-    ensures { HasHappened (Closed id) core.old core.new meter.old meter.new result }
-{
-    match core.closed(id, meter) {
-        Ok(()) => Output::Done,
-        Err(fault) => Output::Refused(fault),
-    }
-}
-
-#[tactic(auto, unfolding(rb_model::specs::Step::step))]
-fn next_lost(core: &mut Core, meter: &mut Meter) -> Output
-    requires { meter.old.tie ≡ core.old.tie }
-    ensures { HasHappened NextLost core.old core.new meter.old meter.new result }
-{
-    Output::Lost(core.next_lost(meter))
-}
-
-#[tactic(auto, unfolding(rb_model::specs::Step::step, rb_model::specs::Calls::longest_reply))]
-fn datagram(
-    alloc: Global,
-    core: &mut Core,
-    now: u64,
-    peer: Peer,
-    content: &[u8],
-    meter: &mut Meter,
-) -> Result<Output, NoMemory>
-    requires { meter.old.tie ≡ core.old.tie }
-    ensures ok { MayHappen (Datagram now peer content.now) core.old core.new meter.old meter.new result }
-    ensures err { OnErr result (core.new ≡ core.old) }
-    ensures free { OnErr result (meter.new ≡ meter.old) }
-{
-    let Ok(mut reply) = Vec::with_capacity(alloc, LONGEST_REPLY) else {
-        return Err(NoMemory);
-    };
-    match core.datagram(now, peer, content, meter) {
-        Outcome::NoCall | Outcome::Silent => Ok(Output::Silent),
-        Outcome::Forwarded => Ok(Output::Forwarded),
-        Outcome::Reply => {
-            reply.extend_from_slice(core.udp_reply(meter)).unwrap();
-            reply.shrink_to_fit();
-            Ok(Output::Replied(reply))
+    /// What the answer to a call of this caller depends on beside the books.
+    fn context(&self, caller: Caller) -> Context
+        ensures { result ≡ context_of self.now caller }
+    {
+        Context {
+            listener: self.listener,
+            limit: self.limits.rows,
+            forwards: self.limits.forwards as u32,
+            clock: self.clock,
+            caller,
         }
     }
-}
 
-/// Looks for the forwarded call that is to be sent.
-#[tactic(auto, unfolding(rb_model::specs::Step::step, rb_forward::specs::Forwards::longest_arguments))]
-fn unsent(alloc: Global, core: &mut Core, meter: &mut Meter) -> Result<Output, NoMemory>
-    requires { meter.old.tie ≡ core.old.tie }
-    ensures ok { MayHappen Unsent core.old core.new meter.old meter.new result }
-    ensures err { OnErr result (core.new ≡ core.old) }
-    ensures free { OnErr result (meter.new ≡ meter.old) }
-{
-    let Ok(mut call) = Vec::with_capacity(alloc, LONGEST_CALL) else {
-        return Err(NoMemory);
-    };
-    let Some(unsent) = core.unsent(meter) else {
-        return Ok(Output::Unsent(None));
-    };
-    call.extend_from_slice(unsent.call).unwrap();
-    let (number, target) = (unsent.id.number, unsent.target);
-    Ok(Output::Unsent(Some(UnsentCall {
-        number,
-        target,
-        call,
-    })))
-}
-
-#[tactic(auto, unfolding(rb_model::specs::Step::step))]
-fn sent(core: &mut Core, number: u64, meter: &mut Meter) -> Output
-    requires { meter.old.tie ≡ core.old.tie }
-    ensures { HasHappened (Sent number) core.old core.new meter.old meter.new result }
-{
-    match core.sent(FwdId { number }, meter) {
-        Ok(()) => Output::Done,
-        Err(fault) => Output::Refused(fault),
-    }
-}
-
-/// What is told of a forwarded call that ended, with the reply over UDP where there is one.
-#[tactic(auto, unfolding(rb_model::specs::Calls::longest_reply))]
-fn show_told(core: &mut Core, told: Told, mut reply: Vec<u8>, meter: &mut Meter) -> Output
-    requires tie { meter.old.tie ≡ core.old.tie }
-    requires short { length core.old.reply ≤ longest_reply }
-    requires empty { reply.items ≡ [] }
-    requires room { longest_reply ≤ vec_capacity reply }
-    ensures told { output_of result ≡ show_told core.old.reply told }
-    ensures core { OnlyBegins core.old core.new }
-    ensures cost { PaysAtMost meter.old meter.new (1 + length core.old.reply) }
-{
-    match told {
-        Told::TcpReady(id) => Output::Ready(id),
-        Told::Datagram(peer) => {
-            reply.extend_from_slice(core.udp_reply(meter)).unwrap();
-            reply.shrink_to_fit();
-            Output::RepliedTo(peer, reply)
+    /// Answers a datagram from `peer` at the moment `now` (RFC 5531 section 9, RFC 1833 sections 2.2 and 3.2). At
+    /// `Reply` the reply is lent by `udp_reply`, of at most 9,000 bytes. At `Forwarded` the call is forwarded, and its
+    /// reply comes with `forward_reply` or `expire`. At `NoCall` and `Silent` there is none.
+    #[tactic(auto, using(crate::proofs::HeldBytes::never_passes))]
+    pub fn datagram(&mut self, now: u64, peer: Peer, content: &[u8], meter: &mut Meter) -> Outcome
+        requires { meter.old.tie ≡ self.old.tie }
+        ensures acts { ActsWithReply (λ s. datagram s now peer content.now) self.old self.new result }
+        ensures tie { self.new.tie ≡ self.old.tie }
+        ensures begun { self.new.steps_before ≡ count_shown meter.old }
+        ensures held { NeverPasses self.new }
+        ensures short { length self.new.reply ≤ longest_reply }
+        ensures cost { PaysForDatagram self.old self.new content.now meter.old meter.new }
+        ensures bound { StaysWithinSteps self.old (length content.now) 0 meter.old meter.new }
+    {
+        self.steps_before = meter.count();
+        self.clock = self.clock.max(now);
+        let context = self.context(Caller::Udp(peer));
+        self.reply.clear(meter);
+        let verdict = read_call(content);
+        let arguments = arguments_behind(verdict, content);
+        let served = serve_verdict(
+            &mut self.connections,
+            &mut self.books,
+            &context,
+            &verdict,
+            arguments,
+            &mut self.reply,
+            meter,
+        );
+        self.reply_len = self.reply.len(meter) as u64;
+        match served {
+            Served::Answered(outcome) => outcome,
+            Served::Listed(_, _) => unreachable!(),
         }
-        Told::Silent => Output::Silent,
     }
-}
 
-#[tactic(auto, unfolding(rb_model::specs::Step::step, rb_model::specs::Calls::longest_reply))]
-fn forward(
-    alloc: Global,
-    core: &mut Core,
-    now: u64,
-    from: Peer,
-    message: &[u8],
-    meter: &mut Meter,
-) -> Result<Output, NoMemory>
-    requires { meter.old.tie ≡ core.old.tie }
-    ensures ok { MayHappen (Forward now from message.now) core.old core.new meter.old meter.new result }
-    ensures err { OnErr result (core.new ≡ core.old) }
-    ensures free { OnErr result (meter.new ≡ meter.old) }
-{
-    let Ok(reply) = Vec::with_capacity(alloc, LONGEST_REPLY) else {
-        return Err(NoMemory);
-    };
-    match core.forward_reply(now, from, message, meter) {
-        Some(told) => Ok(show_told(core, told, reply, meter)),
-        None => Ok(Output::Ignored),
+    /// The reply over UDP of the last `datagram`, `forward_reply` or `expire`, of at most 9,000 bytes; empty where it had
+    /// none.
+    pub fn udp_reply(&mut self, meter: &mut Meter) -> &[u8]
+        requires { meter.old.tie ≡ self.old.tie }
+        ensures* begun { sem 𝓛 (LendsFrom self.entry meter.old) }
+        ensures held { result.now ≡ self.old.reply }
+        ensures reply { Shows StandsFor (λ s. s.reply) self.old result.now }
+        ensures cost { Pays meter.old meter.new (1 + length self.old.reply) }
+        ensures bound { StaysWithinSteps self.old 0 (length result.now) meter.old meter.new }
+    {
+        self.steps_before = meter.count();
+        let len = self.reply.len(meter);
+        self.reply.lend(0..len, meter)
     }
-}
 
-#[tactic(auto, unfolding(rb_model::specs::Step::step, rb_model::specs::Calls::longest_reply))]
-fn expire(alloc: Global, core: &mut Core, now: u64, meter: &mut Meter) -> Result<Output, NoMemory>
-    requires { meter.old.tie ≡ core.old.tie }
-    ensures ok { MayHappen (Expire now) core.old core.new meter.old meter.new result }
-    ensures err { OnErr result (core.new ≡ core.old) }
-    ensures free { OnErr result (meter.new ≡ meter.old) }
-{
-    let Ok(reply) = Vec::with_capacity(alloc, LONGEST_REPLY) else {
-        return Err(NoMemory);
-    };
-    match core.expire(now, meter) {
-        Expired::Ended(told) => Ok(show_told(core, told, reply, meter)),
-        Expired::ConnectionClosed(id) => Ok(Output::ConnectionClosed(id)),
-        Expired::Nothing => Ok(Output::Nothing),
+    /// Opens a connection from `peer` at the moment `now`, and returns its number; the first is 1, and none recurs.
+    /// `Full` where there are as many connections as there may be, Lost ones among them, else `Spent` where no number is
+    /// left.
+    #[tactic(auto, using(crate::proofs::HeldBytes::never_passes, crate::proofs::CallBounds::open_within))]
+    pub fn open(&mut self, now: u64, peer: Peer, meter: &mut Meter) -> Result<u64, CoreFault>
+        requires { meter.old.tie ≡ self.old.tie }
+        ensures acts { Acts StandsFor (λ s. open_connection s now peer)
+            self.old self.new result }
+        ensures refused { OnErr result (OnlyBegins self.old self.new) }
+        ensures tie { self.new.tie ≡ self.old.tie }
+        ensures begun { self.new.steps_before ≡ count_shown meter.old }
+        ensures held { NeverPasses self.new }
+        ensures cost { PaysAtMost meter.old meter.new 4 }
+        ensures bound { StaysWithinSteps self.old 0 0 meter.old meter.new }
+    {
+        self.steps_before = meter.count();
+        let clock = self.clock.max(now);
+        let number = self.connections.open(clock, peer, meter)?;
+        self.clock = clock;
+        Ok(number)
     }
-}
 
-/// Does one event; `NoMemory`, and nothing is done, where the allocation for its output is refused.
-pub(crate) fn happen(
-    alloc: Global,
-    core: &mut Core,
-    event: &Event,
-    meter: &mut Meter,
-) -> Result<Output, NoMemory>
-    requires { meter.old.tie ≡ core.old.tie }
-    ensures ok { MayHappen (event_of event.now) core.old core.new meter.old meter.new result }
-    ensures err { OnErr result (core.new ≡ core.old) }
-    ensures free { OnErr result (meter.new ≡ meter.old) }
-{
-    match event {
-        Event::Open(now, peer) => Ok(open(core, *now, *peer, meter)),
-        Event::Bytes(now, id, piece) => Ok(bytes(core, *now, *id, piece, meter)),
-        Event::Pending(id) => pending(alloc, core, *id, meter),
-        Event::Gave(now, id, n) => Ok(gave(core, *now, *id, *n, meter)),
-        Event::Closed(id) => Ok(closed(core, *id, meter)),
-        Event::NextLost => Ok(next_lost(core, meter)),
-        Event::Datagram(now, peer, content) => datagram(alloc, core, *now, *peer, content, meter),
-        Event::Unsent => unsent(alloc, core, meter),
-        Event::Sent(number) => Ok(sent(core, *number, meter)),
-        Event::Forward(now, from, message) => forward(alloc, core, *now, *from, message, meter),
-        Event::Expire(now) => expire(alloc, core, *now, meter),
+    /// Takes bytes that arrive on a connection at the moment `now`, at most up to the end of a record (RFC 5531 section
+    /// 11), which is answered. Takes none while a reply is owed or awaited. The connection is Lost where the record is no
+    /// call. `Gone` where there is no such connection, or it is Lost.
+    #[tactic(auto, using(crate::proofs::HeldBytes::never_passes))]
+    pub fn bytes(
+        &mut self,
+        now: u64,
+        id: u64,
+        piece: &[u8],
+        meter: &mut Meter,
+    ) -> Result<Taken, CoreFault>
+        requires { meter.old.tie ≡ self.old.tie }
+        ensures acts { Acts StandsFor (λ s. bytes s now id piece.now) self.old self.new result }
+        ensures within { IfOk result (λ taken. taken.count ≤ length piece.now) }
+        ensures refused { OnErr result (OnlyBegins self.old self.new) }
+        ensures tie { self.new.tie ≡ self.old.tie }
+        ensures begun { self.new.steps_before ≡ count_shown meter.old }
+        ensures held { NeverPasses self.new }
+        ensures same_meter { meter.new.tie ≡ meter.old.tie }
+        ensures cost { PaysForBytes self.old self.new id piece.now meter.old meter.new }
+        ensures bound { StaysWithinSteps self.old (length_taken result) 0 meter.old meter.new }
+        ensures quiet { StaysCheapIfQuiet self.old id piece.now result meter.old meter.new }
+    {
+        let Exchanged { taken, given: _ } = self.exchange(now, id, piece, &mut [], meter)?;
+        Ok(taken)
+    }
+
+    /// Takes bytes as `bytes` does. Where a record ends and its reply is one fragment and no list, and `room` has place
+    /// for the longest fragment, 1,028 bytes, the reply is written there and counts as given. So one call is up to two
+    /// events, `bytes` and `gave`, and it is priced as both. `Gone` as in `bytes`.
+    #[tactic(auto, using(crate::proofs::HeldBytes::never_passes))]
+    pub fn exchange(
+        &mut self,
+        now: u64,
+        id: u64,
+        piece: &[u8],
+        room: &mut [u8],
+        meter: &mut Meter,
+    ) -> Result<Exchanged, CoreFault>
+        requires { meter.old.tie ≡ self.old.tie }
+        ensures acts { Exchanges now id piece.now self.old self.new result room.new }
+        ensures count { CountsGiven now id piece.now room.old self.old result }
+        ensures fits { count_given result ≤ length room.new }
+        ensures within { IfOk result (λ done. done.taken.count ≤ length piece.now) }
+        ensures refused { OnErr result (OnlyBegins self.old self.new) }
+        ensures tie { self.new.tie ≡ self.old.tie }
+        ensures begun { self.new.steps_before ≡ count_shown meter.old }
+        ensures held { NeverPasses self.new }
+        ensures same_meter { meter.new.tie ≡ meter.old.tie }
+        ensures cost { PaysForExchange
+            self.old self.new id piece.now room.old result meter.old meter.new }
+        ensures bound { ExchangesWithinSteps self.old result meter.old meter.new }
+    {
+        self.steps_before = meter.count();
+        let clock = self.clock.max(now);
+        let buffer = &mut self.arguments;
+        let got = take_piece(&mut self.connections, id, piece, clock, buffer, meter)?;
+        self.clock = clock;
+        let Piece {
+            received: Received { count, ended },
+            arguments,
+        } = got;
+        let Some(ended) = ended else {
+            let closed = false;
+            return Ok(Exchanged {
+                taken: Taken { count, closed },
+                given: 0,
+            });
+        };
+        let (closed, given) = self.answer(id, ended, arguments, room, meter);
+        Ok(Exchanged {
+            taken: Taken { count, closed },
+            given,
+        })
+    }
+
+    /// Answers the record that ended on a connection, and lets the connection go on. Its arguments lie in the piece, or
+    /// else in the core's buffer, which is empty after it. Returns whether the connection is Lost now, and how many bytes
+    /// of the reply were given at once.
+    #[tactic(auto, unfolding(rb_model::specs::Calls::longest_reply, rb_model::specs::Calls::longest_kept, rb_connections::specs::StandsFor::buffer_size))]
+    fn answer(
+        &mut self,
+        id: u64,
+        ended: EndedRecord,
+        arguments: Option<&[u8]>,
+        room: &mut [u8],
+        meter: &mut Meter,
+    ) -> (bool, usize)
+        requires tie { meter.old.tie ≡ self.old.tie }
+        requires idle { IsIdleSince id self.old.clock self.old.connections }
+        requires caller { is_waiting id (slots_of self.old.books.forwards) ≡ false }
+        ensures acts { AnswersGiving id ended arguments.entry self.old self.new result room.new }
+        ensures within { result.1 ≤ length room.new }
+        ensures count { GivesAtOnce room.old id ended arguments.entry self.old result.1 }
+        ensures tie { self.new.tie ≡ self.old.tie }
+        ensures begun { self.new.steps_before ≡ self.old.steps_before }
+        ensures cost { PaysToAnswer
+            self.old self.new arguments.entry room.old result.1 meter.old meter.new }
+    {
+        let context = self.context(Caller::Tcp(id, ended.peer));
+        let arguments = lend_arguments(arguments, &self.arguments, meter);
+        let served = serve_verdict(
+            &mut self.connections,
+            &mut self.books,
+            &context,
+            &ended.verdict,
+            arguments,
+            &mut self.draft,
+            meter,
+        );
+        self.arguments.clear(meter);
+        let given = give_at_once(served, &mut self.draft, room, meter);
+        if given > 0 {
+            // It is Idle since this moment, and stays so.
+            return (false, given);
+        }
+        self.connections.settle(
+            id,
+            served,
+            self.clock,
+            self.listener.host,
+            &self.books.registry,
+            &mut self.draft,
+            meter,
+        );
+        (served.is_no_call(), 0)
+    }
+
+    /// The number of bytes that are pending on a connection. `Gone` where there is no such connection, or it is Lost.
+    pub fn pending_len(&self, id: u64, meter: &mut Meter) -> Result<usize, CoreFault>
+        requires { meter.old.tie ≡ self.now.tie }
+        ensures len { Shows StandsFor (λ s. pending_count (pending s id)) self.now result }
+        ensures cost { PaysAtMost meter.old meter.new (look_cost self.now.connections + 1) }
+    {
+        self.connections.pending_len(id, meter)
+    }
+
+    /// The rest of the current fragment of the reply that a connection owes (RFC 5531 section 11), at most 1,028 bytes;
+    /// empty where it owes none. `Gone` where there is no such connection, or it is Lost.
+    #[tactic(auto, using(crate::proofs::CallBounds::pending_within))]
+    pub fn pending(&mut self, id: u64, meter: &mut Meter) -> Result<&[u8], CoreFault>
+        requires { meter.old.tie ≡ self.old.tie }
+        ensures* begun { sem 𝓛 (LendsFrom self.entry meter.old) }
+        ensures lent { Lends StandsFor (λ s. pending s id) self.old result }
+        ensures few { IfOk result (λ bytes. length bytes.now ≤ longest_fragment) }
+        ensures cost { PaysAtMost meter.old meter.new (look_cost self.old.connections + pending_cost) }
+        ensures bound { StaysWithinSteps self.old 0 (length_lent result) meter.old meter.new }
+    {
+        self.steps_before = meter.count();
+        self.connections.pending(id, meter)
+    }
+
+    /// Records that `n` pending bytes were sent at the moment `now`, or all if fewer are pending. The next fragment is
+    /// pending then, or the connection takes the next record. `Gone` where there is no such connection, or it is Lost.
+    #[tactic(auto, using(crate::proofs::HeldBytes::never_passes, crate::proofs::CallBounds::gave_within))]
+    pub fn gave(&mut self, now: u64, id: u64, n: usize, meter: &mut Meter) -> Result<(), CoreFault>
+        requires { meter.old.tie ≡ self.old.tie }
+        ensures acts { Acts StandsFor (λ s. gave s now id n) self.old self.new result }
+        ensures refused { OnErr result (OnlyBegins self.old self.new) }
+        ensures tie { self.new.tie ≡ self.old.tie }
+        ensures begun { self.new.steps_before ≡ count_shown meter.old }
+        ensures held { NeverPasses self.new }
+        ensures cost { PaysAtMost meter.old meter.new (gave_cost (sizes_of self.old self.new)) }
+        ensures bound { StaysWithinSteps self.old 0 (length_given result n) meter.old meter.new }
+    {
+        self.steps_before = meter.count();
+        let clock = self.clock.max(now);
+        self.connections.give(
+            id,
+            n,
+            clock,
+            self.listener.host,
+            &self.books.registry,
+            &mut self.draft,
+            meter,
+        )?;
+        self.clock = clock;
+        Ok(())
+    }
+
+    /// Removes a connection that was closed, live or Lost, and drops its forwarded call. `Gone` where there is none of
+    /// that number.
+    #[tactic(auto, using(crate::proofs::HeldBytes::never_passes, crate::proofs::CallBounds::closed_within))]
+    pub fn closed(&mut self, id: u64, meter: &mut Meter) -> Result<(), CoreFault>
+        requires { meter.old.tie ≡ self.old.tie }
+        ensures acts { Acts StandsFor (λ s. close_connection s id) self.old self.new result }
+        ensures refused { OnErr result (OnlyBegins self.old self.new) }
+        ensures tie { self.new.tie ≡ self.old.tie }
+        ensures begun { self.new.steps_before ≡ count_shown meter.old }
+        ensures held { NeverPasses self.new }
+        ensures cost { PaysAtMost meter.old meter.new (close_cost (sizes_of self.old self.new)) }
+        ensures bound { StaysWithinSteps self.old 0 0 meter.old meter.new }
+    {
+        self.steps_before = meter.count();
+        self.connections.close(id, meter)?;
+        self.books.drop_caller(id, meter);
+        Ok(())
+    }
+
+    /// The least number of a Lost connection, which the caller has to close; `None` where none is Lost.
+    #[tactic(auto, using(crate::proofs::CallBounds::look_within))]
+    pub fn next_lost(&mut self, meter: &mut Meter) -> Option<u64>
+        requires { meter.old.tie ≡ self.old.tie }
+        ensures begun { BeginsAt meter.old self.old self.new }
+        ensures lost { Shows StandsFor next_lost self.old result }
+        ensures cost { PaysAtMost meter.old meter.new (look_cost self.old.connections) }
+        ensures bound { StaysWithinSteps self.old 0 0 meter.old meter.new }
+    {
+        self.steps_before = meter.count();
+        self.connections.next_lost(meter)
+    }
+
+    /// The forwarded call to be sent next: the unsent one of least number, whether or not its deadline has come, with at
+    /// most 8,840 bytes. `None` where all are sent (RFC 1833 sections 2.2.1 and 3.2).
+    #[tactic(auto, using(crate::proofs::CallBounds::unsent_within))]
+    pub fn unsent(&mut self, meter: &mut Meter) -> Option<Unsent<'_>>
+        requires { meter.old.tie ≡ self.old.tie }
+        ensures* begun { sem 𝓛 (LendsFrom self.entry meter.old) }
+        ensures unsent { Shows StandsFor unsent_call self.old (plain_unsent result) }
+        ensures few { IfSome result (λ lent. length lent.call.now ≤ longest_call) }
+        ensures cost { PaysAtMost meter.old meter.new (lending_cost self.old (count_lent result)) }
+        ensures bound { StaysWithinSteps self.old 0 (count_lent result) meter.old meter.new }
+    {
+        self.steps_before = meter.count();
+        self.books.unsent(meter)
+    }
+
+    /// Records that the forwarded call of this number was sent: from now on a reply to it counts. `Gone` where there is
+    /// no such call, or it was sent before.
+    #[tactic(auto, using(crate::proofs::HeldBytes::never_passes, crate::proofs::CallBounds::sent_within))]
+    pub fn sent(&mut self, id: FwdId, meter: &mut Meter) -> Result<(), CoreFault>
+        requires { meter.old.tie ≡ self.old.tie }
+        ensures acts { Acts StandsFor (λ s. sent_call s id.number) self.old self.new result }
+        ensures refused { OnErr result (OnlyBegins self.old self.new) }
+        ensures tie { self.new.tie ≡ self.old.tie }
+        ensures begun { self.new.steps_before ≡ count_shown meter.old }
+        ensures held { NeverPasses self.new }
+        ensures cost { PaysAtMost meter.old meter.new (sent_cost self.old.books.forwards.cap) }
+        ensures bound { StaysWithinSteps self.old 0 0 meter.old meter.new }
+    {
+        self.steps_before = meter.count();
+        let Ok(()) = self.books.sent(id, meter) else {
+            return Err(CoreFault::Gone);
+        };
+        Ok(())
+    }
+
+    /// Takes a datagram from `from`, at the moment `now`, on the socket that sends forwarded calls. A reply to a call that
+    /// was sent there and whose deadline is later than `now` ends that call, and its caller gets what `Told` says. `None`
+    /// where it is no such reply; it is ignored.
+    #[tactic(auto, using(crate::proofs::HeldBytes::never_passes, crate::proofs::CallBounds::ending_within))]
+    pub fn forward_reply(
+        &mut self,
+        now: u64,
+        from: Peer,
+        bytes: &[u8],
+        meter: &mut Meter,
+    ) -> Option<Told>
+        requires { meter.old.tie ≡ self.old.tie }
+        ensures acts { Acts StandsFor (λ s. forward_reply s now from bytes.now) self.old self.new result }
+        ensures tie { self.new.tie ≡ self.old.tie }
+        ensures begun { self.new.steps_before ≡ count_shown meter.old }
+        ensures held { NeverPasses self.new }
+        ensures short { length self.new.reply ≤ longest_reply }
+        ensures cost { PaysAtMost meter.old meter.new (ended_cost (sizes_of self.old self.new)) }
+        ensures bound { StaysWithinSteps self.old (length bytes.now) 0 meter.old meter.new }
+    {
+        self.steps_before = meter.count();
+        self.clock = self.clock.max(now);
+        self.reply.clear(meter);
+        self.reply_len = 0;
+        let Some(ended) = self.books.reply(self.clock, from, bytes, meter) else {
+            return None;
+        };
+        Some(self.tell(&ended, bytes, meter))
+    }
+
+    /// Does one thing that is due at the moment `now`: ends the due forwarded call of least number, or where there is
+    /// none, makes the due connection of least number Lost. `Nothing` where nothing is due. Call it until then.
+    #[tactic(auto, using(crate::proofs::HeldBytes::never_passes, crate::proofs::CallBounds::ending_within))]
+    pub fn expire(&mut self, now: u64, meter: &mut Meter) -> Expired
+        requires { meter.old.tie ≡ self.old.tie }
+        ensures acts { Acts StandsFor (λ s. expire s now) self.old self.new result }
+        ensures tie { self.new.tie ≡ self.old.tie }
+        ensures begun { self.new.steps_before ≡ count_shown meter.old }
+        ensures held { NeverPasses self.new }
+        ensures short { length self.new.reply ≤ longest_reply }
+        ensures cost { PaysAtMost meter.old meter.new (ended_cost (sizes_of self.old self.new)) }
+        ensures bound { StaysWithinSteps self.old 0 0 meter.old meter.new }
+    {
+        self.steps_before = meter.count();
+        self.clock = self.clock.max(now);
+        self.reply.clear(meter);
+        self.reply_len = 0;
+        let Some(ended) = self.books.due(self.clock, meter) else {
+            return self.expire_connection(meter);
+        };
+        Expired::Ended(self.tell(&ended, &[], meter))
+    }
+
+    /// Makes the due connection of least number Lost, if there is one.
+    fn expire_connection(&mut self, meter: &mut Meter) -> Expired
+        requires { meter.old.tie ≡ self.old.tie }
+        ensures acts { Acts StandsFor expire_connection self.old self.new result }
+        ensures tie { self.new.tie ≡ self.old.tie }
+        ensures begun { self.new.steps_before ≡ self.old.steps_before }
+        ensures reply { self.new.reply ≡ self.old.reply }
+        ensures cost { PaysAtMost meter.old meter.new (look_cost self.old.connections) }
+    {
+        match self.connections.expire(self.clock, meter) {
+            Some(id) => Expired::ConnectionClosed(id),
+            None => Expired::Nothing,
+        }
+    }
+
+    /// How many bytes are held: 128 for each connection, Lost ones too, with those of its buffers; 32 for each row, with
+    /// those of its address text; 48 for each key of the statistics; 128 for each forwarded call, with those that are
+    /// still to be sent; and those of the last reply over UDP.
+    pub fn held(&self) -> u64
+        ensures { result ≡ held self.now }
+    {
+        self.connections.held()
+            + self.books.registry.held()
+            + self.books.stats.held()
+            + self.books.forwards.held()
+            + self.reply_len
+    }
+
+    /// How many steps the last event took, a refused one too, while the count of the meter is below 2^128 - 1. An event
+    /// is a call with `&mut self`; what the meter was paid since it counts as its own.
+    pub fn steps(&self, meter: &Meter) -> u128
+        requires { meter.now.tie ≡ self.now.tie }
+        ensures { TellsSteps self.now meter.now result }
+    {
+        meter.count().saturating_sub(self.steps_before)
+    }
+
+    /// The bound that `held` never passes, in bytes, by the limits alone.
+    pub fn bytes_bound(&self) -> u64
+        ensures { result ≡ bytes_bound self.now.setting.limits }
+    {
+        bytes_bound(&self.limits)
+    }
+
+    /// Tells the caller of a forwarded call how it ended; `message` is the datagram that ended it.
+    #[tactic(auto, unfolding(rb_model::specs::Calls::longest_reply, rb_model::specs::Calls::longest_kept, rb_connections::specs::StandsFor::buffer_size))]
+    fn tell(&mut self, ended: &Ended, message: &[u8], meter: &mut Meter) -> Told
+        requires tie { meter.old.tie ≡ self.old.tie }
+        requires empty { self.old.reply ≡ [] }
+        requires within { PassesWithin ended.now.outcome (length message.now) }
+        requires alone { IsNew ended.now.forward.caller (slots_of self.old.books.forwards) }
+        ensures acts { TellsCaller message.now ended.now self.old self.new result }
+        ensures tie { self.new.tie ≡ self.old.tie }
+        ensures begun { self.new.steps_before ≡ self.old.steps_before }
+        ensures short { length self.new.reply ≤ longest_reply }
+        ensures cost { PaysAtMost meter.old meter.new (tell_cost (slot_count self.old.connections)) }
+    {
+        match ended.forward.caller {
+            Caller::Tcp(id, _) => {
+                let outcome = put_end(ended, message, &mut self.draft, meter);
+                self.connections.settle(
+                    id,
+                    Served::Answered(outcome),
+                    self.clock,
+                    self.listener.host,
+                    &self.books.registry,
+                    &mut self.draft,
+                    meter,
+                );
+                Told::TcpReady(id)
+            }
+            Caller::Udp(peer) => {
+                let outcome = put_end(ended, message, &mut self.reply, meter);
+                self.reply_len = self.reply.len(meter) as u64;
+                match outcome {
+                    Outcome::Reply => Told::Datagram(peer),
+                    Outcome::NoCall | Outcome::Forwarded | Outcome::Silent => Told::Silent,
+                }
+            }
+        }
     }
 }

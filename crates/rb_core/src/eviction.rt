@@ -26,7 +26,7 @@ fn is_roomy(registry: &Registry, limit: usize, meter: &mut Meter) -> bool
     ensures cost { PaysAtMost meter.old meter.new 1 }
 {
     let live = registry.len(meter);
-    let retained = registry.dead();
+    let retained = registry.retained();
     retained < MANY_RETAINED && retained < limit - live
 }
 

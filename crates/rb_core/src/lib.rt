@@ -3,26 +3,17 @@
 #![tactic(auto)]
 
 mod calls;
-mod engine;
 mod events;
 mod eviction;
 mod laws;
 mod message;
 mod replies;
-mod run;
-mod run_bound;
-mod types;
 
-pub use engine::Core;
-pub use laws::{
-    held_bytes_are_bounded, kept_bytes_say_the_record, runs_are_served_within_bounds, worked_held,
-};
+pub use events::{Core, MOST_KEYS};
+pub use laws::{held_bytes_are_bounded, kept_bytes_say_the_record, worked_held};
 pub use rb_connections::Outcome;
 pub use rb_forward::{FwdId, Unsent};
-pub use rb_model::{CoreFault, Event, Expired, Limits, Output, Taken, Told, UnsentCall};
+pub use rb_model::{CoreFault, Exchanged, Expired, Limits, Taken, Told};
 pub use rb_proto::Listener;
 pub use rb_rpc::Peer;
 pub use rb_xdr::NoMemory;
-pub use run::replay;
-pub use run_bound::whole_bound;
-pub use types::Exchanged;

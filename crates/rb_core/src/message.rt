@@ -1,11 +1,11 @@
 //! What the data of a record, or a datagram, says: the order of refusals.
-ghost use Rattle.std.specs.Prelude.{◌≡◌, ◌≤◌, List, ℕ, length, take, min, IfOk, IfErr};
+ghost use Rattle.std.specs.Prelude.{◌≡◌, ◌≤◌, List, ℕ, length, min, IfOk, IfErr};
 ghost use Rattle.rb_rpc.specs.Verdict.{verdict as verdict_of, EndsWithin};
 ghost use Rattle.rb_feed.specs.Feeds.{arguments_of};
 ghost use Rattle.rb_model.specs.Calls.{is_served, call_of, kept_of, message_with};
 ghost use Rattle.rb_core.specs.Messages.{AsksNothing, CallsProcedure};
 
-use rb_connections::LONGEST_ARGUMENTS;
+use rb_connections::LONGEST_KEPT;
 use rb_model::Message;
 use rb_proto::{Call, Procedure, VoidProcedure};
 use rb_registry::RPCB_PROG;
@@ -104,12 +104,12 @@ pub fn arguments_behind(verdict: Verdict, bytes: &[u8]) -> &[u8]
 
 /// The first 8,816 bytes of the arguments of a record that came whole, as they are kept of one that comes in pieces;
 /// `verdict` is that on its data.
-#[tactic(auto, unfolding(rb_model::specs::Calls::longest_arguments))]
+#[tactic(auto, unfolding(rb_model::specs::Calls::longest_kept))]
 pub fn kept_arguments(verdict: Verdict, content: &[u8]) -> &[u8]
     requires verdict { verdict ≡ verdict_of content.now }
     requires within { EndsWithin verdict (length content.now) }
     ensures { result.now ≡ kept_of content.now }
 {
     let arguments = arguments_behind(verdict, content);
-    &arguments[..LONGEST_ARGUMENTS.min(arguments.len())]
+    &arguments[..LONGEST_KEPT.min(arguments.len())]
 }

@@ -1,25 +1,23 @@
 //! Serves a message: what it is answered with, and what is remembered of it.
-ghost use Rattle.std.specs.Prelude.{◌≡◌, ◌<◌, ◌≤◌, [], false, length, take};
+ghost use Rattle.std.specs.Prelude.{◌≡◌, ◌<◌, ◌≤◌, length, take};
 ghost use Rattle.rb_rpc.specs.Replies.{reply_head};
 ghost use Rattle.rb_xdr.specs.Meter.{PaysAtMost};
 ghost use Rattle.rb_registry.specs.Cursors.{GoesOn};
-ghost use Rattle.rb_proto.specs.Books.{AreTied, OnlyCallerWaits, SameFrame};
+ghost use Rattle.rb_proto.specs.Books.{AreTied, SameFrame};
 ghost use Rattle.rb_proto.specs.Ledger.{Ledger, StandsForLedger};
-ghost use Rattle.rb_proto.specs.Results.{result_bytes, results_at, shown_in, shown_of};
+ghost use Rattle.rb_proto.specs.Results.{results_at, shown_in, shown_of};
 ghost use Rattle.rb_forward.specs.Forwards.{longest_results};
 ghost use Rattle.rb_forward.specs.Outcomes.{PassesWithin};
-ghost use Rattle.rb_forward.specs.StandsFor.{slots_of};
-ghost use Rattle.rb_forward.specs.Table.{IsNew};
 ghost use Rattle.rb_proto.specs.Forwarding.{forwarded_bytes};
 ghost use Rattle.rb_connections.specs.declared.served.Served.TheVariants.{Answered};
 ghost use Rattle.rb_connections.specs.declared.served.Outcome.TheVariants.{Reply};
 ghost use Rattle.rb_model.specs.Calls.{reply_in, success, longest_reply};
 ghost use Rattle.rb_model.specs.Ending.{told_failed, told_at};
 ghost use Rattle.rb_model.specs.Grammar.{HasArgsIn};
-ghost use Rattle.rb_core.specs.Awaits.{kind_of, StayUnlessForwarded};
+ghost use Rattle.rb_core.specs.Awaits.{kind_of};
 ghost use Rattle.rb_core.specs.Eviction.{HasRoom};
-ghost use Rattle.rb_core.specs.Core.{given_in};
-ghost use Rattle.rb_core.specs.Serving.{TellsAnswer, ServesMessage, ServesNull, CanServe, IsEmptyReply, LeavesBooks, WritesReply, IsStreamedTo, streamed};
+ghost use Rattle.rb_core.specs.Core.{outcome_in};
+ghost use Rattle.rb_core.specs.Serving.{TellsAnswer, ServesMessage, ServesNull, CanServe, IsEmptyReply, LeavesBooks, WritesReply, IsStreamedTo, list_streamed};
 ghost use Rattle.rb_connections.specs.Settling.{kind_in, IsWritten};
 ghost use Rattle.rb_core.specs.AtOnce.{IsGivenAtOnce, count_at_once};
 ghost use Rattle.rb_connections.specs.Giving.{whole_cost};
@@ -77,7 +75,7 @@ fn put_system_err(xid: u32, out: &mut Kept, meter: &mut Meter)
 }
 
 /// Writes a whole reply into an empty buffer, or SYSTEM_ERR where it does not fit.
-#[tactic(auto, using(rb_connections::proofs::ReplyHeads::some_fitting), unfolding(rb_model::specs::Calls::fitting, rb_model::specs::Calls::longest_reply))]
+#[tactic(auto, using(rb_connections::proofs::ReplyHeads::some_fitting), unfolding(rb_model::specs::Calls::fitting_reply, rb_model::specs::Calls::longest_reply))]
 fn put_reply_with(
     results: &Results,
     xid: u32,
@@ -104,7 +102,7 @@ fn put_reply_with(
 /// The list that is streamed, where the results are rows and the caller is on a connection; else None, and they are
 /// written as a whole.
 fn list_in(results: &Results, caller: Caller) -> Option<Listing>
-    ensures { result ≡ streamed caller results.now }
+    ensures { result ≡ list_streamed caller results.now }
 {
     match caller {
         Caller::Udp(_) => None,
@@ -233,7 +231,7 @@ pub fn give_at_once(served: Served, draft: &mut Kept, room: &mut [u8], meter: &m
 }
 
 /// Writes the results that a target gave into an empty buffer, or SYSTEM_ERR where they do not fit.
-#[tactic(auto, using(rb_connections::proofs::ReplyHeads::some_fitting), unfolding(rb_model::specs::Calls::fitting, rb_model::specs::Calls::longest_reply, rb_forward::specs::Forwards::longest_arguments, rb_forward::specs::Forwards::longest_results))]
+#[tactic(auto, using(rb_connections::proofs::ReplyHeads::some_fitting), unfolding(rb_model::specs::Calls::fitting_reply, rb_model::specs::Calls::longest_reply, rb_forward::specs::Forwards::longest_forwarded, rb_forward::specs::Forwards::longest_results))]
 fn put_passed(forward: &Forward, results: &[u8], out: &mut Kept, meter: &mut Meter)
     requires results { length results.now ≤ longest_results }
     requires out { IsEmptyReply meter.old.tie out.old }
@@ -252,8 +250,8 @@ fn put_passed(forward: &Forward, results: &[u8], out: &mut Kept, meter: &mut Met
 #[tactic(auto, unfolding(rb_model::specs::Calls::longest_reply))]
 fn put_failed(forward: &Forward, status: ReplyStatus, out: &mut Kept, meter: &mut Meter) -> Outcome
     requires out { IsEmptyReply meter.old.tie out.old }
-    ensures told { given_in result out.new ≡ told_failed forward.now status }
-    ensures held { out.new.bytes ≡ reply_in (given_in result out.new) }
+    ensures told { outcome_in result out.new ≡ told_failed forward.now status }
+    ensures held { out.new.bytes ≡ reply_in (outcome_in result out.new) }
     ensures written { IsWritten (Answered result) out.new.bytes }
     ensures out { WritesReply out.old out.new }
     ensures cost { PaysAtMost meter.old meter.new (put_end_cost (length out.new.bytes)) }
@@ -273,8 +271,8 @@ fn put_failed(forward: &Forward, status: ReplyStatus, out: &mut Kept, meter: &mu
 pub fn put_end(ended: &Ended, message: &[u8], out: &mut Kept, meter: &mut Meter) -> Outcome
     requires within { PassesWithin ended.now.outcome (length message.now) }
     requires out { IsEmptyReply meter.old.tie out.old }
-    ensures told { given_in result out.new ≡ told_at message.now ended.now }
-    ensures held { out.new.bytes ≡ reply_in (given_in result out.new) }
+    ensures told { outcome_in result out.new ≡ told_at message.now ended.now }
+    ensures held { out.new.bytes ≡ reply_in (outcome_in result out.new) }
     ensures written { IsWritten (Answered result) out.new.bytes }
     ensures out { WritesReply out.old out.new }
     ensures cost { PaysAtMost meter.old meter.new (put_end_cost (length out.new.bytes)) }

@@ -8,7 +8,7 @@ use Rattle.rb_course.specs.declared.course.Answer.{Answer}
 use Rattle.rb_course.specs.declared.course.Answer.TheVariants as answers
 use Rattle.rb_course.specs.declared.course.Stage.{Stage}
 use Rattle.rb_course.specs.declared.course.Stage.TheVariants.{Call}
-use Rattle.rb_course.specs.Next.{most_versions, versions, next}
+use Rattle.rb_course.specs.Next.{most_versions, step_to_versions, next}
 
 -- what a call of procedure 0 is answered with
 abbrev pub IsOfCall : Answer → Type 0
@@ -18,10 +18,10 @@ IsOfCall (answers.Port port) = ⊥
 IsOfCall (answers.Address address) = ⊥
 
 -- the versions that are called from a stage on, at most so many, where each has this answer
-abbrev pub called_from : ℕ → Course → (ℕ → Answer) → Stage → List ℕ
-called_from zero course answer stage = []
-called_from (suc n) course answer (Call (aims.Each vers high lacks) place) = vers ∷ called_from n course answer (next course (Call (aims.Each vers high lacks) place) (answer vers)).stage
-called_from (suc n) course answer _ = []
+abbrev pub versions_called_from : ℕ → Course → (ℕ → Answer) → Stage → List ℕ
+versions_called_from zero course answer stage = []
+versions_called_from (suc n) course answer (Call (aims.Each vers high lacks) place) = vers ∷ versions_called_from n course answer (next course (Call (aims.Each vers high lacks) place) (answer vers)).stage
+versions_called_from (suc n) course answer _ = []
 
 -- so many numbers from this one upwards
 abbrev pub upwards : ℕ → ℕ → List ℕ
@@ -31,4 +31,4 @@ upwards (suc n) least = least ∷ upwards n (least + 1)
 abbrev pub EachVersionIsCalled : Type 0
 EachVersionIsCalled =
     (course : Course) (place : Place) (low more : ℕ) (answer : ℕ → Answer) → course.way ≡ ways.Known place → more < most_versions → ((vers : ℕ) → IsOfCall (answer vers))
-    → called_from most_versions course answer (versions course low (low + more)).stage ≡ upwards (more + 1) low
+    → versions_called_from most_versions course answer (step_to_versions course low (low + more)).stage ≡ upwards (more + 1) low

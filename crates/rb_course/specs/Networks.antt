@@ -18,13 +18,13 @@ tab = 9
 abbrev pub newline : ℕ
 newline = 10
 
-abbrev pub turned : Result (List ℕ) FromHexError → Option (List ℕ)
-turned (Ok octets) = Some (reverse octets)
-turned (Err fault) = None
+abbrev pub reversed_octets : Result (List ℕ) FromHexError → Option (List ℕ)
+reversed_octets (Ok octets) = Some (reverse octets)
+reversed_octets (Err fault) = None
 
 -- an IPv4 address: eight hexadecimal digits, the octets from the last to the first
-abbrev pub address_in : List ℕ → Option (List ℕ)
-address_in field = turned (decode_sized field 4)
+abbrev pub route_address : List ℕ → Option (List ℕ)
+route_address field = reversed_octets (decode_sized field 4)
 
 -- a network's address with each bit of its hosts set (RFC 919 section 7, RFC 922 section 7)
 abbrev pub broadcast_of : List ℕ → List ℕ → List ℕ
@@ -41,21 +41,21 @@ is_direct flags = bytes_eq flags (codes "0001")
 
 abbrev pub network_of : List (List ℕ) → Option (List ℕ)
 network_of (interface ∷ network ∷ gateway ∷ flags ∷ count ∷ uses ∷ metric ∷ mask ∷ more) =
-    if is_direct flags then broadcast_by (address_in network) (address_in mask) else None
+    if is_direct flags then broadcast_by (route_address network) (route_address mask) else None
 network_of fields = None
 
-abbrev pub listed : Option (List ℕ) → List (List ℕ)
-listed None = []
-listed (Some network) = network ∷ []
+abbrev pub option_list : Option (List ℕ) → List (List ℕ)
+option_list None = []
+option_list (Some network) = network ∷ []
 
 -- the broadcast address of the network that a line's route leads to, where this machine is on it
 abbrev pub networks_in_line : List ℕ → List (List ℕ)
-networks_in_line line = listed (network_of (pieces_of tab line))
+networks_in_line line = option_list (network_of (pieces_of tab line))
 
 -- those of all lines, in their order
 abbrev pub networks_in : List ℕ → List (List ℕ)
 networks_in routes = flat_map networks_in_line (pieces_of newline routes)
 
 -- these addresses stand behind those that were there
-abbrev pub Adds : Vec (List ℕ) → Vec (List ℕ) → List (List ℕ) → Type 0
-Adds old new networks = vec_items new ≡ vec_items old ++ networks
+abbrev pub AddsNetworks : Vec (List ℕ) → Vec (List ℕ) → List (List ℕ) → Type 0
+AddsNetworks old new networks = vec_items new ≡ vec_items old ++ networks

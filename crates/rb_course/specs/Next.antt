@@ -44,17 +44,17 @@ version_of aims.Greatest = 4294967295
 version_of (aims.Each vers high lacks) = vers
 
 -- what is called for its refusal alone is not shown
-abbrev pub call_of : ℕ → Aim → Question
-call_of prog (aims.Only vers) = questions.Null prog vers
-call_of prog (aims.Each vers high lacks) = questions.Null prog vers
-call_of prog aims.Least = questions.Probe prog 0
-call_of prog aims.Greatest = questions.Probe prog 4294967295
+abbrev pub call_question : ℕ → Aim → Question
+call_question prog (aims.Only vers) = questions.Null prog vers
+call_question prog (aims.Each vers high lacks) = questions.Null prog vers
+call_question prog aims.Least = questions.Probe prog 0
+call_question prog aims.Greatest = questions.Probe prog 4294967295
 
 -- GETPORT with the protocol of the transport, or GETADDR of the netid, over its own transport
 abbrev pub find_by : Way → ℕ → Aim → Place × Question
 find_by (ways.Port transport) prog aim = (places.Portmapper transports.Tcp, questions.Port (prot_of transport) prog (version_of aim))
 find_by (ways.Address netid) prog aim = (places.Portmapper (transport_of netid), questions.Address netid prog (version_of aim))
-find_by (ways.Known place) prog aim = (place, call_of prog aim)
+find_by (ways.Known place) prog aim = (place, call_question prog aim)
 
 abbrev pub find_of : Course → Aim → Place × Question
 find_of course aim = find_by course.way course.prog aim
@@ -62,15 +62,15 @@ find_of course aim = find_by course.way course.prog aim
 abbrev pub question_at : Course → Stage → Option (Place × Question)
 question_at course (Find aim) = Some (find_of course aim)
 question_at course (FindOld aim transport) = Some (places.Portmapper transport, questions.Port (prot_of transport) course.prog (version_of aim))
-question_at course (Call aim place) = Some (place, call_of course.prog aim)
+question_at course (Call aim place) = Some (place, call_question course.prog aim)
 question_at course (End end) = None
 
 abbrev pub by_user : Option ℕ → Place × Question → Place × Ask
 by_user uid q = (q.0, record { question = q.1; uid = uid })
 
 -- each question is asked by the user of the course
-abbrev pub asked : Course → Stage → Option (Place × Ask)
-asked course stage = option_map (by_user course.uid) (question_at course stage)
+abbrev pub ask_at : Course → Stage → Option (Place × Ask)
+ask_at course stage = option_map (by_user course.uid) (question_at course stage)
 
 -- ---- what follows
 
@@ -83,12 +83,12 @@ begin_by (ways.Known place) aim = Call aim place
 abbrev pub begin : Course → Aim → Stage
 begin course aim = begin_by course.way aim
 
-abbrev pub to : Stage → Step
-to stage = record { lacks = None; stage = stage }
+abbrev pub step_to : Stage → Step
+step_to stage = record { lacks = None; stage = stage }
 
 -- the version behind this one, or the end
-abbrev pub following : Course → ℕ → ℕ → Bool → Stage
-following course vers high lacks =
+abbrev pub next_stage : Course → ℕ → ℕ → Bool → Stage
+next_stage course vers high lacks =
     if nat_lt vers high then begin course (aims.Each (vers + 1) high lacks) else End (if lacks then ends.SomeLack else ends.Ready)
 
 -- at most so many versions are called
@@ -96,18 +96,18 @@ abbrev pub most_versions : ℕ
 most_versions = 256
 
 -- the first of these versions
-abbrev pub versions : Course → ℕ → ℕ → Step
-versions course low high =
-    if nat_lt high low then to (End ends.Unreadable)
-    else if nat_le most_versions (high - low) then to (End ends.TooMany)
-    else to (begin course (aims.Each low high false))
+abbrev pub step_to_versions : Course → ℕ → ℕ → Step
+step_to_versions course low high =
+    if nat_lt high low then step_to (End ends.Unreadable)
+    else if nat_le most_versions (high - low) then step_to (End ends.TooMany)
+    else step_to (begin course (aims.Each low high false))
 
 -- the version is not available: the end, or, of several, the next one
-abbrev pub lack : Course → Aim → Option ReplyStatus → Step
-lack course (aims.Only vers) why = to (End (ends.NotAvailable vers why))
-lack course aims.Least why = to (End (ends.NoProgram why))
-lack course aims.Greatest why = to (End (ends.NoProgram why))
-lack course (aims.Each vers high lacks) why = record { lacks = Some vers; stage = following course vers high true }
+abbrev pub after_lack : Course → Aim → Option ReplyStatus → Step
+after_lack course (aims.Only vers) why = step_to (End (ends.NotAvailable vers why))
+after_lack course aims.Least why = step_to (End (ends.NoProgram why))
+after_lack course aims.Greatest why = step_to (End (ends.NoProgram why))
+after_lack course (aims.Each vers high lacks) why = record { lacks = Some vers; stage = next_stage course vers high true }
 
 abbrev pub transport_at : Way → Transport
 transport_at (ways.Port transport) = transport
@@ -115,55 +115,55 @@ transport_at (ways.Address netid) = transport_of netid
 transport_at (ways.Known place) = transports.Tcp
 
 -- 0, and a number that no port has, say that there is none
-abbrev pub found_port : Course → Aim → ℕ → Step
-found_port course aim port =
-    if port == 0 || nat_le 65536 port then lack course aim None
-    else to (Call aim (places.Port (transport_at course.way) port))
+abbrev pub after_port : Course → Aim → ℕ → Step
+after_port course aim port =
+    if port == 0 || nat_le 65536 port then after_lack course aim None
+    else step_to (Call aim (places.Port (transport_at course.way) port))
 
 -- a portmapper without GETADDR is asked by GETPORT
-abbrev pub refused_by : Way → Aim → ReplyStatus → Step
-refused_by (ways.Address netid) aim (statuses.ProgMismatch low high) = to (FindOld aim (transport_of netid))
-refused_by way aim status = to (End (ends.Refused status))
+abbrev pub after_find_refusal_by : Way → Aim → ReplyStatus → Step
+after_find_refusal_by (ways.Address netid) aim (statuses.ProgMismatch low high) = step_to (FindOld aim (transport_of netid))
+after_find_refusal_by way aim status = step_to (End (ends.Refused status))
 
-abbrev pub found_by_refusal : Course → Aim → ReplyStatus → Step
-found_by_refusal course aim status = refused_by course.way aim status
+abbrev pub after_find_refusal : Course → Aim → ReplyStatus → Step
+after_find_refusal course aim status = after_find_refusal_by course.way aim status
 
 -- it was asked where the version is
-abbrev pub found : Course → Aim → Answer → Step
-found course aim (answers.Port port) = found_port course aim port
-found course aim (answers.Address (Some address)) = to (Call aim (places.Address (transport_at course.way) address))
-found course aim (answers.Address None) = lack course aim None
-found course aim answers.Ready = to (End ends.Unreadable)
-found course aim (answers.Refused status) = found_by_refusal course aim status
+abbrev pub after_find : Course → Aim → Answer → Step
+after_find course aim (answers.Port port) = after_port course aim port
+after_find course aim (answers.Address (Some address)) = step_to (Call aim (places.Address (transport_at course.way) address))
+after_find course aim (answers.Address None) = after_lack course aim None
+after_find course aim answers.Ready = step_to (End ends.Unreadable)
+after_find course aim (answers.Refused status) = after_find_refusal course aim status
 
 -- the same by GETPORT in place of GETADDR
-abbrev pub found_old : Course → Aim → Answer → Step
-found_old course aim (answers.Port port) = found_port course aim port
-found_old course aim (answers.Address address) = to (End ends.Unreadable)
-found_old course aim answers.Ready = to (End ends.Unreadable)
-found_old course aim (answers.Refused status) = to (End (ends.Refused status))
+abbrev pub after_find_old : Course → Aim → Answer → Step
+after_find_old course aim (answers.Port port) = after_port course aim port
+after_find_old course aim (answers.Address address) = step_to (End ends.Unreadable)
+after_find_old course aim answers.Ready = step_to (End ends.Unreadable)
+after_find_old course aim (answers.Refused status) = step_to (End (ends.Refused status))
 
 -- procedure 0 answered
-abbrev pub ready : Course → Aim → Step
-ready course (aims.Only vers) = to (End ends.Ready)
-ready course aims.Least = to (begin course aims.Greatest)
-ready course aims.Greatest = versions course 0 4294967295
-ready course (aims.Each vers high lacks) = to (following course vers high lacks)
+abbrev pub after_ready : Course → Aim → Step
+after_ready course (aims.Only vers) = step_to (End ends.Ready)
+after_ready course aims.Least = step_to (begin course aims.Greatest)
+after_ready course aims.Greatest = step_to_versions course 0 4294967295
+after_ready course (aims.Each vers high lacks) = step_to (next_stage course vers high lacks)
 
 -- Procedure 0 was refused. The refusal of version 0, or of the greatest one, tells which there are.
-abbrev pub refused : Course → Aim → ReplyStatus → Step
-refused course aims.Least (statuses.ProgMismatch low high) = versions course low high
-refused course aims.Greatest (statuses.ProgMismatch low high) = versions course low high
-refused course aim status = lack course aim (Some status)
+abbrev pub after_refusal : Course → Aim → ReplyStatus → Step
+after_refusal course aims.Least (statuses.ProgMismatch low high) = step_to_versions course low high
+after_refusal course aims.Greatest (statuses.ProgMismatch low high) = step_to_versions course low high
+after_refusal course aim status = after_lack course aim (Some status)
 
-abbrev pub called : Course → Aim → Answer → Step
-called course aim answers.Ready = ready course aim
-called course aim (answers.Refused status) = refused course aim status
-called course aim (answers.Port port) = to (End ends.Unreadable)
-called course aim (answers.Address address) = to (End ends.Unreadable)
+abbrev pub after_call : Course → Aim → Answer → Step
+after_call course aim answers.Ready = after_ready course aim
+after_call course aim (answers.Refused status) = after_refusal course aim status
+after_call course aim (answers.Port port) = step_to (End ends.Unreadable)
+after_call course aim (answers.Address address) = step_to (End ends.Unreadable)
 
 abbrev pub next : Course → Stage → Answer → Step
-next course (Find aim) answer = found course aim answer
-next course (FindOld aim transport) answer = found_old course aim answer
-next course (Call aim place) answer = called course aim answer
-next course (End end) answer = to (End end)
+next course (Find aim) answer = after_find course aim answer
+next course (FindOld aim transport) answer = after_find_old course aim answer
+next course (Call aim place) answer = after_call course aim answer
+next course (End end) answer = step_to (End end)

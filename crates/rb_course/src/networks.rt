@@ -1,21 +1,21 @@
 //! The networks of this machine, as Linux lists its routes in /proc/net/route (proc(5)): a line each, of fields with tabs
 //! between them.
 ghost use Rattle.std.specs.Prelude.{◌≡◌, IfOk, OnOk};
-ghost use Rattle.rb_course.specs.Networks.{Adds, pieces_of, address_in, broadcast_of, network_of, networks_in_line, networks_in};
-ghost use Rattle.rb_names.specs.Services.{texts_at};
+ghost use Rattle.rb_course.specs.Networks.{AddsNetworks, pieces_of, route_address, broadcast_of, network_of, networks_in_line, networks_in};
+ghost use Rattle.rb_names.specs.Services.{borrowed_texts};
 
 use std::alloc::{AllocError, Global};
 
 /// The pieces of a text between bytes of this value.
 fn pieces_of<'a>(alloc: Global, text: &'a [u8], between: u8) -> Result<Vec<&'a [u8]>, AllocError>
-    ensures { IfOk result (λ pieces. texts_at pieces.items ≡ pieces_of between text.now) }
+    ensures { IfOk result (λ pieces. borrowed_texts pieces.items ≡ pieces_of between text.now) }
 {
     text.split(|byte| *byte == between).collect(alloc)
 }
 
 /// The IPv4 address that a field has: eight hexadecimal digits, the octets from the last to the first.
-fn address_in(field: &[u8]) -> Option<[u8; 4]>
-    ensures { result ≡ address_in field.now }
+fn route_address(field: &[u8]) -> Option<[u8; 4]>
+    ensures { result ≡ route_address field.now }
 {
     let mut octets = [0; 4];
     match hex::decode_to_slice(field, &mut octets) {
@@ -39,7 +39,7 @@ fn broadcast_of(network: [u8; 4], mask: [u8; 4]) -> [u8; 4]
 /// The broadcast address of the network that these fields of a route lead to; `None` where this machine is not on it,
 /// or there are too few.
 fn network_of(fields: &[&[u8]]) -> Option<[u8; 4]>
-    ensures { result ≡ network_of (texts_at fields.now) }
+    ensures { result ≡ network_of (borrowed_texts fields.now) }
 {
     let [_, network, _, flags, _, _, _, mask, ..] = fields else {
         return None;
@@ -47,12 +47,12 @@ fn network_of(fields: &[&[u8]]) -> Option<[u8; 4]>
     if *flags != b"0001".as_slice() {
         return None;
     }
-    Some(broadcast_of(address_in(network)?, address_in(mask)?))
+    Some(broadcast_of(route_address(network)?, route_address(mask)?))
 }
 
 /// Adds the broadcast address of the network that a line's route leads to.
 fn push_line(alloc: Global, line: &[u8], networks: &mut Vec<[u8; 4]>) -> Result<(), AllocError>
-    ensures { OnOk result (Adds networks.old networks.new (networks_in_line line.now)) }
+    ensures { OnOk result (AddsNetworks networks.old networks.new (networks_in_line line.now)) }
 {
     let fields = pieces_of(alloc, line, b'\t')?;
     if let Some(network) = network_of(&fields) {

@@ -1,6 +1,6 @@
 //! What is asked, and what follows of each answer.
 ghost use Rattle.std.specs.Prelude.{◌≡◌};
-ghost use Rattle.rb_course.specs.Next.{prot_of, transport_of, version_of, call_of, find_of, question_at, asked, begin, to, following, versions, lack, transport_at, found_port, found_by_refusal, found, found_old, ready, refused, called, next};
+ghost use Rattle.rb_course.specs.Next.{prot_of, transport_of, version_of, call_question, find_of, question_at, ask_at, begin, step_to, next_stage, step_to_versions, after_lack, transport_at, after_port, after_find_refusal, after_find, after_find_old, after_ready, after_refusal, after_call, next};
 
 use crate::course::{Aim, Answer, Course, End, Place, Stage, Step, Way};
 use rb_names::Netid;
@@ -47,8 +47,8 @@ fn version_of(aim: Aim) -> u32
 }
 
 /// The call of procedure 0. A version that is called for its refusal alone is not shown.
-fn call_of(prog: u32, aim: Aim) -> Question
-    ensures { result ≡ call_of prog aim }
+fn call_question(prog: u32, aim: Aim) -> Question
+    ensures { result ≡ call_question prog aim }
 {
     match aim {
         Aim::Only(_) | Aim::Each { .. } => Question::Null(prog, version_of(aim)),
@@ -70,7 +70,7 @@ fn find_of(course: &Course, aim: Aim) -> (Place, Question)
             Place::Portmapper(transport_of(netid)),
             Question::Address(netid, prog, vers),
         ),
-        Way::Known(place) => (place, call_of(prog, aim)),
+        Way::Known(place) => (place, call_question(prog, aim)),
     }
 }
 
@@ -84,14 +84,14 @@ fn question_at(course: &Course, stage: Stage) -> Option<(Place, Question)>
             let question = Question::Port(prot_of(transport), course.prog, version_of(aim));
             Some((Place::Portmapper(transport), question))
         }
-        Stage::Call(aim, place) => Some((place, call_of(course.prog, aim))),
+        Stage::Call(aim, place) => Some((place, call_question(course.prog, aim))),
         Stage::End(_) => None,
     }
 }
 
 /// Returns what is asked at a stage, by the user of the course, and where; `None` at the end.
 pub fn asked(course: &Course, stage: Stage) -> Option<(Place, Ask)>
-    ensures { result ≡ asked course.now stage }
+    ensures { result ≡ ask_at course.now stage }
 {
     match question_at(course, stage) {
         Some((place, question)) => {
@@ -115,21 +115,21 @@ pub fn begin(course: &Course, aim: Aim) -> Stage
     }
 }
 
-fn to(stage: Stage) -> Step
-    ensures { result ≡ to stage }
+fn step_to(stage: Stage) -> Step
+    ensures { result ≡ step_to stage }
 {
     Step { lacks: None, stage }
 }
 
 fn end(end: End) -> Step
-    ensures { result ≡ to (Stage.End end) }
+    ensures { result ≡ step_to (Stage.End end) }
 {
-    to(Stage::End(end))
+    step_to(Stage::End(end))
 }
 
 /// The stage behind a version: the next one, or the end behind the last.
-fn following(course: &Course, vers: u32, high: u32, lacks: bool) -> Stage
-    ensures { result ≡ following course.now vers high lacks }
+fn next_stage(course: &Course, vers: u32, high: u32, lacks: bool) -> Stage
+    ensures { result ≡ next_stage course.now vers high lacks }
 {
     if vers < high {
         return begin(
@@ -149,8 +149,8 @@ fn following(course: &Course, vers: u32, high: u32, lacks: bool) -> Stage
 }
 
 /// The first of the versions from low to high.
-fn versions(course: &Course, low: u32, high: u32) -> Step
-    ensures { result ≡ versions course.now low high }
+fn step_to_versions(course: &Course, low: u32, high: u32) -> Step
+    ensures { result ≡ step_to_versions course.now low high }
 {
     if high < low {
         return end(End::Unreadable);
@@ -158,7 +158,7 @@ fn versions(course: &Course, low: u32, high: u32) -> Step
     if high - low >= MOST_VERSIONS {
         return end(End::TooMany);
     }
-    to(begin(
+    step_to(begin(
         course,
         Aim::Each {
             vers: low,
@@ -169,8 +169,8 @@ fn versions(course: &Course, low: u32, high: u32) -> Step
 }
 
 /// The version is not available.
-fn lack(course: &Course, aim: Aim, why: Option<ReplyStatus>) -> Step
-    ensures { result ≡ lack course.now aim why }
+fn after_lack(course: &Course, aim: Aim, why: Option<ReplyStatus>) -> Step
+    ensures { result ≡ after_lack course.now aim why }
 {
     match aim {
         Aim::Only(vers) => end(End::NotAvailable(vers, why)),
@@ -181,7 +181,7 @@ fn lack(course: &Course, aim: Aim, why: Option<ReplyStatus>) -> Step
             lacks: _,
         } => Step {
             lacks: Some(vers),
-            stage: following(course, vers, high, true),
+            stage: next_stage(course, vers, high, true),
         },
     }
 }
@@ -198,21 +198,21 @@ fn transport_at(way: Way) -> Transport
 }
 
 /// A port of 0, or one that no port has, says that there is none.
-fn found_port(course: &Course, aim: Aim, port: u32) -> Step
-    ensures { result ≡ found_port course.now aim port }
+fn after_port(course: &Course, aim: Aim, port: u32) -> Step
+    ensures { result ≡ after_port course.now aim port }
 {
     match u16::try_from(port) {
-        Ok(0) | Err(_) => lack(course, aim, None),
-        Ok(port) => to(Stage::Call(aim, Place::Port(transport_at(course.way), port))),
+        Ok(0) | Err(_) => after_lack(course, aim, None),
+        Ok(port) => step_to(Stage::Call(aim, Place::Port(transport_at(course.way), port))),
     }
 }
 
 /// A portmapper without GETADDR is asked by GETPORT.
-fn found_by_refusal(course: &Course, aim: Aim, status: ReplyStatus) -> Step
-    ensures { result ≡ found_by_refusal course.now aim status }
+fn after_find_refusal(course: &Course, aim: Aim, status: ReplyStatus) -> Step
+    ensures { result ≡ after_find_refusal course.now aim status }
 {
     match (course.way, status) {
-        (Way::Address(netid), ReplyStatus::ProgMismatch(_, _)) => to(Stage::FindOld(
+        (Way::Address(netid), ReplyStatus::ProgMismatch(_, _)) => step_to(Stage::FindOld(
             aim,
             transport_of(netid),
         )),
@@ -221,63 +221,63 @@ fn found_by_refusal(course: &Course, aim: Aim, status: ReplyStatus) -> Step
 }
 
 /// What follows where it was asked where the version is.
-fn found(course: &Course, aim: Aim, answer: Answer) -> Step
-    ensures { result ≡ found course.now aim answer }
+fn after_find(course: &Course, aim: Aim, answer: Answer) -> Step
+    ensures { result ≡ after_find course.now aim answer }
 {
     match answer {
-        Answer::Port(port) => found_port(course, aim, port),
-        Answer::Address(Some(address)) => to(Stage::Call(
+        Answer::Port(port) => after_port(course, aim, port),
+        Answer::Address(Some(address)) => step_to(Stage::Call(
             aim,
             Place::Address(transport_at(course.way), address),
         )),
-        Answer::Address(None) => lack(course, aim, None),
+        Answer::Address(None) => after_lack(course, aim, None),
         Answer::Ready => end(End::Unreadable),
-        Answer::Refused(status) => found_by_refusal(course, aim, status),
+        Answer::Refused(status) => after_find_refusal(course, aim, status),
     }
 }
 
 /// The same where it was asked by GETPORT in place of GETADDR.
-fn found_old(course: &Course, aim: Aim, answer: Answer) -> Step
-    ensures { result ≡ found_old course.now aim answer }
+fn after_find_old(course: &Course, aim: Aim, answer: Answer) -> Step
+    ensures { result ≡ after_find_old course.now aim answer }
 {
     match answer {
-        Answer::Port(port) => found_port(course, aim, port),
+        Answer::Port(port) => after_port(course, aim, port),
         Answer::Address(_) | Answer::Ready => end(End::Unreadable),
         Answer::Refused(status) => end(End::Refused(status)),
     }
 }
 
 /// What follows where procedure 0 answered.
-fn ready(course: &Course, aim: Aim) -> Step
-    ensures { result ≡ ready course.now aim }
+fn after_ready(course: &Course, aim: Aim) -> Step
+    ensures { result ≡ after_ready course.now aim }
 {
     match aim {
         Aim::Only(_) => end(End::Ready),
-        Aim::Least => to(begin(course, Aim::Greatest)),
-        Aim::Greatest => versions(course, 0, u32::MAX),
-        Aim::Each { vers, high, lacks } => to(following(course, vers, high, lacks)),
+        Aim::Least => step_to(begin(course, Aim::Greatest)),
+        Aim::Greatest => step_to_versions(course, 0, u32::MAX),
+        Aim::Each { vers, high, lacks } => step_to(next_stage(course, vers, high, lacks)),
     }
 }
 
 /// What follows where procedure 0 was refused.
-fn refused(course: &Course, aim: Aim, status: ReplyStatus) -> Step
-    ensures { result ≡ refused course.now aim status }
+fn after_refusal(course: &Course, aim: Aim, status: ReplyStatus) -> Step
+    ensures { result ≡ after_refusal course.now aim status }
 {
     match (aim, status) {
-        (Aim::Least | Aim::Greatest, ReplyStatus::ProgMismatch(low, high)) => versions(
+        (Aim::Least | Aim::Greatest, ReplyStatus::ProgMismatch(low, high)) => step_to_versions(
             course, low, high,
         ),
-        _ => lack(course, aim, Some(status)),
+        _ => after_lack(course, aim, Some(status)),
     }
 }
 
 /// What follows where procedure 0 was called.
-fn called(course: &Course, aim: Aim, answer: Answer) -> Step
-    ensures { result ≡ called course.now aim answer }
+fn after_call(course: &Course, aim: Aim, answer: Answer) -> Step
+    ensures { result ≡ after_call course.now aim answer }
 {
     match answer {
-        Answer::Ready => ready(course, aim),
-        Answer::Refused(status) => refused(course, aim, status),
+        Answer::Ready => after_ready(course, aim),
+        Answer::Refused(status) => after_refusal(course, aim, status),
         Answer::Port(_) | Answer::Address(_) => end(End::Unreadable),
     }
 }
@@ -289,9 +289,9 @@ pub fn next(course: &Course, stage: Stage, answer: Answer) -> Step
     ensures { result ≡ next course.now stage answer }
 {
     match stage {
-        Stage::Find(aim) => found(course, aim, answer),
-        Stage::FindOld(aim, _) => found_old(course, aim, answer),
-        Stage::Call(aim, _) => called(course, aim, answer),
-        Stage::End(_) => to(stage),
+        Stage::Find(aim) => after_find(course, aim, answer),
+        Stage::FindOld(aim, _) => after_find_old(course, aim, answer),
+        Stage::Call(aim, _) => after_call(course, aim, answer),
+        Stage::End(_) => step_to(stage),
     }
 }

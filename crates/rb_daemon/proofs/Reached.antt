@@ -28,8 +28,8 @@ use Rattle.rb_connections.specs.Settling.{outcome_with}
 use Rattle.rb_connections.specs.Slots.{Acts, Shows}
 use Rattle.rb_core.specs.Core.{ActsWithReply}
 use Rattle.rb_core.specs.StandsFor.{Held, StandsFor}
-use Rattle.rb_core.proofs.Begun.{began, stands_begun}
-use Rattle.rb_daemon.specs.Recording.{gift, sending_of, sending, given_or}
+use Rattle.rb_core.proofs.Begun.{with_steps_before, stands_begun}
+use Rattle.rb_daemon.specs.Recording.{gift_events, send_events_of, send_events, output_or_refusal}
 use Rattle.rb_daemon.specs.Served.{IsServed}
 use mathlib.Core.Bool.{true≢false}
 
@@ -37,13 +37,13 @@ pub output_state : {A : Type 0} (show : A → Output) (r : Result A CoreFault ×
 output_state show (Ok x, s) = refl
 output_state show (Err fault, s) = refl
 
-pub output_given : {A : Type 0} (show : A → Output) (r : Result A CoreFault × State) → given_or show r.0 ≡ (output_or show r).0
+pub output_given : {A : Type 0} (show : A → Output) (r : Result A CoreFault × State) → output_or_refusal show r.0 ≡ (output_or show r).0
 output_given show (Ok x, s) = refl
 output_given show (Err fault, s) = refl
 
 outcome_state : (r : Outcome × State) → (show_outcome r).1 ≡ r.1
 outcome_state (outcomes.NoCall, s) = refl
-outcome_state (outcomes.Reply reply began, s) = refl
+outcome_state (outcomes.Reply reply stamp, s) = refl
 outcome_state (outcomes.Forwarded, s) = refl
 outcome_state (outcomes.Silent, s) = refl
 
@@ -107,22 +107,22 @@ written_served core before later n (Err error) written same =
 
 -- ---- one event
 
-pub open_records : (old new : Held) (now : ℕ) (peer : Peer) (r : Result ℕ CoreFault) (before later : Tape) → Acts StandsFor (λ s. open_connection s now peer) old new r → Records (entry_text (Open now peer) (given_or Opened r) ∷ []) before later → (s : State) → StandsFor old s → Records (run_entries s (Open now peer ∷ [])) before later
+pub open_records : (old new : Held) (now : ℕ) (peer : Peer) (r : Result ℕ CoreFault) (before later : Tape) → Acts StandsFor (λ s. open_connection s now peer) old new r → Records (entry_text (Open now peer) (output_or_refusal Opened r) ∷ []) before later → (s : State) → StandsFor old s → Records (run_entries s (Open now peer ∷ [])) before later
 unfolding step
 open_records old new now peer r before later acts records s h =
-    one_recorded s (Open now peer) (given_or Opened r) before later (ap (given_or Opened) (acts.gives s h) ∙ output_given Opened (open_connection s now peer)) records
+    one_recorded s (Open now peer) (output_or_refusal Opened r) before later (ap (output_or_refusal Opened) (acts.gives s h) ∙ output_given Opened (open_connection s now peer)) records
 
-pub open_served : (old new : Held) (now : ℕ) (peer : Peer) (r : Result ℕ CoreFault) (before later : Tape) → Acts StandsFor (λ s. open_connection s now peer) old new r → Records (entry_text (Open now peer) (given_or Opened r) ∷ []) before later → ∥ IsServed old before ∥₁ → ∥ IsServed new later ∥₁
+pub open_served : (old new : Held) (now : ℕ) (peer : Peer) (r : Result ℕ CoreFault) (before later : Tape) → Acts StandsFor (λ s. open_connection s now peer) old new r → Records (entry_text (Open now peer) (output_or_refusal Opened r) ∷ []) before later → ∥ IsServed old before ∥₁ → ∥ IsServed new later ∥₁
 unfolding step
 open_served old new now peer r before later acts records =
     served_on old new before later (λ s. Open now peer ∷ []) (λ s h. subst (StandsFor new) (sym (output_state Opened (open_connection s now peer))) (acts.stands s h)) (open_records old new now peer r before later acts records)
 
-pub closed_records : (old new : Held) (id : ℕ) (r : Result (Unit {0}) CoreFault) (before later : Tape) → Acts StandsFor (λ s. close_connection s id) old new r → Records (entry_text (Closed id) (given_or show_done r) ∷ []) before later → (s : State) → StandsFor old s → Records (run_entries s (Closed id ∷ [])) before later
+pub closed_records : (old new : Held) (id : ℕ) (r : Result (Unit {0}) CoreFault) (before later : Tape) → Acts StandsFor (λ s. close_connection s id) old new r → Records (entry_text (Closed id) (output_or_refusal show_done r) ∷ []) before later → (s : State) → StandsFor old s → Records (run_entries s (Closed id ∷ [])) before later
 unfolding step
 closed_records old new id r before later acts records s h =
-    one_recorded s (Closed id) (given_or show_done r) before later (ap (given_or show_done) (acts.gives s h) ∙ output_given show_done (close_connection s id)) records
+    one_recorded s (Closed id) (output_or_refusal show_done r) before later (ap (output_or_refusal show_done) (acts.gives s h) ∙ output_given show_done (close_connection s id)) records
 
-pub closed_served : (old new : Held) (id : ℕ) (r : Result (Unit {0}) CoreFault) (before later : Tape) → Acts StandsFor (λ s. close_connection s id) old new r → Records (entry_text (Closed id) (given_or show_done r) ∷ []) before later → ∥ IsServed old before ∥₁ → ∥ IsServed new later ∥₁
+pub closed_served : (old new : Held) (id : ℕ) (r : Result (Unit {0}) CoreFault) (before later : Tape) → Acts StandsFor (λ s. close_connection s id) old new r → Records (entry_text (Closed id) (output_or_refusal show_done r) ∷ []) before later → ∥ IsServed old before ∥₁ → ∥ IsServed new later ∥₁
 unfolding step
 closed_served old new id r before later acts records =
     served_on old new before later (λ s. Closed id ∷ []) (λ s h. subst (StandsFor new) (sym (output_state show_done (close_connection s id))) (acts.stands s h)) (closed_records old new id r before later acts records)
@@ -131,7 +131,7 @@ pub lost_records : (old : Held) (lost : Option ℕ) (before later : Tape) → Sh
 unfolding step
 lost_records old lost before later shows records s h = one_recorded s NextLost (LostIs lost) before later (ap LostIs (shows s h)) records
 
-pub lost_served : (old new : Held) (n : ℕ) (lost : Option ℕ) (before later : Tape) → new ≡ began old n → Shows StandsFor next_lost old lost → Records (entry_text NextLost (LostIs lost) ∷ []) before later → ∥ IsServed old before ∥₁ → ∥ IsServed new later ∥₁
+pub lost_served : (old new : Held) (n : ℕ) (lost : Option ℕ) (before later : Tape) → new ≡ with_steps_before old n → Shows StandsFor next_lost old lost → Records (entry_text NextLost (LostIs lost) ∷ []) before later → ∥ IsServed old before ∥₁ → ∥ IsServed new later ∥₁
 unfolding step
 lost_served old new n lost before later is shows records =
     served_on old new before later (λ s. NextLost ∷ []) (stands_begun old new n is) (lost_records old lost before later shows records)
@@ -161,7 +161,7 @@ datagram_records old new now peer content given before later acts records s h =
     one_recorded s (Datagram now peer content) (answer_shown given new.reply) before later (answer_is given new.reply (datagram s now peer content) (acts.gives s h)) records
 
 -- with a look at the reply behind it
-pub datagram_served : (old new after_look : Held) (n now : ℕ) (peer : Peer) (content : List ℕ) (given : outcome.Outcome) (before later : Tape) → after_look ≡ began new n → ActsWithReply (λ s. datagram s now peer content) old new given → Records (entry_text (Datagram now peer content) (answer_shown given new.reply) ∷ []) before later → ∥ IsServed old before ∥₁ → ∥ IsServed after_look later ∥₁
+pub datagram_served : (old new after_look : Held) (n now : ℕ) (peer : Peer) (content : List ℕ) (given : outcome.Outcome) (before later : Tape) → after_look ≡ with_steps_before new n → ActsWithReply (λ s. datagram s now peer content) old new given → Records (entry_text (Datagram now peer content) (answer_shown given new.reply) ∷ []) before later → ∥ IsServed old before ∥₁ → ∥ IsServed after_look later ∥₁
 unfolding step
 datagram_served old new after_look n now peer content given before later is acts records =
     served_on old after_look before later (λ s. Datagram now peer content ∷ [])
@@ -175,7 +175,7 @@ silent_records old new now peer content given before later is acts records =
 
 pub silent_served : (old new : Held) (now : ℕ) (peer : Peer) (content : List ℕ) (given : outcome.Outcome) (before later : Tape) → (given ≡ outcome_kinds.NoCall) ⊎ (given ≡ outcome_kinds.Silent) → ActsWithReply (λ s. datagram s now peer content) old new given → Records (entry_text (Datagram now peer content) Silent ∷ []) before later → ∥ IsServed old before ∥₁ → ∥ IsServed new later ∥₁
 silent_served old new now peer content given before later is acts records =
-    datagram_served old new new new.begun now peer content given before later refl acts (subst (λ (x : Output). Records (entry_text (Datagram now peer content) x ∷ []) before later) (answer_silent given new.reply is) records)
+    datagram_served old new new new.steps_before now peer content given before later refl acts (subst (λ (x : Output). Records (entry_text (Datagram now peer content) x ∷ []) before later) (answer_silent given new.reply is) records)
 
 -- ---- the end of a forwarded call
 
@@ -196,16 +196,16 @@ forward_records old new now from message told before later acts records s h =
     one_recorded s (Forward now from message) (show_told new.reply told) before later (end_is new.reply told (forward_reply s now from message) (acts.gives s h) (acts.stands s h).reply) records
 
 -- with a look at the reply behind it
-forward_stands : (old new after_look : Held) (n now : ℕ) (from : Peer) (message : List ℕ) (r : Option Told) → after_look ≡ began new n → Acts StandsFor (λ s. forward_reply s now from message) old new r → (s : State) → StandsFor old s → StandsFor after_look (step s (Forward now from message)).1
+forward_stands : (old new after_look : Held) (n now : ℕ) (from : Peer) (message : List ℕ) (r : Option Told) → after_look ≡ with_steps_before new n → Acts StandsFor (λ s. forward_reply s now from message) old new r → (s : State) → StandsFor old s → StandsFor after_look (step s (Forward now from message)).1
 unfolding step
 forward_stands old new after_look n now from message r is acts s h =
     stands_begun new after_look n is _ (subst (StandsFor new) (sym (end_state (forward_reply s now from message))) (acts.stands s h))
 
 pub ignored_served : (old new : Held) (now : ℕ) (from : Peer) (message : List ℕ) (before later : Tape) → Acts StandsFor (λ s. forward_reply s now from message) old new None → Records (entry_text (Forward now from message) Ignored ∷ []) before later → ∥ IsServed old before ∥₁ → ∥ IsServed new later ∥₁
 ignored_served old new now from message before later acts records =
-    served_on old new before later (λ s. Forward now from message ∷ []) (forward_stands old new new new.begun now from message None refl acts) (ignored_records old new now from message before later acts records)
+    served_on old new before later (λ s. Forward now from message ∷ []) (forward_stands old new new new.steps_before now from message None refl acts) (ignored_records old new now from message before later acts records)
 
-pub forward_served : (old new after_look : Held) (n now : ℕ) (from : Peer) (message : List ℕ) (told : Told) (before later : Tape) → after_look ≡ began new n → Acts StandsFor (λ s. forward_reply s now from message) old new (Some told) → Records (entry_text (Forward now from message) (show_told new.reply told) ∷ []) before later → ∥ IsServed old before ∥₁ → ∥ IsServed after_look later ∥₁
+pub forward_served : (old new after_look : Held) (n now : ℕ) (from : Peer) (message : List ℕ) (told : Told) (before later : Tape) → after_look ≡ with_steps_before new n → Acts StandsFor (λ s. forward_reply s now from message) old new (Some told) → Records (entry_text (Forward now from message) (show_told new.reply told) ∷ []) before later → ∥ IsServed old before ∥₁ → ∥ IsServed after_look later ∥₁
 forward_served old new after_look n now from message told before later is acts records =
     served_on old after_look before later (λ s. Forward now from message ∷ []) (forward_stands old new after_look n now from message (Some told) is acts) (forward_records old new now from message told before later acts records)
 
@@ -228,7 +228,7 @@ expire_records old new now due before later acts records s h =
     one_recorded s (Expire now) (due_shown due new.reply) before later (due_is new.reply due (expire s now) (acts.gives s h) (acts.stands s h).reply) records
 
 -- with a look at the reply behind it
-pub expire_served : (old new after_look : Held) (n now : ℕ) (due : Expired) (before later : Tape) → after_look ≡ began new n → Acts StandsFor (λ s. expire s now) old new due → Records (entry_text (Expire now) (due_shown due new.reply) ∷ []) before later → ∥ IsServed old before ∥₁ → ∥ IsServed after_look later ∥₁
+pub expire_served : (old new after_look : Held) (n now : ℕ) (due : Expired) (before later : Tape) → after_look ≡ with_steps_before new n → Acts StandsFor (λ s. expire s now) old new due → Records (entry_text (Expire now) (due_shown due new.reply) ∷ []) before later → ∥ IsServed old before ∥₁ → ∥ IsServed after_look later ∥₁
 unfolding step
 expire_served old new after_look n now due before later is acts records =
     served_on old after_look before later (λ s. Expire now ∷ [])
@@ -247,14 +247,14 @@ pub look_state : (s : State) (id : ℕ) → (step s (Pending id)).1 ≡ s
 unfolding step
 look_state s id = output_state IsPending (pending s id, s)
 
-pub look_output : (s : State) (id : ℕ) (owed : Result (List ℕ) CoreFault) → pending s id ≡ owed → given_or IsPending owed ≡ (step s (Pending id)).0
+pub look_output : (s : State) (id : ℕ) (owed : Result (List ℕ) CoreFault) → pending s id ≡ owed → output_or_refusal IsPending owed ≡ (step s (Pending id)).0
 unfolding step
-look_output s id owed is = ap (given_or IsPending) (sym is) ∙ output_given IsPending (pending s id, s)
+look_output s id owed is = ap (output_or_refusal IsPending) (sym is) ∙ output_given IsPending (pending s id, s)
 
-pub look_records : (old : Held) (id : ℕ) (owed : Result (List ℕ) CoreFault) (before later : Tape) → ((s : State) → StandsFor old s → pending s id ≡ owed) → Records (entry_text (Pending id) (given_or IsPending owed) ∷ []) before later → (s : State) → StandsFor old s → Records (run_entries s (Pending id ∷ [])) before later
-look_records old id owed before later shows records s h = one_recorded s (Pending id) (given_or IsPending owed) before later (look_output s id owed (shows s h)) records
+pub look_records : (old : Held) (id : ℕ) (owed : Result (List ℕ) CoreFault) (before later : Tape) → ((s : State) → StandsFor old s → pending s id ≡ owed) → Records (entry_text (Pending id) (output_or_refusal IsPending owed) ∷ []) before later → (s : State) → StandsFor old s → Records (run_entries s (Pending id ∷ [])) before later
+look_records old id owed before later shows records s h = one_recorded s (Pending id) (output_or_refusal IsPending owed) before later (look_output s id owed (shows s h)) records
 
-pub look_served : (old new : Held) (n id : ℕ) (owed : Result (List ℕ) CoreFault) (before later : Tape) → new ≡ began old n → ((s : State) → StandsFor old s → pending s id ≡ owed) → Records (entry_text (Pending id) (given_or IsPending owed) ∷ []) before later → ∥ IsServed old before ∥₁ → ∥ IsServed new later ∥₁
+pub look_served : (old new : Held) (n id : ℕ) (owed : Result (List ℕ) CoreFault) (before later : Tape) → new ≡ with_steps_before old n → ((s : State) → StandsFor old s → pending s id ≡ owed) → Records (entry_text (Pending id) (output_or_refusal IsPending owed) ∷ []) before later → ∥ IsServed old before ∥₁ → ∥ IsServed new later ∥₁
 look_served old new n id owed before later is shows records =
     served_on old new before later (λ s. Pending id ∷ []) (λ s h. subst (StandsFor new) (sym (look_state s id)) (stands_begun old new n is s h)) (look_records old id owed before later shows records)
 
@@ -269,19 +269,19 @@ pub gave_output : (s : State) (now id n : ℕ) (owed : List ℕ) → pending s i
 unfolding step
 gave_output s now id n owed is few done =
     let plain : is_too_much n (pending s id) ≡ false = rw is (le-ltb (length owed) n few) in
-    ap (given_or show_done) done ∙ output_given show_done (gave s now id n) ∙ sym (ap (λ (b : Bool). (cond b (TooMuch, s) (output_or show_done (gave s now id n))).0) plain)
+    ap (output_or_refusal show_done) done ∙ output_given show_done (gave s now id n) ∙ sym (ap (λ (b : Bool). (cond b (TooMuch, s) (output_or show_done (gave s now id n))).0) plain)
 
-pub gift_state : (s : State) (now id n : ℕ) (owed : List ℕ) → pending s id ≡ Ok owed → n ≤ length owed → after s (gift now id n) ≡ (gave s now id n).1
+pub gift_state : (s : State) (now id n : ℕ) (owed : List ℕ) → pending s id ≡ Ok owed → n ≤ length owed → after s (gift_events now id n) ≡ (gave s now id n).1
 gift_state s now id n owed is few = ap (λ (t : State). (step t (Gave now id n)).1) (look_state s id) ∙ gave_state s now id n owed is few
 
-pub gift_records : (old mid new : Held) (count now id n : ℕ) (owed : List ℕ) (before between later : Tape) → mid ≡ began old count → Acts StandsFor (λ s. gave s now id n) mid new (Ok tt) → ((s : State) → StandsFor old s → pending s id ≡ Ok owed) → n ≤ length owed → Records (entry_text (Pending id) (IsPending owed) ∷ []) before between → Records (entry_text (Gave now id n) Done ∷ []) between later → (s : State) → StandsFor old s → Records (run_entries s (gift now id n)) before later
+pub gift_records : (old mid new : Held) (count now id n : ℕ) (owed : List ℕ) (before between later : Tape) → mid ≡ with_steps_before old count → Acts StandsFor (λ s. gave s now id n) mid new (Ok tt) → ((s : State) → StandsFor old s → pending s id ≡ Ok owed) → n ≤ length owed → Records (entry_text (Pending id) (IsPending owed) ∷ []) before between → Records (entry_text (Gave now id n) Done ∷ []) between later → (s : State) → StandsFor old s → Records (run_entries s (gift_events now id n)) before later
 gift_records old mid new count now id n owed before between later is acts shows few one two s h =
     two_recorded s (Pending id) (Gave now id n) (IsPending owed) Done before between later (look_output s id (Ok owed) (shows s h))
     (gave_output s now id n owed (shows s h) few (acts.gives s (stands_begun old mid count is s h)) ∙ ap (λ (t : State). (step t (Gave now id n)).0) (sym (look_state s id))) one two
 
-pub gift_served : (old mid new : Held) (count now id n : ℕ) (owed : List ℕ) (before between later : Tape) → mid ≡ began old count → Acts StandsFor (λ s. gave s now id n) mid new (Ok tt) → ((s : State) → StandsFor old s → pending s id ≡ Ok owed) → n ≤ length owed → Records (entry_text (Pending id) (IsPending owed) ∷ []) before between → Records (entry_text (Gave now id n) Done ∷ []) between later → ∥ IsServed old before ∥₁ → ∥ IsServed new later ∥₁
+pub gift_served : (old mid new : Held) (count now id n : ℕ) (owed : List ℕ) (before between later : Tape) → mid ≡ with_steps_before old count → Acts StandsFor (λ s. gave s now id n) mid new (Ok tt) → ((s : State) → StandsFor old s → pending s id ≡ Ok owed) → n ≤ length owed → Records (entry_text (Pending id) (IsPending owed) ∷ []) before between → Records (entry_text (Gave now id n) Done ∷ []) between later → ∥ IsServed old before ∥₁ → ∥ IsServed new later ∥₁
 gift_served old mid new count now id n owed before between later is acts shows few one two =
-    served_on old new before later (λ s. gift now id n)
+    served_on old new before later (λ s. gift_events now id n)
     (λ s h. subst (StandsFor new) (sym (gift_state s now id n owed (shows s h) few)) (acts.stands s (stands_begun old mid count is s h)))
     (gift_records old mid new count now id n owed before between later is acts shows few one two)
 
@@ -291,25 +291,25 @@ pub unsent_records : (old : Held) (unsent : Option UnsentCall) (before later : T
 unfolding step
 unsent_records old unsent before later shows records s h = one_recorded s Unsent (UnsentIs unsent) before later (ap UnsentIs (shows s h)) records
 
-pub none_records : (old : Held) (before later : Tape) → Shows StandsFor unsent_call old None → Records (entry_text Unsent (UnsentIs None) ∷ []) before later → (s : State) → StandsFor old s → Records (run_entries s (sending s)) before later
+pub none_records : (old : Held) (before later : Tape) → Shows StandsFor unsent_call old None → Records (entry_text Unsent (UnsentIs None) ∷ []) before later → (s : State) → StandsFor old s → Records (run_entries s (send_events s)) before later
 none_records old before later shows records s h =
-    subst (λ (u : Option UnsentCall). Records (run_entries s (sending_of u)) before later) (shows s h) (unsent_records old None before later shows records s h)
+    subst (λ (u : Option UnsentCall). Records (run_entries s (send_events_of u)) before later) (shows s h) (unsent_records old None before later shows records s h)
 
-pub none_served : (old new : Held) (n : ℕ) (before later : Tape) → new ≡ began old n → Shows StandsFor unsent_call old None → Records (entry_text Unsent (UnsentIs None) ∷ []) before later → ∥ IsServed old before ∥₁ → ∥ IsServed new later ∥₁
+pub none_served : (old new : Held) (n : ℕ) (before later : Tape) → new ≡ with_steps_before old n → Shows StandsFor unsent_call old None → Records (entry_text Unsent (UnsentIs None) ∷ []) before later → ∥ IsServed old before ∥₁ → ∥ IsServed new later ∥₁
 unfolding step
 none_served old new n before later is shows records =
     served_on old new before later (λ s. Unsent ∷ []) (stands_begun old new n is) (unsent_records old None before later shows records)
 
-pub sent_records : (old mid new : Held) (n : ℕ) (unsent : UnsentCall) (r : Result (Unit {0}) CoreFault) (before between later : Tape) → mid ≡ began old n → Shows StandsFor unsent_call old (Some unsent) → Acts StandsFor (λ s. sent_call s unsent.number) mid new r → Records (entry_text Unsent (UnsentIs (Some unsent)) ∷ []) before between → Records (entry_text (Sent unsent.number) (given_or show_done r) ∷ []) between later → (s : State) → StandsFor old s → Records (run_entries s (sending s)) before later
+pub sent_records : (old mid new : Held) (n : ℕ) (unsent : UnsentCall) (r : Result (Unit {0}) CoreFault) (before between later : Tape) → mid ≡ with_steps_before old n → Shows StandsFor unsent_call old (Some unsent) → Acts StandsFor (λ s. sent_call s unsent.number) mid new r → Records (entry_text Unsent (UnsentIs (Some unsent)) ∷ []) before between → Records (entry_text (Sent unsent.number) (output_or_refusal show_done r) ∷ []) between later → (s : State) → StandsFor old s → Records (run_entries s (send_events s)) before later
 unfolding step
 sent_records old mid new n unsent r before between later is shows acts one two s h =
-    subst (λ (u : Option UnsentCall). Records (run_entries s (sending_of u)) before later) (shows s h)
-    (two_recorded s Unsent (Sent unsent.number) (UnsentIs (Some unsent)) (given_or show_done r) before between later (ap UnsentIs (shows s h))
-    (ap (given_or show_done) (acts.gives s (stands_begun old mid n is s h)) ∙ output_given show_done (sent_call s unsent.number)) one two)
+    subst (λ (u : Option UnsentCall). Records (run_entries s (send_events_of u)) before later) (shows s h)
+    (two_recorded s Unsent (Sent unsent.number) (UnsentIs (Some unsent)) (output_or_refusal show_done r) before between later (ap UnsentIs (shows s h))
+    (ap (output_or_refusal show_done) (acts.gives s (stands_begun old mid n is s h)) ∙ output_given show_done (sent_call s unsent.number)) one two)
 
-pub sent_served : (old mid new : Held) (n : ℕ) (unsent : UnsentCall) (r : Result (Unit {0}) CoreFault) (before between later : Tape) → mid ≡ began old n → Shows StandsFor unsent_call old (Some unsent) → Acts StandsFor (λ s. sent_call s unsent.number) mid new r → Records (entry_text Unsent (UnsentIs (Some unsent)) ∷ []) before between → Records (entry_text (Sent unsent.number) (given_or show_done r) ∷ []) between later → ∥ IsServed old before ∥₁ → ∥ IsServed new later ∥₁
+pub sent_served : (old mid new : Held) (n : ℕ) (unsent : UnsentCall) (r : Result (Unit {0}) CoreFault) (before between later : Tape) → mid ≡ with_steps_before old n → Shows StandsFor unsent_call old (Some unsent) → Acts StandsFor (λ s. sent_call s unsent.number) mid new r → Records (entry_text Unsent (UnsentIs (Some unsent)) ∷ []) before between → Records (entry_text (Sent unsent.number) (output_or_refusal show_done r) ∷ []) between later → ∥ IsServed old before ∥₁ → ∥ IsServed new later ∥₁
 unfolding step
 sent_served old mid new n unsent r before between later is shows acts one two =
-    served_on old new before later sending
-    (λ s h. subst (λ (u : Option UnsentCall). StandsFor new (after s (sending_of u))) (shows s h) (subst (StandsFor new) (sym (output_state show_done (sent_call s unsent.number))) (acts.stands s (stands_begun old mid n is s h))))
+    served_on old new before later send_events
+    (λ s h. subst (λ (u : Option UnsentCall). StandsFor new (after s (send_events_of u))) (shows s h) (subst (StandsFor new) (sym (output_state show_done (sent_call s unsent.number))) (acts.stands s (stands_begun old mid n is s h))))
     (sent_records old mid new n unsent r before between later is shows acts one two)

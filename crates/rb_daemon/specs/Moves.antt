@@ -8,8 +8,8 @@ use Rattle.rb_model.specs.Step.{Event, pending}
 use Rattle.rb_record.specs.Entries.{run_entries}
 use Rattle.rb_record.specs.Tapes.{Records}
 use Rattle.rb_connections.specs.Slots.{Acts, Shows}
-use Rattle.rb_core.specs.declared.types.Exchanged.{Exchanged}
-use Rattle.rb_core.specs.AtOnce.{exchanging, taken_in, count_now}
+use Rattle.rb_model.specs.declared.types.Exchanged.{Exchanged}
+use Rattle.rb_model.specs.Exchanges.{exchange, taken_in, count_now}
 use Rattle.rb_core.specs.StandsFor.{StandsFor}
 use Rattle.rb_daemon.specs.declared.engine.Engine.{Engine}
 use Rattle.rb_daemon.specs.declared.engine.Given.{Given}
@@ -28,12 +28,12 @@ abbrev pub ActsNow : {R : Type 0} → (State → ℕ → R × State) → Engine 
 ActsNow step old new result = Acts StandsFor (λ s. step s old.moment) old.core new.core result
 
 -- Whatever state its core stood for, these events from it were recorded, each with what it gave.
-abbrev pub Recorded : (State → ℕ → List Event) → Engine → Engine → Type 0
-Recorded events old new = (s : State) → StandsFor old.core s → Records (run_entries s (events s old.moment)) old.tape new.tape
+abbrev pub RecordsEvents : (State → ℕ → List Event) → Engine → Engine → Type 0
+RecordsEvents events old new = (s : State) → StandsFor old.core s → Records (run_entries s (events s old.moment)) old.tape new.tape
 
 -- A writer got of what is pending on the connection what was given.
-abbrev pub Gives : {W : Type 0} → ℕ → (W → Option (List ℕ)) → Engine → W → W → Given → Type 0
-Gives id contents engine old new given =
+abbrev pub GivesPending : {W : Type 0} → ℕ → (W → Option (List ℕ)) → Engine → W → W → Given → Type 0
+GivesPending id contents engine old new given =
     (s : State) → StandsFor engine.core s → WasGiven (pending s id) (contents old) (contents new) given
 
 -- So many bytes are given at once of the reply to a record that ends with these bytes, where there is so much room.
@@ -44,6 +44,6 @@ CountsGiven id piece room engine count = Shows StandsFor (count_now engine.momen
 pub record FillsOutbox (id : ℕ) (piece : List ℕ) (old new : Engine) (before after : List ℕ) (result : Result Exchanged CoreFault) : Type 0 where
   pub room : ℕ
   pub given : List ℕ
-  pub acts : Acts StandsFor (exchanging old.moment id piece room) old.core new.core (taken_in result, given)
+  pub acts : Acts StandsFor (exchange old.moment id piece room) old.core new.core (taken_in result, given)
   pub appended : after ≡ before ++ given
   pub moment : new.moment ≡ old.moment

@@ -11,33 +11,33 @@ use Rattle.rb_model.specs.Step.Output.{Refused, Done, IsPending, UnsentIs}
 use Rattle.rb_record.specs.declared.happening.Happening.{Happening}
 use Rattle.rb_record.specs.Entries.{event_of, entry_text, run_entries, options_text}
 use Rattle.rb_record.specs.Tapes.{Tape, IsRecordOf}
-use Rattle.rb_core.specs.declared.types.Exchanged.{Exchanged}
-use Rattle.rb_core.specs.AtOnce.{taken_in}
+use Rattle.rb_model.specs.declared.types.Exchanged.{Exchanged}
+use Rattle.rb_model.specs.Exchanges.{taken_in}
 use Rattle.rb_daemon.specs.declared.engine.Given.{Given}
 use Rattle.rb_daemon.specs.declared.engine.Given.TheVariants as gives
 
 -- ---- the events of a call
 
 -- a look at what is pending, and that n bytes of it were given
-abbrev pub gift : ℕ → ℕ → ℕ → List Event
-gift now id n = Pending id ∷ Gave now id n ∷ []
+abbrev pub gift_events : ℕ → ℕ → ℕ → List Event
+gift_events now id n = Pending id ∷ Gave now id n ∷ []
 
 -- bytes that came on a connection, and n that were given at once
-abbrev pub exchange : ℕ → ℕ → List ℕ → ℕ → List Event
-exchange now id piece n = Bytes now id piece ∷ (if n == 0 then [] else gift now id n)
+abbrev pub exchange_events : ℕ → ℕ → List ℕ → ℕ → List Event
+exchange_events now id piece n = Bytes now id piece ∷ (if n == 0 then [] else gift_events now id n)
 
 -- the look at what is pending, and what was given of it
-abbrev pub giving : ℕ → ℕ → Given → List Event
-giving now id (gives.Bytes n) = gift now id n
-giving now id other = Pending id ∷ []
+abbrev pub give_events : ℕ → ℕ → Given → List Event
+give_events now id (gives.Bytes n) = gift_events now id n
+give_events now id other = Pending id ∷ []
 
 -- the look for a call that is to be sent, and that it was sent
-abbrev pub sending_of : Option UnsentCall → List Event
-sending_of None = Unsent ∷ []
-sending_of (Some unsent) = Unsent ∷ Sent unsent.number ∷ []
+abbrev pub send_events_of : Option UnsentCall → List Event
+send_events_of None = Unsent ∷ []
+send_events_of (Some unsent) = Unsent ∷ Sent unsent.number ∷ []
 
-abbrev pub sending : State → List Event
-sending s = sending_of (unsent_call s)
+abbrev pub send_events : State → List Event
+send_events s = send_events_of (unsent_call s)
 
 -- ---- what is recorded
 
@@ -51,9 +51,9 @@ HasRecorded r tape = IsRecordOf (entries_of r) tape
 
 -- ---- what a call gave, as an output
 
-abbrev pub given_or : {A : Type 0} → (A → Output) → Result A CoreFault → Output
-given_or show (Ok x) = show x
-given_or show (Err fault) = Refused fault
+abbrev pub output_or_refusal : {A : Type 0} → (A → Output) → Result A CoreFault → Output
+output_or_refusal show (Ok x) = show x
+output_or_refusal show (Err fault) = Refused fault
 
 -- ---- as the code has them
 
@@ -65,7 +65,7 @@ exchange_entries now id piece taken given = entry_text (Bytes now id piece) take
 
 -- what was taken of bytes that came
 abbrev pub taken_output : Result Exchanged CoreFault → Output
-taken_output done = given_or show_taken (taken_in done)
+taken_output done = output_or_refusal show_taken (taken_in done)
 
 -- the end of a forwarded call, with the last reply
 abbrev pub end_entry : Happening → List ℕ → Told → List ℕ

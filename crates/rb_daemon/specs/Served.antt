@@ -47,7 +47,7 @@ after_giving s now id other = s
 -- whether the call of a message is forwarded
 abbrev pub is_forwarded : Outcome → Bool
 is_forwarded NoCall = false
-is_forwarded (Reply bytes began) = false
+is_forwarded (Reply bytes stamp) = false
 is_forwarded Forwarded = true
 is_forwarded SilentCall = false
 
@@ -55,8 +55,8 @@ abbrev pub forwarded_after : Outcome × State → Bool × State
 forwarded_after (outcome, s) = (is_forwarded outcome, s)
 
 -- a datagram came from a peer
-abbrev pub answering : Peer → List ℕ → State → ℕ → Bool × State
-answering peer content s now = forwarded_after (datagram s now peer content)
+abbrev pub answer_datagram : Peer → List ℕ → State → ℕ → Bool × State
+answer_datagram peer content s now = forwarded_after (datagram s now peer content)
 
 -- ---- forwarded calls
 
@@ -71,8 +71,8 @@ ready_after (None, s) = (None, s)
 ready_after (Some told, s) = (ready_of told, s)
 
 -- a datagram came where forwarded calls are sent from
-abbrev pub replying : Peer → List ℕ → State → ℕ → Option ℕ × State
-replying from message s now = ready_after (forward_reply s now from message)
+abbrev pub take_forward_reply : Peer → List ℕ → State → ℕ → Option ℕ × State
+take_forward_reply from message s now = ready_after (forward_reply s now from message)
 
 abbrev pub due_when : Option ℕ → Due
 due_when None = dues.Done
@@ -84,13 +84,13 @@ due_after (Ended told, s) = (due_when (ready_of told), s)
 due_after (ConnectionClosed id, s) = (dues.Done, s)
 
 -- what is due first ends
-abbrev pub expiring : State → ℕ → Due × State
-expiring s now = due_after (expire s now)
+abbrev pub expire_due : State → ℕ → Due × State
+expire_due s now = due_after (expire s now)
 
 -- The call that is to be sent first was sent, where there is one.
-abbrev pub sending_of : State → Option Unsent → Bool × State
-sending_of s None = (false, s)
-sending_of s (Some unsent) = (true, (sent_call s unsent.number).1)
+abbrev pub send_unsent : State → Option Unsent → Bool × State
+send_unsent s None = (false, s)
+send_unsent s (Some unsent) = (true, (sent_call s unsent.number).1)
 
-abbrev pub sending : State → ℕ → Bool × State
-sending s now = sending_of s (unsent_call s)
+abbrev pub send_forward : State → ℕ → Bool × State
+send_forward s now = send_unsent s (unsent_call s)

@@ -1,15 +1,15 @@
 //! The daemon and its turns.
-ghost use Rattle.std.specs.Prelude.{◌↔◌, IsTrue, IsErrOf, OnOk, not};
+ghost use Rattle.std.specs.Prelude.{◌≡◌, ◌↔◌, IsTrue, IsErrOf, IfOk, OnOk, not};
 ghost use Rattle.rb_model.specs.State.{are_good};
 
 use crate::engine::Engine;
-use crate::faults::{BindFault, DaemonFault, Step};
+use crate::faults::DaemonFault;
 use crate::serving::Serving;
 use crate::settings::Settings;
-use crate::sockets::Sockets;
 use mio::{Events, Poll};
 use rb_core::{CoreFault, Limits, Listener};
 use rb_policy::{Moments, wait_of};
+use rb_sockets::{BindFault, Sockets, Step};
 use std::alloc::{AllocError, Global};
 use std::fs::Files;
 use std::io;
@@ -62,7 +62,7 @@ impl<'a, R: Clock> Daemon<'a, R> {
             Ok(poll) => poll,
             Err(error) => return Err(DaemonFault::Socket(Step::Prepare.failed(error))),
         };
-        let sockets = match Sockets::bind(alloc, host, settings) {
+        let sockets = match Sockets::bind(alloc, host, &settings.addresses()) {
             Ok(sockets) => sockets,
             Err(BindFault::Memory(error)) => return Err(DaemonFault::Memory(error)),
             Err(BindFault::Socket(fault)) => return Err(DaemonFault::Socket(fault)),
@@ -157,17 +157,18 @@ fn engine_of(
     alloc: Global,
     limits: Limits,
     listener: Listener,
-    record: usize,
+    record_limit: usize,
     first: io::Result<Times>,
 ) -> Result<(Engine, Moments), DaemonFault>
     ensures bad { IsErrOf result DaemonFault.Limits ↔ IsTrue (not (are_good limits)) }
     ensures good { OnOk result (IsTrue (are_good limits)) }
+    ensures record { IfOk result (λ made. made.0.tape.limit ≡ record_limit) }
 {
     let (wall, monotonic) = match &first {
         Ok(Times { wall, monotonic }) => (*wall, *monotonic),
         Err(_) => (0, 0),
     };
-    match Engine::new(alloc, limits, listener, wall, record) {
+    match Engine::new(alloc, limits, listener, wall, record_limit) {
         Ok(engine) => match first {
             Ok(_) => Ok((engine, Moments::new(wall, monotonic))),
             Err(error) => Err(DaemonFault::Socket(Step::Clock.failed(error))),

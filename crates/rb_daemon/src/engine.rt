@@ -6,9 +6,9 @@ ghost use Rattle.rb_daemon.specs.Recording.{end_entry};
 ghost use Rattle.rb_daemon.specs.Served.{IsServed, ready_of};
 
 use crate::showing::{count_given, record_exchange, record_unsent, show_done, show_opened};
-use crate::sockets::{CallSocket, CallSockets, ForwardSocket};
 use rb_core::{Core, CoreFault, Exchanged, Expired, Limits, Listener, Outcome, Peer, Told};
 use rb_record::{Happening, Shown, Start, Tape};
+use rb_sockets::{CallSocket, CallSockets, ForwardSocket};
 use rb_xdr::Meter;
 use std::alloc::Global;
 use std::io;
@@ -88,15 +88,16 @@ fn tell(
 impl Engine {
     ghost use Rattle.std.specs.Prelude.{◌≡◌, ◌≤◌, ◌↔◌, [], ◌∷◌, false, IsTrue, IsErrOf, length, not, IfOk, OnOk, OnErr};
     ghost use Rattle.rb_record.specs.Printing.{Writes};
-    ghost use Rattle.rb_record.specs.Tapes.{unwritten};
+    ghost use Rattle.rb_record.specs.Tapes.{unwritten_text};
     ghost use Rattle.rb_model.specs.Step.Event.{Open, Closed, NextLost, Datagram, Forward, Expire};
-    ghost use Rattle.rb_daemon.specs.Recording.{exchange, giving, sending as sending_events};
+    ghost use Rattle.rb_daemon.specs.Recording.{exchange_events, give_events, send_events};
     ghost use Rattle.rb_model.specs.State.{State, are_good};
     ghost use Rattle.rb_model.specs.Step.{open_connection, close_connection, next_lost};
     ghost use Rattle.rb_core.specs.StandsFor.{StandsFor};
-    ghost use Rattle.rb_core.specs.AtOnce.{Exchanges, count_given};
-    ghost use Rattle.rb_daemon.specs.Served.{after_giving, answering, ready_of, replying, expiring, sending};
-    ghost use Rattle.rb_daemon.specs.Moves.{BeginsAt, Moves, ActsNow, Gives, Recorded, CountsGiven};
+    ghost use Rattle.rb_model.specs.Exchanges.{count_given};
+    ghost use Rattle.rb_core.specs.AtOnce.{Exchanges};
+    ghost use Rattle.rb_daemon.specs.Served.{after_giving, answer_datagram, ready_of, take_forward_reply, expire_due, send_forward};
+    ghost use Rattle.rb_daemon.specs.Moves.{BeginsAt, Moves, ActsNow, GivesPending, RecordsEvents, CountsGiven};
 
     /// A new core at this moment, which is the first. The first forwarded call has the low 32 bits of it for its
     /// number. Up to `record_limit` bytes of its events are recorded. `BadLimits` where a limit is out of its range, else
@@ -144,7 +145,7 @@ impl Engine {
     /// Writes what was recorded and not yet written. Where that fails the recording ends.
     pub(crate) fn write_record<W: Write>(&mut self, writer: &mut W) -> io::Result<()>
         ensures written { OnOk result
-            (Writes W.contents writer.old writer.new (unwritten self.old.tape)) }
+            (Writes W.contents writer.old writer.new (unwritten_text self.old.tape)) }
         ensures ok { OnOk result (self.new.tape
             ≡ record self.old.tape { written = length self.old.tape.text }) }
         ensures err { OnErr result (self.new.tape ≡ record self.old.tape { is_on = false }) }
@@ -157,7 +158,7 @@ impl Engine {
     /// A connection was accepted. `Full` where all places of the core are taken, `Spent` where its numbers are.
     pub(crate) fn open(&mut self, peer: Peer) -> Result<u64, CoreFault>
         ensures acts { ActsNow (λ s now. open_connection s now peer) self.old self.new result }
-        ensures recorded { Recorded (λ s now. Open now peer ∷ []) self.old self.new }
+        ensures recorded { RecordsEvents (λ s now. Open now peer ∷ []) self.old self.new }
         ensures moment { self.new.moment ≡ self.old.moment }
     {
         let opened = self.core.open(self.moment, peer, &mut self.meter);
@@ -179,8 +180,8 @@ impl Engine {
         ensures count { CountsGiven id piece.now (length room.old) self.old (count_given result) }
         ensures fits { count_given result ≤ length room.new }
         ensures within { IfOk result (λ done. done.taken.count ≤ length piece.now) }
-        ensures recorded { Recorded
-            (λ s now. exchange now id piece.now (count_given result)) self.old self.new }
+        ensures recorded { RecordsEvents
+            (λ s now. exchange_events now id piece.now (count_given result)) self.old self.new }
         ensures moment { self.new.moment ≡ self.old.moment }
     {
         let done = self
@@ -193,9 +194,9 @@ impl Engine {
 
     /// Writes the bytes that are pending on a connection, once, and tells the core how many the writer took.
     pub(crate) fn give<W: Write>(&mut self, id: u64, writer: &mut W) -> Given
-        ensures given { Gives id W.contents self.old writer.old writer.new result }
+        ensures given { GivesPending id W.contents self.old writer.old writer.new result }
         ensures acts { Moves (λ s now. after_giving s now id result) self.old self.new }
-        ensures recorded { Recorded (λ s now. giving now id result) self.old self.new }
+        ensures recorded { RecordsEvents (λ s now. give_events now id result) self.old self.new }
         ensures moment { self.new.moment ≡ self.old.moment }
     {
         let look = Happening::Pending(id);
@@ -229,7 +230,7 @@ impl Engine {
     /// A connection was closed. One that the core does not know is closed already.
     pub(crate) fn closed(&mut self, id: u64)
         ensures acts { Moves (λ s now. (close_connection s id).1) self.old self.new }
-        ensures recorded { Recorded (λ s now. Closed id ∷ []) self.old self.new }
+        ensures recorded { RecordsEvents (λ s now. Closed id ∷ []) self.old self.new }
         ensures moment { self.new.moment ≡ self.old.moment }
     {
         let done = self.core.closed(id, &mut self.meter);
@@ -240,7 +241,7 @@ impl Engine {
     pub(crate) fn next_lost(&mut self) -> Option<u64>
         ensures lost { (s : State) → StandsFor self.old.core s → result ≡ next_lost s }
         ensures stays { Moves (λ s now. s) self.old self.new }
-        ensures recorded { Recorded (λ s now. NextLost ∷ []) self.old self.new }
+        ensures recorded { RecordsEvents (λ s now. NextLost ∷ []) self.old self.new }
         ensures moment { self.new.moment ≡ self.old.moment }
     {
         let lost = self.core.next_lost(&mut self.meter);
@@ -251,8 +252,8 @@ impl Engine {
     /// Answers a datagram over the socket on which it came. A reply that the socket does not take is lost. Returns
     /// whether the call is forwarded, and so is to be sent.
     pub(crate) fn answer(&mut self, peer: Peer, content: &[u8], socket: &CallSocket) -> bool
-        ensures acts { ActsNow (answering peer content.now) self.old self.new result }
-        ensures recorded { Recorded
+        ensures acts { ActsNow (answer_datagram peer content.now) self.old self.new result }
+        ensures recorded { RecordsEvents
             (λ s now. Datagram now peer content.now ∷ []) self.old self.new }
         ensures moment { self.new.moment ≡ self.old.moment }
     {
@@ -285,8 +286,8 @@ impl Engine {
         content: &[u8],
         calls: &CallSockets,
     ) -> Option<u64>
-        ensures acts { ActsNow (replying from content.now) self.old self.new result }
-        ensures recorded { Recorded
+        ensures acts { ActsNow (take_forward_reply from content.now) self.old self.new result }
+        ensures recorded { RecordsEvents
             (λ s now. Forward now from content.now ∷ []) self.old self.new }
         ensures moment { self.new.moment ≡ self.old.moment }
     {
@@ -310,8 +311,8 @@ impl Engine {
 
     /// Ends what is due first.
     pub(crate) fn expire(&mut self, calls: &CallSockets) -> Due
-        ensures acts { ActsNow expiring self.old self.new result }
-        ensures recorded { Recorded (λ s now. Expire now ∷ []) self.old self.new }
+        ensures acts { ActsNow expire_due self.old self.new result }
+        ensures recorded { RecordsEvents (λ s now. Expire now ∷ []) self.old self.new }
         ensures moment { self.new.moment ≡ self.old.moment }
     {
         let event = Happening::Expire(self.moment);
@@ -343,8 +344,8 @@ impl Engine {
     /// Sends the first forwarded call that is to be sent. It counts as sent though the socket does not take it.
     /// Returns whether there was one.
     pub(crate) fn send_forward(&mut self, socket: &ForwardSocket) -> bool
-        ensures acts { ActsNow sending self.old self.new result }
-        ensures recorded { Recorded (λ s now. sending_events s) self.old self.new }
+        ensures acts { ActsNow send_forward self.old self.new result }
+        ensures recorded { RecordsEvents (λ s now. send_events s) self.old self.new }
         ensures moment { self.new.moment ≡ self.old.moment }
     {
         let Some(unsent) = self.core.unsent(&mut self.meter) else {

@@ -3,13 +3,12 @@ ghost use Rattle.std.specs.Prelude.{◌≤◌};
 
 use crate::engine::{Engine, Given};
 use crate::outbox::{LONG_ROOM, OWN_ROOM, Outbox};
-use crate::sockets::ForwardSocket;
-use crate::stream::Stream;
-use rb_core::Exchanged;
+use rb_model::Exchanged;
 use rb_policy::{
     Holder, Next, Origin, Phase, Round, SOCKET_CALLS, after_read, after_write, ends_record,
     is_cut_off, is_stuck, outcome_of_count, phase_of, reads_on, round_of,
 };
+use rb_sockets::{ForwardSocket, Stream};
 use std::alloc::{AllocError, Global};
 use std::io::Read;
 
@@ -41,8 +40,8 @@ pub(crate) struct Link {
     made_progress: bool,
     /// Whether its first call, or the rest of a call, is yet to come.
     is_reading: bool,
-    /// The bytes of `held[start..end]` were read and not yet taken.
-    held: [u8; READ_AHEAD],
+    /// The bytes of `bytes[start..end]` were read and not yet taken.
+    bytes: [u8; READ_AHEAD],
     start: usize,
     end: usize,
     /// Whether the core may owe a reply: from bytes that it took, until none is pending.
@@ -52,7 +51,7 @@ pub(crate) struct Link {
     /// How many bytes were written in the last turn that served it.
     written: usize,
     /// Whether the last read is not followed by another in this turn.
-    is_dry: bool,
+    read_was_short: bool,
     /// Whether its call is forwarded and has not ended.
     is_awaiting: bool,
     /// The last turn that served it.
@@ -60,7 +59,7 @@ pub(crate) struct Link {
     /// Whether it is to be served though no event shows it.
     is_waiting: bool,
     ghost ordered: { start ≤ end },
-    ghost in_held: { end ≤ 1024 },
+    ghost in_bytes: { end ≤ 1024 },
 }
 
 /// How a connection stands after it was served.
@@ -87,13 +86,13 @@ impl Link {
             since: 0,
             made_progress: false,
             is_reading: false,
-            held: [0; READ_AHEAD],
+            bytes: [0; READ_AHEAD],
             start: 0,
             end: 0,
             may_owe: false,
             outbox: Outbox::new(alloc, OWN_ROOM)?,
             written: 0,
-            is_dry: false,
+            read_was_short: false,
             is_awaiting: false,
             served_in: 0,
             is_waiting: false,
@@ -121,18 +120,18 @@ impl Link {
         self.end = 0;
         self.may_owe = false;
         self.outbox.clear();
-        self.is_dry = false;
+        self.read_was_short = false;
         self.is_awaiting = false;
         self.served_in = 0;
         self.is_waiting = false;
     }
 
     /// Closes the connection that has the place, and gives its number. The long outbox is for others from here on.
-    pub(crate) fn close(&mut self, spare: &mut Outbox) -> Option<u64> {
+    pub(crate) fn close(&mut self, long_outbox: &mut Outbox) -> Option<u64> {
         let stream = self.stream.take()?;
         drop(stream);
         self.outbox.clear();
-        spare.take_longer(&mut self.outbox);
+        long_outbox.take_longer(&mut self.outbox);
         self.is_waiting = false;
         Some(self.id)
     }
@@ -195,18 +194,18 @@ impl Link {
         &mut self,
         engine: &mut Engine,
         forwards: &ForwardSocket,
-        spare: &mut Outbox,
+        long_outbox: &mut Outbox,
         turn: Turn,
         may_end: bool,
     ) -> Progress {
         self.served_in = turn.number;
         self.is_waiting = false;
-        self.is_dry = false;
+        self.read_was_short = false;
         self.made_progress = false;
         self.written = 0;
-        self.outbox.take_longer(spare);
+        self.outbox.take_longer(long_outbox);
         let progress = self.serve_calls(engine, forwards, may_end);
-        spare.take_longer(&mut self.outbox);
+        long_outbox.take_longer(&mut self.outbox);
         if self.made_progress {
             self.since = turn.moment;
         }
@@ -245,7 +244,7 @@ impl Link {
         if !self.outbox.is_empty() {
             return self.write();
         }
-        if self.start < self.end || self.is_dry {
+        if self.start < self.end || self.read_was_short {
             return Next::AwaitEvent;
         }
         self.read(may_end)
@@ -279,9 +278,9 @@ impl Link {
             return Some(0);
         }
         let (id, start, end) = (self.id, self.start, self.end);
-        let held = &mut self.held;
+        let bytes = &mut self.bytes;
         let outbox = &mut self.outbox;
-        let Exchanged { taken, given } = outbox.exchange(engine, id, &held[start..end]).ok()?;
+        let Exchanged { taken, given } = outbox.exchange(engine, id, &bytes[start..end]).ok()?;
         if taken.closed {
             return None;
         }
@@ -296,8 +295,8 @@ impl Link {
 
     /// Notes whether a record ended with the bytes that were taken, of so many that were there. Of one that is
     /// answered later its reply tells (`take_over`).
-    fn note_taken(&mut self, taken: usize, held: usize, given: usize) {
-        if ends_record(taken, held, given, self.is_awaiting) {
+    fn note_taken(&mut self, taken: usize, read: usize, given: usize) {
+        if ends_record(taken, read, given, self.is_awaiting) {
             self.made_progress = true;
             self.is_reading = false;
         } else if taken > 0 {
@@ -338,10 +337,10 @@ impl Link {
         };
         self.start = 0;
         self.end = 0;
-        let came = stream.incoming().read(&mut self.held);
+        let came = stream.incoming().read(&mut self.bytes);
         if let Ok(n) = came {
             self.end = n;
-            self.is_dry = !reads_on(n, READ_AHEAD, may_end);
+            self.read_was_short = !reads_on(n, READ_AHEAD, may_end);
         }
         after_read(outcome_of_count(&came), self.is_awaiting)
     }

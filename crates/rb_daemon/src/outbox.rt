@@ -22,8 +22,8 @@ pub(crate) const LONG_ROOM: usize = 64 * FRAGMENT;
 /// Bytes that the core counts as given, from the first that the socket has not taken.
 #[derive(Drop)]
 pub(crate) struct Outbox {
-    /// All of its room: the bytes of `held[sent..end]` are on their way.
-    held: Vec<u8>,
+    /// All of its room: the bytes of `bytes[sent..end]` are on their way.
+    bytes: Vec<u8>,
     sent: usize,
     end: usize,
     /// Whether the last fragment that was taken over is the last of its reply.
@@ -33,26 +33,26 @@ pub(crate) struct Outbox {
 impl Model for Outbox {
     ghost Value = { List ℕ };
 
-    ghost view = { λ outbox. drop outbox.sent (take outbox.end outbox.held.items) };
+    ghost view = { λ outbox. drop outbox.sent (take outbox.end outbox.bytes.items) };
 
-    ghost invariant = { λ outbox. (outbox.sent ≤ outbox.end) × (outbox.end ≤ length outbox.held.items) };
+    ghost invariant = { λ outbox. (outbox.sent ≤ outbox.end) × (outbox.end ≤ length outbox.bytes.items) };
 }
 
 impl Outbox {
     ghost use Rattle.std.specs.Prelude.{◌≡◌, ◌==◌, [], IfOk, OnErr};
     ghost use Rattle.std.specs.Io.KnownBytes.{WriteAppends};
-    ghost use Rattle.rb_core.specs.AtOnce.{count_given};
-    ghost use Rattle.rb_daemon.specs.Recording.{exchange};
-    ghost use Rattle.rb_daemon.specs.Moves.{FillsOutbox, Recorded};
+    ghost use Rattle.rb_model.specs.Exchanges.{count_given};
+    ghost use Rattle.rb_daemon.specs.Recording.{exchange_events};
+    ghost use Rattle.rb_daemon.specs.Moves.{FillsOutbox, RecordsEvents};
 
     /// An empty one with this room. It is written to, so that its memory is the process's from here on.
     pub(crate) fn new(alloc: Global, room: usize) -> Result<Outbox, AllocError>
         ensures { IfOk result (λ outbox. outbox ≡ []) }
     {
-        let mut held = Vec::with_capacity(alloc, room)?;
-        held.resize(room, 0)?;
+        let mut bytes = Vec::with_capacity(alloc, room)?;
+        bytes.resize(room, 0)?;
         Ok(Outbox {
-            held,
+            bytes,
             sent: 0,
             end: 0,
             is_reply_over: true,
@@ -69,7 +69,7 @@ impl Outbox {
     /// Whether any fragment fits. Where one may not, nothing more is taken over until the socket has taken all, so
     /// that each fragment is taken over whole.
     pub(crate) fn has_room(&self) -> bool {
-        self.held.len() - self.end >= FRAGMENT
+        self.bytes.len() - self.end >= FRAGMENT
     }
 
     /// Whether the last fragment that was taken over is the last of its reply.
@@ -90,7 +90,7 @@ impl Outbox {
         ensures stays { self.new ≡ self.old }
         ensures other { other.new ≡ other.old }
     {
-        if self.is_empty() && other.is_empty() && self.held.len() < other.held.len() {
+        if self.is_empty() && other.is_empty() && self.bytes.len() < other.bytes.len() {
             mem::swap(self, other);
         }
     }
@@ -103,11 +103,11 @@ impl Outbox {
         piece: &[u8],
     ) -> Result<Exchanged, CoreFault>
         ensures acts { FillsOutbox id piece.now engine.old engine.new self.old self.new result }
-        ensures recorded { Recorded
-            (λ s now. exchange now id piece.now (count_given result)) engine.old engine.new }
+        ensures recorded { RecordsEvents
+            (λ s now. exchange_events now id piece.now (count_given result)) engine.old engine.new }
         ensures within { IfOk result (λ done. done.taken.count ≤ length piece.now) }
     {
-        let room = &mut self.held.as_mut_slice()[self.end..];
+        let room = &mut self.bytes.as_mut_slice()[self.end..];
         let done = engine.exchange(id, piece, room)?;
         self.end += done.given;
         Ok(done)
@@ -120,7 +120,7 @@ impl Outbox {
         ensures left { IfOk result (λ n. self.new ≡ drop n self.old) }
         ensures kept { OnErr result (self.new ≡ self.old) }
     {
-        let n = writer.write(&self.held.as_slice()[self.sent..self.end])?;
+        let n = writer.write(&self.bytes.as_slice()[self.sent..self.end])?;
         self.sent += n;
         if self.sent == self.end {
             self.clear();
@@ -138,9 +138,9 @@ impl Write for Outbox {
 
     fn write(&mut self, bytes: &[u8]) -> io::Result<usize> {
         self.is_reply_over = matches!(bytes, [0x80..=0xff, ..]);
-        let count = bytes.len().min(self.held.len() - self.end);
+        let count = bytes.len().min(self.bytes.len() - self.end);
         let behind = self.end + count;
-        self.held.as_mut_slice()[self.end..behind].copy_from_slice(&bytes[..count]);
+        self.bytes.as_mut_slice()[self.end..behind].copy_from_slice(&bytes[..count]);
         self.end = behind;
         Ok(count)
     }

@@ -2,18 +2,17 @@
 ghost use Rattle.std.specs.Prelude.{◌≡◌, ◌≤◌, length, vec_len, IfOk};
 
 use crate::engine::{Due, Engine};
-use crate::faults::{DaemonFault, Step};
+use crate::faults::DaemonFault;
 use crate::link::{Link, Progress, Turn};
 use crate::outbox::{LONG_ROOM, Outbox};
-use crate::sockets::{Shown, Sockets};
-use crate::stream::Stream;
 use mio::event::Event;
 use mio::{Registry, Token};
-use rb_core::Peer;
 use rb_policy::{
-    Admission, Again, Holder, Next, Origin, Round, SOCKET_CALLS, accepts, admit, after_accept,
+    Admission, Again, Holder, Next, Origin, Round, SOCKET_CALLS, accept_count, admit, after_accept,
     after_all_receives, after_receive, asks_for_deadlines, origin_of, outcome_of, serves_another,
 };
+use rb_rpc::Peer;
+use rb_sockets::{Shown, Sockets, Step, Stream};
 use std::alloc::{AllocError, Global};
 use std::io;
 use std::io::Write;
@@ -44,11 +43,11 @@ pub(crate) struct Serving {
     /// The host that is announced: who comes from it is of this host.
     announced: [u8; 4],
     /// The long outbox, or that of the connection which has it.
-    spare: Outbox,
+    long_outbox: Outbox,
     datagram: Vec<u8>,
     turn: Turn,
     /// The last moment at whose end nothing was due any more.
-    settled: Option<u64>,
+    expired_at: Option<u64>,
     /// The moment by which each call that came over UDP and was forwarded has ended.
     awaited_until: u64,
     /// Whether connections are to be served though no event shows them.
@@ -88,13 +87,13 @@ impl Serving {
             holders,
             taken: 0,
             announced,
-            spare: Outbox::new(alloc, LONG_ROOM)?,
+            long_outbox: Outbox::new(alloc, LONG_ROOM)?,
             datagram,
             turn: Turn {
                 number: 0,
                 moment: 0,
             },
-            settled: None,
+            expired_at: None,
             awaited_until: 0,
             are_links_left: false,
             first_left: 0,
@@ -190,7 +189,7 @@ impl Serving {
         match link.serve(
             &mut self.engine,
             &self.sockets.forwards.socket,
-            &mut self.spare,
+            &mut self.long_outbox,
             self.turn,
             may_end,
         ) {
@@ -205,7 +204,7 @@ impl Serving {
         let Some(link) = self.links.get_mut(key) else {
             return;
         };
-        if let Some(id) = link.close(&mut self.spare) {
+        if let Some(id) = link.close(&mut self.long_outbox) {
             self.engine.closed(id);
             self.taken = self.taken.saturating_sub(1);
         }
@@ -324,10 +323,10 @@ impl Serving {
 
     /// Ends what is due.
     pub(crate) fn expire(&mut self) {
-        if !asks_for_deadlines(self.settled, self.turn.moment) {
+        if !asks_for_deadlines(self.expired_at, self.turn.moment) {
             return;
         }
-        self.settled = Some(self.turn.moment);
+        self.expired_at = Some(self.turn.moment);
         self.close_stuck();
         for _ in 0..THINGS_DUE {
             match self.engine.expire(&self.sockets.calls) {
@@ -368,7 +367,7 @@ impl Serving {
     /// Accepts connections on each listener, beginning with another one in each turn, until they are as many as a
     /// turn accepts.
     pub(crate) fn accept_all(&mut self, registry: &Registry) -> Result<(), DaemonFault> {
-        let mut left = accepts(self.free(), self.links.len());
+        let mut left = accept_count(self.free(), self.links.len());
         for i in 0..self.sockets.listeners.len() {
             let which = self.sockets.nth_listener(self.turn.number, i);
             let is_ready = self

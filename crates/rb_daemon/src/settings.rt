@@ -1,5 +1,6 @@
 //! What a daemon is started with.
-use rb_core::Limits;
+use rb_model::Limits;
+use rb_sockets::{Addresses, LocalSocket};
 use std::net::Ipv4Addr;
 
 /// What a daemon is started with.
@@ -22,11 +23,14 @@ pub struct Settings<'a> {
     pub record: usize,
 }
 
-/// A stream socket in the file system.
-#[derive(Clone, Copy, Debug, PartialEq, Eq)]
-pub struct LocalSocket<'a> {
-    /// At most 107 bytes.
-    pub path: &'a str,
-    /// The mode of its file: whoever may write to it may connect.
-    pub mode: u32,
+impl<'a> Settings<'a> {
+    /// Where it listens.
+    pub(crate) fn addresses(&self) -> Addresses<'a> {
+        Addresses {
+            hosts: self.hosts,
+            loopback6: self.loopback6,
+            local: self.local,
+            port: self.port,
+        }
+    }
 }

@@ -2,17 +2,17 @@
 ghost use Rattle.std.specs.Prelude.{◌≡◌, [], ◌∷◌};
 ghost use Rattle.rb_model.specs.Step.Output.{Opened};
 ghost use Rattle.rb_model.specs.Step.{show_done};
-ghost use Rattle.rb_core.specs.AtOnce.{count_given};
-ghost use Rattle.rb_record.specs.Printing.{shown_of};
+ghost use Rattle.rb_model.specs.Exchanges.{count_given};
+ghost use Rattle.rb_record.specs.Printing.{shown_output};
 ghost use Rattle.rb_record.specs.Tapes.{Records};
-ghost use Rattle.rb_daemon.specs.Recording.{given_or, gift_entries, exchange_entries, taken_output, unsent_entry};
+ghost use Rattle.rb_daemon.specs.Recording.{output_or_refusal, gift_entries, exchange_entries, taken_output, unsent_entry};
 
 use rb_core::{CoreFault, Exchanged, Peer};
 use rb_record::{Happening, Shown, ShownCall, Tape};
 
 /// The number of a connection that was opened, or the refusal.
 pub(crate) fn show_opened<'a>(opened: Result<u64, CoreFault>) -> Shown<'a>
-    ensures { shown_of result ≡ given_or Opened opened }
+    ensures { shown_output result ≡ output_or_refusal Opened opened }
 {
     match opened {
         Ok(id) => Shown::Opened(id),
@@ -22,7 +22,7 @@ pub(crate) fn show_opened<'a>(opened: Result<u64, CoreFault>) -> Shown<'a>
 
 /// That a call was done, or the refusal.
 pub(crate) fn show_done<'a>(done: Result<(), CoreFault>) -> Shown<'a>
-    ensures { shown_of result ≡ given_or show_done done }
+    ensures { shown_output result ≡ output_or_refusal show_done done }
 {
     match done {
         Ok(()) => Shown::Done,
@@ -31,7 +31,7 @@ pub(crate) fn show_done<'a>(done: Result<(), CoreFault>) -> Shown<'a>
 }
 
 fn show_taken<'a>(done: &Result<Exchanged, CoreFault>) -> Shown<'a>
-    ensures { shown_of result ≡ taken_output done.now }
+    ensures { shown_output result ≡ taken_output done.now }
 {
     match done {
         Ok(exchanged) if exchanged.taken.closed => Shown::TookAndClosed(exchanged.taken.count),

@@ -1,6 +1,6 @@
 -- What a reader of calls makes of the bytes that it is fed.
 use Rattle.std.proofs.Common.{◌≡◌, ◌<◌, ◌≤◌, ◌+◌, ◌*◌, ◌%◌, ◌^◌, ℕ, true, false, List, [], ◌∷◌, ◌++◌, length, take, drop, get_or, refl, sym, ap, subst, ◌∙◌, append_assoc, append-nil, arith, length-append}
-use Rattle.std.proofs.lemmas.List.{take_all, drop_all, take_more, take-append-drop}
+use Rattle.std.proofs.lemmas.List.{take_all, take_more, take-append-drop}
 use Rattle.std.proofs.lemmas.List.Concat.{flat_map-append}
 use Rattle.std.proofs.lemmas.List.Sums.{fold-append}
 use Rattle.rb_xdr.specs.Xdr.{AreBytes, AreNumbers, number, number_at, words}
@@ -177,12 +177,6 @@ pub record HasFed (first feed : CallFeed) (front : List ℕ) : Type 0 where
   pub stands : StandsForMore first front feed
   pub none : AreArguments first front []
 
-pub none_fed : (feed : CallFeed) → HasFed feed feed []
-none_fed feed = record {
-  stands = λ fed h. subst (λ (xs : List ℕ). StandsForCall feed xs) (sym (append-nil fed)) h;
-  none = λ fed h. ap arguments_of (append-nil fed) ∙ sym (append-nil (arguments_of fed));
-}
-
 one_more : (fed bytes : List ℕ) (n : ℕ) → n < length bytes → (fed ++ take n bytes) ++ get_or bytes n 0 ∷ [] ≡ fed ++ take (n + 1) bytes
 one_more fed bytes n within =
     append_assoc fed (take n bytes) (get_or bytes n 0 ∷ []) ∙ ap (λ (xs : List ℕ). fed ++ xs) (sym (take_more bytes n 0 within))
@@ -214,9 +208,3 @@ rest_fed first feed bytes n h call = record {
       ap arguments_of (sym (then_rest fed bytes n)) ∙ more_arguments feed (fed ++ take n bytes) (drop n bytes) (h.stands fed at) call
       ∙ ap (λ (xs : List ℕ). xs ++ drop n bytes) (h.none fed at ∙ append-nil (arguments_of fed));
 }
-
--- nothing is left
-pub all_fed : (first feed : CallFeed) (bytes : List ℕ) (n : ℕ) → HasFed first feed (take n bytes) → length bytes ≤ n → HasFedAll first feed bytes (drop n bytes)
-all_fed first feed bytes n h past =
-    let all : HasFed first feed bytes = subst (λ (xs : List ℕ). HasFed first feed xs) (take_all n bytes past) h in
-    record { stands = all.stands; arguments_are = rw (drop_all n bytes past) all.none }

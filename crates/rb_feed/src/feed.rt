@@ -31,7 +31,7 @@ impl CallFeed {
     ghost use Rattle.rb_feed.specs.Stages.{verdict_at, is_call};
     ghost use Rattle.rb_feed.specs.Feeds.{StandsForCall};
     ghost use Rattle.rb_feed.specs.Laws.{StandsForMore, AreArguments, max_head};
-    ghost use Rattle.rb_feed.specs.Saved.{loaded};
+    ghost use Rattle.rb_feed.specs.Saved.{feed_saved_as};
 
     /// Before the first byte.
     pub fn new() -> CallFeed
@@ -99,9 +99,9 @@ impl CallFeed {
 
     /// The feed as sixteen words, from which `load` makes the same feed again.
     pub fn save(&self) -> [u32; 16]
-        ensures same { loaded result ≡ self.now }
+        ensures same { feed_saved_as result ≡ self.now }
         ensures stands { (fed : List ℕ) → StandsForCall self.now fed
-            → StandsForCall (loaded result) fed }
+            → StandsForCall (feed_saved_as result) fed }
     {
         let CallFeed {
             seen,
@@ -117,9 +117,9 @@ impl CallFeed {
 
     /// The feed for which `save` gave these words. Words that `save` never gave make some feed, and it is not said
     /// which.
-    #[tactic(auto, unfolding(crate::specs::Saved::loaded))]
+    #[tactic(auto, unfolding(crate::specs::Saved::feed_saved_as))]
     pub fn load(words: [u32; 16]) -> CallFeed
-        ensures { result ≡ loaded words }
+        ensures { result ≡ feed_saved_as words }
     {
         CallFeed {
             seen: (words[0] % 256) as u8,

@@ -5,8 +5,8 @@ use Rattle.std.specs.List.{cons_option, sum_by}
 use Rattle.std.specs.Option.{option_map}
 use Rattle.std.proofs.lemmas.List.Sums.{sum_by-cons, sum_by_push}
 use Rattle.rb_forward.specs.declared.types.Forward.{Forward}
-use Rattle.rb_forward.specs.Forwards.{Entry, Forwards, can_start, started, next_entry, sent, as_sent, is_unsent, without_first, change_first, reply, due, drop_caller, counts_for, is_due, is_of_connection}
-use Rattle.rb_forward.specs.Laws.{Event, after, begun, ending, number_of, times, run, AreRising}
+use Rattle.rb_forward.specs.Forwards.{Entry, Forwards, can_start, with_next_entry, next_entry, sent, as_sent, is_unsent, without_first, change_first, reply, due, drop_caller, counts_for, is_due, is_of_connection}
+use Rattle.rb_forward.specs.Laws.{Event, after, number_begun, entry_ended, number_of, times, run, AreRising}
 use Rattle.rb_forward.specs.Laws.Event.{Start, Sent, Reply, Due, DropCaller}
 use Rattle.rb_forward.proofs.Tables.{all_stay, sum-without}
 
@@ -34,8 +34,8 @@ times-one number n = let one = sum_by-cons (is_one number) n [] in omega (arith,
 
 -- an entry that begins
 pushed : (number : ℕ) (f : Forwards) (clock : ℕ) (forward : Forward) (args : List ℕ)
-    → present number (started clock forward args f) ≡ present number f + is_one number f.next
-unfolding started next_entry
+    → present number (with_next_entry clock forward args f) ≡ present number f + is_one number f.next
+unfolding with_next_entry next_entry
 pushed number f clock forward args = sum_by_push (one_of number) f.all (next_entry clock forward args f)
 
 -- an entry that is sent
@@ -64,12 +64,12 @@ gone number test all (Some e) h =
 
 -- what begins and was there is what ends and is there
 step-counts : (cap first_xid : ℕ) (f : Forwards) (event : Event) (number : ℕ)
-    → present number (after cap first_xid f event) + times number (cons_option (option_map number_of (ending first_xid f event)) [])
-    ≡ present number f + times number (cons_option (begun cap f event) [])
+    → present number (after cap first_xid f event) + times number (cons_option (option_map number_of (entry_ended first_xid f event)) [])
+    ≡ present number f + times number (cons_option (number_begun cap f event) [])
 unfolding reply due drop_caller
 step-counts cap first_xid f (Start clock forward args) number = by_cases (can_start cap f)
   where
-    by_cases : (b : Bool) → present number (cond b (started clock forward args f) f) + times number [] ≡ present number f + times number (cons_option (cond b (Some f.next) None) [])
+    by_cases : (b : Bool) → present number (cond b (with_next_entry clock forward args f) f) + times number [] ≡ present number f + times number (cons_option (cond b (Some f.next) None) [])
     by_cases true =
         let more = pushed number f clock forward args in
         let one = times-one number f.next in
@@ -89,8 +89,8 @@ run-counts cap first_xid f (event ∷ events) number =
     let next = after cap first_xid f event in
     let rest = run-counts cap first_xid next events number in
     let here = step-counts cap first_xid f event number in
-    let b = times-option number (begun cap f event) (run cap first_xid next events).begun in
-    let e = times-option number (option_map number_of (ending first_xid f event)) (run cap first_xid next events).ended in
+    let b = times-option number (number_begun cap f event) (run cap first_xid next events).begun in
+    let e = times-option number (option_map number_of (entry_ended first_xid f event)) (run cap first_xid next events).ended in
     omega (arith, rest, here, b, e)
 
 -- ---- numbers
@@ -100,19 +100,19 @@ abbrev GivesNext : Option ℕ → ℕ → ℕ → Type 0
 GivesNext None old new = new ≡ old
 GivesNext (Some n) old new = (n ≡ old) × (new ≡ old + 1)
 
-next-started : (f : Forwards) (clock : ℕ) (forward : Forward) (args : List ℕ) → (started clock forward args f).next ≡ f.next + 1
-unfolding started
+next-started : (f : Forwards) (clock : ℕ) (forward : Forward) (args : List ℕ) → (with_next_entry clock forward args f).next ≡ f.next + 1
+unfolding with_next_entry
 next-started f clock forward args = refl
 
 next-sent : (id : ℕ) (f : Forwards) → (sent id f).next ≡ f.next
 unfolding sent
 next-sent id f = refl
 
-step-next : (cap first_xid : ℕ) (f : Forwards) (event : Event) → GivesNext (begun cap f event) f.next (after cap first_xid f event).next
+step-next : (cap first_xid : ℕ) (f : Forwards) (event : Event) → GivesNext (number_begun cap f event) f.next (after cap first_xid f event).next
 unfolding reply due drop_caller
 step-next cap first_xid f (Start clock forward args) = by_cases (can_start cap f)
   where
-    by_cases : (b : Bool) → GivesNext (cond b (Some f.next) None) f.next (cond b (started clock forward args f) f).next
+    by_cases : (b : Bool) → GivesNext (cond b (Some f.next) None) f.next (cond b (with_next_entry clock forward args f) f).next
     by_cases true = (refl, next-started f clock forward args)
     by_cases false = refl
 step-next cap first_xid f (Sent id) = next-sent id f
@@ -129,7 +129,7 @@ rising-option (Some n) old new end rest (is, e) later =
 pub run-rising : (cap first_xid : ℕ) (f : Forwards) (events : List Event) → AreRising f.next (run cap first_xid f events).begun (run cap first_xid f events).left.next
 run-rising cap first_xid f [] = omega arith
 run-rising cap first_xid f (event ∷ events) =
-    rising-option (begun cap f event) f.next (after cap first_xid f event).next _ _ (step-next cap first_xid f event) (run-rising cap first_xid (after cap first_xid f event) events)
+    rising-option (number_begun cap f event) f.next (after cap first_xid f event).next _ _ (step-next cap first_xid f event) (run-rising cap first_xid (after cap first_xid f event) events)
 
 -- ---- order
 
@@ -162,14 +162,14 @@ unfolding next_entry
 number-next f clock forward args = refl
 
 order-started : (f : Forwards) (clock : ℕ) (forward : Forward) (args : List ℕ) → InOrder f.all 1 f.next
-    → InOrder (started clock forward args f).all 1 (started clock forward args f).next
-unfolding started
+    → InOrder (with_next_entry clock forward args f).all 1 (with_next_entry clock forward args f).next
+unfolding with_next_entry
 order-started f clock forward args h = order-more f.all (next_entry clock forward args f) 1 f.next h (number-next f clock forward args)
 
 step-order : (cap first_xid : ℕ) (f : Forwards) (event : Event) → InOrder f.all 1 f.next → InOrder (after cap first_xid f event).all 1 (after cap first_xid f event).next
 unfolding reply due drop_caller sent
 step-order cap first_xid f (Start clock forward args) h =
-    elim (can_start cap f) as (λ b. InOrder (cond b (started clock forward args f) f).all 1 (cond b (started clock forward args f) f).next)
+    elim (can_start cap f) as (λ b. InOrder (cond b (with_next_entry clock forward args f) f).all 1 (cond b (with_next_entry clock forward args f) f).next)
     [ true ↦ order-started f clock forward args h | false ↦ h ]
 step-order cap first_xid f (Sent id) h = order-sent id f.all 1 f.next h
 step-order cap first_xid f (Reply clock from message) h = order-without (counts_for first_xid clock from message) f.all 1 f.next h

@@ -16,8 +16,8 @@ use Rattle.rb_forward.specs.declared.types.Outcome.{Outcome}
 use Rattle.rb_forward.specs.declared.entries.Slot.{Slot}
 use Rattle.rb_forward.specs.declared.entries.Wanted.{Wanted}
 use Rattle.rb_forward.specs.declared.entries.Wanted.TheVariants as wanted
-use Rattle.rb_forward.specs.Forwards.{Entry, Forwards, is_answered, is_unsent, as_sent, without_first, ended_by, with_end, reply, counts_for, outcome_of, xid_of, head_of, question, held_call, held, unsent, unsent_call, can_be_sent, sent, can_start, started, next_entry, later, patience, greatest_number}
-use Rattle.rb_forward.specs.Table.{emptied, is_wanted_slot, is_wanted, wanted_slot}
+use Rattle.rb_forward.specs.Forwards.{Entry, Forwards, is_answered, is_unsent, as_sent, without_first, ended_by, with_end, reply, counts_for, outcome_of, xid_of, head_of, question, held_call, held, unsent, unsent_call, can_be_sent, sent, can_start, with_next_entry, next_entry, later, patience, greatest_number}
+use Rattle.rb_forward.specs.Table.{without_call, is_wanted_slot, is_wanted, wanted_slot}
 use Rattle.rb_forward.specs.StandsFor.{StandsForEntry, held_in}
 use Rattle.rb_forward.proofs.Tables.{none_some, IsFirst, is_first, nothing_found, found_any, found_none, all_stay, Beside, found_beside, none_beside, without_beside, changed_beside, one_more_each, same_length, same_sum}
 use Rattle.std.proofs.lemmas.Map.Entries.{length-values_of}
@@ -110,7 +110,7 @@ unfolding can_be_sent
 sendable number f e h = found_any (is_unsent number) f.all e h
 
 -- the slot of a call that was sent
-stands_sent : (first_xid : ℕ) (slot : Slot) (e : Entry) → StandsForEntry first_xid slot e → StandsForEntry first_xid (emptied slot) (as_sent e)
+stands_sent : (first_xid : ℕ) (slot : Slot) (e : Entry) → StandsForEntry first_xid slot e → StandsForEntry first_xid (without_call slot) (as_sent e)
 unfolding held_call
 stands_sent first_xid slot e h = record { number = h.number; forward = h.forward; xid = h.xid; deadline = h.deadline; sent = refl; call = refl }
 
@@ -124,13 +124,13 @@ module _ (first_xid number : ℕ) (slots : List (ℕ × Slot)) (f : Forwards) (z
     unfolding is_wanted
     one_sent = let b = entry_found first_xid (wanted.Unsent number) slots f.all z k slot d h v in sendable number f b.value b.found
 
-    pub sent_stands : AllZip (StandsForEntry first_xid) (values_of (with_value slots k (emptied slot))) (sent number f).all
+    pub sent_stands : AllZip (StandsForEntry first_xid) (values_of (with_value slots k (without_call slot))) (sent number f).all
     unfolding sent is_wanted
     sent_stands =
         let first = first_wanted (wanted.Unsent number) slots k d h in
-        rw (first.changed (emptied slot))
+        rw (first.changed (without_call slot))
         (changed_beside (StandsForEntry first_xid) (is_wanted_slot (wanted.Unsent number)) (is_wanted first_xid (wanted.Unsent number)) (wanted_alike first_xid (wanted.Unsent number)) as_sent
-        (values_of slots) f.all slot (emptied slot) z (found_first (wanted.Unsent number) slots k slot d h v) (λ e r. stands_sent first_xid slot e r))
+        (values_of slots) f.all slot (without_call slot) z (found_first (wanted.Unsent number) slots k slot d h v) (λ e r. stands_sent first_xid slot e r))
 
 -- ---- what ends
 
@@ -229,12 +229,12 @@ stands_new first_xid given clock forward args f head call deadline next is due b
 }
 
 pub started_stands : (first_xid : ℕ) (slots : List Slot) (clock : ℕ) (forward : Forward) (args : List ℕ) (f : Forwards) (slot : Slot) → AllZip (StandsForEntry first_xid) slots f.all
-    → StandsForEntry first_xid slot (next_entry clock forward args f) → AllZip (StandsForEntry first_xid) (slots ++ slot ∷ []) (started clock forward args f).all
-unfolding started
+    → StandsForEntry first_xid slot (next_entry clock forward args f) → AllZip (StandsForEntry first_xid) (slots ++ slot ∷ []) (with_next_entry clock forward args f).all
+unfolding with_next_entry
 started_stands first_xid slots clock forward args f slot z h = one_more_each (StandsForEntry first_xid) slots f.all slot (next_entry clock forward args f) z h
 
-pub next_started : (clock : ℕ) (forward : Forward) (args : List ℕ) (f : Forwards) → (started clock forward args f).next ≡ f.next + 1
-unfolding started
+pub next_started : (clock : ℕ) (forward : Forward) (args : List ℕ) (f : Forwards) → (with_next_entry clock forward args f).next ≡ f.next + 1
+unfolding with_next_entry
 next_started clock forward args f = refl
 
 pub next_sent : (number : ℕ) (f : Forwards) → (sent number f).next ≡ f.next

@@ -8,8 +8,8 @@ use Rattle.std.proofs.lemmas.List.Elements.{All-push}
 use Rattle.rb_forward.specs.declared.entries.Slot.{Slot}
 use Rattle.rb_xdr.specs.Pool.{Pool}
 use Rattle.rb_xdr.specs.Kept.{Kept}
-use Rattle.rb_forward.specs.Table.{IsTable, IsBuffer, HasBuffer, IsSpare, wanted_slot, is_wanted_slot, IsNew, emptied}
-use Rattle.rb_forward.specs.Forwards.{longest_arguments}
+use Rattle.rb_forward.specs.Table.{IsTable, IsBuffer, HasBuffer, IsSpare, wanted_slot, is_wanted_slot, IsNew, without_call}
+use Rattle.rb_forward.specs.Forwards.{longest_forwarded}
 use Rattle.rb_forward.specs.StandsFor.{longest_call}
 use Rattle.std.specs.Prelude.{option_map, find}
 use Rattle.rb_xdr.specs.Pool.{HasDistinctKeys, value_at, without, with_value}
@@ -40,8 +40,8 @@ module _ (slots : Pool Slot) (spare : Pool Kept) (cap held : ℕ) (t : IsTable s
       turned : (a b : ℕ) → b * a ≡ a * b
       turned a b = omega arith
 
-  pub room_for_call : (count : ℕ) → length slots.entries < cap → count ≤ longest_arguments → held + (128 + 40 + count) < 2 ^ 64
-  unfolding longest_arguments
+  pub room_for_call : (count : ℕ) → length slots.entries < cap → count ≤ longest_forwarded → held + (128 + 40 + count) < 2 ^ 64
+  unfolding longest_forwarded
   room_for_call count room few =
       let h = held_few in
       omega (arith, h, room, few, t.few)
@@ -59,24 +59,24 @@ module _ (slots : Pool Slot) (spare : Pool Kept) (cap held : ℕ) (t : IsTable s
         omega (arith, sum, t.is_held)
 
     -- the slot's call was sent
-    pub table_sent : IsTable (record slots { entries = with_value slots.entries k (emptied slot) }) spare cap (held - length slot.call.bytes)
+    pub table_sent : IsTable (record slots { entries = with_value slots.entries k (without_call slot) }) spare cap (held - length slot.call.bytes)
     table_sent =
         let first = first_wanted sought slots.entries k t.distinct h in
-        let changed = first.changed (emptied slot) in
-        let sum = sum-changed (is_wanted_slot sought) (λ (s : Slot). 128 + length s.call.bytes) (values_of slots.entries) slot (emptied slot) found in
-        let buffer : IsBuffer slots.tie (emptied slot).call = record { tie = its_buffer.tie; cap = its_buffer.cap; within = omega arith } in
+        let changed = first.changed (without_call slot) in
+        let sum = sum-changed (is_wanted_slot sought) (λ (s : Slot). 128 + length s.call.bytes) (values_of slots.entries) slot (without_call slot) found in
+        let buffer : IsBuffer slots.tie (without_call slot).call = record { tie = its_buffer.tie; cap = its_buffer.cap; within = omega arith } in
         record {
-          distinct = distinct-with slots.entries k (emptied slot) t.distinct;
+          distinct = distinct-with slots.entries k (without_call slot) t.distinct;
           spare_distinct = t.spare_distinct;
           few = t.few;
-          room = rw (length-with slots.entries k (emptied slot)) t.room;
+          room = rw (length-with slots.entries k (without_call slot)) t.room;
           slots_cap = t.slots_cap;
           spare_cap = t.spare_cap;
           tie = t.tie;
-          buffers = All-with_value (HasBuffer slots.tie) slots.entries k (emptied slot) t.buffers buffer;
+          buffers = All-with_value (HasBuffer slots.tie) slots.entries k (without_call slot) t.buffers buffer;
           spare_buffers = t.spare_buffers;
           callers =
-              rw changed (callers-changed (is_wanted_slot sought) (emptied slot) (values_of slots.entries)
+              rw changed (callers-changed (is_wanted_slot sought) (without_call slot) (values_of slots.entries)
               (λ a is. ap (λ (s : Slot). s.forward) (some_is slot a (sym found ∙ is))) t.callers);
           is_held = rw changed (omega (arith, sum, fits_in_held, t.is_held));
         }

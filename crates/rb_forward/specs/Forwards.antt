@@ -38,8 +38,8 @@ no_forwards = record { next = 1; all = [] }
 -- ---- what a target is asked
 
 -- the most bytes of a call's arguments: the limit of args
-unfoldable pub longest_arguments : ℕ
-longest_arguments = 8800
+unfoldable pub longest_forwarded : ℕ
+longest_forwarded = 8800
 
 -- the xid of the entry of a number
 unfoldable pub xid_of : ℕ → ℕ → ℕ
@@ -60,19 +60,19 @@ unfoldable pub longest_results : ℕ
 longest_results = 8800
 
 -- What the reply says that has so many bytes behind its head, which ends at this place. A refusal of the call itself stands.
-abbrev pub said : ReplyStatus → ℕ → ℕ → Outcome
-said replies.Success place rest = if nat_le rest longest_results then Passed place else Failed
-said (replies.RpcMismatch low high) place rest = Failed
-said (replies.AuthError stat) place rest = Failed
-said replies.ProgUnavail place rest = Refused replies.ProgUnavail
-said (replies.ProgMismatch low high) place rest = Refused (replies.ProgMismatch low high)
-said replies.ProcUnavail place rest = Refused replies.ProcUnavail
-said replies.GarbageArgs place rest = Refused replies.GarbageArgs
-said replies.SystemErr place rest = Refused replies.SystemErr
+abbrev pub outcome_said : ReplyStatus → ℕ → ℕ → Outcome
+outcome_said replies.Success place rest = if nat_le rest longest_results then Passed place else Failed
+outcome_said (replies.RpcMismatch low high) place rest = Failed
+outcome_said (replies.AuthError stat) place rest = Failed
+outcome_said replies.ProgUnavail place rest = Refused replies.ProgUnavail
+outcome_said (replies.ProgMismatch low high) place rest = Refused (replies.ProgMismatch low high)
+outcome_said replies.ProcUnavail place rest = Refused replies.ProcUnavail
+outcome_said replies.GarbageArgs place rest = Refused replies.GarbageArgs
+outcome_said replies.SystemErr place rest = Refused replies.SystemErr
 
 abbrev pub outcome_read : ℕ → Option (ReplyHead × ℕ) → Outcome
 outcome_read count None = Failed
-outcome_read count (Some (head, place)) = said head.status place (count - place)
+outcome_read count (Some (head, place)) = outcome_said head.status place (count - place)
 
 unfoldable pub outcome_of : List ℕ → Outcome
 outcome_of message = outcome_read (length message) (read_reply message)
@@ -151,8 +151,8 @@ unfoldable pub next_entry : ℕ → Forward → List ℕ → Forwards → Entry
 next_entry clock forward args f =
     record { number = f.next; forward = forward; args = args; deadline = later clock patience; sent = false }
 
-unfoldable pub started : ℕ → Forward → List ℕ → Forwards → Forwards
-started clock forward args f = record { next = f.next + 1; all = f.all ++ next_entry clock forward args f ∷ [] }
+unfoldable pub with_next_entry : ℕ → Forward → List ℕ → Forwards → Forwards
+with_next_entry clock forward args f = record { next = f.next + 1; all = f.all ++ next_entry clock forward args f ∷ [] }
 
 -- ---- how it is sent
 

@@ -5,7 +5,7 @@ use Rattle.std.specs.Option.{option_map}
 use Rattle.rb_rpc.specs.declared.peer.Peer.{Peer}
 use Rattle.rb_forward.specs.declared.types.Forward.{Forward}
 use Rattle.rb_forward.specs.declared.types.Outcome.TheVariants.{Failed, Dropped}
-use Rattle.rb_forward.specs.Forwards.{Entry, Forwards, no_forwards, can_start, started, sent, counts_for, is_due, is_of_connection, outcome_of, ended_by, reply, due, drop_caller}
+use Rattle.rb_forward.specs.Forwards.{Entry, Forwards, no_forwards, can_start, with_next_entry, sent, counts_for, is_due, is_of_connection, outcome_of, ended_by, reply, due, drop_caller}
 
 -- what may happen to a table of forwarded calls: the calls that change it
 pub data Event : Type 0 where
@@ -16,7 +16,7 @@ pub data Event : Type 0 where
   DropCaller : ℕ → Event
 
 abbrev pub after : ℕ → ℕ → Forwards → Event → Forwards
-after cap first_xid f (Start clock forward args) = if can_start cap f then started clock forward args f else f
+after cap first_xid f (Start clock forward args) = if can_start cap f then with_next_entry clock forward args f else f
 after cap first_xid f (Sent number) = sent number f
 after cap first_xid f (Reply clock from message) = (reply first_xid clock from message f).1
 after cap first_xid f (Due clock) = (due clock f).1
@@ -26,26 +26,26 @@ abbrev pub number_of : Entry → ℕ
 number_of e = e.number
 
 -- the number of the entry that begins
-abbrev pub begun : ℕ → Forwards → Event → Option ℕ
-begun cap f (Start clock forward args) = if can_start cap f then Some f.next else None
-begun cap f (Sent number) = None
-begun cap f (Reply clock from message) = None
-begun cap f (Due clock) = None
-begun cap f (DropCaller id) = None
+abbrev pub number_begun : ℕ → Forwards → Event → Option ℕ
+number_begun cap f (Start clock forward args) = if can_start cap f then Some f.next else None
+number_begun cap f (Sent number) = None
+number_begun cap f (Reply clock from message) = None
+number_begun cap f (Due clock) = None
+number_begun cap f (DropCaller id) = None
 
 -- the entry that ends
-abbrev pub ending : ℕ → Forwards → Event → Option Entry
-ending first_xid f (Start clock forward args) = None
-ending first_xid f (Sent number) = None
-ending first_xid f (Reply clock from message) = find (counts_for first_xid clock from message) f.all
-ending first_xid f (Due clock) = find (is_due clock) f.all
-ending first_xid f (DropCaller id) = find (is_of_connection id) f.all
+abbrev pub entry_ended : ℕ → Forwards → Event → Option Entry
+entry_ended first_xid f (Start clock forward args) = None
+entry_ended first_xid f (Sent number) = None
+entry_ended first_xid f (Reply clock from message) = find (counts_for first_xid clock from message) f.all
+entry_ended first_xid f (Due clock) = find (is_due clock) f.all
+entry_ended first_xid f (DropCaller id) = find (is_of_connection id) f.all
 
 -- what each call tells is the end of that entry
 pub record TellsTheEnd (first_xid : ℕ) (f : Forwards) : Type 0 where
-  pub replied : (clock : ℕ) (from : Peer) (message : List ℕ) → (reply first_xid clock from message f).0 ≡ option_map (ended_by (outcome_of message)) (ending first_xid f (Reply clock from message))
-  pub was_due : (clock : ℕ) → (due clock f).0 ≡ option_map (ended_by Failed) (ending first_xid f (Due clock))
-  pub dropped : (id : ℕ) → (drop_caller id f).0 ≡ option_map (ended_by Dropped) (ending first_xid f (DropCaller id))
+  pub replied : (clock : ℕ) (from : Peer) (message : List ℕ) → (reply first_xid clock from message f).0 ≡ option_map (ended_by (outcome_of message)) (entry_ended first_xid f (Reply clock from message))
+  pub was_due : (clock : ℕ) → (due clock f).0 ≡ option_map (ended_by Failed) (entry_ended first_xid f (Due clock))
+  pub dropped : (id : ℕ) → (drop_caller id f).0 ≡ option_map (ended_by Dropped) (entry_ended first_xid f (DropCaller id))
 
 -- ---- runs
 
@@ -60,8 +60,8 @@ run cap first_xid f [] = record { begun = []; ended = []; left = f }
 run cap first_xid f (event ∷ events) =
     let later = run cap first_xid (after cap first_xid f event) events in
     record {
-      begun = cons_option (begun cap f event) later.begun;
-      ended = cons_option (option_map number_of (ending first_xid f event)) later.ended;
+      begun = cons_option (number_begun cap f event) later.begun;
+      ended = cons_option (option_map number_of (entry_ended first_xid f event)) later.ended;
       left = later.left;
     }
 

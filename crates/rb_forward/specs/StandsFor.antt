@@ -3,11 +3,11 @@ use Rattle.std.specs.Prelude.{◌≡◌, ℕ, ◌+◌, List, length}
 use Rattle.std.specs.List.{AllZip, sum_by}
 use Rattle.std.specs.Map.{values_of}
 use Rattle.rb_forward.specs.declared.entries.Slot.{Slot}
-use Rattle.rb_forward.specs.Forwards.{Entry, Forwards, xid_of, held_call, longest_arguments}
+use Rattle.rb_forward.specs.Forwards.{Entry, Forwards, xid_of, held_call, longest_forwarded}
 
 -- the longest unsent call: a head of 40 bytes and the arguments
 abbrev pub longest_call : ℕ
-longest_call = 40 + longest_arguments
+longest_call = 40 + longest_forwarded
 
 pub record StandsForEntry (first_xid : ℕ) (slot : Slot) (e : Entry) : Type 0 where
   pub number : slot.number ≡ e.number
@@ -19,18 +19,18 @@ pub record StandsForEntry (first_xid : ℕ) (slot : Slot) (e : Entry) : Type 0 w
 
 -- ---- the table
 
--- the slots of entries with their keys, in the order of their calls, how many numbers were given, the xid of the first
+-- the slots of entries with their keys, in the order of their calls, the last number that was given, the xid of the first
 -- entry, how many entries there may be, and the number of the meter that counts the calls
 pub record Table : Type 0 where
   pub slots : List (ℕ × Slot)
-  pub given : ℕ
+  pub last_number : ℕ
   pub first_xid : ℕ
   pub cap : ℕ
   pub tie : ℕ
 
 pub record StandsForForwards (table : Table) (f : Forwards) : Type 0 where
   pub all : AllZip (StandsForEntry table.first_xid) (values_of table.slots) f.all
-  pub next : f.next ≡ table.given + 1
+  pub next : f.next ≡ table.last_number + 1
 
 abbrev pub slots_of : Table → List Slot
 slots_of table = values_of table.slots

@@ -34,8 +34,8 @@ abbrev pub LeftBy : {A : Type 0} → (Forwards → A × Forwards) → Table → 
 LeftBy act old new = Becomes old new (λ f. (act f).1)
 
 -- a slot whose call was sent
-abbrev pub emptied : Slot → Slot
-emptied slot = record slot { sent = true; call = record slot.call { bytes = [] } }
+abbrev pub without_call : Slot → Slot
+without_call slot = record slot { sent = true; call = record slot.call { bytes = [] } }
 
 -- ---- what is looked for
 
@@ -65,9 +65,9 @@ wanted_slot sought slots = find (λ (e : ℕ × Slot). is_wanted_slot sought e.1
 -- ---- what is lent
 
 -- without where its bytes lie in memory
-abbrev pub seen : Option Lent → Option Unsent
-seen None = None
-seen (Some lent) = Some (record { number = lent.id.number; target = lent.target; call = lent.call.now })
+abbrev pub plain_unsent : Option Lent → Option Unsent
+plain_unsent None = None
+plain_unsent (Some lent) = Some (record { number = lent.id.number; target = lent.target; call = lent.call.now })
 
 -- how many bytes are lent
 abbrev pub count_lent : Option Lent → ℕ

@@ -10,7 +10,7 @@ use Rattle.rb_forward.specs.declared.types.Kind.TheVariants.{Indirect}
 use Rattle.rb_forward.specs.declared.types.Ended.{Ended}
 use Rattle.rb_forward.specs.declared.types.Outcome.{Outcome}
 use Rattle.rb_forward.specs.declared.types.Outcome.TheVariants.{Passed, Refused, Failed, Dropped}
-use Rattle.rb_forward.specs.Forwards.{Forwards, no_forwards, can_start, started, can_be_sent, sent, unsent, reply, due, drop_caller, xid_of, held}
+use Rattle.rb_forward.specs.Forwards.{Forwards, no_forwards, can_start, with_next_entry, can_be_sent, sent, unsent, reply, due, drop_caller, xid_of, held}
 
 abbrev pub at_host : List ℕ → ℕ → Peer
 at_host host port = record { host = host; port = port }
@@ -38,11 +38,11 @@ abbrev pub by_datagram : Caller
 by_datagram = Udp (at_host loopback 900)
 
 -- it comes at moment 1000, without arguments, and is sent
-abbrev pub asked : Caller → Forwards
-asked caller = started 1000 (indirect caller) [] no_forwards
+abbrev pub one_unsent : Caller → Forwards
+one_unsent caller = with_next_entry 1000 (indirect caller) [] no_forwards
 
-abbrev pub waiting : Forwards
-waiting = sent 1 (asked by_datagram)
+abbrev pub one_sent : Forwards
+one_sent = sent 1 (one_unsent by_datagram)
 
 abbrev pub none_left : Forwards
 none_left = record { next = 2; all = [] }
@@ -60,16 +60,16 @@ Stays f given = given ≡ (None, f)
 
 -- the datagram comes from the target at moment 2000
 abbrev pub said_by_target : List ℕ → Option Ended × Forwards
-said_by_target message = reply 1000 2000 target message waiting
+said_by_target message = reply 1000 2000 target message one_sent
 
 -- ---- the call
 
 abbrev pub IsAsked : Type 0
-IsAsked = unsent 1000 (asked by_datagram)
+IsAsked = unsent 1000 (one_unsent by_datagram)
     ≡ Some (record { number = 1; target = target; call = words (0x3e8 ∷ 0 ∷ 2 ∷ 0x30d41 ∷ 1 ∷ 0 ∷ 0 ∷ 0 ∷ 0 ∷ 0 ∷ []) })
 
 abbrev pub ArgumentsFollow : Type 0
-ArgumentsFollow = unsent 1000 (started 1000 (indirect by_datagram) (replicate 8800 7) no_forwards)
+ArgumentsFollow = unsent 1000 (with_next_entry 1000 (indirect by_datagram) (replicate 8800 7) no_forwards)
     ≡ Some (record {
       number = 1;
       target = target;
@@ -78,8 +78,8 @@ ArgumentsFollow = unsent 1000 (started 1000 (indirect by_datagram) (replicate 88
 
 -- it is sent once, and then lent no more
 abbrev pub SentOnce : Type 0
-SentOnce = (can_be_sent 1 (asked by_datagram) ≡ true) × (can_be_sent 2 (asked by_datagram) ≡ false)
-    × (can_be_sent 1 waiting ≡ false) × (unsent 1000 waiting ≡ None)
+SentOnce = (can_be_sent 1 (one_unsent by_datagram) ≡ true) × (can_be_sent 2 (one_unsent by_datagram) ≡ false)
+    × (can_be_sent 1 one_sent ≡ false) × (unsent 1000 one_sent ≡ None)
 
 -- the xid behind the greatest is 0
 abbrev pub XidsWrap : Type 0
@@ -87,7 +87,7 @@ XidsWrap = (xid_of (2 ^ 32 - 1) 1 ≡ 2 ^ 32 - 1) × (xid_of (2 ^ 32 - 1) 2 ≡ 
 
 -- one entry takes the only place
 abbrev pub OnePlace : Type 0
-OnePlace = (can_start 1 no_forwards ≡ true) × (can_start 1 waiting ≡ false) × (can_start 1 none_left ≡ true)
+OnePlace = (can_start 1 no_forwards ≡ true) × (can_start 1 one_sent ≡ false) × (can_start 1 none_left ≡ true)
 
 -- no number is left
 abbrev pub NumbersAreSpent : Type 0
@@ -96,30 +96,30 @@ NumbersAreSpent = can_start 1 (record { next = 2 ^ 64; all = [] }) ≡ false
 -- ---- what does not count
 
 abbrev pub OtherHost : Type 0
-OtherHost = Stays waiting (reply 1000 2000 (at_host (10 ∷ 0 ∷ 0 ∷ 9 ∷ []) 2049) (success 1000) waiting)
+OtherHost = Stays one_sent (reply 1000 2000 (at_host (10 ∷ 0 ∷ 0 ∷ 9 ∷ []) 2049) (success 1000) one_sent)
 
 abbrev pub OtherPort : Type 0
-OtherPort = Stays waiting (reply 1000 2000 (at_host loopback 2050) (success 1000) waiting)
+OtherPort = Stays one_sent (reply 1000 2000 (at_host loopback 2050) (success 1000) one_sent)
 
 abbrev pub OtherXid : Type 0
-OtherXid = Stays waiting (said_by_target (success 1001))
+OtherXid = Stays one_sent (said_by_target (success 1001))
 
 abbrev pub ThreeBytes : Type 0
-ThreeBytes = Stays waiting (said_by_target (take 3 (success 1000)))
+ThreeBytes = Stays one_sent (said_by_target (take 3 (success 1000)))
 
 abbrev pub BeforeItIsSent : Type 0
-BeforeItIsSent = Stays (asked by_datagram) (reply 1000 2000 target (success 1000) (asked by_datagram))
+BeforeItIsSent = Stays (one_unsent by_datagram) (reply 1000 2000 target (success 1000) (one_unsent by_datagram))
 
 abbrev pub AtTheDeadline : Type 0
-AtTheDeadline = Stays waiting (reply 1000 6000 target (success 1000) waiting)
+AtTheDeadline = Stays one_sent (reply 1000 6000 target (success 1000) one_sent)
 
 -- ---- how it ends
 
 abbrev pub InTime : Type 0
-InTime = Ends (Passed 24) (reply 1000 5999 target (success 1000) waiting)
+InTime = Ends (Passed 24) (reply 1000 5999 target (success 1000) one_sent)
 
 abbrev pub EndsAtTheDeadline : Type 0
-EndsAtTheDeadline = Stays waiting (due 5999 waiting) × Ends Failed (due 6000 waiting) × Stays none_left (due 6000 none_left)
+EndsAtTheDeadline = Stays one_sent (due 5999 one_sent) × Ends Failed (due 6000 one_sent) × Stays none_left (due 6000 none_left)
 
 abbrev pub TargetRefuses : Type 0
 TargetRefuses = Ends (Refused (replies.ProgMismatch 3 4)) (said_by_target (words (0x3e8 ∷ 1 ∷ 0 ∷ 0 ∷ 0 ∷ 2 ∷ 3 ∷ 4 ∷ [])))
@@ -140,9 +140,9 @@ LongerResultsFail = Ends Failed (said_by_target (success 1000 ++ replicate 8804 
 abbrev pub CallerGoesAway : Type 0
 CallerGoesAway =
     let caller = Tcp 3 (at_host loopback 900) in
-    Stays (asked caller) (drop_caller 4 (asked caller))
-    × (drop_caller 3 (asked caller) ≡ (Some (record { forward = indirect caller; outcome = Dropped }), none_left))
+    Stays (one_unsent caller) (drop_caller 4 (one_unsent caller))
+    × (drop_caller 3 (one_unsent caller) ≡ (Some (record { forward = indirect caller; outcome = Dropped }), none_left))
 
 -- an unsent call counts with its bytes, a sent one without
 abbrev pub WhatIsHeld : Type 0
-WhatIsHeld = (held 1000 (asked by_datagram) ≡ 168) × (held 1000 waiting ≡ 128) × (held 1000 none_left ≡ 0)
+WhatIsHeld = (held 1000 (one_unsent by_datagram) ≡ 168) × (held 1000 one_sent ≡ 128) × (held 1000 none_left ≡ 0)

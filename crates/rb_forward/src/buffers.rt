@@ -6,7 +6,7 @@ ghost use Rattle.rb_xdr.specs.Pool.{HasDistinctKeys};
 ghost use Rattle.rb_rpc.specs.CallBytes.{call_bytes};
 ghost use Rattle.rb_rpc.specs.declared.call.Credential.TheVariants as credentials;
 ghost use Rattle.rb_forward.specs.Table.{IsBuffer, IsSpare};
-ghost use Rattle.rb_forward.specs.Forwards.{longest_arguments};
+ghost use Rattle.rb_forward.specs.Forwards.{longest_forwarded};
 ghost use Rattle.rb_forward.specs.StandsFor.{longest_call};
 
 use rb_rpc::{CallHead, put_call};
@@ -14,13 +14,13 @@ use rb_xdr::{Kept, Meter, NoMemory, Pool};
 use std::alloc::Global;
 
 /// The most bytes of the content of arguments that are forwarded: `args` of RFC 1833 sections 2.1 and 3.1.
-pub const LONGEST_ARGUMENTS: usize = 8_800;
+pub const LONGEST_FORWARDED: usize = 8_800;
 
 /// A call's head with AUTH_NONE, in bytes.
 pub(crate) const HEAD: usize = 40;
 
 /// The longest forwarded call, in bytes: its head and the content of its arguments.
-pub const LONGEST_CALL: usize = HEAD + LONGEST_ARGUMENTS;
+pub const LONGEST_CALL: usize = HEAD + LONGEST_FORWARDED;
 
 /// Takes the first spare buffer out. It is empty.
 pub(crate) fn take_buffer(spare: &mut Pool<Kept>, meter: &mut Meter) -> Kept
@@ -66,7 +66,7 @@ pub(crate) fn put_buffer(spare: &mut Pool<Kept>, mut buffer: Kept, meter: &mut M
 }
 
 /// As many buffers as there may be entries.
-#[tactic(auto, unfolding(crate::specs::Forwards::longest_arguments))]
+#[tactic(auto, unfolding(crate::specs::Forwards::longest_forwarded))]
 pub(crate) fn make_spare(
     alloc: Global,
     cap: usize,
@@ -94,7 +94,7 @@ pub(crate) fn write_call(buffer: &mut Kept, head: &CallHead, args: &[u8], meter:
     requires spare { buffer.old.bytes ≡ [] }
     requires cap { buffer.old.cap ≡ longest_call }
     requires head { head.now.cred ≡ credentials.None }
-    requires args { length args.now ≤ longest_arguments }
+    requires args { length args.now ≤ longest_forwarded }
     ensures written { buffer.new
         ≡ record buffer.old { bytes = call_bytes head.now ++ args.now } }
     ensures count { length buffer.new.bytes ≡ 40 + length args.now }

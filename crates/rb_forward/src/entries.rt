@@ -108,13 +108,13 @@ impl Slot {
 }
 
 impl Slot {
-    ghost use Rattle.rb_forward.specs.Table.{emptied};
+    ghost use Rattle.rb_forward.specs.Table.{without_call};
 
     /// Notes that the call was sent, and empties its buffer, which had so many bytes.
     pub(crate) fn empty(&mut self, meter: &mut Meter) -> usize
         requires { meter.old.tie ≡ self.old.call.tie }
         ensures count { result ≡ length self.old.call.bytes }
-        ensures sent { self.new ≡ emptied self.old }
+        ensures sent { self.new ≡ without_call self.old }
         ensures cost { PaysAtMost meter.old meter.new 2 }
     {
         let count = self.call.len(meter);

@@ -23,7 +23,7 @@ const PATIENCE: u64 = 5000;
 pub struct Forwards {
     slots: Pool<Slot>,
     spare: Pool<Kept>,
-    given: u64,
+    last_number: u64,
     first_xid: u32,
     cap: u32,
     held: u64,
@@ -35,23 +35,23 @@ fn layout(forwards: &Forwards) {
     let Forwards {
         slots,
         spare,
-        given,
+        last_number,
         first_xid,
         cap,
         held,
     } = forwards;
     let _: &Pool<Slot> = slots;
     let _: &Pool<Kept> = spare;
-    let _: (u64, u32, u32, u64) = (*given, *first_xid, *cap, *held);
+    let _: (u64, u32, u32, u64) = (*last_number, *first_xid, *cap, *held);
 }
 
 /// The head of the call behind so many.
 #[tactic(auto, unfolding(crate::specs::Forwards::xid_of), using(crate::proofs::Xids::xids))]
-fn head_of(first_xid: u32, given: u64, forward: &Forward) -> CallHead
-    ensures { result ≡ head_of first_xid (given + 1) forward.now }
+fn head_of(first_xid: u32, last_number: u64, forward: &Forward) -> CallHead
+    ensures { result ≡ head_of first_xid (last_number + 1) forward.now }
 {
     CallHead {
-        xid: first_xid.wrapping_add((given % (1 << 32)) as u32),
+        xid: first_xid.wrapping_add((last_number % (1 << 32)) as u32),
         prog: forward.prog,
         vers: forward.vers,
         proc: forward.proc,
@@ -67,7 +67,7 @@ impl Model for Forwards {
 
     ghost view = { λ f. record {
       slots = f.slots.entries;
-      given = f.given;
+      last_number = f.last_number;
       first_xid = f.first_xid;
       cap = f.cap;
       tie = f.slots.tie;
@@ -81,10 +81,10 @@ impl Forwards {
     ghost use Rattle.std.specs.Map.{values_of};
     ghost use Rattle.rb_xdr.specs.Meter.{PaysAtMost};
     ghost use Rattle.rb_forward.specs.Costs.{start_cost, end_cost, sent_cost, unsent_cost};
-    ghost use Rattle.rb_forward.specs.Forwards.{no_forwards, reply, due, drop_caller, can_start, started, can_be_sent, sent, unsent, held, longest_arguments, without_first};
+    ghost use Rattle.rb_forward.specs.Forwards.{no_forwards, reply, due, drop_caller, can_start, with_next_entry, can_be_sent, sent, unsent, held, longest_forwarded, without_first};
     ghost use Rattle.rb_forward.specs.Outcomes.{PassesWithin};
     ghost use Rattle.rb_forward.specs.StandsFor.{StandsForForwards, slots_of, longest_call, held_in};
-    ghost use Rattle.rb_forward.specs.Table.{Whatever, Becomes, GivenBy, LeftBy, end_of, IsNew, NoneWaitsAnew, OnlyWaitsAnew, is_waiting, AreOfDistinctCallers, is_wanted_slot, seen, count_lent};
+    ghost use Rattle.rb_forward.specs.Table.{Whatever, Becomes, GivenBy, LeftBy, end_of, IsNew, NoneWaitsAnew, OnlyWaitsAnew, is_waiting, AreOfDistinctCallers, is_wanted_slot, plain_unsent, count_lent};
 
     /// An empty table for at most `cap` entries; the first one will have the xid `first_xid`. It takes the memory for
     /// all of them, or answers `NoMemory` where an allocation is refused.
@@ -105,7 +105,7 @@ impl Forwards {
         Ok(Forwards {
             slots: Pool::written(alloc, cap as usize, || Slot::blank(alloc), meter)?,
             spare,
-            given: 0,
+            last_number: 0,
             first_xid,
             cap,
             held: 0,
@@ -125,12 +125,12 @@ impl Forwards {
         meter: &mut Meter,
     ) -> Result<FwdId, Full>
         requires tie { meter.old.tie ≡ self.old.tie }
-        requires args { length args.now ≤ longest_arguments }
+        requires args { length args.now ≤ longest_forwarded }
         requires caller { IsNew forward.now.caller (slots_of self.old) }
         ensures room { Whatever self.old (λ f. IsOk result ↔ IsTrue (can_start self.old.cap f)) }
         ensures number { Whatever self.old (λ f. IfOk result (λ id. id.number ≡ f.next)) }
         ensures ok { OnOk result
-            (Becomes self.old self.new (started clock forward.now args.now)) }
+            (Becomes self.old self.new (with_next_entry clock forward.now args.now)) }
         ensures waiting { OnlyWaitsAnew forward.now.caller
             (slots_of self.old) (slots_of self.new) }
         ensures err { OnErr result (self.new ≡ self.old) }
@@ -142,16 +142,16 @@ impl Forwards {
         if self.slots.len(meter) >= self.cap as usize {
             return Err(Full { value: () });
         }
-        if self.given == u64::MAX {
+        if self.last_number == u64::MAX {
             return Err(Full { value: () });
         }
         let mut call = take_buffer(&mut self.spare, meter);
-        let head = head_of(self.first_xid, self.given, forward);
+        let head = head_of(self.first_xid, self.last_number, forward);
         write_call(&mut call, &head, args, meter);
-        self.given += 1;
+        self.last_number += 1;
         self.held += CHARGE + HEAD as u64 + args.len() as u64;
         let slot = Slot {
-            number: self.given,
+            number: self.last_number,
             forward: *forward,
             xid: head.xid,
             deadline: clock.saturating_add(PATIENCE),
@@ -159,13 +159,15 @@ impl Forwards {
             call,
         };
         put_slot(&mut self.slots, slot, meter);
-        Ok(FwdId { number: self.given })
+        Ok(FwdId {
+            number: self.last_number,
+        })
     }
 
     /// The unsent entry of least number, whether or not its deadline has come, or `None` where all were sent.
     pub fn unsent(&self, meter: &mut Meter) -> Option<Unsent<'_>>
         requires { meter.old.tie ≡ self.now.tie }
-        ensures unsent { Whatever self.now (λ f. seen result ≡ unsent self.now.first_xid f) }
+        ensures unsent { Whatever self.now (λ f. plain_unsent result ≡ unsent self.now.first_xid f) }
         ensures few { IfSome result (λ lent. length lent.call.now ≤ longest_call) }
         ensures cost { PaysAtMost meter.old meter.new
             (unsent_cost self.now.cap (count_lent result)) }

@@ -1,6 +1,7 @@
 //! Moments that are earlier than the last one: they count as the last one, and bring no deadline nearer or farther.
 use crate::cores::{LISTENER, limits_of};
-use rb_lines::{Beginning, run_replay};
+use rb_lines::Beginning;
+use rb_replay::run_replay;
 use std::alloc::{AllocError, Global};
 use std::io::BufWriter;
 use std::test::Fail;

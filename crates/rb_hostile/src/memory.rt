@@ -4,8 +4,9 @@
 ghost use Rattle.std.specs.Prelude.{◌≡◌};
 
 use crate::cores::{LOOPBACK, bytes_of, core_of, set_call};
-use rb_core::{Core, CoreFault, Event, NoMemory, Output, replay};
+use rb_core::{Core, CoreFault, NoMemory};
 use rb_lines::{ReadFault, read_events};
+use rb_replay::{Event, Output, replay};
 use rb_show::{Ask, Form, HeldBytes, InfoFault, Question, Shown, show_reply, write_call};
 use rb_xdr::Meter;
 use std::alloc::{AllocError, Global};

@@ -3,8 +3,9 @@
 ghost use Rattle.std.specs.Prelude.{◌≡◌};
 
 use crate::cores::{LOOPBACK, bytes_of, core_of, set_call};
-use rb_core::{Core, Event, NoMemory, Output, replay};
+use rb_core::{Core, NoMemory};
 use rb_lines::{ReadFault, read_events};
+use rb_replay::{Event, Output, replay};
 use rb_xdr::Meter;
 use std::alloc::{AllocError, Global};
 use std::test::Fail;

@@ -14,7 +14,7 @@ use Rattle.rb_forward.specs.Forwards.{Entry, Forwards, is_due as entry_is_due, e
 use Rattle.rb_forward.specs.Ends.{NoneIs, EndsFirst}
 use Rattle.rb_forward.proofs.Ends.{ends_first, due_means, due_tested}
 use Rattle.rb_proto.specs.declared.context.Context.{Context}
-use Rattle.rb_proto.specs.Ledger.{Ledger, rows_in, called}
+use Rattle.rb_proto.specs.Ledger.{Ledger, rows_in, with_call_noted}
 use Rattle.rb_proto.specs.declared.answers.Answer.{Answer}
 use Rattle.rb_proto.specs.declared.answers.Answer.TheVariants as answers
 use Rattle.rb_proto.specs.declared.answers.Results.{Results}
@@ -29,14 +29,14 @@ use Rattle.rb_model.specs.Calls.Outcome.{NoCall, Reply, Forwarded, Silent}
 use Rattle.rb_model.specs.Sessions.{IsFinal}
 use Rattle.rb_model.specs.State.{State, Connection, Connections, at_moment}
 use Rattle.rb_model.specs.State.Phase.{Idle}
-use Rattle.rb_model.specs.Connections.{is_lost, has_number, is_live, live_connection, is_there, fed_in, change_first, changed_at, reading, settled, giving, without_number, closing_of}
+use Rattle.rb_model.specs.Connections.{is_lost, has_number, is_live, live_connection, is_there, fed_in, change_first, changed_at, keep_reading, settle, give, without_number, closing_of}
 use Rattle.rb_model.specs.Step.{Event, Output, context_in, with_reply, datagram, show_outcome, serve_message, serve, dropped_with, bytes, close_connection, output_or, show_taken, show_done, show_expired, step, IsReached}
 use Rattle.rb_model.specs.declared.types.Taken.{Taken}
 use Rattle.rb_model.specs.Step.Event.{Open, Bytes, Pending, Gave, Closed, NextLost, Datagram, Unsent, Sent, Forward, Expire}
 use Rattle.rb_model.specs.Laws.{IsLive, IsLeast}
 use Rattle.rb_model.specs.DeadlineLaws.{NoEntryIsDue}
 use Rattle.rb_model.specs.declared.types.Expired.{Expired}
-use Rattle.rb_model.specs.Losses.{is_due, lost, began_in, retained_removals, asks_room, is_crowded, crowding, began_before, evicted, evicting}
+use Rattle.rb_model.specs.Losses.{is_due, lose, stamp_in, retained_removals, asks_room, is_crowded, removals_in_the_way, began_before, evict_early, evict}
 use Rattle.rb_model.specs.Ending.{at_fresh_moment, expire}
 use Rattle.rb_model.specs.Closings.{EndsNoCall, EndsAtDeadline, BringsEnd, Brings, EndsForRoom, ClosesExactly, ConnectionsCloseExactly}
 use Rattle.rb_model.proofs.Found.{none_any}
@@ -121,8 +121,8 @@ pub record IsLosing (f : Connection → Connection) : Type 0 where
   number : (c : Connection) → (f c).number ≡ c.number
   lost : (c : Connection) → is_lost (f c).phase ≡ true
 
-losing : (clock : ℕ) → IsLosing (settled clock NoCall)
-unfolding settled
+losing : (clock : ℕ) → IsLosing (settle clock NoCall)
+unfolding settle
 losing clock = record { number = λ c. refl; lost = λ c. refl }
 
 pub now-lost : (id : ℕ) (f : Connection → Connection) → IsLosing f → (all : List Connection) (c : Connection) → find (is_live id) all ≡ Some c
@@ -140,7 +140,7 @@ now-lost id f loses (d ∷ all) c is = by_test (is_live id d) refl is (now-lost 
         let more = later h in
         (rw more.0 (either-true (eqb d.number id && is_lost d.phase)), rw more.1 (either-true (eqb d.number id)))
 
-pub timing-out : IsLosing lost
+pub timing-out : IsLosing lose
 timing-out = record { number = λ c. refl; lost = λ c. refl }
 
 -- none of the number is left
@@ -207,7 +207,7 @@ unfolding outcome
 no-call-says context says.NoCall arguments ledger is = refl
 no-call-says context (says.Refused head) arguments ledger is = absurd cc
 no-call-says context (says.Garbage head) arguments ledger is = absurd cc
-no-call-says context (says.Asked call) arguments ledger is = by_answer (answer context call arguments (called call.head ledger)) is
+no-call-says context (says.Asked call) arguments ledger is = by_answer (answer context call arguments (with_call_noted call.head ledger)) is
   where
     by_answer : (r : Answer × Ledger) → (reply_with context call.head.xid r).0 ≡ NoCall → says.Asked call ≡ says.NoCall
     by_answer (answers.Results given, l) is = absurd (results-reply context.caller _ call.head.xid _ given is)
@@ -271,18 +271,18 @@ is-false-too false h = refl
 record IsCrowding (context : Context) (message : Message) (all : List Connection) (l : Ledger) (c : Connection) : Type 0 where
   asks : asks_room context message l ≡ true
   full : context.limit ≤ length (rows_in l) + length (retained_removals all l)
-  way : InTheWay (retained_removals all l) (began_in c.phase)
+  way : InTheWay (retained_removals all l) (stamp_in c.phase)
 
-crowds : (context : Context) (message : Message) (all : List Connection) (l : Ledger) (c : Connection) → began_before (crowding context message all l) (began_in c.phase) ≡ true → IsCrowding context message all l c
-unfolding crowding
+crowds : (context : Context) (message : Message) (all : List Connection) (l : Ledger) (c : Connection) → began_before (removals_in_the_way context message all l) (stamp_in c.phase) ≡ true → IsCrowding context message all l c
+unfolding removals_in_the_way
 crowds context message all l c is = by_test (asks_room context message l) refl (is_crowded context.limit all l) refl is
   where
     by_test : (a : Bool) → asks_room context message l ≡ a → (b : Bool) → is_crowded context.limit all l ≡ b
-        → began_before (cond (a && b) (retained_removals all l) []) (began_in c.phase) ≡ true → IsCrowding context message all l c
+        → began_before (cond (a && b) (retained_removals all l) []) (stamp_in c.phase) ≡ true → IsCrowding context message all l c
     by_test true asks true full way = record {
       asks = asks;
       full = ltb-false _ context.limit (is-false-too (nat_lt (length (rows_in l) + length (retained_removals all l)) context.limit) full);
-      way = in-the-way (retained_removals all l) (began_in c.phase) way;
+      way = in-the-way (retained_removals all l) (stamp_in c.phase) way;
     }
     by_test true asks false full way = absurd cc
     by_test false asks b full way = absurd cc
@@ -315,7 +315,7 @@ module _ (s : State) (sound : IsSound s) (id : ℕ) (c : Connection) (there : fi
   on-this : (event : Event) (f : Connection → Connection) (now : Connections) → IsFeeding id f → now ≡ changed_at id f s.connections → Fate s id c event now
   on-this event f now feeds same = Lives (f c) (ap (λ (x : Connections). find (is_live id) x.all) same ∙ find-changed id f feeds s.connections.all c there)
 
-  for-room : (event : Event) (at : ℕ) (caller : Caller) (content : List ℕ) → Brings s event at caller content → began_before (crowd_at s at caller content) (began_in c.phase) ≡ true → EndsForRoom s c event
+  for-room : (event : Event) (at : ℕ) (caller : Caller) (content : List ℕ) → Brings s event at caller content → began_before (crowd_at s at caller content) (stamp_in c.phase) ≡ true → EndsForRoom s c event
   for-room event at caller content brings way =
       let crowd = crowds (context_in (at_moment at s) caller) (message_of content) s.connections.all s.ledger c way in
       record {
@@ -325,12 +325,12 @@ module _ (s : State) (sound : IsSound s) (id : ℕ) (c : Connection) (there : fi
         brings = brings;
         asks = crowd.asks;
         full = crowd.full;
-        began = crowd.way.n;
+        stamp = crowd.way.n;
         lists = crowd.way.is;
         before = crowd.way.later;
       }
 
-  gives-way : (event : Event) (at : ℕ) (caller : Caller) (content : List ℕ) → Brings s event at caller content → (now : Connections) → now ≡ evicting (crowd_at s at caller content) s.connections → Fate s id c event now
+  gives-way : (event : Event) (at : ℕ) (caller : Caller) (content : List ℕ) → Brings s event at caller content → (now : Connections) → now ≡ evict (crowd_at s at caller content) s.connections → Fate s id c event now
   gives-way event at caller content brings now same = elim (live_or_lost id (crowd_at s at caller content) s.connections.all c there) [
     | inl stays ↦ Lives c (ap (λ (x : Connections). find (is_live id) x.all) same ∙ stays.1)
     | inr goes ↦ Loses (inr (inr (for-room event at caller content brings goes.0))) (ap (λ (x : Connections). there_in id x.all) same ∙ lost-there id _ goes.1)
@@ -338,67 +338,67 @@ module _ (s : State) (sound : IsSound s) (id : ℕ) (c : Connection) (there : fi
 
   -- where another's record is answered
   gives-way-to : (event : Event) (at k : ℕ) (caller : Caller) (content : List ℕ) → Brings s event at caller content → (f : Connection → Connection) → ((d : Connection) → (f d).number ≡ d.number) → eqb k id ≡ false
-      → (now : Connections) → now ≡ changed_at k f (evicting (crowd_at s at caller content) s.connections) → Fate s id c event now
+      → (now : Connections) → now ≡ changed_at k f (evict (crowd_at s at caller content) s.connections) → Fate s id c event now
   gives-way-to event at k caller content brings f keeps e now same = elim (live_or_lost id (crowd_at s at caller content) s.connections.all c there) [
-    | inl stays ↦ Lives c (ap (λ (x : Connections). find (is_live id) x.all) same ∙ changed-other id k f keeps e (map (evicted (crowd_at s at caller content)) s.connections.all) ∙ stays.1)
+    | inl stays ↦ Lives c (ap (λ (x : Connections). find (is_live id) x.all) same ∙ changed-other id k f keeps e (map (evict_early (crowd_at s at caller content)) s.connections.all) ∙ stays.1)
     | inr goes ↦
         Loses (inr (inr (for-room event at caller content brings goes.0)))
-        (ap (λ (x : Connections). there_in id x.all) same ∙ lost-there id _ (lost_stays id k f keeps e (map (evicted (crowd_at s at caller content)) s.connections.all) goes.1))
+        (ap (λ (x : Connections). there_in id x.all) same ∙ lost-there id _ (lost_stays id k f keeps e (map (evict_early (crowd_at s at caller content)) s.connections.all) goes.1))
   ]
 
-  still-this : (event : Event) (changes fed : List ℕ) (f : Connection → Connection) (now : Connections) → fed_in c.phase ≡ Some fed → IsFeeding id f → now ≡ changed_at id f (evicting changes s.connections) → Fate s id c event now
+  still-this : (event : Event) (changes fed : List ℕ) (f : Connection → Connection) (now : Connections) → fed_in c.phase ≡ Some fed → IsFeeding id f → now ≡ changed_at id f (evict changes s.connections) → Fate s id c event now
   still-this event changes fed f now feeds feeding same =
       Lives (f c) (ap (λ (x : Connections). find (is_live id) x.all) same
-      ∙ find-changed id f feeding (map (evicted changes) s.connections.all) c (plain_lives id changes s.connections.all c there (fed-no-list c.phase fed feeds)))
+      ∙ find-changed id f feeding (map (evict_early changes) s.connections.all) c (plain_lives id changes s.connections.all c there (fed-no-list c.phase fed feeds)))
 
   ends-here : (at : ℕ) (piece fed changes : List ℕ) (n : ℕ) (now : Connections) → fed_in c.phase ≡ Some fed → first_record (fed ++ piece) ≡ Some n → (said : Outcome) → said_in s at id c (take n (fed ++ piece)) ≡ said
-      → now ≡ changed_at id (settled (max s.clock at) said) (evicting changes s.connections) → Fate s id c (Bytes at id piece) now
-  ends-here at piece fed changes n now feeds some (Reply reply began) says_so same = still-this (Bytes at id piece) changes fed (settled (max s.clock at) (Reply reply began)) now feeds (replying-feeds id (max s.clock at) reply began) same
-  ends-here at piece fed changes n now feeds some Forwarded says_so same = still-this (Bytes at id piece) changes fed (settled (max s.clock at) Forwarded) now feeds (answering-feeds id (max s.clock at) Forwarded refl) same
-  ends-here at piece fed changes n now feeds some Silent says_so same = still-this (Bytes at id piece) changes fed (settled (max s.clock at) Silent) now feeds (answering-feeds id (max s.clock at) Silent refl) same
+      → now ≡ changed_at id (settle (max s.clock at) said) (evict changes s.connections) → Fate s id c (Bytes at id piece) now
+  ends-here at piece fed changes n now feeds some (Reply reply began) says_so same = still-this (Bytes at id piece) changes fed (settle (max s.clock at) (Reply reply began)) now feeds (replying-feeds id (max s.clock at) reply began) same
+  ends-here at piece fed changes n now feeds some Forwarded says_so same = still-this (Bytes at id piece) changes fed (settle (max s.clock at) Forwarded) now feeds (answering-feeds id (max s.clock at) Forwarded refl) same
+  ends-here at piece fed changes n now feeds some Silent says_so same = still-this (Bytes at id piece) changes fed (settle (max s.clock at) Silent) now feeds (answering-feeds id (max s.clock at) Silent refl) same
   ends-here at piece fed changes n now feeds some NoCall says_so same =
       Loses (inl (record { now = at; piece = piece; is = refl; fed = fed; takes = feeds; n = n; ends = some; no_call = said-none s at id c (take n (fed ++ piece)) says_so }))
       (ap (λ (x : Connections). there_in id x.all) same
-      ∙ (now-lost id (settled (max s.clock at) NoCall) (losing (max s.clock at)) (map (evicted changes) s.connections.all) c (plain_lives id changes s.connections.all c there (fed-no-list c.phase fed feeds))).1)
+      ∙ (now-lost id (settle (max s.clock at) NoCall) (losing (max s.clock at)) (map (evict_early changes) s.connections.all) c (plain_lives id changes s.connections.all c there (fed-no-list c.phase fed feeds))).1)
 
-  reads-at : (at k : ℕ) (piece fed : List ℕ) (now : Connections) → now ≡ changed_at k (reading (max s.clock at) (fed ++ piece)) s.connections → (b : Bool) → eqb k id ≡ b → (event : Event) → Fate s id c event now
-  unfolding reading
-  reads-at at k piece fed now same false e event = on-another event k (reading (max s.clock at) (fed ++ piece)) now (λ x. refl) e same
+  reads-at : (at k : ℕ) (piece fed : List ℕ) (now : Connections) → now ≡ changed_at k (keep_reading (max s.clock at) (fed ++ piece)) s.connections → (b : Bool) → eqb k id ≡ b → (event : Event) → Fate s id c event now
+  unfolding keep_reading
+  reads-at at k piece fed now same false e event = on-another event k (keep_reading (max s.clock at) (fed ++ piece)) now (λ x. refl) e same
   reads-at at k piece fed now same true e event =
-      on-this event (reading (max s.clock at) (fed ++ piece)) now (reading-feeds id (max s.clock at) (fed ++ piece))
-      (same ∙ ap (λ (j : ℕ). changed_at j (reading (max s.clock at) (fed ++ piece)) s.connections) (eqb-true k id e))
+      on-this event (keep_reading (max s.clock at) (fed ++ piece)) now (reading-feeds id (max s.clock at) (fed ++ piece))
+      (same ∙ ap (λ (j : ℕ). changed_at j (keep_reading (max s.clock at) (fed ++ piece)) s.connections) (eqb-true k id e))
 
   ends-at : (at k : ℕ) (piece : List ℕ) (d : Connection) (fed : List ℕ) (n : ℕ) (now : Connections) → live_connection k s.connections.all ≡ Some d → fed_in d.phase ≡ Some fed → first_record (fed ++ piece) ≡ Some n
-      → now ≡ changed_at k (settled (max s.clock at) (said_in s at k d (take n (fed ++ piece)))) (evicting (crowd_at s at (Tcp k d.peer) (data_of (take n (fed ++ piece)))) s.connections)
+      → now ≡ changed_at k (settle (max s.clock at) (said_in s at k d (take n (fed ++ piece)))) (evict (crowd_at s at (Tcp k d.peer) (data_of (take n (fed ++ piece)))) s.connections)
       → (b : Bool) → eqb k id ≡ b → Fate s id c (Bytes at k piece) now
   ends-at at k piece d fed n now here feeds some same false e =
       gives-way-to (Bytes at k piece) at k (Tcp k d.peer) (data_of (take n (fed ++ piece)))
       (refl, record { connection = d; live = here; fed = fed; takes = feeds; n = n; ends = some; caller_is = refl; content_is = refl })
-      (settled (max s.clock at) (said_in s at k d (take n (fed ++ piece)))) (settled-keeps (max s.clock at) (said_in s at k d (take n (fed ++ piece)))).number e now same
+      (settle (max s.clock at) (said_in s at k d (take n (fed ++ piece)))) (settled-keeps (max s.clock at) (said_in s at k d (take n (fed ++ piece)))).number e now same
   ends-at at k piece d fed n now here feeds some same true e =
       let number : k ≡ id = eqb-true k id e in
       let one : d ≡ c = same-one k d here number in
       let crowd : List ℕ = crowd_at s at (Tcp k d.peer) (data_of (take n (fed ++ piece))) in
       subst (λ (j : ℕ). Fate s id c (Bytes at j piece) now) (sym number)
       (ends-here at piece fed crowd n now (ap (λ (x : Connection). fed_in x.phase) (sym one) ∙ feeds) some (said_in s at id c (take n (fed ++ piece))) refl
-      (same ∙ ap (λ (j : ℕ). changed_at j (settled (max s.clock at) (said_in s at j d (take n (fed ++ piece)))) (evicting crowd s.connections)) number
-      ∙ ap (λ (x : Connection). changed_at id (settled (max s.clock at) (said_in s at id x (take n (fed ++ piece)))) (evicting crowd s.connections)) one))
+      (same ∙ ap (λ (j : ℕ). changed_at j (settle (max s.clock at) (said_in s at j d (take n (fed ++ piece)))) (evict crowd s.connections)) number
+      ∙ ap (λ (x : Connection). changed_at id (settle (max s.clock at) (said_in s at id x (take n (fed ++ piece)))) (evict crowd s.connections)) one))
 
-  gives-at : (at k n : ℕ) (now : Connections) → now ≡ changed_at k (λ x. (giving (max s.clock at) n x).1) s.connections → (b : Bool) → eqb k id ≡ b → (event : Event) → Fate s id c event now
-  gives-at at k n now same false e event = on-another event k (λ x. (giving (max s.clock at) n x).1) now (giving-keeps (max s.clock at) n).number e same
+  gives-at : (at k n : ℕ) (now : Connections) → now ≡ changed_at k (λ x. (give (max s.clock at) n x).1) s.connections → (b : Bool) → eqb k id ≡ b → (event : Event) → Fate s id c event now
+  gives-at at k n now same false e event = on-another event k (λ x. (give (max s.clock at) n x).1) now (giving-keeps (max s.clock at) n).number e same
   gives-at at k n now same true e event =
-      on-this event (λ x. (giving (max s.clock at) n x).1) now (giving-feeds id (max s.clock at) n)
-      (same ∙ ap (λ (j : ℕ). changed_at j (λ x. (giving (max s.clock at) n x).1) s.connections) (eqb-true k id e))
+      on-this event (λ x. (give (max s.clock at) n x).1) now (giving-feeds id (max s.clock at) n)
+      (same ∙ ap (λ (j : ℕ). changed_at j (λ x. (give (max s.clock at) n x).1) s.connections) (eqb-true k id e))
 
-  tells-at : (at k : ℕ) (said : Outcome) (now : Connections) → IsFinal said → now ≡ changed_at k (settled (max s.clock at) said) s.connections → (b : Bool) → eqb k id ≡ b → (event : Event) → Fate s id c event now
-  tells-at at k said now final same false e event = on-another event k (settled (max s.clock at) said) now (settled-keeps (max s.clock at) said).number e same
+  tells-at : (at k : ℕ) (said : Outcome) (now : Connections) → IsFinal said → now ≡ changed_at k (settle (max s.clock at) said) s.connections → (b : Bool) → eqb k id ≡ b → (event : Event) → Fate s id c event now
+  tells-at at k said now final same false e event = on-another event k (settle (max s.clock at) said) now (settled-keeps (max s.clock at) said).number e same
   tells-at at k said now final same true e event =
-      on-this event (settled (max s.clock at) said) now (answering-feeds id (max s.clock at) said (final-call said final))
-      (same ∙ ap (λ (j : ℕ). changed_at j (settled (max s.clock at) said) s.connections) (eqb-true k id e))
+      on-this event (settle (max s.clock at) said) now (answering-feeds id (max s.clock at) said (final-call said final))
+      (same ∙ ap (λ (j : ℕ). changed_at j (settle (max s.clock at) said) s.connections) (eqb-true k id e))
 
   times-out-at : (at : ℕ) (d : Connection) (now : Connections) → find (entry_is_due (max s.clock at)) s.ledger.forwards.all ≡ None → find (is_due (max s.clock at)) s.connections.all ≡ Some d
-      → now ≡ changed_at d.number lost s.connections → (b : Bool) → eqb d.number id ≡ b → Fate s id c (Expire at) now
-  times-out-at at d now none found same false e = on-another (Expire at) d.number lost now lost-keeps.number e same
+      → now ≡ changed_at d.number lose s.connections → (b : Bool) → eqb d.number id ≡ b → Fate s id c (Expire at) now
+  times-out-at at d now none found same false e = on-another (Expire at) d.number lose now lost-keeps.number e same
   times-out-at at d now none found same true e =
       let number : d.number ≡ id = eqb-true d.number id e in
       let here : find (is_live d.number) s.connections.all ≡ Some c = ap (λ (k : ℕ). find (is_live k) s.connections.all) number ∙ there in
@@ -410,7 +410,7 @@ module _ (s : State) (sound : IsSound s) (id : ℕ) (c : Connection) (there : fi
         entries = none-are-due (max s.clock at) s.ledger.forwards none;
         least = subst (λ (k : ℕ). All (λ (x : Connection). is_due (max s.clock at) x ≡ true → k ≤ x.number) s.connections.all) number (due-least (max s.clock at) 0 s.connections.next s.connections.all d sound found);
       })))
-      (ap (λ (x : Connections). there_in id x.all) (same ∙ ap (λ (k : ℕ). changed_at k lost s.connections) number) ∙ (now-lost id lost timing-out s.connections.all c there).1)
+      (ap (λ (x : Connections). there_in id x.all) (same ∙ ap (λ (k : ℕ). changed_at k lose s.connections) number) ∙ (now-lost id lose timing-out s.connections.all c there).1)
 
   closes-at : (k : ℕ) (now : Connections) → now.all ≡ without k s.connections.all → (b : Bool) → eqb k id ≡ b → Fate s id c (Closed k) now
   closes-at k now same false e = Lives c (ap (λ (xs : List Connection). find (is_live id) xs) same ∙ closed-other id k e s.connections.all ∙ there)
@@ -473,8 +473,8 @@ module _ (s : State) (reached : IsReached s) (id : ℕ) (c : Connection) (there 
       ap (λ (xs : List ℕ). said_in s now id d xs) bytes_are ∙ none-said s now id d (take n (fed ++ piece)) no_call in
       let crowd : List ℕ = crowd_at s now (Tcp id d.peer) (data_of (take m (other ++ piece))) in
       ap (λ (x : Result Taken CoreFault × State). lost_in id (output_or show_taken x).1.connections.all) is
-      ∙ ap (λ (o : Outcome). lost_in id (change_first (is_live id) (settled (max s.clock now) o) (map (evicted crowd) s.connections.all))) said
-      ∙ (now-lost id (settled (max s.clock now) NoCall) (losing (max s.clock now)) (map (evicted crowd) s.connections.all) c (plain_lives id crowd s.connections.all c found (fed-no-list c.phase fed takes))).0
+      ∙ ap (λ (o : Outcome). lost_in id (change_first (is_live id) (settle (max s.clock now) o) (map (evict_early crowd) s.connections.all))) said
+      ∙ (now-lost id (settle (max s.clock now) NoCall) (losing (max s.clock now)) (map (evict_early crowd) s.connections.all) c (plain_lives id crowd s.connections.all c found (fed-no-list c.phase fed takes))).0
 
   lost-at : (now : ℕ) (piece fed : List ℕ) (n : ℕ) → fed_in c.phase ≡ Some fed → first_record (fed ++ piece) ≡ Some n → message_of (data_of (take n (fed ++ piece))) ≡ says.NoCall
       → lost_in id (step s (Bytes now id piece)).1.connections.all ≡ true
@@ -498,8 +498,8 @@ module _ (s : State) (reached : IsReached s) (id : ℕ) (c : Connection) (there 
       let mine : c.number ≡ id = number-is id c (find-holds (is_live id) s.connections.all c found) in
       let number : d.number ≡ id = omega (arith, above, below, mine) in
       ap (λ (x : Expired × State). lost_in id (show_expired x).1.connections.all) is
-      ∙ ap (λ (k : ℕ). lost_in id (change_first (is_live k) lost s.connections.all)) number
-      ∙ (now-lost id lost timing-out s.connections.all c found).0
+      ∙ ap (λ (k : ℕ). lost_in id (change_first (is_live k) lose s.connections.all)) number
+      ∙ (now-lost id lose timing-out s.connections.all c found).0
 
   timed-out-at : (at : ℕ) → is_due (max s.clock at) c ≡ true → NoEntryIsDue at s → All (λ (d : Connection). is_due (max s.clock at) d ≡ true → id ≤ d.number) s.connections.all
       → lost_in id (step s (Expire at)).1.connections.all ≡ true
@@ -508,13 +508,13 @@ module _ (s : State) (reached : IsReached s) (id : ℕ) (c : Connection) (there 
 
   -- for room
   crowded-out : (at : ℕ) (caller : Caller) (content : List ℕ) → asks_room (context_in (at_moment at s) caller) (message_of content) s.ledger ≡ true
-      → s.setting.limits.rows ≤ length (rows_in s.ledger) + length (retained_removals s.connections.all s.ledger) → (n : ℕ) → began_in c.phase ≡ Some n → All (λ change. n < change) (retained_removals s.connections.all s.ledger)
-      → list_any (is_lost_one id) (map (evicted (crowd_at s at caller content)) s.connections.all) ≡ true
+      → s.setting.limits.rows ≤ length (rows_in s.ledger) + length (retained_removals s.connections.all s.ledger) → (n : ℕ) → stamp_in c.phase ≡ Some n → All (λ change. n < change) (retained_removals s.connections.all s.ledger)
+      → list_any (is_lost_one id) (map (evict_early (crowd_at s at caller content)) s.connections.all) ≡ true
   crowded-out at caller content asks full n lists before =
       let crowd = crowded (context_in (at_moment at s) caller) (message_of content) s.connections.all s.ledger asks full in
       let within = asks-within (context_in (at_moment at s) caller) (message_of content) s.ledger asks in
-      let way : began_before (crowd_at s at caller content) (began_in c.phase) ≡ true =
-      ap (λ (xs : List ℕ). began_before xs (began_in c.phase)) crowd ∙ way-of (retained_removals s.connections.all s.ledger) (began_in c.phase) n lists (omega (arith, within, full)) before in
+      let way : began_before (crowd_at s at caller content) (stamp_in c.phase) ≡ true =
+      ap (λ (xs : List ℕ). began_before xs (stamp_in c.phase)) crowd ∙ way-of (retained_removals s.connections.all s.ledger) (stamp_in c.phase) n lists (omega (arith, within, full)) before in
       elim (live_or_lost id (crowd_at s at caller content) s.connections.all c found) [
         | inl stays ↦ let clash : true ≡ false = sym way ∙ stays.0 in absurd cc
         | inr goes ↦ goes.1
@@ -526,18 +526,18 @@ module _ (s : State) (reached : IsReached s) (id : ℕ) (c : Connection) (there 
   shown-leaves (Forwarded, t) = refl
   shown-leaves (Silent, t) = refl
 
-  after-datagram : (at : ℕ) (peer : Peer) (content : List ℕ) → (step s (Datagram at peer content)).1.connections ≡ evicting (crowd_at s at (Udp peer) content) s.connections
+  after-datagram : (at : ℕ) (peer : Peer) (content : List ℕ) → (step s (Datagram at peer content)).1.connections ≡ evict (crowd_at s at (Udp peer) content) s.connections
   unfolding step datagram serve
   after-datagram at peer content = shown-leaves (serve (at_moment at s) (Udp peer) content)
 
-  listing-elsewhere : (k n : ℕ) (d : Connection) (fed : List ℕ) → live_connection k s.connections.all ≡ Some d → fed_in d.phase ≡ Some fed → began_in c.phase ≡ Some n → (b : Bool) → eqb k id ≡ b → eqb k id ≡ false
+  listing-elsewhere : (k n : ℕ) (d : Connection) (fed : List ℕ) → live_connection k s.connections.all ≡ Some d → fed_in d.phase ≡ Some fed → stamp_in c.phase ≡ Some n → (b : Bool) → eqb k id ≡ b → eqb k id ≡ false
   listing-elsewhere k n d fed here feeds lists false e = e
   listing-elsewhere k n d fed here feeds lists true e =
       let who : d ≡ c = one d (ap (λ (j : ℕ). live_connection j s.connections.all) (sym (eqb-true k id e)) ∙ here) in
-      absurd (none-some n (sym (fed-no-list d.phase fed feeds) ∙ ap (λ (x : Connection). began_in x.phase) who ∙ lists))
+      absurd (none-some n (sym (fed-no-list d.phase fed feeds) ∙ ap (λ (x : Connection). stamp_in x.phase) who ∙ lists))
 
-  way-at : (at k n : ℕ) (piece : List ℕ) (caller : Caller) (content : List ℕ) → BringsEnd s k piece caller content → began_in c.phase ≡ Some n
-      → list_any (is_lost_one id) (map (evicted (crowd_at s at caller content)) s.connections.all) ≡ true
+  way-at : (at k n : ℕ) (piece : List ℕ) (caller : Caller) (content : List ℕ) → BringsEnd s k piece caller content → stamp_in c.phase ≡ Some n
+      → list_any (is_lost_one id) (map (evict_early (crowd_at s at caller content)) s.connections.all) ≡ true
       → (r : Result Taken CoreFault × State) → Arriving s at k piece r → lost_in id (output_or show_taken r).1.connections.all ≡ true
   unfolding serve
   way-at at k n piece caller content e lists goes r (NotThere gone is) = absurd (none-some e.connection (sym gone ∙ e.live))
@@ -561,22 +561,22 @@ module _ (s : State) (reached : IsReached s) (id : ℕ) (c : Connection) (there 
       ∙ ap (λ (xs : List ℕ). crowd_at s at caller xs) (sym e.content_is) in
       let apart : eqb k id ≡ false = listing-elsewhere k n d other here feeds lists (eqb k id) refl in
       ap (λ (x : Result Taken CoreFault × State). lost_in id (output_or show_taken x).1.connections.all) is
-      ∙ ap (λ (xs : List ℕ). lost_in id (change_first (is_live k) (settled (max s.clock at) (said_in s at k d (take m (other ++ piece)))) (map (evicted xs) s.connections.all))) crowd
-      ∙ lost_stays id k (settled (max s.clock at) (said_in s at k d (take m (other ++ piece)))) (settled-keeps (max s.clock at) (said_in s at k d (take m (other ++ piece)))).number apart
-      (map (evicted (crowd_at s at caller content)) s.connections.all) goes
+      ∙ ap (λ (xs : List ℕ). lost_in id (change_first (is_live k) (settle (max s.clock at) (said_in s at k d (take m (other ++ piece)))) (map (evict_early xs) s.connections.all))) crowd
+      ∙ lost_stays id k (settle (max s.clock at) (said_in s at k d (take m (other ++ piece)))) (settled-keeps (max s.clock at) (said_in s at k d (take m (other ++ piece)))).number apart
+      (map (evict_early (crowd_at s at caller content)) s.connections.all) goes
 
-  lost-by-bytes : (at k n : ℕ) (piece : List ℕ) (caller : Caller) (content : List ℕ) → BringsEnd s k piece caller content → began_in c.phase ≡ Some n
-      → list_any (is_lost_one id) (map (evicted (crowd_at s at caller content)) s.connections.all) ≡ true → lost_in id (step s (Bytes at k piece)).1.connections.all ≡ true
+  lost-by-bytes : (at k n : ℕ) (piece : List ℕ) (caller : Caller) (content : List ℕ) → BringsEnd s k piece caller content → stamp_in c.phase ≡ Some n
+      → list_any (is_lost_one id) (map (evict_early (crowd_at s at caller content)) s.connections.all) ≡ true → lost_in id (step s (Bytes at k piece)).1.connections.all ≡ true
   unfolding step
   lost-by-bytes at k n piece caller content e lists goes = way-at at k n piece caller content e lists goes (bytes s at k piece) (arriving s at k piece)
 
-  room-at : (event : Event) (at n : ℕ) (caller : Caller) (content : List ℕ) → Brings s event at caller content → began_in c.phase ≡ Some n
-      → list_any (is_lost_one id) (map (evicted (crowd_at s at caller content)) s.connections.all) ≡ true → lost_in id (step s event).1.connections.all ≡ true
+  room-at : (event : Event) (at n : ℕ) (caller : Caller) (content : List ℕ) → Brings s event at caller content → stamp_in c.phase ≡ Some n
+      → list_any (is_lost_one id) (map (evict_early (crowd_at s at caller content)) s.connections.all) ≡ true → lost_in id (step s event).1.connections.all ≡ true
   room-at (Datagram now peer content) at n caller bytes brings lists goes =
       ap (λ (x : Connections). lost_in id x.all) (after-datagram now peer content)
-      ∙ ap (λ (j : ℕ). lost_in id (map (evicted (crowd_at s j (Udp peer) content)) s.connections.all)) (sym brings.0)
-      ∙ ap (λ (x : Caller). lost_in id (map (evicted (crowd_at s at x content)) s.connections.all)) (sym brings.1)
-      ∙ ap (λ (xs : List ℕ). lost_in id (map (evicted (crowd_at s at caller xs)) s.connections.all)) (sym brings.2)
+      ∙ ap (λ (j : ℕ). lost_in id (map (evict_early (crowd_at s j (Udp peer) content)) s.connections.all)) (sym brings.0)
+      ∙ ap (λ (x : Caller). lost_in id (map (evict_early (crowd_at s at x content)) s.connections.all)) (sym brings.1)
+      ∙ ap (λ (xs : List ℕ). lost_in id (map (evict_early (crowd_at s at caller xs)) s.connections.all)) (sym brings.2)
       ∙ goes
   room-at (Bytes now k piece) at n caller content brings lists goes =
       subst (λ (j : ℕ). lost_in id (step s (Bytes j k piece)).1.connections.all ≡ true) brings.0 (lost-by-bytes at k n piece caller content brings.1 lists goes)
@@ -591,7 +591,7 @@ module _ (s : State) (reached : IsReached s) (id : ℕ) (c : Connection) (there 
   room-at (Expire at) now n caller content brings lists goes = absurd brings
 
   lost-by-room : (event : Event) → EndsForRoom s c event → lost_in id (step s event).1.connections.all ≡ true
-  lost-by-room event e = room-at event e.now e.began e.caller e.content e.brings e.lists (crowded-out e.now e.caller e.content e.asks e.full e.began e.lists e.before)
+  lost-by-room event e = room-at event e.now e.stamp e.caller e.content e.brings e.lists (crowded-out e.now e.caller e.content e.asks e.full e.stamp e.lists e.before)
 
   lost-by-either : (event : Event) → EndsNoCall id c event ⊎ EndsAtDeadline s id c event ⊎ EndsForRoom s c event → lost_in id (step s event).1.connections.all ≡ true
   lost-by-either event (inl e) = lost-by event e
@@ -614,9 +614,9 @@ module _ (s : State) (reached : IsReached s) (id : ℕ) (c : Connection) (there 
   gone-by event is = subst (λ (ev : Event). there_in id (step s ev).1.connections.all ≡ false) (sym is) gone-at
 
   lost-only : (event : Event) (now : Connections) → SoundIn now → Fate s id c event now → lost_in id now.all ≡ true → EndsNoCall id c event ⊎ EndsAtDeadline s id c event ⊎ EndsForRoom s c event
-  lost-only event now sound (Lives d live) lost = let none = live-not-lost id 0 now.next now.all d sound live in absurd cc
-  lost-only event now sound (Loses e t) lost = e
-  lost-only event now sound (Leaves is none) lost = absurd cc
+  lost-only event now sound (Lives d live) lose = let none = live-not-lost id 0 now.next now.all d sound live in absurd cc
+  lost-only event now sound (Loses e t) lose = e
+  lost-only event now sound (Leaves is none) lose = absurd cc
 
   gone-only : (event : Event) (now : Connections) → Fate s id c event now → there_in id now.all ≡ false → event ≡ Closed id
   gone-only event now (Lives d live) gone = let some = live-there id now.all d live in absurd cc

@@ -10,34 +10,34 @@ use Rattle.rb_proto.specs.Ledger.{Ledger, rows_in}
 use Rattle.rb_model.specs.declared.message.Message.{Message}
 use Rattle.rb_model.specs.declared.message.Message.TheVariants as says
 use Rattle.rb_model.specs.State.{Connection, Connections}
-use Rattle.rb_model.specs.Losses.{retained_removals, asks_room, crowding, evicted, evicting}
+use Rattle.rb_model.specs.Losses.{retained_removals, asks_room, removals_in_the_way, evict_early, evict}
 
 -- ---- who is in the way
 
-none_goes : (x : Connection) → evicted [] x ≡ x
-unfolding evicted
+none_goes : (x : Connection) → evict_early [] x ≡ x
+unfolding evict_early
 none_goes x = refl
 
-pub none_evicted : (c : Connections) → evicting [] c ≡ c
+pub none_evicted : (c : Connections) → evict [] c ≡ c
 none_evicted c = ap (λ (all : List Connection). record c { all = all }) (same c.all)
   where
-    same : (all : List Connection) → map (evicted []) all ≡ all
+    same : (all : List Connection) → map (evict_early []) all ≡ all
     same [] = refl
     same (x ∷ all) = rw (none_goes x, same all) refl
 
-pub not_asked : (context : Context) (message : Message) (all : List Connection) (l : Ledger) → asks_room context message l ≡ false → crowding context message all l ≡ []
-unfolding crowding
+pub not_asked : (context : Context) (message : Message) (all : List Connection) (l : Ledger) → asks_room context message l ≡ false → removals_in_the_way context message all l ≡ []
+unfolding removals_in_the_way
 not_asked context message all l none = rw none refl
 
-pub not_crowded : (context : Context) (message : Message) (all : List Connection) (l : Ledger) → length (rows_in l) + length (retained_removals all l) < context.limit → crowding context message all l ≡ []
-unfolding crowding
+pub not_crowded : (context : Context) (message : Message) (all : List Connection) (l : Ledger) → length (rows_in l) + length (retained_removals all l) < context.limit → removals_in_the_way context message all l ≡ []
+unfolding removals_in_the_way
 not_crowded context message all l room =
     let fits : nat_lt (length (rows_in l) + length (retained_removals all l)) context.limit ≡ true = lt-ltb _ _ room in
     rw fits (elim (asks_room context message l) as (λ b. cond (b && false) (retained_removals all l) [] ≡ []) [ true ↦ refl | false ↦ refl ])
 
 pub crowded : (context : Context) (message : Message) (all : List Connection) (l : Ledger) → asks_room context message l ≡ true → context.limit ≤ length (rows_in l) + length (retained_removals all l)
-    → crowding context message all l ≡ retained_removals all l
-unfolding crowding
+    → removals_in_the_way context message all l ≡ retained_removals all l
+unfolding removals_in_the_way
 crowded context message all l asks full =
     let fits : nat_lt (length (rows_in l) + length (retained_removals all l)) context.limit ≡ false = le-ltb _ _ full in
     rw (asks, fits) refl

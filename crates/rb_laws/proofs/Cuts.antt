@@ -12,10 +12,10 @@ use Rattle.rb_model.specs.declared.types.CoreFault.TheVariants.{Gone}
 use Rattle.rb_model.specs.Calls.{Outcome, is_no_call, message_of}
 use Rattle.rb_model.specs.State.{State, Connection, Phase, at_moment}
 use Rattle.rb_model.specs.State.Phase.{Idle, Reading, Owing, Awaiting, Lost}
-use Rattle.rb_model.specs.Connections.{is_live, is_lost, live_connection, change_first, reading, settled, fed_in, taking, taking_up_to, taking_behind}
-use Rattle.rb_model.specs.Step.{serve, on_connection, answering, when_taken, bytes_to, bytes, context_in}
+use Rattle.rb_model.specs.Connections.{is_live, is_lost, live_connection, change_first, keep_reading, settle, fed_in, taking_of, taking_up_to, taking_behind}
+use Rattle.rb_model.specs.Step.{serve, on_connection, serve_record, when_taken, bytes_to, bytes, context_in}
 use Rattle.rb_model.specs.declared.types.Taken.{Taken}
-use Rattle.rb_model.specs.Losses.{began_in, crowding, evicted}
+use Rattle.rb_model.specs.Losses.{stamp_in, removals_in_the_way, evict_early}
 use Rattle.rb_model.specs.Laws.{SameInOnePiece, CutsDoNotMatter, one_after_another}
 use Rattle.rb_laws.proofs.Crowds.{begins_changed, evicted_changed, crowding_alike}
 
@@ -50,30 +50,30 @@ changed-twice id f g h feeds same (d ∷ all) = by_test (is_live id d) refl (cha
     by_test false e later = rw (e, e) (ap (λ xs. d ∷ xs) later)
 
 -- a message is answered as it was, with the change of a connection that has no list
-answering-along : (id : ℕ) (f : Connection → Connection) (s : State) (peer : Peer) (content : List ℕ) (c : Connection) → find (is_live id) s.connections.all ≡ Some c → began_in c.phase ≡ None → began_in (f c).phase ≡ None
-    → is_live id (f c) ≡ true → ((clock : ℕ) (said : Outcome) → settled clock said (f c) ≡ settled clock said c)
-    → answering (on_connection id f s) id peer content ≡ answering s id peer content
-unfolding answering serve
+answering-along : (id : ℕ) (f : Connection → Connection) (s : State) (peer : Peer) (content : List ℕ) (c : Connection) → find (is_live id) s.connections.all ≡ Some c → stamp_in c.phase ≡ None → stamp_in (f c).phase ≡ None
+    → is_live id (f c) ≡ true → ((clock : ℕ) (said : Outcome) → settle clock said (f c) ≡ settle clock said c)
+    → serve_record (on_connection id f s) id peer content ≡ serve_record s id peer content
+unfolding serve_record serve
 answering-along id f s peer content c there none still live same =
     let r = serve s (Tcp id peer) content in
-    let changes : List ℕ = crowding (context_in s (Tcp id peer)) (message_of content) s.connections.all s.ledger in
+    let changes : List ℕ = removals_in_the_way (context_in s (Tcp id peer)) (message_of content) s.connections.all s.ledger in
     let crowd = crowding_alike (context_in s (Tcp id peer)) (message_of content) (change_first (is_live id) f s.connections.all) s.connections.all s.ledger (begins_changed id f s.connections.all c there none still) in
-    let twice : change_first (is_live id) (settled s.clock r.0) (map (evicted (crowding (context_in s (Tcp id peer)) (message_of content) (change_first (is_live id) f s.connections.all) s.ledger)) (change_first (is_live id) f s.connections.all))
-    ≡ change_first (is_live id) (settled s.clock r.0) (map (evicted changes) s.connections.all) =
-    ap (λ (ns : List ℕ). change_first (is_live id) (settled s.clock r.0) (map (evicted ns) (change_first (is_live id) f s.connections.all))) crowd
-    ∙ evicted_changed id f (settled s.clock r.0) changes s.connections.all c there none still live (same s.clock r.0) in
+    let twice : change_first (is_live id) (settle s.clock r.0) (map (evict_early (removals_in_the_way (context_in s (Tcp id peer)) (message_of content) (change_first (is_live id) f s.connections.all) s.ledger)) (change_first (is_live id) f s.connections.all))
+    ≡ change_first (is_live id) (settle s.clock r.0) (map (evict_early changes) s.connections.all) =
+    ap (λ (ns : List ℕ). change_first (is_live id) (settle s.clock r.0) (map (evict_early ns) (change_first (is_live id) f s.connections.all))) crowd
+    ∙ evicted_changed id f (settle s.clock r.0) changes s.connections.all c there none still live (same s.clock r.0) in
     ap (λ (xs : List Connection). (is_no_call r.0, record r.1 { connections = record s.connections { all = xs } })) twice
 
 -- a connection that is fed has none
-pub fed-no-list : (p : Phase) (fed : List ℕ) → fed_in p ≡ Some fed → began_in p ≡ None
+pub fed-no-list : (p : Phase) (fed : List ℕ) → fed_in p ≡ Some fed → stamp_in p ≡ None
 fed-no-list Idle fed feeds = refl
 fed-no-list (Reading xs) fed feeds = refl
 fed-no-list (Owing o) fed feeds = absurd cc
 fed-no-list Awaiting fed feeds = refl
 fed-no-list Lost fed feeds = refl
 
-reading-no-list : (clock : ℕ) (fed : List ℕ) (c : Connection) → began_in (reading clock fed c).phase ≡ None
-unfolding reading
+reading-no-list : (clock : ℕ) (fed : List ℕ) (c : Connection) → stamp_in (keep_reading clock fed c).phase ≡ None
+unfolding keep_reading
 reading-no-list clock fed c = refl
 
 -- ---- moments
@@ -86,27 +86,27 @@ at-same s now = ap (λ clock. record s { clock = clock }) (max-max s.clock now)
 
 -- ---- one connection
 
-pub reading-feeds : (id clock : ℕ) (fed : List ℕ) → IsFeeding id (reading clock fed)
-unfolding is_live reading
+pub reading-feeds : (id clock : ℕ) (fed : List ℕ) → IsFeeding id (keep_reading clock fed)
+unfolding is_live keep_reading
 reading-feeds id clock fed = record { live = λ c e. stays (eqb c.number id) (not (is_lost c.phase)) e }
   where
     stays : (b l : Bool) → (b && l) ≡ true → (b && true) ≡ true
     stays true l e = refl
     stays false l e = e
 
-read-on : (clock : ℕ) (front all : List ℕ) (c : Connection) → reading clock all (reading clock front c) ≡ reading clock all c
-unfolding reading
+read-on : (clock : ℕ) (front all : List ℕ) (c : Connection) → keep_reading clock all (keep_reading clock front c) ≡ keep_reading clock all c
+unfolding keep_reading
 read-on clock front all c = marked c.phase
   where
-    marked : (p : Phase) → reading clock all (reading clock front (record c { phase = p })) ≡ reading clock all (record c { phase = p })
+    marked : (p : Phase) → keep_reading clock all (keep_reading clock front (record c { phase = p })) ≡ keep_reading clock all (record c { phase = p })
     marked Idle = refl
     marked (Reading fed) = refl
     marked (Owing owed) = refl
     marked Awaiting = refl
     marked Lost = refl
 
-settled-fed : (clock : ℕ) (fed : List ℕ) (then : ℕ) (said : Outcome) (c : Connection) → settled then said (reading clock fed c) ≡ settled then said c
-unfolding settled reading
+settled-fed : (clock : ℕ) (fed : List ℕ) (then : ℕ) (said : Outcome) (c : Connection) → settle then said (keep_reading clock fed c) ≡ settle then said c
+unfolding settle keep_reading
 settled-fed clock fed then said c = refl
 
 -- ---- the call
@@ -145,7 +145,7 @@ abbrev taken_from : State → ℕ → Connection → List ℕ → Option (List �
 taken_from t id c piece fed = (Ok (when_taken t id piece c (taking_behind fed piece)).0, (when_taken t id piece c (taking_behind fed piece)).1)
 
 pub fed-at : (s : State) (now id : ℕ) (piece : List ℕ) (c : Connection) (fed : Option (List ℕ)) → live_connection id s.connections.all ≡ Some c → fed_in c.phase ≡ fed → bytes s now id piece ≡ taken_from (at_moment now s) id c piece fed
-unfolding bytes taking
+unfolding bytes taking_of
 fed-at s now id piece c fed there phase = ap (bytes_to s now id piece) there ∙ ap (taken_from (at_moment now s) id c piece) phase
 
 pub gone-at : (s : State) (now id : ℕ) (piece : List ℕ) → live_connection id s.connections.all ≡ None → bytes s now id piece ≡ (Err Gone, s)
@@ -158,18 +158,18 @@ fed_to t id c fed piece m = (Ok (when_taken t id piece c (taking_up_to fed piece
 
 -- the state after a piece at whose end the record goes on, and the connection in it
 abbrev fed_on : State → ℕ → List ℕ → State
-fed_on t id front = on_connection id (reading t.clock front) t
+fed_on t id front = on_connection id (keep_reading t.clock front) t
 
-there-on : (id : ℕ) (t : State) (c : Connection) (front : List ℕ) → live_connection id t.connections.all ≡ Some c → live_connection id (fed_on t id front).connections.all ≡ Some (reading t.clock front c)
+there-on : (id : ℕ) (t : State) (c : Connection) (front : List ℕ) → live_connection id t.connections.all ≡ Some c → live_connection id (fed_on t id front).connections.all ≡ Some (keep_reading t.clock front c)
 unfolding live_connection
-there-on id t c front there = find-changed id (reading t.clock front) (reading-feeds id t.clock front) t.connections.all c there
+there-on id t c front there = find-changed id (keep_reading t.clock front) (reading-feeds id t.clock front) t.connections.all c there
 
-phase-on : (clock : ℕ) (front : List ℕ) (c : Connection) → fed_in (reading clock front c).phase ≡ Some front
-unfolding reading
+phase-on : (clock : ℕ) (front : List ℕ) (c : Connection) → fed_in (keep_reading clock front c).phase ≡ Some front
+unfolding keep_reading
 phase-on clock front c = refl
 
-peer-on : (clock : ℕ) (front : List ℕ) (c : Connection) → (reading clock front c).peer ≡ c.peer
-unfolding reading
+peer-on : (clock : ℕ) (front : List ℕ) (c : Connection) → (keep_reading clock front c).peer ≡ c.peer
+unfolding keep_reading
 peer-on clock front c = refl
 
 -- one moment more is none
@@ -181,22 +181,22 @@ record Same (one : Result Taken CoreFault × State) (before : ℕ) (rest : Resul
   taken : one.0 ≡ one_after_another (Ok (record { count = before; closed = false })) rest.0
   state : one.1 ≡ rest.1
 
-along-fed : (t : State) (id : ℕ) (front : List ℕ) (peer : Peer) (whole : List ℕ) (c : Connection) → live_connection id t.connections.all ≡ Some c → began_in c.phase ≡ None → answering (fed_on t id front) id peer whole ≡ answering t id peer whole
+along-fed : (t : State) (id : ℕ) (front : List ℕ) (peer : Peer) (whole : List ℕ) (c : Connection) → live_connection id t.connections.all ≡ Some c → stamp_in c.phase ≡ None → serve_record (fed_on t id front) id peer whole ≡ serve_record t id peer whole
 unfolding live_connection
 along-fed t id front peer whole c here none =
-    answering-along id (reading t.clock front) t peer whole c here none (reading-no-list t.clock front c)
+    answering-along id (keep_reading t.clock front) t peer whole c here none (reading-no-list t.clock front c)
     ((reading-feeds id t.clock front).live c (find-holds (is_live id) t.connections.all c here)) (λ clock said. settled-fed t.clock front clock said c)
 
 fed-cut : (t : State) (id : ℕ) (c : Connection) (fed first second : List ℕ) (m : Option ℕ) → live_connection id t.connections.all ≡ Some c → fed_in c.phase ≡ Some fed → ((n : ℕ) → m ≡ Some n → length (fed ++ first) < n)
-    → Same (fed_to t id c fed (first ++ second) m) (length first) (fed_to (fed_on t id (fed ++ first)) id (reading t.clock (fed ++ first) c) (fed ++ first) second m)
+    → Same (fed_to t id c fed (first ++ second) m) (length first) (fed_to (fed_on t id (fed ++ first)) id (keep_reading t.clock (fed ++ first) c) (fed ++ first) second m)
 fed-cut t id c fed first second None here feeds longer =
     let front : List ℕ = fed ++ first in
     let change : List Connection → State = λ xs. record t { connections = record t.connections { all = xs } } in
     let joined : front ++ second ≡ fed ++ (first ++ second) = append_assoc fed first second in
     record {
       taken = ap (λ (n : ℕ). Ok (record { count = n; closed = false })) (length-append first second);
-      state = ap change (sym (changed-twice id (reading t.clock front) (reading t.clock (front ++ second)) (reading t.clock (fed ++ (first ++ second))) (reading-feeds id t.clock front)
-          (λ d. read-on t.clock front (front ++ second) d ∙ ap (λ (xs : List ℕ). reading t.clock xs d) joined) t.connections.all));
+      state = ap change (sym (changed-twice id (keep_reading t.clock front) (keep_reading t.clock (front ++ second)) (keep_reading t.clock (fed ++ (first ++ second))) (reading-feeds id t.clock front)
+          (λ d. read-on t.clock front (front ++ second) d ∙ ap (λ (xs : List ℕ). keep_reading t.clock xs d) joined) t.connections.all));
     }
 fed-cut t id c fed first second (Some n) here feeds longer =
     let front : List ℕ = fed ++ first in
@@ -204,12 +204,12 @@ fed-cut t id c fed first second (Some n) here feeds longer =
     let later : length front < n = longer n refl in
     let message : List ℕ → List ℕ = λ xs. data_of (take n xs) in
     let whole : List ℕ = message (fed ++ (first ++ second)) in
-    let r : Bool × State = answering t id c.peer whole in
-    let along : answering (fed_on t id front) id c.peer whole ≡ r =
+    let r : Bool × State = serve_record t id c.peer whole in
+    let along : serve_record (fed_on t id front) id c.peer whole ≡ r =
     along-fed t id front c.peer whole c here (fed-no-list c.phase fed feeds) in
-    let there : answering (fed_on t id front) id (reading t.clock front c).peer (message (front ++ second)) ≡ r =
-    ap (λ (p : Peer). answering (fed_on t id front) id p (message (front ++ second))) (peer-on t.clock front c)
-    ∙ ap (λ (xs : List ℕ). answering (fed_on t id front) id c.peer (message xs)) joined ∙ along in
+    let there : serve_record (fed_on t id front) id (keep_reading t.clock front c).peer (message (front ++ second)) ≡ r =
+    ap (λ (p : Peer). serve_record (fed_on t id front) id p (message (front ++ second))) (peer-on t.clock front c)
+    ∙ ap (λ (xs : List ℕ). serve_record (fed_on t id front) id c.peer (message xs)) joined ∙ along in
     let count : n - length fed ≡ length first + (n - length front) = omega (arith, later, length-append fed first) in
     record {
       taken = ap (λ (k : ℕ). Ok (record { count = k; closed = r.0 })) count
@@ -239,7 +239,7 @@ by_phase s now id (b ∷ first) [] c there (Some fed) phase none =
     let z : Result Taken CoreFault × State = (nothing_taken, at_moment now y.1) in
     let ey : bytes s now id (b ∷ first) ≡ y = fed-at s now id (b ∷ first) c (Some fed) there phase ∙ ap (fed_to t id c fed (b ∷ first)) none in
     let ex : bytes s now id (b ∷ first ++ []) ≡ y = ap (λ (xs : List ℕ). bytes s now id xs) (append-nil (b ∷ first)) ∙ ey in
-    let ez : bytes y.1 now id [] ≡ z = fed-at y.1 now id [] (reading t.clock front c) (Some front) (there-on id t c front there) (phase-on t.clock front c) in
+    let ez : bytes y.1 now id [] ≡ z = fed-at y.1 now id [] (keep_reading t.clock front c) (Some front) (there-on id t c front there) (phase-on t.clock front c) in
     same-from s now id (b ∷ first) [] y y z ex ey ez
     (ap (λ (n : ℕ). Ok (record { count = n; closed = false })) (omega arith))
     (sym (moment-on s now id front))
@@ -250,12 +250,12 @@ by_phase s now id (b ∷ first) (d ∷ second) c there (Some fed) phase none =
     let joined : front ++ d ∷ second ≡ all = append_assoc fed (b ∷ first) (d ∷ second) in
     let x : Result Taken CoreFault × State = fed_to t id c fed (b ∷ first ++ d ∷ second) (first_record all) in
     let y : Result Taken CoreFault × State = fed_to t id c fed (b ∷ first) None in
-    let z : Result Taken CoreFault × State = fed_to y.1 id (reading t.clock front c) front (d ∷ second) (first_record all) in
+    let z : Result Taken CoreFault × State = fed_to y.1 id (keep_reading t.clock front c) front (d ∷ second) (first_record all) in
     let ey : bytes s now id (b ∷ first) ≡ y = fed-at s now id (b ∷ first) c (Some fed) there phase ∙ ap (fed_to t id c fed (b ∷ first)) none in
     let ez : bytes y.1 now id (d ∷ second) ≡ z =
-    fed-at y.1 now id (d ∷ second) (reading t.clock front c) (Some front) (there-on id t c front there) (phase-on t.clock front c)
-    ∙ ap (λ (u : State). taken_from u id (reading t.clock front c) (d ∷ second) (Some front)) (moment-on s now id front)
-    ∙ ap (λ (xs : List ℕ). fed_to y.1 id (reading t.clock front c) front (d ∷ second) (first_record xs)) joined in
+    fed-at y.1 now id (d ∷ second) (keep_reading t.clock front c) (Some front) (there-on id t c front there) (phase-on t.clock front c)
+    ∙ ap (λ (u : State). taken_from u id (keep_reading t.clock front c) (d ∷ second) (Some front)) (moment-on s now id front)
+    ∙ ap (λ (xs : List ℕ). fed_to y.1 id (keep_reading t.clock front c) front (d ∷ second) (first_record xs)) joined in
     let longer : (n : ℕ) → first_record all ≡ Some n → length front < n = λ n e. ends_later front (d ∷ second) n none (ap first_record joined ∙ e) in
     let same : Same x (length (b ∷ first)) z = fed-cut t id c fed (b ∷ first) (d ∷ second) (first_record all) there phase longer in
     same-from s now id (b ∷ first) (d ∷ second) x y z (fed-at s now id (b ∷ first ++ d ∷ second) c (Some fed) there phase) ey ez same.taken same.state

@@ -12,7 +12,7 @@ use Rattle.rb_model.specs.declared.types.Expired.{Expired}
 use Rattle.rb_model.specs.declared.types.Expired.TheVariants.{Nothing, ConnectionClosed}
 use Rattle.rb_model.specs.State.{State, Connection}
 use Rattle.rb_model.specs.Connections.{changed_at}
-use Rattle.rb_model.specs.Losses.{is_due, first_due, lost, expiring}
+use Rattle.rb_model.specs.Losses.{is_due, first_due, lose, expire_first}
 use Rattle.rb_model.specs.Ending.{told_at, tell, tell_end, at_fresh_moment, expire_connection, expired_as, expire}
 
 -- the end of this entry at its deadline
@@ -27,7 +27,7 @@ pub data Expiry (s : State) (clock : ℕ) (fresh : State) (r : Expired × State)
       → r ≡ expired_as (Some (tell e.forward.caller (told_at [] (end_of e)) (record fresh { ledger = ledger })).0, (tell e.forward.caller (told_at [] (end_of e)) (record fresh { ledger = ledger })).1)
       → Expiry s clock fresh r
   ConnectionEnds : find (entry_is_due clock) s.ledger.forwards.all ≡ None → (c : Connection) → find (is_due clock) s.connections.all ≡ Some c
-      → r ≡ (ConnectionClosed c.number, record fresh { connections = changed_at c.number lost s.connections }) → Expiry s clock fresh r
+      → r ≡ (ConnectionClosed c.number, record fresh { connections = changed_at c.number lose s.connections }) → Expiry s clock fresh r
   NothingDue : find (entry_is_due clock) s.ledger.forwards.all ≡ None → find (is_due clock) s.connections.all ≡ None
       → r ≡ (Nothing, fresh) → Expiry s clock fresh r
 
@@ -45,7 +45,7 @@ module _ (s : State) (now : ℕ) where
 
   connection-expiry : find (entry_is_due clock) s.ledger.forwards.all ≡ None → (o : Option Connection) → find (is_due clock) s.connections.all ≡ o
       → (r : Expired × State) → r ≡ expire_connection fresh → Expiry s clock fresh r
-  unfolding expire_connection expiring first_due
+  unfolding expire_connection expire_first first_due
   connection-expiry none None is r e = NothingDue none is (e ∙ rw is refl)
   connection-expiry none (Some c) is r e = ConnectionEnds none c is (e ∙ rw is refl)
 

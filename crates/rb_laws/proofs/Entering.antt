@@ -13,7 +13,7 @@ use Rattle.rb_registry.specs.declared.row.Which.{Which}
 use Rattle.rb_forward.specs.declared.types.Forward.{Forward}
 use Rattle.rb_forward.specs.declared.types.Kind.{Kind}
 use Rattle.rb_forward.specs.declared.types.Kind.TheVariants.{Callit2, Callit3, Bcast, Indirect}
-use Rattle.rb_forward.specs.Forwards.{Forwards, can_start, started}
+use Rattle.rb_forward.specs.Forwards.{Forwards, can_start, with_next_entry}
 use Rattle.rb_proto.specs.declared.answers.Answer.{Answer}
 use Rattle.rb_proto.specs.declared.answers.Answer.TheVariants as answers
 use Rattle.rb_proto.specs.declared.answers.Results.{Results}
@@ -25,7 +25,7 @@ use Rattle.rb_proto.specs.declared.procedure.RpcbProcedure.TheVariants as rpcbs
 use Rattle.rb_proto.specs.declared.remote.RemoteCall.{RemoteCall}
 use Rattle.rb_proto.specs.declared.request.Request.{Request}
 use Rattle.rb_proto.specs.declared.request.Request.TheVariants as requests
-use Rattle.rb_proto.specs.Ledger.{Ledger, rows_in, called}
+use Rattle.rb_proto.specs.Ledger.{Ledger, rows_in, with_call_noted}
 use Rattle.rb_proto.specs.Results.{result_bytes, shown_of}
 use Rattle.rb_proto.specs.Netids.{transport_of_prot}
 use Rattle.rb_proto.specs.Remote.{args_of}
@@ -53,7 +53,7 @@ answers_later answers.Silent = false
 pub data Entering (context : Context) (old new : Forwards) (forwarded : Bool) : Type 0 where
   Same : forwarded ≡ false → new ≡ old → Entering context old new forwarded
   Begins : forwarded ≡ true → (forward : Forward) (args : List ℕ) → forward.caller ≡ context.caller → can_start context.forwards old ≡ true
-      → new ≡ started context.clock forward args old → Entering context old new forwarded
+      → new ≡ with_next_entry context.clock forward args old → Entering context old new forwarded
 
 set-enters : (context : Context) (head : CallHead) (o : Option Row) (l : Ledger) → (set_row context head o l).1.forwards ≡ l.forwards
 unfolding set_row
@@ -87,7 +87,7 @@ unfolding forward_call forward_of
 forward-enters context xid kind remote arguments l = by_peer (peer_to_forward remote.prog remote.vers (rows_in l))
   where
     by_room : (peer : Peer) (b : Bool) → can_start context.forwards l.forwards ≡ b → Enters context l
-        (cond b (answers.Forwarded, record l { forwards = started context.clock (forward_of context xid kind remote peer) (args_of remote arguments) l.forwards }) (refuse context kind remote replies.SystemErr l))
+        (cond b (answers.Forwarded, record l { forwards = with_next_entry context.clock (forward_of context xid kind remote peer) (args_of remote arguments) l.forwards }) (refuse context kind remote replies.SystemErr l))
     by_room peer true e = Begins refl (forward_of context xid kind remote peer) (args_of remote arguments) refl e refl
     by_room peer false e = Same (refused-now kind replies.SystemErr) refl
 
@@ -123,11 +123,11 @@ abbrev Served : Context → Ledger → Outcome × Ledger → Type 0
 Served context l r = Entering context l.forwards r.1.forwards (is_forwarded r.0)
 
 outcome-enters : (context : Context) (message : Message) (arguments : List ℕ) (l : Ledger) → Served context l (outcome context message arguments l)
-unfolding outcome answer called
+unfolding outcome answer with_call_noted
 outcome-enters context says.NoCall arguments l = Same refl refl
 outcome-enters context (says.Refused head) arguments l = Same refl refl
 outcome-enters context (says.Garbage head) arguments l = Same refl refl
-outcome-enters context (says.Asked call) arguments l = by_answer (answer_to context call.head call.request arguments (called call.head l)) (answer-enters context call.head call.request arguments (called call.head l))
+outcome-enters context (says.Asked call) arguments l = by_answer (answer_to context call.head call.request arguments (with_call_noted call.head l)) (answer-enters context call.head call.request arguments (with_call_noted call.head l))
   where
     by_answer : (r : Answer × Ledger) → Entering context l.forwards r.1.forwards (answers_later r.0) → Served context l (reply_with context call.head.xid r)
     by_answer (answers.Results results, new) (Same e same) = Same (results-now context.caller (length new.changes) call.head.xid (result_bytes context.listener.host (shown_of new) results) results) same

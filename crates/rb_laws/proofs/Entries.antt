@@ -11,13 +11,13 @@ use Rattle.rb_rpc.specs.Records.{data_of}
 use Rattle.rb_forward.specs.declared.types.Forward.{Forward as Asked}
 use Rattle.rb_forward.specs.declared.types.Outcome as target
 use Rattle.rb_forward.specs.declared.types.Ended.{Ended as EntryEnd}
-use Rattle.rb_forward.specs.Forwards.{Entry, Forwards, is_connection, is_of_connection, is_unsent, as_sent, change_first as change_entry, sent, can_be_sent, next_entry, started, without_first, ended_by, with_end, counts_for, is_due, outcome_of, reply, drop_caller}
+use Rattle.rb_forward.specs.Forwards.{Entry, Forwards, is_connection, is_of_connection, is_unsent, as_sent, change_first as change_entry, sent, can_be_sent, next_entry, with_next_entry, without_first, ended_by, with_end, counts_for, is_due, outcome_of, reply, drop_caller}
 use Rattle.rb_forward.specs.declared.types.Outcome.TheVariants.{Failed}
 use Rattle.rb_forward.proofs.Tables.{all_stay, sum-without}
 use Rattle.rb_proto.specs.declared.listener.Listener.{Listener}
 use Rattle.rb_proto.specs.declared.context.Context.{Context}
 use Rattle.rb_proto.specs.Ledger.{Ledger}
-use Rattle.rb_proto.specs.Forwarding.{replied, caller_dropped, call_sent}
+use Rattle.rb_proto.specs.Forwarding.{target_replied, caller_dropped, call_sent}
 use Rattle.rb_model.specs.declared.types.CoreFault.{CoreFault}
 use Rattle.rb_model.specs.declared.types.CoreFault.TheVariants.{Gone}
 use Rattle.rb_model.specs.declared.types.Limits.{Limits}
@@ -27,16 +27,16 @@ use Rattle.rb_model.specs.Calls.Outcome.{NoCall, Reply, Forwarded, Silent}
 use Rattle.rb_model.specs.State.{State, Phase, Connection, Connections, at_moment, opening}
 use Rattle.rb_model.specs.State.Phase.{Idle, Reading, Owing, Awaiting, Lost}
 use Rattle.rb_model.specs.Laws.{is_awaiting}
-use Rattle.rb_model.specs.Connections.{is_live, live_connection, fed_in, pending_in, phase_when_given, when_given, giving, reading, settled, change_first, changed_at, on_found, is_there, without_number, closing_of, opening_as, opening_of, number_for, on_connection}
+use Rattle.rb_model.specs.Connections.{is_live, live_connection, fed_in, pending_in, phase_when_given, with_given, give, keep_reading, settle, change_first, changed_at, on_found, is_there, without_number, closing_of, opening_as, opening_of, number_for, on_connection}
 use Rattle.rb_model.specs.Ending.{told_at, tell, tell_end, at_fresh_moment, forward_reply, expire}
-use Rattle.rb_model.specs.Step.{Event, Output, context_in, serve, bytes, moved, gave, is_too_much, pending, pending_on, open_connection, dropped_with, close_connection, sent_call, with_reply, datagram, output_or, show_taken, show_done, show_outcome, show_end, show_expired, step, after, IsReached}
+use Rattle.rb_model.specs.Step.{Event, Output, context_in, serve, bytes, unless_refused, gave, is_too_much, pending, pending_on, open_connection, dropped_with, close_connection, sent_call, with_reply, datagram, output_or, show_taken, show_done, show_outcome, show_end, show_expired, step, after, IsReached}
 use Rattle.rb_model.specs.declared.types.Taken.{Taken}
 use Rattle.rb_model.specs.Step.Event.{Open, Bytes, Pending, Gave, Closed, NextLost, Datagram, Unsent, Sent, Forward, Expire}
 use Rattle.rb_model.specs.Step.Output.{Opened, TooMuch, IsPending}
 use Rattle.rb_model.specs.Sessions.{IsFinal}
 use Rattle.rb_model.specs.ForwardLaws.{count_awaiting, ConnectionsAwait}
 use Rattle.rb_model.specs.declared.types.Expired.{Expired}
-use Rattle.rb_model.specs.Losses.{is_due as due_connection, lost, began_in, began_before, evicted, evicting}
+use Rattle.rb_model.specs.Losses.{is_due as due_connection, lose, stamp_in, began_before, evict_early, evict}
 use Rattle.rb_model.proofs.Expiring.{due-one, due-awaits-none}
 use Rattle.rb_laws.proofs.FewDue.{live-found}
 use Rattle.rb_laws.proofs.DueThings.{end_of, Expiry, expiry}
@@ -72,8 +72,8 @@ abbrev if_one : Bool → ℕ
 if_one b = cond b 1 0
 
 -- an entry that begins
-pushed : (id clock : ℕ) (forward : Asked) (args : List ℕ) (f : Forwards) → present id (started clock forward args f) ≡ present id f + if_one (is_connection id forward.caller)
-unfolding started next_entry
+pushed : (id clock : ℕ) (forward : Asked) (args : List ℕ) (f : Forwards) → present id (with_next_entry clock forward args f) ≡ present id f + if_one (is_connection id forward.caller)
+unfolding with_next_entry next_entry
 pushed id clock forward args f = sum_by_push (one_at id) f.all (next_entry clock forward args f)
 
 -- an entry that is sent
@@ -128,7 +128,7 @@ fed-awaits (Owing o) fed is = refl
 fed-awaits Awaiting fed is = absurd cc
 fed-awaits Lost fed is = refl
 
-fed-plain : (p : Phase) (fed : List ℕ) → fed_in p ≡ Some fed → began_in p ≡ None
+fed-plain : (p : Phase) (fed : List ℕ) → fed_in p ≡ Some fed → stamp_in p ≡ None
 fed-plain Idle fed is = refl
 fed-plain (Reading xs) fed is = refl
 fed-plain (Owing o) fed is = absurd cc
@@ -142,14 +142,14 @@ given-awaits n Awaiting = refl
 given-awaits n Lost = refl
 given-awaits n (Owing o) = elim (nat_lt (o.given + n) (length o.marked)) as (λ b. is_awaiting (cond b (Owing (record o { given = o.given + n })) Idle) ≡ false) [ true ↦ refl | false ↦ refl ]
 
-pub giving-awaits : (clock n : ℕ) (c : Connection) → is_awaiting (giving clock n c).1.phase ≡ is_awaiting c.phase
-unfolding giving when_given
+pub giving-awaits : (clock n : ℕ) (c : Connection) → is_awaiting (give clock n c).1.phase ≡ is_awaiting c.phase
+unfolding give with_given
 giving-awaits clock n c =
     let k : ℕ = min n (length (pending_in c.phase)) in
     elim (eqb k 0) as (λ z. is_awaiting (cond z c (record c { phase = phase_when_given k c.phase; since = clock })).phase ≡ is_awaiting c.phase) [ true ↦ refl | false ↦ given-awaits k c.phase ]
 
-pub settled-awaiting : (clock : ℕ) (said : Outcome) (c : Connection) → is_awaiting (settled clock said c).phase ≡ is_forwarded said
-unfolding settled
+pub settled-awaiting : (clock : ℕ) (said : Outcome) (c : Connection) → is_awaiting (settle clock said c).phase ≡ is_forwarded said
+unfolding settle
 settled-awaiting clock NoCall c = refl
 settled-awaiting clock (Reply reply began) c = refl
 settled-awaiting clock Forwarded c = refl
@@ -181,19 +181,19 @@ module _ (k : ℕ) (all : List Connection) (c : Connection) (there : live_connec
           ap if_one same ∙ sym (ap count_awaiting there) ∙ ap (λ (j : ℕ). awaits j all) (eqb-true k id e)
 
   -- its record is answered, or its forwarded call ends
-  settled-awaits : (clock next : ℕ) (said : Outcome) → AreSound 0 next all → (id : ℕ) → awaits id (change_first (is_live k) (settled clock said) all) ≡ cond (eqb k id) (if_one (is_forwarded said)) (awaits id all)
+  settled-awaits : (clock next : ℕ) (said : Outcome) → AreSound 0 next all → (id : ℕ) → awaits id (change_first (is_live k) (settle clock said) all) ≡ cond (eqb k id) (if_one (is_forwarded said)) (awaits id all)
   unfolding live_connection
   settled-awaits clock next said sound id = by_said said refl
     where
-      lives : (o : Outcome) → is_no_call o ≡ false → awaits id (change_first (is_live k) (settled clock o) all) ≡ cond (eqb k id) (if_one (is_forwarded o)) (awaits id all)
-      lives o plain = changed-awaits (settled clock o) (answering-feeds k clock o plain) (settled-keeps clock o).number id ∙ ap (λ (b : Bool). cond (eqb k id) (if_one b) (awaits id all)) (settled-awaiting clock o c)
+      lives : (o : Outcome) → is_no_call o ≡ false → awaits id (change_first (is_live k) (settle clock o) all) ≡ cond (eqb k id) (if_one (is_forwarded o)) (awaits id all)
+      lives o plain = changed-awaits (settle clock o) (answering-feeds k clock o plain) (settled-keeps clock o).number id ∙ ap (λ (b : Bool). cond (eqb k id) (if_one b) (awaits id all)) (settled-awaiting clock o c)
 
-      is-gone : (b : Bool) → eqb k id ≡ b → awaits id (change_first (is_live k) (settled clock NoCall) all) ≡ cond b 0 (awaits id all)
-      is-gone false e = ap count_awaiting (changed-other id k (settled clock NoCall) (settled-keeps clock NoCall).number e all)
+      is-gone : (b : Bool) → eqb k id ≡ b → awaits id (change_first (is_live k) (settle clock NoCall) all) ≡ cond b 0 (awaits id all)
+      is-gone false e = ap count_awaiting (changed-other id k (settle clock NoCall) (settled-keeps clock NoCall).number e all)
       is-gone true e =
-          ap (λ (j : ℕ). count_awaiting (find (is_live j) (change_first (is_live k) (settled clock NoCall) all))) (sym (eqb-true k id e)) ∙ ap count_awaiting (lost-gone k clock 0 next all sound)
+          ap (λ (j : ℕ). count_awaiting (find (is_live j) (change_first (is_live k) (settle clock NoCall) all))) (sym (eqb-true k id e)) ∙ ap count_awaiting (lost-gone k clock 0 next all sound)
 
-      by_said : (o : Outcome) → said ≡ o → awaits id (change_first (is_live k) (settled clock o) all) ≡ cond (eqb k id) (if_one (is_forwarded o)) (awaits id all)
+      by_said : (o : Outcome) → said ≡ o → awaits id (change_first (is_live k) (settle clock o) all) ≡ cond (eqb k id) (if_one (is_forwarded o)) (awaits id all)
       by_said NoCall e = is-gone (eqb k id) refl
       by_said (Reply reply began) e = lives (Reply reply began) refl
       by_said Forwarded e = lives Forwarded refl
@@ -222,7 +222,7 @@ opened-awaits id all new idle = by_value (find (is_live id) all) refl
 -- ---- room for a row
 
 -- a connection whose list is in the way awaits nothing
-list-awaits : (changes : List ℕ) (p : Phase) → began_before changes (began_in p) ≡ true → is_awaiting p ≡ false
+list-awaits : (changes : List ℕ) (p : Phase) → began_before changes (stamp_in p) ≡ true → is_awaiting p ≡ false
 list-awaits changes Idle t = refl
 list-awaits changes (Reading fed) t = refl
 list-awaits changes (Owing o) t = refl
@@ -233,28 +233,28 @@ never : (b : Bool) → (b && false) ≡ false
 never true = refl
 never false = refl
 
-lost-dead : (id : ℕ) (c : Connection) → is_live id (lost c) ≡ false
+lost-dead : (id : ℕ) (c : Connection) → is_live id (lose c) ≡ false
 unfolding is_live
 lost-dead id c = never (eqb c.number id)
 
 -- those that become Lost awaited nothing, and the others stay
-evicted-awaits : (changes : List ℕ) (id least next : ℕ) (all : List Connection) → AreSound least next all → awaits id (map (evicted changes) all) ≡ awaits id all
-unfolding live_connection evicted
+evicted-awaits : (changes : List ℕ) (id least next : ℕ) (all : List Connection) → AreSound least next all → awaits id (map (evict_early changes) all) ≡ awaits id all
+unfolding live_connection evict_early
 evicted-awaits changes id least next [] sound = refl
 evicted-awaits changes id least next (x ∷ all) sound = by_live (is_live id x) refl (evicted-awaits changes id (x.number + 1) next all sound.2)
   where
-    by_began : is_live id x ≡ true → (b : Bool) → began_before changes (began_in x.phase) ≡ b → count_awaiting (find (is_live id) (map (evicted changes) (x ∷ all))) ≡ count_awaiting (find (is_live id) (x ∷ all))
+    by_began : is_live id x ≡ true → (b : Bool) → began_before changes (stamp_in x.phase) ≡ b → count_awaiting (find (is_live id) (map (evict_early changes) (x ∷ all))) ≡ count_awaiting (find (is_live id) (x ∷ all))
     by_began live false t = rw (t, live) refl
     by_began live true t =
         let number : x.number ≡ id = number-is id x live in
-        let rest = mapped (evicted changes) (evicted-keeps changes) (x.number + 1) next all sound.2 in
-        let none : find (is_live id) (map (evicted changes) all) ≡ None = none-above id (x.number + 1) next (map (evicted changes) all) rest (omega (arith, number)) in
+        let rest = mapped (evict_early changes) (evicted-keeps changes) (x.number + 1) next all sound.2 in
+        let none : find (is_live id) (map (evict_early changes) all) ≡ None = none-above id (x.number + 1) next (map (evict_early changes) all) rest (omega (arith, number)) in
         rw (t, lost-dead id x, none, live) (sym (ap if_one (list-awaits changes x.phase t)))
 
-    by_live : (b : Bool) → is_live id x ≡ b → count_awaiting (find (is_live id) (map (evicted changes) all)) ≡ count_awaiting (find (is_live id) all)
-        → count_awaiting (find (is_live id) (map (evicted changes) (x ∷ all))) ≡ count_awaiting (find (is_live id) (x ∷ all))
-    by_live true t later = by_began t (began_before changes (began_in x.phase)) refl
-    by_live false t later = let dead : is_live id (evicted changes x) ≡ false = stays_dead id changes x t in rw (dead, t) later
+    by_live : (b : Bool) → is_live id x ≡ b → count_awaiting (find (is_live id) (map (evict_early changes) all)) ≡ count_awaiting (find (is_live id) all)
+        → count_awaiting (find (is_live id) (map (evict_early changes) (x ∷ all))) ≡ count_awaiting (find (is_live id) (x ∷ all))
+    by_live true t later = by_began t (began_before changes (stamp_in x.phase)) refl
+    by_live false t later = let dead : is_live id (evict_early changes x) ≡ false = stays_dead id changes x t in rw (dead, t) later
 
 -- ---- events
 
@@ -265,7 +265,7 @@ of-other k id (Udp peer) of apart = absurd cc
 module _ (old : Forwards) (cs : Connections) (sound : SoundIn cs) (h : AwaitIn old cs) where
   -- a record on a live connection is answered
   ended-awaits : (clock k : ℕ) (c : Connection) (peer : Peer) (context : Context) (said : Outcome) (new : Forwards) → live_connection k cs.all ≡ Some c → is_awaiting c.phase ≡ false → context.caller ≡ Tcp k peer
-      → Entering context old new (is_forwarded said) → AwaitIn new (changed_at k (settled clock said) cs)
+      → Entering context old new (is_forwarded said) → AwaitIn new (changed_at k (settle clock said) cs)
   ended-awaits clock k c peer context said new there plain from (Same e same) = λ id.
       ap (present id) same ∙ h id ∙ by_number id (eqb k id) refl ∙ ap (λ (b : Bool). cond (eqb k id) (if_one b) (awaits id cs.all)) (sym e) ∙ sym (settled-awaits k cs.all c there clock cs.next said sound id)
     where
@@ -289,44 +289,44 @@ module _ (s : State) (sound : IsSound s) (h : Await s) where
   Keeps r = Await r.1
 
   -- once there is room for a row
-  room-sound : (changes : List ℕ) → SoundIn (evicting changes s.connections)
-  room-sound changes = mapped (evicted changes) (evicted-keeps changes) 0 s.connections.next s.connections.all sound
+  room-sound : (changes : List ℕ) → SoundIn (evict changes s.connections)
+  room-sound changes = mapped (evict_early changes) (evicted-keeps changes) 0 s.connections.next s.connections.all sound
 
-  room-awaits : (changes : List ℕ) → AwaitIn s.ledger.forwards (evicting changes s.connections)
+  room-awaits : (changes : List ℕ) → AwaitIn s.ledger.forwards (evict changes s.connections)
   room-awaits changes = λ id. h id ∙ sym (evicted-awaits changes id 0 s.connections.next s.connections.all sound)
 
-  still-there : (changes : List ℕ) (k : ℕ) (c : Connection) → live_connection k s.connections.all ≡ Some c → began_in c.phase ≡ None → live_connection k (map (evicted changes) s.connections.all) ≡ Some c
+  still-there : (changes : List ℕ) (k : ℕ) (c : Connection) → live_connection k s.connections.all ≡ Some c → stamp_in c.phase ≡ None → live_connection k (map (evict_early changes) s.connections.all) ≡ Some c
   unfolding live_connection
   still-there changes k c there no_list = plain_lives k changes s.connections.all c there no_list
 
-  open-awaits : (at : ℕ) (peer : Peer) (r : Result ℕ CoreFault) → Keeps (output_or Opened (moved at s (opening_as peer (max s.clock at) s.connections r)))
+  open-awaits : (at : ℕ) (peer : Peer) (r : Result ℕ CoreFault) → Keeps (output_or Opened (unless_refused at s (opening_as peer (max s.clock at) s.connections r)))
   open-awaits at peer (Err fault) = h
   open-awaits at peer (Ok number) = λ id. h id ∙ sym (opened-awaits id s.connections.all _ refl)
 
   bytes-await : (at k : ℕ) (piece : List ℕ) (r : Result Taken CoreFault × State) → Arriving s at k piece r → Keeps (output_or show_taken r)
-  unfolding reading serve
+  unfolding keep_reading serve
   bytes-await at k piece r (NotThere none is) = rw is h
   bytes-await at k piece r (NotTaken c there why is) = rw is h
   bytes-await at k piece r (ReadOn c fed there feeds none is) = rw is (λ id.
-      h id ∙ sym (kept-awaits k s.connections.all c there (reading (max s.clock at) (fed ++ piece)) (reading-feeds k (max s.clock at) (fed ++ piece)) (λ d. refl) (sym (fed-awaits c.phase fed feeds)) id))
+      h id ∙ sym (kept-awaits k s.connections.all c there (keep_reading (max s.clock at) (fed ++ piece)) (reading-feeds k (max s.clock at) (fed ++ piece)) (λ d. refl) (sym (fed-awaits c.phase fed feeds)) id))
   bytes-await at k piece r (Ended c fed n there feeds some is) = rw is (answered-awaits at k c (take n (fed ++ piece)) there (fed-plain c.phase fed feeds) (fed-awaits c.phase fed feeds))
     where
-      answered-awaits : (at k : ℕ) (c : Connection) (record_bytes : List ℕ) → live_connection k s.connections.all ≡ Some c → began_in c.phase ≡ None → is_awaiting c.phase ≡ false
-          → Await (on_connection k (settled (max s.clock at) (said_in s at k c record_bytes)) (answered_in s at k c record_bytes))
+      answered-awaits : (at k : ℕ) (c : Connection) (record_bytes : List ℕ) → live_connection k s.connections.all ≡ Some c → stamp_in c.phase ≡ None → is_awaiting c.phase ≡ false
+          → Await (on_connection k (settle (max s.clock at) (said_in s at k c record_bytes)) (answered_in s at k c record_bytes))
       answered-awaits at k c record_bytes there no_list plain =
           let changes : List ℕ = crowd_at s at (Tcp k c.peer) (data_of record_bytes) in
-          ended-awaits s.ledger.forwards (evicting changes s.connections) (room-sound changes) (room-awaits changes) (max s.clock at) k c c.peer (context_in (at_moment at s) (Tcp k c.peer)) (said_in s at k c record_bytes) _
+          ended-awaits s.ledger.forwards (evict changes s.connections) (room-sound changes) (room-awaits changes) (max s.clock at) k c c.peer (context_in (at_moment at s) (Tcp k c.peer)) (said_in s at k c record_bytes) _
           (still-there changes k c there no_list) plain refl (serve-enters (at_moment at s) (Tcp k c.peer) _)
 
   gave-awaits : (at k n : ℕ) (o : Option Connection) → live_connection k s.connections.all ≡ o
-      → Keeps (cond (is_too_much n (pending_on o)) (TooMuch, s) (output_or show_done (moved at s (on_found k (giving (max s.clock at) n) s.connections o))))
+      → Keeps (cond (is_too_much n (pending_on o)) (TooMuch, s) (output_or show_done (unless_refused at s (on_found k (give (max s.clock at) n) s.connections o))))
   gave-awaits at k n None e = h
   gave-awaits at k n (Some c) e = by_test (is_too_much n (pending_on (Some c)))
     where
-      by_test : (b : Bool) → Keeps (cond b (TooMuch, s) (output_or show_done (moved at s (on_found k (giving (max s.clock at) n) s.connections (Some c)))))
+      by_test : (b : Bool) → Keeps (cond b (TooMuch, s) (output_or show_done (unless_refused at s (on_found k (give (max s.clock at) n) s.connections (Some c)))))
       by_test true = h
       by_test false = λ id.
-          h id ∙ sym (kept-awaits k s.connections.all c e (λ x. (giving (max s.clock at) n x).1) (giving-feeds k (max s.clock at) n) (giving-keeps (max s.clock at) n).number (giving-awaits (max s.clock at) n c) id)
+          h id ∙ sym (kept-awaits k s.connections.all c e (λ x. (give (max s.clock at) n x).1) (giving-feeds k (max s.clock at) n) (giving-keeps (max s.clock at) n).number (giving-awaits (max s.clock at) n c) id)
 
   -- an entry of a connection ends, if there is one
   dropped-present : (k : ℕ) (id : ℕ) → present id (drop_caller k s.ledger.forwards).1 ≡ cond (eqb k id) 0 (present id s.ledger.forwards)
@@ -372,7 +372,7 @@ module _ (s : State) (sound : IsSound s) (h : Await s) where
       by_number id false n = h id ∙ sym (ap count_awaiting (closed-other id k n s.connections.all))
       by_number id true n = sym (ap (λ (j : ℕ). awaits id (without j s.connections.all)) (eqb-true k id n) ∙ ap count_awaiting (closed-gone id s.connections.all))
 
-  datagram-awaits : (context : Context) (peer : Peer) (changes : List ℕ) (t : State) (said : Outcome) → t.connections ≡ evicting changes s.connections → context.caller ≡ Udp peer → Entering context s.ledger.forwards t.ledger.forwards (is_forwarded said) → Keeps (show_outcome (with_reply (said, t)))
+  datagram-awaits : (context : Context) (peer : Peer) (changes : List ℕ) (t : State) (said : Outcome) → t.connections ≡ evict changes s.connections → context.caller ≡ Udp peer → Entering context s.ledger.forwards t.ledger.forwards (is_forwarded said) → Keeps (show_outcome (with_reply (said, t)))
   datagram-awaits context peer changes t said same from enters = by_said said
     where
       holds : Await t
@@ -420,7 +420,7 @@ module _ (s : State) (sound : IsSound s) (h : Await s) where
           one : (id : ℕ) → one_at id x ≡ if_one (eqb k id)
           one id = ap (λ (c : Caller). if_one (is_connection id c)) from
 
-          told : (o : Option Connection) → live_connection k s.connections.all ≡ o → AwaitIn l.forwards (changed_at k (settled (max s.clock at) (told_at message ended)) s.connections)
+          told : (o : Option Connection) → live_connection k s.connections.all ≡ o → AwaitIn l.forwards (changed_at k (settle (max s.clock at) (told_at message ended)) s.connections)
           told None there =
               let here : one_at k x ≡ 1 = one k ∙ ap if_one (eq-eqb k k refl) in
               let count = counts x e k in
@@ -460,13 +460,13 @@ module _ (s : State) (sound : IsSound s) (h : Await s) where
   shown-end (None, t) k = k
   shown-end (Some told, t) k = k
 
-  forward-awaits : (at : ℕ) (from : Peer) (message : List ℕ) → Await (tell_end message (at_fresh_moment at s) (replied s.setting.first_xid (max s.clock at) from message s.ledger)).1
-  unfolding replied reply
+  forward-awaits : (at : ℕ) (from : Peer) (message : List ℕ) → Await (tell_end message (at_fresh_moment at s) (target_replied s.setting.first_xid (max s.clock at) from message s.ledger)).1
+  unfolding target_replied reply
   forward-awaits at from message =
-      end-awaits at message (counts_for s.setting.first_xid (max s.clock at) from message) (outcome_of message) (replied s.setting.first_xid (max s.clock at) from message s.ledger) refl refl
+      end-awaits at message (counts_for s.setting.first_xid (max s.clock at) from message) (outcome_of message) (target_replied s.setting.first_xid (max s.clock at) from message s.ledger) refl refl
 
   -- the connection that is due awaits none
-  timed-out-awaits : (clock : ℕ) (c : Connection) → find (due_connection clock) s.connections.all ≡ Some c → AwaitIn s.ledger.forwards (changed_at c.number lost s.connections)
+  timed-out-awaits : (clock : ℕ) (c : Connection) → find (due_connection clock) s.connections.all ≡ Some c → AwaitIn s.ledger.forwards (changed_at c.number lose s.connections)
   unfolding live_connection
   timed-out-awaits clock c found = λ id. h id ∙ by_number id (eqb c.number id) refl
     where
@@ -475,13 +475,13 @@ module _ (s : State) (sound : IsSound s) (h : Await s) where
           let live = live-found clock s.connections.all c found in
           live.1 ∙ ap Some (due-one clock s.connections.all live.0 c (sound-apart 0 s.connections.next s.connections.all sound) found live.1)
 
-      by_number : (id : ℕ) (b : Bool) → eqb c.number id ≡ b → awaits id s.connections.all ≡ awaits id (change_first (is_live c.number) lost s.connections.all)
-      by_number id false e = ap count_awaiting (sym (changed-other id c.number lost (λ x. refl) e s.connections.all))
+      by_number : (id : ℕ) (b : Bool) → eqb c.number id ≡ b → awaits id s.connections.all ≡ awaits id (change_first (is_live c.number) lose s.connections.all)
+      by_number id false e = ap count_awaiting (sym (changed-other id c.number lose (λ x. refl) e s.connections.all))
       by_number id true e =
           let number : c.number ≡ id = eqb-true c.number id e in
           let before : awaits c.number s.connections.all ≡ 0 = ap count_awaiting here ∙ ap if_one (due-awaits-none clock c (find-holds (due_connection clock) s.connections.all c found)) in
-          let after : awaits c.number (change_first (is_live c.number) lost s.connections.all) ≡ 0 = ap count_awaiting (timed-out-gone c.number 0 s.connections.next s.connections.all sound) in
-          subst (λ (k : ℕ). awaits k s.connections.all ≡ awaits k (change_first (is_live c.number) lost s.connections.all)) number (before ∙ sym after)
+          let after : awaits c.number (change_first (is_live c.number) lose s.connections.all) ≡ 0 = ap count_awaiting (timed-out-gone c.number 0 s.connections.next s.connections.all sound) in
+          subst (λ (k : ℕ). awaits k s.connections.all ≡ awaits k (change_first (is_live c.number) lose s.connections.all)) number (before ∙ sym after)
 
   expire-awaits : (at : ℕ) (r : Expired × State) → Expiry s (max s.clock at) (at_fresh_moment at s) r → Await (show_expired r).1
   expire-awaits at r (NothingDue none free is) = rw is h
@@ -504,7 +504,7 @@ module _ (s : State) (sound : IsSound s) (h : Await s) where
   step-awaits (Datagram at peer content) =
       datagram-awaits (context_in (at_moment at s) (Udp peer)) peer (crowd_at s at (Udp peer) content) (serve (at_moment at s) (Udp peer) content).1 (serve (at_moment at s) (Udp peer) content).0 (same at peer content) refl (serve-enters (at_moment at s) (Udp peer) content)
     where
-      same : (at : ℕ) (peer : Peer) (content : List ℕ) → (serve (at_moment at s) (Udp peer) content).1.connections ≡ evicting (crowd_at s at (Udp peer) content) s.connections
+      same : (at : ℕ) (peer : Peer) (content : List ℕ) → (serve (at_moment at s) (Udp peer) content).1.connections ≡ evict (crowd_at s at (Udp peer) content) s.connections
       same at peer content = refl
   step-awaits Unsent = h
   step-awaits (Sent number) = sent-await number (can_be_sent number s.ledger.forwards)

@@ -4,7 +4,7 @@ use Rattle.std.proofs.Common.{◌≡◌, ◌⊎◌, inl, inr, ℕ, ◌+◌, zero
 use Rattle.std.proofs.lemmas.Bool.{eqb-true, eq-eqb, le-leb, leb-true, lt-ltb, le-ltb, ltb-true, ltb-false}
 use Rattle.std.proofs.lemmas.List.{map-append}
 use Rattle.std.proofs.lemmas.List.Sums.{sum_by-cons, sum_by-append, sum_by_push}
-use Rattle.rb_forward.specs.Forwards.{Entry, Forwards, started, next_entry, sent, without_first, change_first, as_sent, is_unsent}
+use Rattle.rb_forward.specs.Forwards.{Entry, Forwards, with_next_entry, next_entry, sent, without_first, change_first, as_sent, is_unsent}
 use Rattle.rb_forward.specs.Laws.{number_of, times}
 use Rattle.rb_model.specs.State.{State, opening}
 use Rattle.rb_model.specs.Step.{Event, step, after}
@@ -43,7 +43,7 @@ ended test (e ∷ all) = by_test (test e) (behind_one e.number (map number_of al
     by_test false later = later
 
 goes-one : (cap : ℕ) (s t : State) → Goes cap s.ledger.forwards t.ledger.forwards → ChangesAtMostOne s t
-unfolding started next_entry sent
+unfolding with_next_entry next_entry sent
 goes-one cap s t (goes.Same is) = Same (ap (λ (f : Forwards). map number_of f.all) is) (ap (λ (f : Forwards). f.next) is)
 goes-one cap s t (goes.Begins clock forward args short can is) =
     OneBegins (ap (λ (f : Forwards). map number_of f.all) is ∙ map-append number_of s.ledger.forwards.all (next_entry clock forward args s.ledger.forwards ∷ [])) (ap (λ (f : Forwards). f.next) is)

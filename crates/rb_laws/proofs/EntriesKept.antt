@@ -16,7 +16,7 @@ use Rattle.rb_registry.specs.declared.row.Which.{Which}
 use Rattle.rb_forward.specs.declared.types.Forward.{Forward}
 use Rattle.rb_forward.specs.declared.types.Kind.{Kind}
 use Rattle.rb_forward.specs.declared.types.Ended.{Ended}
-use Rattle.rb_forward.specs.Forwards.{Entry, Forwards, greatest_number, can_start, started, next_entry, sent, can_be_sent, without_first, change_first, as_sent, is_unsent, reply, due, drop_caller, counts_for, is_due, is_of_connection, longest_arguments}
+use Rattle.rb_forward.specs.Forwards.{Entry, Forwards, greatest_number, can_start, with_next_entry, next_entry, sent, can_be_sent, without_first, change_first, as_sent, is_unsent, reply, due, drop_caller, counts_for, is_due, is_of_connection, longest_forwarded}
 use Rattle.rb_proto.specs.declared.context.Context.{Context}
 use Rattle.rb_proto.specs.declared.mapping.Mapping.{Mapping}
 use Rattle.rb_proto.specs.declared.remote.RemoteCall.{RemoteCall}
@@ -24,11 +24,11 @@ use Rattle.rb_proto.specs.declared.procedure.MappingProcedure.TheVariants as map
 use Rattle.rb_proto.specs.declared.procedure.RpcbProcedure.TheVariants as rpcbs
 use Rattle.rb_proto.specs.declared.request.Request.{Request}
 use Rattle.rb_proto.specs.declared.request.Request.TheVariants as requests
-use Rattle.rb_proto.specs.Ledger.{Ledger, rows_in, called}
+use Rattle.rb_proto.specs.Ledger.{Ledger, rows_in, with_call_noted}
 use Rattle.rb_proto.specs.Netids.{transport_of_prot}
 use Rattle.rb_proto.specs.Remote.{args_of, HasContent}
 use Rattle.rb_proto.specs.Arguments.{HasArgs}
-use Rattle.rb_proto.specs.Forwarding.{peer_to_forward, forward_of, forward_to, forward_call, replied, fell_due, caller_dropped, call_sent}
+use Rattle.rb_proto.specs.Forwarding.{peer_to_forward, forward_of, forward_to, forward_call, target_replied, fell_due, caller_dropped, call_sent}
 use Rattle.rb_proto.specs.Answers.{set_row, unset_rows, port_on, getport, getaddr, getversaddr, answer_to, answer}
 use Rattle.rb_model.specs.Grammar.{HasArgsIn}
 use Rattle.rb_model.specs.declared.message.Message.{Message}
@@ -40,10 +40,10 @@ use Rattle.rb_model.specs.declared.types.Expired.{Expired}
 use Rattle.rb_model.specs.declared.types.Expired.TheVariants as expired
 use Rattle.rb_model.specs.Calls.{Outcome, Outcome as outcomes, message_of, outcome}
 use Rattle.rb_model.specs.State.{Setting, State, Connection, Connections, at_moment, opening}
-use Rattle.rb_model.specs.Connections.{Taking, taking, live_connection, closing_of}
+use Rattle.rb_model.specs.Connections.{Taking, taking_of, live_connection, closing_of}
 use Rattle.rb_model.specs.Connections.Taking.{TakesNone, GoesOn, Ends}
 use Rattle.rb_model.specs.Ending.{told_at, tell, tell_end, at_fresh_moment, forward_reply, expire_connection, expired_as, expire}
-use Rattle.rb_model.specs.Step.{Event, Output, context_in, serve, answering, moved, when_taken, bytes_to, bytes, pending, gave, is_too_much, open_connection, dropped_with, close_connection, with_reply, datagram, sent_call, output_or, show_taken, show_done, show_outcome, show_end, show_expired, step, after, IsReached}
+use Rattle.rb_model.specs.Step.{Event, Output, context_in, serve, serve_record, unless_refused, when_taken, bytes_to, bytes, pending, gave, is_too_much, open_connection, dropped_with, close_connection, with_reply, datagram, sent_call, output_or, show_taken, show_done, show_outcome, show_end, show_expired, step, after, IsReached}
 use Rattle.rb_model.specs.Step.Event.{Open, Bytes, Pending, Gave, Closed, NextLost, Datagram, Unsent, Sent, Forward as ForwardCame, Expire}
 use Rattle.rb_model.specs.Step.Output.{Opened, TooMuch, IsPending}
 use Rattle.rb_laws.proofs.AskedArgs.{message_has}
@@ -53,7 +53,7 @@ use Rattle.rb_laws.proofs.AskedArgs.{message_has}
 -- They are as they were, or one more began, for which there is room and whose arguments are short; or a call was sent; or one ended.
 pub data Goes (cap : ℕ) (old new : Forwards) : Type 0 where
   Same : new ≡ old → Goes cap old new
-  Begins : (clock : ℕ) (forward : Forward) (args : List ℕ) → length args ≤ longest_arguments → can_start cap old ≡ true → new ≡ started clock forward args old → Goes cap old new
+  Begins : (clock : ℕ) (forward : Forward) (args : List ℕ) → length args ≤ longest_forwarded → can_start cap old ≡ true → new ≡ with_next_entry clock forward args old → Goes cap old new
   IsSent : (number : ℕ) → new ≡ sent number old → Goes cap old new
   Ends1 : (test : Entry → Bool) → new ≡ record old { all = without_first test old.all } → Goes cap old new
 
@@ -75,7 +75,7 @@ getport-stays cap head m l = by_transport (transport_of_prot m.prot)
     by_transport None = Same refl
     by_transport (Some transport) = Same refl
 
-args-short : (remote : RemoteCall) (arguments : List ℕ) → HasContent remote arguments → length (args_of remote arguments) ≤ longest_arguments
+args-short : (remote : RemoteCall) (arguments : List ℕ) → HasContent remote arguments → length (args_of remote arguments) ≤ longest_forwarded
 args-short remote arguments has = let few = length-take (16 + remote.count - 16) (drop 16 arguments) in omega (arith, few, has.few)
 
 forward-goes : (context : Context) (xid : ℕ) (kind : Kind) (remote : RemoteCall) (arguments : List ℕ) (l : Ledger) → HasContent remote arguments → Goes context.forwards l.forwards (forward_call context xid kind remote arguments l).1.forwards
@@ -109,11 +109,11 @@ answer-goes context head (requests.Taddr2uaddr netbuf) arguments l has = Same re
 answer-goes context head (requests.Forward kind remote) arguments l has = forward-goes context head.xid kind remote arguments l has
 
 outcome-goes : (context : Context) (message : Message) (arguments : List ℕ) (l : Ledger) → HasArgsIn message arguments → Goes context.forwards l.forwards (outcome context message arguments l).1.forwards
-unfolding outcome answer called
+unfolding outcome answer with_call_noted
 outcome-goes context says.NoCall arguments l has = Same refl
 outcome-goes context (says.Refused head) arguments l has = Same refl
 outcome-goes context (says.Garbage head) arguments l has = Same refl
-outcome-goes context (says.Asked call) arguments l has = answer-goes context call.head call.request arguments (called call.head l) has
+outcome-goes context (says.Asked call) arguments l has = answer-goes context call.head call.request arguments (with_call_noted call.head l) has
 
 -- ---- what an event leaves of them
 
@@ -129,14 +129,14 @@ unfolding serve message_of
 serve-follows s now caller content =
     record { setting = refl; goes = outcome-goes (context_in (at_moment now s) caller) (message_of content) _ s.ledger (message_has (verdict content) (arguments_of content)) }
 
-moved-follows : {A : Type 0} (s : State) (now : ℕ) (show : A → Output) (r : Result A CoreFault × Connections) → Follows s (output_or show (moved now s r)).1
+moved-follows : {A : Type 0} (s : State) (now : ℕ) (show : A → Output) (r : Result A CoreFault × Connections) → Follows s (output_or show (unless_refused now s r)).1
 moved-follows s now show (Ok x, c) = record { setting = refl; goes = Same refl }
 moved-follows s now show (Err fault, c) = stays s
 
 bytes-follow : (s : State) (now id : ℕ) (piece : List ℕ) (o : Option Connection) → Follows s (output_or show_taken (bytes_to s now id piece o)).1
-unfolding answering
+unfolding serve_record
 bytes-follow s now id piece None = stays s
-bytes-follow s now id piece (Some c) = by_taking (taking c.phase piece)
+bytes-follow s now id piece (Some c) = by_taking (taking_of c.phase piece)
   where
     by_taking : (t : Taking) → Follows s (when_taken (at_moment now s) id piece c t).1
     by_taking TakesNone = record { setting = refl; goes = Same refl }
@@ -186,7 +186,7 @@ expired-follows s (None, u) f = by_found (expire_connection u) (record { setting
     by_found (e, t) g = elim e as (λ x. Follows s (show_expired (x, t)).1) [ expired.Nothing ↦ g | expired.Ended told ↦ g | expired.ConnectionClosed id ↦ g ]
 
 pub step-follows : (s : State) (event : Event) → Follows s (step s event).1
-unfolding step open_connection bytes gave close_connection datagram sent_call forward_reply expire replied fell_due call_sent reply due
+unfolding step open_connection bytes gave close_connection datagram sent_call forward_reply expire target_replied fell_due call_sent reply due
 step-follows s (Open now peer) = moved-follows s now Opened _
 step-follows s (Bytes now id piece) = bytes-follow s now id piece (live_connection id s.connections.all)
 step-follows s (Pending id) = shown-follows s IsPending (pending s id) s (stays s)
@@ -214,7 +214,7 @@ AreRising least next [] = least ≤ next
 AreRising least next (e ∷ all) = (least ≤ e.number) × AreRising (e.number + 1) next all
 
 abbrev pub HasShortArgs : Entry → Type 0
-HasShortArgs e = length e.args ≤ longest_arguments
+HasShortArgs e = length e.args ≤ longest_forwarded
 
 pub record AreKept (cap : ℕ) (f : Forwards) : Type 0 where
   pub order : AreRising 1 f.next f.all
@@ -290,7 +290,7 @@ room cap f e = ltb-true (length f.all) cap (first (nat_lt (length f.all) cap) (n
     first false b e = absurd cc
 
 goes-kept : (cap : ℕ) (old new : Forwards) → Goes cap old new → AreKept cap old → AreKept cap new
-unfolding started next_entry sent
+unfolding with_next_entry next_entry sent
 goes-kept cap old new (Same is) k = subst (AreKept cap) (sym is) k
 goes-kept cap old new (Begins clock forward args short can is) k =
     let free = room cap old can in

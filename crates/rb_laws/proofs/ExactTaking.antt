@@ -11,11 +11,11 @@ use Rattle.rb_model.specs.Calls.{Outcome, is_no_call}
 use Rattle.rb_model.specs.Calls.Outcome.{NoCall, Reply, Forwarded, Silent}
 use Rattle.rb_model.specs.State.{State, Phase, Connection, Connections, at_moment}
 use Rattle.rb_model.specs.State.Phase.{Idle, Reading, Owing, Awaiting, Lost}
-use Rattle.rb_model.specs.Connections.{live_connection, changed_at, reading, settled, fed_in}
-use Rattle.rb_model.specs.Step.{serve, answering, on_connection, bytes, IsReached}
+use Rattle.rb_model.specs.Connections.{live_connection, changed_at, keep_reading, settle, fed_in}
+use Rattle.rb_model.specs.Step.{serve, serve_record, on_connection, bytes, IsReached}
 use Rattle.rb_model.specs.declared.types.Taken.{Taken}
-use Rattle.rb_model.specs.Laws.{IsLive, Arrival, IsSettled, TakesNothing, ReadsOn, IsAnswered, EndsRecord, TakesExactly, BytesAreTakenExactly}
-use Rattle.rb_model.specs.Losses.{began_in, evicted, evicting}
+use Rattle.rb_model.specs.Laws.{IsLive, Arrival, GoesOnWith, TakesNothing, ReadsOn, IsAnswered, EndsRecord, TakesExactly, BytesAreTakenExactly}
+use Rattle.rb_model.specs.Losses.{stamp_in, evict_early, evict}
 use Rattle.rb_laws.proofs.Cuts.{find-changed, reading-feeds, fed-at, fed-no-list}
 use Rattle.rb_laws.proofs.Happenings.{said_in, answered_in, crowd_at}
 use Rattle.rb_laws.proofs.Live.{answering-feeds, replying-feeds, lost-gone}
@@ -41,47 +41,47 @@ module _ (s : State) (now id : ℕ) (c : Connection) (reached : IsReached s) (th
     stays = subst (λ (r : Result Taken CoreFault × State). IsLive r.1 id c) (sym is) there;
   }
 
-  goes-on : (fed piece : List ℕ) → IsLive (on_connection id (reading (max s.clock now) (fed ++ piece)) (at_moment now s)) id (reading (max s.clock now) (fed ++ piece) c)
+  goes-on : (fed piece : List ℕ) → IsLive (on_connection id (keep_reading (max s.clock now) (fed ++ piece)) (at_moment now s)) id (keep_reading (max s.clock now) (fed ++ piece) c)
   unfolding live_connection
-  goes-on fed piece = find-changed id (reading (max s.clock now) (fed ++ piece)) (reading-feeds id (max s.clock now) (fed ++ piece)) s.connections.all c there
+  goes-on fed piece = find-changed id (keep_reading (max s.clock now) (fed ++ piece)) (reading-feeds id (max s.clock now) (fed ++ piece)) s.connections.all c there
 
-  settles : (piece : List ℕ) (t : State) (said : Outcome) (changes : List ℕ) → began_in c.phase ≡ None → t.connections ≡ changed_at id (settled (max s.clock now) said) (evicting changes s.connections) → (bytes s now id piece).1 ≡ t
-      → IsSettled (arrival piece) said
-  unfolding live_connection settled
+  settles : (piece : List ℕ) (t : State) (said : Outcome) (changes : List ℕ) → stamp_in c.phase ≡ None → t.connections ≡ changed_at id (settle (max s.clock now) said) (evict changes s.connections) → (bytes s now id piece).1 ≡ t
+      → GoesOnWith (arrival piece) said
+  unfolding live_connection settle
   settles piece t NoCall changes none same is =
       ap (λ (u : State). live_connection id u.connections.all) is ∙ ap (λ (u : Connections). live_connection id u.all) same
-      ∙ lost-gone id (max s.clock now) 0 s.connections.next (map (evicted changes) s.connections.all) (mapped (evicted changes) (evicted-keeps changes) 0 s.connections.next s.connections.all (reached-sound s reached))
+      ∙ lost-gone id (max s.clock now) 0 s.connections.next (map (evict_early changes) s.connections.all) (mapped (evict_early changes) (evicted-keeps changes) 0 s.connections.next s.connections.all (reached-sound s reached))
   settles piece t Forwarded changes none same is =
       ap (λ (u : State). live_connection id u.connections.all) is ∙ ap (λ (u : Connections). live_connection id u.all) same
-      ∙ find-changed id (settled (max s.clock now) Forwarded) (answering-feeds id (max s.clock now) Forwarded refl) (map (evicted changes) s.connections.all) c (plain_lives id changes s.connections.all c there none)
+      ∙ find-changed id (settle (max s.clock now) Forwarded) (answering-feeds id (max s.clock now) Forwarded refl) (map (evict_early changes) s.connections.all) c (plain_lives id changes s.connections.all c there none)
   settles piece t Silent changes none same is =
       ap (λ (u : State). live_connection id u.connections.all) is ∙ ap (λ (u : Connections). live_connection id u.all) same
-      ∙ find-changed id (settled (max s.clock now) Silent) (answering-feeds id (max s.clock now) Silent refl) (map (evicted changes) s.connections.all) c (plain_lives id changes s.connections.all c there none)
+      ∙ find-changed id (settle (max s.clock now) Silent) (answering-feeds id (max s.clock now) Silent refl) (map (evict_early changes) s.connections.all) c (plain_lives id changes s.connections.all c there none)
   settles piece t (Reply reply began) changes none same is =
       ap (λ (u : State). live_connection id u.connections.all) is ∙ ap (λ (u : Connections). live_connection id u.all) same
-      ∙ find-changed id (settled (max s.clock now) (Reply reply began)) (replying-feeds id (max s.clock now) reply began) (map (evicted changes) s.connections.all) c (plain_lives id changes s.connections.all c there none)
+      ∙ find-changed id (settle (max s.clock now) (Reply reply began)) (replying-feeds id (max s.clock now) reply began) (map (evict_early changes) s.connections.all) c (plain_lives id changes s.connections.all c there none)
 
   -- the first record of these bytes
   ended-at : (fed : List ℕ) (b : ℕ) (piece : List ℕ) (n : ℕ) → fed_in c.phase ≡ Some fed → first_record (fed ++ b ∷ piece) ≡ Some n
       → bytes s now id (b ∷ piece) ≡ (
         Ok (record { count = n - length fed; closed = is_no_call (said_in s now id c (take n (fed ++ b ∷ piece))) }),
-        on_connection id (settled (max s.clock now) (said_in s now id c (take n (fed ++ b ∷ piece)))) (answered_in s now id c (take n (fed ++ b ∷ piece))),
+        on_connection id (settle (max s.clock now) (said_in s now id c (take n (fed ++ b ∷ piece)))) (answered_in s now id c (take n (fed ++ b ∷ piece))),
       )
-  unfolding answering serve
+  unfolding serve_record serve
   ended-at fed b piece n feeds some = fed-at s now id (b ∷ piece) c (Some fed) there feeds ∙ (rw some refl)
 
   read-at : (fed : List ℕ) (b : ℕ) (piece : List ℕ) → fed_in c.phase ≡ Some fed → first_record (fed ++ b ∷ piece) ≡ None
-      → bytes s now id (b ∷ piece) ≡ (Ok (record { count = length (b ∷ piece); closed = false }), on_connection id (reading (max s.clock now) (fed ++ b ∷ piece)) (at_moment now s))
+      → bytes s now id (b ∷ piece) ≡ (Ok (record { count = length (b ∷ piece); closed = false }), on_connection id (keep_reading (max s.clock now) (fed ++ b ∷ piece)) (at_moment now s))
   read-at fed b piece feeds none = fed-at s now id (b ∷ piece) c (Some fed) there feeds ∙ (rw none refl)
 
-  same_connections : (record_bytes : List ℕ) (said : Outcome) → (on_connection id (settled (max s.clock now) said) (answered_in s now id c record_bytes)).connections
-      ≡ changed_at id (settled (max s.clock now) said) (evicting (crowd_at s now (Tcp id c.peer) (data_of record_bytes)) s.connections)
+  same_connections : (record_bytes : List ℕ) (said : Outcome) → (on_connection id (settle (max s.clock now) said) (answered_in s now id c record_bytes)).connections
+      ≡ changed_at id (settle (max s.clock now) said) (evict (crowd_at s now (Tcp id c.peer) (data_of record_bytes)) s.connections)
   unfolding serve
   same_connections record_bytes said = refl
 
   by_record : (fed : List ℕ) (b : ℕ) (piece : List ℕ) → fed_in c.phase ≡ Some fed → AreBytes (fed ++ b ∷ piece) → (m : Option ℕ) → first_record (fed ++ b ∷ piece) ≡ m
       → ReadsOn (arrival (b ∷ piece)) fed ⊎ EndsRecord (arrival (b ∷ piece)) fed
-  unfolding reading
+  unfolding keep_reading
   by_record fed b piece feeds are None none =
       let e = read-at fed b piece feeds none in
       inl (record {

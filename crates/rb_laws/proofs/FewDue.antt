@@ -9,8 +9,8 @@ use Rattle.rb_model.specs.declared.types.Expired.{Expired}
 use Rattle.rb_model.specs.declared.types.Expired.TheVariants as expiries
 use Rattle.rb_model.specs.Calls.{Outcome}
 use Rattle.rb_model.specs.State.{State, Connection}
-use Rattle.rb_model.specs.Connections.{change_first, is_lost, is_live, settled}
-use Rattle.rb_model.specs.Losses.{is_due, lost}
+use Rattle.rb_model.specs.Connections.{change_first, is_lost, is_live, settle}
+use Rattle.rb_model.specs.Losses.{is_due, lose}
 use Rattle.rb_model.specs.Ending.{told_at, tell, at_fresh_moment, expire}
 use Rattle.rb_model.specs.Step.{show_expired, step, after}
 use Rattle.rb_model.specs.Step.Event.{Expire}
@@ -53,12 +53,12 @@ changed-count id f (c ∷ all) = by_test (is_live id c) refl (changed-count id f
         rw live (omega (arith, one))
     by_test false t rest = omega (arith, rest)
 
-lost-count : (id : ℕ) (all : List Connection) (c : Connection) → find (is_live id) all ≡ Some c → live_count (change_first (is_live id) lost all) + 1 ≡ live_count all
+lost-count : (id : ℕ) (all : List Connection) (c : Connection) → find (is_live id) all ≡ Some c → live_count (change_first (is_live id) lose all) + 1 ≡ live_count all
 lost-count id [] c h = absurd cc
 lost-count id (d ∷ all) c h = by_test (is_live id d) refl h (lost-count id all c)
   where
-    by_test : (b : Bool) → is_live id d ≡ b → cond b (Some d) (find (is_live id) all) ≡ Some c → (find (is_live id) all ≡ Some c → live_count (change_first (is_live id) lost all) + 1 ≡ live_count all)
-        → live_count (cond b (lost d ∷ all) (d ∷ change_first (is_live id) lost all)) + 1 ≡ cond (is_lost d.phase) 0 1 + live_count all
+    by_test : (b : Bool) → is_live id d ≡ b → cond b (Some d) (find (is_live id) all) ≡ Some c → (find (is_live id) all ≡ Some c → live_count (change_first (is_live id) lose all) + 1 ≡ live_count all)
+        → live_count (cond b (lose d ∷ all) (d ∷ change_first (is_live id) lose all)) + 1 ≡ cond (is_lost d.phase) 0 1 + live_count all
     by_test true t h rest =
         let live : is_lost d.phase ≡ false = live-not-lost id d t in
         rw live (omega arith)
@@ -98,7 +98,7 @@ abbrev pub due_count : State → ℕ
 due_count s = length s.ledger.forwards.all + live_count s.connections.all
 
 tell-count : (s : State) (caller : Caller) (said : Outcome) → due_count (tell caller said s).1 ≤ due_count s
-tell-count s (Tcp id peer) said = let less = changed-count id (settled s.clock said) s.connections.all in omega (arith, less)
+tell-count s (Tcp id peer) said = let less = changed-count id (settle s.clock said) s.connections.all in omega (arith, less)
 tell-count s (Udp peer) said = omega arith
 
 less-due : (s : State) (now : ℕ) (r : Expired × State) → Expiry s (max s.clock now) (at_fresh_moment now s) r → (r.0 ≡ expiries.Nothing) ⊎ (due_count r.1 + 1 ≤ due_count s)

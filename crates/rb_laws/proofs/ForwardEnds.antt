@@ -11,11 +11,11 @@ use Rattle.rb_forward.specs.Forwards.{Entry, Forwards, ended_by, with_end, witho
 use Rattle.rb_forward.specs.Ends.{IsFirst, IsReplyTo, EndsFirst as TableEnds}
 use Rattle.rb_forward.proofs.Ends.{ends_first, reply_means, reply_tested, due_means, due_tested}
 use Rattle.rb_proto.specs.Ledger.{Ledger}
-use Rattle.rb_proto.specs.Forwarding.{noted_end, replied, fell_due}
+use Rattle.rb_proto.specs.Forwarding.{noted_end, target_replied, fell_due}
 use Rattle.rb_model.specs.declared.types.Told.{Told}
 use Rattle.rb_model.specs.Calls.{Outcome}
 use Rattle.rb_model.specs.State.{State}
-use Rattle.rb_model.specs.Losses.{first_due, with_lost, expiring}
+use Rattle.rb_model.specs.Losses.{first_due, with_lost, expire_first}
 use Rattle.rb_model.specs.Ending.{told_at, tell, tell_end, at_fresh_moment, forward_reply, closed_as, expire_connection, expired_as, expire}
 use Rattle.rb_model.specs.DeadlineLaws.{EntryIsDue}
 use Rattle.rb_model.specs.ForwardLaws.{CallerGets, EndsFirst, EndsNone, EndsByReply, RepliesEndTheirOwn, EndsByDeadline, DeadlinesEndOne}
@@ -66,7 +66,7 @@ module _ (Is : Entry → Type 0) (test : Entry → Bool) (means : (e : Entry) �
           }
 
 pub replies_end_their_own : RepliesEndTheirOwn
-unfolding forward_reply replied reply
+unfolding forward_reply target_replied reply
 replies_end_their_own s now from message = as_reply _ _ (ends_or_not Is (counts_for s.setting.first_xid (max s.clock now) from message) (reply_means s.setting.first_xid (max s.clock now) from message) (reply_tested s.setting.first_xid (max s.clock now) from message) s now message (outcome_of message))
   where
     Is : Entry → Type 0
@@ -78,7 +78,7 @@ replies_end_their_own s now from message = as_reply _ _ (ends_or_not Is (counts_
     as_reply (Some told) t e = e
 
 pub deadlines_end_one : DeadlinesEndOne
-unfolding expire fell_due due expire_connection expiring
+unfolding expire fell_due due expire_connection expire_first
 deadlines_end_one s now = as_expired (tell_end [] (at_fresh_moment now s) (noted_end (with_end (is_due (max s.clock now)) Failed s.ledger.forwards) s.ledger))
     (ends_or_not (EntryIsDue (max s.clock now)) (is_due (max s.clock now)) (due_means (max s.clock now)) (due_tested (max s.clock now)) s now [] Failed)
   where

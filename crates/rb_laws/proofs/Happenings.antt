@@ -18,7 +18,7 @@ use Rattle.rb_forward.specs.declared.types.Outcome.TheVariants as ends
 use Rattle.rb_forward.specs.declared.types.Ended.{Ended as EntryEnd}
 use Rattle.rb_forward.specs.Forwards.{Entry, is_connection, is_of_connection, counts_for, is_due, outcome_of, ended_by, with_end, reply, due, can_be_sent}
 use Rattle.rb_proto.specs.Ledger.{Ledger}
-use Rattle.rb_proto.specs.Forwarding.{refusal, replied, fell_due, call_sent}
+use Rattle.rb_proto.specs.Forwarding.{refusal, target_replied, fell_due, call_sent}
 use Rattle.rb_model.specs.declared.types.CoreFault.{CoreFault}
 use Rattle.rb_model.specs.declared.types.CoreFault.TheVariants.{Full, Spent, Gone}
 use Rattle.rb_model.specs.declared.types.Told.{Told}
@@ -26,10 +26,10 @@ use Rattle.rb_model.specs.declared.types.Told.TheVariants.{TcpReady}
 use Rattle.rb_model.specs.declared.types.Told.TheVariants as tolds
 use Rattle.rb_model.specs.Calls.{Outcome, Outcome as outcomes, is_no_call, message_of}
 use Rattle.rb_model.specs.State.{State, Connection, Connections, at_moment, greatest_number}
-use Rattle.rb_model.specs.Connections.{fed_in, taking, taking_up_to, reading, settled, giving, pending_in, live_connection, changed_at, on_found, number_for, with_new, opening_as, opening_of, is_there, without_number, closing_of}
+use Rattle.rb_model.specs.Connections.{fed_in, taking_of, taking_up_to, keep_reading, settle, give, pending_in, live_connection, changed_at, on_found, number_for, with_new, opening_as, opening_of, is_there, without_number, closing_of}
 use Rattle.rb_model.specs.Ending.{refused_by, told_failed, told_of, told_at, tell, tell_end, at_fresh_moment, forward_reply, expired_as, expire}
-use Rattle.rb_model.specs.Losses.{crowding, evicting, is_due as connection_is_due, lost}
-use Rattle.rb_model.specs.Step.{Event, Output, context_in, serve, answering, moved, when_taken, bytes_to, bytes, pending, pending_on, gave, is_too_much, open_connection, dropped_with, close_connection, next_lost, with_reply, datagram, unsent_call, sent_call, output_or, show_taken, show_done, show_outcome, show_told, show_end, show_expired, on_connection, step}
+use Rattle.rb_model.specs.Losses.{removals_in_the_way, evict, is_due as connection_is_due, lose}
+use Rattle.rb_model.specs.Step.{Event, Output, context_in, serve, serve_record, unless_refused, when_taken, bytes_to, bytes, pending, pending_on, gave, is_too_much, open_connection, dropped_with, close_connection, next_lost, with_reply, datagram, unsent_call, sent_call, output_or, show_taken, show_done, show_outcome, show_told, show_end, show_expired, on_connection, step}
 use Rattle.rb_model.specs.declared.types.Taken.{Taken}
 use Rattle.rb_model.specs.Step.Event.{Open, Bytes, Pending, Gave, Closed, NextLost, Datagram, Unsent, Sent, Forward, Expire}
 use Rattle.rb_model.specs.Step.Output.{Opened, Refused, TooMuch, Took, IsPending, Done, LostIs, Replied, Forwarded, Silent, UnsentIs, Ignored, Nothing, ConnectionClosed, Ready, RepliedTo}
@@ -55,15 +55,15 @@ pub data Arriving (s : State) (now id : ℕ) (piece : List ℕ) (r : Result Take
   NotTaken : (c : Connection) → live_connection id s.connections.all ≡ Some c → (fed_in c.phase ≡ None) ⊎ (piece ≡ [])
       → r ≡ (Ok (record { count = 0; closed = false }), at_moment now s) → Arriving s now id piece r
   ReadOn : (c : Connection) (fed : List ℕ) → live_connection id s.connections.all ≡ Some c → fed_in c.phase ≡ Some fed → first_record (fed ++ piece) ≡ None
-      → r ≡ (Ok (record { count = length piece; closed = false }), on_connection id (reading (max s.clock now) (fed ++ piece)) (at_moment now s)) → Arriving s now id piece r
+      → r ≡ (Ok (record { count = length piece; closed = false }), on_connection id (keep_reading (max s.clock now) (fed ++ piece)) (at_moment now s)) → Arriving s now id piece r
   Ended : (c : Connection) (fed : List ℕ) (n : ℕ) → live_connection id s.connections.all ≡ Some c → fed_in c.phase ≡ Some fed → first_record (fed ++ piece) ≡ Some n
       → r ≡ (
         Ok (record { count = n - length fed; closed = is_no_call (said_in s now id c (take n (fed ++ piece))) }),
-        on_connection id (settled (max s.clock now) (said_in s now id c (take n (fed ++ piece)))) (answered_in s now id c (take n (fed ++ piece))),
+        on_connection id (settle (max s.clock now) (said_in s now id c (take n (fed ++ piece)))) (answered_in s now id c (take n (fed ++ piece))),
       ) → Arriving s now id piece r
 
 pub arriving : (s : State) (now id : ℕ) (piece : List ℕ) → Arriving s now id piece (bytes s now id piece)
-unfolding bytes taking answering serve
+unfolding bytes taking_of serve_record serve
 arriving s now id piece = by_live (live_connection id s.connections.all) refl
   where
     by_record : (c : Connection) → live_connection id s.connections.all ≡ Some c → (fed piece : List ℕ) → fed_in c.phase ≡ Some fed → (m : Option ℕ) → first_record (fed ++ piece) ≡ m
@@ -100,27 +100,27 @@ has_entry id s = list_any (is_of_connection id) s.ledger.forwards.all
 
 -- what is in the way of the row that a message brings
 abbrev pub crowd_at : State → ℕ → Caller → List ℕ → List ℕ
-crowd_at s at caller content = crowding (context_in (at_moment at s) caller) (message_of content) s.connections.all s.ledger
+crowd_at s at caller content = removals_in_the_way (context_in (at_moment at s) caller) (message_of content) s.connections.all s.ledger
 
 pub data Happening (s : State) (event : Event) (output : Output) (now : Connections) : Type 0 where
   Stays : IsQuiet s event output → now ≡ s.connections → Happening s event output now
-  Evicts : (at : ℕ) (peer : Peer) (content : List ℕ) → event ≡ Datagram at peer content → IsQuiet s event output → now ≡ evicting (crowd_at s at (Udp peer) content) s.connections → Happening s event output now
+  Evicts : (at : ℕ) (peer : Peer) (content : List ℕ) → event ≡ Datagram at peer content → IsQuiet s event output → now ≡ evict (crowd_at s at (Udp peer) content) s.connections → Happening s event output now
   Opens : (at : ℕ) (peer : Peer) → event ≡ Open at peer → output ≡ Opened s.connections.next → now ≡ with_new peer (max s.clock at) s.connections → Happening s event output now
   Reads : (at id : ℕ) (piece : List ℕ) (c : Connection) (fed : List ℕ) → event ≡ Bytes at id piece
       → live_connection id s.connections.all ≡ Some c → fed_in c.phase ≡ Some fed → first_record (fed ++ piece) ≡ None
-      → output ≡ Took (length piece) → now ≡ changed_at id (reading (max s.clock at) (fed ++ piece)) s.connections → Happening s event output now
+      → output ≡ Took (length piece) → now ≡ changed_at id (keep_reading (max s.clock at) (fed ++ piece)) s.connections → Happening s event output now
   Ends : (at id : ℕ) (piece : List ℕ) (c : Connection) (fed : List ℕ) (n : ℕ) → event ≡ Bytes at id piece
       → live_connection id s.connections.all ≡ Some c → fed_in c.phase ≡ Some fed → first_record (fed ++ piece) ≡ Some n
       → output ≡ show_taken (record { count = n - length fed; closed = is_no_call (said_in s at id c (take n (fed ++ piece))) })
-      → now ≡ changed_at id (settled (max s.clock at) (said_in s at id c (take n (fed ++ piece)))) (evicting (crowd_at s at (Tcp id c.peer) (data_of (take n (fed ++ piece)))) s.connections)
+      → now ≡ changed_at id (settle (max s.clock at) (said_in s at id c (take n (fed ++ piece)))) (evict (crowd_at s at (Tcp id c.peer) (data_of (take n (fed ++ piece)))) s.connections)
       → Happening s event output now
   Gives : (at id n : ℕ) (c : Connection) → event ≡ Gave at id n → live_connection id s.connections.all ≡ Some c → n ≤ length (pending_in c.phase)
-      → output ≡ Done → now ≡ changed_at id (λ x. (giving (max s.clock at) n x).1) s.connections → Happening s event output now
+      → output ≡ Done → now ≡ changed_at id (λ x. (give (max s.clock at) n x).1) s.connections → Happening s event output now
   Closes : (id : ℕ) → event ≡ Closed id → output ≡ Done → is_there id s.connections ≡ true → now ≡ without_number id s.connections → Happening s event output now
   Tells : (at id : ℕ) (said : Outcome) → is_end event ≡ true → IsQuiet s event output → IsFinal said → told_by s id event ≡ Some said → has_entry id s ≡ true
-      → now ≡ changed_at id (settled (max s.clock at) said) s.connections → Happening s event output now
+      → now ≡ changed_at id (settle (max s.clock at) said) s.connections → Happening s event output now
   TimesOut : (at : ℕ) (c : Connection) → event ≡ Expire at → IsQuiet s event output → find (is_due (max s.clock at)) s.ledger.forwards.all ≡ None
-      → find (connection_is_due (max s.clock at)) s.connections.all ≡ Some c → now ≡ changed_at c.number lost s.connections → Happening s event output now
+      → find (connection_is_due (max s.clock at)) s.connections.all ≡ Some c → now ≡ changed_at c.number lose s.connections → Happening s event output now
 
 -- ---- what a caller is told at an end
 
@@ -164,8 +164,8 @@ was-there s test outcome = λ ended is id of. by_found (find test s.ledger.forwa
         let same : ended_by outcome e ≡ ended = cc in
         find-any test (is_of_connection id) s.ledger.forwards.all e h (ap (λ (x : EntryEnd). is_connection id x.forward.caller) same ∙ of)
 
-pub replied-there : (s : State) (clock : ℕ) (from : Peer) (message : List ℕ) → WasThere s (replied s.setting.first_xid clock from message s.ledger).0
-unfolding replied reply
+pub replied-there : (s : State) (clock : ℕ) (from : Peer) (message : List ℕ) → WasThere s (target_replied s.setting.first_xid clock from message s.ledger).0
+unfolding target_replied reply
 replied-there s clock from message = was-there s (counts_for s.setting.first_xid clock from message) (outcome_of message)
 
 pub due-there : (s : State) (clock : ℕ) → WasThere s (fell_due clock s.ledger).0
@@ -189,7 +189,7 @@ module _ (s : State) where
   quiet event output a b c = record { no_number = a; no_count = b; none_given = c }
 
   open-happens : (at : ℕ) (peer : Peer) (r : Result ℕ CoreFault) → number_for s.setting.limits.conns s.connections ≡ r
-      → Happens (Open at peer) (output_or Opened (moved at s (opening_as peer (max s.clock at) s.connections r)))
+      → Happens (Open at peer) (output_or Opened (unless_refused at s (opening_as peer (max s.clock at) s.connections r)))
   open-happens at peer (Err fault) e = Stays (quiet (Open at peer) (Refused fault) refl refl (λ k. refl)) refl
   open-happens at peer (Ok number) e = Opens at peer refl (ap Opened (number-is-next number e)) refl
 
@@ -205,12 +205,12 @@ module _ (s : State) where
   pending-happens id (Err fault) = Stays (quiet (Pending id) (Refused fault) refl refl (λ k. refl)) refl
 
   gave-happens : (at id n : ℕ) (o : Option Connection) → live_connection id s.connections.all ≡ o
-      → Happens (Gave at id n) (cond (is_too_much n (pending_on o)) (TooMuch, s) (output_or show_done (moved at s (on_found id (giving (max s.clock at) n) s.connections o))))
+      → Happens (Gave at id n) (cond (is_too_much n (pending_on o)) (TooMuch, s) (output_or show_done (unless_refused at s (on_found id (give (max s.clock at) n) s.connections o))))
   gave-happens at id n None e = Stays (quiet (Gave at id n) (Refused Gone) refl refl (λ k. refl)) refl
   gave-happens at id n (Some c) e = by_test (nat_lt (length (pending_in c.phase)) n) refl
     where
       by_test : (b : Bool) → nat_lt (length (pending_in c.phase)) n ≡ b
-          → Happens (Gave at id n) (cond b (TooMuch, s) (output_or show_done (moved at s (on_found id (giving (max s.clock at) n) s.connections (Some c)))))
+          → Happens (Gave at id n) (cond b (TooMuch, s) (output_or show_done (unless_refused at s (on_found id (give (max s.clock at) n) s.connections (Some c)))))
       by_test true t = Stays (quiet (Gave at id n) TooMuch refl refl (λ k. refl)) refl
       by_test false t = Gives at id n c refl e (ltb-false (length (pending_in c.phase)) n t) refl refl
 
@@ -219,13 +219,13 @@ module _ (s : State) where
   close-happens id true e = Closes id refl refl e refl
   close-happens id false e = Stays (quiet (Closed id) (Refused Gone) refl refl (λ k. refl)) refl
 
-  outcome-happens : (at : ℕ) (peer : Peer) (content : List ℕ) (r : Outcome × State) → r.1.connections ≡ evicting (crowd_at s at (Udp peer) content) s.connections → Happens (Datagram at peer content) (show_outcome (with_reply r))
+  outcome-happens : (at : ℕ) (peer : Peer) (content : List ℕ) (r : Outcome × State) → r.1.connections ≡ evict (crowd_at s at (Udp peer) content) s.connections → Happens (Datagram at peer content) (show_outcome (with_reply r))
   outcome-happens at peer content (outcomes.NoCall, t) same = Evicts at peer content refl (quiet (Datagram at peer content) Silent refl refl (λ k. refl)) same
   outcome-happens at peer content (outcomes.Reply reply began, t) same = Evicts at peer content refl (quiet (Datagram at peer content) (Replied reply) refl refl (λ k. refl)) same
   outcome-happens at peer content (outcomes.Forwarded, t) same = Evicts at peer content refl (quiet (Datagram at peer content) Forwarded refl refl (λ k. refl)) same
   outcome-happens at peer content (outcomes.Silent, t) same = Evicts at peer content refl (quiet (Datagram at peer content) Silent refl refl (λ k. refl)) same
 
-  served-connections : (at : ℕ) (caller : Caller) (content : List ℕ) → (serve (at_moment at s) caller content).1.connections ≡ evicting (crowd_at s at caller content) s.connections
+  served-connections : (at : ℕ) (caller : Caller) (content : List ℕ) → (serve (at_moment at s) caller content).1.connections ≡ evict (crowd_at s at caller content) s.connections
   unfolding serve
   served-connections at caller content = refl
 
@@ -303,7 +303,7 @@ module _ (s : State) where
   happening Unsent = Stays (quiet Unsent (UnsentIs (unsent_call s)) refl refl (λ k. refl)) refl
   happening (Sent number) = sent-happens number (can_be_sent number s.ledger.forwards)
   happening (Forward at from message) =
-      end-happens (Forward at from message) at message show_end (replied s.setting.first_xid (max s.clock at) from message s.ledger) refl (end-shows (Forward at from message)) (replied-there s (max s.clock at) from message) (λ k. refl)
+      end-happens (Forward at from message) at message show_end (target_replied s.setting.first_xid (max s.clock at) from message s.ledger) refl (end-shows (Forward at from message)) (replied-there s (max s.clock at) from message) (λ k. refl)
   happening (Expire at) = expire-happens at (expire s at) (expiry s at)
 
 -- ---- what a connection is told by an event
@@ -313,7 +313,7 @@ pub record TellsTo (s : State) (event : Event) (id : ℕ) (said : Outcome) (now 
   pub ends : is_end event ≡ true
   pub final : IsFinal said
   pub has : has_entry id s ≡ true
-  pub same : now ≡ changed_at id (settled (max s.clock at) said) s.connections
+  pub same : now ≡ changed_at id (settle (max s.clock at) said) s.connections
 
 module _ (s : State) where
   told-to : (event : Event) (at : ℕ) (message : List ℕ) (id : ℕ) (said : Outcome) (r : Option EntryEnd × Ledger) (show : Option Told × State → Output × State) → is_end event ≡ true → WasThere s r.0
@@ -348,13 +348,13 @@ module _ (s : State) where
                 ends = is;
                 final = subst (λ (o : Outcome). IsFinal o) it (told-final message ended);
                 has = there ended refl id of;
-                same = leaves (told-then (Tcp k peer)).0 (told-then (Tcp k peer)).1 ∙ ap (λ (j : ℕ). changed_at j (settled (max s.clock at) (told_at message ended)) s.connections) (eqb-true k id n)
-                    ∙ ap (λ (o : Outcome). changed_at id (settled (max s.clock at) o) s.connections) it;
+                same = leaves (told-then (Tcp k peer)).0 (told-then (Tcp k peer)).1 ∙ ap (λ (j : ℕ). changed_at j (settle (max s.clock at) (told_at message ended)) s.connections) (eqb-true k id n)
+                    ∙ ap (λ (o : Outcome). changed_at id (settle (max s.clock at) o) s.connections) it;
               }
 
   pub tells : (event : Event) (id : ℕ) (said : Outcome) → told_by s id event ≡ Some said → TellsTo s event id said (step s event).1.connections
   unfolding step forward_reply expire
-  tells (Forward at from message) id said told = told-to (Forward at from message) at message id said (replied s.setting.first_xid (max s.clock at) from message s.ledger) show_end refl (replied-there s (max s.clock at) from message) (λ x u. refl) told
+  tells (Forward at from message) id said told = told-to (Forward at from message) at message id said (target_replied s.setting.first_xid (max s.clock at) from message s.ledger) show_end refl (replied-there s (max s.clock at) from message) (λ x u. refl) told
   tells (Expire at) id said told = told-to (Expire at) at [] id said (fell_due (max s.clock at) s.ledger) (λ r. show_expired (expired_as r)) refl (due-there s (max s.clock at)) (λ x u. refl) told
   tells (Open at peer) id said told = absurd cc
   tells (Bytes at k piece) id said told = absurd cc

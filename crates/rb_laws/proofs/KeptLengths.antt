@@ -16,7 +16,7 @@ use Rattle.rb_rpc.specs.Verdict.{body_length, auth_end, is_over_long, is_broken,
 use Rattle.rb_rpc.specs.declared.call.Verdict.TheVariants.{NoCall, RpcMismatch, AuthError, Call}
 use Rattle.rb_rpc.proofs.Auths.{or_parts, or_no}
 use Rattle.rb_feed.specs.Feeds.{behind_head, arguments_of}
-use Rattle.rb_model.specs.Calls.{longest_arguments, kept_of}
+use Rattle.rb_model.specs.Calls.{longest_kept, kept_of}
 
 -- ---- what is read at a place in front is the same where more follows
 
@@ -331,4 +331,4 @@ kept_few fed more =
     let grows = data_of_more fed more in
     let few : length (arguments_of (data_of (fed ++ more))) ≤ length (arguments_of (data_of fed)) + length grows.more =
     subst (λ (xs : List ℕ). length (arguments_of xs) ≤ length (arguments_of (data_of fed)) + length grows.more) (sym grows.is) (arguments_few (data_of fed) grows.more) in
-    omega (arith, few, grows.few, length-take longest_arguments (arguments_of (data_of (fed ++ more))), length-take longest_arguments (arguments_of (data_of fed)))
+    omega (arith, few, grows.few, length-take longest_kept (arguments_of (data_of (fed ++ more))), length-take longest_kept (arguments_of (data_of fed)))

@@ -13,7 +13,7 @@ use Rattle.rb_registry.specs.Slots.{slot_of, removal_of, slots_by, all_slots}
 use Rattle.rb_proto.specs.Ledger.{Ledger, rows_in}
 use Rattle.rb_model.specs.State.{Connection}
 use Rattle.rb_model.specs.Connections.{change_first}
-use Rattle.rb_model.specs.Losses.{began_in, begins, is_retained_for, retained_removals, began_before, evicted, lost}
+use Rattle.rb_model.specs.Losses.{stamp_in, list_stamps, is_retained_for, retained_removals, began_before, evict_early, lose}
 
 -- ---- which rows connections keep
 
@@ -24,14 +24,14 @@ is_before change (Some n) = nat_lt n change
 
 -- the connection is given a list that began before the change
 abbrev pub keeps : ℕ → Connection → Bool
-keeps change c = is_before change (began_in c.phase)
+keeps change c = is_before change (stamp_in c.phase)
 
-pub retained_by : (change : ℕ) (all : List Connection) → is_retained_for (begins all) change ≡ list_any (keeps change) all
-unfolding begins
+pub retained_by : (change : ℕ) (all : List Connection) → is_retained_for (list_stamps all) change ≡ list_any (keeps change) all
+unfolding list_stamps
 retained_by change [] = refl
-retained_by change (c ∷ all) = by_began (began_in c.phase) refl (retained_by change all)
+retained_by change (c ∷ all) = by_began (stamp_in c.phase) refl (retained_by change all)
   where
-    by_began : (o : Option ℕ) → began_in c.phase ≡ o → is_retained_for (begins all) change ≡ list_any (keeps change) all → is_retained_for (begins (c ∷ all)) change ≡ list_any (keeps change) (c ∷ all)
+    by_began : (o : Option ℕ) → stamp_in c.phase ≡ o → is_retained_for (list_stamps all) change ≡ list_any (keeps change) all → is_retained_for (list_stamps (c ∷ all)) change ≡ list_any (keeps change) (c ∷ all)
     by_began None e rest = rw e rest
     by_began (Some n) e rest = rw e (ap (λ (b : Bool). nat_lt n change || b) rest)
 
@@ -73,7 +73,7 @@ filtered-kept most test (c ∷ all) change few is = by_test (test c) is (filtere
     by_test true e further = either (keeps change c) (list_any (keeps change) (filter test all)) (keeps change c) (list_any (keeps change) all) (λ x. x) further e
     by_test false e further = elim (keeps change c) as (λ b. (b || list_any (keeps change) all) ≡ true) [ true ↦ refl | false ↦ further e ]
 
-pub one-more-kept : (most : ℕ) (all : List Connection) (c : Connection) → began_in c.phase ≡ None → KeepsLess most (all ++ c ∷ []) all
+pub one-more-kept : (most : ℕ) (all : List Connection) (c : Connection) → stamp_in c.phase ≡ None → KeepsLess most (all ++ c ∷ []) all
 one-more-kept most [] c none change few is = let clash : false ≡ true = rw none at is in absurd cc
 one-more-kept most (d ∷ all) c none change few is =
     either (keeps change d) (list_any (keeps change) (all ++ c ∷ [])) (keeps change d) (list_any (keeps change) all) (λ x. x) (one-more-kept most all c none change few) is
@@ -94,18 +94,18 @@ is_there slot = is_none slot.removed
 abbrev removals : List Slot → List ℕ
 removals slots = filter_map (λ (slot : Slot). slot.removed) slots
 
-parted : (all : List Connection) (slots : List Slot) → length (filter (counts all) slots) ≡ length (filter is_there slots) + length (filter (is_retained_for (begins all)) (removals slots))
+parted : (all : List Connection) (slots : List Slot) → length (filter (counts all) slots) ≡ length (filter is_there slots) + length (filter (is_retained_for (list_stamps all)) (removals slots))
 parted all [] = refl
 parted all (slot ∷ slots) = by_removed slot.removed refl (parted all slots)
   where
-    by_removed : (o : Option ℕ) → slot.removed ≡ o → length (filter (counts all) slots) ≡ length (filter is_there slots) + length (filter (is_retained_for (begins all)) (removals slots))
-        → length (filter (counts all) (slot ∷ slots)) ≡ length (filter is_there (slot ∷ slots)) + length (filter (is_retained_for (begins all)) (removals (slot ∷ slots)))
+    by_removed : (o : Option ℕ) → slot.removed ≡ o → length (filter (counts all) slots) ≡ length (filter is_there slots) + length (filter (is_retained_for (list_stamps all)) (removals slots))
+        → length (filter (counts all) (slot ∷ slots)) ≡ length (filter is_there (slot ∷ slots)) + length (filter (is_retained_for (list_stamps all)) (removals (slot ∷ slots)))
     by_removed None e rest = rw e (omega (arith, rest))
     by_removed (Some change) e rest = by_test (list_any (keeps change) all) refl
       where
-        by_test : (b : Bool) → list_any (keeps change) all ≡ b → length (filter (counts all) (slot ∷ slots)) ≡ length (filter is_there (slot ∷ slots)) + length (filter (is_retained_for (begins all)) (removals (slot ∷ slots)))
-        by_test true t = let kept : is_retained_for (begins all) change ≡ true = retained_by change all ∙ t in rw e (rw (t, kept) (omega (arith, rest)))
-        by_test false t = let kept : is_retained_for (begins all) change ≡ false = retained_by change all ∙ t in rw e (rw (t, kept) rest)
+        by_test : (b : Bool) → list_any (keeps change) all ≡ b → length (filter (counts all) (slot ∷ slots)) ≡ length (filter is_there (slot ∷ slots)) + length (filter (is_retained_for (list_stamps all)) (removals (slot ∷ slots)))
+        by_test true t = let kept : is_retained_for (list_stamps all) change ≡ true = retained_by change all ∙ t in rw e (rw (t, kept) (omega (arith, rest)))
+        by_test false t = let kept : is_retained_for (list_stamps all) change ≡ false = retained_by change all ∙ t in rw e (rw (t, kept) rest)
 
 none-removes : (count : ℕ) (row : Row) (later : List Change) → is_none (removal_of count row later) ≡ not (list_any (covers row) later)
 none-removes count row [] = refl
@@ -258,19 +258,19 @@ before-all n m early (k ∷ numbers) e =
 
 module _ (change : ℕ) (changes : List ℕ) (m : ℕ) (low : list_all (λ n. nat_le m n) (change ∷ changes) ≡ true) where
   -- so no connection keeps the row of the least once those are evicted
-  none-keeps : (c : Connection) → keeps m (evicted (change ∷ changes) c) ≡ false
-  unfolding evicted
-  none-keeps c = by_began (began_in c.phase) refl
+  none-keeps : (c : Connection) → keeps m (evict_early (change ∷ changes) c) ≡ false
+  unfolding evict_early
+  none-keeps c = by_began (stamp_in c.phase) refl
     where
-      by_began : (o : Option ℕ) → began_in c.phase ≡ o → is_before m (began_in (cond (began_before (change ∷ changes) (began_in c.phase)) (lost c) c).phase) ≡ false
+      by_began : (o : Option ℕ) → stamp_in c.phase ≡ o → is_before m (stamp_in (cond (began_before (change ∷ changes) (stamp_in c.phase)) (lose c) c).phase) ≡ false
       by_began None e = rw e (rw e refl)
       by_began (Some n) e = rw e (by_early (nat_lt n m) refl)
         where
-          by_early : (b : Bool) → nat_lt n m ≡ b → is_before m (began_in (cond (list_all (λ later. nat_lt n later) (change ∷ changes)) (lost c) c).phase) ≡ false
+          by_early : (b : Bool) → nat_lt n m ≡ b → is_before m (stamp_in (cond (list_all (λ later. nat_lt n later) (change ∷ changes)) (lose c) c).phase) ≡ false
           by_early true t = rw (before-all n m t (change ∷ changes) low) refl
-          by_early false t = elim (list_all (λ later. nat_lt n later) (change ∷ changes)) as (λ b. is_before m (began_in (cond b (lost c) c).phase) ≡ false) [ true ↦ refl | false ↦ rw e t ]
+          by_early false t = elim (list_all (λ later. nat_lt n later) (change ∷ changes)) as (λ b. is_before m (stamp_in (cond b (lose c) c).phase) ≡ false) [ true ↦ refl | false ↦ rw e t ]
 
-  pub none-keep : (all : List Connection) → list_any (keeps m) (map (evicted (change ∷ changes)) all) ≡ false
+  pub none-keep : (all : List Connection) → list_any (keeps m) (map (evict_early (change ∷ changes)) all) ≡ false
   none-keep [] = refl
   none-keep (c ∷ all) = rw (none-keeps c) (none-keep all)
 

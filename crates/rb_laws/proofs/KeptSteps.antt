@@ -21,7 +21,7 @@ use Rattle.rb_forward.specs.declared.types.Kind.{Kind}
 use Rattle.rb_forward.specs.declared.types.Outcome as target
 use Rattle.rb_forward.specs.declared.types.Outcome.TheVariants as ends
 use Rattle.rb_forward.specs.declared.types.Ended.{Ended as EntryEnd}
-use Rattle.rb_forward.specs.Forwards.{can_start, started, can_be_sent}
+use Rattle.rb_forward.specs.Forwards.{can_start, with_next_entry, can_be_sent}
 use Rattle.rb_proto.specs.declared.answers.Answer.{Answer}
 use Rattle.rb_proto.specs.declared.answers.Answer.TheVariants as answers
 use Rattle.rb_proto.specs.declared.answers.Results.{Results}
@@ -35,8 +35,8 @@ use Rattle.rb_proto.specs.declared.request.Request.{Request}
 use Rattle.rb_proto.specs.declared.request.Request.TheVariants as requests
 use Rattle.rb_proto.specs.Answers.{accepts, accepts_row, accepts_removal, adds, adds_row, row_asked, row_to_set, removal_of, change_if, set_row, unset_rows, port_on, getport, getaddr, getversaddr, answer_to, answer}
 use Rattle.rb_proto.specs.Callers.{own_rows, owner_of}
-use Rattle.rb_proto.specs.Forwarding.{peer_to_forward, forward_of, forward_to, forward_call, refuse, refusal, replied, fell_due, caller_dropped, call_sent}
-use Rattle.rb_proto.specs.Ledger.{Ledger, rows_in, version_of, called}
+use Rattle.rb_proto.specs.Forwarding.{peer_to_forward, forward_of, forward_to, forward_call, refuse, refusal, target_replied, fell_due, caller_dropped, call_sent}
+use Rattle.rb_proto.specs.Ledger.{Ledger, rows_in, version_of, with_call_noted}
 use Rattle.rb_proto.specs.Netids.{transport_of_prot}
 use Rattle.rb_proto.specs.Remote.{args_of}
 use Rattle.rb_model.specs.declared.message.Message.{Message}
@@ -48,10 +48,10 @@ use Rattle.rb_model.specs.Calls.{Outcome, Outcome as outcomes, results_outcome, 
 use Rattle.rb_model.specs.Calls.Outcome.{NoCall, Reply, Forwarded, Silent}
 use Rattle.rb_model.specs.State.{Setting, State, Phase, Connection, Connections, at_moment, opening}
 use Rattle.rb_model.specs.State.Phase.{Idle, Reading, Owing, Awaiting, Lost}
-use Rattle.rb_model.specs.Connections.{change_first, is_live, live_connection, pending_in, phase_when_given, when_given, giving, reading, settled, on_found, number_for, opening_as, opening_of, is_there, without_number, closing_of}
-use Rattle.rb_model.specs.Losses.{asks_room, began_in, began_before, begins, crowding, evicted, first_due, is_retained_for, retained_removals, lost, removals_by, with_lost, expiring}
+use Rattle.rb_model.specs.Connections.{change_first, is_live, live_connection, pending_in, phase_when_given, with_given, give, keep_reading, settle, on_found, number_for, opening_as, opening_of, is_there, without_number, closing_of}
+use Rattle.rb_model.specs.Losses.{asks_room, stamp_in, began_before, list_stamps, removals_in_the_way, evict_early, first_due, is_retained_for, retained_removals, lose, removals_by, with_lost, expire_first}
 use Rattle.rb_model.specs.Ending.{told_at, told_of, refused_by, tell, tell_end, at_fresh_moment, closed_as, expire_connection, expired_as, forward_reply, expire}
-use Rattle.rb_model.specs.Step.{Event, Output, context_in, serve, bytes, pending, gave, is_too_much, moved, open_connection, dropped_with, close_connection, with_reply, datagram, sent_call, output_or, show_taken, show_done, show_outcome, show_end, show_expired, step, after, IsReached}
+use Rattle.rb_model.specs.Step.{Event, Output, context_in, serve, bytes, pending, gave, is_too_much, unless_refused, open_connection, dropped_with, close_connection, with_reply, datagram, sent_call, output_or, show_taken, show_done, show_outcome, show_end, show_expired, step, after, IsReached}
 use Rattle.rb_model.specs.declared.types.Taken.{Taken}
 use Rattle.rb_model.specs.Step.Event.{Open, Bytes, Pending, Gave, Closed, NextLost, Datagram, Unsent, Sent, Forward, Expire}
 use Rattle.rb_model.specs.Step.Output.{Opened, TooMuch, IsPending}
@@ -101,7 +101,7 @@ unfolding forward_call
 forward-effect context xid kind remote arguments l = by_peer (peer_to_forward remote.prog remote.vers (rows_in l))
   where
     by_room : (peer : Peer) (b : Bool) → Effect false l
-        (cond b (answers.Forwarded, record l { forwards = started context.clock (forward_of context xid kind remote peer) (args_of remote arguments) l.forwards }) (refuse context kind remote replies.SystemErr l)).1
+        (cond b (answers.Forwarded, record l { forwards = with_next_entry context.clock (forward_of context xid kind remote peer) (args_of remote arguments) l.forwards }) (refuse context kind remote replies.SystemErr l)).1
     by_room peer true = Same refl refl
     by_room peer false = Same refl refl
 
@@ -126,14 +126,14 @@ answer-effect context head (requests.Taddr2uaddr netbuf) arguments l = Same refl
 answer-effect context head (requests.Forward kind remote) arguments l = forward-effect context head.xid kind remote arguments l
 
 outcome-effect : (context : Context) (message : Message) (arguments : List ℕ) (l : Ledger) → Effect (asks_room context message l) l (outcome context message arguments l).1
-unfolding outcome answer called adds_row row_to_set
+unfolding outcome answer with_call_noted adds_row row_to_set
 outcome-effect context says.NoCall arguments l = Same refl refl
 outcome-effect context (says.Refused head) arguments l = Same refl refl
 outcome-effect context (says.Garbage head) arguments l = Same refl refl
 outcome-effect context (says.Asked call) arguments l =
-    by_effect (answer_to context call.head call.request arguments (called call.head l)).1 (answer-effect context call.head call.request arguments (called call.head l))
+    by_effect (answer_to context call.head call.request arguments (with_call_noted call.head l)).1 (answer-effect context call.head call.request arguments (with_call_noted call.head l))
   where
-    by_effect : (new : Ledger) → Effect (adds context (rows_in l) (length l.changes) (row_asked call.head call.request)) (called call.head l) new
+    by_effect : (new : Ledger) → Effect (adds context (rows_in l) (length l.changes) (row_asked call.head call.request)) (with_call_noted call.head l) new
         → Effect (adds context (rows_in l) (length l.changes) (row_asked call.head call.request)) l new
     by_effect new (Same own same) = Same own same
     by_effect new (Set row asks own same) = Set row asks own same
@@ -168,7 +168,7 @@ unfolding outcome
 outcome-stamped context says.NoCall arguments l = tt
 outcome-stamped context (says.Refused head) arguments l = tt
 outcome-stamped context (says.Garbage head) arguments l = tt
-outcome-stamped context (says.Asked call) arguments l = answer-stamped context.caller _ call.head.xid _ (answer context call arguments (called call.head l)).0
+outcome-stamped context (says.Asked call) arguments l = answer-stamped context.caller _ call.head.xid _ (answer context call arguments (with_call_noted call.head l)).0
 
 refused-stamped : (n xid : ℕ) (given : Answer) → IsStamped n (refused_by xid given)
 refused-stamped n xid (answers.Refused status) = tt
@@ -187,45 +187,45 @@ ended-stamped n message ended = by_outcome ended.outcome
 
 -- ---- what a connection keeps after it
 
-reading-keeps : (most clock : ℕ) (fed : List ℕ) → KeepsNoMore most (reading clock fed)
-unfolding reading
+reading-keeps : (most clock : ℕ) (fed : List ℕ) → KeepsNoMore most (keep_reading clock fed)
+unfolding keep_reading
 reading-keeps most clock fed change few c is = absurd cc
 
-lost-keeps : (most : ℕ) → KeepsNoMore most lost
+lost-keeps : (most : ℕ) → KeepsNoMore most lose
 lost-keeps most change few c is = absurd cc
 
-settled-keeps : (n clock : ℕ) (said : Outcome) → IsStamped n said → KeepsNoMore n (settled clock said)
-unfolding settled
+settled-keeps : (n clock : ℕ) (said : Outcome) → IsStamped n said → KeepsNoMore n (settle clock said)
+unfolding settle
 settled-keeps n clock NoCall stamped change few c is = absurd cc
 settled-keeps n clock (Reply reply None) stamped change few c is = absurd cc
 settled-keeps n clock (Reply reply (Some began)) stamped change few c is = absurd (omega (arith, ltb-true began change is, stamped, few))
 settled-keeps n clock Forwarded stamped change few c is = absurd cc
 settled-keeps n clock Silent stamped change few c is = absurd cc
 
-given-keeps : (n change : ℕ) (p : Phase) → is_before change (began_in (phase_when_given n p)) ≡ true → is_before change (began_in p) ≡ true
+given-keeps : (n change : ℕ) (p : Phase) → is_before change (stamp_in (phase_when_given n p)) ≡ true → is_before change (stamp_in p) ≡ true
 given-keeps n change Idle is = is
 given-keeps n change (Reading fed) is = is
 given-keeps n change Awaiting is = is
 given-keeps n change Lost is = is
 given-keeps n change (Owing o) is = by_test (nat_lt (o.given + n) (length o.marked)) is
   where
-    by_test : (b : Bool) → is_before change (began_in (cond b (Owing (record o { given = o.given + n })) Idle)) ≡ true → is_before change o.began ≡ true
+    by_test : (b : Bool) → is_before change (stamp_in (cond b (Owing (record o { given = o.given + n })) Idle)) ≡ true → is_before change o.stamp ≡ true
     by_test true e = e
     by_test false e = absurd cc
 
-giving-keeps : (most clock n : ℕ) → KeepsNoMore most (λ c. (giving clock n c).1)
-unfolding giving when_given
+giving-keeps : (most clock n : ℕ) → KeepsNoMore most (λ c. (give clock n c).1)
+unfolding give with_given
 giving-keeps most clock n change few c is = by_test (eqb (min n (length (pending_in c.phase))) 0) is
   where
     by_test : (b : Bool) → keeps change (cond b c (record c { phase = phase_when_given (min n (length (pending_in c.phase))) c.phase; since = clock })) ≡ true → keeps change c ≡ true
     by_test true e = e
     by_test false e = given-keeps (min n (length (pending_in c.phase))) change c.phase e
 
-evicted-keeps : (most : ℕ) (changes : List ℕ) → KeepsNoMore most (evicted changes)
-unfolding evicted
-evicted-keeps most changes change few c is = by_test (began_before changes (began_in c.phase)) is
+evicted-keeps : (most : ℕ) (changes : List ℕ) → KeepsNoMore most (evict_early changes)
+unfolding evict_early
+evicted-keeps most changes change few c is = by_test (began_before changes (stamp_in c.phase)) is
   where
-    by_test : (b : Bool) → keeps change (cond b (lost c) c) ≡ true → keeps change c ≡ true
+    by_test : (b : Bool) → keeps change (cond b (lose c) c) ≡ true → keeps change c ≡ true
     by_test true e = absurd cc
     by_test false e = e
 
@@ -233,26 +233,26 @@ evicted-keeps most changes change few c is = by_test (began_before changes (bega
 
 module _ (context : Context) (message : Message) (all : List Connection) (l : Ledger) (fits : total all l.own l.changes ≤ context.limit) where
   abbrev left : List Connection
-  left = map (evicted (crowding context message all l)) all
+  left = map (evict_early (removals_in_the_way context message all l)) all
 
   -- where those connections are evicted whose lists are in the way
-  evicted-fits : (change : ℕ) (changes : List ℕ) → retained_removals all l ≡ change ∷ changes → total (map (evicted (change ∷ changes)) all) l.own l.changes < context.limit
+  evicted-fits : (change : ℕ) (changes : List ℕ) → retained_removals all l ≡ change ∷ changes → total (map (evict_early (change ∷ changes)) all) l.own l.changes < context.limit
   unfolding retained_removals
   evicted-fits change changes is =
-      let now : List Connection = map (evicted (change ∷ changes)) all in
+      let now : List Connection = map (evict_early (change ∷ changes)) all in
       let least : Least (change ∷ changes) = least-of change changes in
-      let also : (n : ℕ) → is_retained_for (begins now) n ≡ true → is_retained_for (begins all) n ≡ true =
-      λ n kept. retained_by n all ∙ mapped-kept n (evicted (change ∷ changes)) (evicted-keeps n (change ∷ changes)) all n (omega arith) (sym (retained_by n now) ∙ kept) in
-      let out : is_retained_for (begins now) least.value ≡ false = retained_by least.value now ∙ none-keep change changes least.value least.low all in
+      let also : (n : ℕ) → is_retained_for (list_stamps now) n ≡ true → is_retained_for (list_stamps all) n ≡ true =
+      λ n kept. retained_by n all ∙ mapped-kept n (evict_early (change ∷ changes)) (evicted-keeps n (change ∷ changes)) all n (omega arith) (sym (retained_by n now) ∙ kept) in
+      let out : is_retained_for (list_stamps now) least.value ≡ false = retained_by least.value now ∙ none-keep change changes least.value least.low all in
       let there : list_any (λ n. eqb n least.value) (retained_removals all l) ≡ true = ap (λ (xs : List ℕ). list_any (λ n. eqb n least.value) xs) is ∙ least.there in
-      let fewer = one-fewer (is_retained_for (begins now)) (is_retained_for (begins all)) also least.value out (removals_by l) there in
+      let fewer = one-fewer (is_retained_for (list_stamps now)) (is_retained_for (list_stamps all)) also least.value out (removals_by l) there in
       omega (arith, fits, fewer, total-is all l, total-is now l)
 
   made-room : asks_room context message l ≡ true → total left l.own l.changes < context.limit
   made-room asks = by_room (nat_lt (length (rows_in l) + length (retained_removals all l)) context.limit) refl
     where
-      left-is : (changes : List ℕ) → crowding context message all l ≡ changes → total left l.own l.changes ≡ total (map (evicted changes) all) l.own l.changes
-      left-is changes is = ap (λ (xs : List ℕ). total (map (evicted xs) all) l.own l.changes) is
+      left-is : (changes : List ℕ) → removals_in_the_way context message all l ≡ changes → total left l.own l.changes ≡ total (map (evict_early changes) all) l.own l.changes
+      left-is changes is = ap (λ (xs : List ℕ). total (map (evict_early xs) all) l.own l.changes) is
 
       by_kept : (changes : List ℕ) → retained_removals all l ≡ changes → context.limit ≤ length (rows_in l) + length (retained_removals all l) → total left l.own l.changes < context.limit
       by_kept [] is full = absurd (omega (arith, full, asks-within context message l asks, ap (λ (xs : List ℕ). length xs) is))
@@ -263,7 +263,7 @@ module _ (context : Context) (message : Message) (all : List Connection) (l : Le
       by_room true t =
           let room = ltb-true _ _ t in
           let none = left-is [] (not_crowded context message all l room) in
-          let same : total (map (evicted []) all) l.own l.changes ≡ total all l.own l.changes =
+          let same : total (map (evict_early []) all) l.own l.changes ≡ total all l.own l.changes =
           ap (λ (c : Connections). total c.all l.own l.changes) (none_evicted (record { next = 0; all = all })) in
           omega (arith, room, none, same, total-is all l)
       by_room false t = by_kept (retained_removals all l) refl (ltb-false _ _ t)
@@ -319,17 +319,17 @@ module _ (s : State) (fits : Fits s) where
   bytes-fit now id piece r (NotThere none is) = rw is fits
   bytes-fit now id piece r (NotTaken c there why is) = rw is fits
   bytes-fit now id piece r (ReadOn c fed there feeds none is) =
-      rw is (one-fits s fits id (reading (max s.clock now) (fed ++ piece)) (reading-keeps (length s.ledger.changes) (max s.clock now) (fed ++ piece)))
+      rw is (one-fits s fits id (keep_reading (max s.clock now) (fed ++ piece)) (reading-keeps (length s.ledger.changes) (max s.clock now) (fed ++ piece)))
   bytes-fit now id piece r (Ended c fed n there feeds some is) =
       let content : List ℕ = data_of (take n (fed ++ piece)) in
       let u : Outcome × State = serve (at_moment now s) (Tcp id c.peer) content in
-      rw is (one-fits u.1 (serve-fits now (Tcp id c.peer) content) id (settled (max s.clock now) u.0) (settled-keeps (length u.1.ledger.changes) (max s.clock now) u.0 (serve-stamped now (Tcp id c.peer) content)))
+      rw is (one-fits u.1 (serve-fits now (Tcp id c.peer) content) id (settle (max s.clock now) u.0) (settled-keeps (length u.1.ledger.changes) (max s.clock now) u.0 (serve-stamped now (Tcp id c.peer) content)))
 
-  gave-fits : (now id n : ℕ) (o : Option Connection) → Fits (output_or show_done (moved now s (on_found id (giving (max s.clock now) n) s.connections o))).1
+  gave-fits : (now id n : ℕ) (o : Option Connection) → Fits (output_or show_done (unless_refused now s (on_found id (give (max s.clock now) n) s.connections o))).1
   gave-fits now id n None = fits
-  gave-fits now id n (Some c) = one-fits s fits id (λ x. (giving (max s.clock now) n x).1) (giving-keeps (length s.ledger.changes) (max s.clock now) n)
+  gave-fits now id n (Some c) = one-fits s fits id (λ x. (give (max s.clock now) n x).1) (giving-keeps (length s.ledger.changes) (max s.clock now) n)
 
-  opened-fits : (now : ℕ) (peer : Peer) (r : Result ℕ CoreFault) → Fits (output_or Opened (moved now s (opening_as peer (max s.clock now) s.connections r))).1
+  opened-fits : (now : ℕ) (peer : Peer) (r : Result ℕ CoreFault) → Fits (output_or Opened (unless_refused now s (opening_as peer (max s.clock now) s.connections r))).1
   opened-fits now peer (Err fault) = fits
   opened-fits now peer (Ok number) =
       let new : Connection = record { number = s.connections.next; peer = peer; phase = Idle; since = max s.clock now } in
@@ -364,7 +364,7 @@ module _ (s : State) (fits : Fits s) where
     where
       by_caller : (caller : Caller) → Fits (tell caller (told_at message ended) (record (at_fresh_moment now s) { ledger = l })).1
       by_caller (Tcp id peer) =
-          let goes_on : Connection → Connection = settled (max s.clock now) (told_at message ended) in
+          let goes_on : Connection → Connection = settle (max s.clock now) (told_at message ended) in
           let one = one-fits s fits id goes_on (settled-keeps (length s.ledger.changes) (max s.clock now) (told_at message ended) (ended-stamped (length s.ledger.changes) message ended)) in
           omega (arith, one, same-rows (change_first (is_live id) goes_on s.connections.all) l s.ledger own changes)
       by_caller (Udp peer) = omega (arith, fits, same-rows s.connections.all l s.ledger own changes)
@@ -374,16 +374,16 @@ module _ (s : State) (fits : Fits s) where
   end-fits (Some told, u) f = f
 
   expired-fits : (r : Option Told × State) → Fits r.1 → Fits (show_expired (expired_as r)).1
-  unfolding expire_connection expiring
+  unfolding expire_connection expire_first
   expired-fits (Some told, u) f = f
   expired-fits (None, u) f = by_due (first_due u.clock u.connections)
     where
       by_due : (o : Option ℕ) → Fits (show_expired (closed_as o, record u { connections = with_lost o u.connections })).1
       by_due None = f
-      by_due (Some id) = one-fits u f id lost (lost-keeps (length u.ledger.changes))
+      by_due (Some id) = one-fits u f id lose (lost-keeps (length u.ledger.changes))
 
   step-fits : (event : Event) → Fits (step s event).1
-  unfolding step open_connection opening_of gave close_connection closing_of datagram sent_call forward_reply expire replied fell_due
+  unfolding step open_connection opening_of gave close_connection closing_of datagram sent_call forward_reply expire target_replied fell_due
   step-fits (Open now peer) = opened-fits now peer (number_for s.setting.limits.conns s.connections)
   step-fits (Bytes now id piece) = bytes-fit now id piece (bytes s now id piece) (arriving s now id piece)
   step-fits (Pending id) = output-fits IsPending (pending s id) s fits
@@ -393,7 +393,7 @@ module _ (s : State) (fits : Fits s) where
   step-fits (Datagram now peer content) = outcome-fits (serve (at_moment now s) (Udp peer) content) (serve-fits now (Udp peer) content)
   step-fits Unsent = fits
   step-fits (Sent number) = sent-fits number (can_be_sent number s.ledger.forwards)
-  step-fits (Forward now from message) = end-fits _ (told-fits now message (replied s.setting.first_xid (max s.clock now) from message s.ledger) refl refl)
+  step-fits (Forward now from message) = end-fits _ (told-fits now message (target_replied s.setting.first_xid (max s.clock now) from message s.ledger) refl refl)
   step-fits (Expire now) = expired-fits _ (told-fits now [] (fell_due (max s.clock now) s.ledger) refl refl)
 
 after-fits : (s : State) (events : List Event) → Fits s → Fits (after s events)

@@ -10,7 +10,7 @@ use Rattle.rb_forward.specs.Forwards.{Entry, outcome_of, counts_for, is_due, end
 use Rattle.rb_forward.specs.Ends.{NoneIs, IsFirst, IsReplyTo}
 use Rattle.rb_forward.proofs.Ends.{reply_means, reply_tested, due_means, due_tested}
 use Rattle.rb_proto.specs.Ledger.{Ledger}
-use Rattle.rb_proto.specs.Forwarding.{noted_end, replied, fell_due}
+use Rattle.rb_proto.specs.Forwarding.{noted_end, target_replied, fell_due}
 use Rattle.rb_model.specs.declared.types.Told.{Told}
 use Rattle.rb_model.specs.Calls.{Outcome}
 use Rattle.rb_model.specs.Calls.Outcome.{NoCall, Reply, Forwarded, Silent}
@@ -57,7 +57,7 @@ module _ (s : State) (now : ℕ) (message : List ℕ) where
 
 replies-told : (s : State) (now : ℕ) (from : Peer) (message : List ℕ)
     → TellsOverUdp (IsReplyTo s.setting.first_xid (max s.clock now) from message) (said_by message) s (Forward now from message)
-unfolding step forward_reply replied reply
+unfolding step forward_reply target_replied reply
 replies-told s now from message e rest peer first udp =
     let test : Entry → Bool = counts_for s.setting.first_xid (max s.clock now) from message in
     ended-shown s now message test (outcome_of message) (find test s.ledger.forwards.all) e peer

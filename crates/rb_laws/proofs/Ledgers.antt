@@ -21,11 +21,11 @@ use Rattle.rb_stats.specs.Statistics.{Note}
 use Rattle.rb_stats.specs.Statistics.Note.{WasSet, WasUnset}
 use Rattle.rb_forward.specs.declared.types.Kind.{Kind}
 use Rattle.rb_forward.specs.declared.types.Ended.{Ended as EntryEnd}
-use Rattle.rb_forward.specs.Forwards.{can_start, started, can_be_sent}
+use Rattle.rb_forward.specs.Forwards.{can_start, with_next_entry, can_be_sent}
 use Rattle.rb_proto.specs.declared.answers.Answer.TheVariants as answers
 use Rattle.rb_proto.specs.declared.remote.RemoteCall.{RemoteCall}
 use Rattle.rb_proto.specs.Remote.{args_of}
-use Rattle.rb_proto.specs.Forwarding.{peer_to_forward, forward_of, refuse, forward_to, forward_call, replied, fell_due, caller_dropped, call_sent}
+use Rattle.rb_proto.specs.Forwarding.{peer_to_forward, forward_of, refuse, forward_to, forward_call, target_replied, fell_due, caller_dropped, call_sent}
 use Rattle.rb_proto.specs.declared.listener.Listener.{Listener}
 use Rattle.rb_proto.specs.declared.context.Context.{Context}
 use Rattle.rb_proto.specs.declared.procedure.MappingProcedure.TheVariants as mappings
@@ -33,14 +33,14 @@ use Rattle.rb_proto.specs.declared.procedure.RpcbProcedure.TheVariants as rpcbs
 use Rattle.rb_proto.specs.declared.request.Request.{Request}
 use Rattle.rb_proto.specs.declared.request.Request.TheVariants as requests
 use Rattle.rb_proto.specs.Callers.{own_rows}
-use Rattle.rb_proto.specs.Ledger.{Ledger, rows_in, version_of, called}
+use Rattle.rb_proto.specs.Ledger.{Ledger, rows_in, version_of, with_call_noted}
 use Rattle.rb_proto.specs.declared.mapping.Mapping.{Mapping}
 use Rattle.rb_proto.specs.Netids.{transport_of_prot, is_address}
 use Rattle.rb_proto.specs.Answers.{comes_from_here, can_be_set, accepts_row, set_row, accepts_removal, removal_of, unset_rows, change_if, port_on, getport, getaddr, getversaddr, answer_to, answer}
 use Rattle.rb_proto.proofs.Addresses.{address_short}
 use Rattle.rb_model.specs.declared.types.Told.{Told}
 use Rattle.rb_model.specs.declared.types.CoreFault.TheVariants.{Gone}
-use Rattle.rb_model.specs.Losses.{first_due, with_lost, expiring}
+use Rattle.rb_model.specs.Losses.{first_due, with_lost, expire_first}
 use Rattle.rb_model.specs.Ending.{told_at, tell, tell_end, at_fresh_moment, forward_reply, closed_as, expire_connection, expired_as, expire}
 use Rattle.rb_model.specs.declared.message.Message.{Message}
 use Rattle.rb_model.specs.declared.message.Message.TheVariants as says
@@ -49,7 +49,7 @@ use Rattle.rb_model.specs.declared.types.Limits.{Limits}
 use Rattle.rb_model.specs.Calls.{Outcome, Outcome as outcomes, message_of, outcome}
 use Rattle.rb_model.specs.State.{State, Connections, at_moment, opening, are_good}
 use Rattle.rb_model.specs.Connections.{closing_of}
-use Rattle.rb_model.specs.Step.{Event, Output, context_in, serve, dropped_with, sent_call, show_end, show_expired, moved, bytes, pending, gave, is_too_much, open_connection, close_connection, with_reply, datagram, output_or, show_taken, show_done, show_outcome, step, after, IsReached}
+use Rattle.rb_model.specs.Step.{Event, Output, context_in, serve, dropped_with, sent_call, show_end, show_expired, unless_refused, bytes, pending, gave, is_too_much, open_connection, close_connection, with_reply, datagram, output_or, show_taken, show_done, show_outcome, step, after, IsReached}
 use Rattle.rb_model.specs.declared.types.Taken.{Taken}
 use Rattle.rb_model.specs.Step.Event.{Open, Bytes, Pending, Gave, Closed, NextLost, Datagram, Unsent, Sent, Forward, Expire}
 use Rattle.rb_model.specs.Step.Output.{Opened, TooMuch, IsPending}
@@ -122,7 +122,7 @@ unfolding forward_call
 forward-grows context xid kind remote arguments l = by_peer (peer_to_forward remote.prog remote.vers (rows_in l))
   where
     by_room : (peer : Peer) (b : Bool) → Grows context.limit l
-        (cond b (answers.Forwarded, record l { forwards = started context.clock (forward_of context xid kind remote peer) (args_of remote arguments) l.forwards }) (refuse context kind remote replies.SystemErr l)).1
+        (cond b (answers.Forwarded, record l { forwards = with_next_entry context.clock (forward_of context xid kind remote peer) (args_of remote arguments) l.forwards }) (refuse context kind remote replies.SystemErr l)).1
     by_room peer true = Same refl refl
     by_room peer false = Same refl refl
 
@@ -146,13 +146,13 @@ answer-grows context head (requests.Taddr2uaddr netbuf) arguments l = Same refl 
 answer-grows context head (requests.Forward kind remote) arguments l = forward-grows context head.xid kind remote arguments l
 
 outcome-grows : (context : Context) (message : Message) (arguments : List ℕ) (l : Ledger) → Grows context.limit l (outcome context message arguments l).1
-unfolding outcome answer called
+unfolding outcome answer with_call_noted
 outcome-grows context says.NoCall arguments l = Same refl refl
 outcome-grows context (says.Refused head) arguments l = Same refl refl
 outcome-grows context (says.Garbage head) arguments l = Same refl refl
-outcome-grows context (says.Asked call) arguments l = by_growth (answer_to context call.head call.request arguments (called call.head l)).1 (answer-grows context call.head call.request arguments (called call.head l))
+outcome-grows context (says.Asked call) arguments l = by_growth (answer_to context call.head call.request arguments (with_call_noted call.head l)).1 (answer-grows context call.head call.request arguments (with_call_noted call.head l))
   where
-    by_growth : (new : Ledger) → Grows context.limit (called call.head l) new → Grows context.limit l new
+    by_growth : (new : Ledger) → Grows context.limit (with_call_noted call.head l) new → Grows context.limit l new
     by_growth new (Same own same) = Same own same
     by_growth new (More change accepted short own same) = More change accepted short own same
 
@@ -169,7 +169,7 @@ serve-follows : (s : State) (now : ℕ) (caller : Caller) (content : List ℕ) �
 unfolding serve
 serve-follows s now caller content = record { setting = refl; grows = outcome-grows (context_in (at_moment now s) caller) (message_of content) (arguments_of content) s.ledger }
 
-moved-follows : {A : Type 0} (s : State) (now : ℕ) (show : A → Output) (r : Result A CoreFault × Connections) → Follows s (output_or show (moved now s r)).1
+moved-follows : {A : Type 0} (s : State) (now : ℕ) (show : A → Output) (r : Result A CoreFault × Connections) → Follows s (output_or show (unless_refused now s r)).1
 moved-follows s now show (Ok x, c) = record { setting = refl; grows = Same refl refl }
 moved-follows s now show (Err fault, c) = stays s
 
@@ -218,7 +218,7 @@ end-follows s (None, t) f = f
 end-follows s (Some told, t) f = f
 
 expired-follows : (s : State) (r : Option Told × State) → Follows s r.1 → Follows s (show_expired (expired_as r)).1
-unfolding expire_connection expiring
+unfolding expire_connection expire_first
 expired-follows s (Some told, t) f = f
 expired-follows s (None, t) f = by_found (first_due t.clock t.connections)
   where
@@ -226,8 +226,8 @@ expired-follows s (None, t) f = by_found (first_due t.clock t.connections)
     by_found None = record { setting = f.setting; grows = f.grows }
     by_found (Some id) = record { setting = f.setting; grows = f.grows }
 
-replied-ends : (l : Ledger) (first_xid clock : ℕ) (from : Peer) (message : List ℕ) → Ends l (replied first_xid clock from message l)
-unfolding replied
+replied-ends : (l : Ledger) (first_xid clock : ℕ) (from : Peer) (message : List ℕ) → Ends l (target_replied first_xid clock from message l)
+unfolding target_replied
 replied-ends l first_xid clock from message = record { own = refl; changes = refl }
 
 due-ends : (l : Ledger) (clock : ℕ) → Ends l (fell_due clock l)
@@ -251,8 +251,8 @@ step-follows s (Datagram now peer content) =
 step-follows s Unsent = stays s
 step-follows s (Sent number) = sent-follows s number (can_be_sent number s.ledger.forwards)
 step-follows s (Forward now from message) =
-    end-follows s (tell_end message (at_fresh_moment now s) (replied s.setting.first_xid (max s.clock now) from message s.ledger))
-    (tell-follows s now message (replied s.setting.first_xid (max s.clock now) from message s.ledger) (replied-ends s.ledger s.setting.first_xid (max s.clock now) from message))
+    end-follows s (tell_end message (at_fresh_moment now s) (target_replied s.setting.first_xid (max s.clock now) from message s.ledger))
+    (tell-follows s now message (target_replied s.setting.first_xid (max s.clock now) from message s.ledger) (replied-ends s.ledger s.setting.first_xid (max s.clock now) from message))
 step-follows s (Expire now) =
     expired-follows s (tell_end [] (at_fresh_moment now s) (fell_due (max s.clock now) s.ledger))
     (tell-follows s now [] (fell_due (max s.clock now) s.ledger) (due-ends s.ledger (max s.clock now)))

@@ -6,8 +6,8 @@ use Rattle.rb_model.specs.Calls.{Outcome, is_no_call}
 use Rattle.rb_model.specs.Calls.Outcome.{NoCall, Reply, Forwarded, Silent}
 use Rattle.rb_model.specs.State.{Phase, Connection}
 use Rattle.rb_model.specs.State.Phase.{Idle, Reading, Owing, Awaiting, Lost}
-use Rattle.rb_model.specs.Connections.{is_lost, is_live, change_first, settled, phase_when_given, when_given, giving, pending_in}
-use Rattle.rb_model.specs.Losses.{lost}
+use Rattle.rb_model.specs.Connections.{is_lost, is_live, change_first, settle, phase_when_given, with_given, give, pending_in}
+use Rattle.rb_model.specs.Losses.{lose}
 use Rattle.rb_laws.proofs.Cuts.{IsFeeding, number-is}
 use Rattle.rb_laws.proofs.Reached.{AreSound}
 
@@ -17,18 +17,18 @@ still-live : (b l : Bool) → (b && l) ≡ true → (b && true) ≡ true
 still-live true l e = refl
 still-live false l e = e
 
-pub answering-feeds : (id clock : ℕ) (said : Outcome) → is_no_call said ≡ false → IsFeeding id (settled clock said)
-unfolding is_live settled
+pub answering-feeds : (id clock : ℕ) (said : Outcome) → is_no_call said ≡ false → IsFeeding id (settle clock said)
+unfolding is_live settle
 answering-feeds id clock NoCall is = absurd cc
 answering-feeds id clock (Reply reply began) is = record { live = λ c e. still-live (eqb c.number id) (not (is_lost c.phase)) e }
 answering-feeds id clock Forwarded is = record { live = λ c e. still-live (eqb c.number id) (not (is_lost c.phase)) e }
 answering-feeds id clock Silent is = record { live = λ c e. still-live (eqb c.number id) (not (is_lost c.phase)) e }
 
-pub replying-feeds : (id clock : ℕ) (reply : List ℕ) (began : Option ℕ) → IsFeeding id (settled clock (Reply reply began))
+pub replying-feeds : (id clock : ℕ) (reply : List ℕ) (began : Option ℕ) → IsFeeding id (settle clock (Reply reply began))
 replying-feeds id clock reply began = answering-feeds id clock (Reply reply began) refl
 
-given-feeds : (id clock n : ℕ) (c : Connection) → is_live id c ≡ true → is_live id (when_given clock n c) ≡ true
-unfolding is_live when_given
+given-feeds : (id clock n : ℕ) (c : Connection) → is_live id c ≡ true → is_live id (with_given clock n c) ≡ true
+unfolding is_live with_given
 given-feeds id clock n c e = by_zero (eqb n 0)
   where
     stays : (b : Bool) (p : Phase) → (b && not (is_lost p)) ≡ true → (b && not (is_lost (phase_when_given n p))) ≡ true
@@ -46,8 +46,8 @@ given-feeds id clock n c e = by_zero (eqb n 0)
     by_zero true = e
     by_zero false = stays (eqb c.number id) c.phase e
 
-pub giving-feeds : (id clock n : ℕ) → IsFeeding id (λ c. (giving clock n c).1)
-unfolding giving
+pub giving-feeds : (id clock n : ℕ) → IsFeeding id (λ c. (give clock n c).1)
+unfolding give
 giving-feeds id clock n = record { live = λ c e. given-feeds id clock (min n (length (pending_in c.phase))) c e }
 
 -- ---- others leave it
@@ -114,8 +114,8 @@ none-above id least next (d ∷ all) a low =
     let other : eqb d.number id ≡ false = ne_eqb d.number id (λ e. omega (arith, e, a.0, low)) in
     rw other (none-above id (d.number + 1) next all a.2 (omega (arith, a.0, low)))
 
-is-lost-now : (id clock : ℕ) (c : Connection) → is_live id (settled clock NoCall c) ≡ false
-unfolding is_live settled
+is-lost-now : (id clock : ℕ) (c : Connection) → is_live id (settle clock NoCall c) ≡ false
+unfolding is_live settle
 is-lost-now id clock c = by_number (eqb c.number id)
   where
     by_number : (b : Bool) → (b && false) ≡ false
@@ -131,10 +131,10 @@ loses-gone id f loses least next (d ∷ all) a = by_test (is_live id d) refl (lo
     by_test true e later = rw (loses d) (none-above id (d.number + 1) next all a.2 (omega (arith, number-is id d e)))
     by_test false e later = rw e later
 
-pub lost-gone : (id clock least next : ℕ) (all : List Connection) → AreSound least next all → find (is_live id) (change_first (is_live id) (settled clock NoCall) all) ≡ None
-lost-gone id clock least next all a = loses-gone id (settled clock NoCall) (is-lost-now id clock) least next all a
+pub lost-gone : (id clock least next : ℕ) (all : List Connection) → AreSound least next all → find (is_live id) (change_first (is_live id) (settle clock NoCall) all) ≡ None
+lost-gone id clock least next all a = loses-gone id (settle clock NoCall) (is-lost-now id clock) least next all a
 
-timed-out : (id : ℕ) (c : Connection) → is_live id (lost c) ≡ false
+timed-out : (id : ℕ) (c : Connection) → is_live id (lose c) ≡ false
 unfolding is_live
 timed-out id c = by_number (eqb c.number id)
   where
@@ -142,8 +142,8 @@ timed-out id c = by_number (eqb c.number id)
     by_number true = refl
     by_number false = refl
 
-pub timed-out-gone : (id least next : ℕ) (all : List Connection) → AreSound least next all → find (is_live id) (change_first (is_live id) lost all) ≡ None
-timed-out-gone id least next all a = loses-gone id lost (timed-out id) least next all a
+pub timed-out-gone : (id least next : ℕ) (all : List Connection) → AreSound least next all → find (is_live id) (change_first (is_live id) lose all) ≡ None
+timed-out-gone id least next all a = loses-gone id lose (timed-out id) least next all a
 
 pub find-after : (p : Connection → Bool) (all : List Connection) (c d : Connection) → find p (all ++ c ∷ []) ≡ Some d → (find p all ≡ Some d) ⊎ ((c ≡ d) × (p c ≡ true))
 find-after p [] c d is = by_test (p c) refl is

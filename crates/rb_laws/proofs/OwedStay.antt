@@ -5,10 +5,10 @@ use Rattle.rb_rpc.specs.declared.peer.Caller.TheVariants.{Tcp, Udp}
 use Rattle.rb_rpc.specs.Records.{data_of}
 use Rattle.rb_model.specs.State.{State, Phase, Connection, Connections}
 use Rattle.rb_model.specs.State.Phase.{Idle, Reading, Owing, Awaiting, Lost}
-use Rattle.rb_model.specs.Connections.{is_live, live_connection, fed_in, change_first, changed_at, reading, settled, giving, without_number}
+use Rattle.rb_model.specs.Connections.{is_live, live_connection, fed_in, change_first, changed_at, keep_reading, settle, give, without_number}
 use Rattle.rb_model.specs.Step.{Event, Output, step}
 use Rattle.rb_model.specs.Laws.{IsLive, is_owing, gives_or_closes, OwedRepliesStay}
-use Rattle.rb_model.specs.Losses.{evicted, evicting, lost}
+use Rattle.rb_model.specs.Losses.{evict_early, evict, lose}
 use Rattle.rb_laws.proofs.Crowds.{live_or_lost, lost_stays}
 use Rattle.rb_laws.proofs.Happenings.{Happening, happening, said_in, crowd_at}
 use Rattle.rb_laws.proofs.Happenings.Happening.{Stays, Evicts, Opens, Reads, Ends, Gives, Closes, Tells, TimesOut}
@@ -54,45 +54,45 @@ module _ (s : State) (waits : Await s) (event : Event) (id : ℕ) (c : Connectio
   changed k f now keeps e same = ap (λ (x : Connections). live_connection id x.all) same ∙ changed-other id k f keeps e s.connections.all ∙ there
 
   -- where it is in the way of a row it is Lost, and else it stays; so too where another goes on then
-  in-the-way : (changes : List ℕ) (now : Connections) → now ≡ evicting changes s.connections → (live_connection id now.all ≡ Some c) ⊎ (lost_in id now.all ≡ true)
+  in-the-way : (changes : List ℕ) (now : Connections) → now ≡ evict changes s.connections → (live_connection id now.all ≡ Some c) ⊎ (lost_in id now.all ≡ true)
   unfolding live_connection
   in-the-way changes now same = elim (live_or_lost id changes s.connections.all c there) [
     | inl stays ↦ inl (ap (λ (x : Connections). live_connection id x.all) same ∙ stays.1)
     | inr goes ↦ inr (ap (λ (x : Connections). lost_in id x.all) same ∙ goes.1)
   ]
 
-  another-goes-on : (changes : List ℕ) (k : ℕ) (f : Connection → Connection) (now : Connections) → ((d : Connection) → (f d).number ≡ d.number) → eqb k id ≡ false → now ≡ changed_at k f (evicting changes s.connections)
+  another-goes-on : (changes : List ℕ) (k : ℕ) (f : Connection → Connection) (now : Connections) → ((d : Connection) → (f d).number ≡ d.number) → eqb k id ≡ false → now ≡ changed_at k f (evict changes s.connections)
       → (live_connection id now.all ≡ Some c) ⊎ (lost_in id now.all ≡ true)
   unfolding live_connection
   another-goes-on changes k f now keeps e same = elim (live_or_lost id changes s.connections.all c there) [
-    | inl stays ↦ inl (ap (λ (x : Connections). live_connection id x.all) same ∙ changed-other id k f keeps e (map (evicted changes) s.connections.all) ∙ stays.1)
-    | inr goes ↦ inr (ap (λ (x : Connections). lost_in id x.all) same ∙ lost_stays id k f keeps e (map (evicted changes) s.connections.all) goes.1)
+    | inl stays ↦ inl (ap (λ (x : Connections). live_connection id x.all) same ∙ changed-other id k f keeps e (map (evict_early changes) s.connections.all) ∙ stays.1)
+    | inr goes ↦ inr (ap (λ (x : Connections). lost_in id x.all) same ∙ lost_stays id k f keeps e (map (evict_early changes) s.connections.all) goes.1)
   ]
 
   by_case : (output : Output) (now : Connections) → gives_or_closes id event ≡ false → Happening s event output now → (live_connection id now.all ≡ Some c) ⊎ (lost_in id now.all ≡ true)
-  unfolding live_connection reading settled without_number
+  unfolding live_connection keep_reading settle without_number
   by_case output now not_it (Stays q same) = inl (ap (λ (x : Connections). live_connection id x.all) same ∙ there)
   by_case output now not_it (Evicts at peer content e q same) = in-the-way (crowd_at s at (Udp peer) content) now same
   by_case output now not_it (Opens at peer e out same) =
       inl (ap (λ (x : Connections). live_connection id x.all) same
       ∙ find-before (is_live id) s.connections.all c (record { number = s.connections.next; peer = peer; phase = Idle; since = max s.clock at }) there)
   by_case output now not_it (Reads at k piece d fed e here feeds none out same) =
-      inl (changed k (reading (max s.clock at) (fed ++ piece)) now (λ x. refl) (other k d fed here feeds) same)
+      inl (changed k (keep_reading (max s.clock at) (fed ++ piece)) now (λ x. refl) (other k d fed here feeds) same)
   by_case output now not_it (Ends at k piece d fed n e here feeds some out same) =
-      another-goes-on (crowd_at s at (Tcp k d.peer) (data_of (take n (fed ++ piece)))) k (settled (max s.clock at) (said_in s at k d (take n (fed ++ piece)))) now (λ x. refl) (other k d fed here feeds) same
+      another-goes-on (crowd_at s at (Tcp k d.peer) (data_of (take n (fed ++ piece)))) k (settle (max s.clock at) (said_in s at k d (take n (fed ++ piece)))) now (λ x. refl) (other k d fed here feeds) same
   by_case output now not_it (Gives at k n d e here few out same) =
-      inl (changed k (λ x. (giving (max s.clock at) n x).1) now (giving-keeps (max s.clock at) n).number (ap (gives_or_closes id) (sym e) ∙ not_it) same)
+      inl (changed k (λ x. (give (max s.clock at) n x).1) now (giving-keeps (max s.clock at) n).number (ap (gives_or_closes id) (sym e) ∙ not_it) same)
   by_case output now not_it (Tells at k said e q final told has same) =
-      inl (changed k (settled (max s.clock at) said) now (λ x. refl) (other-waits k (entry-waits s k waits has)) same)
+      inl (changed k (settle (max s.clock at) said) now (λ x. refl) (other-waits k (entry-waits s k waits has)) same)
   by_case output now not_it (Closes k e out here same) =
       inl (ap (λ (x : Connections). live_connection id x.all) same ∙ closed-other id k (ap (gives_or_closes id) (sym e) ∙ not_it) s.connections.all ∙ there)
   by_case output now not_it (TimesOut at d e q none found same) = by_number (eqb d.number id) refl
     where
       by_number : (b : Bool) → eqb d.number id ≡ b → (live_connection id now.all ≡ Some c) ⊎ (lost_in id now.all ≡ true)
-      by_number false other = inl (changed d.number lost now (λ x. refl) other same)
+      by_number false other = inl (changed d.number lose now (λ x. refl) other same)
       by_number true mine =
-          inr (ap (λ (x : Connections). lost_in id x.all) same ∙ ap (λ (k : ℕ). lost_in id (change_first (is_live k) lost s.connections.all)) (eqb-true d.number id mine)
-          ∙ (now-lost id lost timing-out s.connections.all c there).0)
+          inr (ap (λ (x : Connections). lost_in id x.all) same ∙ ap (λ (k : ℕ). lost_in id (change_first (is_live k) lose s.connections.all)) (eqb-true d.number id mine)
+          ∙ (now-lost id lose timing-out s.connections.all c there).0)
 
 pub owed_replies_stay : OwedRepliesStay
 owed_replies_stay s reached event id not_it c there is = by_case s (reached-awaits s reached) event id c there is (step s event).0 (step s event).1.connections not_it (happening s event)

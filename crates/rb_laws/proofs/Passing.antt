@@ -13,7 +13,7 @@ use Rattle.rb_rpc.proofs.RecordCuts.{ends_later, stays}
 use Rattle.rb_model.specs.State.{State, Connection}
 use Rattle.rb_model.specs.Connections.{live_connection}
 use Rattle.rb_model.specs.Step.{serve}
-use Rattle.rb_model.specs.Sessions.{Exchange, Session, passed, calls_ended, call_in, left_behind, marked_reply, replies_to}
+use Rattle.rb_model.specs.Sessions.{Exchange, Session, session_with, calls_ended, call_in, left_behind, marked_reply_in, replies_to}
 
 -- ---- one event
 
@@ -22,7 +22,7 @@ pub same-session : {ta tb ga gb ua ub : List ℕ} {ca cb : List Exchange} → ta
 same-session p q r u = rw (p, q, r, u) refl
 
 -- nothing is taken
-pub none-taken : (s : State) (id : ℕ) (gave : List ℕ) (t : Session) → first_record t.unfinished ≡ None → passed s id [] gave t ≡ record t { given = t.given ++ gave }
+pub none-taken : (s : State) (id : ℕ) (gave : List ℕ) (t : Session) → first_record t.unfinished ≡ None → session_with s id [] gave t ≡ record t { given = t.given ++ gave }
 none-taken s id gave t none =
     let all : List ℕ = t.unfinished ++ [] in
     let e : first_record all ≡ None = ap first_record (append-nil t.unfinished) ∙ none in
@@ -31,12 +31,12 @@ none-taken s id gave t none =
     (ap (λ (o : Option ℕ). t.calls ++ calls_ended s id all o) e ∙ append-nil t.calls)
 
 -- nothing passes
-pub none-passed : (s : State) (id : ℕ) (t : Session) → first_record t.unfinished ≡ None → passed s id [] [] t ≡ t
+pub none-passed : (s : State) (id : ℕ) (t : Session) → first_record t.unfinished ≡ None → session_with s id [] [] t ≡ t
 none-passed s id t none = none-taken s id [] t none ∙ same-session refl (append-nil t.given) refl refl
 
 -- no record ends in what is taken
 pub goes-on : (s : State) (id : ℕ) (more : List ℕ) (t : Session) → first_record (t.unfinished ++ more) ≡ None
-    → passed s id more [] t ≡ record t { taken = t.taken ++ more; unfinished = t.unfinished ++ more }
+    → session_with s id more [] t ≡ record t { taken = t.taken ++ more; unfinished = t.unfinished ++ more }
 goes-on s id more t e =
     let all : List ℕ = t.unfinished ++ more in
     same-session refl (append-nil t.given)
@@ -49,16 +49,16 @@ call_of s id c bytes = record { content = data_of bytes; said = (serve s (Tcp id
 
 -- a record ends
 pub ends : (s : State) (id : ℕ) (more : List ℕ) (t : Session) (n : ℕ) (c : Connection) → first_record (t.unfinished ++ more) ≡ Some n → live_connection id s.connections.all ≡ Some c
-    → passed s id more [] t ≡ record t { taken = t.taken ++ more; unfinished = []; calls = t.calls ++ call_of s id c (t.unfinished ++ more) ∷ [] }
+    → session_with s id more [] t ≡ record t { taken = t.taken ++ more; unfinished = []; calls = t.calls ++ call_of s id c (t.unfinished ++ more) ∷ [] }
 ends s id more t n c e there =
     let all : List ℕ = t.unfinished ++ more in
     same-session refl (append-nil t.given)
     (ap (left_behind all) e)
     (ap (λ (o : Option ℕ). t.calls ++ calls_ended s id all o) e ∙ ap (λ (o : Option Connection). t.calls ++ call_in s id all o) there)
 
-pub one-more-reply : (calls : List Exchange) (call : Exchange) → replies_to (calls ++ call ∷ []) ≡ replies_to calls ++ marked_reply call.said
+pub one-more-reply : (calls : List Exchange) (call : Exchange) → replies_to (calls ++ call ∷ []) ≡ replies_to calls ++ marked_reply_in call.said
 one-more-reply calls call =
-    flat_map-append (λ (x : Exchange). marked_reply x.said) calls (call ∷ []) ∙ ap (λ (xs : List ℕ). replies_to calls ++ xs) (append-nil (marked_reply call.said))
+    flat_map-append (λ (x : Exchange). marked_reply_in x.said) calls (call ∷ []) ∙ ap (λ (xs : List ℕ). replies_to calls ++ xs) (append-nil (marked_reply_in call.said))
 
 -- ---- the end of a record
 

@@ -8,8 +8,8 @@ use Rattle.rb_model.specs.Calls.{Outcome}
 use Rattle.rb_model.specs.Calls.Outcome.{NoCall, Reply, Forwarded, Silent}
 use Rattle.rb_model.specs.State.{State, Phase, Connection, Connections, opening}
 use Rattle.rb_model.specs.State.Phase.{Idle, Reading, Owing, Awaiting, Lost}
-use Rattle.rb_model.specs.Connections.{is_live, live_connection, change_first, without_number, reading, settled, phase_after, phase_when_given, when_given, giving, pending_in}
-use Rattle.rb_model.specs.Losses.{lost, began_in, began_before, evicted}
+use Rattle.rb_model.specs.Connections.{is_live, live_connection, change_first, without_number, keep_reading, settle, phase_after, phase_when_given, with_given, give, pending_in}
+use Rattle.rb_model.specs.Losses.{lose, stamp_in, began_before, evict_early}
 use Rattle.rb_model.specs.Step.{Event, Output, step, after, IsReached}
 use Rattle.rb_model.specs.Laws.{IsLive}
 use Rattle.rb_model.proofs.Fragments.{some-marked}
@@ -73,12 +73,12 @@ found-sound p least next (d ∷ all) c s is = by_test (p d) is (found-sound p (d
 
 -- ---- one connection
 
-pub reading-keeps : (clock : ℕ) (fed : List ℕ) → first_record fed ≡ None → Keeps (reading clock fed)
-unfolding reading
+pub reading-keeps : (clock : ℕ) (fed : List ℕ) → first_record fed ≡ None → Keeps (keep_reading clock fed)
+unfolding keep_reading
 reading-keeps clock fed none = record { number = λ c. refl; phase = λ c s. none }
 
-pub settled-keeps : (clock : ℕ) (said : Outcome) → Keeps (settled clock said)
-unfolding settled
+pub settled-keeps : (clock : ℕ) (said : Outcome) → Keeps (settle clock said)
+unfolding settle
 settled-keeps clock said = record { number = λ c. refl; phase = λ c s. by_outcome said }
   where
     by_outcome : (o : Outcome) → IsSoundPhase (phase_after o)
@@ -98,8 +98,8 @@ given-sound n (Owing o) s = by_test (nat_lt (o.given + n) (length o.marked)) ref
     by_test true e = ltb-true (o.given + n) (length o.marked) e
     by_test false e = tt
 
-when_given-keeps : (clock n : ℕ) → Keeps (when_given clock n)
-unfolding when_given
+when_given-keeps : (clock n : ℕ) → Keeps (with_given clock n)
+unfolding with_given
 when_given-keeps clock n = record {
   number = λ c. elim (eqb n 0) as (λ b. (cond b c (given c)).number ≡ c.number) [ true ↦ refl | false ↦ refl ];
   phase = λ c s. elim (eqb n 0) as (λ b. IsSoundPhase (cond b c (given c)).phase) [ true ↦ s | false ↦ given-sound n c.phase s ];
@@ -108,21 +108,21 @@ when_given-keeps clock n = record {
     given : Connection → Connection
     given c = record c { phase = phase_when_given n c.phase; since = clock }
 
-pub giving-keeps : (clock n : ℕ) → Keeps (λ c. (giving clock n c).1)
-unfolding giving
+pub giving-keeps : (clock n : ℕ) → Keeps (λ c. (give clock n c).1)
+unfolding give
 giving-keeps clock n = record {
   number = λ c. (when_given-keeps clock (min n (length (pending_in c.phase)))).number c;
   phase = λ c s. (when_given-keeps clock (min n (length (pending_in c.phase)))).phase c s;
 }
 
-pub lost-keeps : Keeps lost
+pub lost-keeps : Keeps lose
 lost-keeps = record { number = λ c. refl; phase = λ c s. tt }
 
-pub evicted-keeps : (changes : List ℕ) → Keeps (evicted changes)
-unfolding evicted
+pub evicted-keeps : (changes : List ℕ) → Keeps (evict_early changes)
+unfolding evict_early
 evicted-keeps changes = record {
-  number = λ c. elim (began_before changes (began_in c.phase)) as (λ b. (cond b (lost c) c).number ≡ c.number) [ true ↦ refl | false ↦ refl ];
-  phase = λ c s. elim (began_before changes (began_in c.phase)) as (λ b. IsSoundPhase (cond b (lost c) c).phase) [ true ↦ tt | false ↦ s ];
+  number = λ c. elim (began_before changes (stamp_in c.phase)) as (λ b. (cond b (lose c) c).number ≡ c.number) [ true ↦ refl | false ↦ refl ];
+  phase = λ c s. elim (began_before changes (stamp_in c.phase)) as (λ b. IsSoundPhase (cond b (lose c) c).phase) [ true ↦ tt | false ↦ s ];
 }
 
 pub mapped : (f : Connection → Connection) → Keeps f → (least next : ℕ) (all : List Connection) → AreSound least next all → AreSound least next (map f all)
@@ -139,21 +139,21 @@ pub happening-sound : (s : State) (event : Event) (output : Output) (now : Conne
 unfolding without_number
 happening-sound s event output now sound (Stays q same) = subst SoundIn (sym same) sound
 happening-sound s event output now sound (Evicts at peer content is q same) =
-    subst SoundIn (sym same) (mapped (evicted (crowd_at s at (Udp peer) content)) (evicted-keeps _) 0 s.connections.next s.connections.all sound)
+    subst SoundIn (sym same) (mapped (evict_early (crowd_at s at (Udp peer) content)) (evicted-keeps _) 0 s.connections.next s.connections.all sound)
 happening-sound s event output now sound (Opens at peer is out same) =
     subst SoundIn (sym same) (one_more 0 s.connections.next s.connections.all (record { number = s.connections.next; peer = peer; phase = Idle; since = max s.clock at }) refl tt sound)
 happening-sound s event output now sound (Reads at id piece c fed is there feeds none out same) =
     subst SoundIn (sym same) (changed id _ (reading-keeps (max s.clock at) (fed ++ piece) none) 0 s.connections.next s.connections.all sound)
 happening-sound s event output now sound (Ends at id piece c fed n is there feeds some out same) =
     let changes : List ℕ = crowd_at s at (Tcp id c.peer) (data_of (take n (fed ++ piece))) in
-    subst SoundIn (sym same) (changed id _ (settled-keeps (max s.clock at) _) 0 s.connections.next (map (evicted changes) s.connections.all)
-    (mapped (evicted changes) (evicted-keeps changes) 0 s.connections.next s.connections.all sound))
+    subst SoundIn (sym same) (changed id _ (settled-keeps (max s.clock at) _) 0 s.connections.next (map (evict_early changes) s.connections.all)
+    (mapped (evict_early changes) (evicted-keeps changes) 0 s.connections.next s.connections.all sound))
 happening-sound s event output now sound (Gives at id n c is there few out same) =
     subst SoundIn (sym same) (changed id _ (giving-keeps (max s.clock at) n) 0 s.connections.next s.connections.all sound)
 happening-sound s event output now sound (Tells at id said is q final told there same) =
     subst SoundIn (sym same) (changed id _ (settled-keeps (max s.clock at) said) 0 s.connections.next s.connections.all sound)
 happening-sound s event output now sound (TimesOut at c is q none found same) =
-    subst SoundIn (sym same) (changed c.number lost lost-keeps 0 s.connections.next s.connections.all sound)
+    subst SoundIn (sym same) (changed c.number lose lost-keeps 0 s.connections.next s.connections.all sound)
 happening-sound s event output now sound (Closes id is out there same) =
     subst SoundIn (sym same) (filtered (λ (c : Connection). not (eqb c.number id)) 0 s.connections.next s.connections.all sound)
 

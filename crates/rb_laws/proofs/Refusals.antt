@@ -14,7 +14,7 @@ use Rattle.rb_model.specs.declared.types.Expired.{Expired}
 use Rattle.rb_model.specs.declared.types.Expired.TheVariants.{Ended}
 use Rattle.rb_model.specs.declared.types.Expired.TheVariants as expiries
 use Rattle.rb_model.specs.Ending.{forward_reply, expire}
-use Rattle.rb_model.specs.Step.{Event, Output, dropped_with, sent_call, show_told, show_end, show_expired, moved, bytes_to, bytes, pending, gave, is_too_much, open_connection, close_connection, datagram, output_or, show_taken, show_done, show_outcome, step}
+use Rattle.rb_model.specs.Step.{Event, Output, dropped_with, sent_call, show_told, show_end, show_expired, unless_refused, bytes_to, bytes, pending, gave, is_too_much, open_connection, close_connection, datagram, output_or, show_taken, show_done, show_outcome, step}
 use Rattle.rb_model.specs.declared.types.Taken.{Taken}
 use Rattle.rb_model.specs.Step.Event.{Open, Bytes, Pending, Gave, Closed, NextLost, Datagram, Unsent, Sent, Forward, Expire}
 use Rattle.rb_model.specs.Step.Output.{Opened, TooMuch, Took, TookAndClosed, IsPending}
@@ -35,7 +35,7 @@ shown-or : {A : Type 0} (s : State) (show : A → Output) (plain : (x : A) (t : 
 shown-or s show plain (Ok x, t) kept = plain x t
 shown-or s show plain (Err fault, t) kept = kept
 
-moves : {A : Type 0} (now : ℕ) (s : State) (r : Result A CoreFault × Connections) → IsKept s (moved now s r)
+moves : {A : Type 0} (now : ℕ) (s : State) (r : Result A CoreFault × Connections) → IsKept s (unless_refused now s r)
 moves now s (Ok x, c) = tt
 moves now s (Err fault, c) = refl
 

@@ -6,7 +6,7 @@ use Rattle.rb_rpc.specs.declared.peer.Caller.TheVariants.{Tcp, Udp}
 use Rattle.rb_forward.specs.declared.types.Ended.{Ended}
 use Rattle.rb_forward.specs.Forwards.{Unsent as UnsentCall}
 use Rattle.rb_proto.specs.Ledger.{Ledger}
-use Rattle.rb_proto.specs.Forwarding.{replied, fell_due}
+use Rattle.rb_proto.specs.Forwarding.{target_replied, fell_due}
 use Rattle.rb_model.specs.declared.types.Expired.{Expired}
 use Rattle.rb_model.specs.declared.types.Expired.TheVariants as expiries
 use Rattle.rb_model.specs.declared.types.Told.{Told}
@@ -40,7 +40,7 @@ module _ (s : State) where
 
   pub forward-shown : (now : ℕ) (from : Peer) (message : List ℕ) → let after : Output × State = step s (Forward now from message) in length after.1.reply ≤ bytes_out (Forward now from message) after.0
   unfolding step forward_reply
-  forward-shown now from message = by_end (replied s.setting.first_xid (max s.clock now) from message s.ledger)
+  forward-shown now from message = by_end (target_replied s.setting.first_xid (max s.clock now) from message s.ledger)
     where
       by_caller : (caller : Caller) (said : Outcome) (ledger : Ledger) → let r : Told × State = tell caller said (record (at_fresh_moment now s) { ledger = ledger }) in
           length (show_end (Some r.0, r.1)).1.reply ≤ bytes_out (Forward now from message) (show_end (Some r.0, r.1)).0

@@ -9,8 +9,8 @@ use Rattle.rb_rpc.specs.declared.peer.Caller.TheVariants.{Tcp, Udp}
 use Rattle.rb_forward.specs.declared.types.Ended.{Ended}
 use Rattle.rb_forward.specs.Forwards.{can_be_sent}
 use Rattle.rb_proto.specs.Ledger.{Ledger}
-use Rattle.rb_proto.specs.Forwarding.{replied, call_sent}
-use Rattle.rb_model.specs.Losses.{crowding, evicted, lost}
+use Rattle.rb_proto.specs.Forwarding.{target_replied, call_sent}
+use Rattle.rb_model.specs.Losses.{removals_in_the_way, evict_early, lose}
 use Rattle.rb_model.specs.declared.types.CoreFault.{CoreFault}
 use Rattle.rb_model.specs.declared.types.CoreFault.TheVariants.{Full, Spent, Gone}
 use Rattle.rb_model.specs.declared.types.Told.{Told}
@@ -18,11 +18,11 @@ use Rattle.rb_model.specs.declared.types.Expired.{Expired}
 use Rattle.rb_model.specs.declared.types.Expired.TheVariants as expiries
 use Rattle.rb_model.specs.Calls.{Outcome, Outcome as outcomes, message_of}
 use Rattle.rb_model.specs.State.{State, Connection, at_moment, greatest_number, opening}
-use Rattle.rb_model.specs.Connections.{Taking, taking, reading, settled, change_first, is_live, live_connection, giving, on_found, number_for, opening_as, opening_of, is_there, without_number, closing_of}
+use Rattle.rb_model.specs.Connections.{Taking, taking_of, keep_reading, settle, change_first, is_live, live_connection, give, on_found, number_for, opening_as, opening_of, is_there, without_number, closing_of}
 use Rattle.rb_model.specs.State.Phase.{Idle}
 use Rattle.rb_model.specs.Connections.Taking.{TakesNone, GoesOn, Ends}
 use Rattle.rb_model.specs.Ending.{told_at, tell, tell_end, at_fresh_moment, forward_reply, expire}
-use Rattle.rb_model.specs.Step.{Event, Output, context_in, serve, answering, moved, when_taken, bytes_to, bytes, pending, gave, is_too_much, open_connection, dropped_with, close_connection, with_reply, datagram, sent_call, output_or, show_taken, show_done, show_outcome, show_end, show_expired, step, after, IsReached}
+use Rattle.rb_model.specs.Step.{Event, Output, context_in, serve, serve_record, unless_refused, when_taken, bytes_to, bytes, pending, gave, is_too_much, open_connection, dropped_with, close_connection, with_reply, datagram, sent_call, output_or, show_taken, show_done, show_outcome, show_end, show_expired, step, after, IsReached}
 use Rattle.rb_model.specs.Step.Event.{Open, Bytes, Pending, Gave, Closed, NextLost, Datagram, Unsent, Sent, Forward as ForwardCame, Expire}
 use Rattle.rb_model.specs.Step.Output.{Opened, TooMuch, IsPending}
 use Rattle.rb_laws.proofs.EntriesKept.{step-follows}
@@ -60,25 +60,25 @@ module _ (s : State) where
 
   serve-few : (now : ℕ) (caller : Caller) (content : List ℕ) → count (serve (at_moment now s) caller content).1 ≤ count s
   unfolding serve
-  serve-few now caller content = let same = length-map s.connections.all (evicted (crowding (context_in (at_moment now s) caller) (message_of content) s.connections.all s.ledger)) in omega (arith, same)
+  serve-few now caller content = let same = length-map s.connections.all (evict_early (removals_in_the_way (context_in (at_moment now s) caller) (message_of content) s.connections.all s.ledger)) in omega (arith, same)
 
   bytes-few : (now id : ℕ) (piece : List ℕ) (o : Option Connection) → count (output_or show_taken (bytes_to s now id piece o)).1 ≤ count s
-  unfolding answering
+  unfolding serve_record
   bytes-few now id piece None = omega arith
-  bytes-few now id piece (Some c) = by_taking (taking c.phase piece)
+  bytes-few now id piece (Some c) = by_taking (taking_of c.phase piece)
     where
       by_taking : (t : Taking) → count (when_taken (at_moment now s) id piece c t).1 ≤ count s
       by_taking TakesNone = omega arith
-      by_taking (GoesOn fed) = let same = changed-length (is_live id) (reading (max s.clock now) fed) s.connections.all in omega (arith, same)
+      by_taking (GoesOn fed) = let same = changed-length (is_live id) (keep_reading (max s.clock now) fed) s.connections.all in omega (arith, same)
       by_taking (Ends n content) =
           let few = serve-few now (Tcp id c.peer) content in
           let after : Outcome × State = serve (at_moment now s) (Tcp id c.peer) content in
-          let same = changed-length (is_live id) (settled after.1.clock after.0) after.1.connections.all in
+          let same = changed-length (is_live id) (settle after.1.clock after.0) after.1.connections.all in
           omega (arith, same, few)
 
-  gave-few : (now id n : ℕ) (o : Option Connection) → count (output_or show_done (moved now s (on_found id (giving (max s.clock now) n) s.connections o))).1 ≤ count s
+  gave-few : (now id n : ℕ) (o : Option Connection) → count (output_or show_done (unless_refused now s (on_found id (give (max s.clock now) n) s.connections o))).1 ≤ count s
   gave-few now id n None = omega arith
-  gave-few now id n (Some c) = let same = changed-length (is_live id) (λ x. (giving (max s.clock now) n x).1) s.connections.all in omega (arith, same)
+  gave-few now id n (Some c) = let same = changed-length (is_live id) (λ x. (give (max s.clock now) n x).1) s.connections.all in omega (arith, same)
 
   closed-few : (id : ℕ) (b : Bool) → count (output_or show_done (dropped_with s id (cond b (Ok tt, without_number id s.connections) (Err Gone, s.connections)))).1 ≤ count s
   unfolding without_number
@@ -86,7 +86,7 @@ module _ (s : State) where
   closed-few id false = omega arith
 
   tell-few : (u : State) (caller : Caller) (said : Outcome) → count u ≤ count s → count (tell caller said u).1 ≤ count s
-  tell-few u (Tcp id peer) said few = let same = changed-length (is_live id) (settled u.clock said) u.connections.all in omega (arith, same, few)
+  tell-few u (Tcp id peer) said few = let same = changed-length (is_live id) (settle u.clock said) u.connections.all in omega (arith, same, few)
   tell-few u (Udp peer) said few = few
 
   told-few : (message : List ℕ) (u : State) (r : Option Ended × Ledger) → count u ≤ count s → count (tell_end message u r).1 ≤ count s
@@ -104,7 +104,7 @@ module _ (s : State) where
 
   expire-few : (now : ℕ) (r : Expired × State) → Expiry s (max s.clock now) (at_fresh_moment now s) r → count r.1 ≤ count s
   expire-few now r (EntryEnds e found ledger left is) = rw is (tell-few (record (at_fresh_moment now s) { ledger = ledger }) e.forward.caller (told_at [] (end_of e)) (omega arith))
-  expire-few now r (ConnectionEnds none c found is) = rw is (let same = changed-length (is_live c.number) lost s.connections.all in omega (arith, same))
+  expire-few now r (ConnectionEnds none c found is) = rw is (let same = changed-length (is_live c.number) lose s.connections.all in omega (arith, same))
   expire-few now r (NothingDue none found is) = rw is (omega arith)
 
   outcome-few : (r : Outcome × State) → count r.1 ≤ count s → count (show_outcome (with_reply r)).1 ≤ count s
@@ -131,7 +131,7 @@ unfolding step open_connection opening_of number_for
 opened-room s now peer few = by_room (nat_lt (count s) s.setting.limits.conns) refl (nat_lt greatest_number s.connections.next)
   where
     by_room : (b : Bool) → nat_lt (count s) s.setting.limits.conns ≡ b → (spent : Bool)
-        → count (output_or Opened (moved now s (opening_as peer (max s.clock now) s.connections (cond (not b) (Err Full) (cond spent (Err Spent) (Ok s.connections.next)))))).1 ≤ s.setting.limits.conns
+        → count (output_or Opened (unless_refused now s (opening_as peer (max s.clock now) s.connections (cond (not b) (Err Full) (cond spent (Err Spent) (Ok s.connections.next)))))).1 ≤ s.setting.limits.conns
     by_room false e spent = few
     by_room true e true = few
     by_room true e false =
@@ -155,7 +155,7 @@ step-few s (Datagram now peer content) few = within s _ few (outcome-few s (serv
 step-few s Unsent few = few
 step-few s (Sent number) few = within s _ few (sent-few s number (can_be_sent number s.ledger.forwards))
 step-few s (ForwardCame now from message) few =
-    within s _ few (end-few s (forward_reply s now from message) (told-few s message (at_fresh_moment now s) (replied s.setting.first_xid (max s.clock now) from message s.ledger) (omega arith)))
+    within s _ few (end-few s (forward_reply s now from message) (told-few s message (at_fresh_moment now s) (target_replied s.setting.first_xid (max s.clock now) from message s.ledger) (omega arith)))
 step-few s (Expire now) few = within s _ few (expired-few s (expire s now) (expire-few s now (expire s now) (expiry s now)))
 
 step-room : (s : State) (event : Event) → HasRoom s → HasRoom (step s event).1

@@ -14,15 +14,15 @@ use Rattle.rb_model.specs.Calls.{Outcome, is_no_call}
 use Rattle.rb_model.specs.Calls.Outcome.{NoCall, Reply, Forwarded, Silent}
 use Rattle.rb_model.specs.State.{State, Phase, Connection, Connections, at_moment}
 use Rattle.rb_model.specs.State.Phase.{Idle, Reading, Owing, Awaiting, Lost}
-use Rattle.rb_model.specs.Connections.{is_live, live_connection, fed_in, change_first, changed_at, reading, settled, giving, when_given, phase_when_given, pending_in, without_number}
-use Rattle.rb_model.specs.Laws.{is_awaiting, owed, number_given, owed_in, IsGiven}
+use Rattle.rb_model.specs.Connections.{is_live, live_connection, fed_in, change_first, changed_at, keep_reading, settle, give, with_given, phase_when_given, pending_in, without_number}
+use Rattle.rb_model.specs.Laws.{is_awaiting, owed_bytes, number_given, owed_in, IsGiven}
 use Rattle.rb_model.specs.Step.{Event, Output, pending, pending_on, show_taken, step}
 use Rattle.rb_model.specs.declared.types.Taken.{Taken}
 use Rattle.rb_model.specs.Step.Event.{Bytes, Gave}
 use Rattle.rb_model.specs.Step.Output.{Opened, Took, TookAndClosed, Done}
-use Rattle.rb_model.specs.Sessions.{Exchange, Session, at_event, piece_to, taken_by, gave_to, pending_bytes, given_by, nothing_passed, passed, passed_by, told_by, with_told, with_last_told, replies_to, marked_reply, IsFinal, is_answered, AwaitsLast, AreAnswered, IsFront}
+use Rattle.rb_model.specs.Sessions.{Exchange, Session, at_event, piece_to, taken_by, gave_to, pending_bytes, given_by, empty_session, session_with, session_after, told_by, with_told, with_last_told, replies_to, marked_reply_in, IsFinal, is_answered, AwaitsLast, AreAnswered, IsFront}
 use Rattle.rb_model.specs.Bounds.{count_in}
-use Rattle.rb_model.specs.Losses.{lost as timed_out, evicted, evicting}
+use Rattle.rb_model.specs.Losses.{lose as timed_out, evict_early, evict}
 use Rattle.rb_laws.proofs.Cuts.{IsFeeding, find-changed, find-holds, number-is, reading-feeds, fed-no-list}
 use Rattle.rb_laws.proofs.Closings.{final-call}
 use Rattle.rb_laws.proofs.Entering.{is_forwarded}
@@ -64,7 +64,7 @@ pub record Holds (id : ℕ) (now : Connections) (t : Session) : Type 0 where
   pub none : first_record t.unfinished ≡ None
   pub records : AreBytes t.taken → Records t.taken (contents t.calls) t.unfinished
   pub front : IsFront t.given (replies_to t.calls)
-  pub new : now.next ≤ id → t ≡ nothing_passed
+  pub new : now.next ≤ id → t ≡ empty_session
   pub live : FitsIn id now.all t
 
 grows : (o : Option ℕ) (old new : ℕ) → GivesNext o old new → old ≤ new
@@ -105,12 +105,12 @@ changed-fits id f all c t feeds there fits = λ d is.
     let it : f c ≡ d = cc in
     subst (λ (x : Connection). Fits x.phase t) it fits
 
-reading-fits : (clock : ℕ) (all : List ℕ) (c : Connection) (t : Session) → t.unfinished ≡ all → t.given ≡ replies_to t.calls → All is_answered t.calls → Fits (reading clock all c).phase t
-unfolding reading
+reading-fits : (clock : ℕ) (all : List ℕ) (c : Connection) (t : Session) → t.unfinished ≡ all → t.given ≡ replies_to t.calls → All is_answered t.calls → Fits (keep_reading clock all c).phase t
+unfolding keep_reading
 reading-fits clock all c t is given answered = record { unfinished = is; rest = append-nil t.given ∙ given; answered = answered }
 
-settled-fits : (clock : ℕ) (said : Outcome) (c : Connection) (t : Session) → t.unfinished ≡ [] → t.given ++ marked_reply said ≡ replies_to t.calls → AreAnswered (is_forwarded said) t.calls → Fits (settled clock said c).phase t
-unfolding settled owed
+settled-fits : (clock : ℕ) (said : Outcome) (c : Connection) (t : Session) → t.unfinished ≡ [] → t.given ++ marked_reply_in said ≡ replies_to t.calls → AreAnswered (is_forwarded said) t.calls → Fits (settle clock said c).phase t
+unfolding settle owed_bytes
 settled-fits clock NoCall c t is rest answered = record { unfinished = is; rest = rest; answered = answered }
 settled-fits clock (Reply reply began) c t is rest answered = record { unfinished = is; rest = rest; answered = answered }
 settled-fits clock Forwarded c t is rest answered = record { unfinished = is; rest = rest; answered = answered }
@@ -159,8 +159,8 @@ given-unfinished n (Owing o) = by_test (nat_lt (o.given + n) (length o.marked))
     by_test false = refl
 
 -- nor by a call
-giving-unfinished : (clock n : ℕ) (c : Connection) → unfinished_in (giving clock n c).1.phase ≡ unfinished_in c.phase
-unfolding giving when_given
+giving-unfinished : (clock n : ℕ) (c : Connection) → unfinished_in (give clock n c).1.phase ≡ unfinished_in c.phase
+unfolding give with_given
 giving-unfinished clock n c =
     let k : ℕ = min n (length (pending_in c.phase)) in
     elim (eqb k 0) as (λ z. unfinished_in (cond z c (record c { phase = phase_when_given k c.phase; since = clock })).phase ≡ unfinished_in c.phase) [ true ↦ refl | false ↦ given-unfinished k c.phase ]
@@ -187,7 +187,7 @@ none-gave s id event other is = refl
 not-none : (c : Connection) → ◌≡◌ {A = Option Connection} (Some c) None → ⊥
 not-none c e = cc
 
-opens-fit : Fits Idle nothing_passed
+opens-fit : Fits Idle empty_session
 opens-fit = record { unfinished = refl; rest = refl; answered = All-nil is_answered }
 
 -- what is live among those that are found alike
@@ -201,8 +201,8 @@ opened-fits id old c t h number idle = λ d is. by_place d (find-after (is_live 
     by_place d (inl before) = h.live d before
     by_place d (inr (same, live)) =
         let number_is : c.number ≡ id = number-is id c live in
-        let none : t ≡ nothing_passed = h.new (omega (arith, number_is, number)) in
-        subst (λ (x : Connection). Fits x.phase t) same (subst (λ (x : Session). Fits c.phase x) (sym none) (subst (λ (p : Phase). Fits p nothing_passed) (sym idle) opens-fit))
+        let none : t ≡ empty_session = h.new (omega (arith, number_is, number)) in
+        subst (λ (x : Connection). Fits x.phase t) same (subst (λ (x : Session). Fits c.phase x) (sym none) (subst (λ (p : Phase). Fits p empty_session) (sym idle) opens-fit))
 
 without-fits : (id k : ℕ) (all : List Connection) (t : Session) → FitsIn id all t → FitsIn id (without k all) t
 without-fits id k all t fits = by_number (eqb k id) refl
@@ -226,24 +226,24 @@ found_above id least next (x ∷ all) d a is = by_live (is_live id x) refl (foun
         omega (arith, a.0, number)
     by_live false e later = let low : x.number + 1 ≤ d.number = later (rw e at is) in omega (arith, a.0, low)
 
-left_before : (id : ℕ) (changes : List ℕ) (least next : ℕ) (all : List Connection) (d : Connection) → AreSound least next all → find (is_live id) (map (evicted changes) all) ≡ Some d → find (is_live id) all ≡ Some d
+left_before : (id : ℕ) (changes : List ℕ) (least next : ℕ) (all : List Connection) (d : Connection) → AreSound least next all → find (is_live id) (map (evict_early changes) all) ≡ Some d → find (is_live id) all ≡ Some d
 left_before id changes least next [] d a is = is
 left_before id changes least next (x ∷ all) d a is = by_live (is_live id x) refl (left_before id changes (x.number + 1) next all d a.2)
   where
-    by_live : (b : Bool) → is_live id x ≡ b → (find (is_live id) (map (evicted changes) all) ≡ Some d → find (is_live id) all ≡ Some d) → find (is_live id) (x ∷ all) ≡ Some d
+    by_live : (b : Bool) → is_live id x ≡ b → (find (is_live id) (map (evict_early changes) all) ≡ Some d → find (is_live id) all ≡ Some d) → find (is_live id) (x ∷ all) ≡ Some d
     by_live false e later = rw e (later (rw (stays_dead id changes x e) at is))
-    by_live true e later = by_new (is_live id (evicted changes x)) refl
+    by_live true e later = by_new (is_live id (evict_early changes x)) refl
       where
-        by_new : (b : Bool) → is_live id (evicted changes x) ≡ b → find (is_live id) (x ∷ all) ≡ Some d
+        by_new : (b : Bool) → is_live id (evict_early changes x) ≡ b → find (is_live id) (x ∷ all) ≡ Some d
         by_new true n = rw e (ap (λ (y : Connection). Some y) (sym (still_is id changes x n)) ∙ (rw n at is))
         by_new false n =
-            let rest : find (is_live id) (map (evicted changes) all) ≡ Some d = rw n at is in
-            let low : x.number + 1 ≤ d.number = found_above id (x.number + 1) next (map (evicted changes) all) d (mapped (evicted changes) (evicted-keeps changes) (x.number + 1) next all a.2) rest in
+            let rest : find (is_live id) (map (evict_early changes) all) ≡ Some d = rw n at is in
+            let low : x.number + 1 ≤ d.number = found_above id (x.number + 1) next (map (evict_early changes) all) d (mapped (evict_early changes) (evicted-keeps changes) (x.number + 1) next all a.2) rest in
             let mine : x.number ≡ id = number-is id x e in
-            let yours : d.number ≡ id = number-is id d (find-holds (is_live id) (map (evicted changes) all) d rest) in
+            let yours : d.number ≡ id = number-is id d (find-holds (is_live id) (map (evict_early changes) all) d rest) in
             absurd (omega (arith, low, mine, yours))
 
-evicted-fits : (id : ℕ) (changes : List ℕ) (next : ℕ) (all : List Connection) (t : Session) → AreSound 0 next all → FitsIn id all t → FitsIn id (map (evicted changes) all) t
+evicted-fits : (id : ℕ) (changes : List ℕ) (next : ℕ) (all : List Connection) (t : Session) → AreSound 0 next all → FitsIn id all t → FitsIn id (map (evict_early changes) all) t
 evicted-fits id changes next all t sound fits = λ d is. fits d (left_before id changes 0 next all d sound is)
 
 -- ---- one event
@@ -251,7 +251,7 @@ evicted-fits id changes next all t sound fits = λ d is. fits d (left_before id 
 module _ (id : ℕ) (s : State) (t : Session) (h : Holds id s.connections t) where
   -- what has passed with an event, and what it gives
   abbrev with_event : Event → Output → Session
-  with_event event output = passed (at_event event s) id (taken_by id event output) (given_by s id event output) t
+  with_event event output = session_with (at_event event s) id (taken_by id event output) (given_by s id event output) t
 
   -- what holds of the connections after it
   record Goes (now : Connections) : Type 0 where
@@ -261,8 +261,8 @@ module _ (id : ℕ) (s : State) (t : Session) (h : Holds id s.connections t) whe
   quiet : (event : Event) (output : Output) (now : Connections) → Goes now → taken_by id event output ≡ [] → given_by s id event output ≡ [] → FitsIn id now.all t → Holds id now (with_event event output)
   quiet event output now goes taken given fits =
       let same : with_event event output ≡ t =
-      ap (λ (xs : List ℕ). passed (at_event event s) id xs (given_by s id event output) t) taken
-      ∙ ap (λ (xs : List ℕ). passed (at_event event s) id [] xs t) given
+      ap (λ (xs : List ℕ). session_with (at_event event s) id xs (given_by s id event output) t) taken
+      ∙ ap (λ (xs : List ℕ). session_with (at_event event s) id [] xs t) given
       ∙ none-passed (at_event event s) id t h.none in
       subst (λ (x : Session). Holds id now x) (sym same) (record {
         sound = goes.sound;
@@ -281,9 +281,9 @@ module _ (id : ℕ) (s : State) (t : Session) (h : Holds id s.connections t) whe
       subst (λ (x : Connections). FitsIn id x.all t) (sym same) (fits-same id s.connections.all (change_first (is_live k) f s.connections.all) t (changed-other id k f keeps e s.connections.all) h.live)
 
   -- the same once some became Lost for room
-  evicted-by : (changes : List ℕ) (k : ℕ) (f : Connection → Connection) (now : Connections) → ((d : Connection) → (f d).number ≡ d.number) → eqb k id ≡ false → now ≡ changed_at k f (evicting changes s.connections) → FitsIn id now.all t
+  evicted-by : (changes : List ℕ) (k : ℕ) (f : Connection → Connection) (now : Connections) → ((d : Connection) → (f d).number ≡ d.number) → eqb k id ≡ false → now ≡ changed_at k f (evict changes s.connections) → FitsIn id now.all t
   evicted-by changes k f now keeps e same =
-      let all : List Connection = map (evicted changes) s.connections.all in
+      let all : List Connection = map (evict_early changes) s.connections.all in
       subst (λ (x : Connections). FitsIn id x.all t) (sym same)
       (fits-same id all (change_first (is_live k) f all) t (changed-other id k f keeps e all) (evicted-fits id changes s.connections.next s.connections.all t h.sound h.live))
 
@@ -308,12 +308,12 @@ module _ (id : ℕ) (s : State) (t : Session) (h : Holds id s.connections t) whe
 
     -- no record ends
     read-on : (at : ℕ) (piece fed : List ℕ) (now : Connections) → Goes now → fed_in c.phase ≡ Some fed → first_record (fed ++ piece) ≡ None
-        → now ≡ changed_at id (reading (max s.clock at) (fed ++ piece)) s.connections → Holds id now (passed (at_moment at s) id piece [] t)
+        → now ≡ changed_at id (keep_reading (max s.clock at) (fed ++ piece)) s.connections → Holds id now (session_with (at_moment at s) id piece [] t)
     read-on at piece fed now goes feeds none same =
         let whole : t.unfinished ++ piece ≡ fed ++ piece = ap (λ (xs : List ℕ). xs ++ piece) (unfinished-here fed feeds) in
         let still : first_record (t.unfinished ++ piece) ≡ None = ap first_record whole ∙ none in
         let new : Session = record t { taken = t.taken ++ piece; unfinished = t.unfinished ++ piece } in
-        let f : Connection → Connection = reading (max s.clock at) (fed ++ piece) in
+        let f : Connection → Connection = keep_reading (max s.clock at) (fed ++ piece) in
         let live : FitsIn id (change_first (is_live id) f s.connections.all) new =
         changed-fits id f s.connections.all c new (reading-feeds id (max s.clock at) (fed ++ piece)) found
         (reading-fits (max s.clock at) (fed ++ piece) c new whole (all-given c.phase fed t feeds fits-live) (all-answered c.phase fed t feeds fits-live)) in
@@ -329,7 +329,7 @@ module _ (id : ℕ) (s : State) (t : Session) (h : Holds id s.connections t) whe
 
     -- the connections after a call
     answered-fits : (clock : ℕ) (said : Outcome) (new : Session) (call : Exchange) → call.said ≡ said → new.unfinished ≡ [] → new.given ≡ replies_to t.calls → new.calls ≡ t.calls ++ call ∷ [] → All is_answered t.calls
-        → (all : List Connection) → AreSound 0 s.connections.next all → find (is_live id) all ≡ Some c → FitsIn id (change_first (is_live id) (settled clock said) all) new
+        → (all : List Connection) → AreSound 0 s.connections.next all → find (is_live id) all ≡ Some c → FitsIn id (change_first (is_live id) (settle clock said) all) new
     answered-fits clock said new call says left given calls answered all sound here = by_call (is_no_call said) refl
       where
         lost : (o : Outcome) → is_no_call o ≡ true → o ≡ NoCall
@@ -338,14 +338,14 @@ module _ (id : ℕ) (s : State) (t : Session) (h : Holds id s.connections t) whe
         lost Forwarded e = absurd cc
         lost Silent e = absurd cc
 
-        by_call : (b : Bool) → is_no_call said ≡ b → FitsIn id (change_first (is_live id) (settled clock said) all) new
+        by_call : (b : Bool) → is_no_call said ≡ b → FitsIn id (change_first (is_live id) (settle clock said) all) new
         by_call true e = λ d is.
-            absurd (not-none d (sym is ∙ ap (λ (o : Outcome). find (is_live id) (change_first (is_live id) (settled clock o) all)) (lost said e) ∙ lost-gone id clock 0 s.connections.next all sound))
+            absurd (not-none d (sym is ∙ ap (λ (o : Outcome). find (is_live id) (change_first (is_live id) (settle clock o) all)) (lost said e) ∙ lost-gone id clock 0 s.connections.next all sound))
         by_call false e =
-            changed-fits id (settled clock said) all c new (answering-feeds id clock said e) here
+            changed-fits id (settle clock said) all c new (answering-feeds id clock said e) here
             (settled-fits clock said c new left
-            (ap (λ (xs : List ℕ). xs ++ marked_reply said) given
-            ∙ ap (λ (o : Outcome). replies_to t.calls ++ marked_reply o) (sym says)
+            (ap (λ (xs : List ℕ). xs ++ marked_reply_in said) given
+            ∙ ap (λ (o : Outcome). replies_to t.calls ++ marked_reply_in o) (sym says)
             ∙ sym (one-more-reply t.calls call) ∙ ap replies_to (sym calls))
             (subst (λ (xs : List Exchange). AreAnswered (is_forwarded said) xs) (sym calls) (more-answered said t.calls call e says answered)))
 
@@ -357,7 +357,7 @@ module _ (id : ℕ) (s : State) (t : Session) (h : Holds id s.connections t) whe
 
     -- a record ends
     record-ends : (changes : List ℕ) (at : ℕ) (piece fed : List ℕ) (n : ℕ) (now : Connections) → Goes now → fed_in c.phase ≡ Some fed → first_record (fed ++ piece) ≡ Some n
-        → now ≡ changed_at id (settled (max s.clock at) (said_in s at id c (take n (fed ++ piece)))) (evicting changes s.connections) → Holds id now (passed (at_moment at s) id (take (n - length fed) piece) [] t)
+        → now ≡ changed_at id (settle (max s.clock at) (said_in s at id c (take n (fed ++ piece)))) (evict changes s.connections) → Holds id now (session_with (at_moment at s) id (take (n - length fed) piece) [] t)
     record-ends changes at piece fed n now goes feeds some same =
         let more : List ℕ = take (n - length fed) piece in
         let whole : t.unfinished ++ more ≡ take n (fed ++ piece) = ends-whole piece fed n feeds some in
@@ -373,20 +373,20 @@ module _ (id : ℕ) (s : State) (t : Session) (h : Holds id s.connections t) whe
           none = no-first;
           records = λ are. subst (λ (xs : List (List ℕ)). Records (t.taken ++ more) xs []) (sym (map-append (λ (y : Exchange). y.content) t.calls (call ∷ [])))
               (records-end t.taken more t.unfinished (contents t.calls) n h.records here short are);
-          front = record { rest = marked_reply call.said; whole = ap (λ (xs : List ℕ). xs ++ marked_reply call.said) given ∙ sym (one-more-reply t.calls call) };
+          front = record { rest = marked_reply_in call.said; whole = ap (λ (xs : List ℕ). xs ++ marked_reply_in call.said) given ∙ sym (one-more-reply t.calls call) };
           new = λ le. absurd (omega (arith, le, under, goes.later));
           live = subst (λ (x : Connections). FitsIn id x.all new) (sym same) (answered-fits (max s.clock at) (said_in s at id c (take n (fed ++ piece))) new call says refl given refl (all-answered c.phase fed t feeds fits-live)
-              (map (evicted changes) s.connections.all) (mapped (evicted changes) (evicted-keeps changes) 0 s.connections.next s.connections.all h.sound)
+              (map (evict_early changes) s.connections.all) (mapped (evict_early changes) (evicted-keeps changes) 0 s.connections.next s.connections.all h.sound)
               (plain_lives id changes s.connections.all c found (fed-no-list c.phase fed feeds)));
         })
 
     -- bytes are given
-    give-on : (at n : ℕ) (now : Connections) → Goes now → n ≤ length (pending_in c.phase) → now ≡ changed_at id (λ x. (giving (max s.clock at) n x).1) s.connections
-        → Holds id now (passed s id [] (take n (pending_in c.phase)) t)
+    give-on : (at n : ℕ) (now : Connections) → Goes now → n ≤ length (pending_in c.phase) → now ≡ changed_at id (λ x. (give (max s.clock at) n x).1) s.connections
+        → Holds id now (session_with s id [] (take n (pending_in c.phase)) t)
     give-on at n now goes few same =
         let gave : List ℕ = take n (pending_in c.phase) in
         let new : Session = record t { given = t.given ++ gave } in
-        let f : Connection → Connection = λ x. (giving (max s.clock at) n x).1 in
+        let f : Connection → Connection = λ x. (give (max s.clock at) n x).1 in
         let is : IsGiven n c.phase (f c).phase = one-given (max s.clock at) n c sound-live few in
         let rest : (t.given ++ gave) ++ drop n (owed_in c.phase) ≡ replies_to t.calls = given-on c.phase n t.given (replies_to t.calls) sound-live few fits-live.rest in
         let fits : Fits (f c).phase new = record {
@@ -415,20 +415,20 @@ module _ (id : ℕ) (s : State) (t : Session) (h : Holds id s.connections t) whe
 
   -- the three events that pass bytes, on the connection of the number or on another
   reads-at : (at k : ℕ) (piece : List ℕ) (c : Connection) (fed : List ℕ) (now : Connections) → Goes now → live_connection k s.connections.all ≡ Some c → fed_in c.phase ≡ Some fed → first_record (fed ++ piece) ≡ None
-      → now ≡ changed_at k (reading (max s.clock at) (fed ++ piece)) s.connections → (b : Bool) → eqb k id ≡ b → Holds id now (with_event (Bytes at k piece) (Took (length piece)))
-  unfolding reading
+      → now ≡ changed_at k (keep_reading (max s.clock at) (fed ++ piece)) s.connections → (b : Bool) → eqb k id ≡ b → Holds id now (with_event (Bytes at k piece) (Took (length piece)))
+  unfolding keep_reading
   reads-at at k piece c fed now goes there feeds none same false e =
       quiet (Bytes at k piece) (Took (length piece)) now goes (no-piece (Bytes at k piece) (Took (length piece)) (ap (λ (b : Bool). cond b piece []) e)) refl
-      (changed-by k (reading (max s.clock at) (fed ++ piece)) now (λ x. refl) e same)
+      (changed-by k (keep_reading (max s.clock at) (fed ++ piece)) now (λ x. refl) e same)
   reads-at at k piece c fed now goes there feeds none same true e = here (eqb-true k id e)
     where
       here : k ≡ id → Holds id now (with_event (Bytes at k piece) (Took (length piece)))
       here number =
           let there_is : live_connection id s.connections.all ≡ Some c = ap (λ (j : ℕ). live_connection j s.connections.all) (sym number) ∙ there in
-          let same_is : now ≡ changed_at id (reading (max s.clock at) (fed ++ piece)) s.connections = same ∙ ap (λ (j : ℕ). changed_at j (reading (max s.clock at) (fed ++ piece)) s.connections) number in
+          let same_is : now ≡ changed_at id (keep_reading (max s.clock at) (fed ++ piece)) s.connections = same ∙ ap (λ (j : ℕ). changed_at j (keep_reading (max s.clock at) (fed ++ piece)) s.connections) number in
           let all : taken_by id (Bytes at id piece) (Took (length piece)) ≡ piece = taken-is c there_is at piece (Took (length piece)) (length piece) refl ∙ take_all (length piece) piece (omega arith) in
           subst (λ (j : ℕ). Holds id now (with_event (Bytes at j piece) (Took (length piece)))) (sym number)
-          (subst (λ (xs : List ℕ). Holds id now (passed (at_moment at s) id xs [] t)) (sym all) (read-on c there_is at piece fed now goes feeds none same_is))
+          (subst (λ (xs : List ℕ). Holds id now (session_with (at_moment at s) id xs [] t)) (sym all) (read-on c there_is at piece fed now goes feeds none same_is))
 
   -- what is told of a record that ended
   abbrev ended : ℕ → ℕ → Connection → List ℕ → List ℕ → ℕ → Taken
@@ -441,40 +441,40 @@ module _ (id : ℕ) (s : State) (t : Session) (h : Holds id s.connections t) whe
   plain-told event x = elim (x.closed) as (λ b. given_by s id event (cond b (TookAndClosed x.count) (Took x.count)) ≡ []) [ true ↦ refl | false ↦ refl ]
 
   ends-at : (changes : List ℕ) (at k : ℕ) (piece : List ℕ) (c : Connection) (fed : List ℕ) (n : ℕ) (now : Connections) → Goes now → live_connection k s.connections.all ≡ Some c → fed_in c.phase ≡ Some fed → first_record (fed ++ piece) ≡ Some n
-      → now ≡ changed_at k (settled (max s.clock at) (said_in s at k c (take n (fed ++ piece)))) (evicting changes s.connections) → (b : Bool) → eqb k id ≡ b → Holds id now (with_event (Bytes at k piece) (told at k c piece fed n))
-  unfolding settled
+      → now ≡ changed_at k (settle (max s.clock at) (said_in s at k c (take n (fed ++ piece)))) (evict changes s.connections) → (b : Bool) → eqb k id ≡ b → Holds id now (with_event (Bytes at k piece) (told at k c piece fed n))
+  unfolding settle
   ends-at changes at k piece c fed n now goes there feeds some same false e =
       quiet (Bytes at k piece) (told at k c piece fed n) now goes (no-piece (Bytes at k piece) (told at k c piece fed n) (ap (λ (b : Bool). cond b piece []) e))
       (plain-told (Bytes at k piece) (ended at k c piece fed n))
-      (evicted-by changes k (settled (max s.clock at) (said_in s at k c (take n (fed ++ piece)))) now (λ x. refl) e same)
+      (evicted-by changes k (settle (max s.clock at) (said_in s at k c (take n (fed ++ piece)))) now (λ x. refl) e same)
   ends-at changes at k piece c fed n now goes there feeds some same true e = here (eqb-true k id e)
     where
       here : k ≡ id → Holds id now (with_event (Bytes at k piece) (told at k c piece fed n))
       here number =
           let there_is : live_connection id s.connections.all ≡ Some c = ap (λ (j : ℕ). live_connection j s.connections.all) (sym number) ∙ there in
-          let same_is : now ≡ changed_at id (settled (max s.clock at) (said_in s at id c (take n (fed ++ piece)))) (evicting changes s.connections) =
-          same ∙ ap (λ (j : ℕ). changed_at j (settled (max s.clock at) (said_in s at j c (take n (fed ++ piece)))) (evicting changes s.connections)) number in
+          let same_is : now ≡ changed_at id (settle (max s.clock at) (said_in s at id c (take n (fed ++ piece)))) (evict changes s.connections) =
+          same ∙ ap (λ (j : ℕ). changed_at j (settle (max s.clock at) (said_in s at j c (take n (fed ++ piece)))) (evict changes s.connections)) number in
           let part : taken_by id (Bytes at id piece) (told at id c piece fed n) ≡ take (n - length fed) piece = taken-is c there_is at piece (told at id c piece fed n) (n - length fed) (count-shown (ended at id c piece fed n)) in
           let none : given_by s id (Bytes at id piece) (told at id c piece fed n) ≡ [] = plain-told (Bytes at id piece) (ended at id c piece fed n) in
-          let pass : with_event (Bytes at id piece) (told at id c piece fed n) ≡ passed (at_moment at s) id (take (n - length fed) piece) [] t =
-          ap (λ (xs : List ℕ). passed (at_moment at s) id xs (given_by s id (Bytes at id piece) (told at id c piece fed n)) t) part
-          ∙ ap (λ (xs : List ℕ). passed (at_moment at s) id (take (n - length fed) piece) xs t) none in
+          let pass : with_event (Bytes at id piece) (told at id c piece fed n) ≡ session_with (at_moment at s) id (take (n - length fed) piece) [] t =
+          ap (λ (xs : List ℕ). session_with (at_moment at s) id xs (given_by s id (Bytes at id piece) (told at id c piece fed n)) t) part
+          ∙ ap (λ (xs : List ℕ). session_with (at_moment at s) id (take (n - length fed) piece) xs t) none in
           subst (λ (j : ℕ). Holds id now (with_event (Bytes at j piece) (told at j c piece fed n))) (sym number)
           (subst (λ (y : Session). Holds id now y) (sym pass) (record-ends c there_is changes at piece fed n now goes feeds some same_is))
 
   gives-at : (at k n : ℕ) (c : Connection) (now : Connections) → Goes now → live_connection k s.connections.all ≡ Some c → n ≤ length (pending_in c.phase)
-      → now ≡ changed_at k (λ x. (giving (max s.clock at) n x).1) s.connections → (b : Bool) → eqb k id ≡ b → Holds id now (with_event (Gave at k n) Done)
+      → now ≡ changed_at k (λ x. (give (max s.clock at) n x).1) s.connections → (b : Bool) → eqb k id ≡ b → Holds id now (with_event (Gave at k n) Done)
   gives-at at k n c now goes there few same false e =
       quiet (Gave at k n) Done now goes (no-piece (Gave at k n) Done refl) (none-gave s id (Gave at k n) Done (ap (λ (b : Bool). cond b n 0) e))
-      (changed-by k (λ x. (giving (max s.clock at) n x).1) now (giving-keeps (max s.clock at) n).number e same)
+      (changed-by k (λ x. (give (max s.clock at) n x).1) now (giving-keeps (max s.clock at) n).number e same)
   gives-at at k n c now goes there few same true e = here (eqb-true k id e)
     where
       here : k ≡ id → Holds id now (with_event (Gave at k n) Done)
       here number =
           let there_is : live_connection id s.connections.all ≡ Some c = ap (λ (j : ℕ). live_connection j s.connections.all) (sym number) ∙ there in
-          let same_is : now ≡ changed_at id (λ x. (giving (max s.clock at) n x).1) s.connections = same ∙ ap (λ (j : ℕ). changed_at j (λ x. (giving (max s.clock at) n x).1) s.connections) number in
+          let same_is : now ≡ changed_at id (λ x. (give (max s.clock at) n x).1) s.connections = same ∙ ap (λ (j : ℕ). changed_at j (λ x. (give (max s.clock at) n x).1) s.connections) number in
           subst (λ (j : ℕ). Holds id now (with_event (Gave at j n) Done)) (sym number)
-          (subst (λ (xs : List ℕ). Holds id now (passed s id [] xs t)) (sym (given-is c there_is at n)) (give-on c there_is at n now goes few same_is))
+          (subst (λ (xs : List ℕ). Holds id now (session_with s id [] xs t)) (sym (given-is c there_is at n)) (give-on c there_is at n now goes few same_is))
 
   by_case : (event : Event) (output : Output) (now : Connections) → Goes now → Happening s event output now → told_by s id event ≡ None → Holds id now (with_event event output)
   unfolding without_number
@@ -511,7 +511,7 @@ module _ (id : ℕ) (s : State) (t : Session) (h : Holds id s.connections t) whe
           ∙ timed-out-gone id 0 s.connections.next s.connections.all h.sound in
           absurd cc
   by_case event output now goes (Tells at k said is q final told has same) none =
-      quiet event output now goes (ap (λ (n : ℕ). take n (piece_to id event)) q.no_count) (q.none_given id) (changed-by k (settled (max s.clock at) said) now (settled-keeps (max s.clock at) said).number (other (eqb k id) refl) same)
+      quiet event output now goes (ap (λ (n : ℕ). take n (piece_to id event)) q.no_count) (q.none_given id) (changed-by k (settle (max s.clock at) said) now (settled-keeps (max s.clock at) said).number (other (eqb k id) refl) same)
     where
       other : (b : Bool) → eqb k id ≡ b → eqb k id ≡ false
       other false e = e
@@ -531,28 +531,28 @@ module _ (id : ℕ) (s : State) (t : Session) (h : Holds id s.connections t) whe
       let calls : with_last_told said t.calls ≡ a.before ++ record a.last { said = said } ∷ [] = ap (with_last_told said) a.whole ∙ told-last said a.before a.last in
       let new : Session = record t { calls = with_last_told said t.calls } in
       let before : t.given ≡ replies_to a.before =
-      sym (append-nil t.given) ∙ fits.rest ∙ ap replies_to a.whole ∙ one-more-reply a.before a.last ∙ ap (λ (o : Outcome). replies_to a.before ++ marked_reply o) a.forwarded ∙ append-nil (replies_to a.before) in
-      let rest : t.given ++ marked_reply said ≡ replies_to (with_last_told said t.calls) =
-      ap (λ (xs : List ℕ). xs ++ marked_reply said) before ∙ sym (one-more-reply a.before (record a.last { said = said })) ∙ ap replies_to (sym calls) in
+      sym (append-nil t.given) ∙ fits.rest ∙ ap replies_to a.whole ∙ one-more-reply a.before a.last ∙ ap (λ (o : Outcome). replies_to a.before ++ marked_reply_in o) a.forwarded ∙ append-nil (replies_to a.before) in
+      let rest : t.given ++ marked_reply_in said ≡ replies_to (with_last_told said t.calls) =
+      ap (λ (xs : List ℕ). xs ++ marked_reply_in said) before ∙ sym (one-more-reply a.before (record a.last { said = said })) ∙ ap replies_to (sym calls) in
       let plain : is_no_call said ≡ false = final-call said tells.final in
       let under : id < s.connections.next = below c w.there in
       let same : with_event event output ≡ t =
-      ap (λ (xs : List ℕ). passed (at_event event s) id xs (given_by s id event output) t) (no-piece event output none.0)
-      ∙ ap (λ (xs : List ℕ). passed (at_event event s) id [] xs t) (none-gave s id event output none.1)
+      ap (λ (xs : List ℕ). session_with (at_event event s) id xs (given_by s id event output) t) (no-piece event output none.0)
+      ∙ ap (λ (xs : List ℕ). session_with (at_event event s) id [] xs t) (none-gave s id event output none.1)
       ∙ none-passed (at_event event s) id t h.none in
       subst (λ (x : Session). Holds id now (record x { calls = with_last_told said x.calls })) (sym same) (record {
         sound = goes.sound;
         none = h.none;
         records = λ are. subst (λ (xs : List (List ℕ)). Records t.taken xs t.unfinished) (sym (same-contents said t.calls)) (h.records are);
-        front = record { rest = marked_reply said; whole = rest };
+        front = record { rest = marked_reply_in said; whole = rest };
         new = λ le. absurd (omega (arith, le, under, goes.later));
         live = subst (λ (x : Connections). FitsIn id x.all new) (sym tells.same)
-            (changed-fits id (settled (max s.clock tells.at) said) s.connections.all c new (answering-feeds id (max s.clock tells.at) said plain) (found c w.there)
+            (changed-fits id (settle (max s.clock tells.at) said) s.connections.all c new (answering-feeds id (max s.clock tells.at) said plain) (found c w.there)
             (settled-fits (max s.clock tells.at) said c new fits.unfinished rest
             (subst (λ (xs : List Exchange). AreAnswered (is_forwarded said) xs) (sym calls) (more-answered said a.before (record a.last { said = said }) plain refl a.answered))));
       })
 
-  pub step-holds : (event : Event) → Await s → Holds id (step s event).1.connections (passed_by s id event t)
+  pub step-holds : (event : Event) → Await s → Holds id (step s event).1.connections (session_after s id event t)
   step-holds event waits = by_told (told_by s id event) refl
     where
       goes : Goes (step s event).1.connections
@@ -564,6 +564,6 @@ module _ (id : ℕ) (s : State) (t : Session) (h : Holds id s.connections t) whe
       with_all : Option Outcome → Session
       with_all o = record (with_event event (step s event).0) { calls = with_told o (with_event event (step s event).0).calls }
 
-      by_told : (o : Option Outcome) → told_by s id event ≡ o → Holds id (step s event).1.connections (passed_by s id event t)
+      by_told : (o : Option Outcome) → told_by s id event ≡ o → Holds id (step s event).1.connections (session_after s id event t)
       by_told None e = subst (λ (o : Option Outcome). Holds id (step s event).1.connections (with_all o)) (sym e) (by_case event (step s event).0 (step s event).1.connections goes (happening s event) e)
       by_told (Some said) e = subst (λ (o : Option Outcome). Holds id (step s event).1.connections (with_all o)) (sym e) (ended-holds event (step s event).0 said (step s event).1.connections goes waits (tells s event id said e))

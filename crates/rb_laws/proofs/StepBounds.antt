@@ -2,14 +2,14 @@
 use Rattle.std.proofs.Common.{◌≡◌, ℕ, Bool, List, length, refl, ◌≤◌, ◌+◌, true, false, cond, Option, Some, None, [], ◌∷◌, ◌++◌, sym, ap, ◌∙◌, arith}
 use Rattle.std.proofs.lemmas.List.{length-take}
 use Rattle.rb_feed.specs.Feeds.{arguments_of}
-use Rattle.rb_forward.specs.Forwards.{longest_arguments as longest_args}
+use Rattle.rb_forward.specs.Forwards.{longest_forwarded as longest_args}
 use Rattle.rb_model.specs.State.{State, Connection, at_moment, opening, are_good}
-use Rattle.rb_model.specs.Connections.{Taking, taking, live_connection}
+use Rattle.rb_model.specs.Connections.{Taking, taking_of, live_connection}
 use Rattle.rb_model.specs.Connections.Taking.{TakesNone, GoesOn, Ends}
-use Rattle.rb_model.specs.Step.{answering, with_count, when_taken, Event, Output, bytes_to, bytes, output_or, show_taken, step, after, IsReached}
+use Rattle.rb_model.specs.Step.{serve_record, with_count, when_taken, Event, Output, bytes_to, bytes, output_or, show_taken, step, after, IsReached}
 use Rattle.rb_model.specs.declared.types.Taken.{Taken}
 use Rattle.rb_model.specs.Costs.{sizes_in, count_taken, record_cost, bytes_cost, find_cost, event_cost}
-use Rattle.rb_model.specs.Calls.{longest_reply, longest_arguments}
+use Rattle.rb_model.specs.Calls.{longest_reply, longest_kept}
 use Rattle.rb_model.specs.Step.Event.{Open, Bytes, Pending, Gave, Closed, NextLost, Datagram, Unsent, Sent, Forward, Expire}
 use Rattle.rb_model.specs.Bounds.{count_in, steps_bound, bound_at}
 use Rattle.rb_model.specs.BoundLaws.{StepsAreBounded, RunsAreBounded}
@@ -27,7 +27,7 @@ with_count-counts n (closed, s) = refl
 pub taken-counts : (s : State) (id : ℕ) (piece : List ℕ) (c : Connection) (t : Taking) → (when_taken s id piece c t).0.count ≡ count_taken piece t
 taken-counts s id piece c TakesNone = refl
 taken-counts s id piece c (GoesOn fed) = refl
-taken-counts s id piece c (Ends n content) = with_count-counts n (answering s id c.peer content)
+taken-counts s id piece c (Ends n content) = with_count-counts n (serve_record s id c.peer content)
 
 -- an event more
 pub reached-step : (s : State) → IsReached s → (event : Event) → IsReached (step s event).1
@@ -48,20 +48,20 @@ module _ (s : State) (reached : IsReached s) (good : are_good s.setting.limits �
 
     piece_within : (m : Option Connection) → live_connection id s.connections.all ≡ m
         → bytes_cost (sizes_in s) piece m ≤ steps_bound s.setting.limits (count_in (output_or show_taken (bytes_to s now id piece m)).0) 0
-    unfolding longest_reply longest_arguments longest_args
+    unfolding longest_reply longest_kept longest_args
     piece_within None e = omega (arith, conns_few)
-    piece_within (Some c) e = by_taking (taking c.phase piece) (shows (when_taken (at_moment now s) id piece c (taking c.phase piece)).0 ∙ taken-counts (at_moment now s) id piece c (taking c.phase piece))
+    piece_within (Some c) e = by_taking (taking_of c.phase piece) (shows (when_taken (at_moment now s) id piece c (taking_of c.phase piece)).0 ∙ taken-counts (at_moment now s) id piece c (taking_of c.phase piece))
       where
         by_taking : (t : Taking) → count_in (show_taken (when_taken (at_moment now s) id piece c t).0) ≡ count_taken piece t
             → find_cost (length s.connections.all) + (count_taken piece t + 1) + 4 + record_cost (sizes_in s) t ≤ steps_bound s.setting.limits (count_in (show_taken (when_taken (at_moment now s) id piece c t).0)) 0
         by_taking TakesNone k = omega (arith, conns_few, k)
         by_taking (GoesOn fed) k = omega (arith, conns_few, k)
-        by_taking (Ends n content) k = omega (arith, conns_few, k, length-take longest_arguments (arguments_of content))
+        by_taking (Ends n content) k = omega (arith, conns_few, k, length-take longest_kept (arguments_of content))
 
   -- ---- every event
 
   event_within : (event : Event) → event_cost s event ≤ bound_at s event
-  unfolding longest_reply longest_arguments longest_args step bytes
+  unfolding longest_reply longest_kept longest_args step bytes
   event_within (Open now peer) = omega arith
   event_within (Bytes now id piece) = let few = piece_within now id piece (live_connection id s.connections.all) refl in omega (arith, few)
   event_within (Pending id) = omega (arith, conns_few)

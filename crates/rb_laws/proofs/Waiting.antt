@@ -9,7 +9,7 @@ use Rattle.rb_rpc.specs.declared.peer.Caller.TheVariants.{Tcp, Udp}
 use Rattle.rb_forward.specs.declared.types.Ended.{Ended}
 use Rattle.rb_forward.specs.Forwards.{can_be_sent}
 use Rattle.rb_proto.specs.Ledger.{Ledger}
-use Rattle.rb_proto.specs.Forwarding.{replied, call_sent}
+use Rattle.rb_proto.specs.Forwarding.{target_replied, call_sent}
 use Rattle.rb_model.specs.declared.types.CoreFault.{CoreFault}
 use Rattle.rb_model.specs.declared.types.CoreFault.TheVariants.{Gone}
 use Rattle.rb_model.specs.declared.types.Told.{Told}
@@ -18,10 +18,10 @@ use Rattle.rb_model.specs.declared.types.Expired.TheVariants as expiries
 use Rattle.rb_model.specs.Calls.{Outcome, Outcome as outcomes, message_of}
 use Rattle.rb_model.specs.State.{Phase, State, Connection, at_moment}
 use Rattle.rb_model.specs.State.Phase.{Idle, Reading, Owing, Awaiting, Lost}
-use Rattle.rb_model.specs.Connections.{settled, change_first, is_live, when_given, giving, on_found, number_for, opening_as, opening_of, is_there, without_number, closing_of, phase_after, phase_when_given, pending_in, live_connection}
-use Rattle.rb_model.specs.Losses.{began_in, began_before, crowding, evicted, lost}
+use Rattle.rb_model.specs.Connections.{settle, change_first, is_live, with_given, give, on_found, number_for, opening_as, opening_of, is_there, without_number, closing_of, phase_after, phase_when_given, pending_in, live_connection}
+use Rattle.rb_model.specs.Losses.{stamp_in, began_before, removals_in_the_way, evict_early, lose}
 use Rattle.rb_model.specs.Ending.{told_at, tell, tell_end, at_fresh_moment, forward_reply, expire}
-use Rattle.rb_model.specs.Step.{Output, context_in, serve, answering, moved, pending, gave, is_too_much, open_connection, dropped_with, close_connection, with_reply, datagram, sent_call, output_or, show_done, show_outcome, show_end, show_expired, step}
+use Rattle.rb_model.specs.Step.{Output, context_in, serve, serve_record, unless_refused, pending, gave, is_too_much, open_connection, dropped_with, close_connection, with_reply, datagram, sent_call, output_or, show_done, show_outcome, show_end, show_expired, step}
 use Rattle.rb_model.specs.Step.Event.{Open, Pending, Gave, Closed, Datagram, Sent, Forward as ForwardCame, Expire}
 use Rattle.rb_model.specs.Step.Output.{Opened, TooMuch, IsPending}
 use Rattle.rb_model.specs.WholeRuns.{args_in, args_waiting}
@@ -64,20 +64,20 @@ found-waiting test f (d ∷ all) c there = by_test (test d) refl (found-waiting 
         let later = further (rw e at there) in
         rw e (omega (arith, later, sum_by-cons args_of d (change_first test f all), sum_by-cons args_of d all))
 
-evicted-few : (changes : List ℕ) (c : Connection) → args_of (evicted changes c) ≤ args_of c
-unfolding evicted
-evicted-few changes c = by_test (began_before changes (began_in c.phase))
+evicted-few : (changes : List ℕ) (c : Connection) → args_of (evict_early changes c) ≤ args_of c
+unfolding evict_early
+evicted-few changes c = by_test (began_before changes (stamp_in c.phase))
   where
-    by_test : (b : Bool) → args_of (cond b (lost c) c) ≤ args_of c
+    by_test : (b : Bool) → args_of (cond b (lose c) c) ≤ args_of c
     by_test true = omega arith
     by_test false = omega arith
 
-pub evicted-waiting : (changes : List ℕ) (all : List Connection) → args_waiting (map (evicted changes) all) ≤ args_waiting all
+pub evicted-waiting : (changes : List ℕ) (all : List Connection) → args_waiting (map (evict_early changes) all) ≤ args_waiting all
 evicted-waiting changes [] = omega arith
 evicted-waiting changes (c ∷ all) =
     let rest = evicted-waiting changes all in
     let one = evicted-few changes c in
-    omega (arith, one, rest, sum_by-cons args_of (evicted changes c) (map (evicted changes) all), sum_by-cons args_of c all)
+    omega (arith, one, rest, sum_by-cons args_of (evict_early changes c) (map (evict_early changes) all), sum_by-cons args_of c all)
 
 filtered-waiting : (p : Connection → Bool) (all : List Connection) → args_waiting (filter p all) ≤ args_waiting all
 filtered-waiting p [] = omega arith
@@ -95,11 +95,11 @@ after-none (outcomes.Reply bytes began) = refl
 after-none outcomes.Forwarded = refl
 after-none outcomes.Silent = refl
 
-pub settled-none : (clock : ℕ) (given : Outcome) (c : Connection) → args_of (settled clock given c) ≡ 0
-unfolding settled
+pub settled-none : (clock : ℕ) (given : Outcome) (c : Connection) → args_of (settle clock given c) ≡ 0
+unfolding settle
 settled-none clock given c = after-none given
 
-settled-few : (clock : ℕ) (given : Outcome) (c : Connection) → args_of (settled clock given c) ≤ args_of c
+settled-few : (clock : ℕ) (given : Outcome) (c : Connection) → args_of (settle clock given c) ≤ args_of c
 settled-few clock given c = let none = settled-none clock given c in omega (arith, none)
 
 given-few : (n : ℕ) (p : Phase) → args_in (phase_when_given n p) ≤ args_in p
@@ -113,8 +113,8 @@ given-few n (Owing o) = by_end (nat_lt (o.given + n) (length o.marked))
 given-few n Awaiting = omega arith
 given-few n Lost = omega arith
 
-giving-few : (clock n : ℕ) (c : Connection) → args_of (giving clock n c).1 ≤ args_of c
-unfolding giving when_given
+giving-few : (clock n : ℕ) (c : Connection) → args_of (give clock n c).1 ≤ args_of c
+unfolding give with_given
 giving-few clock n c = by_none (eqb (min n (length (pending_in c.phase))) 0)
   where
     by_none : (b : Bool) → args_of (cond b c (record c { phase = phase_when_given (min n (length (pending_in c.phase))) c.phase; since = clock })) ≤ args_of c
@@ -130,22 +130,22 @@ waiting s = args_waiting s.connections.all
 module _ (s : State) where
   pub serve-waits : (now : ℕ) (caller : Caller) (content : List ℕ) → waiting (serve (at_moment now s) caller content).1 ≤ waiting s
   unfolding serve
-  serve-waits now caller content = evicted-waiting (crowding (context_in (at_moment now s) caller) (message_of content) s.connections.all s.ledger) s.connections.all
+  serve-waits now caller content = evicted-waiting (removals_in_the_way (context_in (at_moment now s) caller) (message_of content) s.connections.all s.ledger) s.connections.all
 
   -- the record of the live connection of a number ended, and is answered
-  pub answering-waits : (now id : ℕ) (content : List ℕ) (c : Connection) → find (is_live id) s.connections.all ≡ Some c → began_in c.phase ≡ None
-      → waiting (answering (at_moment now s) id c.peer content).1 + args_of c ≤ waiting s
-  unfolding answering serve
+  pub answering-waits : (now id : ℕ) (content : List ℕ) (c : Connection) → find (is_live id) s.connections.all ≡ Some c → stamp_in c.phase ≡ None
+      → waiting (serve_record (at_moment now s) id c.peer content).1 + args_of c ≤ waiting s
+  unfolding serve_record serve
   answering-waits now id content c there plain =
-      let changes : List ℕ = crowding (context_in (at_moment now s) (Tcp id c.peer)) (message_of content) s.connections.all s.ledger in
+      let changes : List ℕ = removals_in_the_way (context_in (at_moment now s) (Tcp id c.peer)) (message_of content) s.connections.all s.ledger in
       let after : Outcome × State = serve (at_moment now s) (Tcp id c.peer) content in
       let few = evicted-waiting changes s.connections.all in
       let still = plain_lives id changes s.connections.all c there plain in
-      let taken = found-waiting (is_live id) (settled after.1.clock after.0) (map (evicted changes) s.connections.all) c still in
+      let taken = found-waiting (is_live id) (settle after.1.clock after.0) (map (evict_early changes) s.connections.all) c still in
       let none = settled-none after.1.clock after.0 c in
       omega (arith, few, taken, none)
 
-  opened-waits : (now : ℕ) (peer : Peer) (r : Result ℕ CoreFault) → waiting (output_or Opened (moved now s (opening_as peer (max s.clock now) s.connections r))).1 ≤ waiting s
+  opened-waits : (now : ℕ) (peer : Peer) (r : Result ℕ CoreFault) → waiting (output_or Opened (unless_refused now s (opening_as peer (max s.clock now) s.connections r))).1 ≤ waiting s
   opened-waits now peer (Err fault) = omega arith
   opened-waits now peer (Ok number) =
       let new : Connection = record { number = s.connections.next; peer = peer; phase = Idle; since = max s.clock now } in
@@ -156,9 +156,9 @@ module _ (s : State) where
   output-waits show (Ok x) u few = few
   output-waits show (Err fault) u few = few
 
-  gave-waits : (now id n : ℕ) (o : Option Connection) → waiting (output_or show_done (moved now s (on_found id (giving (max s.clock now) n) s.connections o))).1 ≤ waiting s
+  gave-waits : (now id n : ℕ) (o : Option Connection) → waiting (output_or show_done (unless_refused now s (on_found id (give (max s.clock now) n) s.connections o))).1 ≤ waiting s
   gave-waits now id n None = omega arith
-  gave-waits now id n (Some c) = changed-waiting (is_live id) (λ x. (giving (max s.clock now) n x).1) (giving-few (max s.clock now) n) s.connections.all
+  gave-waits now id n (Some c) = changed-waiting (is_live id) (λ x. (give (max s.clock now) n x).1) (giving-few (max s.clock now) n) s.connections.all
 
   closed-waits : (id : ℕ) (b : Bool) → waiting (output_or show_done (dropped_with s id (cond b (Ok tt, without_number id s.connections) (Err Gone, s.connections)))).1 ≤ waiting s
   unfolding without_number
@@ -166,7 +166,7 @@ module _ (s : State) where
   closed-waits id false = omega arith
 
   tell-waits : (u : State) (caller : Caller) (said : Outcome) → waiting u ≤ waiting s → waiting (tell caller said u).1 ≤ waiting s
-  tell-waits u (Tcp id peer) said few = let same = changed-waiting (is_live id) (settled u.clock said) (settled-few u.clock said) u.connections.all in omega (arith, same, few)
+  tell-waits u (Tcp id peer) said few = let same = changed-waiting (is_live id) (settle u.clock said) (settled-few u.clock said) u.connections.all in omega (arith, same, few)
   tell-waits u (Udp peer) said few = few
 
   told-waits : (message : List ℕ) (u : State) (r : Option Ended × Ledger) → waiting u ≤ waiting s → waiting (tell_end message u r).1 ≤ waiting s
@@ -182,12 +182,12 @@ module _ (s : State) where
   expired-waits (expiries.Ended told, u) few = few
   expired-waits (expiries.ConnectionClosed id, u) few = few
 
-  lost-few : (c : Connection) → args_of (lost c) ≤ args_of c
+  lost-few : (c : Connection) → args_of (lose c) ≤ args_of c
   lost-few c = omega arith
 
   expire-waits : (now : ℕ) (r : Expired × State) → Expiry s (max s.clock now) (at_fresh_moment now s) r → waiting r.1 ≤ waiting s
   expire-waits now r (EntryEnds e found ledger left is) = rw is (tell-waits (record (at_fresh_moment now s) { ledger = ledger }) e.forward.caller (told_at [] (end_of e)) (omega arith))
-  expire-waits now r (ConnectionEnds none c found is) = rw is (changed-waiting (is_live c.number) lost lost-few s.connections.all)
+  expire-waits now r (ConnectionEnds none c found is) = rw is (changed-waiting (is_live c.number) lose lost-few s.connections.all)
   expire-waits now r (NothingDue none found is) = rw is (omega arith)
 
   outcome-waits : (r : Outcome × State) → waiting r.1 ≤ waiting s → waiting (show_outcome (with_reply r)).1 ≤ waiting s
@@ -231,7 +231,7 @@ module _ (s : State) where
   pub forward-waits : (now : ℕ) (from : Peer) (message : List ℕ) → waiting (step s (ForwardCame now from message)).1 ≤ waiting s
   unfolding step forward_reply
   forward-waits now from message =
-      end-waits (forward_reply s now from message) (told-waits message (at_fresh_moment now s) (replied s.setting.first_xid (max s.clock now) from message s.ledger) (omega arith))
+      end-waits (forward_reply s now from message) (told-waits message (at_fresh_moment now s) (target_replied s.setting.first_xid (max s.clock now) from message s.ledger) (omega arith))
 
   pub expiry-waits : (now : ℕ) → waiting (step s (Expire now)).1 ≤ waiting s
   unfolding step

@@ -4,9 +4,9 @@ use Rattle.std.proofs.lemmas.List.{take-append-drop, drop-append-le, drop-drop, 
 use Rattle.std.proofs.lemmas.Bool.{ltb-true, ltb-false, eqb-true}
 use Rattle.rb_model.specs.State.{State, Phase, Connection, Owed}
 use Rattle.rb_model.specs.State.Phase.{Idle, Reading, Owing, Awaiting, Lost}
-use Rattle.rb_model.specs.Connections.{live_connection, on_found, giving, pending_in, phase_when_given, when_given, longest_fragment, pending_of}
-use Rattle.rb_model.specs.Laws.{owed, IsLive, owed_in, is_owing, IsGiven, RepliesAreGivenWhole}
-use Rattle.rb_model.specs.Step.{moved, pending, pending_on, gave}
+use Rattle.rb_model.specs.Connections.{live_connection, on_found, give, pending_in, phase_when_given, with_given, longest_fragment, pending_of}
+use Rattle.rb_model.specs.Laws.{owed_bytes, IsLive, owed_in, is_owing, IsGiven, RepliesAreGivenWhole}
+use Rattle.rb_model.specs.Step.{unless_refused, pending, pending_on, gave}
 use Rattle.rb_laws.proofs.Cuts.{find-changed}
 use Rattle.rb_laws.proofs.Live.{giving-feeds}
 use Rattle.rb_laws.proofs.Reached.{IsSoundPhase, live-sound}
@@ -30,7 +30,7 @@ behind Awaiting = []
 behind Lost = []
 
 pub front-of : (p : Phase) → IsSoundPhase p → owed_in p ≡ pending_in p ++ behind p
-unfolding owed pending_of
+unfolding owed_bytes pending_of
 front-of Idle sound = refl
 front-of (Reading fed) sound = refl
 front-of Awaiting sound = refl
@@ -54,12 +54,12 @@ some-pending (Owing o) sound is =
 
 -- ---- what is given
 
-pub is-left : (o : Owed) → owed o ≡ [] → length o.marked ≤ o.given
-unfolding owed
+pub is-left : (o : Owed) → owed_bytes o ≡ [] → length o.marked ≤ o.given
+unfolding owed_bytes
 is-left o none = omega (arith, ap (λ (xs : List ℕ). length xs) none, length-drop o.given o.marked)
 
 -- an Owing connection that still has something to give is not Idle
-still-owing : (o : Owed) → o.given < length o.marked → (Owing o ≡ Idle) ↔ (owed o ≡ [])
+still-owing : (o : Owed) → o.given < length o.marked → (Owing o ≡ Idle) ↔ (owed_bytes o ≡ [])
 still-owing o more = (λ idle. absurd cc, λ none. absurd (omega (arith, more, is-left o none)))
 
 nothing-given : (p : Phase) → IsSoundPhase p → IsGiven 0 p p
@@ -73,7 +73,7 @@ nil-left : (n : ℕ) → ◌≡◌ {A = List ℕ} [] (drop n [])
 nil-left n = sym (nil_from_length (drop n []) (omega (arith, length-drop {A = ℕ} n [])))
 
 some-given : (n : ℕ) (p : Phase) → IsGiven n p (phase_when_given n p)
-unfolding owed
+unfolding owed_bytes
 some-given n Idle = record { left = nil-left n; ended = λ is. absurd cc; kept = λ is. refl }
 some-given n (Reading fed) = record { left = nil-left n; ended = λ is. absurd cc; kept = λ is. refl }
 some-given n Awaiting = record { left = nil-left n; ended = λ is. absurd cc; kept = λ is. refl }
@@ -99,21 +99,21 @@ some-given n (Owing o) = by_test (nat_lt (o.given + n) (length o.marked)) refl
 -- ---- the connection behind it
 
 -- n bytes are given on one connection
-pub one-given : (clock n : ℕ) (c : Connection) → IsSoundPhase c.phase → n ≤ length (pending_in c.phase) → IsGiven n c.phase (giving clock n c).1.phase
-unfolding giving when_given
+pub one-given : (clock n : ℕ) (c : Connection) → IsSoundPhase c.phase → n ≤ length (pending_in c.phase) → IsGiven n c.phase (give clock n c).1.phase
+unfolding give with_given
 one-given clock n c sound few =
     let all : min n (length (pending_in c.phase)) ≡ n = omega (arith, few) in
-    subst (λ (k : ℕ). IsGiven n c.phase (when_given clock k c).phase) (sym all) (by_zero (eqb n 0) refl)
+    subst (λ (k : ℕ). IsGiven n c.phase (with_given clock k c).phase) (sym all) (by_zero (eqb n 0) refl)
   where
     by_zero : (z : Bool) → eqb n 0 ≡ z → IsGiven n c.phase (cond z c (record c { phase = phase_when_given n c.phase; since = clock })).phase
     by_zero true e = subst (λ (k : ℕ). IsGiven k c.phase c.phase) (sym (eqb-true n 0 e)) (nothing-given c.phase sound)
     by_zero false e = some-given n c.phase
 
-gave-at : (s : State) (now id n : ℕ) (c : Connection) → IsLive s id c → IsLive (gave s now id n).1 id (giving (max s.clock now) n c).1
+gave-at : (s : State) (now id n : ℕ) (c : Connection) → IsLive s id c → IsLive (gave s now id n).1 id (give (max s.clock now) n c).1
 unfolding gave live_connection
 gave-at s now id n c there =
-    ap (λ (o : Option Connection). live_connection id (moved now s (on_found id (giving (max s.clock now) n) s.connections o)).1.connections.all) there
-    ∙ find-changed id (λ x. (giving (max s.clock now) n x).1) (giving-feeds id (max s.clock now) n) s.connections.all c there
+    ap (λ (o : Option Connection). live_connection id (unless_refused now s (on_found id (give (max s.clock now) n) s.connections o)).1.connections.all) there
+    ∙ find-changed id (λ x. (give (max s.clock now) n x).1) (giving-feeds id (max s.clock now) n) s.connections.all c there
 
 pub replies_are_given_whole : RepliesAreGivenWhole
 unfolding pending
@@ -125,5 +125,5 @@ replies_are_given_whole s reached id c there =
       lends = ap pending_on there;
       whole = front-of c.phase sound;
       some = some-pending c.phase sound;
-      gives = λ now n few. ((giving (max s.clock now) n c).1, gave-at s now id n c there, one-given (max s.clock now) n c sound few);
+      gives = λ now n few. ((give (max s.clock now) n c).1, gave-at s now id n c there, one-given (max s.clock now) n c sound few);
     }

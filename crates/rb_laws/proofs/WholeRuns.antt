@@ -6,18 +6,18 @@ use Rattle.rb_rpc.specs.Verdict.{verdict}
 use Rattle.rb_rpc.specs.Records.{first_record, data_of}
 use Rattle.rb_rpc.proofs.RecordCuts.{ends_later}
 use Rattle.rb_feed.specs.Feeds.{arguments_of}
-use Rattle.rb_model.specs.Calls.{longest_reply, longest_arguments, kept_of}
+use Rattle.rb_model.specs.Calls.{longest_reply, longest_kept, kept_of}
 use Rattle.rb_model.specs.State.{Setting, State, Phase, Connection, at_moment, are_good}
 use Rattle.rb_model.specs.State.Phase.{Idle, Reading, Owing, Awaiting, Lost}
-use Rattle.rb_model.specs.Connections.{Taking, taking, fed_in, taking_behind, taking_up_to, is_live, live_connection, reading}
+use Rattle.rb_model.specs.Connections.{Taking, taking_of, fed_in, taking_behind, taking_up_to, is_live, live_connection, keep_reading}
 use Rattle.rb_model.specs.Connections.Taking.{TakesNone, GoesOn, Ends}
-use Rattle.rb_model.specs.Step.{Event, Output, answering, with_count, when_taken, bytes_to, bytes, output_or, show_taken, step, run, after, IsReached}
+use Rattle.rb_model.specs.Step.{Event, Output, serve_record, with_count, when_taken, bytes_to, bytes, output_or, show_taken, step, run, after, IsReached}
 use Rattle.rb_model.specs.Step.Event.{Open, Bytes, Pending, Gave, Closed, NextLost, Datagram, Unsent, Sent, Forward, Expire}
 use Rattle.rb_model.specs.Step.Output.{Refused, Done, UnsentIs}
 use Rattle.rb_model.specs.Bounds.{count_in, bytes_in, bytes_out}
 use Rattle.rb_model.specs.Costs.{sizes_in, count_taken, record_cost, bytes_cost, find_cost, event_cost, run_cost}
 use Rattle.rb_model.specs.WholeRuns.{args_in, args_waiting, total_in, total_out, bytes_reported, event_allowance, EventsArePaidAhead, WholeRunsAreBounded}
-use Rattle.rb_model.specs.Losses.{began_in}
+use Rattle.rb_model.specs.Losses.{stamp_in}
 use Rattle.rb_laws.proofs.ExactTaking.{fed-none}
 use Rattle.rb_laws.proofs.Reached.{live-sound}
 use Rattle.rb_laws.proofs.Ledgers.{step-setting}
@@ -30,7 +30,7 @@ use Rattle.rb_laws.proofs.Waiting.{waiting, found-waiting, answering-waits, open
 
 none_kept : length (kept_of (data_of [])) ≤ 0
 unfolding data_of arguments_of verdict
-none_kept = omega (arith, length-take longest_arguments (arguments_of (data_of [])))
+none_kept = omega (arith, length-take longest_kept (arguments_of (data_of [])))
 
 -- behind bytes that are fed
 fed_args : (p : Phase) (fed : List ℕ) → fed_in p ≡ Some fed → length (kept_of (data_of fed)) ≤ args_in p
@@ -58,8 +58,8 @@ up_to p fed piece is none (Some m) e =
     let same : length (kept_of (data_of (take m (fed ++ piece)))) ≡ length (kept_of (data_of (fed ++ take n piece))) = ap (λ (xs : List ℕ). length (kept_of (data_of xs))) front in
     omega (arith, few, had, same, length-take n piece)
 
-taken_within : (p : Phase) (piece : List ℕ) → ((fed : List ℕ) → fed_in p ≡ Some fed → first_record fed ≡ None) → IsWithin p piece (taking p piece)
-unfolding taking
+taken_within : (p : Phase) (piece : List ℕ) → ((fed : List ℕ) → fed_in p ≡ Some fed → first_record fed ≡ None) → IsWithin p piece (taking_of p piece)
+unfolding taking_of
 taken_within p piece sound = by_fed (fed_in p) refl piece
   where
     by_fed : (o : Option (List ℕ)) → fed_in p ≡ o → (xs : List ℕ) → IsWithin p xs (taking_behind o xs)
@@ -68,16 +68,16 @@ taken_within p piece sound = by_fed (fed_in p) refl piece
     by_fed (Some fed) e (x ∷ xs) = up_to p fed (x ∷ xs) e (sound fed e) (first_record (fed ++ x ∷ xs)) refl
 
 -- what takes bytes has no list
-no_list : (p : Phase) (piece : List ℕ) (n : ℕ) (content : List ℕ) → taking p piece ≡ Ends n content → began_in p ≡ None
-unfolding taking
+no_list : (p : Phase) (piece : List ℕ) (n : ℕ) (content : List ℕ) → taking_of p piece ≡ Ends n content → stamp_in p ≡ None
+unfolding taking_of
 no_list Idle piece n content e = refl
 no_list (Reading fed) piece n content e = refl
 no_list (Owing o) piece n content e = absurd cc
 no_list Awaiting piece n content e = refl
 no_list Lost piece n content e = refl
 
-read_args : (clock : ℕ) (fed : List ℕ) (c : Connection) → args_in (reading clock fed c).phase ≡ length (kept_of (data_of fed))
-unfolding reading
+read_args : (clock : ℕ) (fed : List ℕ) (c : Connection) → args_in (keep_reading clock fed c).phase ≡ length (kept_of (data_of fed))
+unfolding keep_reading
 read_args clock fed c = refl
 
 counted : (n : ℕ) (r : Bool × State) → waiting (with_count n r).1 ≡ waiting r.1
@@ -98,19 +98,19 @@ module _ (s : State) (reached : IsReached s) (good : are_good s.setting.limits �
     unfolding live_connection longest_reply
     piece_paid None e = omega (arith, few)
     piece_paid (Some c) e =
-        by_taking (taking c.phase piece) refl (taken_within c.phase piece (λ fed is. fed-none c.phase (live-sound s reached id c e) fed is))
-        (shows s reached good now id piece (when_taken (at_moment now s) id piece c (taking c.phase piece)).0 ∙ taken-counts (at_moment now s) id piece c (taking c.phase piece))
+        by_taking (taking_of c.phase piece) refl (taken_within c.phase piece (λ fed is. fed-none c.phase (live-sound s reached id c e) fed is))
+        (shows s reached good now id piece (when_taken (at_moment now s) id piece c (taking_of c.phase piece)).0 ∙ taken-counts (at_moment now s) id piece c (taking_of c.phase piece))
       where
-        by_taking : (t : Taking) → taking c.phase piece ≡ t → IsWithin c.phase piece t → count_in (show_taken (when_taken (at_moment now s) id piece c t).0) ≡ count_taken piece t
+        by_taking : (t : Taking) → taking_of c.phase piece ≡ t → IsWithin c.phase piece t → count_in (show_taken (when_taken (at_moment now s) id piece c t).0) ≡ count_taken piece t
             → find_cost (length s.connections.all) + (count_taken piece t + 1) + 4 + record_cost (sizes_in s) t + 2 * waiting (when_taken (at_moment now s) id piece c t).1
             ≤ 2 * waiting s + 16 * count_in (show_taken (when_taken (at_moment now s) id piece c t).0) + event_allowance s.setting.limits
         by_taking TakesNone is within k = omega (arith, few, k)
         by_taking (GoesOn fed) is within k =
-            let grown = found-waiting (is_live id) (reading (at_moment now s).clock fed) s.connections.all c e in
+            let grown = found-waiting (is_live id) (keep_reading (at_moment now s).clock fed) s.connections.all c e in
             omega (arith, few, k, within, grown, read_args (at_moment now s).clock fed c)
         by_taking (Ends n content) is within k =
             let gone = answering-waits s now id content c e (no_list c.phase piece n content is) in
-            omega (arith, few, k, within, gone, counted n (answering (at_moment now s) id c.peer content))
+            omega (arith, few, k, within, gone, counted n (serve_record (at_moment now s) id c.peer content))
 
   -- ---- every event
 

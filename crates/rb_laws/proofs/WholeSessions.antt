@@ -16,7 +16,7 @@ use Rattle.rb_model.specs.Laws.{is_awaiting, IsLive, owed_in}
 use Rattle.rb_model.specs.Step.{Event, Output, bytes, output_or, show_taken, step, after}
 use Rattle.rb_model.specs.declared.types.Taken.{Taken}
 use Rattle.rb_model.specs.Step.Event.{Bytes}
-use Rattle.rb_model.specs.Sessions.{Session, piece_to, taken_by, nothing_passed, passed_by, session_from, AllGiven, IsWholeOrEnds, SessionsAreWhole}
+use Rattle.rb_model.specs.Sessions.{Session, piece_to, taken_by, empty_session, session_after, session_from, AllGiven, IsWholeOrEnds, SessionsAreWhole}
 use Rattle.rb_model.specs.Bounds.{count_in}
 use Rattle.rb_laws.proofs.Cuts.{find-holds}
 use Rattle.rb_laws.proofs.Entries.{Await, step-awaits, opening-awaits}
@@ -32,12 +32,12 @@ use Rattle.rb_laws.proofs.WholeReplies.{is-left}
 
 run-holds : (id : ℕ) (s : State) (t : Session) (events : List Event) → Await s → Holds id s.connections t → Holds id (after s events).connections (session_from s id t events)
 run-holds id s t [] waits h = h
-run-holds id s t (event ∷ events) waits h = run-holds id (step s event).1 (passed_by s id event t) events (step-awaits s h.sound waits event) (step-holds id s t h event waits)
+run-holds id s t (event ∷ events) waits h = run-holds id (step s event).1 (session_after s id event t) events (step-awaits s h.sound waits event) (step-holds id s t h event waits)
 
 none-found : (c : Connection) → ◌≡◌ {A = Option Connection} None (Some c) → ⊥
 none-found c e = cc
 
-opening-holds : (id : ℕ) (limits : Limits) (listener : Listener) (first_xid now : ℕ) → Holds id (opening limits listener first_xid now).connections nothing_passed
+opening-holds : (id : ℕ) (limits : Limits) (listener : Listener) (first_xid now : ℕ) → Holds id (opening limits listener first_xid now).connections empty_session
 unfolding first_record
 opening-holds id limits listener first_xid now = record {
   sound = omega arith;
@@ -127,8 +127,8 @@ module _ (id : ℕ) (s : State) (t : Session) (h : Holds id s.connections t) whe
 pub sessions_are_whole : SessionsAreWhole
 sessions_are_whole limits listener first_xid now events id =
     let start : State = opening limits listener first_xid now in
-    let passed : Session = session_from start id nothing_passed events in
-    let h : Holds id (after start events).connections passed = run-holds id start nothing_passed events (opening-awaits limits listener first_xid now) (opening-holds id limits listener first_xid now) in
+    let passed : Session = session_from start id empty_session events in
+    let h : Holds id (after start events).connections passed = run-holds id start empty_session events (opening-awaits limits listener first_xid now) (opening-holds id limits listener first_xid now) in
     record {
       records = h.records;
       only = λ others rest are r. are_unique passed.taken others (contents passed.calls) rest passed.unfinished r (h.records are);

@@ -10,7 +10,7 @@ use Rattle.std.proofs.lemmas.Bool.{cases_lt, and_parts, ltb-true}
 use Rattle.std.proofs.lemmas.Str.Parse.{without_leading_plus_none}
 use Rattle.rb_lines.specs.declared.options.Valued.{Valued}
 use Rattle.rb_lines.specs.Options.{◌>>=◌}
-use Rattle.rb_lines.specs.Serving.{host_at, hosts_from, is_octal, mode}
+use Rattle.rb_lines.specs.Serving.{host_at, hosts_from, is_octal, read_mode}
 
 -- ---- the addresses of `--bind`
 
@@ -66,7 +66,7 @@ no_plus (c ∷ text) h e =
     omega (arith, plus)
 
 -- octal digits that are no number of 32 bits are no mode
-pub no_mode : (text : List ℕ) → list_all is_octal text ≡ true → ¬ (IsNumeral 8 (without_leading_plus text) × (digits_value 8 (without_leading_plus text) < 2 ^ 32)) → None ≡ mode text
+pub no_mode : (text : List ℕ) → list_all is_octal text ≡ true → ¬ (IsNumeral 8 (without_leading_plus text) × (digits_value 8 (without_leading_plus text) < 2 ^ 32)) → None ≡ read_mode text
 no_mode text octal h =
     let plain : without_leading_plus text ≡ text = without_leading_plus_none text (no_plus text octal) in
     let not : ¬ (IsNumeral 8 text × (digits_value 8 text < 2 ^ 32)) = subst (λ (t : List ℕ). ¬ (IsNumeral 8 t × (digits_value 8 t < 2 ^ 32))) plain h in

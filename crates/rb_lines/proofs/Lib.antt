@@ -1,12 +1,10 @@
 pub mod Digits
 pub mod Reading
 pub mod Prints
-pub mod Inputs
 pub mod LineLaws
 pub mod Words
 pub mod HexWords
 pub mod LineWords
-pub mod Comparing
 pub mod Recorded
 pub mod Binds
 pub mod Written

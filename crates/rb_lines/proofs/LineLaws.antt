@@ -5,15 +5,15 @@ use Rattle.std.proofs.lemmas.Bool.{cases_lt, lt-ltb, le-ltb}
 use Rattle.rb_model.specs.Step.{Event}
 use Rattle.rb_lines.specs.declared.lines.ReadFault.{ReadFault}
 use Rattle.rb_lines.specs.declared.lines.ReadFault.TheVariants.{BadLine, TooLong}
-use Rattle.rb_lines.specs.Lines.{Line, line, lines_of, longest_input, read, onto, events_from}
+use Rattle.rb_lines.specs.Lines.{Line, line, lines_of, longest_input, read, add_line, events_from}
 use Rattle.rb_lines.specs.Lines.Line.{Skipped, Happens, Bad}
 use Rattle.rb_lines.specs.LineLaws.{is_bad, event_in, has_bad, IsFirstBad}
 
 -- ---- where no line is bad
 
-good_line : (k : ℕ) (said : Line) (later : Bool) (rest : Result (List Event) ReadFault) (events : List Event) → (is_bad said || later) ≡ false → (later ≡ false → rest ≡ Ok events) → onto k said rest ≡ Ok (event_in said ++ events)
+good_line : (k : ℕ) (said : Line) (later : Bool) (rest : Result (List Event) ReadFault) (events : List Event) → (is_bad said || later) ≡ false → (later ≡ false → rest ≡ Ok events) → add_line k said rest ≡ Ok (event_in said ++ events)
 good_line k Skipped later rest events none is = is none
-good_line k (Happens event) later rest events none is = ap (onto k (Happens event)) (is none)
+good_line k (Happens event) later rest events none is = ap (add_line k (Happens event)) (is none)
 good_line k Bad later rest events none is = cc
 
 all_good : (k : ℕ) (texts : List (List ℕ)) → has_bad texts ≡ false → events_from k texts ≡ Ok (flat_map event_in (map line texts))
@@ -23,7 +23,7 @@ all_good k (text ∷ texts) none = good_line k (line text) (has_bad texts) (even
 
 -- ---- where one is
 
-passes_on : (k : ℕ) (said : Line) (fault : ReadFault) → is_bad said ≡ false → onto k said (Err fault) ≡ Err fault
+passes_on : (k : ℕ) (said : Line) (fault : ReadFault) → is_bad said ≡ false → add_line k said (Err fault) ≡ Err fault
 passes_on k Skipped fault good = refl
 passes_on k (Happens event) fault good = refl
 passes_on k Bad fault good = cc
@@ -38,7 +38,7 @@ stops k [] bad after good here = rw here (ap (λ (n : ℕ). Err (BadLine n)) (sy
 stops k (text ∷ before) bad after good here =
     let parts = neither (is_bad (line text)) (has_bad before) good in
     let later : k + 1 + length before ≡ k + length (text ∷ before) = omega arith in
-    ap (onto k (line text)) (stops (k + 1) before bad after parts.1 here) ∙ passes_on k (line text) (BadLine (k + 1 + length before)) parts.0 ∙ ap (λ (n : ℕ). Err (BadLine n)) later
+    ap (add_line k (line text)) (stops (k + 1) before bad after parts.1 here) ∙ passes_on k (line text) (BadLine (k + 1 + length before)) parts.0 ∙ ap (λ (n : ℕ). Err (BadLine n)) later
 
 stops_there : (texts : List (List ℕ)) (k n : ℕ) → IsFirstBad texts k n → events_from k texts ≡ Err (BadLine n)
 stops_there texts k n h = rw (h.whole, h.number) (stops k h.before h.bad h.after h.good h.here)

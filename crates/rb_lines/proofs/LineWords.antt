@@ -11,10 +11,10 @@ use Rattle.std.proofs.lemmas.Slice.Eq.{bytes_eq-Decides}
 use Rattle.rb_rpc.specs.declared.peer.Peer.{Peer}
 use Rattle.rb_model.specs.Step.{Event}
 use Rattle.rb_model.specs.Step.Event.{Datagram, Open, Bytes, Pending, Gave, Closed, NextLost, Unsent, Sent, Forward, Expire}
-use Rattle.rb_lines.specs.Fields.{cut, decimal, peer, hex_bytes}
+use Rattle.rb_lines.specs.Fields.{cut, number_below, peer, hex_bytes}
 use Rattle.rb_lines.specs.Lines.{datagram_line, open_line, bytes_line, gave_line, event, lone_event, event_of_parts, Line, happens_or_bad, line}
 use Rattle.rb_lines.specs.Lines.Line.{Skipped, Happens, Bad}
-use Rattle.rb_lines.specs.LineGrammar.{Spells, SpellsNumber, SpellsPeer, SpellsHex, Spaced, ◌␣◌, SpellsEvent, SaysNothing, EventsAreSpelled, SkippedSayNothing, BadSpellNothing, PeersAreSpelled}
+use Rattle.rb_lines.specs.LineGrammar.{Spells, SpellsNumber, SpellsPeer, SpellsHex, IsSpaced, ◌␣◌, SpellsEvent, SaysNothing, EventsAreSpelled, SkippedSayNothing, BadSpellNothing, PeersAreSpelled}
 use Rattle.rb_lines.proofs.Words.{bound, IsWithout, cut_at, cut_is, number_is, number_of, numeral_without, peer_is, peer_of, peer_without}
 use Rattle.rb_lines.proofs.HexWords.{hex_is, hex_of}
 
@@ -26,7 +26,7 @@ spaced Front Back text front back is f b = record { front = front; back = back; 
 worded : (word text : List ℕ) (Back : List ℕ → Type 0) → Back text → (Spells word ␣ Back) (word ++ 32 ∷ text)
 worded word text Back b = record { front = word; back = text; in_front = refl; behind = b; text_is = refl }
 
-cut_spaced : (Front Back : List ℕ → Type 0) (text : List ℕ) (s : Spaced Front Back text) → IsWithout 32 s.front → cut 32 text ≡ Some (s.front, s.back)
+cut_spaced : (Front Back : List ℕ → Type 0) (text : List ℕ) (s : IsSpaced Front Back text) → IsWithout 32 s.front → cut 32 text ≡ Some (s.front, s.back)
 cut_spaced Front Back text s none = ap (cut 32) s.text_is ∙ cut_at 32 s.front s.back none
 
 number_apart : (n : ℕ) (text : List ℕ) → SpellsNumber n text → IsWithout 32 text
@@ -41,7 +41,7 @@ open_is : (text : List ℕ) (e : Event) → open_line text ≡ Some e → Spells
 unfolding open_line
 open_is text e h =
     let (parts, is_cut, rest1) = bound (cut 32 text) _ e h in
-    let (now, is_now, rest2) = bound (decimal (2 ^ 64) parts.0) _ e rest1 in
+    let (now, is_now, rest2) = bound (number_below (2 ^ 64) parts.0) _ e rest1 in
     let (from, is_from, rest3) = bound (peer parts.1) _ e rest2 in
     let tail = spaced (SpellsNumber now) (SpellsPeer from) text parts.0 parts.1 is_cut (number_is parts.0 now is_now) (peer_is parts.1 from is_from) in
     subst (λ (e : Event). SpellsEvent e (codes "open" ++ 32 ∷ text)) (same_Some _ _ rest3) (worded (codes "open") text (SpellsNumber now ␣ SpellsPeer from) tail)
@@ -59,7 +59,7 @@ unfolding datagram_line
 datagram_fields make text e h =
     let (first, cut1, rest1) = bound (cut 32 text) _ e h in
     let (second, cut2, rest2) = bound (cut 32 first.1) _ e rest1 in
-    let (now, is_now, rest3) = bound (decimal (2 ^ 64) first.0) _ e rest2 in
+    let (now, is_now, rest3) = bound (number_below (2 ^ 64) first.0) _ e rest2 in
     let (from, is_from, rest4) = bound (peer second.0) _ e rest3 in
     let (bytes, is_bytes, rest5) = bound (hex_bytes second.1) _ e rest4 in
     let last = spaced (SpellsPeer from) (SpellsHex bytes) first.1 second.0 second.1 cut2 (peer_is second.0 from is_from) (hex_is second.1 bytes is_bytes) in
@@ -81,8 +81,8 @@ unfolding bytes_line
 bytes_is text e h =
     let (first, cut1, rest1) = bound (cut 32 text) _ e h in
     let (second, cut2, rest2) = bound (cut 32 first.1) _ e rest1 in
-    let (now, is_now, rest3) = bound (decimal (2 ^ 64) first.0) _ e rest2 in
-    let (id, is_id, rest4) = bound (decimal (2 ^ 64) second.0) _ e rest3 in
+    let (now, is_now, rest3) = bound (number_below (2 ^ 64) first.0) _ e rest2 in
+    let (id, is_id, rest4) = bound (number_below (2 ^ 64) second.0) _ e rest3 in
     let (bytes, is_bytes, rest5) = bound (hex_bytes second.1) _ e rest4 in
     let last = spaced (SpellsNumber id) (SpellsHex bytes) first.1 second.0 second.1 cut2 (number_is second.0 id is_id) (hex_is second.1 bytes is_bytes) in
     let tail = spaced (SpellsNumber now) (SpellsNumber id ␣ SpellsHex bytes) text first.0 first.1 cut1 (number_is first.0 now is_now) last in
@@ -93,9 +93,9 @@ unfolding gave_line
 gave_is text e h =
     let (first, cut1, rest1) = bound (cut 32 text) _ e h in
     let (second, cut2, rest2) = bound (cut 32 first.1) _ e rest1 in
-    let (now, is_now, rest3) = bound (decimal (2 ^ 64) first.0) _ e rest2 in
-    let (id, is_id, rest4) = bound (decimal (2 ^ 64) second.0) _ e rest3 in
-    let (n, is_n, rest5) = bound (decimal (2 ^ 64) second.1) _ e rest4 in
+    let (now, is_now, rest3) = bound (number_below (2 ^ 64) first.0) _ e rest2 in
+    let (id, is_id, rest4) = bound (number_below (2 ^ 64) second.0) _ e rest3 in
+    let (n, is_n, rest5) = bound (number_below (2 ^ 64) second.1) _ e rest4 in
     let last = spaced (SpellsNumber id) (SpellsNumber n) first.1 second.0 second.1 cut2 (number_is second.0 id is_id) (number_is second.1 n is_n) in
     let tail = spaced (SpellsNumber now) (SpellsNumber id ␣ SpellsNumber n) text first.0 first.1 cut1 (number_is first.0 now is_now) last in
     subst (λ (e : Event). SpellsEvent e (codes "gave" ++ 32 ∷ text)) (same_Some _ _ rest5) (worded (codes "gave") text (SpellsNumber now ␣ SpellsNumber id ␣ SpellsNumber n) tail)
@@ -104,22 +104,22 @@ mapped : (make : ℕ → Event) (o : Option ℕ) (e : Event) → option_map make
 mapped make (Some n) e h = (n, refl, same_Some _ _ h)
 mapped make None e h = absurd (none-some e h)
 
-pending_is : (text : List ℕ) (e : Event) → option_map Pending (decimal (2 ^ 64) text) ≡ Some e → SpellsEvent e (codes "pending" ++ 32 ∷ text)
+pending_is : (text : List ℕ) (e : Event) → option_map Pending (number_below (2 ^ 64) text) ≡ Some e → SpellsEvent e (codes "pending" ++ 32 ∷ text)
 pending_is text e h =
     let (id, is_id, made) = mapped Pending _ e h in
     subst (λ (e : Event). SpellsEvent e (codes "pending" ++ 32 ∷ text)) made (worded (codes "pending") text (SpellsNumber id) (number_is text id is_id))
 
-closed_is : (text : List ℕ) (e : Event) → option_map Closed (decimal (2 ^ 64) text) ≡ Some e → SpellsEvent e (codes "closed" ++ 32 ∷ text)
+closed_is : (text : List ℕ) (e : Event) → option_map Closed (number_below (2 ^ 64) text) ≡ Some e → SpellsEvent e (codes "closed" ++ 32 ∷ text)
 closed_is text e h =
     let (id, is_id, made) = mapped Closed _ e h in
     subst (λ (e : Event). SpellsEvent e (codes "closed" ++ 32 ∷ text)) made (worded (codes "closed") text (SpellsNumber id) (number_is text id is_id))
 
-sent_is : (text : List ℕ) (e : Event) → option_map Sent (decimal (2 ^ 64) text) ≡ Some e → SpellsEvent e (codes "sent" ++ 32 ∷ text)
+sent_is : (text : List ℕ) (e : Event) → option_map Sent (number_below (2 ^ 64) text) ≡ Some e → SpellsEvent e (codes "sent" ++ 32 ∷ text)
 sent_is text e h =
     let (id, is_id, made) = mapped Sent _ e h in
     subst (λ (e : Event). SpellsEvent e (codes "sent" ++ 32 ∷ text)) made (worded (codes "sent") text (SpellsNumber id) (number_is text id is_id))
 
-expire_is : (text : List ℕ) (e : Event) → option_map Expire (decimal (2 ^ 64) text) ≡ Some e → SpellsEvent e (codes "expire" ++ 32 ∷ text)
+expire_is : (text : List ℕ) (e : Event) → option_map Expire (number_below (2 ^ 64) text) ≡ Some e → SpellsEvent e (codes "expire" ++ 32 ∷ text)
 expire_is text e h =
     let (now, is_now, made) = mapped Expire _ e h in
     subst (λ (e : Event). SpellsEvent e (codes "expire" ++ 32 ∷ text)) made (worded (codes "expire") text (SpellsNumber now) (number_is text now is_now))
@@ -140,12 +140,12 @@ event_is word text e h =
     else_word (bytes_eq word (codes "datagram")) (datagram_line Datagram text) _ e P h (λ same is. named word text (codes "datagram") e same (datagram_is text e is)) (λ h1.
     else_word (bytes_eq word (codes "open")) (open_line text) _ e P h1 (λ same is. named word text (codes "open") e same (open_is text e is)) (λ h2.
     else_word (bytes_eq word (codes "bytes")) (bytes_line text) _ e P h2 (λ same is. named word text (codes "bytes") e same (bytes_is text e is)) (λ h3.
-    else_word (bytes_eq word (codes "pending")) (option_map Pending (decimal (2 ^ 64) text)) _ e P h3 (λ same is. named word text (codes "pending") e same (pending_is text e is)) (λ h4.
+    else_word (bytes_eq word (codes "pending")) (option_map Pending (number_below (2 ^ 64) text)) _ e P h3 (λ same is. named word text (codes "pending") e same (pending_is text e is)) (λ h4.
     else_word (bytes_eq word (codes "gave")) (gave_line text) _ e P h4 (λ same is. named word text (codes "gave") e same (gave_is text e is)) (λ h5.
-    else_word (bytes_eq word (codes "closed")) (option_map Closed (decimal (2 ^ 64) text)) _ e P h5 (λ same is. named word text (codes "closed") e same (closed_is text e is)) (λ h6.
-    else_word (bytes_eq word (codes "sent")) (option_map Sent (decimal (2 ^ 64) text)) _ e P h6 (λ same is. named word text (codes "sent") e same (sent_is text e is)) (λ h7.
+    else_word (bytes_eq word (codes "closed")) (option_map Closed (number_below (2 ^ 64) text)) _ e P h5 (λ same is. named word text (codes "closed") e same (closed_is text e is)) (λ h6.
+    else_word (bytes_eq word (codes "sent")) (option_map Sent (number_below (2 ^ 64) text)) _ e P h6 (λ same is. named word text (codes "sent") e same (sent_is text e is)) (λ h7.
     else_word (bytes_eq word (codes "forward")) (datagram_line Forward text) _ e P h7 (λ same is. named word text (codes "forward") e same (forward_is text e is)) (λ h8.
-    else_word (bytes_eq word (codes "expire")) (option_map Expire (decimal (2 ^ 64) text)) None e P h8 (λ same is. named word text (codes "expire") e same (expire_is text e is)) (λ h9.
+    else_word (bytes_eq word (codes "expire")) (option_map Expire (number_below (2 ^ 64) text)) None e P h8 (λ same is. named word text (codes "expire") e same (expire_is text e is)) (λ h9.
     absurd (none-some e h9))))))))))
 
 lone_is : (text : List ℕ) (e : Event) → lone_event text ≡ Some e → SpellsEvent e text
@@ -187,22 +187,22 @@ said_word : (c : ℕ) (word back : List ℕ) (e : Event) → eqb c 35 ≡ false 
 said_word c word back e other apart is =
     said c (word ++ 32 ∷ back) (Some (c ∷ word, back)) other (cut_at 32 (c ∷ word) back (without_space (c ∷ word) apart)) ∙ ap happens_or_bad is
 
-open_reads : (text front back : List ℕ) (now : ℕ) (from : Peer) → cut 32 text ≡ Some (front, back) → decimal (2 ^ 64) front ≡ Some now → peer back ≡ Some from → open_line text ≡ Some (Open now from)
+open_reads : (text front back : List ℕ) (now : ℕ) (from : Peer) → cut 32 text ≡ Some (front, back) → number_below (2 ^ 64) front ≡ Some now → peer back ≡ Some from → open_line text ≡ Some (Open now from)
 unfolding open_line
 open_reads text front back now from is a b = rw (is, a, b) refl
 
 datagram_reads : (make : ℕ → Peer → List ℕ → Event) (text front rest middle back : List ℕ) (now : ℕ) (from : Peer) (bytes : List ℕ) → cut 32 text ≡ Some (front, rest) → cut 32 rest ≡ Some (middle, back)
-    → decimal (2 ^ 64) front ≡ Some now → peer middle ≡ Some from → hex_bytes back ≡ Some bytes → datagram_line make text ≡ Some (make now from bytes)
+    → number_below (2 ^ 64) front ≡ Some now → peer middle ≡ Some from → hex_bytes back ≡ Some bytes → datagram_line make text ≡ Some (make now from bytes)
 unfolding datagram_line
 datagram_reads make text front rest middle back now from bytes cut1 cut2 a b c = rw (cut1, cut2, a, b, c) refl
 
 bytes_reads : (text front rest middle back : List ℕ) (now id : ℕ) (bytes : List ℕ) → cut 32 text ≡ Some (front, rest) → cut 32 rest ≡ Some (middle, back)
-    → decimal (2 ^ 64) front ≡ Some now → decimal (2 ^ 64) middle ≡ Some id → hex_bytes back ≡ Some bytes → bytes_line text ≡ Some (Bytes now id bytes)
+    → number_below (2 ^ 64) front ≡ Some now → number_below (2 ^ 64) middle ≡ Some id → hex_bytes back ≡ Some bytes → bytes_line text ≡ Some (Bytes now id bytes)
 unfolding bytes_line
 bytes_reads text front rest middle back now id bytes cut1 cut2 a b c = rw (cut1, cut2, a, b, c) refl
 
 gave_reads : (text front rest middle back : List ℕ) (now id n : ℕ) → cut 32 text ≡ Some (front, rest) → cut 32 rest ≡ Some (middle, back)
-    → decimal (2 ^ 64) front ≡ Some now → decimal (2 ^ 64) middle ≡ Some id → decimal (2 ^ 64) back ≡ Some n → gave_line text ≡ Some (Gave now id n)
+    → number_below (2 ^ 64) front ≡ Some now → number_below (2 ^ 64) middle ≡ Some id → number_below (2 ^ 64) back ≡ Some n → gave_line text ≡ Some (Gave now id n)
 unfolding gave_line
 gave_reads text front rest middle back now id n cut1 cut2 a b c = rw (cut1, cut2, a, b, c) refl
 

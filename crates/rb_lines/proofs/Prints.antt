@@ -7,14 +7,14 @@ use Rattle.std.proofs.lemmas.List.{map_more}
 use Rattle.std.proofs.lemmas.List.Concat.{flat_map-append}
 use Rattle.rb_model.specs.declared.events.Output as output
 use Rattle.rb_model.specs.Plain.{output_of, outputs_of}
-use Rattle.rb_record.specs.Printing.{text_of}
+use Rattle.rb_record.specs.Printing.{output_text}
 use Rattle.rb_lines.specs.Printing.{report_of}
 
-pub line_more : (old now new : Option (List ℕ)) (outputs : List output.Output) (i : ℕ) (next : output.Output) → i < length outputs → next ≡ get_or outputs i next → Appends old now (report_of (outputs_of (take i outputs))) → Appends now new (text_of (output_of next)) → Appends old new (report_of (outputs_of (take (i + 1) outputs)))
+pub line_more : (old now new : Option (List ℕ)) (outputs : List output.Output) (i : ℕ) (next : output.Output) → i < length outputs → next ≡ get_or outputs i next → Appends old now (report_of (outputs_of (take i outputs))) → Appends now new (output_text (output_of next)) → Appends old new (report_of (outputs_of (take (i + 1) outputs)))
 unfolding report_of
 line_more old now new outputs i next lt is before line =
     let done = outputs_of (take i outputs) in
     let step : outputs_of (take (i + 1) outputs) ≡ done ++ output_of next ∷ [] = map_more output_of outputs i next lt ∙ rw (← is) refl in
-    let longer : flat_map text_of (outputs_of (take (i + 1) outputs)) ≡ flat_map text_of done ++ text_of (output_of next) =
-    ap (flat_map text_of) step ∙ flat_map-append text_of done (output_of next ∷ []) ∙ ap (λ (t : List ℕ). flat_map text_of done ++ t) (append-nil (text_of (output_of next))) in
-    rw longer (Appends-trans old now new (flat_map text_of done) (text_of (output_of next)) before line)
+    let longer : flat_map output_text (outputs_of (take (i + 1) outputs)) ≡ flat_map output_text done ++ output_text (output_of next) =
+    ap (flat_map output_text) step ∙ flat_map-append output_text done (output_of next ∷ []) ∙ ap (λ (t : List ℕ). flat_map output_text done ++ t) (append-nil (output_text (output_of next))) in
+    rw longer (Appends-trans old now new (flat_map output_text done) (output_text (output_of next)) before line)

@@ -8,31 +8,31 @@ use Rattle.std.proofs.lemmas.Bool.{cases_lt, lt-ltb}
 use Rattle.rb_model.specs.Step.{Event}
 use Rattle.rb_lines.specs.declared.lines.ReadFault.{ReadFault}
 use Rattle.rb_lines.specs.declared.lines.ReadFault.TheVariants.{BadLine, TooLong, NoMemory}
-use Rattle.rb_lines.specs.Lines.{read, Line, line, onto, events_from, with_front, Fails, IsFaultOf, longest_input}
+use Rattle.rb_lines.specs.Lines.{read, Line, line, add_line, events_from, with_front, Fails, IsLineFault, longest_input}
 use Rattle.rb_lines.specs.Lines.Line.{Bad}
 
 -- the lines from a place on are the line there and the lines after it
-taken : (k i : ℕ) (texts : List (List ℕ)) (text : List ℕ) → i < length texts → text ≡ get_or texts i text → events_from k (drop i texts) ≡ onto k (line text) (events_from (k + 1) (drop (i + 1) texts))
+taken : (k i : ℕ) (texts : List (List ℕ)) (text : List ℕ) → i < length texts → text ≡ get_or texts i text → events_from k (drop i texts) ≡ add_line k (line text) (events_from (k + 1) (drop (i + 1) texts))
 unfolding events_from
 taken k i texts text lt is =
     let here : drop i texts ≡ text ∷ drop (i + 1) texts = drop_more texts i text lt ∙ ap (λ (t : List ℕ). t ∷ drop (i + 1) texts) (sym is) in
     ap (events_from k) here
 
-pub goes_on : (front more : List Event) (i : ℕ) (texts : List (List ℕ)) (text : List ℕ) (all : Result (List Event) ReadFault) → i < length texts → text ≡ get_or texts i text → ((rest : Result (List Event) ReadFault) → with_front more rest ≡ with_front front (onto (i + 1) (line text) rest)) → with_front front (events_from (i + 1) (drop i texts)) ≡ all → with_front more (events_from (i + 1 + 1) (drop (i + 1) texts)) ≡ all
+pub goes_on : (front more : List Event) (i : ℕ) (texts : List (List ℕ)) (text : List ℕ) (all : Result (List Event) ReadFault) → i < length texts → text ≡ get_or texts i text → ((rest : Result (List Event) ReadFault) → with_front more rest ≡ with_front front (add_line (i + 1) (line text) rest)) → with_front front (events_from (i + 1) (drop i texts)) ≡ all → with_front more (events_from (i + 1 + 1) (drop (i + 1) texts)) ≡ all
 goes_on front more i texts text all lt is adds h =
     adds (events_from (i + 1 + 1) (drop (i + 1) texts)) ∙ ap (with_front front) (sym (taken (i + 1) i texts text lt is)) ∙ h
 
 pub is_bad : (front : List Event) (i : ℕ) (texts : List (List ℕ)) (text : List ℕ) (all : Result (List Event) ReadFault) → i < length texts → text ≡ get_or texts i text → line text ≡ Bad → with_front front (events_from (i + 1) (drop i texts)) ≡ all → all ≡ Err (BadLine (i + 1))
 is_bad front i texts text all lt is said h =
     let rest = events_from (i + 1 + 1) (drop (i + 1) texts) in
-    sym h ∙ ap (with_front front) (taken (i + 1) i texts text lt is ∙ ap (λ (l : Line). onto (i + 1) l rest) said)
+    sym h ∙ ap (with_front front) (taken (i + 1) i texts text lt is ∙ ap (λ (l : Line). add_line (i + 1) l rest) said)
 
 pub ends : (front : List Event) (i : ℕ) (texts : List (List ℕ)) (all : Result (List Event) ReadFault) → length texts ≤ i → with_front front (events_from (i + 1) (drop i texts)) ≡ all → all ≡ Ok front
 unfolding events_from
 ends front i texts all le h = sym h ∙ ap (λ (ts : List (List ℕ)). with_front front (events_from (i + 1) ts)) (drop_all i texts le) ∙ ap Ok (append-nil front)
 
 -- the faults that a bad line may give, and nothing else
-pub gives_fault : (front : List Event) (i : ℕ) (texts : List (List ℕ)) (text : List ℕ) (fault : ReadFault) (all : Result (List Event) ReadFault) → i < length texts → text ≡ get_or texts i text → IsFaultOf (i + 1) (line text) fault → with_front front (events_from (i + 1) (drop i texts)) ≡ all → Fails fault all
+pub gives_fault : (front : List Event) (i : ℕ) (texts : List (List ℕ)) (text : List ℕ) (fault : ReadFault) (all : Result (List Event) ReadFault) → i < length texts → text ≡ get_or texts i text → IsLineFault (i + 1) (line text) fault → with_front front (events_from (i + 1) (drop i texts)) ≡ all → Fails fault all
 gives_fault front i texts text NoMemory all lt is h kept = tt
 gives_fault front i texts text TooLong all lt is h kept = absurd h
 gives_fault front i texts text (BadLine k) all lt is h kept = is_bad front i texts text all lt is h.0 kept ∙ ap (λ (k : ℕ). Err (BadLine k)) (sym h.1)
@@ -65,12 +65,12 @@ IsAt-from_enumerate lines n i text h =
       line = ap (λ (p : ℕ × List ℕ). p.1) is;
     }
 
-pub turn : (front more : List Event) (xs : List (ℕ × Bor (List ℕ))) (lines : List (List ℕ)) (i : ℕ) (text : Bor (List ℕ)) (all : Result (List Event) ReadFault) → IsAt lines (length xs) i text.now → ((rest : Result (List Event) ReadFault) → with_front more rest ≡ with_front front (onto (i + 1) (line text.now) rest)) → with_front front (events_from (length xs + 1) (drop (length xs) lines)) ≡ all → with_front more (events_from (length (xs ++ (i, text) ∷ []) + 1) (drop (length (xs ++ (i, text) ∷ [])) lines)) ≡ all
+pub turn : (front more : List Event) (xs : List (ℕ × Bor (List ℕ))) (lines : List (List ℕ)) (i : ℕ) (text : Bor (List ℕ)) (all : Result (List Event) ReadFault) → IsAt lines (length xs) i text.now → ((rest : Result (List Event) ReadFault) → with_front more rest ≡ with_front front (add_line (i + 1) (line text.now) rest)) → with_front front (events_from (length xs + 1) (drop (length xs) lines)) ≡ all → with_front more (events_from (length (xs ++ (i, text) ∷ []) + 1) (drop (length (xs ++ (i, text) ∷ [])) lines)) ≡ all
 turn front more xs lines i text all at adds h =
     let n : length (xs ++ (i, text) ∷ []) ≡ length xs + 1 = length_push xs (i, text) in
     let adds' = rw at.place at adds in
     rw n (goes_on front more (length xs) lines text.now all at.before at.line adds' h)
 
-pub fault_at : (front : List Event) (n i : ℕ) (lines : List (List ℕ)) (text : List ℕ) (fault : ReadFault) (all : Result (List Event) ReadFault) → IsAt lines n i text → IsFaultOf (i + 1) (line text) fault → with_front front (events_from (n + 1) (drop n lines)) ≡ all → Fails fault all
+pub fault_at : (front : List Event) (n i : ℕ) (lines : List (List ℕ)) (text : List ℕ) (fault : ReadFault) (all : Result (List Event) ReadFault) → IsAt lines n i text → IsLineFault (i + 1) (line text) fault → with_front front (events_from (n + 1) (drop n lines)) ≡ all → Fails fault all
 fault_at front n i lines text fault all at h kept =
-    gives_fault front n lines text fault all at.before at.line (subst (λ (k : ℕ). IsFaultOf (k + 1) (line text) fault) at.place h) kept
+    gives_fault front n lines text fault all at.before at.line (subst (λ (k : ℕ). IsLineFault (k + 1) (line text) fault) at.place h) kept

@@ -17,14 +17,14 @@ use Rattle.rb_model.specs.State.{State, opening}
 use Rattle.rb_model.specs.Step.{Event, Output, step, run}
 use Rattle.rb_model.specs.Step.Event.{Datagram, Open, Bytes, Pending, Gave, Closed, NextLost, Unsent, Sent, Forward, Expire}
 use Rattle.rb_model.specs.Step.Output.{Opened, Refused, TooMuch, Took, TookAndClosed, IsPending, Done, LostIs, Replied, Forwarded, Silent, UnsentIs, Ignored, Nothing, ConnectionClosed, Ready, RepliedTo}
-use Rattle.rb_record.specs.Printing.{hex_text, refusal_text, bytes_line, peer_line, text_of}
+use Rattle.rb_record.specs.Printing.{hex_text, refusal_text, bytes_line, peer_line, output_text}
 use Rattle.rb_record.specs.Entries.{event_text, entry_text, run_entries, run_text, limits_text, listener_text, options_text}
-use Rattle.rb_record.specs.Tapes.{ending}
+use Rattle.rb_record.specs.Tapes.{last_line}
 use Rattle.rb_lines.specs.Lines.{line, lines_of}
 use Rattle.rb_lines.specs.Lines.Line.{Skipped, Happens}
 use Rattle.rb_lines.specs.LineLaws.{event_in, has_bad}
 use Rattle.rb_lines.specs.LineGrammar.{Spells, SpellsNumber, SpellsPeer, SpellsByte, SpellsBytes, SpellsHex, ◌␣◌, SpellsEvent}
-use Rattle.rb_lines.specs.Checking.{said_by, said, printed}
+use Rattle.rb_lines.specs.OutputLines.{output_line_in, output_lines_in, output_lines}
 use Rattle.rb_lines.specs.RecordLaws.{Fits, AreBytes, IsPeer, HasLine, HasUnsentLine, HasLostLine, HasOutputLine, RecordsAreRead, EndedRecordsAreRead}
 use Rattle.rb_lines.proofs.LineLaws.{reads_the_events}
 use Rattle.rb_lines.proofs.Words.{IsWithout, numeral_without, peer_without}
@@ -178,7 +178,7 @@ record IsEventLine (e : Event) : Type 0 where
   whole : event_text e ≡ body ++ 10 ∷ []
   apart : IsWithout 10 body
   spelled : SpellsEvent e body
-  quiet : said_by body ≡ []
+  quiet : output_line_in body ≡ []
 
 open_apart : IsWithout 10 (codes "open")
 open_apart = behind 111 (codes "pen") refl (behind 112 (codes "en") refl (behind 101 (codes "n") refl (behind 110 ([]) refl nothing)))
@@ -214,7 +214,7 @@ expire_apart : IsWithout 10 (codes "expire")
 expire_apart = behind 101 (codes "xpire") refl (behind 120 (codes "pire") refl (behind 112 (codes "ire") refl (behind 105 (codes "re") refl (behind 114 (codes "e") refl (behind 101 ([]) refl nothing)))))
 
 event_line : (e : Event) → HasLine e → IsEventLine e
-unfolding said_by
+unfolding output_line_in
 event_line (Open now from) h = record {
   body = codes "open" ++ 32 ∷ (decimal now ++ 32 ∷ peer_text from);
   whole = ap (λ (t : List ℕ). codes "open " ++ t) (ended (decimal now) (peer_text from));
@@ -390,7 +390,7 @@ number_line word n last apart fits behind = record {
 plain_line : (word : List ℕ) → IsWithout 10 word → IsLine (word ++ 10 ∷ [])
 plain_line word apart = record { body = word; whole = refl; apart = apart }
 
-unsent_is_line : (unsent : Option UnsentCall) → HasUnsentLine unsent → IsLine (text_of (UnsentIs unsent))
+unsent_is_line : (unsent : Option UnsentCall) → HasUnsentLine unsent → IsLine (output_text (UnsentIs unsent))
 unsent_is_line None h = plain_line (codes "unsent -") w_unsent_none
 unsent_is_line (Some unsent) h =
     let tail = to_line (32 ∷ []) unsent.target unsent.call (behind 32 [] refl nothing) h.1 in
@@ -400,11 +400,11 @@ unsent_is_line (Some unsent) h =
       apart = joined (codes "unsent ") (decimal unsent.number ++ tail.body) w_unsent (joined (decimal unsent.number) tail.body (number_apart unsent.number h.0) tail.apart);
     }
 
-lost_is_line : (id : Option ℕ) → HasLostLine id → IsLine (text_of (LostIs id))
+lost_is_line : (id : Option ℕ) → HasLostLine id → IsLine (output_text (LostIs id))
 lost_is_line None h = plain_line (codes "lost -") w_lost_none
 lost_is_line (Some id) h = number_line (codes "lost ") id [] w_lost h nothing
 
-output_line : (o : Output) → HasOutputLine o → IsLine (text_of o)
+output_line : (o : Output) → HasOutputLine o → IsLine (output_text o)
 output_line (Replied bytes) h = word_line (codes "reply ") bytes w_reply
 output_line Silent h = plain_line (codes "silent") w_silent
 output_line (Opened id) h = number_line (codes "open ") id [] w_open h nothing
@@ -428,17 +428,17 @@ output_line (RepliedTo peer bytes) h = to_line (codes "datagram ") peer bytes w_
 record Says (lines : List (List ℕ)) (events : List Event) (outputs : List Output) : Type 0 where
   good : has_bad lines ≡ false
   events_are : events ≡ flat_map event_in (map line lines)
-  outputs_are : flat_map said_by lines ≡ map text_of outputs
+  outputs_are : flat_map output_line_in lines ≡ map output_text outputs
 
 -- an event, and what it gave
-says_more : (front back : List ℕ) (lines : List (List ℕ)) (e : Event) (o : Output) (events : List Event) (outputs : List Output) → line front ≡ Happens e → said_by front ≡ [] → line back ≡ Skipped → said_by back ≡ text_of o ∷ [] → Says lines events outputs → Says (front ∷ back ∷ lines) (e ∷ events) (o ∷ outputs)
+says_more : (front back : List ℕ) (lines : List (List ℕ)) (e : Event) (o : Output) (events : List Event) (outputs : List Output) → line front ≡ Happens e → output_line_in front ≡ [] → line back ≡ Skipped → output_line_in back ≡ output_text o ∷ [] → Says lines events outputs → Says (front ∷ back ∷ lines) (e ∷ events) (o ∷ outputs)
 says_more front back lines e o events outputs happens quiet skipped said says = record {
   good = rw (happens, skipped) says.good;
   events_are = rw (happens, skipped) (ap (λ (xs : List Event). e ∷ xs) says.events_are);
-  outputs_are = rw (quiet, said) (ap (λ (xs : List (List ℕ)). text_of o ∷ xs) says.outputs_are);
+  outputs_are = rw (quiet, said) (ap (λ (xs : List (List ℕ)). output_text o ∷ xs) says.outputs_are);
 }
 
-says_comment : (front : List ℕ) (lines : List (List ℕ)) (events : List Event) (outputs : List Output) → line front ≡ Skipped → said_by front ≡ [] → Says lines events outputs → Says (front ∷ lines) events outputs
+says_comment : (front : List ℕ) (lines : List (List ℕ)) (events : List Event) (outputs : List Output) → line front ≡ Skipped → output_line_in front ≡ [] → Says lines events outputs → Says (front ∷ lines) events outputs
 says_comment front lines events outputs skipped quiet says = record {
   good = rw skipped says.good;
   events_are = rw skipped says.events_are;
@@ -446,7 +446,7 @@ says_comment front lines events outputs skipped quiet says = record {
 }
 
 says_nothing : Says (lines_of []) [] []
-unfolding lines_of line said_by
+unfolding lines_of line output_line_in
 says_nothing = record { good = refl; events_are = refl; outputs_are = refl }
 
 -- ---- a run
@@ -461,16 +461,16 @@ marked_line text l = record {
 marked_skipped : (body : List ℕ) → line (codes "#> " ++ body) ≡ Skipped
 marked_skipped body = (skipped_say_nothing (codes "#> " ++ body)).1 (inr (codes "> " ++ body, refl))
 
-marked_said : (body : List ℕ) → said_by (codes "#> " ++ body) ≡ (body ++ codes "\n") ∷ []
-unfolding said_by
+marked_said : (body : List ℕ) → output_line_in (codes "#> " ++ body) ≡ (body ++ codes "\n") ∷ []
+unfolding output_line_in
 marked_said body = refl
 
-entry_lines : (e : Event) (o : Output) (rest : List ℕ) (l : IsEventLine e) (m : IsLine (text_of o)) → lines_of (entry_text e o ++ rest) ≡ l.body ∷ (codes "#> " ++ m.body) ∷ lines_of rest
+entry_lines : (e : Event) (o : Output) (rest : List ℕ) (l : IsEventLine e) (m : IsLine (output_text o)) → lines_of (entry_text e o ++ rest) ≡ l.body ∷ (codes "#> " ++ m.body) ∷ lines_of rest
 unfolding marked_line
 entry_lines e o rest l m =
-    ap lines_of (append_assoc (event_text e) (codes "#> " ++ text_of o) rest)
-    ∙ lines_behind (event_text e) ((codes "#> " ++ text_of o) ++ rest) (record { body = l.body; whole = l.whole; apart = l.apart })
-    ∙ ap (λ (ls : List (List ℕ)). l.body ∷ ls) (lines_behind (codes "#> " ++ text_of o) rest (marked_line (text_of o) m))
+    ap lines_of (append_assoc (event_text e) (codes "#> " ++ output_text o) rest)
+    ∙ lines_behind (event_text e) ((codes "#> " ++ output_text o) ++ rest) (record { body = l.body; whole = l.whole; apart = l.apart })
+    ∙ ap (λ (ls : List (List ℕ)). l.body ∷ ls) (lines_behind (codes "#> " ++ output_text o) rest (marked_line (output_text o) m))
 
 says_run : (s : State) (events : List Event) → AllByRecursion HasLine events → AllByRecursion HasOutputLine (run s events) → Says (lines_of (run_text s events)) events (run s events)
 unfolding run_entries
@@ -479,7 +479,7 @@ says_run s (e ∷ events) all given =
     let o : Output = (step s e).0 in
     let rest : List ℕ = run_text (step s e).1 events in
     let l : IsEventLine e = event_line e all.0 in
-    let m : IsLine (text_of o) = output_line o given.0 in
+    let m : IsLine (output_text o) = output_line o given.0 in
     subst (λ (ls : List (List ℕ)). Says ls (e ∷ events) (run s (e ∷ events))) (sym (entry_lines e o rest l m))
     (says_more l.body (codes "#> " ++ m.body) (lines_of rest) e o events (run (step s e).1 events) (line_of l.body e l.spelled) l.quiet (marked_skipped m.body)
     (marked_said m.body ∙ ap (λ (t : List ℕ). t ∷ []) (sym m.whole)) (says_run (step s e).1 events all.1 given.1))
@@ -542,12 +542,12 @@ options_line limits listener first_xid now conns rows forwards peer xid_fits now
 options_skipped : (rest : List ℕ) → line (codes "# rpcbind replay --check" ++ rest) ≡ Skipped
 options_skipped rest = (skipped_say_nothing (codes "# rpcbind replay --check" ++ rest)).1 (inr (codes " rpcbind replay --check" ++ rest, refl))
 
-options_quiet : (rest : List ℕ) → said_by (codes "# rpcbind replay --check" ++ rest) ≡ []
-unfolding said_by
+options_quiet : (rest : List ℕ) → output_line_in (codes "# rpcbind replay --check" ++ rest) ≡ []
+unfolding output_line_in
 options_quiet rest = refl
 
 pub records_are_read : RecordsAreRead
-unfolding said printed options_line
+unfolding output_lines_in output_lines options_line
 records_are_read limits listener first_xid now events conns rows forwards peer xid_fits now_fits all given short =
     let s : State = opening limits listener first_xid now in
     let l : IsLine (options_text limits listener first_xid now) = options_line limits listener first_xid now conns rows forwards peer xid_fits now_fits in
@@ -570,7 +570,7 @@ says_first s (e ∷ events) (suc k) tail end all given =
     let o : Output = (step s e).0 in
     let front : List ℕ = concat (take k (run_entries (step s e).1 events)) in
     let l : IsEventLine e = event_line e all.0 in
-    let m : IsLine (text_of o) = output_line o given.0 in
+    let m : IsLine (output_text o) = output_line o given.0 in
     subst (λ (ls : List (List ℕ)). Says ls (e ∷ take k events) (run s (e ∷ take k events)))
     (sym (ap lines_of (append_assoc (entry_text e o) front tail) ∙ entry_lines e o (front ++ tail) l m))
     (says_more l.body (codes "#> " ++ m.body) (lines_of (front ++ tail)) e o (take k events) (run (step s e).1 (take k events)) (line_of l.body e l.spelled) l.quiet (marked_skipped m.body)
@@ -579,26 +579,26 @@ says_first s (e ∷ events) (suc k) tail end all given =
 abbrev ending_body : List ℕ
 ending_body = codes "# the limit of this record is reached: what follows is not in it"
 
-ending_line : IsLine ending
+ending_line : IsLine last_line
 ending_line = record { body = ending_body; whole = refl; apart = apart ending_body refl }
 
 ending_skipped : line ending_body ≡ Skipped
 ending_skipped = (skipped_say_nothing ending_body).1 (inr (codes " the limit of this record is reached: what follows is not in it", refl))
 
-ending_quiet : said_by ending_body ≡ []
-unfolding said_by
+ending_quiet : output_line_in ending_body ≡ []
+unfolding output_line_in
 ending_quiet = refl
 
-last_says : (last : List ℕ) → (last ≡ []) ⊎ (last ≡ ending) → Says (lines_of last) [] []
+last_says : (last : List ℕ) → (last ≡ []) ⊎ (last ≡ last_line) → Says (lines_of last) [] []
 unfolding ending_line
 last_says last (inl is) = subst (λ (t : List ℕ). Says (lines_of t) [] []) (sym is) says_nothing
 last_says last (inr is) =
     subst (λ (t : List ℕ). Says (lines_of t) [] []) (sym is)
-    (subst (λ (ls : List (List ℕ)). Says ls [] []) (sym (lines_behind ending [] ending_line))
+    (subst (λ (ls : List (List ℕ)). Says ls [] []) (sym (lines_behind last_line [] ending_line))
     (says_comment ending_body (lines_of []) [] [] ending_skipped ending_quiet says_nothing))
 
 pub ended_records_are_read : EndedRecordsAreRead
-unfolding said printed options_line
+unfolding output_lines_in output_lines options_line
 ended_records_are_read limits listener first_xid now events text k held count conns rows forwards peer xid_fits now_fits all given short =
     let s : State = opening limits listener first_xid now in
     let options : List ℕ = options_text limits listener first_xid now in

@@ -14,7 +14,7 @@ use Rattle.std.proofs.lemmas.Option.{none-some, same_Some, cond_some, some_pair_
 use Rattle.std.proofs.lemmas.Str.Parse.{IsNumeralModel, numerals_by_value, tells_digits, not_in_digits}
 use Rattle.rb_rpc.specs.declared.peer.Peer.{Peer}
 use Rattle.rb_rpc.specs.Peers.{peer_text}
-use Rattle.rb_lines.specs.Fields.{◌>>=◌, cut, is_digit, decimal, plain, host, peer}
+use Rattle.rb_lines.specs.Fields.{◌>>=◌, cut, is_digit, number_below, plain_number, host, peer}
 use Rattle.rb_lines.specs.LineGrammar.{SpellsNumber, SpellsPeer}
 
 pub bound : {A B : Type 0} (o : Option A) (f : A → Option B) (y : B) → (o >>= f) ≡ Some y → (x : A) × (o ≡ Some x) × (f x ≡ Some y)
@@ -76,24 +76,24 @@ some_long text h = let ne = eqb-false _ _ (not-true _ h) in omega arith
 long_some : (text : List ℕ) → 0 < length text → not (eqb (length text) 0) ≡ true
 long_some text h = not_from_false _ (ne_eqb _ _ (λ e. omega (arith, e)))
 
-pub decimal_is : (limit : ℕ) (text : List ℕ) (n : ℕ) → decimal limit text ≡ Some n → IsNumeral 10 text × (digits_value 10 text ≡ n) × (n < limit)
-unfolding decimal
+pub decimal_is : (limit : ℕ) (text : List ℕ) (n : ℕ) → number_below limit text ≡ Some n → IsNumeral 10 text × (digits_value 10 text ≡ n) × (n < limit)
+unfolding number_below
 decimal_is limit text n h =
     let both = cond_some _ _ _ h in
     let outer = and_parts _ _ both.0 in
     let inner = and_parts _ _ outer.0 in
     ((some_long text inner.0, all_digits text inner.1), both.1, subst (λ (m : ℕ). m < limit) both.1 (ltb-true _ _ outer.1))
 
-pub decimal_of : (limit : ℕ) (text : List ℕ) (n : ℕ) → IsNumeral 10 text → digits_value 10 text ≡ n → n < limit → decimal limit text ≡ Some n
-unfolding decimal
+pub decimal_of : (limit : ℕ) (text : List ℕ) (n : ℕ) → IsNumeral 10 text → digits_value 10 text ≡ n → n < limit → number_below limit text ≡ Some n
+unfolding number_below
 decimal_of limit text n numeral value fits =
     let small : digits_value 10 text < limit = omega (arith, value) in
     rw (long_some text numeral.0, digits_pass text numeral.1, lt-ltb _ _ small, value) refl
 
-pub number_is : (text : List ℕ) (n : ℕ) → decimal (2 ^ 64) text ≡ Some n → SpellsNumber n text
+pub number_is : (text : List ℕ) (n : ℕ) → number_below (2 ^ 64) text ≡ Some n → SpellsNumber n text
 number_is text n h = let is = decimal_is (2 ^ 64) text n h in record { digits = is.0; value = is.1; fits = is.2 }
 
-pub number_of : (text : List ℕ) (n : ℕ) → SpellsNumber n text → decimal (2 ^ 64) text ≡ Some n
+pub number_of : (text : List ℕ) (n : ℕ) → SpellsNumber n text → number_below (2 ^ 64) text ≡ Some n
 number_of text n s = decimal_of (2 ^ 64) text n s.digits s.value s.fits
 
 pub numeral_without : (at : ℕ) (text : List ℕ) → AllDigits 10 text → (48 ≤ at → at ≤ 57 → ⊥) → IsWithout at text
@@ -113,10 +113,10 @@ one_digit text some unpadded first = elim (and_cases _ _ unpadded) [
   | inr other ↦ absurd (eqb-false _ _ other first)
 ]
 
-pub plain_is : (limit : ℕ) (text : List ℕ) (n : ℕ) → limit ≤ 2 ^ 64 → plain limit text ≡ Some n → (n < limit) × (text ≡ decimal_text n)
-unfolding plain
+pub plain_is : (limit : ℕ) (text : List ℕ) (n : ℕ) → limit ≤ 2 ^ 64 → plain_number limit text ≡ Some n → (n < limit) × (text ≡ decimal_text n)
+unfolding plain_number
 plain_is limit text n few h =
-    let parts : ((ltb 1 (length text) && eqb (get_or text 0 0) 48) ≡ false) × (decimal limit text ≡ Some n) = not_padded _ _ n h in
+    let parts : ((ltb 1 (length text) && eqb (get_or text 0 0) 48) ≡ false) × (number_below limit text ≡ Some n) = not_padded _ _ n h in
     let is : IsNumeral 10 text × (digits_value 10 text ≡ n) × (n < limit) = decimal_is limit text n parts.1 in
     let small : digits_value 10 text < 2 ^ 64 = omega (arith, is.1, is.2, few) in
     let same : decimal_text (digits_value 10 text) ≡ text = decimal-digits_value own text is.0.1 is.0.0 (one_digit text is.0.0 parts.0) small in
@@ -131,8 +131,8 @@ no_padding (suc n) fits =
     let first : 48 < get_or (decimal_text (suc n)) 0 0 = first_decimal (suc n) (omega arith) fits in
     and_right _ _ (ne_eqb (get_or (decimal_text (suc n)) 0 0) 48 (λ e. omega (arith, first, e)))
 
-pub plain_of : (limit n : ℕ) → limit ≤ 2 ^ 64 → n < limit → plain limit (decimal_text n) ≡ Some n
-unfolding plain
+pub plain_of : (limit n : ℕ) → limit ≤ 2 ^ 64 → n < limit → plain_number limit (decimal_text n) ≡ Some n
+unfolding plain_number
 plain_of limit n few small =
     let fits : n < 2 ^ 64 = omega (arith, few, small) in
     rw (no_padding n fits) (decimal_of limit (decimal_text n) n (decimal_nonempty n fits, digits_decimal own n fits) (digits_value-decimal own n fits) small)
@@ -176,10 +176,10 @@ host_is text h is =
     let (first, cut1, rest1) = bound (cut 46 text) _ h is in
     let (second, cut2, rest2) = bound (cut 46 first.1) _ h rest1 in
     let (third, cut3, rest3) = bound (cut 46 second.1) _ h rest2 in
-    let (a, is_a, rest4) = bound (plain 256 first.0) _ h rest3 in
-    let (b, is_b, rest5) = bound (plain 256 second.0) _ h rest4 in
-    let (c, is_c, rest6) = bound (plain 256 third.0) _ h rest5 in
-    let (d, is_d, rest7) = bound (plain 256 third.1) _ h rest6 in
+    let (a, is_a, rest4) = bound (plain_number 256 first.0) _ h rest3 in
+    let (b, is_b, rest5) = bound (plain_number 256 second.0) _ h rest4 in
+    let (c, is_c, rest6) = bound (plain_number 256 third.0) _ h rest5 in
+    let (d, is_d, rest7) = bound (plain_number 256 third.1) _ h rest6 in
     let (a_fits, a_is) = plain_is 256 first.0 a few_256 is_a in
     let (b_fits, b_is) = plain_is 256 second.0 b few_256 is_b in
     let (c_fits, c_is) = plain_is 256 third.0 c few_256 is_c in
@@ -232,7 +232,7 @@ unfolding peer
 peer_is text p h =
     let (parts, cut1, rest1) = bound (cut 58 text) _ p h in
     let (address, is_host, rest2) = bound (host parts.0) _ p rest1 in
-    let (port, is_port, rest3) = bound (plain 65536 parts.1) _ p rest2 in
+    let (port, is_port, rest3) = bound (plain_number 65536 parts.1) _ p rest2 in
     let (fits, port_is) = plain_is 65536 parts.1 port few_65536 is_port in
     let made = made_of parts.0 address port (host_is parts.0 address is_host) fits in
     let whole : text ≡ parts.0 ++ 58 ∷ decimal_text port = cut_is 58 text parts.0 parts.1 cut1 ∙ ap (λ (t : List ℕ). parts.0 ++ 58 ∷ t) port_is in

@@ -23,14 +23,14 @@ abbrev pub is_digit : ℕ → Bool
 is_digit c = nat_lt (digit_value c) 10
 
 -- a number below the limit, in decimal digits
-unfoldable pub decimal : ℕ → List ℕ → Option ℕ
-decimal limit text =
+unfoldable pub number_below : ℕ → List ℕ → Option ℕ
+number_below limit text =
     if not (length text == 0) && list_all is_digit text && nat_lt (digits_value 10 text) limit
     then Some (digits_value 10 text) else None
 
 -- the same, without leading zeros
-unfoldable pub plain : ℕ → List ℕ → Option ℕ
-plain limit text = if nat_lt 1 (length text) && slice_index text 0 == 48 then None else decimal limit text
+unfoldable pub plain_number : ℕ → List ℕ → Option ℕ
+plain_number limit text = if nat_lt 1 (length text) && slice_index text 0 == 48 then None else number_below limit text
 
 -- four numbers below 256 with dots between them
 unfoldable pub host : List ℕ → Option (List ℕ)
@@ -38,10 +38,10 @@ host text = do
   first ← cut 46 text
   second ← cut 46 first.1
   third ← cut 46 second.1
-  a ← plain 256 first.0
-  b ← plain 256 second.0
-  c ← plain 256 third.0
-  d ← plain 256 third.1
+  a ← plain_number 256 first.0
+  b ← plain_number 256 second.0
+  c ← plain_number 256 third.0
+  d ← plain_number 256 third.1
   Some (a ∷ b ∷ c ∷ d ∷ [])
 
 -- a host, a colon and a port
@@ -49,7 +49,7 @@ unfoldable pub peer : List ℕ → Option Peer
 peer text = do
   parts ← cut 58 text
   address ← host parts.0
-  port ← plain 65536 parts.1
+  port ← plain_number 65536 parts.1
   Some (record { host = address; port = port })
 
 -- hexadecimal digits, two for each byte, or `-` for no bytes

@@ -2,11 +2,11 @@ pub mod Fields
 pub mod Lines
 pub mod Printing
 pub mod Limits
-pub mod Running
+pub mod Faults
 pub mod Worked
 pub mod LineLaws
 pub mod LineGrammar
-pub mod Checking
+pub mod OutputLines
 pub mod RecordLaws
 pub mod Options
 pub mod Serving

@@ -47,7 +47,7 @@ SpellsHex (byte ∷ bytes) text = SpellsBytes (byte ∷ bytes) text
 -- ---- the lines
 
 -- a text of the one kind, a space, and a text of the other
-pub record Spaced (Front Back : List ℕ → Type 0) (text : List ℕ) : Type 0 where
+pub record IsSpaced (Front Back : List ℕ → Type 0) (text : List ℕ) : Type 0 where
   pub front : List ℕ
   pub back : List ℕ
   pub in_front : Front front
@@ -56,7 +56,7 @@ pub record Spaced (Front Back : List ℕ → Type 0) (text : List ℕ) : Type 0 
 
 infixr 5 ◌␣◌
 abbrev pub ◌␣◌ : (List ℕ → Type 0) → (List ℕ → Type 0) → List ℕ → Type 0
-Front ␣ Back = Spaced Front Back
+Front ␣ Back = IsSpaced Front Back
 
 abbrev pub SpellsEvent : Event → List ℕ → Type 0
 SpellsEvent (Open now from) = Spells (codes "open") ␣ SpellsNumber now ␣ SpellsPeer from

@@ -13,14 +13,14 @@ use Rattle.rb_lines.specs.declared.lines.Line as line_type
 use Rattle.rb_lines.specs.declared.lines.Line.TheVariants as lines
 use Rattle.rb_lines.specs.declared.lines.ReadFault.{ReadFault}
 use Rattle.rb_lines.specs.declared.lines.ReadFault.TheVariants.{BadLine, TooLong, NoMemory}
-use Rattle.rb_lines.specs.Fields.{◌>>=◌, cut, decimal, peer, hex_bytes}
+use Rattle.rb_lines.specs.Fields.{◌>>=◌, cut, number_below, peer, hex_bytes}
 
 -- what follows the words `datagram` and `forward`: a moment, a peer and bytes, of which the event is made
 unfoldable pub datagram_line : (ℕ → Peer → List ℕ → Event) → List ℕ → Option Event
 datagram_line make text = do
   first ← cut 32 text
   second ← cut 32 first.1
-  now ← decimal (2 ^ 64) first.0
+  now ← number_below (2 ^ 64) first.0
   from ← peer second.0
   bytes ← hex_bytes second.1
   Some (make now from bytes)
@@ -29,7 +29,7 @@ datagram_line make text = do
 unfoldable pub open_line : List ℕ → Option Event
 open_line text = do
   parts ← cut 32 text
-  now ← decimal (2 ^ 64) parts.0
+  now ← number_below (2 ^ 64) parts.0
   from ← peer parts.1
   Some (Open now from)
 
@@ -38,8 +38,8 @@ unfoldable pub bytes_line : List ℕ → Option Event
 bytes_line text = do
   first ← cut 32 text
   second ← cut 32 first.1
-  now ← decimal (2 ^ 64) first.0
-  id ← decimal (2 ^ 64) second.0
+  now ← number_below (2 ^ 64) first.0
+  id ← number_below (2 ^ 64) second.0
   bytes ← hex_bytes second.1
   Some (Bytes now id bytes)
 
@@ -48,9 +48,9 @@ unfoldable pub gave_line : List ℕ → Option Event
 gave_line text = do
   first ← cut 32 text
   second ← cut 32 first.1
-  now ← decimal (2 ^ 64) first.0
-  id ← decimal (2 ^ 64) second.0
-  n ← decimal (2 ^ 64) second.1
+  now ← number_below (2 ^ 64) first.0
+  id ← number_below (2 ^ 64) second.0
+  n ← number_below (2 ^ 64) second.1
   Some (Gave now id n)
 
 -- the event of a line of more than one word: the first, and what stands behind the space after it
@@ -59,12 +59,12 @@ event word rest =
     if bytes_eq word (codes "datagram") then datagram_line Datagram rest
     else if bytes_eq word (codes "open") then open_line rest
     else if bytes_eq word (codes "bytes") then bytes_line rest
-    else if bytes_eq word (codes "pending") then option_map Pending (decimal (2 ^ 64) rest)
+    else if bytes_eq word (codes "pending") then option_map Pending (number_below (2 ^ 64) rest)
     else if bytes_eq word (codes "gave") then gave_line rest
-    else if bytes_eq word (codes "closed") then option_map Closed (decimal (2 ^ 64) rest)
-    else if bytes_eq word (codes "sent") then option_map Sent (decimal (2 ^ 64) rest)
+    else if bytes_eq word (codes "closed") then option_map Closed (number_below (2 ^ 64) rest)
+    else if bytes_eq word (codes "sent") then option_map Sent (number_below (2 ^ 64) rest)
     else if bytes_eq word (codes "forward") then datagram_line Forward rest
-    else if bytes_eq word (codes "expire") then option_map Expire (decimal (2 ^ 64) rest)
+    else if bytes_eq word (codes "expire") then option_map Expire (number_below (2 ^ 64) rest)
     else None
 
 -- the event of a line of one word
@@ -94,16 +94,16 @@ line text =
     else happens_or_bad (event_of_parts text (cut 32 text))
 
 -- what the line of this number adds to what the lines after it give
-abbrev pub onto : ℕ → Line → Result (List Event) ReadFault → Result (List Event) ReadFault
-onto k Skipped rest = rest
-onto k Bad rest = Err (BadLine k)
-onto k (Happens event) (Ok events) = Ok (event ∷ events)
-onto k (Happens event) (Err fault) = Err fault
+abbrev pub add_line : ℕ → Line → Result (List Event) ReadFault → Result (List Event) ReadFault
+add_line k Skipped rest = rest
+add_line k Bad rest = Err (BadLine k)
+add_line k (Happens event) (Ok events) = Ok (event ∷ events)
+add_line k (Happens event) (Err fault) = Err fault
 
 -- the events of the lines, the first of which has this number, or the number of the first bad line
 unfoldable pub events_from : ℕ → List (List ℕ) → Result (List Event) ReadFault
 events_from k [] = Ok []
-events_from k (text ∷ texts) = onto k (line text) (events_from (k + 1) texts)
+events_from k (text ∷ texts) = add_line k (line text) (events_from (k + 1) texts)
 
 -- the lines of a text: a line feed ends each but the last
 unfoldable pub lines_of : List ℕ → List (List ℕ)
@@ -136,9 +136,9 @@ Fails NoMemory given = Unit {0}
 Fails TooLong given = given ≡ Err TooLong
 Fails (BadLine k) given = given ≡ Err (BadLine k)
 
-abbrev pub Gives : {X : Type 0} → (X → List Event) → Result X ReadFault → Result (List Event) ReadFault → Type 0
-Gives events (Ok x) given = given ≡ Ok (events x)
-Gives events (Err fault) given = Fails fault given
+abbrev pub GivesEvents : {X : Type 0} → (X → List Event) → Result X ReadFault → Result (List Event) ReadFault → Type 0
+GivesEvents events (Ok x) given = given ≡ Ok (events x)
+GivesEvents events (Err fault) given = Fails fault given
 
 -- the events that were read, in front of those that are left
 abbrev pub with_front : List Event → Result (List Event) ReadFault → Result (List Event) ReadFault
@@ -146,13 +146,13 @@ with_front front (Ok events) = Ok (front ++ events)
 with_front front (Err fault) = Err fault
 
 -- The events grew by what the line of this number says.
-abbrev pub Adds : ℕ → Line → List event_type.Event → List event_type.Event → Type 0
-Adds k said old new =
+abbrev pub AddsLine : ℕ → Line → List event_type.Event → List event_type.Event → Type 0
+AddsLine k said old new =
     (rest : Result (List Event) ReadFault)
-    → with_front (events_of new) rest ≡ with_front (events_of old) (onto k said rest)
+    → with_front (events_of new) rest ≡ with_front (events_of old) (add_line k said rest)
 
 -- what may be wrong with the line of this number
-abbrev pub IsFaultOf : ℕ → Line → ReadFault → Type 0
-IsFaultOf k said NoMemory = Unit {0}
-IsFaultOf k said TooLong = ⊥
-IsFaultOf k said (BadLine n) = (said ≡ Bad) × (n ≡ k)
+abbrev pub IsLineFault : ℕ → Line → ReadFault → Type 0
+IsLineFault k said NoMemory = Unit {0}
+IsLineFault k said TooLong = ⊥
+IsLineFault k said (BadLine n) = (said ≡ Bad) × (n ≡ k)

@@ -4,8 +4,8 @@ use Rattle.rb_model.specs.declared.types.Limits.{Limits}
 use Rattle.rb_lines.specs.declared.options.Valued.{Valued}
 use Rattle.rb_lines.specs.declared.options.Valued.TheVariants.{Announce, Conns, Rows, Forwards, Port, Xid, Now}
 use Rattle.rb_lines.specs.declared.options.ReplayTexts.{ReplayTexts}
-use Rattle.rb_lines.specs.declared.running.Beginning.{Beginning}
-use Rattle.rb_lines.specs.Fields.{decimal, host}
+use Rattle.rb_lines.specs.declared.options.Beginning.{Beginning}
+use Rattle.rb_lines.specs.Fields.{number_below, host}
 
 -- one after the other, up to the first that can't be read
 infixl 10 ◌>>=◌
@@ -24,14 +24,14 @@ unless_zero (Some n) = if n == 0 then None else Some n
 
 -- a port from 1 to 65535
 abbrev pub port : List ℕ → Option ℕ
-port text = unless_zero (decimal (2 ^ 16) text)
+port text = unless_zero (number_below (2 ^ 16) text)
 
 -- the most connections, rows and forwarded calls, whatever their ranges
 abbrev pub limits_of : List ℕ → List ℕ → List ℕ → Result Limits Valued
 limits_of conns rows forwards = do
-  most_conns ← value_of Conns (decimal (2 ^ 64) conns)
-  most_rows ← value_of Rows (decimal (2 ^ 64) rows)
-  most_forwards ← value_of Forwards (decimal (2 ^ 64) forwards)
+  most_conns ← value_of Conns (number_below (2 ^ 64) conns)
+  most_rows ← value_of Rows (number_below (2 ^ 64) rows)
+  most_forwards ← value_of Forwards (number_below (2 ^ 64) forwards)
   Ok (record { conns = most_conns; rows = most_rows; forwards = most_forwards })
 
 -- what a replay begins with, or the first option whose value can't be read
@@ -40,6 +40,6 @@ beginning_of texts = do
   announced ← value_of Announce (host texts.announce.now)
   limits ← limits_of texts.conns.now texts.rows.now texts.forwards.now
   listens ← value_of Port (port texts.port.now)
-  xid ← value_of Xid (decimal (2 ^ 32) texts.xid.now)
-  moment ← value_of Now (decimal (2 ^ 64) texts.moment.now)
+  xid ← value_of Xid (number_below (2 ^ 32) texts.xid.now)
+  moment ← value_of Now (number_below (2 ^ 64) texts.moment.now)
   Ok (record { limits = limits; listener = record { host = announced; port = listens }; first_xid = xid; moment = moment; steps = texts.steps })

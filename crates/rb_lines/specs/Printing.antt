@@ -5,19 +5,19 @@ use Rattle.std.specs.Fmt.{decimal}
 use Rattle.rb_model.specs.declared.events.Output as output_type
 use Rattle.rb_model.specs.Plain.{outputs_of}
 use Rattle.rb_model.specs.Step.{Output}
-use Rattle.rb_record.specs.Printing.{text_of}
+use Rattle.rb_record.specs.Printing.{output_text}
 
 -- how many steps a run took, and how many it may
 abbrev pub steps_line : ℕ → ℕ → List ℕ
 steps_line taken bound = codes "steps " ++ (decimal taken ++ (codes " bound " ++ (decimal bound ++ codes "\n")))
 
 -- the last line, where it is asked for
-abbrev pub ending : Bool → ℕ → ℕ → List ℕ
-ending false taken bound = []
-ending true taken bound = steps_line taken bound
+abbrev pub steps_line_if : Bool → ℕ → ℕ → List ℕ
+steps_line_if false taken bound = []
+steps_line_if true taken bound = steps_line taken bound
 
 unfoldable pub report_of : List Output → List ℕ
-report_of outputs = flat_map text_of outputs
+report_of outputs = flat_map output_text outputs
 
 -- ---- as the code has them
 

@@ -12,7 +12,7 @@ use Rattle.rb_model.specs.Step.Output.{Opened, Took, TookAndClosed, LostIs, Unse
 use Rattle.rb_record.specs.Entries.{run_entries, run_text, options_text}
 use Rattle.rb_record.specs.Tapes.{HasFirst}
 use Rattle.rb_lines.specs.Lines.{longest_input, read}
-use Rattle.rb_lines.specs.Checking.{said, printed}
+use Rattle.rb_lines.specs.OutputLines.{output_lines_in, output_lines}
 
 -- ---- what has a line: numbers of 64 bits, bytes, hosts of four bytes and ports of 16 bits
 
@@ -64,7 +64,7 @@ HasOutputLine other = Unit {0}
 -- A text reads as these events, and says that they give these outputs.
 pub record ReadsAs (text : List ℕ) (events : List Event) (outputs : List Output) : Type 0 where
   pub events_are : read text ≡ Ok events
-  pub outputs_are : said text ≡ printed outputs
+  pub outputs_are : output_lines_in text ≡ output_lines outputs
 
 -- A record that is no longer than an input may be reads as the events of its run, and says what they give: so `replay --check`
 -- of it finds that all agree.

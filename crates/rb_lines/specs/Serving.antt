@@ -13,7 +13,7 @@ use Rattle.rb_lines.specs.declared.serving.ServeFault.{ServeFault}
 use Rattle.rb_lines.specs.declared.serving.ServeFault.TheVariants.{BadValue, NoMemory}
 use Rattle.rb_lines.specs.declared.serving.Record.{Record}
 use Rattle.rb_lines.specs.declared.serving.Service as code
-use Rattle.rb_lines.specs.Fields.{decimal, host}
+use Rattle.rb_lines.specs.Fields.{number_below, host}
 use Rattle.rb_lines.specs.Options.{◌>>=◌, value_of, port, limits_of}
 
 -- what stands for an option that is not given
@@ -34,9 +34,9 @@ default_of Now = []
 abbrev pub address : List ℕ → Option Ipv4Addr
 address text = option_map (λ octets. record { octets = octets }) (host text)
 
-abbrev pub announced : Option (Bor (List ℕ)) → Result (Option Ipv4Addr) Valued
-announced None = Ok None
-announced (Some text) = value_of Announce (address text.now) >>= λ given. Ok (Some given)
+abbrev pub read_announce : Option (Bor (List ℕ)) → Result (Option Ipv4Addr) Valued
+read_announce None = Ok None
+read_announce (Some text) = value_of Announce (address text.now) >>= λ given. Ok (Some given)
 
 -- the address at a place of `--bind`, of which there are at most 16
 abbrev pub host_at : ℕ → List ℕ → Result Ipv4Addr Valued
@@ -53,26 +53,26 @@ hosts_from place (text ∷ texts) = do
 abbrev pub is_path : List ℕ → Bool
 is_path text = not (length text == 0) && nat_le (length text) 107
 
-abbrev pub local : Option (Bor (List ℕ)) → Result (Option (Bor (List ℕ))) Valued
-local None = Ok None
-local (Some text) = if is_path text.now then Ok (Some text) else Err Local
+abbrev pub read_local : Option (Bor (List ℕ)) → Result (Option (Bor (List ℕ))) Valued
+read_local None = Ok None
+read_local (Some text) = if is_path text.now then Ok (Some text) else Err Local
 
 abbrev pub is_octal : ℕ → Bool
 is_octal c = nat_lt (digit_value c) 8
 
 -- a number below 512 in octal digits: the bits for owner, group and others
-abbrev pub mode : List ℕ → Option ℕ
-mode text =
+abbrev pub read_mode : List ℕ → Option ℕ
+read_mode text =
     if not (length text == 0) && list_all is_octal text && nat_lt (digits_value 8 text) 512
     then Some (digits_value 8 text) else None
 
-abbrev pub between : ℕ → ℕ → Option ℕ → Option ℕ
-between least most None = None
-between least most (Some n) = if nat_le least n && nat_le n most then Some n else None
+abbrev pub if_between : ℕ → ℕ → Option ℕ → Option ℕ
+if_between least most None = None
+if_between least most (Some n) = if nat_le least n && nat_le n most then Some n else None
 
 -- in bytes
 abbrev pub record_limit : List ℕ → Option ℕ
-record_limit text = between 1000 16777216 (decimal (2 ^ 64) text)
+record_limit text = if_between 1000 16777216 (number_below (2 ^ 64) text)
 
 -- the addresses of the vector, and the other fields
 pub record Service : Type 0 where
@@ -89,11 +89,11 @@ pub record Service : Type 0 where
 -- the same from `--local` on
 abbrev pub rest_of : Option Ipv4Addr → List Ipv4Addr → ServeTexts → Result Service Valued
 rest_of given hosts texts = do
-  path ← local texts.local
-  bits ← value_of LocalMode (mode texts.local_mode.now)
+  path ← read_local texts.local
+  bits ← value_of LocalMode (read_mode texts.local_mode.now)
   listens ← value_of Port (port texts.port.now)
   most ← limits_of texts.conns.now texts.rows.now texts.forwards.now
-  ends ← value_of Turns (decimal (2 ^ 64) texts.turns.now)
+  ends ← value_of Turns (number_below (2 ^ 64) texts.turns.now)
   bytes ← value_of RecordLimit (record_limit texts.record_limit.now)
   Ok (record {
     hosts = hosts;
@@ -110,14 +110,14 @@ rest_of given hosts texts = do
 -- what is served, or the first option whose value can't be read
 abbrev pub service_of : ServeTexts → Result Service Valued
 service_of texts = do
-  given ← announced texts.announce
+  given ← read_announce texts.announce
   hosts ← hosts_from 0 texts.bind.now
   rest_of given hosts texts
 
 -- ---- as the code has them
 
-abbrev pub view : code.Service → Service
-view s = record {
+abbrev pub service_view : code.Service → Service
+service_view s = record {
   hosts = s.hosts.items;
   loopback6 = s.loopback6;
   local = s.local;
@@ -129,9 +129,9 @@ view s = record {
   recorded = s.recorded;
 }
 
-abbrev pub viewed : Result code.Service Valued → Result Service Valued
-viewed (Ok s) = Ok (view s)
-viewed (Err bad) = Err bad
+abbrev pub result_view : Result code.Service Valued → Result Service Valued
+result_view (Ok s) = Ok (service_view s)
+result_view (Err bad) = Err bad
 
 -- What a function returned is what the values mean, unless memory ran out.
 abbrev pub Serves : {X Y : Type 0} → (X → Y) → Result X ServeFault → Result Y Valued → Type 0

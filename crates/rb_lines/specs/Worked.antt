@@ -7,7 +7,7 @@ use Rattle.rb_model.specs.Step.Event.{Datagram, Open, Bytes, Pending, Gave, Clos
 use Rattle.rb_model.specs.declared.types.CoreFault.TheVariants.{Full, Spent, Gone}
 use Rattle.rb_model.specs.Step.Output.{Replied, Silent, Opened, Refused, Took, TookAndClosed, IsPending, Done, TooMuch, LostIs, Forwarded, UnsentIs, Ignored, Nothing, Ready, RepliedTo}
 use Rattle.rb_lines.specs.declared.lines.ReadFault.TheVariants.{BadLine}
-use Rattle.rb_lines.specs.Fields.{decimal, peer}
+use Rattle.rb_lines.specs.Fields.{number_below, peer}
 use Rattle.rb_lines.specs.Lines.{read}
 use Rattle.rb_lines.specs.Printing.{report_of}
 
@@ -16,8 +16,8 @@ abbrev pub words : List ℕ → List ℕ
 words numbers = flat_map (to_be_bytes w32) numbers
 
 -- a line, and the line feed that ends it
-abbrev pub ended : List ℕ → List ℕ
-ended text = text ++ 10 ∷ []
+abbrev pub with_line_feed : List ℕ → List ℕ
+with_line_feed text = text ++ 10 ∷ []
 
 abbrev pub here : Peer
 here = record { host = 127 ∷ 0 ∷ 0 ∷ 1 ∷ []; port = 900 }
@@ -26,9 +26,9 @@ here = record { host = 127 ∷ 0 ∷ 0 ∷ 1 ∷ []; port = 900 }
 abbrev pub StoredRunIsRead : Type 0
 StoredRunIsRead =
     read
-    (ended (codes "datagram 0 127.0.0.1:900 000000030000000000000002000186a000000002000000010000000000000000000000000000000000030d41000000010000000600000801")
-    ++ ended (codes "datagram 0 127.0.0.1:900 000000040000000000000002000186a000000002000000030000000000000000000000000000000000030d41000000010000000600000000")
-    ++ ended (codes "datagram 0 127.0.0.1:900 000000050000000000000002000186a000000002000000010000000000000000000000000000000000030d41000000010000000600000801"))
+    (with_line_feed (codes "datagram 0 127.0.0.1:900 000000030000000000000002000186a000000002000000010000000000000000000000000000000000030d41000000010000000600000801")
+    ++ with_line_feed (codes "datagram 0 127.0.0.1:900 000000040000000000000002000186a000000002000000030000000000000000000000000000000000030d41000000010000000600000000")
+    ++ with_line_feed (codes "datagram 0 127.0.0.1:900 000000050000000000000002000186a000000002000000010000000000000000000000000000000000030d41000000010000000600000801"))
     ≡ Ok
     (Datagram 0 here (words (3 ∷ 0 ∷ 2 ∷ 100000 ∷ 2 ∷ 1 ∷ 0 ∷ 0 ∷ 0 ∷ 0 ∷ 200001 ∷ 1 ∷ 6 ∷ 2049 ∷ []))
     ∷ Datagram 0 here (words (4 ∷ 0 ∷ 2 ∷ 100000 ∷ 2 ∷ 3 ∷ 0 ∷ 0 ∷ 0 ∷ 0 ∷ 200001 ∷ 1 ∷ 6 ∷ 0 ∷ []))
@@ -44,10 +44,10 @@ StoredRunIsPrinted =
     ∷ Replied (words (5 ∷ 1 ∷ 0 ∷ 0 ∷ 0 ∷ 0 ∷ 0 ∷ []))
     ∷ Silent
     ∷ [])
-    ≡ ended (codes "reply 00000003000000010000000000000000000000000000000000000001")
-    ++ ended (codes "reply 00000004000000010000000000000000000000000000000000000801")
-    ++ ended (codes "reply 00000005000000010000000000000000000000000000000000000000")
-    ++ ended (codes "silent")
+    ≡ with_line_feed (codes "reply 00000003000000010000000000000000000000000000000000000001")
+    ++ with_line_feed (codes "reply 00000004000000010000000000000000000000000000000000000801")
+    ++ with_line_feed (codes "reply 00000005000000010000000000000000000000000000000000000000")
+    ++ with_line_feed (codes "silent")
 
 abbrev pub BadEventLine : Type 0
 BadEventLine = read (codes "datagram 0 127.0.0.1:900 0g") ≡ Err (BadLine 1)
@@ -56,9 +56,9 @@ BadEventLine = read (codes "datagram 0 127.0.0.1:900 0g") ≡ Err (BadLine 1)
 -- a space too many and a space at the end make a bad line.
 abbrev pub LinesAreCounted : Type 0
 LinesAreCounted =
-    (read (ended (codes "# a" ++ 9 ∷ 13 ∷ []) ++ ended [] ++ codes "datagram 007 127.0.0.1:900 Af") ≡ Ok (Datagram 7 here (175 ∷ []) ∷ []))
-    × (read (ended (codes "#") ++ ended [] ++ codes "datagram 7 127.0.0.1:900 -" ++ 13 ∷ []) ≡ Err (BadLine 3))
-    × (read (ended (codes "datagram 7 127.0.0.1:900 -") ++ ended (codes "datagram 7  127.0.0.1:900 -")) ≡ Err (BadLine 2))
+    (read (with_line_feed (codes "# a" ++ 9 ∷ 13 ∷ []) ++ with_line_feed [] ++ codes "datagram 007 127.0.0.1:900 Af") ≡ Ok (Datagram 7 here (175 ∷ []) ∷ []))
+    × (read (with_line_feed (codes "#") ++ with_line_feed [] ++ codes "datagram 7 127.0.0.1:900 -" ++ 13 ∷ []) ≡ Err (BadLine 3))
+    × (read (with_line_feed (codes "datagram 7 127.0.0.1:900 -") ++ with_line_feed (codes "datagram 7  127.0.0.1:900 -")) ≡ Err (BadLine 2))
     × (read (codes "datagram 7 127.0.0.1:900 00 ") ≡ Err (BadLine 1))
     × (read (codes " datagram 7 127.0.0.1:900 00") ≡ Err (BadLine 1))
     × (read (codes "datagram 7 127.0.0.1:900 ") ≡ Err (BadLine 1))
@@ -68,11 +68,11 @@ LinesAreCounted =
 
 abbrev pub NumbersOfLines : Type 0
 NumbersOfLines =
-    (decimal (2 ^ 64) (codes "18446744073709551615") ≡ Some (2 ^ 64 - 1))
-    × (decimal (2 ^ 64) (codes "18446744073709551616") ≡ None)
-    × (decimal (2 ^ 64) (codes "000000000000000000000000000018446744073709551615") ≡ Some (2 ^ 64 - 1))
-    × (decimal (2 ^ 64) (codes "+1") ≡ None)
-    × (decimal (2 ^ 64) [] ≡ None)
+    (number_below (2 ^ 64) (codes "18446744073709551615") ≡ Some (2 ^ 64 - 1))
+    × (number_below (2 ^ 64) (codes "18446744073709551616") ≡ None)
+    × (number_below (2 ^ 64) (codes "000000000000000000000000000018446744073709551615") ≡ Some (2 ^ 64 - 1))
+    × (number_below (2 ^ 64) (codes "+1") ≡ None)
+    × (number_below (2 ^ 64) [] ≡ None)
 
 abbrev pub PeersOfLines : Type 0
 PeersOfLines =
@@ -91,8 +91,8 @@ PeersOfLines =
 abbrev pub ConnectionsAreRead : Type 0
 ConnectionsAreRead =
     (read
-    (ended (codes "open 0005 127.0.0.1:900") ++ ended (codes "bytes 6 1 80000028") ++ ended (codes "bytes 0 7 -")
-    ++ ended (codes "pending 01") ++ ended (codes "gave 0 1 29") ++ ended (codes "closed 18446744073709551615") ++ codes "lost")
+    (with_line_feed (codes "open 0005 127.0.0.1:900") ++ with_line_feed (codes "bytes 6 1 80000028") ++ with_line_feed (codes "bytes 0 7 -")
+    ++ with_line_feed (codes "pending 01") ++ with_line_feed (codes "gave 0 1 29") ++ with_line_feed (codes "closed 18446744073709551615") ++ codes "lost")
     ≡ Ok
     (Open 5 here ∷ Bytes 6 1 (128 ∷ 0 ∷ 0 ∷ 40 ∷ []) ∷ Bytes 0 7 [] ∷ Pending 1 ∷ Gave 0 1 29 ∷ Closed (2 ^ 64 - 1) ∷ NextLost ∷ []))
     × (read (codes "open 5") ≡ Err (BadLine 1))
@@ -110,16 +110,16 @@ abbrev pub ConnectionsArePrinted : Type 0
 ConnectionsArePrinted =
     report_of
     (Opened 1 ∷ Refused Full ∷ Refused Spent ∷ Refused Gone ∷ Took 360 ∷ TookAndClosed 12 ∷ IsPending (128 ∷ 0 ∷ 0 ∷ 24 ∷ []) ∷ IsPending [] ∷ Done ∷ TooMuch ∷ LostIs None ∷ LostIs (Some 10) ∷ [])
-    ≡ ended (codes "open 1") ++ ended (codes "full") ++ ended (codes "spent") ++ ended (codes "gone") ++ ended (codes "took 360")
-    ++ ended (codes "took 12 closed") ++ ended (codes "pending 80000018") ++ ended (codes "pending -") ++ ended (codes "ok")
-    ++ ended (codes "toomuch") ++ ended (codes "lost -") ++ ended (codes "lost 10")
+    ≡ with_line_feed (codes "open 1") ++ with_line_feed (codes "full") ++ with_line_feed (codes "spent") ++ with_line_feed (codes "gone") ++ with_line_feed (codes "took 360")
+    ++ with_line_feed (codes "took 12 closed") ++ with_line_feed (codes "pending 80000018") ++ with_line_feed (codes "pending -") ++ with_line_feed (codes "ok")
+    ++ with_line_feed (codes "toomuch") ++ with_line_feed (codes "lost -") ++ with_line_feed (codes "lost 10")
 
 -- The lines of forwarded calls.
 abbrev pub ForwardsAreRead : Type 0
 ForwardsAreRead =
     (read
-    (ended (codes "unsent") ++ ended (codes "sent 01") ++ ended (codes "forward 2000 127.0.0.1:900 000003e8")
-    ++ ended (codes "forward 2000 127.0.0.1:900 -") ++ codes "expire 6000")
+    (with_line_feed (codes "unsent") ++ with_line_feed (codes "sent 01") ++ with_line_feed (codes "forward 2000 127.0.0.1:900 000003e8")
+    ++ with_line_feed (codes "forward 2000 127.0.0.1:900 -") ++ codes "expire 6000")
     ≡ Ok
     (Unsent ∷ Sent 1 ∷ Forward 2000 here (0 ∷ 0 ∷ 3 ∷ 232 ∷ []) ∷ Forward 2000 here [] ∷ Expire 6000 ∷ []))
     × (read (codes "unsent ") ≡ Err (BadLine 1))
@@ -134,6 +134,6 @@ ForwardsArePrinted =
     (Forwarded ∷ UnsentIs None
     ∷ UnsentIs (Some (record { number = 1; target = here; call = 0 ∷ 0 ∷ 3 ∷ 232 ∷ [] }))
     ∷ Ignored ∷ Nothing ∷ Ready 7 ∷ RepliedTo here (0 ∷ 0 ∷ 0 ∷ 15 ∷ []) ∷ [])
-    ≡ ended (codes "forwarded") ++ ended (codes "unsent -") ++ ended (codes "unsent 1 127.0.0.1:900 000003e8")
-    ++ ended (codes "ignored") ++ ended (codes "nothing") ++ ended (codes "ready 7")
-    ++ ended (codes "datagram 127.0.0.1:900 0000000f")
+    ≡ with_line_feed (codes "forwarded") ++ with_line_feed (codes "unsent -") ++ with_line_feed (codes "unsent 1 127.0.0.1:900 000003e8")
+    ++ with_line_feed (codes "ignored") ++ with_line_feed (codes "nothing") ++ with_line_feed (codes "ready 7")
+    ++ with_line_feed (codes "datagram 127.0.0.1:900 0000000f")

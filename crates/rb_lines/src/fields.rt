@@ -2,10 +2,11 @@
 ghost use Rattle.std.specs.Prelude.{◌≡◌, ◌==◌, ◌+◌, ◌*◌, ◌<◌, ◌^◌, IfOk, IfSome};
 ghost use Rattle.std.specs.List.{position};
 ghost use Rattle.std.specs.Option.{option_map, SomeIff};
-ghost use Rattle.rb_lines.specs.Fields.{cut, cut_of, decimal, plain, host, peer, hex_bytes};
+ghost use Rattle.rb_lines.specs.Fields.{cut, cut_of, number_below, plain_number, host, peer, hex_bytes};
 
 use hex::FromHexError;
-use rb_core::{NoMemory, Peer};
+use rb_rpc::Peer;
+use rb_xdr::NoMemory;
 use std::alloc::Global;
 
 /// Where a byte stands first.
@@ -34,9 +35,9 @@ fn with_digit(n: u64, digit: u32) -> Option<u64>
 }
 
 /// A number of 64 bits in decimal digits, leading zeros allowed. A sign is no digit.
-#[tactic(auto, unfolding(crate::specs::Fields::decimal))]
-pub(crate) fn decimal(text: &[u8]) -> Option<u64>
-    ensures { result ≡ decimal (2 ^ 64) text.now }
+#[tactic(auto, unfolding(crate::specs::Fields::number_below))]
+pub(crate) fn number_below(text: &[u8]) -> Option<u64>
+    ensures { result ≡ number_below (2 ^ 64) text.now }
 {
     if text.is_empty() {
         return None;
@@ -55,15 +56,15 @@ pub(crate) fn decimal(text: &[u8]) -> Option<u64>
 }
 
 /// A number below the limit, without leading zeros.
-#[tactic(auto, unfolding(crate::specs::Fields::plain, crate::specs::Fields::decimal))]
-fn plain(text: &[u8], limit: u64) -> Option<u64>
-    ensures value { result ≡ plain limit text.now }
+#[tactic(auto, unfolding(crate::specs::Fields::plain_number, crate::specs::Fields::number_below))]
+fn plain_number(text: &[u8], limit: u64) -> Option<u64>
+    ensures value { result ≡ plain_number limit text.now }
     ensures small { IfSome result (λ n. n < limit) }
 {
     if text.len() > 1 && text[0] == b'0' {
         return None;
     }
-    let n = decimal(text)?;
+    let n = number_below(text)?;
     if n < limit { Some(n) } else { None }
 }
 
@@ -75,10 +76,10 @@ pub(crate) fn host(text: &[u8]) -> Option<[u8; 4]>
     let (a, rest) = cut(text, b'.')?;
     let (b, rest) = cut(rest, b'.')?;
     let (c, d) = cut(rest, b'.')?;
-    let a = plain(a, 256)?;
-    let b = plain(b, 256)?;
-    let c = plain(c, 256)?;
-    let d = plain(d, 256)?;
+    let a = plain_number(a, 256)?;
+    let b = plain_number(b, 256)?;
+    let c = plain_number(c, 256)?;
+    let d = plain_number(d, 256)?;
     Some([a as u8, b as u8, c as u8, d as u8])
 }
 
@@ -89,7 +90,7 @@ pub fn peer(text: &[u8]) -> Option<Peer>
 {
     let (address, port) = cut(text, b':')?;
     let host = host(address)?;
-    let port = plain(port, 65_536)?;
+    let port = plain_number(port, 65_536)?;
     Some(Peer {
         host,
         port: port as u16,

@@ -1,23 +1,22 @@
-//! Event lines: reading them, running their events, and printing what each gives.
+//! Event lines: reading them, and printing what events give. And the values of `rpcbind`'s options, and its faults.
 #![tactic(auto)]
 
-mod checking;
+mod faults;
 mod fields;
 mod laws;
 mod limits;
 mod lines;
 mod options;
 mod printing;
-mod running;
 mod serving;
 mod worked;
 
-pub use checking::{check_text, run_check};
+pub use faults::{DONE, Ending, Fault, explain, explain_run};
 pub use laws::{lines_are_of_the_grammar, records_are_read, text_reads_as_its_lines};
 pub use limits::{BadLimit, bad_limit};
-pub use lines::{ReadFault, read_events};
-pub use options::{ReplayTexts, Valued, read_beginning};
-pub use running::{Beginning, Ending, Fault, explain, explain_run, run_replay};
+pub use lines::{ReadFault, longest_input, read_events};
+pub use options::{Beginning, ReplayTexts, Valued, read_beginning};
+pub use printing::{WriteFailed, print_output, print_outputs, print_steps};
 pub use serving::{
     MOST_HOSTS, Record, ServeFault, ServeTexts, Service, read_service, serve_default,
 };

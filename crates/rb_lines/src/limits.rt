@@ -3,7 +3,7 @@ ghost use Rattle.std.specs.Prelude.{◌≡◌, ◌↔◌, IsSome, IsTrue, not};
 ghost use Rattle.rb_model.specs.State.{are_good};
 ghost use Rattle.rb_lines.specs.Limits.{bad_limit};
 
-use rb_core::Limits;
+use rb_model::Limits;
 use std::fmt;
 use std::fmt::{Display, Formatter};
 

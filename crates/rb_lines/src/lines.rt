@@ -2,10 +2,12 @@
 ghost use Rattle.std.specs.Prelude.{◌≡◌, ◌≤◌, IfOk, IfErr, OnOk};
 ghost use Rattle.std.specs.Option.{option_map};
 ghost use Rattle.rb_model.specs.Plain.{event_of, events_of};
-ghost use Rattle.rb_lines.specs.Lines.{Adds, AreFieldsOf, events_from, lines_of, IsFaultOf, datagram_line, open_line, bytes_line, gave_line, event, lone_event, line, line_of, longest_input, Gives, read};
+ghost use Rattle.rb_lines.specs.Lines.{AddsLine, AreFieldsOf, events_from, lines_of, IsLineFault, datagram_line, open_line, bytes_line, gave_line, event, lone_event, line, line_of, longest_input, GivesEvents, read};
 
-use crate::fields::{cut, decimal, hex_bytes, peer};
-use rb_core::{Event, NoMemory, Peer};
+use crate::fields::{cut, hex_bytes, number_below, peer};
+use rb_model::Event;
+use rb_rpc::Peer;
+use rb_xdr::NoMemory;
 use std::alloc::Global;
 use thiserror::Error;
 
@@ -59,7 +61,7 @@ fn datagram_fields(alloc: Global, text: &[u8]) -> Result<Option<DatagramFields>,
     let Some((from, bytes)) = cut(rest, b' ') else {
         return Ok(None);
     };
-    let Some(now) = decimal(now) else {
+    let Some(now) = number_below(now) else {
         return Ok(None);
     };
     let Some(from) = peer(from) else {
@@ -77,7 +79,7 @@ fn open_line(text: &[u8]) -> Option<Event>
     ensures { option_map event_of result ≡ open_line text.now }
 {
     let (now, from) = cut(text, b' ')?;
-    let now = decimal(now)?;
+    let now = number_below(now)?;
     let from = peer(from)?;
     Some(Event::Open(now, from))
 }
@@ -93,10 +95,10 @@ fn bytes_line(alloc: Global, text: &[u8]) -> Result<Option<Event>, NoMemory>
     let Some((id, bytes)) = cut(rest, b' ') else {
         return Ok(None);
     };
-    let Some(now) = decimal(now) else {
+    let Some(now) = number_below(now) else {
         return Ok(None);
     };
-    let Some(id) = decimal(id) else {
+    let Some(id) = number_below(id) else {
         return Ok(None);
     };
     let Some(bytes) = hex_bytes(alloc, bytes)? else {
@@ -112,9 +114,9 @@ fn gave_line(text: &[u8]) -> Option<Event>
 {
     let (now, rest) = cut(text, b' ')?;
     let (id, n) = cut(rest, b' ')?;
-    let now = decimal(now)?;
-    let id = decimal(id)?;
-    let n = decimal(n)?;
+    let now = number_below(now)?;
+    let id = number_below(id)?;
+    let n = number_below(n)?;
     Some(Event::Gave(now, id, n))
 }
 
@@ -133,22 +135,22 @@ fn read_event(alloc: Global, word: &[u8], rest: &[u8]) -> Result<Option<Event>, 
         return bytes_line(alloc, rest);
     }
     if word == b"pending".as_slice() {
-        return Ok(decimal(rest).map(Event::Pending));
+        return Ok(number_below(rest).map(Event::Pending));
     }
     if word == b"gave".as_slice() {
         return Ok(gave_line(rest));
     }
     if word == b"closed".as_slice() {
-        return Ok(decimal(rest).map(Event::Closed));
+        return Ok(number_below(rest).map(Event::Closed));
     }
     if word == b"sent".as_slice() {
-        return Ok(decimal(rest).map(Event::Sent));
+        return Ok(number_below(rest).map(Event::Sent));
     }
     if word == b"forward".as_slice() {
         return Ok(datagram_fields(alloc, rest)?.map(|f| Event::Forward(f.now, f.from, f.bytes)));
     }
     if word == b"expire".as_slice() {
-        return Ok(decimal(rest).map(Event::Expire));
+        return Ok(number_below(rest).map(Event::Expire));
     }
     Ok(None)
 }
@@ -191,8 +193,8 @@ fn take_line(
     number: usize,
     text: &[u8],
 ) -> Result<(), ReadFault>
-    ensures ok { OnOk result (Adds number (line text.now) events.old.items events.new.items) }
-    ensures err { IfErr result (λ fault. IsFaultOf number (line text.now) fault) }
+    ensures ok { OnOk result (AddsLine number (line text.now) events.old.items events.new.items) }
+    ensures err { IfErr result (λ fault. IsLineFault number (line text.now) fault) }
 {
     match read_line(alloc, text) {
         Err(NoMemory) => Err(ReadFault::NoMemory),
@@ -207,7 +209,7 @@ fn take_line(
 
 /// The events of the lines of a text.
 fn read_lines(alloc: Global, text: &[u8]) -> Result<Vec<Event>, ReadFault>
-    ensures { Gives (λ events. events_of events.items) result (events_from 1 (lines_of text.now)) }
+    ensures { GivesEvents (λ events. events_of events.items) result (events_from 1 (lines_of text.now)) }
 {
     let mut events = Vec::new(alloc);
     for (i, line) in text.split(|b| *b == b'\n').enumerate() {
@@ -222,7 +224,7 @@ fn read_lines(alloc: Global, text: &[u8]) -> Result<Vec<Event>, ReadFault>
 /// too long, whatever it says. Empty lines and lines that begin with `#` say nothing.
 #[tactic(auto, unfolding(crate::specs::Lines::read))]
 pub fn read_events(alloc: Global, text: &[u8]) -> Result<Vec<Event>, ReadFault>
-    ensures { Gives (λ events. events_of events.items) result (read text.now) }
+    ensures { GivesEvents (λ events. events_of events.items) result (read text.now) }
 {
     if text.len() > longest_input() {
         return Err(ReadFault::TooLong);

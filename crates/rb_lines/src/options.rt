@@ -1,11 +1,26 @@
 //! What the values of the options of `replay` mean, and those that `serve` has too.
 ghost use Rattle.std.specs.Prelude.{◌≡◌, ◌^◌};
-ghost use Rattle.rb_lines.specs.Fields.{decimal, host};
+ghost use Rattle.rb_lines.specs.Fields.{number_below, host};
 ghost use Rattle.rb_lines.specs.Options.{value_of, port, limits_of, beginning_of};
 
-use crate::fields::{decimal, host};
-use crate::running::Beginning;
-use rb_core::{Limits, Listener};
+use crate::fields::{host, number_below};
+use rb_model::Limits;
+use rb_proto::Listener;
+
+/// What the core of a replay begins with.
+#[derive(Clone, Copy, Debug, PartialEq, Eq)]
+pub struct Beginning {
+    /// How many connections, rows and forwarded calls there may be.
+    pub limits: Limits,
+    /// The host that answers show for 0.0.0.0, and the port.
+    pub listener: Listener,
+    /// The number of the first forwarded call.
+    pub first_xid: u32,
+    /// The first moment, in milliseconds since the start of 1970.
+    pub moment: u64,
+    /// Whether a last line has how many steps were taken, and how many may be.
+    pub steps: bool,
+}
 
 /// An option that has a value.
 #[derive(Clone, Copy, Debug, PartialEq, Eq)]
@@ -59,9 +74,9 @@ pub struct ReplayTexts<'a> {
 
 /// A number of 64 bits in decimal digits alone, leading zeros allowed. A sign is no digit.
 pub(crate) fn number(option: Valued, text: &str) -> Result<u64, Valued>
-    ensures { result ≡ value_of option (decimal (2 ^ 64) text.now) }
+    ensures { result ≡ value_of option (number_below (2 ^ 64) text.now) }
 {
-    decimal(text.as_bytes()).ok_or(option)
+    number_below(text.as_bytes()).ok_or(option)
 }
 
 /// An address in dotted decimal form.
@@ -72,9 +87,9 @@ pub(crate) fn address(option: Valued, text: &str) -> Result<[u8; 4], Valued>
 }
 
 /// A number of 32 bits.
-#[tactic(auto, unfolding(crate::specs::Fields::decimal))]
+#[tactic(auto, unfolding(crate::specs::Fields::number_below))]
 fn number32(option: Valued, text: &str) -> Result<u32, Valued>
-    ensures { result ≡ value_of option (decimal (2 ^ 32) text.now) }
+    ensures { result ≡ value_of option (number_below (2 ^ 32) text.now) }
 {
     let n = number(option, text)?;
     if n < 0x1_0000_0000 {
@@ -85,7 +100,7 @@ fn number32(option: Valued, text: &str) -> Result<u32, Valued>
 }
 
 /// A port from 1 to 65535. `Port` where the text is none.
-#[tactic(auto, unfolding(crate::specs::Fields::decimal))]
+#[tactic(auto, unfolding(crate::specs::Fields::number_below))]
 pub(crate) fn read_port(text: &str) -> Result<u16, Valued>
     ensures { result ≡ value_of Valued.Port (port text.now) }
 {

@@ -1,10 +1,10 @@
 //! The lines that are printed of a run.
 ghost use Rattle.std.specs.Prelude.{OnOk};
 ghost use Rattle.rb_model.specs.Plain.{output_of};
-ghost use Rattle.rb_record.specs.Printing.{text_of, Writes};
+ghost use Rattle.rb_record.specs.Printing.{output_text, Writes};
 ghost use Rattle.rb_lines.specs.Printing.{steps_line, report};
 
-use rb_core::Output;
+use rb_model::Output;
 use rb_record::{show, write_output};
 use std::io::Write;
 use thiserror::Error;
@@ -16,7 +16,7 @@ pub struct WriteFailed;
 
 /// Writes the line of an output. `WriteFailed` where the writer fails; how much of the line it has then is not known.
 pub fn print_output<W: Write>(output: &Output, writer: &mut W) -> Result<(), WriteFailed>
-    ensures { OnOk result (Writes W.contents writer.old writer.new (text_of (output_of output.now))) }
+    ensures { OnOk result (Writes W.contents writer.old writer.new (output_text (output_of output.now))) }
 {
     match write_output(&show(output), writer) {
         Ok(()) => Ok(()),
@@ -25,11 +25,7 @@ pub fn print_output<W: Write>(output: &Output, writer: &mut W) -> Result<(), Wri
 }
 
 /// Writes how many steps a run took, and how many it may.
-pub(crate) fn print_steps<W: Write>(
-    steps: u128,
-    bound: u128,
-    writer: &mut W,
-) -> Result<(), WriteFailed>
+pub fn print_steps<W: Write>(steps: u128, bound: u128, writer: &mut W) -> Result<(), WriteFailed>
     ensures { OnOk result (Writes W.contents writer.old writer.new (steps_line steps bound)) }
 {
     match writeln!(writer, "steps {steps} bound {bound}") {

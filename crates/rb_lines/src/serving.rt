@@ -2,10 +2,10 @@
 ghost use Rattle.std.specs.Prelude.{◌≡◌};
 ghost use Rattle.std.specs.List.{list_all};
 ghost use Rattle.rb_lines.specs.Options.{value_of};
-ghost use Rattle.rb_lines.specs.Serving.{Serves, address, default_of, announced, host_at, hosts_from, local, is_octal, mode, record_limit, rest_of, service_of, view, viewed};
+ghost use Rattle.rb_lines.specs.Serving.{Serves, address, default_of, read_announce, host_at, hosts_from, read_local, is_octal, read_mode, record_limit, rest_of, service_of, service_view, result_view};
 
 use crate::options::{Valued, address, number, read_limits, read_port};
-use rb_core::Limits;
+use rb_model::Limits;
 use std::alloc::Global;
 use std::net::Ipv4Addr;
 
@@ -113,7 +113,7 @@ fn ipv4(option: Valued, text: &str) -> Result<Ipv4Addr, Valued>
 
 /// The address that is announced, where one is given.
 fn read_announce(text: Option<&str>) -> Result<Option<Ipv4Addr>, Valued>
-    ensures { result ≡ announced text.entry }
+    ensures { result ≡ read_announce text.entry }
 {
     match text {
         Some(text) => Ok(Some(ipv4(Valued::Announce, text)?)),
@@ -151,7 +151,7 @@ fn read_hosts(alloc: Global, texts: &[&str]) -> Result<Vec<Ipv4Addr>, ServeFault
 
 /// The path of the local socket. One of no bytes or of more than 107 names no socket.
 fn read_local<'a>(text: Option<&'a str>) -> Result<Option<&'a str>, Valued>
-    ensures { result ≡ local text.entry }
+    ensures { result ≡ read_local text.entry }
 {
     let Some(path) = text else {
         return Ok(None);
@@ -170,7 +170,7 @@ fn is_octal(text: &str) -> bool
 
 /// The bits of a mode for owner, group and others, in octal digits alone.
 fn read_mode(text: &str) -> Result<u32, Valued>
-    ensures { result ≡ value_of Valued.LocalMode (mode text.now) }
+    ensures { result ≡ value_of Valued.LocalMode (read_mode text.now) }
 {
     if !is_octal(text) {
         return Err(Valued::LocalMode);
@@ -188,7 +188,7 @@ fn read_mode(text: &str) -> Result<u32, Valued>
 }
 
 /// The most bytes of a record.
-#[tactic(auto, unfolding(crate::specs::Fields::decimal))]
+#[tactic(auto, unfolding(crate::specs::Fields::number_below))]
 fn read_record_limit(text: &str) -> Result<usize, Valued>
     ensures { result ≡ value_of Valued.RecordLimit (record_limit text.now) }
 {
@@ -206,7 +206,7 @@ fn read_rest<'a>(
     hosts: Vec<Ipv4Addr>,
     texts: &ServeTexts<'_, 'a>,
 ) -> Result<Service<'a>, Valued>
-    ensures { viewed result ≡ rest_of announce hosts.items texts.now }
+    ensures { result_view result ≡ rest_of announce hosts.items texts.now }
 {
     let local = read_local(texts.local)?;
     let local_mode = read_mode(texts.local_mode)?;
@@ -236,7 +236,7 @@ pub fn read_service<'a>(
     alloc: Global,
     texts: &ServeTexts<'_, 'a>,
 ) -> Result<Service<'a>, ServeFault>
-    ensures { Serves view result (service_of texts.now) }
+    ensures { Serves service_view result (service_of texts.now) }
 {
     let announce = match read_announce(texts.announce) {
         Ok(announce) => announce,

@@ -2,7 +2,7 @@
 use Rattle.std.proofs.Common.{◌≡◌, ◌<◌, ◌≤◌, ◌+◌, ℕ, zero, suc, true, false, List, [], ◌∷◌, ◌++◌, length, take, drop, refl, sym, ap, ◌∙◌, append-nil, arith, inl, inr, length-append}
 use Rattle.std.proofs.lemmas.List.{length-take, length-drop}
 use Rattle.std.proofs.lemmas.Bool.{le-ltb, lt-ltb, cond-true, cond-false, cases_lt}
-use Rattle.rb_rpc.specs.Records.{Fragment, fragment_header, markings, fragment_size, cut_up, reply_fragments, marked}
+use Rattle.rb_rpc.specs.Records.{Fragment, fragment_header, markings, fragment_size, cut_up, reply_fragments, marked_reply}
 use Rattle.rb_rpc.proofs.Markings.{length-header}
 use Rattle.rb_model.specs.Connections.{longest_fragment}
 
@@ -43,19 +43,19 @@ cut_long (suc k) reply long enough =
     cond-true _ _ _ (lt-ltb fragment_size (length reply) long)
     ∙ ap (λ (more : List Fragment). front_of reply ∷ more) (cut_enough k (length (drop fragment_size reply)) (drop fragment_size reply) (omega (arith, enough, long, length-drop fragment_size reply)) (omega arith))
 
-pub marked-short : (reply : List ℕ) → length reply ≤ fragment_size → marked reply ≡ fragment_header (length reply) true ++ reply
-unfolding marked reply_fragments
+pub marked-short : (reply : List ℕ) → length reply ≤ fragment_size → marked_reply reply ≡ fragment_header (length reply) true ++ reply
+unfolding marked_reply reply_fragments
 marked-short reply few = ap (λ (f : List Fragment). markings f) (cut_short (length reply) reply few) ∙ append-nil _
 
 pub marked-long : (reply : List ℕ) → fragment_size < length reply
-    → marked reply ≡ (fragment_header fragment_size false ++ take fragment_size reply) ++ marked (drop fragment_size reply)
-unfolding marked reply_fragments
+    → marked_reply reply ≡ (fragment_header fragment_size false ++ take fragment_size reply) ++ marked_reply (drop fragment_size reply)
+unfolding marked_reply reply_fragments
 marked-long reply long =
     let size : length (take fragment_size reply) ≡ fragment_size = omega (arith, long, length-take fragment_size reply) in
     ap (λ (f : List Fragment). markings f) (cut_long (length reply) reply long (omega arith))
-    ∙ ap (λ (n : ℕ). (fragment_header n false ++ take fragment_size reply) ++ marked (drop fragment_size reply)) size
+    ∙ ap (λ (n : ℕ). (fragment_header n false ++ take fragment_size reply) ++ marked_reply (drop fragment_size reply)) size
 
-pub length-short : (reply : List ℕ) → length reply ≤ fragment_size → length (marked reply) ≡ 4 + length reply
+pub length-short : (reply : List ℕ) → length reply ≤ fragment_size → length (marked_reply reply) ≡ 4 + length reply
 length-short reply few =
     omega (arith, ap (λ (xs : List ℕ). length xs) (marked-short reply few), length-append (fragment_header (length reply) true) reply, length-header (length reply) true)
 
@@ -63,11 +63,11 @@ pub length-front : (reply : List ℕ) → fragment_size < length reply → lengt
 length-front reply long =
     omega (arith, long, length-append (fragment_header fragment_size false) (take fragment_size reply), length-header fragment_size false, length-take fragment_size reply)
 
-pub length-long : (reply : List ℕ) → fragment_size < length reply → length (marked reply) ≡ 1028 + length (marked (drop fragment_size reply))
+pub length-long : (reply : List ℕ) → fragment_size < length reply → length (marked_reply reply) ≡ 1028 + length (marked_reply (drop fragment_size reply))
 length-long reply long =
-    omega (arith, ap (λ (xs : List ℕ). length xs) (marked-long reply long), length-append (fragment_header fragment_size false ++ take fragment_size reply) (marked (drop fragment_size reply)), length-front reply long)
+    omega (arith, ap (λ (xs : List ℕ). length xs) (marked-long reply long), length-append (fragment_header fragment_size false ++ take fragment_size reply) (marked_reply (drop fragment_size reply)), length-front reply long)
 
-pub some-marked : (reply : List ℕ) → 4 ≤ length (marked reply)
+pub some-marked : (reply : List ℕ) → 4 ≤ length (marked_reply reply)
 some-marked reply =
     elim (cases_lt fragment_size (length reply)) [
       | inl long ↦ omega (arith, length-long reply long, long)

@@ -16,7 +16,7 @@ use Rattle.rb_proto.specs.declared.request.ArgumentFault.TheVariants as faults
 use Rattle.rb_proto.specs.declared.request.Request.{Request}
 use Rattle.rb_proto.specs.declared.context.Context.{Context}
 use Rattle.rb_proto.specs.Arguments.{read_request}
-use Rattle.rb_proto.specs.Ledger.{Ledger, called}
+use Rattle.rb_proto.specs.Ledger.{Ledger, with_call_noted}
 use Rattle.rb_proto.specs.declared.answers.Answer.{Answer}
 use Rattle.rb_proto.specs.declared.answers.Results.{Results}
 use Rattle.rb_proto.specs.declared.answers.Results.TheVariants as results
@@ -72,14 +72,14 @@ pub data Outcome : Type 0 where
 
 abbrev pub is_no_call : Outcome → Bool
 is_no_call NoCall = true
-is_no_call (Reply bytes began) = false
+is_no_call (Reply bytes stamp) = false
 is_no_call Forwarded = false
 is_no_call Silent = false
 
 -- no bytes where there is no reply
 abbrev pub reply_in : Outcome → List ℕ
 reply_in NoCall = []
-reply_in (Reply bytes began) = bytes
+reply_in (Reply bytes stamp) = bytes
 reply_in Forwarded = []
 reply_in Silent = []
 
@@ -88,12 +88,12 @@ unfoldable pub longest_reply : ℕ
 longest_reply = 9000
 
 -- a reply that does not fit is SYSTEM_ERR
-unfoldable pub fitting : ℕ → List ℕ → List ℕ
-fitting xid reply = if nat_lt longest_reply (length reply) then reply_head xid replies.SystemErr else reply
+unfoldable pub fitting_reply : ℕ → List ℕ → List ℕ
+fitting_reply xid reply = if nat_lt longest_reply (length reply) then reply_head xid replies.SystemErr else reply
 
 -- the reply with results
 abbrev pub success : ℕ → List ℕ → List ℕ
-success xid results = fitting xid (reply_head xid replies.Success ++ results)
+success xid results = fitting_reply xid (reply_head xid replies.Success ++ results)
 
 -- Results of these bytes, after so many changes: a list of rows is streamed on a connection, of any length.
 abbrev pub results_outcome : Caller → ℕ → ℕ → List ℕ → Results → Outcome
@@ -123,16 +123,16 @@ unfoldable pub outcome : Context → Message → List ℕ → Ledger → Outcome
 outcome context says.NoCall arguments ledger = (NoCall, ledger)
 outcome context (says.Refused head) arguments ledger = (Reply (reply_head head.xid head.status) None, ledger)
 outcome context (says.Garbage head) arguments ledger =
-    (Reply (reply_head head.xid replies.GarbageArgs) None, called head ledger)
+    (Reply (reply_head head.xid replies.GarbageArgs) None, with_call_noted head ledger)
 outcome context (says.Asked call) arguments ledger =
-    reply_with context call.head.xid (answer context call arguments (called call.head ledger))
+    reply_with context call.head.xid (answer context call arguments (with_call_noted call.head ledger))
 
 -- ---- the arguments that are kept of a record while it is read (RFC 5531 section 11)
 
 -- the greatest length of arguments that are served
-unfoldable pub longest_arguments : ℕ
-longest_arguments = 8816
+unfoldable pub longest_kept : ℕ
+longest_kept = 8816
 
 -- What is kept of a record with this data: the first bytes behind the head of its call, nothing where it is no call.
 abbrev pub kept_of : List ℕ → List ℕ
-kept_of content = take longest_arguments (arguments_of content)
+kept_of content = take longest_kept (arguments_of content)

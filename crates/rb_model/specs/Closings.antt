@@ -8,7 +8,7 @@ use Rattle.rb_model.specs.declared.message.Message.TheVariants as says
 use Rattle.rb_model.specs.Calls.{message_of}
 use Rattle.rb_model.specs.State.{Connection, State, at_moment}
 use Rattle.rb_model.specs.Connections.{fed_in, is_there}
-use Rattle.rb_model.specs.Losses.{is_due, began_in, retained_removals, asks_room}
+use Rattle.rb_model.specs.Losses.{is_due, stamp_in, retained_removals, asks_room}
 use Rattle.rb_model.specs.Step.{context_in, Event, step, IsReached}
 use Rattle.rb_model.specs.Step.Event.{Bytes, Closed, Datagram, Expire}
 use Rattle.rb_model.specs.Laws.{IsLive, IsLost}
@@ -59,9 +59,9 @@ pub record EndsForRoom (s : State) (c : Connection) (event : Event) : Type 0 whe
   pub brings : Brings s event now caller content
   pub asks : asks_room (context_in (at_moment now s) caller) (message_of content) s.ledger ≡ true
   pub full : s.setting.limits.rows ≤ length (rows_in s.ledger) + length (retained_removals s.connections.all s.ledger)
-  pub began : ℕ
-  pub lists : began_in c.phase ≡ Some began
-  pub before : All (λ change. began < change) (retained_removals s.connections.all s.ledger)
+  pub stamp : ℕ
+  pub lists : stamp_in c.phase ≡ Some stamp
+  pub before : All (λ change. stamp < change) (retained_removals s.connections.all s.ledger)
 
 -- A live connection becomes Lost exactly by the end of a record that is no call, at its deadline, or for the room of a row,
 -- and is gone exactly by its close.

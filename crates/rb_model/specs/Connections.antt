@@ -3,7 +3,7 @@ use Rattle.std.specs.Prelude.{ℕ, ◌+◌, ◌-◌, ◌*◌, ◌/◌, ◌==◌,
 use Rattle.std.specs.Option.{option_map}
 use Rattle.std.specs.List.{list_any}
 use Rattle.rb_rpc.specs.declared.peer.Peer.{Peer}
-use Rattle.rb_rpc.specs.Records.{first_record, data_of, marked}
+use Rattle.rb_rpc.specs.Records.{first_record, data_of, marked_reply}
 use Rattle.rb_model.specs.declared.types.CoreFault.{CoreFault}
 use Rattle.rb_model.specs.declared.types.CoreFault.TheVariants.{Full, Gone, Spent}
 use Rattle.rb_model.specs.State.{Owed, Phase, Connection, Connections, State, greatest_number}
@@ -23,7 +23,7 @@ pending_of o = drop o.given (take (longest_fragment * (o.given / longest_fragmen
 
 -- a reply of which so many marked bytes were given
 abbrev pub owed_of : List ℕ → Option ℕ → ℕ → Owed
-owed_of reply began given = record { marked = marked reply; given = given; began = began }
+owed_of reply stamp given = record { marked = marked_reply reply; given = given; stamp = stamp }
 
 -- ---- bytes that arrive on one (RFC 5531 section 11)
 
@@ -57,8 +57,8 @@ taking_behind (Some fed) [] = TakesNone
 taking_behind (Some fed) (byte ∷ piece) = taking_on fed (byte ∷ piece)
 
 -- what a connection in this phase takes of the piece
-unfoldable pub taking : Phase → List ℕ → Taking
-taking phase piece = taking_behind (fed_in phase) piece
+unfoldable pub taking_of : Phase → List ℕ → Taking
+taking_of phase piece = taking_behind (fed_in phase) piece
 
 -- while a record is read, `since` is the moment of its first byte
 abbrev pub since_when_fed : ℕ → ℕ → Phase → ℕ
@@ -69,18 +69,18 @@ since_when_fed clock since Awaiting = since
 since_when_fed clock since Lost = since
 
 -- the connection after bytes with which no record ended
-unfoldable pub reading : ℕ → List ℕ → Connection → Connection
-reading clock fed c = record c { phase = Reading fed; since = since_when_fed clock c.since c.phase }
+unfoldable pub keep_reading : ℕ → List ℕ → Connection → Connection
+keep_reading clock fed c = record c { phase = Reading fed; since = since_when_fed clock c.since c.phase }
 
 abbrev pub phase_after : Outcome → Phase
 phase_after NoCall = Lost
-phase_after (Reply bytes began) = Owing (owed_of bytes began 0)
+phase_after (Reply bytes stamp) = Owing (owed_of bytes stamp 0)
 phase_after Forwarded = Awaiting
 phase_after Silent = Idle
 
 -- the connection once its record is answered, or the call that was forwarded for it has ended
-unfoldable pub settled : ℕ → Outcome → Connection → Connection
-settled clock given c = record c { phase = phase_after given; since = clock }
+unfoldable pub settle : ℕ → Outcome → Connection → Connection
+settle clock given c = record c { phase = phase_after given; since = clock }
 
 -- ---- bytes that are given on one
 
@@ -101,12 +101,12 @@ phase_when_given n Awaiting = Awaiting
 phase_when_given n Lost = Lost
 
 -- so many of the pending bytes were given; none leaves it as it was
-unfoldable pub when_given : ℕ → ℕ → Connection → Connection
-when_given clock n c = if n == 0 then c else record c { phase = phase_when_given n c.phase; since = clock }
+unfoldable pub with_given : ℕ → ℕ → Connection → Connection
+with_given clock n c = if n == 0 then c else record c { phase = phase_when_given n c.phase; since = clock }
 
 -- n bytes were given, or as many as are pending
-unfoldable pub giving : ℕ → ℕ → Connection → Unit {0} × Connection
-giving clock n c = (tt, when_given clock (min n (length (pending_in c.phase))) c)
+unfoldable pub give : ℕ → ℕ → Connection → Unit {0} × Connection
+give clock n c = (tt, with_given clock (min n (length (pending_in c.phase))) c)
 
 -- ---- all connections
 

@@ -6,7 +6,7 @@ use Rattle.rb_proto.specs.Costs.{note_cost, forward_cost, statistics_cost}
 use Rattle.rb_proto.specs.ListReplies.{part_room}
 use Rattle.rb_model.specs.Calls.{longest_reply, kept_of}
 use Rattle.rb_model.specs.State.{Connection, State}
-use Rattle.rb_model.specs.Connections.{Taking, taking, live_connection}
+use Rattle.rb_model.specs.Connections.{Taking, taking_of, live_connection}
 use Rattle.rb_model.specs.Connections.Taking.{TakesNone, GoesOn, Ends}
 use Rattle.rb_model.specs.Step.{Event, unsent_call, step}
 use Rattle.rb_model.specs.Step.Event.{Open, Bytes, Pending, Gave, Closed, NextLost, Datagram, Unsent, Sent, Forward, Expire}
@@ -130,8 +130,8 @@ record_cost sizes (Ends n content) = swap_cost + answer_cost sizes (length (kept
 abbrev pub bytes_cost : Sizes → List ℕ → Option Connection → ℕ
 bytes_cost sizes piece None = find_cost sizes.connections
 bytes_cost sizes piece (Some c) =
-    find_cost sizes.connections + take_cost (count_taken piece (taking c.phase piece)) + recount_cost
-    + record_cost sizes (taking c.phase piece)
+    find_cost sizes.connections + take_cost (count_taken piece (taking_of c.phase piece)) + recount_cost
+    + record_cost sizes (taking_of c.phase piece)
 
 -- to count bytes as given
 abbrev pub gave_cost : Sizes → ℕ

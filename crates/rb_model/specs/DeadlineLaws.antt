@@ -8,7 +8,7 @@ use Rattle.rb_model.specs.declared.types.Expired.{Expired}
 use Rattle.rb_model.specs.declared.types.Expired.TheVariants as expiries
 use Rattle.rb_model.specs.State.{State}
 use Rattle.rb_model.specs.Connections.{changed_at}
-use Rattle.rb_model.specs.Losses.{is_due, lost}
+use Rattle.rb_model.specs.Losses.{is_due, lose}
 use Rattle.rb_model.specs.Ending.{told_failed, tell, at_fresh_moment, expire}
 use Rattle.rb_model.specs.Step.{step, after, IsReached}
 use Rattle.rb_model.specs.Step.Event.{Expire}
@@ -39,7 +39,7 @@ pub record EntryEnded (now : ℕ) (s : State) (told : Told) (left : State) : Typ
 pub record ConnectionEnded (now : ℕ) (s : State) (id : ℕ) (left : State) : Type 0 where
   pub entries : NoEntryIsDue now s
   pub least : IsLeast (is_due (clock_at now s)) s.connections.all (Some id)
-  pub loses : left ≡ record (at_fresh_moment now s) { connections = changed_at id lost s.connections }
+  pub loses : left ≡ record (at_fresh_moment now s) { connections = changed_at id lose s.connections }
 
 -- No entry and no connection is due. Nothing has changed but the clock and the last reply.
 pub record NothingEnded (now : ℕ) (s : State) (left : State) : Type 0 where

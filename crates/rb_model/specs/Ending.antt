@@ -13,15 +13,15 @@ use Rattle.rb_forward.specs.declared.types.Ended as entry
 use Rattle.rb_proto.specs.declared.answers.Answer.{Answer}
 use Rattle.rb_proto.specs.declared.answers.Answer.TheVariants as answers
 use Rattle.rb_proto.specs.Ledger.{Ledger}
-use Rattle.rb_proto.specs.Forwarding.{refusal, replied, fell_due, forwarded_bytes}
+use Rattle.rb_proto.specs.Forwarding.{refusal, target_replied, fell_due, forwarded_bytes}
 use Rattle.rb_model.specs.declared.types.Told.TheVariants.{TcpReady, Datagram}
 use Rattle.rb_model.specs.declared.types.Told.TheVariants as told
 use Rattle.rb_model.specs.declared.types.Expired.TheVariants.{Nothing, Ended, ConnectionClosed}
 use Rattle.rb_model.specs.State.{Connections, State, at_moment}
 use Rattle.rb_model.specs.Calls.{Outcome, reply_in, success}
 use Rattle.rb_model.specs.Calls.Outcome.{NoCall, Reply, Forwarded, Silent}
-use Rattle.rb_model.specs.Connections.{settled, on_connection}
-use Rattle.rb_model.specs.Losses.{expiring}
+use Rattle.rb_model.specs.Connections.{settle, on_connection}
+use Rattle.rb_model.specs.Losses.{expire_first}
 pub use Rattle.rb_model.specs.declared.types.Told.{Told}
 pub use Rattle.rb_model.specs.declared.types.Expired.{Expired}
 
@@ -50,7 +50,7 @@ abbrev pub told_at : List ℕ → entry.Ended → Outcome
 told_at message ended = told_of ended.forward message ended.outcome
 
 abbrev pub told_over_udp : Peer → Outcome → Told
-told_over_udp peer (Reply reply began) = Datagram peer
+told_over_udp peer (Reply reply stamp) = Datagram peer
 told_over_udp peer NoCall = told.Silent
 told_over_udp peer Forwarded = told.Silent
 told_over_udp peer Silent = told.Silent
@@ -59,7 +59,7 @@ told_over_udp peer Silent = told.Silent
 
 -- A caller is told this at the end of its call. A connection goes on with it; over UDP it is the last reply.
 abbrev pub tell : Caller → Outcome → State → Told × State
-tell (Tcp id peer) said s = (TcpReady id, on_connection id (settled s.clock said) s)
+tell (Tcp id peer) said s = (TcpReady id, on_connection id (settle s.clock said) s)
 tell (Udp peer) said s = (told_over_udp peer said, record s { reply = reply_in said })
 
 -- An entry has ended, if there is one, and this is the ledger after it: its caller is told how it ended. `message` is
@@ -77,7 +77,7 @@ at_fresh_moment now s = record (at_moment now s) { reply = [] }
 -- A datagram comes in where forwarded calls are sent from: None where it is no reply to an entry.
 unfoldable pub forward_reply : State → ℕ → Peer → List ℕ → Option Told × State
 forward_reply s now from message =
-    tell_end message (at_fresh_moment now s) (replied s.setting.first_xid (max s.clock now) from message s.ledger)
+    tell_end message (at_fresh_moment now s) (target_replied s.setting.first_xid (max s.clock now) from message s.ledger)
 
 abbrev pub closed_as : Option ℕ → Expired
 closed_as None = Nothing
@@ -86,7 +86,7 @@ closed_as (Some id) = ConnectionClosed id
 -- The due connection of least number becomes Lost, if there is one.
 unfoldable pub expire_connection : State → Expired × State
 expire_connection s =
-    let after : Option ℕ × Connections = expiring s.clock s.connections in
+    let after : Option ℕ × Connections = expire_first s.clock s.connections in
     (closed_as after.0, record s { connections = after.1 })
 
 abbrev pub expired_as : Option Told × State → Expired × State

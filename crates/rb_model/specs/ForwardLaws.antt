@@ -18,7 +18,7 @@ use Rattle.rb_model.specs.Calls.{Outcome, reply_in}
 use Rattle.rb_model.specs.Calls.Outcome.{NoCall, Reply, Forwarded, Silent}
 use Rattle.rb_model.specs.State.{Connection, State, opening}
 use Rattle.rb_model.specs.Laws.{is_awaiting}
-use Rattle.rb_model.specs.Connections.{settled, live_connection, changed_at}
+use Rattle.rb_model.specs.Connections.{settle, live_connection, changed_at}
 use Rattle.rb_model.specs.Ending.{told_at, told_over_udp, at_fresh_moment, forward_reply, expire}
 use Rattle.rb_model.specs.Step.{Event, Output, Output as outputs, step, after, IsReached}
 use Rattle.rb_model.specs.Step.Event.{Forward, Expire}
@@ -43,7 +43,7 @@ ConnectionsAwait =
 -- Its caller is told this, and nobody else: a connection goes on with it, or it is the reply over UDP.
 abbrev pub CallerGets : State → ℕ → Outcome → Caller → Told → State → Type 0
 CallerGets s clock said (Tcp id peer) told after =
-    (told ≡ TcpReady id) × (after.connections ≡ changed_at id (settled clock said) s.connections) × (after.reply ≡ [])
+    (told ≡ TcpReady id) × (after.connections ≡ changed_at id (settle clock said) s.connections) × (after.reply ≡ [])
 CallerGets s clock said (Udp peer) told after =
     (told ≡ told_over_udp peer said) × (after.connections ≡ s.connections) × (after.reply ≡ reply_in said)
 
@@ -94,7 +94,7 @@ DeadlinesEndOne = (s : State) (now : ℕ) → EndsByDeadline s now (expire s now
 
 -- the output with what they are told
 abbrev pub later_output : Peer → Outcome → Output
-later_output peer (Reply reply began) = RepliedTo peer reply
+later_output peer (Reply reply stamp) = RepliedTo peer reply
 later_output peer NoCall = outputs.Silent
 later_output peer Forwarded = outputs.Silent
 later_output peer Silent = outputs.Silent

@@ -159,16 +159,16 @@ said_to a record_bytes =
 
 -- Its whole reply, marked, is owed from this moment on; or it is forwarded, and awaited; or it stays without a reply, and
 -- the connection is Idle; or it is no call, and no connection of the number is live.
-abbrev pub IsSettled : Arrival → Outcome → Type 0
-IsSettled a (Reply reply began) = IsNow a (Owing (owed_of reply began 0)) (clock_of a)
-IsSettled a Forwarded = IsNow a Awaiting (clock_of a)
-IsSettled a Silent = IsNow a Idle (clock_of a)
-IsSettled a NoCall = live_connection a.id (state_after a).connections.all ≡ None
+abbrev pub GoesOnWith : Arrival → Outcome → Type 0
+GoesOnWith a (Reply reply stamp) = IsNow a (Owing (owed_of reply stamp 0)) (clock_of a)
+GoesOnWith a Forwarded = IsNow a Awaiting (clock_of a)
+GoesOnWith a Silent = IsNow a Idle (clock_of a)
+GoesOnWith a NoCall = live_connection a.id (state_after a).connections.all ≡ None
 
 -- so many bytes of the piece are taken, with which a record ended that is answered so
 pub record IsAnswered (a : Arrival) (count : ℕ) (said : Outcome) : Type 0 where
   pub taken : taken_of a ≡ Ok (record { count = count; closed = is_no_call said })
-  pub settles : IsSettled a said
+  pub settles : GoesOnWith a said
 
 -- The first record ends with the last byte of the piece that is taken, and it is answered.
 pub record EndsRecord (a : Arrival) (fed : List ℕ) : Type 0 where
@@ -190,12 +190,12 @@ BytesAreTakenExactly =
 -- ---- replies are given whole
 
 -- what is still to be given
-unfoldable pub owed : Owed → List ℕ
-owed o = drop o.given o.marked
+unfoldable pub owed_bytes : Owed → List ℕ
+owed_bytes o = drop o.given o.marked
 
 -- what is still to be given
 abbrev pub owed_in : Phase → List ℕ
-owed_in (Owing o) = owed o
+owed_in (Owing o) = owed_bytes o
 owed_in Idle = []
 owed_in (Reading fed) = []
 owed_in Awaiting = []

@@ -10,6 +10,7 @@ pub mod Bounds
 pub mod Grammar
 pub mod Laws
 pub mod Sessions
+pub mod Exchanges
 pub mod DeadlineLaws
 pub mod ForwardLaws
 pub mod Closings

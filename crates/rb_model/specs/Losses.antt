@@ -58,33 +58,33 @@ first_due clock c = option_map (λ (x : Connection). x.number) (find (is_due clo
 -- ---- what becomes of it
 
 -- nothing else of it changes
-abbrev pub lost : Connection → Connection
-lost c = record c { phase = Lost }
+abbrev pub lose : Connection → Connection
+lose c = record c { phase = Lost }
 
 abbrev pub with_lost : Option ℕ → Connections → Connections
 with_lost None c = c
-with_lost (Some id) c = changed_at id lost c
+with_lost (Some id) c = changed_at id lose c
 
 -- The due connection of least number, if there is one, becomes Lost.
-unfoldable pub expiring : ℕ → Connections → Option ℕ × Connections
-expiring clock c = (first_due clock c, with_lost (first_due clock c) c)
+unfoldable pub expire_first : ℕ → Connections → Option ℕ × Connections
+expire_first clock c = (first_due clock c, with_lost (first_due clock c) c)
 
 -- ---- retained rows
 
 -- the stamp of the unfinished list on a connection: how many changes were accepted before it began
-abbrev pub began_in : Phase → Option ℕ
-began_in (Owing o) = o.began
-began_in Idle = None
-began_in (Reading fed) = None
-began_in Awaiting = None
-began_in Lost = None
+abbrev pub stamp_in : Phase → Option ℕ
+stamp_in (Owing o) = o.stamp
+stamp_in Idle = None
+stamp_in (Reading fed) = None
+stamp_in Awaiting = None
+stamp_in Lost = None
 
-unfoldable pub begins : List Connection → List ℕ
-begins all = filter_map (λ (c : Connection). began_in c.phase) all
+unfoldable pub list_stamps : List Connection → List ℕ
+list_stamps all = filter_map (λ (c : Connection). stamp_in c.phase) all
 
 -- some of these lists began before the change
 abbrev pub is_retained_for : List ℕ → ℕ → Bool
-is_retained_for begins change = list_any (λ n. nat_lt n change) begins
+is_retained_for stamps change = list_any (λ n. nat_lt n change) stamps
 
 -- the changes that removed rows, one for each row that was removed
 abbrev pub removals_by : Ledger → List ℕ
@@ -92,7 +92,7 @@ removals_by l = filter_map (λ (slot : Slot). slot.removed) (all_slots l.own l.c
 
 -- A removed row is retained where some unfinished list began before the change that removed it.
 unfoldable pub retained_removals : List Connection → Ledger → List ℕ
-retained_removals all l = filter (is_retained_for (begins all)) (removals_by l)
+retained_removals all l = filter (is_retained_for (list_stamps all)) (removals_by l)
 
 -- ---- room for a row
 
@@ -109,24 +109,24 @@ is_crowded limit all l = not (nat_lt (length (rows_in l) + length (retained_remo
 
 -- where a message wants room for a row and there is none, the changes that removed the retained rows, of which one
 -- has to go
-unfoldable pub crowding : Context → Message → List Connection → Ledger → List ℕ
-crowding context message all l =
+unfoldable pub removals_in_the_way : Context → Message → List Connection → Ledger → List ℕ
+removals_in_the_way context message all l =
     if asks_room context message l && is_crowded context.limit all l then retained_removals all l else []
 
 -- a list that began before the earliest of these changes, if there is one
 abbrev pub began_before : List ℕ → Option ℕ → Bool
-began_before [] began = false
+began_before [] stamp = false
 began_before (change ∷ changes) None = false
 began_before (change ∷ changes) (Some n) = list_all (λ later. nat_lt n later) (change ∷ changes)
 
-unfoldable pub evicted : List ℕ → Connection → Connection
-evicted changes c = if began_before changes (began_in c.phase) then lost c else c
+unfoldable pub evict_early : List ℕ → Connection → Connection
+evict_early changes c = if began_before changes (stamp_in c.phase) then lose c else c
 
-abbrev pub evicting : List ℕ → Connections → Connections
-evicting changes c = record c { all = map (evicted changes) c.all }
+abbrev pub evict : List ℕ → Connections → Connections
+evict changes c = record c { all = map (evict_early changes) c.all }
 
 -- Before a message is answered that wants room, the connections become Lost whose lists began before the earliest change
 -- that removed a retained row, where the live and the retained rows reach the limit.
 abbrev pub with_room : Context → Message → State → State
 with_room context message s =
-    record s { connections = evicting (crowding context message s.connections.all s.ledger) s.connections }
+    record s { connections = evict (removals_in_the_way context message s.connections.all s.ledger) s.connections }

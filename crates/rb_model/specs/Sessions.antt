@@ -4,12 +4,12 @@ use Rattle.std.specs.List.{flat_map}
 use Rattle.rb_xdr.specs.Xdr.{AreBytes}
 use Rattle.rb_rpc.specs.declared.peer.Caller.{Caller}
 use Rattle.rb_rpc.specs.declared.peer.Caller.TheVariants.{Tcp}
-use Rattle.rb_rpc.specs.Records.{first_record, data_of, marked}
+use Rattle.rb_rpc.specs.Records.{first_record, data_of, marked_reply}
 use Rattle.rb_rpc.specs.RecordLaws.{Records}
 use Rattle.rb_forward.specs.declared.types.Ended.{Ended}
 use Rattle.rb_forward.specs.Forwards.{is_connection}
 use Rattle.rb_proto.specs.declared.listener.Listener.{Listener}
-use Rattle.rb_proto.specs.Forwarding.{replied, fell_due}
+use Rattle.rb_proto.specs.Forwarding.{target_replied, fell_due}
 use Rattle.rb_model.specs.declared.types.CoreFault.{CoreFault}
 use Rattle.rb_model.specs.declared.types.Limits.{Limits}
 use Rattle.rb_model.specs.Calls.{Outcome}
@@ -93,7 +93,7 @@ told_ended id message (Some ended) = if is_connection id ended.forward.caller th
 -- what a connection is told by an event at which a forwarded call ends
 abbrev pub told_by : State → ℕ → Event → Option Outcome
 told_by s id (Forward now from message) =
-    told_ended id message (replied s.setting.first_xid (max s.clock now) from message s.ledger).0
+    told_ended id message (target_replied s.setting.first_xid (max s.clock now) from message s.ledger).0
 told_by s id (Expire now) = told_ended id [] (fell_due (max s.clock now) s.ledger).0
 told_by s id other = None
 
@@ -109,44 +109,44 @@ with_told (Some said) calls = with_last_told said calls
 
 -- ---- whole runs
 
-abbrev pub nothing_passed : Session
-nothing_passed = record { taken = []; given = []; unfinished = []; calls = [] }
+abbrev pub empty_session : Session
+empty_session = record { taken = []; given = []; unfinished = []; calls = [] }
 
 -- the session once the bytes `more` were taken and the bytes `gave` were given
-abbrev pub passed : State → ℕ → List ℕ → List ℕ → Session → Session
-passed s id more gave t = record {
+abbrev pub session_with : State → ℕ → List ℕ → List ℕ → Session → Session
+session_with s id more gave t = record {
   taken = t.taken ++ more;
   given = t.given ++ gave;
   unfinished = left_behind (t.unfinished ++ more) (first_record (t.unfinished ++ more));
   calls = t.calls ++ calls_ended s id (t.unfinished ++ more) (first_record (t.unfinished ++ more));
 }
 
-abbrev pub passed_by : State → ℕ → Event → Session → Session
-passed_by s id event t =
+abbrev pub session_after : State → ℕ → Event → Session → Session
+session_after s id event t =
     let output : Output = (step s event).0 in
-    let after : Session = passed (at_event event s) id (taken_by id event output) (given_by s id event output) t in
+    let after : Session = session_with (at_event event s) id (taken_by id event output) (given_by s id event output) t in
     record after { calls = with_told (told_by s id event) after.calls }
 
 abbrev pub session_from : State → ℕ → Session → List Event → Session
 session_from s id t [] = t
 session_from s id t (event ∷ events) =
-    session_from (step s event).1 id (passed_by s id event t) events
+    session_from (step s event).1 id (session_after s id event t) events
 
 -- what passes on the connection of a number
 abbrev pub session : State → ℕ → List Event → Session
-session s id events = session_from s id nothing_passed events
+session s id events = session_from s id empty_session events
 
 -- ---- the law
 
-abbrev pub marked_reply : Outcome → List ℕ
-marked_reply (Reply reply began) = marked reply
-marked_reply NoCall = []
-marked_reply Forwarded = []
-marked_reply Silent = []
+abbrev pub marked_reply_in : Outcome → List ℕ
+marked_reply_in (Reply reply stamp) = marked_reply reply
+marked_reply_in NoCall = []
+marked_reply_in Forwarded = []
+marked_reply_in Silent = []
 
 -- the replies to calls, each marked, joined
 abbrev pub replies_to : List Exchange → List ℕ
-replies_to calls = flat_map (λ call. marked_reply call.said) calls
+replies_to calls = flat_map (λ call. marked_reply_in call.said) calls
 
 -- the data of the records, in order
 abbrev pub contents_of : List Exchange → List (List ℕ)
@@ -154,7 +154,7 @@ contents_of calls = map (λ call. call.content) calls
 
 -- nothing more will be said: it has a reply, or is silent
 abbrev pub IsFinal : Outcome → Type 0
-IsFinal (Reply reply began) = ⊤
+IsFinal (Reply reply stamp) = ⊤
 IsFinal Silent = ⊤
 IsFinal NoCall = ⊥
 IsFinal Forwarded = ⊥

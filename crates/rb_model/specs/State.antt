@@ -21,7 +21,7 @@ pub record Setting : Type 0 where
 pub record Owed : Type 0 where
   pub marked : List ℕ
   pub given : ℕ
-  pub began : Option ℕ
+  pub stamp : Option ℕ
 
 -- the state of a connection: `Reading` has the bytes that came since the last record's end, `Awaiting` waits for the
 -- end of a forwarded call, and `Lost` is given up and to be closed

@@ -20,7 +20,7 @@ use Rattle.rb_model.specs.declared.types.Limits.{Limits}
 use Rattle.rb_model.specs.State.{Connection, Connections, State, opening, at_moment}
 use Rattle.rb_model.specs.Calls.{message_of, Outcome, Outcome as outcomes, is_no_call, reply_in, outcome}
 use Rattle.rb_model.specs.Losses.{with_room}
-use Rattle.rb_model.specs.Connections.{Taking, taking, reading, settled, pending_in, giving, live_connection, on_live, opening_of, first_lost, closing_of}
+use Rattle.rb_model.specs.Connections.{Taking, taking_of, keep_reading, settle, pending_in, give, live_connection, on_live, opening_of, first_lost, closing_of}
 use Rattle.rb_model.specs.Connections.Taking.{TakesNone, GoesOn, Ends}
 pub use Rattle.rb_model.specs.declared.types.Taken.{Taken}
 pub use Rattle.rb_model.specs.Connections.{on_connection}
@@ -54,19 +54,19 @@ serve s caller content = serve_message s caller (message_of content) (arguments_
 -- ---- connections
 
 -- A call on the connections at a moment: where it is refused the state stays, its clock too.
-abbrev pub moved : {A : Type 0} → ℕ → State → Result A CoreFault × Connections → Result A CoreFault × State
-moved now s (Err fault, connections) = (Err fault, s)
-moved now s (Ok x, connections) = (Ok x, record (at_moment now s) { connections = connections })
+abbrev pub unless_refused : {A : Type 0} → ℕ → State → Result A CoreFault × Connections → Result A CoreFault × State
+unless_refused now s (Err fault, connections) = (Err fault, s)
+unless_refused now s (Ok x, connections) = (Ok x, record (at_moment now s) { connections = connections })
 
 -- ---- bytes that arrive on a connection
 
 -- the connection goes on by the outcome; and whether it is Lost now, since the record is no call
-abbrev pub settled_in : ℕ → Outcome × State → Bool × State
-settled_in id (given, s) = (is_no_call given, on_connection id (settled s.clock given) s)
+abbrev pub settle_on : ℕ → Outcome × State → Bool × State
+settle_on id (given, s) = (is_no_call given, on_connection id (settle s.clock given) s)
 
 -- the data of a record on a connection is answered, and the connection goes on
-unfoldable pub answering : State → ℕ → Peer → List ℕ → Bool × State
-answering s id peer content = settled_in id (serve s (Tcp id peer) content)
+unfoldable pub serve_record : State → ℕ → Peer → List ℕ → Bool × State
+serve_record s id peer content = settle_on id (serve s (Tcp id peer) content)
 
 abbrev pub with_count : ℕ → Bool × State → Taken × State
 with_count n (closed, s) = (record { count = n; closed = closed }, s)
@@ -74,13 +74,13 @@ with_count n (closed, s) = (record { count = n; closed = closed }, s)
 -- Nothing is taken; or all, and no record ends; or all up to the end of a record, which is answered.
 abbrev pub when_taken : State → ℕ → List ℕ → Connection → Taking → Taken × State
 when_taken s id piece c TakesNone = (record { count = 0; closed = false }, s)
-when_taken s id piece c (GoesOn fed) = (record { count = length piece; closed = false }, on_connection id (reading s.clock fed) s)
-when_taken s id piece c (Ends n content) = with_count n (answering s id c.peer content)
+when_taken s id piece c (GoesOn fed) = (record { count = length piece; closed = false }, on_connection id (keep_reading s.clock fed) s)
+when_taken s id piece c (Ends n content) = with_count n (serve_record s id c.peer content)
 
 abbrev pub bytes_to : State → ℕ → ℕ → List ℕ → Option Connection → Result Taken CoreFault × State
 bytes_to s now id piece None = (Err Gone, s)
 bytes_to s now id piece (Some c) =
-    let after : Taken × State = when_taken (at_moment now s) id piece c (taking c.phase piece) in (Ok after.0, after.1)
+    let after : Taken × State = when_taken (at_moment now s) id piece c (taking_of c.phase piece) in (Ok after.0, after.1)
 
 unfoldable pub bytes : State → ℕ → ℕ → List ℕ → Result Taken CoreFault × State
 bytes s now id piece = bytes_to s now id piece (live_connection id s.connections.all)
@@ -101,7 +101,7 @@ pending s id = pending_at id s.connections
 
 -- n bytes of the current fragment were given, or all that were left of it
 unfoldable pub gave : State → ℕ → ℕ → ℕ → Result (Unit {0}) CoreFault × State
-gave s now id n = moved now s (on_live id (giving (max s.clock now) n) s.connections)
+gave s now id n = unless_refused now s (on_live id (give (max s.clock now) n) s.connections)
 
 -- more than is pending
 abbrev pub is_too_much : ℕ → Result (List ℕ) CoreFault → Bool
@@ -111,7 +111,7 @@ is_too_much n (Ok bytes) = nat_lt (length bytes) n
 -- ---- connections that come and go
 
 unfoldable pub open_connection : State → ℕ → Peer → Result ℕ CoreFault × State
-open_connection s now peer = moved now s (opening_of s.setting.limits.conns peer (max s.clock now) s.connections)
+open_connection s now peer = unless_refused now s (opening_of s.setting.limits.conns peer (max s.clock now) s.connections)
 
 -- where a connection is closed, the call that was forwarded for it ends
 abbrev pub dropped_with : State → ℕ → Result (Unit {0}) CoreFault × Connections → Result (Unit {0}) CoreFault × State
@@ -195,7 +195,7 @@ show_done u = Done
 -- The output of a datagram has its reply: the event is the call and the look at the reply after it.
 abbrev pub show_outcome : Outcome × State → Output × State
 show_outcome (outcomes.NoCall, s) = (Silent, s)
-show_outcome (outcomes.Reply reply began, s) = (Replied reply, s)
+show_outcome (outcomes.Reply reply stamp, s) = (Replied reply, s)
 show_outcome (outcomes.Forwarded, s) = (Forwarded, s)
 show_outcome (outcomes.Silent, s) = (Silent, s)
 

@@ -53,8 +53,8 @@ abbrev pub call2 : ℕ → ℕ → List ℕ → List ℕ
 call2 xid proc arguments = words (xid ∷ 0 ∷ 2 ∷ 0x186a0 ∷ 2 ∷ proc ∷ 0 ∷ 0 ∷ 0 ∷ 0 ∷ []) ++ words arguments
 
 -- an accepted reply with these words as its results
-abbrev pub accepted : ℕ → List ℕ → List ℕ
-accepted xid results = words (xid ∷ 1 ∷ 0 ∷ 0 ∷ 0 ∷ 0 ∷ []) ++ words results
+abbrev pub success_reply : ℕ → List ℕ → List ℕ
+success_reply xid results = words (xid ∷ 1 ∷ 0 ∷ 0 ∷ 0 ∷ 0 ∷ []) ++ words results
 
 abbrev pub NullIsAnswered : Type 0
 NullIsAnswered =
@@ -64,7 +64,7 @@ NullIsAnswered =
 -- the port mapper's own port, by its greatest version
 abbrev pub OwnRowsAreAsked : Type 0
 OwnRowsAreAsked =
-    run fresh (Datagram 0 loopback (call2 7 3 (100000 ∷ 9 ∷ 6 ∷ 0 ∷ [])) ∷ []) ≡ Replied (accepted 7 (0x6f ∷ [])) ∷ []
+    run fresh (Datagram 0 loopback (call2 7 3 (100000 ∷ 9 ∷ 6 ∷ 0 ∷ [])) ∷ []) ≡ Replied (success_reply 7 (0x6f ∷ [])) ∷ []
 
 -- at a limit of eight rows there is room for two behind the own ones
 abbrev pub LimitIsReached : Type 0
@@ -74,7 +74,7 @@ LimitIsReached =
     ∷ Datagram 0 loopback (call2 2 1 (200002 ∷ 1 ∷ 6 ∷ 2049 ∷ []))
     ∷ Datagram 0 loopback (call2 3 1 (200003 ∷ 1 ∷ 6 ∷ 2049 ∷ []))
     ∷ [])
-    ≡ Replied (accepted 1 (1 ∷ [])) ∷ Replied (accepted 2 (1 ∷ [])) ∷ Replied (accepted 3 (0 ∷ [])) ∷ []
+    ≡ Replied (success_reply 1 (1 ∷ [])) ∷ Replied (success_reply 2 (1 ∷ [])) ∷ Replied (success_reply 3 (0 ∷ [])) ∷ []
 
 -- a SET is accepted from the listener's own host, and not from another
 abbrev pub LocalCallersSet : Type 0
@@ -83,7 +83,7 @@ LocalCallersSet =
     (Datagram 0 (record { host = 198 ∷ 51 ∷ 100 ∷ 7 ∷ []; port = 900 }) (call2 3 1 (200001 ∷ 1 ∷ 6 ∷ 2049 ∷ []))
     ∷ Datagram 0 (record { host = 192 ∷ 0 ∷ 2 ∷ 1 ∷ []; port = 900 }) (call2 3 1 (200001 ∷ 1 ∷ 6 ∷ 2049 ∷ []))
     ∷ [])
-    ≡ Replied (accepted 3 (0 ∷ [])) ∷ Replied (accepted 3 (1 ∷ [])) ∷ []
+    ≡ Replied (success_reply 3 (0 ∷ [])) ∷ Replied (success_reply 3 (1 ∷ [])) ∷ []
 
 abbrev pub NothingIsSilent : Type 0
 NothingIsSilent = run fresh (Datagram 0 loopback [] ∷ []) ≡ Silent ∷ []
@@ -105,20 +105,20 @@ call_by_none xid prog vers proc = words (xid ∷ 0 ∷ 2 ∷ prog ∷ vers ∷ p
 abbrev pub refused_by : ℕ → ℕ → List ℕ → List Output
 refused_by xid stat more = Replied (words (xid ∷ 1 ∷ 0 ∷ 0 ∷ 0 ∷ stat ∷ []) ++ words more) ∷ []
 
-abbrev pub denied : List ℕ → List Output
-denied reply = Replied (words reply) ∷ []
+abbrev pub denied_reply : List ℕ → List Output
+denied_reply reply = Replied (words reply) ∷ []
 
 abbrev pub NullBySys : Type 0
-NullBySys = answer_to (call_by_sys 1 2 0 500) ≡ Replied (accepted 1 []) ∷ []
+NullBySys = answer_to (call_by_sys 1 2 0 500) ≡ Replied (success_reply 1 []) ∷ []
 
 abbrev pub NullOfThree : Type 0
-NullOfThree = answer_to (call_by_none 1 100000 3 0) ≡ Replied (accepted 1 []) ∷ []
+NullOfThree = answer_to (call_by_none 1 100000 3 0) ≡ Replied (success_reply 1 []) ∷ []
 
 abbrev pub NullOfFour : Type 0
-NullOfFour = answer_to (call_by_none 1 100000 4 0) ≡ Replied (accepted 1 []) ∷ []
+NullOfFour = answer_to (call_by_none 1 100000 4 0) ≡ Replied (success_reply 1 []) ∷ []
 
 abbrev pub OtherRpcVersion : Type 0
-OtherRpcVersion = answer_to (words (5 ∷ 0 ∷ 3 ∷ [])) ≡ denied (5 ∷ 1 ∷ 1 ∷ 0 ∷ 2 ∷ 2 ∷ [])
+OtherRpcVersion = answer_to (words (5 ∷ 0 ∷ 3 ∷ [])) ≡ denied_reply (5 ∷ 1 ∷ 1 ∷ 0 ∷ 2 ∷ 2 ∷ [])
 
 abbrev pub TooShort : Type 0
 TooShort = answer_to (words (5 ∷ 0 ∷ [])) ≡ Silent ∷ []
@@ -128,18 +128,18 @@ abbrev pub with_credential : ℕ → ℕ → List ℕ
 with_credential says count = words (9 ∷ 0 ∷ 2 ∷ 100000 ∷ 2 ∷ 0 ∷ 0 ∷ says ∷ []) ++ replicate count 0 ++ words (0 ∷ 0 ∷ [])
 
 abbrev pub GreatestCredential : Type 0
-GreatestCredential = answer_to (with_credential 400 400) ≡ Replied (accepted 9 []) ∷ []
+GreatestCredential = answer_to (with_credential 400 400) ≡ Replied (success_reply 9 []) ∷ []
 
 abbrev pub OverlongCredential : Type 0
-OverlongCredential = answer_to (with_credential 401 400) ≡ denied (9 ∷ 1 ∷ 1 ∷ 1 ∷ 1 ∷ [])
+OverlongCredential = answer_to (with_credential 401 400) ≡ denied_reply (9 ∷ 1 ∷ 1 ∷ 1 ∷ 1 ∷ [])
 
 -- the body ends before its gids
 abbrev pub SysBodyCutShort : Type 0
 SysBodyCutShort =
-    answer_to (words (11 ∷ 0 ∷ 2 ∷ 100000 ∷ 2 ∷ 0 ∷ 1 ∷ 16 ∷ 0 ∷ 0 ∷ 500 ∷ 0 ∷ 0 ∷ 0 ∷ [])) ≡ denied (11 ∷ 1 ∷ 1 ∷ 1 ∷ 1 ∷ [])
+    answer_to (words (11 ∷ 0 ∷ 2 ∷ 100000 ∷ 2 ∷ 0 ∷ 1 ∷ 16 ∷ 0 ∷ 0 ∷ 500 ∷ 0 ∷ 0 ∷ 0 ∷ [])) ≡ denied_reply (11 ∷ 1 ∷ 1 ∷ 1 ∷ 1 ∷ [])
 
 abbrev pub OverlongVerifier : Type 0
-OverlongVerifier = answer_to (words (12 ∷ 0 ∷ 2 ∷ 100000 ∷ 2 ∷ 0 ∷ 0 ∷ 0 ∷ 0 ∷ 401 ∷ [])) ≡ denied (12 ∷ 1 ∷ 1 ∷ 1 ∷ 3 ∷ [])
+OverlongVerifier = answer_to (words (12 ∷ 0 ∷ 2 ∷ 100000 ∷ 2 ∷ 0 ∷ 0 ∷ 0 ∷ 0 ∷ 401 ∷ [])) ≡ denied_reply (12 ∷ 1 ∷ 1 ∷ 1 ∷ 3 ∷ [])
 
 -- a credential of one byte, behind which stand three residual ones
 abbrev pub with_residue : ℕ → List ℕ
@@ -149,11 +149,11 @@ abbrev pub BadResidue : Type 0
 BadResidue = answer_to (with_residue 0xff000001) ≡ Silent ∷ []
 
 abbrev pub GoodResidue : Type 0
-GoodResidue = answer_to (with_residue 0xff000000) ≡ Replied (accepted 13 []) ∷ []
+GoodResidue = answer_to (with_residue 0xff000000) ≡ Replied (success_reply 13 []) ∷ []
 
 -- RPCSEC_GSS is refused whatever the program
 abbrev pub GssBeforeProgram : Type 0
-GssBeforeProgram = answer_to (words (10 ∷ 0 ∷ 2 ∷ 200009 ∷ 2 ∷ 0 ∷ 6 ∷ 0 ∷ 0 ∷ 0 ∷ [])) ≡ denied (10 ∷ 1 ∷ 1 ∷ 1 ∷ 2 ∷ [])
+GssBeforeProgram = answer_to (words (10 ∷ 0 ∷ 2 ∷ 200009 ∷ 2 ∷ 0 ∷ 6 ∷ 0 ∷ 0 ∷ 0 ∷ [])) ≡ denied_reply (10 ∷ 1 ∷ 1 ∷ 1 ∷ 2 ∷ [])
 
 abbrev pub OtherVersion : Type 0
 OtherVersion = answer_to (call_by_none 25 100000 5 0) ≡ refused_by 25 2 (2 ∷ 4 ∷ [])
@@ -167,7 +167,7 @@ GarbageArguments = answer_to (call_by_none 25 100000 2 1 ++ words (0 ∷ 0 ∷ 0
 
 -- GETSTAT as the first call: info[12] of version 4 is 1
 abbrev pub GetstatFirstCall : Type 0
-GetstatFirstCall = answer_to (call_by_none 23 100000 4 12) ≡ Replied (accepted 23 (replicate 46 0 ++ 1 ∷ replicate 4 0)) ∷ []
+GetstatFirstCall = answer_to (call_by_none 23 100000 4 12) ≡ Replied (success_reply 23 (replicate 46 0 ++ 1 ∷ replicate 4 0)) ∷ []
 
 -- a SET whose arguments are cut short is counted, and an unknown procedure and another version are not
 abbrev pub GetstatOfRefusals : Type 0
@@ -177,7 +177,7 @@ GetstatOfRefusals =
     ∷ Datagram 0 loopback (call_by_none 2 100000 2 6) ∷ Datagram 0 loopback (call_by_none 3 100000 5 1)
     ∷ Datagram 0 loopback (call_by_none 4 100000 4 12) ∷ [])
     ≡ refused_by 1 4 [] ++ refused_by 2 3 [] ++ refused_by 3 2 (2 ∷ 4 ∷ [])
-    ++ Replied (accepted 4 (0 ∷ 1 ∷ replicate 44 0 ++ 1 ∷ replicate 4 0)) ∷ []
+    ++ Replied (success_reply 4 (0 ∷ 1 ∷ replicate 44 0 ++ 1 ∷ replicate 4 0)) ∷ []
 
 abbrev pub OtherProgram : Type 0
 OtherProgram = answer_to (call_by_none 25 200001 2 0) ≡ refused_by 25 1 []

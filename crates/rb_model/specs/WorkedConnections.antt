@@ -9,10 +9,10 @@ use Rattle.rb_model.specs.Step.Event.{Open, Bytes, Pending, Gave, Closed, NextLo
 use Rattle.rb_model.specs.Step.Output.{Opened, Refused, TooMuch, Took, TookAndClosed, IsPending, Done, LostIs}
 use Rattle.rb_model.specs.Calls.Outcome.{NoCall, Reply}
 use Rattle.rb_model.specs.Sessions.{Exchange, session}
-use Rattle.rb_model.specs.Worked.{loopback, fresh, accepted, call_by_none}
+use Rattle.rb_model.specs.Worked.{loopback, fresh, success_reply, call_by_none}
 
-abbrev pub opens : Event
-opens = Open 0 loopback
+abbrev pub open_event : Event
+open_event = Open 0 loopback
 
 -- NULL of version 2
 abbrev pub null_call : ℕ → List ℕ
@@ -24,7 +24,7 @@ in_one bytes = words ((2 ^ 31 + length bytes) ∷ []) ++ bytes
 
 -- the reply to a NULL of this number, marked
 abbrev pub null_reply : ℕ → List ℕ
-null_reply xid = words (0x80000018 ∷ []) ++ accepted xid []
+null_reply xid = words (0x80000018 ∷ []) ++ success_reply xid []
 
 -- the bytes one by one
 abbrev pub one_by_one : List ℕ → List Event
@@ -35,60 +35,60 @@ one_by_one bytes = map (λ b. Bytes 0 1 (b ∷ [])) bytes
 abbrev pub NoCallCloses : Type 0
 NoCallCloses =
     run fresh
-    (opens ∷ Bytes 0 1 (words (0x80000008 ∷ 5 ∷ 0 ∷ [])) ∷ NextLost ∷ Pending 1 ∷ Closed 1 ∷ NextLost ∷ [])
+    (open_event ∷ Bytes 0 1 (words (0x80000008 ∷ 5 ∷ 0 ∷ [])) ∷ NextLost ∷ Pending 1 ∷ Closed 1 ∷ NextLost ∷ [])
     ≡ Opened 1 ∷ TookAndClosed 12 ∷ LostIs (Some 1) ∷ Refused Gone ∷ Done ∷ LostIs None ∷ []
 
 abbrev pub OtherRpcVersionOnTcp : Type 0
 OtherRpcVersionOnTcp =
-    run fresh (opens ∷ Bytes 0 1 (words (0x8000000c ∷ 5 ∷ 0 ∷ 3 ∷ [])) ∷ Pending 1 ∷ [])
+    run fresh (open_event ∷ Bytes 0 1 (words (0x8000000c ∷ 5 ∷ 0 ∷ 3 ∷ [])) ∷ Pending 1 ∷ [])
     ≡ Opened 1 ∷ Took 16 ∷ IsPending (words (0x80000018 ∷ 5 ∷ 1 ∷ 1 ∷ 0 ∷ 2 ∷ 2 ∷ [])) ∷ []
 
 -- 40 fragments of one byte, an empty one between each two, and an empty last one
-abbrev pub crumbs : List ℕ → List ℕ
-crumbs [] = []
-crumbs (b ∷ []) = words (1 ∷ []) ++ b ∷ [] ++ words (0x80000000 ∷ [])
-crumbs (b ∷ c ∷ bytes) = words (1 ∷ []) ++ b ∷ [] ++ words (0 ∷ []) ++ crumbs (c ∷ bytes)
+abbrev pub single_byte_fragments : List ℕ → List ℕ
+single_byte_fragments [] = []
+single_byte_fragments (b ∷ []) = words (1 ∷ []) ++ b ∷ [] ++ words (0x80000000 ∷ [])
+single_byte_fragments (b ∷ c ∷ bytes) = words (1 ∷ []) ++ b ∷ [] ++ words (0 ∷ []) ++ single_byte_fragments (c ∷ bytes)
 
-abbrev pub CrumbsInOnePiece : Type 0
-CrumbsInOnePiece =
-    run fresh (opens ∷ Bytes 0 1 (crumbs (null_call 1)) ∷ Pending 1 ∷ []) ≡ Opened 1 ∷ Took 360 ∷ IsPending (null_reply 1) ∷ []
+abbrev pub SingleByteFragmentsInOnePiece : Type 0
+SingleByteFragmentsInOnePiece =
+    run fresh (open_event ∷ Bytes 0 1 (single_byte_fragments (null_call 1)) ∷ Pending 1 ∷ []) ≡ Opened 1 ∷ Took 360 ∷ IsPending (null_reply 1) ∷ []
 
-abbrev pub CrumbsInSingleBytes : Type 0
-CrumbsInSingleBytes =
-    run fresh (opens ∷ one_by_one (take 359 (crumbs (null_call 1))) ++ Pending 1 ∷ [] ++ one_by_one (drop 359 (crumbs (null_call 1))) ++ Pending 1 ∷ [])
+abbrev pub SingleByteFragmentsByteByByte : Type 0
+SingleByteFragmentsByteByByte =
+    run fresh (open_event ∷ one_by_one (take 359 (single_byte_fragments (null_call 1))) ++ Pending 1 ∷ [] ++ one_by_one (drop 359 (single_byte_fragments (null_call 1))) ++ Pending 1 ∷ [])
     ≡ Opened 1 ∷ replicate 359 (Took 1) ++ IsPending [] ∷ Took 1 ∷ IsPending (null_reply 1) ∷ []
 
 -- so many pieces of seven bytes
-abbrev pub sevens : ℕ → List ℕ → List Event
-sevens zero bytes = []
-sevens (suc k) bytes = Bytes 0 1 (take 7 bytes) ∷ sevens k (drop 7 bytes)
+abbrev pub pieces_of_seven : ℕ → List ℕ → List Event
+pieces_of_seven zero bytes = []
+pieces_of_seven (suc k) bytes = Bytes 0 1 (take 7 bytes) ∷ pieces_of_seven k (drop 7 bytes)
 
-abbrev pub CrumbsInSevens : Type 0
-CrumbsInSevens =
-    run fresh (opens ∷ sevens 52 (crumbs (null_call 1)) ++ Pending 1 ∷ []) ≡ Opened 1 ∷ replicate 51 (Took 7) ++ Took 3 ∷ IsPending (null_reply 1) ∷ []
+abbrev pub SingleByteFragmentsInSevens : Type 0
+SingleByteFragmentsInSevens =
+    run fresh (open_event ∷ pieces_of_seven 52 (single_byte_fragments (null_call 1)) ++ Pending 1 ∷ []) ≡ Opened 1 ∷ replicate 51 (Took 7) ++ Took 3 ∷ IsPending (null_reply 1) ∷ []
 
 -- bytes behind the arguments are taken with the record, and count for nothing
 abbrev pub BytesBehindArguments : Type 0
 BytesBehindArguments =
-    run fresh (opens ∷ Bytes 0 1 (in_one (null_call 1 ++ replicate 10000 0xff)) ∷ Pending 1 ∷ [])
+    run fresh (open_event ∷ Bytes 0 1 (in_one (null_call 1 ++ replicate 10000 0xff)) ∷ Pending 1 ∷ [])
     ≡ Opened 1 ∷ Took 10044 ∷ IsPending (null_reply 1) ∷ []
 
 -- after the first record nothing more is taken until its reply is given
 abbrev pub OneRecordAtATime : Type 0
 OneRecordAtATime =
     run fresh
-    (opens ∷ Bytes 0 1 (in_one (null_call 1) ++ in_one (null_call 2)) ∷ Bytes 0 1 (in_one (null_call 2)) ∷ Gave 0 1 28
+    (open_event ∷ Bytes 0 1 (in_one (null_call 1) ++ in_one (null_call 2)) ∷ Bytes 0 1 (in_one (null_call 2)) ∷ Gave 0 1 28
     ∷ Bytes 0 1 (in_one (null_call 2)) ∷ Pending 1 ∷ [])
     ≡ Opened 1 ∷ Took 44 ∷ Took 0 ∷ Done ∷ Took 44 ∷ IsPending (null_reply 2) ∷ []
 
 -- what passed on the connection then
 abbrev pub null_called : ℕ → Exchange
-null_called xid = record { content = null_call xid; said = Reply (accepted xid []) None }
+null_called xid = record { content = null_call xid; said = Reply (success_reply xid []) None }
 
 abbrev pub OneRecordAtATimePasses : Type 0
 OneRecordAtATimePasses =
     session fresh 1
-    (opens ∷ Bytes 0 1 (in_one (null_call 1) ++ in_one (null_call 2)) ∷ Bytes 0 1 (in_one (null_call 2)) ∷ Gave 0 1 28
+    (open_event ∷ Bytes 0 1 (in_one (null_call 1) ++ in_one (null_call 2)) ∷ Bytes 0 1 (in_one (null_call 2)) ∷ Gave 0 1 28
     ∷ Bytes 0 1 (in_one (null_call 2) ++ in_one (null_call 3)) ∷ Gave 0 1 3 ∷ Bytes 0 1 (in_one (null_call 3)) ∷ Gave 0 1 25
     ∷ Bytes 0 1 (take 7 (in_one (null_call 3))) ∷ [])
     ≡ record {
@@ -106,7 +106,7 @@ no_call = words (5 ∷ 0 ∷ [])
 abbrev pub NoCallPasses : Type 0
 NoCallPasses =
     session fresh 1
-    (opens ∷ Bytes 0 1 (in_one (null_call 1)) ∷ Gave 0 1 28 ∷ Bytes 0 1 (in_one no_call ++ in_one (null_call 2))
+    (open_event ∷ Bytes 0 1 (in_one (null_call 1)) ∷ Gave 0 1 28 ∷ Bytes 0 1 (in_one no_call ++ in_one (null_call 2))
     ∷ Bytes 0 1 (in_one (null_call 2)) ∷ [])
     ≡ record {
       taken = in_one (null_call 1) ++ in_one no_call;
@@ -120,12 +120,12 @@ NoCallPasses =
 abbrev pub GivenInParts : Type 0
 GivenInParts =
     run fresh
-    (opens ∷ Bytes 0 1 (in_one (null_call 1)) ∷ Gave 0 1 0 ∷ Pending 1 ∷ Gave 0 1 3 ∷ Pending 1 ∷ Gave 0 1 25 ∷ Pending 1 ∷ [])
+    (open_event ∷ Bytes 0 1 (in_one (null_call 1)) ∷ Gave 0 1 0 ∷ Pending 1 ∷ Gave 0 1 3 ∷ Pending 1 ∷ Gave 0 1 25 ∷ Pending 1 ∷ [])
     ≡ Opened 1 ∷ Took 44 ∷ Done ∷ IsPending (null_reply 1) ∷ Done ∷ IsPending (drop 3 (null_reply 1)) ∷ Done ∷ IsPending [] ∷ []
 
 abbrev pub TooMuchIsRefused : Type 0
 TooMuchIsRefused =
-    run fresh (opens ∷ Bytes 0 1 (in_one (null_call 1)) ∷ Gave 0 1 29 ∷ Pending 1 ∷ Bytes 0 7 [] ∷ [])
+    run fresh (open_event ∷ Bytes 0 1 (in_one (null_call 1)) ∷ Gave 0 1 29 ∷ Pending 1 ∷ Bytes 0 7 [] ∷ [])
     ≡ Opened 1 ∷ Took 44 ∷ TooMuch ∷ IsPending (null_reply 1) ∷ Refused Gone ∷ []
 
 -- ---- openings
@@ -144,5 +144,5 @@ with_one_place = opening (limits 1 300 4) (record { host = 192 ∷ 0 ∷ 2 ∷ 1
 
 abbrev pub NumbersDoNotRecur : Type 0
 NumbersDoNotRecur =
-    run with_one_place (opens ∷ opens ∷ Closed 1 ∷ opens ∷ Closed 1 ∷ [])
+    run with_one_place (open_event ∷ open_event ∷ Closed 1 ∷ open_event ∷ Closed 1 ∷ [])
     ≡ Opened 1 ∷ Refused Full ∷ Done ∷ Opened 2 ∷ Refused Gone ∷ []

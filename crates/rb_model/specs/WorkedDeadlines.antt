@@ -6,18 +6,18 @@ use Rattle.rb_model.specs.State.{greatest_number}
 use Rattle.rb_model.specs.Step.{Event, Output, run}
 use Rattle.rb_model.specs.Step.Event.{Open, Bytes, Pending, Gave, Closed, NextLost, Datagram, Expire}
 use Rattle.rb_model.specs.Step.Output.{Opened, Refused, Took, Done, LostIs, Replied, Forwarded, Nothing, ConnectionClosed, RepliedTo}
-use Rattle.rb_model.specs.Worked.{loopback, fresh, call2, accepted, call_by_none}
-use Rattle.rb_model.specs.WorkedConnections.{opens, null_call, in_one}
+use Rattle.rb_model.specs.Worked.{loopback, fresh, call2, success_reply, call_by_none}
+use Rattle.rb_model.specs.WorkedConnections.{open_event, null_call, in_one}
 
 abbrev pub IdleEnds : Type 0
 IdleEnds =
-    run fresh (opens ∷ Expire 299999 ∷ Expire 300000 ∷ Expire 300000 ∷ NextLost ∷ Pending 1 ∷ Closed 1 ∷ NextLost ∷ [])
+    run fresh (open_event ∷ Expire 299999 ∷ Expire 300000 ∷ Expire 300000 ∷ NextLost ∷ Pending 1 ∷ Closed 1 ∷ NextLost ∷ [])
     ≡ Opened 1 ∷ Nothing ∷ ConnectionClosed 1 ∷ Nothing ∷ LostIs (Some 1) ∷ Refused Gone ∷ Done ∷ LostIs None ∷ []
 
 -- the first byte of a record comes at 10, and a later one moves nothing
 abbrev pub ReadingEnds : Type 0
 ReadingEnds =
-    run fresh (opens ∷ Bytes 10 1 (0x80 ∷ []) ∷ Bytes 20000 1 (0 ∷ []) ∷ Expire 30009 ∷ Expire 30010 ∷ [])
+    run fresh (open_event ∷ Bytes 10 1 (0x80 ∷ []) ∷ Bytes 20000 1 (0 ∷ []) ∷ Expire 30009 ∷ Expire 30010 ∷ [])
     ≡ Opened 1 ∷ Took 1 ∷ Took 1 ∷ Nothing ∷ ConnectionClosed 1 ∷ []
 
 -- an opening at an earlier moment counts as at the last one, and that of least number is first
@@ -28,7 +28,7 @@ TwoEnd =
 
 -- a NULL call at the moment 0, and what it gives
 abbrev pub calls_null : List Event
-calls_null = opens ∷ Bytes 0 1 (in_one (null_call 1)) ∷ []
+calls_null = open_event ∷ Bytes 0 1 (in_one (null_call 1)) ∷ []
 
 abbrev pub null_called : List Output
 null_called = Opened 1 ∷ Took 44 ∷ []
@@ -59,5 +59,5 @@ ForwardedCallsComeFirst =
     (Datagram 0 loopback (call2 3 1 (200001 ∷ 1 ∷ 17 ∷ 2049 ∷ [])) ∷ Open 1000 loopback
     ∷ Datagram 296000 loopback (call_by_none 15 100000 4 10 ++ words (200001 ∷ 1 ∷ 0 ∷ 0 ∷ []))
     ∷ Expire 300999 ∷ Expire 301000 ∷ Expire 301000 ∷ Expire 301000 ∷ [])
-    ≡ Replied (accepted 3 (1 ∷ [])) ∷ Opened 1 ∷ Forwarded
+    ≡ Replied (success_reply 3 (1 ∷ [])) ∷ Opened 1 ∷ Forwarded
     ∷ Nothing ∷ RepliedTo loopback (words (15 ∷ 1 ∷ 0 ∷ 0 ∷ 0 ∷ 5 ∷ [])) ∷ ConnectionClosed 1 ∷ Nothing ∷ []

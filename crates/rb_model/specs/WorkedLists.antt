@@ -6,8 +6,8 @@ use Rattle.rb_model.specs.declared.types.CoreFault.TheVariants.{Gone}
 use Rattle.rb_model.specs.Step.{Event, Output, run, after}
 use Rattle.rb_model.specs.Step.Event.{Bytes, Pending, Gave, Closed, NextLost, Datagram}
 use Rattle.rb_model.specs.Step.Output.{Opened, Refused, Took, IsPending, Done, LostIs, Replied}
-use Rattle.rb_model.specs.Worked.{loopback, fresh, fresh_with, call2, accepted}
-use Rattle.rb_model.specs.WorkedConnections.{opens, in_one}
+use Rattle.rb_model.specs.Worked.{loopback, fresh, fresh_with, call2, success_reply}
+use Rattle.rb_model.specs.WorkedConnections.{open_event, in_one}
 
 -- SET and UNSET of version 1 of a program on tcp, port 2049, without a credential
 abbrev pub set : ℕ → Event
@@ -17,19 +17,19 @@ abbrev pub unset : ℕ → Event
 unset prog = Datagram 0 loopback (call2 1 2 (prog ∷ 1 ∷ 6 ∷ 0 ∷ []))
 
 abbrev pub was_true : Output
-was_true = Replied (accepted 1 (1 ∷ []))
+was_true = Replied (success_reply 1 (1 ∷ []))
 
 abbrev pub was_false : Output
-was_false = Replied (accepted 1 (0 ∷ []))
+was_false = Replied (success_reply 1 (0 ∷ []))
 
 -- a DUMP of version 2 on a connection
 abbrev pub dump : ℕ → Event
 dump id = Bytes 0 id (in_one (call2 1 4 []))
 
 -- the reply to it, where these programs were SET behind the six own rows
-abbrev pub shown : List ℕ → List ℕ
-shown progs =
-    accepted 1 [] ++ own 4 6 ++ own 3 6 ++ own 2 6 ++ own 4 17 ++ own 3 17 ++ own 2 17
+abbrev pub dump_reply : List ℕ → List ℕ
+dump_reply progs =
+    success_reply 1 [] ++ own 4 6 ++ own 3 6 ++ own 2 6 ++ own 4 17 ++ own 3 17 ++ own 2 17
     ++ flat_map (λ prog. words (1 ∷ prog ∷ 1 ∷ 6 ∷ 2049 ∷ [])) progs ++ words (0 ∷ [])
   where
     own : ℕ → ℕ → List ℕ
@@ -50,35 +50,35 @@ C = 200003
 abbrev pub DumpSurvivesUnsetAndEvicts : Type 0
 DumpSurvivesUnsetAndEvicts =
     run (fresh_with 8)
-    (opens ∷ opens ∷ set A ∷ set B
+    (open_event ∷ open_event ∷ set A ∷ set B
     ∷ dump 1 ∷ Pending 1 ∷ unset A ∷ dump 2 ∷ Pending 2 ∷ set C ∷ NextLost ∷ Pending 1 ∷ unset B ∷ Pending 2
     ∷ Closed 1 ∷ NextLost ∷ [])
     ≡ Opened 1 ∷ Opened 2 ∷ was_true ∷ was_true
-    ∷ Took 44 ∷ IsPending (words (0x800000bc ∷ []) ++ shown (A ∷ B ∷ [])) ∷ was_true
-    ∷ Took 44 ∷ IsPending (words (0x800000a8 ∷ []) ++ shown (B ∷ [])) ∷ was_true
-    ∷ LostIs (Some 1) ∷ Refused Gone ∷ was_true ∷ IsPending (words (0x800000a8 ∷ []) ++ shown (B ∷ []))
+    ∷ Took 44 ∷ IsPending (words (0x800000bc ∷ []) ++ dump_reply (A ∷ B ∷ [])) ∷ was_true
+    ∷ Took 44 ∷ IsPending (words (0x800000a8 ∷ []) ++ dump_reply (B ∷ [])) ∷ was_true
+    ∷ LostIs (Some 1) ∷ Refused Gone ∷ was_true ∷ IsPending (words (0x800000a8 ∷ []) ++ dump_reply (B ∷ []))
     ∷ Done ∷ LostIs None ∷ []
 
 -- all that began before the row went are closed, and none that began later
 abbrev pub OldReadersAreEvicted : Type 0
 OldReadersAreEvicted =
     run (fresh_with 8)
-    (opens ∷ opens ∷ opens ∷ set A ∷ set B ∷ dump 1 ∷ dump 2 ∷ unset A ∷ dump 3 ∷ set C
+    (open_event ∷ open_event ∷ open_event ∷ set A ∷ set B ∷ dump 1 ∷ dump 2 ∷ unset A ∷ dump 3 ∷ set C
     ∷ NextLost ∷ Closed 1 ∷ NextLost ∷ Closed 2 ∷ NextLost ∷ Pending 3 ∷ [])
     ≡ Opened 1 ∷ Opened 2 ∷ Opened 3 ∷ was_true ∷ was_true ∷ Took 44 ∷ Took 44 ∷ was_true ∷ Took 44 ∷ was_true
     ∷ LostIs (Some 1) ∷ Done ∷ LostIs (Some 2) ∷ Done ∷ LostIs None
-    ∷ IsPending (words (0x800000a8 ∷ []) ++ shown (B ∷ [])) ∷ []
+    ∷ IsPending (words (0x800000a8 ∷ []) ++ dump_reply (B ∷ [])) ∷ []
 
 -- a table that is full of live rows refuses, and closes nobody
 abbrev pub FullTableRefuses : Type 0
 FullTableRefuses =
-    run (fresh_with 8) (opens ∷ set A ∷ set B ∷ dump 1 ∷ set C ∷ NextLost ∷ [])
+    run (fresh_with 8) (open_event ∷ set A ∷ set B ∷ dump 1 ∷ set C ∷ NextLost ∷ [])
     ≡ Opened 1 ∷ was_true ∷ was_true ∷ Took 44 ∷ was_false ∷ LostIs None ∷ []
 
 -- a row that came and went while a list is given is retained for it too
 abbrev pub RowsThatCameAndWentAreKept : Type 0
 RowsThatCameAndWentAreKept =
-    run (fresh_with 8) (opens ∷ set A ∷ dump 1 ∷ set B ∷ NextLost ∷ unset B ∷ NextLost ∷ set B ∷ NextLost ∷ [])
+    run (fresh_with 8) (open_event ∷ set A ∷ dump 1 ∷ set B ∷ NextLost ∷ unset B ∷ NextLost ∷ set B ∷ NextLost ∷ [])
     ≡ Opened 1 ∷ was_true ∷ Took 44 ∷ was_true ∷ LostIs None ∷ was_true ∷ LostIs None ∷ was_true ∷ LostIs (Some 1) ∷ []
 
 -- ---- a list in two fragments
@@ -96,12 +96,12 @@ in_two bytes =
 
 abbrev pub ListInTwoFragments : Type 0
 ListInTwoFragments =
-    run (after fresh (map set many ++ opens ∷ dump 1 ∷ [])) (Pending 1 ∷ Gave 0 1 1028 ∷ Pending 1 ∷ [])
-    ≡ in_two (shown many)
+    run (after fresh (map set many ++ open_event ∷ dump 1 ∷ [])) (Pending 1 ∷ Gave 0 1 1028 ∷ Pending 1 ∷ [])
+    ≡ in_two (dump_reply many)
 
 -- it is that of its call, whatever is SET and UNSET while it is given
 abbrev pub ListAsOfItsCall : Type 0
 ListAsOfItsCall =
-    run (after fresh (map set many ++ opens ∷ dump 1 ∷ unset (A + 94) ∷ set (A + 200) ∷ []))
+    run (after fresh (map set many ++ open_event ∷ dump 1 ∷ unset (A + 94) ∷ set (A + 200) ∷ []))
     (Pending 1 ∷ Gave 0 1 1028 ∷ Pending 1 ∷ [])
-    ≡ in_two (shown many)
+    ≡ in_two (dump_reply many)

@@ -11,7 +11,7 @@ mod worked;
 
 pub use events::{Event, Output, UnsentCall};
 pub use message::Message;
-pub use types::{CoreFault, Expired, Limits, Taken, Told};
+pub use types::{CoreFault, Exchanged, Expired, Limits, Taken, Told};
 pub use worked::{
     worked_bounds, worked_connections, worked_deadlines, worked_examples, worked_forwards,
     worked_lists,

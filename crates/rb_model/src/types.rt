@@ -37,6 +37,15 @@ pub struct Taken {
     pub closed: bool,
 }
 
+/// What came of bytes that arrived on a connection, where a reply may be given at once.
+#[derive(Clone, Copy, Debug, PartialEq, Eq)]
+pub struct Exchanged {
+    /// How far they were taken.
+    pub taken: Taken,
+    /// How many bytes of the reply were given, its header among them; 0 where it was not given at once.
+    pub given: usize,
+}
+
 /// What the caller of a forwarded call gets at its end (RFC 1833 sections 2.2.1 and 3.2).
 #[derive(Clone, Copy, Debug, PartialEq, Eq)]
 pub enum Told {

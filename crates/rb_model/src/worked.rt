@@ -1,5 +1,5 @@
 //! Worked examples of the definitions.
-ghost use Rattle.rb_model.specs.WorkedConnections.{NoCallCloses, OtherRpcVersionOnTcp, CrumbsInOnePiece, CrumbsInSingleBytes, CrumbsInSevens, BytesBehindArguments, OneRecordAtATime, OneRecordAtATimePasses, NoCallPasses, GivenInParts, TooMuchIsRefused, GoodLimits, NumbersDoNotRecur};
+ghost use Rattle.rb_model.specs.WorkedConnections.{NoCallCloses, OtherRpcVersionOnTcp, SingleByteFragmentsInOnePiece, SingleByteFragmentsByteByByte, SingleByteFragmentsInSevens, BytesBehindArguments, OneRecordAtATime, OneRecordAtATimePasses, NoCallPasses, GivenInParts, TooMuchIsRefused, GoodLimits, NumbersDoNotRecur};
 ghost use Rattle.rb_model.specs.WorkedForwards.{ForwardWithoutRow, RefusedCallsAreCounted, ForwardUntilDeadline, IndirectPasses, CallitPasses, TargetRefuses, DeniedIsSystemErr, CallitIsSilent, GreatestResults, NoPlace, GreatestArguments, SilentOnTcp, ForwardPassesOnTcp, ForwardOnTcpIsWhole, ClosedCallerIsDropped, EachEndsInTurn};
 ghost use Rattle.rb_model.specs.WorkedBounds.{BytesBounds, StepsBounds};
 ghost use Rattle.rb_model.specs.WorkedLists.{DumpSurvivesUnsetAndEvicts, OldReadersAreEvicted, FullTableRefuses, RowsThatCameAndWentAreKept, ListInTwoFragments, ListAsOfItsCall};
@@ -39,9 +39,9 @@ pub fn worked_examples()
 pub fn worked_connections()
     ensures no_call_closes { NoCallCloses }
     ensures rpc_version_mismatch { OtherRpcVersionOnTcp }
-    ensures null_in_single_byte_fragments { CrumbsInOnePiece }
-    ensures single_bytes { CrumbsInSingleBytes }
-    ensures pieces_of_seven { CrumbsInSevens }
+    ensures null_in_single_byte_fragments { SingleByteFragmentsInOnePiece }
+    ensures single_bytes { SingleByteFragmentsByteByByte }
+    ensures pieces_of_seven { SingleByteFragmentsInSevens }
     ensures overlong_record_is_answered { BytesBehindArguments }
     ensures two_calls_in_one_piece { OneRecordAtATime }
     ensures two_calls_pass { OneRecordAtATimePasses }

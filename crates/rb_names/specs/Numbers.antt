@@ -10,10 +10,10 @@ is_digit c = nat_le 48 c && nat_le c 57
 abbrev pub is_numeral : List ℕ → Bool
 is_numeral text = not (length text == 0) && list_all is_digit text
 
-abbrev pub between : ℕ → ℕ → ℕ → Bool
-between least most n = nat_le least n && nat_le n most
+abbrev pub is_between : ℕ → ℕ → ℕ → Bool
+is_between least most n = nat_le least n && nat_le n most
 
 -- the number that the digits are, where it is between the bounds
 abbrev pub number_in : ℕ → ℕ → List ℕ → Option ℕ
 number_in least most text =
-    if is_numeral text && between least most (digits_value 10 text) then Some (digits_value 10 text) else None
+    if is_numeral text && is_between least most (digits_value 10 text) then Some (digits_value 10 text) else None

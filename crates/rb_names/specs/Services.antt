@@ -12,19 +12,19 @@ use Rattle.rb_names.specs.Numbers.{number_in}
 -- ---- what is read
 
 -- a name with its number
-abbrev pub Named : Type 0
-Named = List ℕ × ℕ
+abbrev pub NamedNumber : Type 0
+NamedNumber = List ℕ × ℕ
 
-abbrev pub plain : List Service → List Named
-plain services = map (λ service. (service.name.items, service.number)) services
+abbrev pub named_numbers : List Service → List NamedNumber
+named_numbers services = map (λ service. (service.name.items, service.number)) services
 
 -- these names stand behind those that were there
-abbrev pub Adds : Vec Service → Vec Service → List Named → Type 0
-Adds old new names = plain (vec_items new) ≡ plain (vec_items old) ++ names
+abbrev pub AddsNames : Vec Service → Vec Service → List NamedNumber → Type 0
+AddsNames old new names = named_numbers (vec_items new) ≡ named_numbers (vec_items old) ++ names
 
 -- the texts behind their borrows
-abbrev pub texts_at : List (Bor (List ℕ)) → List (List ℕ)
-texts_at texts = map (λ text. text.now) texts
+abbrev pub borrowed_texts : List (Bor (List ℕ)) → List (List ℕ)
+borrowed_texts texts = map (λ text. text.now) texts
 
 abbrev pub is_newline : ℕ → Bool
 is_newline b = b == 10
@@ -39,16 +39,16 @@ is_some_word word = not (length word == 0)
 abbrev pub words_of : List ℕ → List (List ℕ)
 words_of line = filter is_some_word (slice_split is_ascii_whitespace line)
 
-abbrev pub numbered : List (List ℕ) → ℕ → List Named
-numbered names number = map (λ name. (name, number)) names
+abbrev pub pairs_with : List (List ℕ) → ℕ → List NamedNumber
+pairs_with names number = map (λ name. (name, number)) names
 
-abbrev pub each_with : List (List ℕ) → Option ℕ → List Named
-each_with names (Some number) = numbered names number
-each_with names None = []
+abbrev pub each_with_number : List (List ℕ) → Option ℕ → List NamedNumber
+each_with_number names (Some number) = pairs_with names number
+each_with_number names None = []
 
 -- a name, its number, and further names of the same program
-abbrev pub services_of : List (List ℕ) → List Named
-services_of (name ∷ number ∷ aliases) = each_with (name ∷ aliases) (number_in 0 4294967295 number)
+abbrev pub services_of : List (List ℕ) → List NamedNumber
+services_of (name ∷ number ∷ aliases) = each_with_number (name ∷ aliases) (number_in 0 4294967295 number)
 services_of _ = []
 
 -- a longer line has no names
@@ -56,7 +56,7 @@ abbrev pub longest_line : ℕ
 longest_line = 1024
 
 -- the comment behind `#` says nothing
-abbrev pub services_in_line : List ℕ → List Named
+abbrev pub services_in_line : List ℕ → List NamedNumber
 services_in_line line =
     if nat_lt longest_line (length line) then [] else services_of (words_of (before_first is_hash line))
 
@@ -65,7 +65,7 @@ abbrev pub longest_services : ℕ
 longest_services = 65536
 
 -- the names of all lines, in their order
-abbrev pub services_in : List ℕ → List Named
+abbrev pub services_in : List ℕ → List NamedNumber
 services_in text =
     if nat_lt longest_services (length text) then [] else flat_map services_in_line (slice_split is_newline text)
 

@@ -4,7 +4,7 @@ ghost use Rattle.std.specs.Prelude.{◌≡◌, [], ◌∷◌, List, option_map, 
 ghost use Rattle.std.specs.List.{slice_split, before_first};
 ghost use Rattle.std.specs.Char.{is_ascii_whitespace};
 ghost use Rattle.rb_names.specs.Numbers.{number_in};
-ghost use Rattle.rb_names.specs.Services.{plain, texts_at, Adds, is_newline, is_hash, words_of, numbered, services_of, services_in_line, services_in, number_of, name_of};
+ghost use Rattle.rb_names.specs.Services.{named_numbers, borrowed_texts, AddsNames, is_newline, is_hash, words_of, pairs_with, services_of, services_in_line, services_in, number_of, name_of};
 
 use crate::number::number_in;
 use std::alloc::{AllocError, Global};
@@ -28,7 +28,7 @@ pub struct Service {
 /// The lines of a text.
 fn lines_of<'a>(alloc: Global, text: &'a [u8]) -> Result<Vec<&'a [u8]>, AllocError>
     ensures { IfOk result
-        (λ lines. texts_at lines.items ≡ slice_split is_newline text.now) }
+        (λ lines. borrowed_texts lines.items ≡ slice_split is_newline text.now) }
 {
     text.split(|byte| *byte == b'\n').collect(alloc)
 }
@@ -46,7 +46,7 @@ fn without_comment(line: &[u8]) -> &[u8]
 /// What stands between white space.
 fn words_of<'a>(alloc: Global, line: &'a [u8]) -> Result<Vec<&'a [u8]>, AllocError>
     ensures { IfOk result
-        (λ words. texts_at words.items ≡ words_of line.now) }
+        (λ words. borrowed_texts words.items ≡ words_of line.now) }
 {
     line.split(|byte| byte.is_ascii_whitespace())
         .filter(|word| !word.is_empty())
@@ -71,7 +71,7 @@ fn push_name(
     services: &mut Vec<Service>,
 ) -> Result<(), AllocError>
     ensures { OnOk result
-        (Adds services.old services.new ((name.now, number) ∷ [])) }
+        (AddsNames services.old services.new ((name.now, number) ∷ [])) }
 {
     let mut own = Vec::new(alloc);
     own.extend_from_slice(name)?;
@@ -87,7 +87,7 @@ fn push_names(
     services: &mut Vec<Service>,
 ) -> Result<(), AllocError>
     ensures { OnOk result
-        (Adds services.old services.new (numbered (texts_at names.now) number)) }
+        (AddsNames services.old services.new (pairs_with (borrowed_texts names.now) number)) }
 {
     for name in names {
         push_name(alloc, name, number, services)?;
@@ -98,7 +98,7 @@ fn push_names(
 /// Adds the names that the words of a line give.
 fn push_words(alloc: Global, words: &[&[u8]], services: &mut Vec<Service>) -> Result<(), AllocError>
     ensures { OnOk result
-        (Adds services.old services.new (services_of (texts_at words.now))) }
+        (AddsNames services.old services.new (services_of (borrowed_texts words.now))) }
 {
     let [name, number, aliases @ ..] = words else {
         return Ok(());
@@ -113,7 +113,7 @@ fn push_words(alloc: Global, words: &[&[u8]], services: &mut Vec<Service>) -> Re
 /// Adds the names of a line.
 fn push_line(alloc: Global, line: &[u8], services: &mut Vec<Service>) -> Result<(), AllocError>
     ensures { OnOk result
-        (Adds services.old services.new (services_in_line line.now)) }
+        (AddsNames services.old services.new (services_in_line line.now)) }
 {
     if line.len() > LONGEST_LINE {
         return Ok(());
@@ -126,7 +126,7 @@ fn push_line(alloc: Global, line: &[u8], services: &mut Vec<Service>) -> Result<
 /// word is no number of 32 bits has none, and a text of more than 65,536 bytes has none. `AllocError` where an
 /// allocation is refused.
 pub fn read_services(alloc: Global, text: &[u8]) -> Result<Vec<Service>, AllocError>
-    ensures { IfOk result (λ services. plain services.items ≡ services_in text.now) }
+    ensures { IfOk result (λ services. named_numbers services.items ≡ services_in text.now) }
 {
     let mut services = Vec::new(alloc);
     if text.len() > LONGEST_SERVICES {

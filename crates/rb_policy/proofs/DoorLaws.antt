@@ -12,7 +12,7 @@ use Rattle.std.proofs.lemmas.List.Sums.{sum_by-set}
 use Rattle.rb_policy.specs.declared.door.Origin.{Origin}
 use Rattle.rb_policy.specs.declared.door.Holder.{Holder}
 use Rattle.rb_policy.specs.declared.door.Standing.{Standing}
-use Rattle.rb_policy.specs.Door.{is_held_by, held_by, share, standing, by_standing, GoesBefore}
+use Rattle.rb_policy.specs.Door.{is_held_by, count_held_by, share, standing_of, by_standing, GoesBefore}
 use Rattle.rb_policy.specs.DoorLaws.{SharesAreKept, OneIsGivenUp}
 use Rattle.rb_policy.proofs.Standings.{by_standing_total}
 
@@ -35,7 +35,7 @@ tied_places a b not_a not_b =
 
 pub one_is_given_up : OneIsGivenUp
 one_is_given_up places newcomer now a b first second =
-    tied_places (standing places now a first.holder) (standing places now b second.holder)
+    tied_places (standing_of places now a first.holder) (standing_of places now b second.holder)
     (second.first a first.holder first.may)
     (first.first b second.holder second.may)
 
@@ -55,7 +55,7 @@ shares_are_kept places newcomer now place holder elsewhere of given =
     let held = given.may.holds in
     let sum_is = sum_by-set f places place (Some holder) (Some given.holder) (slice_get_within places place (Some given.holder) held) in
     let old_is = get_or_from_slice_get places place (Some given.holder) (Some given.holder) held in
-    within newcomer.is_local (bytes_eq given.holder.origin.host newcomer.host) (held_by places newcomer.host) _ (length places)
-    (ap (λ x. held_by (slice_set places place (Some holder)) newcomer.host + f x) (sym old_is)
-    ∙ sum_is ∙ ap (λ b. held_by places newcomer.host + cond b 1 0) (counts holder newcomer of))
+    within newcomer.is_local (bytes_eq given.holder.origin.host newcomer.host) (count_held_by places newcomer.host) _ (length places)
+    (ap (λ x. count_held_by (slice_set places place (Some holder)) newcomer.host + f x) (sym old_is)
+    ∙ sum_is ∙ ap (λ b. count_held_by places newcomer.host + cond b 1 0) (counts holder newcomer of))
     given.may.may elsewhere

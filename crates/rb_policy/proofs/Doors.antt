@@ -5,7 +5,7 @@ use Rattle.std.proofs.lemmas.Bool.Decides.{nat_tests}
 use Rattle.std.proofs.lemmas.List.Sums.{sum_by-cons}
 use Rattle.rb_policy.specs.declared.door.Origin.{Origin}
 use Rattle.rb_policy.specs.declared.door.Holder.{Holder}
-use Rattle.rb_policy.specs.Door.{Places, is_free, is_held_by, held_by, share, may_hold_more}
+use Rattle.rb_policy.specs.Door.{Places, is_free, is_held_by, count_held_by, share, may_hold_more}
 use Rattle.rb_policy.specs.Standings.{NobodyMayBeGivenUp}
 
 some_counted : {X : Type 0} (p : X → Bool) (xs : List X) → 0 < count_by p xs → (k : ℕ) × (x : X) × (slice_get xs k ≡ Some x) × (p x ≡ true)
@@ -26,7 +26,7 @@ at_share local held all e = grind (arith, nat_tests, e)
 
 own : (places : Places) (newcomer : Origin) → may_hold_more places newcomer ≡ false → ¬ NobodyMayBeGivenUp places newcomer
 own places newcomer full nobody =
-    let some = at_share newcomer.is_local (held_by places newcomer.host) (length places) full in
+    let some = at_share newcomer.is_local (count_held_by places newcomer.host) (length places) full in
     let found = some_counted (is_held_by newcomer.host) places some in
     of found.0 found.1 found.2 found.3
   where

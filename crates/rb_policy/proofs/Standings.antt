@@ -13,7 +13,7 @@ use Rattle.std.proofs.lemmas.Bool.{cond-true}
 use Rattle.rb_policy.specs.declared.door.Origin.{Origin}
 use Rattle.rb_policy.specs.declared.door.Holder.{Holder}
 use Rattle.rb_policy.specs.declared.door.Standing.{Standing}
-use Rattle.rb_policy.specs.Door.{Places, rank, standing, by_standing, GoesBefore, MayBeGivenUp, IsGivenUp}
+use Rattle.rb_policy.specs.Door.{Places, rank, standing_of, by_standing, GoesBefore, MayBeGivenUp, IsGivenUp}
 use Rattle.rb_policy.specs.Standings.{candidate, candidate_in, sooner, IsFirstOf, NobodyMayBeGivenUp}
 
 pub by_standing_total : IsTotalOrder by_standing
@@ -93,22 +93,22 @@ step f n best is = with_next (f n) refl best is
 
 -- ---- the holders of places
 
-candidate_of : (places : Places) (newcomer : Origin) (now k : ℕ) (holder : Holder) → MayBeGivenUp places newcomer k holder → candidate places newcomer now k ≡ Some (standing places now k holder)
+candidate_of : (places : Places) (newcomer : Origin) (now k : ℕ) (holder : Holder) → MayBeGivenUp places newcomer k holder → candidate places newcomer now k ≡ Some (standing_of places now k holder)
 candidate_of places newcomer now k holder may =
     ap (candidate_in places newcomer now k) may.holds ∙ cond-true _ _ _ may.may
 
-candidate_is : (places : Places) (newcomer : Origin) (now k : ℕ) (s : Standing) → candidate places newcomer now k ≡ Some s → (holder : Holder) × MayBeGivenUp places newcomer k holder × (standing places now k holder ≡ s)
+candidate_is : (places : Places) (newcomer : Origin) (now k : ℕ) (s : Standing) → candidate places newcomer now k ≡ Some s → (holder : Holder) × MayBeGivenUp places newcomer k holder × (standing_of places now k holder ≡ s)
 candidate_is places newcomer now k s is = at (slice_get places k) refl is
   where
-    at : (held : Option (Option Holder)) → slice_get places k ≡ held → candidate_in places newcomer now k held ≡ Some s → (holder : Holder) × MayBeGivenUp places newcomer k holder × (standing places now k holder ≡ s)
+    at : (held : Option (Option Holder)) → slice_get places k ≡ held → candidate_in places newcomer now k held ≡ Some s → (holder : Holder) × MayBeGivenUp places newcomer k holder × (standing_of places now k holder ≡ s)
     at None e i = absurd (none-some s i)
     at (Some None) e i = absurd (none-some s i)
     at (Some (Some holder)) e i =
-        let is = cond_some _ (standing places now k holder) s i in (holder, record { holds = e; may = is.0 }, is.1)
+        let is = cond_some _ (standing_of places now k holder) s i in (holder, record { holds = e; may = is.0 }, is.1)
 
 pub nobody : (places : Places) (newcomer : Origin) (now : ℕ) → IsFirstOf (candidate places newcomer now) (length places) None → NobodyMayBeGivenUp places newcomer
 nobody places newcomer now none k holder may =
-    none-some (standing places now k holder)
+    none-some (standing_of places now k holder)
     (sym (none k (slice_get_within places k (Some holder) may.holds)) ∙ candidate_of places newcomer now k holder may)
 
 pub somebody : (places : Places) (newcomer : Origin) (now : ℕ) (s : Standing) → IsFirstOf (candidate places newcomer now) (length places) (Some s) → IsGivenUp places newcomer now s.place
@@ -118,10 +118,10 @@ somebody places newcomer now s is =
     subst (IsGivenUp places newcomer now) (ap (λ t. t.place) of.2) (record {
       holder = of.0;
       may = of.1;
-      first = λ j other may before. is.1 j (standing places now j other)
+      first = λ j other may before. is.1 j (standing_of places now j other)
           (slice_get_within places j (Some other) may.holds)
           (candidate_of places newcomer now j other may)
-          (subst (GoesBefore (standing places now j other)) of.2 before);
+          (subst (GoesBefore (standing_of places now j other)) of.2 before);
     })
 
 -- where all were looked at

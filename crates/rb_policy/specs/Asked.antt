@@ -5,8 +5,8 @@ use Rattle.rb_rpc.specs.declared.peer.Peer.{Peer}
 use Rattle.rb_policy.specs.declared.asked.Ask.{Ask}
 
 -- the entry of nobody
-abbrev pub nobodys : Ask
-nobodys = record { peer = record { host = 0 ∷ 0 ∷ 0 ∷ 0 ∷ []; port = 0 }; socket = 0 }
+abbrev pub ask_of_nobody : Ask
+ask_of_nobody = record { peer = record { host = 0 ∷ 0 ∷ 0 ∷ 0 ∷ []; port = 0 }; socket = 0 }
 
 abbrev pub is_same_peer : Peer → Peer → Bool
 is_same_peer a b = bytes_eq a.host b.host && a.port == b.port

@@ -56,16 +56,16 @@ abbrev pub is_held_by : List ℕ → Option Holder → Bool
 is_held_by host None = false
 is_held_by host (Some holder) = bytes_eq holder.origin.host host
 
-abbrev pub held_by : Places → List ℕ → ℕ
-held_by places host = count_by (is_held_by host) places
+abbrev pub count_held_by : Places → List ℕ → ℕ
+count_held_by places host = count_by (is_held_by host) places
 
 -- whether a peer may hold one place more; of this host it always may
 abbrev pub may_hold_more : Places → Origin → Bool
-may_hold_more places peer = peer.is_local || nat_lt (held_by places peer.host) (share (length places))
+may_hold_more places peer = peer.is_local || nat_lt (count_held_by places peer.host) (share (length places))
 
 -- whether a peer's host holds no more than its share; this host never does
 abbrev pub is_within_share : Places → Origin → Bool
-is_within_share places peer = peer.is_local || not (nat_lt (share (length places)) (held_by places peer.host))
+is_within_share places peer = peer.is_local || not (nat_lt (share (length places)) (count_held_by places peer.host))
 
 -- ---- who is given up
 
@@ -77,8 +77,8 @@ rank Owing = 2
 rank Awaiting = 3
 
 -- how the holder of a place stands at a moment
-abbrev pub standing : Places → ℕ → ℕ → Holder → Standing
-standing places now place holder = record {
+abbrev pub standing_of : Places → ℕ → ℕ → Holder → Standing
+standing_of places now place holder = record {
   is_within_share = is_within_share places holder.origin;
   is_local = holder.origin.is_local;
   is_active = nat_lt (now - holder.since) ACTIVE;
@@ -113,7 +113,7 @@ pub record MayBeGivenUp (places : Places) (newcomer : Origin) (place : ℕ) (hol
 pub record IsGivenUp (places : Places) (newcomer : Origin) (now : ℕ) (place : ℕ) : Type 0 where
   pub holder : Holder
   pub may : MayBeGivenUp places newcomer place holder
-  pub first : (k : ℕ) (other : Holder) → MayBeGivenUp places newcomer k other → ¬ GoesBefore (standing places now k other) (standing places now place holder)
+  pub first : (k : ℕ) (other : Holder) → MayBeGivenUp places newcomer k other → ¬ GoesBefore (standing_of places now k other) (standing_of places now place holder)
 
 -- ---- what is done with a newcomer
 

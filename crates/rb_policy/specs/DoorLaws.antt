@@ -2,14 +2,14 @@
 use Rattle.std.specs.Prelude.{◌≡◌, ◌≤◌, ℕ, max, false, length, slice_set, Some}
 use Rattle.rb_policy.specs.declared.door.Origin.{Origin}
 use Rattle.rb_policy.specs.declared.door.Holder.{Holder}
-use Rattle.rb_policy.specs.Door.{Places, share, held_by, IsGivenUp}
+use Rattle.rb_policy.specs.Door.{Places, share, count_held_by, IsGivenUp}
 
 -- Whoever was given up, the newcomer's host then holds no more than its share, or no more than before.
 abbrev pub SharesAreKept : Type 0
 SharesAreKept =
     (places : Places) (newcomer : Origin) (now place : ℕ) (holder : Holder) → newcomer.is_local ≡ false
     → holder.origin ≡ newcomer → IsGivenUp places newcomer now place
-    → held_by (slice_set places place (Some holder)) newcomer.host ≤ max (share (length places)) (held_by places newcomer.host)
+    → count_held_by (slice_set places place (Some holder)) newcomer.host ≤ max (share (length places)) (count_held_by places newcomer.host)
 
 -- It is one connection, and no other.
 abbrev pub OneIsGivenUp : Type 0

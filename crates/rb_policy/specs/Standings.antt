@@ -4,13 +4,13 @@ use Rattle.std.specs.Ordering.{is_lt}
 use Rattle.rb_policy.specs.declared.door.Origin.{Origin}
 use Rattle.rb_policy.specs.declared.door.Holder.{Holder}
 use Rattle.rb_policy.specs.declared.door.Standing.{Standing}
-use Rattle.rb_policy.specs.Door.{Places, standing, by_standing, may_hold_more, GoesBefore, MayBeGivenUp}
+use Rattle.rb_policy.specs.Door.{Places, standing_of, by_standing, may_hold_more, GoesBefore, MayBeGivenUp}
 
 abbrev pub candidate_in : Places → Origin → ℕ → ℕ → Option (Option Holder) → Option Standing
 candidate_in places newcomer now place None = None
 candidate_in places newcomer now place (Some None) = None
 candidate_in places newcomer now place (Some (Some holder)) =
-    if may_hold_more places newcomer || bytes_eq holder.origin.host newcomer.host then Some (standing places now place holder) else None
+    if may_hold_more places newcomer || bytes_eq holder.origin.host newcomer.host then Some (standing_of places now place holder) else None
 
 -- how the holder of a place stands, if there is one that may be given up for the newcomer
 abbrev pub candidate : Places → Origin → ℕ → ℕ → Option Standing

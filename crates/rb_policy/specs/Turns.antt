@@ -24,8 +24,8 @@ asks_for_deadlines None now = true
 asks_for_deadlines (Some settled) now = not (settled == now) || now == 2 ^ 64 - 1
 
 -- how many connections a turn accepts, where so many of all places are free as its accepting begins
-abbrev pub accepts : ℕ → ℕ → ℕ
-accepts free all = if free == 0 then min (max (all / 2) 1) SOCKET_CALLS else min free SOCKET_CALLS
+abbrev pub accept_count : ℕ → ℕ → ℕ
+accept_count free all = if free == 0 then min (max (all / 2) 1) SOCKET_CALLS else min free SOCKET_CALLS
 
 -- whether a connection is left for the next turn, for which so many socket calls were made, and so many bytes written
 abbrev pub is_cut_off : ℕ → ℕ → Bool

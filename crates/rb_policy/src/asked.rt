@@ -36,12 +36,12 @@ impl Model for Asked {
 
 impl Asked {
     ghost use Rattle.std.specs.Prelude.{◌≡◌, ◌∷◌, IfOk, take, replicate};
-    ghost use Rattle.rb_policy.specs.Asked.{nobodys};
+    ghost use Rattle.rb_policy.specs.Asked.{ask_of_nobody};
 
     /// None was forwarded yet: each entry is nobody's, at 0.0.0.0 and port 0. An error where the allocation is
     /// refused.
     pub fn new(alloc: Global) -> Result<Asked, AllocError>
-        ensures { IfOk result (λ asked. asked ≡ replicate 64 nobodys) }
+        ensures { IfOk result (λ asked. asked ≡ replicate 64 ask_of_nobody) }
     {
         let nobody = Peer {
             host: [0, 0, 0, 0],

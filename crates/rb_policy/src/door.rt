@@ -1,6 +1,6 @@
 //! Who gets a place for a connection, and who is given up for it where all are taken.
 ghost use Rattle.std.specs.Prelude.{◌≡◌, ◌<◌, length, position, IfNone, IfSome};
-ghost use Rattle.rb_policy.specs.Door.{is_free, held_by, is_held_by, share, may_hold_more, is_within_share, IsGivenUp, IsAdmitted, origin_of, phase_of, is_stuck, ends_record};
+ghost use Rattle.rb_policy.specs.Door.{is_free, count_held_by, is_held_by, share, may_hold_more, is_within_share, IsGivenUp, IsAdmitted, origin_of, phase_of, is_stuck, ends_record};
 ghost use Rattle.rb_policy.specs.Standings.{candidate, sooner, NobodyMayBeGivenUp};
 
 use rb_rpc::Peer;
@@ -225,13 +225,13 @@ fn sooner(a: Option<Standing>, b: Option<Standing>) -> Option<Standing>
 fn may_hold_more(places: &[Option<Holder>], peer: &Origin) -> bool
     ensures { result ≡ may_hold_more places.now peer.now }
 {
-    peer.is_local || held_by(places, &peer.host) < share(places.len())
+    peer.is_local || count_held_by(places, &peer.host) < share(places.len())
 }
 
 fn is_within_share(places: &[Option<Holder>], peer: &Origin) -> bool
     ensures { result ≡ is_within_share places.now peer.now }
 {
-    peer.is_local || held_by(places, &peer.host) <= share(places.len())
+    peer.is_local || count_held_by(places, &peer.host) <= share(places.len())
 }
 
 /// So many places one host may hold while others want some.
@@ -241,8 +241,8 @@ fn share(places: usize) -> usize
     (places / 2).max(1)
 }
 
-fn held_by(places: &[Option<Holder>], host: &[u8; 4]) -> usize
-    ensures { result ≡ held_by places.now host.now }
+fn count_held_by(places: &[Option<Holder>], host: &[u8; 4]) -> usize
+    ensures { result ≡ count_held_by places.now host.now }
 {
     places
         .iter()

@@ -11,7 +11,7 @@ mod outcome;
 mod peers;
 mod turns;
 
-pub use addresses::{announced, is_no_address};
+pub use addresses::{announced_address, is_no_address};
 pub use asked::{Ask, Asked};
 pub use door::{
     ACTIVE, Admission, Holder, OWED, Origin, Phase, admit, ends_record, is_stuck, origin_of,
@@ -26,6 +26,6 @@ pub use outcome::{
 };
 pub use peers::{inet_peer, local_peer, loopback6_peer};
 pub use turns::{
-    Again, LAST_ROUND, Round, SOCKET_CALLS, STEP, accepts, after_all_receives, asks_for_deadlines,
-    is_cut_off, reads_on, round_of, serves_another, wait_of,
+    Again, LAST_ROUND, Round, SOCKET_CALLS, STEP, accept_count, after_all_receives,
+    asks_for_deadlines, is_cut_off, reads_on, round_of, serves_another, wait_of,
 };

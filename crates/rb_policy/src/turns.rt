@@ -1,6 +1,6 @@
 //! What is done in a turn, and what is left for the next.
 ghost use Rattle.std.specs.Prelude.{◌≡◌, ◌||◌, ◌==◌};
-ghost use Rattle.rb_policy.specs.Turns.{after_all_receives, wait_of, asks_for_deadlines, accepts, is_cut_off, round_of, serves_another};
+ghost use Rattle.rb_policy.specs.Turns.{after_all_receives, wait_of, asks_for_deadlines, accept_count, is_cut_off, round_of, serves_another};
 
 use crate::door::Phase;
 
@@ -66,8 +66,8 @@ pub fn asks_for_deadlines(settled: Option<u64>, now: u64) -> bool
 /// accepting begins: as many as are free, since the next turn may first free some that are taken now. Where none is
 /// free, half of all places, and at least one: so who takes one is served before others of this kind push it out. At
 /// most as many as socket calls of a turn.
-pub fn accepts(free: usize, all: usize) -> usize
-    ensures { result ≡ accepts free all }
+pub fn accept_count(free: usize, all: usize) -> usize
+    ensures { result ≡ accept_count free all }
 {
     let most = if free == 0 { (all / 2).max(1) } else { free };
     most.min(SOCKET_CALLS)

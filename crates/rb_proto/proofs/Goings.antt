@@ -8,7 +8,7 @@ use Rattle.rb_rpc.specs.declared.reply.ReplyStatus.TheVariants as replies
 use Rattle.rb_rpc.specs.declared.peer.Peer.{Peer}
 use Rattle.rb_uaddr.specs.declared.address.Uaddr.{Uaddr}
 use Rattle.rb_uaddr.specs.declared.address.Uaddr.TheVariants.{V4, V6}
-use Rattle.rb_uaddr.specs.Uaddr.{parse, parse_ipv4, merged, merged_host}
+use Rattle.rb_uaddr.specs.Uaddr.{parse, parse_ipv4, merged_address, merged_host}
 use Rattle.rb_uaddr.proofs.GrammarLaws.{merges_any_host}
 use Rattle.rb_registry.specs.declared.row.Netid.{Netid}
 use Rattle.rb_registry.specs.declared.row.Netid.TheVariants.{Tcp, Udp, Tcp6, Udp6, Local}
@@ -17,7 +17,7 @@ use Rattle.rb_registry.specs.Rows.{rpcb_prog, is_netid, is_on, is_row, find_exac
 use Rattle.rb_forward.specs.declared.types.Forward.{Forward}
 use Rattle.rb_forward.specs.declared.types.Kind.{Kind}
 use Rattle.rb_forward.specs.declared.types.Kind.TheVariants.{Callit2, Callit3, Bcast, Indirect}
-use Rattle.rb_forward.specs.Forwards.{can_start, started}
+use Rattle.rb_forward.specs.Forwards.{can_start, with_next_entry}
 use Rattle.rb_proto.specs.declared.answers.Answer.{Answer}
 use Rattle.rb_proto.specs.declared.answers.Answer.TheVariants as answers
 use Rattle.rb_proto.specs.declared.context.Context.{Context}
@@ -101,7 +101,7 @@ host_of (V4 host port) = host
 host_of (V6 host port) = host
 
 stands_in : (other host : List ℕ) → StandsInForAny other host (merged_host other host)
-unfolding host_of merged
+unfolding host_of merged_address
 stands_in other host = (
   λ any. ap (merged_host other) any ∙ ap host_of (merges_any_host.replaced other 0),
   λ set. ap host_of (merges_any_host.kept other host 0 set),
@@ -137,7 +137,7 @@ module _ (context : Context) (xid : ℕ) (kind : Kind) (remote : RemoteCall) (l 
   abbrev Goes : List ℕ → Answer × Ledger → Type 0
   Goes args given =
       given.0 ≡ answers.Forwarded
-      → (forward : Forward) × AsksRegistered context (rows_in l) remote forward × (given.1 ≡ record l { forwards = started context.clock forward args l.forwards })
+      → (forward : Forward) × AsksRegistered context (rows_in l) remote forward × (given.1 ≡ record l { forwards = with_next_entry context.clock forward args l.forwards })
 
   by_peer : (args : List ℕ) (found : Option Peer) → peer_to_forward remote.prog remote.vers (rows_in l) ≡ found
       → Goes args (forward_to context xid kind remote args found l)
@@ -145,7 +145,7 @@ module _ (context : Context) (xid : ℕ) (kind : Kind) (remote : RemoteCall) (l 
   by_peer args (Some peer) is told = by_room (can_start context.forwards l.forwards) told
     where
       begun : Answer × Ledger
-      begun = (answers.Forwarded, record l { forwards = started context.clock (forward_of context xid kind remote peer) args l.forwards })
+      begun = (answers.Forwarded, record l { forwards = with_next_entry context.clock (forward_of context xid kind remote peer) args l.forwards })
 
       by_room : (b : Bool) → Goes args (cond b begun (refuse context kind remote replies.SystemErr l))
       by_room true told = (forward_of context xid kind remote peer, asks peer is, refl)

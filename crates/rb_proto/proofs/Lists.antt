@@ -6,7 +6,7 @@ use Rattle.std.proofs.lemmas.Grind.{flat_map-append}
 use Rattle.std.proofs.lemmas.List.{take_more}
 use Rattle.std.proofs.lemmas.List.Folds.{length-flat_map-take}
 use Rattle.std.proofs.lemmas.Option.{slice_get_within, get_or_from_slice_get}
-use Rattle.rb_xdr.specs.Xdr.{boolean, listed}
+use Rattle.rb_xdr.specs.Xdr.{boolean, linked_list}
 use Rattle.rb_xdr.specs.Kept.{Kept}
 use Rattle.rb_xdr.specs.Meter.{Meter, PaysAtMost}
 use Rattle.rb_registry.specs.declared.row.Row.{Row}
@@ -40,7 +40,7 @@ module _ {A : Type 0} (spelling : A → List ℕ) (item : Row → A) where
   all_rows (row ∷ rows) = ap (λ (xs : List ℕ). (boolean true ++ spelling (item row)) ++ xs) (all_rows rows)
 
 pub list-rows : (host : List ℕ) (rows : List Row) (list : Listing) → list_bytes host rows list ≡ rows_bytes host rows list
-unfolding listed row_bytes
+unfolding linked_list row_bytes
 list-rows host rows Mappings = ap (λ (xs : List ℕ). xs ++ boolean false) (shown_rows mapping_spelling mapping_of is_inet rows)
 list-rows host rows Rpcbs = ap (λ (xs : List ℕ). xs ++ boolean false) (all_rows rpcb_spelling rpcb_of rows)
 list-rows host rows (Entries prog vers) = ap (λ (xs : List ℕ). xs ++ boolean false) (shown_rows entry_spelling (entry_of host) (is_version prog vers) rows)

@@ -13,7 +13,7 @@ use Rattle.rb_forward.specs.declared.types.Forward.{Forward}
 use Rattle.rb_forward.specs.declared.types.Kind.{Kind}
 use Rattle.rb_forward.specs.declared.types.Outcome.{Outcome}
 use Rattle.rb_forward.specs.declared.types.Outcome.TheVariants.{Failed, Dropped}
-use Rattle.rb_forward.specs.Forwards.{Entry, without_first, change_first, as_sent, is_unsent, ended_by, with_end, can_start, next_entry, started, sent, counts_for, outcome_of, reply, is_due, due, is_of_connection, drop_caller}
+use Rattle.rb_forward.specs.Forwards.{Entry, without_first, change_first, as_sent, is_unsent, ended_by, with_end, can_start, next_entry, with_next_entry, sent, counts_for, outcome_of, reply, is_due, due, is_of_connection, drop_caller}
 use Rattle.rb_forward.proofs.Tables.{all_stay}
 use Rattle.rb_proto.specs.declared.answers.Answer.{Answer}
 use Rattle.rb_proto.specs.declared.answers.Answer.TheVariants as answers
@@ -21,7 +21,7 @@ use Rattle.rb_proto.specs.declared.context.Context.{Context}
 use Rattle.rb_proto.specs.declared.remote.RemoteCall.{RemoteCall}
 use Rattle.rb_proto.specs.Remote.{args_of}
 use Rattle.rb_proto.specs.Ledger.{Ledger, rows_in}
-use Rattle.rb_proto.specs.Forwarding.{outcome_note, end_note, end_notes, noted_end, peer_to_forward, forward_of, refuse, forward_to, forward_call, replied, fell_due, caller_dropped, call_sent}
+use Rattle.rb_proto.specs.Forwarding.{outcome_note, end_note, end_notes, noted_end, peer_to_forward, forward_of, refuse, forward_to, forward_call, target_replied, fell_due, caller_dropped, call_sent}
 use Rattle.rb_proto.specs.ForwardLaws.{is_outcome, asked_so_far, ForwardsAreNotedOnce}
 
 -- ---- how many entries there are
@@ -61,8 +61,8 @@ refused_is_noted context kind remote status l =
 
 -- ---- a call comes
 
-start_counts : (clock : ℕ) (forward : Forward) (args : List ℕ) (l : Ledger) → asked_so_far (record l { forwards = started clock forward args l.forwards }) ≡ asked_so_far l + 1
-unfolding started
+start_counts : (clock : ℕ) (forward : Forward) (args : List ℕ) (l : Ledger) → asked_so_far (record l { forwards = with_next_entry clock forward args l.forwards }) ≡ asked_so_far l + 1
+unfolding with_next_entry
 start_counts clock forward args l = omega (arith, length-append l.forwards.all (next_entry clock forward args l.forwards ∷ []))
 
 module _ (context : Context) (xid : ℕ) (kind : Kind) (remote : RemoteCall) (l : Ledger) where
@@ -71,7 +71,7 @@ module _ (context : Context) (xid : ℕ) (kind : Kind) (remote : RemoteCall) (l 
   by_peer args (Some peer) = by_room (can_start context.forwards l.forwards)
     where
       begun : Answer × Ledger
-      begun = (answers.Forwarded, record l { forwards = started context.clock (forward_of context xid kind remote peer) args l.forwards })
+      begun = (answers.Forwarded, record l { forwards = with_next_entry context.clock (forward_of context xid kind remote peer) args l.forwards })
 
       by_room : (b : Bool) → asked_so_far (cond b begun (refuse context kind remote replies.SystemErr l)).1 ≡ asked_so_far l + 1
       by_room true = start_counts context.clock (forward_of context xid kind remote peer) args l
@@ -101,7 +101,7 @@ unfolding call_sent sent
 sent_counts number l = ap (λ (n : ℕ). count_by is_outcome l.history + n) (as_many (is_unsent number) as_sent l.forwards.all)
 
 pub forwards_are_noted_once : ForwardsAreNotedOnce
-unfolding replied fell_due caller_dropped reply due drop_caller
+unfolding target_replied fell_due caller_dropped reply due drop_caller
 forwards_are_noted_once l = record {
   comes = λ context xid kind remote arguments. call_counts context xid kind remote l arguments;
   is_sent = λ number. sent_counts number l;

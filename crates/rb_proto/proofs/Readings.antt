@@ -14,7 +14,7 @@ use Rattle.rb_proto.specs.declared.mapping.Mapping.{Mapping}
 use Rattle.rb_proto.specs.declared.rpcb.Rpcb.{Rpcb}
 use Rattle.rb_proto.specs.declared.netbuf.Netbuf.{Netbuf}
 use Rattle.rb_proto.specs.declared.entry.Entry.{Entry}
-use Rattle.rb_forward.specs.Forwards.{longest_arguments}
+use Rattle.rb_forward.specs.Forwards.{longest_forwarded}
 use Rattle.rb_proto.specs.declared.remote.RemoteCall.{RemoteCall}
 use Rattle.rb_proto.specs.Arguments.{value_of, front}
 use Rattle.rb_proto.specs.Remote.{read_remote, args_of, SpellsRemote}
@@ -248,7 +248,7 @@ remote_spelled bytes remote n are e =
     let a = number_first _ bytes remote n are e in
     let b = number_first _ a.rest remote a.more a.are a.was in
     let c = number_first _ b.rest remote b.more b.are b.was in
-    let d = opaque_first longest_arguments _ c.rest remote c.more c.are c.was in
+    let d = opaque_first longest_forwarded _ c.rest remote c.more c.are c.was in
     let made : RemoteCall = record { prog = a.x; vers = b.x; proc = c.x; count = length d.x } in
     let z = ends made remote d.rest d.more d.was in
     let whole : bytes ≡ number a.x ++ (number b.x ++ (number c.x ++ (opaque d.x ++ d.rest))) =
@@ -259,7 +259,7 @@ remote_spelled bytes remote n are e =
       prog = a.fits;
       vers = b.fits;
       proc = c.fits;
-      args = subst (λ (xs : List ℕ). IsContent longest_arguments xs) (sym args) d.fits;
+      args = subst (λ (xs : List ℕ). IsContent longest_forwarded xs) (sym args) d.fits;
       count = ap length args;
       rest = d.rest;
       whole = whole ∙ ap (λ (xs : List ℕ). number a.x ++ (number b.x ++ (number c.x ++ (opaque xs ++ d.rest)))) (sym args);
@@ -271,5 +271,5 @@ remote_read remote bytes is =
     let args : List ℕ = args_of remote bytes in
     let made : RemoteCall = record remote { count = length args } in
     ap (front read_remote) is.whole
-    ∙ ap (λ (r : Reading RemoteCall). value_of r) (number_again _ remote.prog _ made _ is.prog (number_again _ remote.vers _ made _ is.vers (number_again _ remote.proc _ made _ is.proc (opaque_again longest_arguments _ args is.rest made 0 is.args refl))))
+    ∙ ap (λ (r : Reading RemoteCall). value_of r) (number_again _ remote.prog _ made _ is.prog (number_again _ remote.vers _ made _ is.vers (number_again _ remote.proc _ made _ is.proc (opaque_again longest_forwarded _ args is.rest made 0 is.args refl))))
     ∙ ap (λ (k : ℕ). Some (record remote { count = k })) is.count

@@ -7,7 +7,7 @@ use Rattle.rb_xdr.specs.declared.fault.XdrFault.{XdrFault}
 use Rattle.rb_xdr.specs.declared.fault.XdrFault.TheVariants.{Short, TooLong}
 use Rattle.rb_xdr.proofs.Readers.{ok_is, bind_ok}
 use Rattle.rb_rpc.specs.declared.call.CallHead.{CallHead}
-use Rattle.rb_forward.specs.Forwards.{longest_arguments}
+use Rattle.rb_forward.specs.Forwards.{longest_forwarded}
 use Rattle.rb_proto.specs.declared.remote.RemoteCall.{RemoteCall}
 use Rattle.rb_proto.specs.declared.procedure.MappingProcedure.TheVariants as mappings
 use Rattle.rb_proto.specs.declared.procedure.RpcbProcedure.TheVariants as rpcbs
@@ -65,13 +65,13 @@ content_is_there bytes remote n e =
     let proc_at : List ℕ = drop b.used vers_at in
     let c = bind_ok read_number _ proc_at remote b.more b.then_was in
     let args_at : List ℕ = drop c.used proc_at in
-    let d = bind_ok (read_opaque longest_arguments) _ args_at remote c.more c.then_was in
+    let d = bind_ok (read_opaque longest_forwarded) _ args_at remote c.more c.then_was in
     let made : RemoteCall = record { prog = a.x; vers = b.x; proc = c.x; count = length d.x } in
     let same : made ≡ remote = ap (λ (p : RemoteCall × ℕ). p.0) (ok_is (made, 0) (remote, d.more) d.then_was) in
     let p = number_there bytes a.x a.used a.was in
     let q = number_there vers_at b.x b.used b.was in
     let r = number_there proc_at c.x c.used c.was in
-    let o = opaque_there longest_arguments args_at d.x d.used d.was in
+    let o = opaque_there longest_forwarded args_at d.x d.used d.was in
     subst (λ (call : RemoteCall). HasContent call bytes) same
     (record {
       few = o.0;

@@ -8,7 +8,7 @@ use Rattle.rb_registry.specs.declared.row.Row.{Row}
 use Rattle.rb_registry.specs.declared.row.Which.{Which}
 use Rattle.rb_registry.specs.Rows.{Change, has_place, removes_some, is_of_key, is_change_left}
 use Rattle.rb_registry.specs.Rows.Change.{Added}
-use Rattle.rb_registry.specs.Registry.{Registry, rows_of, dead_count}
+use Rattle.rb_registry.specs.Registry.{Registry, rows_of, retained_count}
 use Rattle.rb_registry.specs.Table.{takes, StandsForMore}
 use Rattle.rb_stats.specs.Statistics.Note.{WasSet, WasUnset}
 use Rattle.rb_stats.specs.Counting.{HasNoted}
@@ -48,7 +48,7 @@ module _ (context : Context) (row : Row) (kept : Registry) (here : comes_from_he
   takes_what_has_place : takes kept row ≡ has_row_place
   takes_what_has_place = by_place has_row_place refl
     where
-      by_place : (b : Bool) → has_row_place ≡ b → (b && nat_lt (length (rows_of kept) + dead_count kept) kept.limit) ≡ b
+      by_place : (b : Bool) → has_row_place ≡ b → (b && nat_lt (length (rows_of kept) + retained_count kept) kept.limit) ≡ b
       by_place true e = lt-ltb _ _ (room (rw (here, can, ← limit) e))
       by_place false e = refl
 

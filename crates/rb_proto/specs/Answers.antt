@@ -4,7 +4,7 @@ use Rattle.std.specs.Option.{option_map_or}
 use Rattle.rb_rpc.specs.declared.call.CallHead.{CallHead}
 use Rattle.rb_uaddr.specs.declared.address.Uaddr.{Uaddr}
 use Rattle.rb_uaddr.specs.declared.address.Uaddr.TheVariants.{V4, V6}
-use Rattle.rb_uaddr.specs.Uaddr.{port_of, any_host, text_of, parse, merged, transport_of, from_transport}
+use Rattle.rb_uaddr.specs.Uaddr.{port_of, any_host, text_of, parse, merged_address, transport_of, from_transport}
 use Rattle.rb_registry.specs.declared.row.Netid.{Netid}
 use Rattle.rb_registry.specs.declared.row.Transport.{Transport}
 use Rattle.rb_registry.specs.declared.row.Owner.{Owner}
@@ -32,7 +32,7 @@ use Rattle.rb_proto.specs.declared.procedure.VoidProcedure.TheVariants as voids
 use Rattle.rb_proto.specs.declared.answers.Listing.TheVariants.{Mappings, Rpcbs, Entries}
 use Rattle.rb_proto.specs.declared.answers.Value.TheVariants as values
 use Rattle.rb_proto.specs.Callers.{is_local, peer_of, transport_of_caller, owner_of}
-use Rattle.rb_proto.specs.Ledger.{Ledger, rows_in, version_of, noted}
+use Rattle.rb_proto.specs.Ledger.{Ledger, rows_in, version_of, with_note}
 use Rattle.rb_proto.specs.Netids.{netid_named, which_of, transport_of_prot, address_in, is_address}
 use Rattle.rb_proto.specs.Forwarding.{forward_call}
 pub use Rattle.rb_proto.specs.declared.answers.Answer.{Answer}
@@ -134,7 +134,7 @@ unset_rows context head prog vers (Some which) l =
 
 -- the row's universal address as callers are told it: the listener's host stands in for 0.0.0.0
 unfoldable pub shown_address : List ℕ → Row → Option Uaddr
-shown_address host row = option_map (merged host) (address_in row.netid row.addr)
+shown_address host row = option_map (merged_address host) (address_in row.netid row.addr)
 
 -- an IPv4 address is told so; an IPv6 address and the name of a local socket stay as they were set
 abbrev pub told_text : Row → Option Uaddr → List ℕ
@@ -158,12 +158,12 @@ abbrev pub addr_found : List ℕ → Option Row → List ℕ
 addr_found host found = option_map_or text_of (option_and_then (shown_address host) found) []
 
 -- a look-up of the target, in a call of this head, is noted with whether it found a row
-abbrev pub looked_up : CallHead → Target → Option Row → Ledger → Ledger
-looked_up head target found l = noted (LookedUp (version_of head.vers) target (is_some found)) l
+abbrev pub with_lookup : CallHead → Target → Option Row → Ledger → Ledger
+with_lookup head target found l = with_note (LookedUp (version_of head.vers) target (is_some found)) l
 
 -- the port of the row that was looked up
 abbrev pub port_told : CallHead → Target → Option Row → Ledger → ℕ × Ledger
-port_told head target found l = (port_found found, looked_up head target found l)
+port_told head target found l = (port_found found, with_lookup head target found l)
 
 abbrev pub port_on : CallHead → Mapping → Option Transport → Ledger → ℕ × Ledger
 port_on head m None l = (0, l)
@@ -185,7 +185,7 @@ netid_asked context = netid_of (transport_of_caller context.caller)
 -- the address of the row that was looked up
 abbrev pub addr_told : Context → CallHead → Rpcb → Option Row → Ledger → List ℕ × Ledger
 addr_told context head r found l =
-    (addr_found context.listener.host found, looked_up head (target_of context r) found l)
+    (addr_found context.listener.host found, with_lookup head (target_of context r) found l)
 
 -- RPCBPROC_GETADDR
 unfoldable pub getaddr : Context → CallHead → Rpcb → Ledger → List ℕ × Ledger

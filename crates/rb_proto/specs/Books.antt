@@ -5,7 +5,7 @@ use Rattle.rb_rpc.specs.declared.peer.Caller.{Caller}
 use Rattle.rb_rpc.specs.declared.peer.Peer.{Peer}
 use Rattle.rb_registry.specs.declared.row.Row.{Row}
 use Rattle.rb_registry.specs.Slots.{slots_from}
-use Rattle.rb_registry.specs.Registry.{Registry, rows_of, dead_count, removals_of}
+use Rattle.rb_registry.specs.Registry.{Registry, rows_of, retained_count, removals_of}
 use Rattle.rb_stats.specs.Statistics.{Note}
 use Rattle.rb_forward.specs.StandsFor.{Table, slots_of}
 use Rattle.rb_forward.specs.Table.{OnlyWaitsAnew}
@@ -21,7 +21,7 @@ use Rattle.rb_proto.specs.declared.answers.Answer.{Answer}
 use Rattle.rb_proto.specs.declared.answers.Answer.TheVariants as answers
 use Rattle.rb_proto.specs.Ledger.{Ledger, StandsForLedger}
 use Rattle.rb_proto.specs.Answers.{adds, adds_row}
-use Rattle.rb_proto.specs.Forwarding.{outcome_note, forward_call, replied}
+use Rattle.rb_proto.specs.Forwarding.{outcome_note, forward_call, target_replied}
 
 -- the changes behind the first n that removed rows, in the order of these rows
 abbrev pub removals_after : ℕ → Ledger → List ℕ
@@ -76,7 +76,7 @@ wants_room_in context call kept = adds_row context call (rows_of kept) kept.stam
 
 -- one row more is within the limit, beside the live rows and the retained ones
 abbrev pub HasPlaceLeft : Registry → Type 0
-HasPlaceLeft kept = length (rows_of kept) + dead_count kept < kept.limit
+HasPlaceLeft kept = length (rows_of kept) + retained_count kept < kept.limit
 
 -- where the row is accepted, there is room for it
 abbrev pub HasRoomFor : Context → Option Row → Registry → Type 0
@@ -106,7 +106,7 @@ ForwardsAs context xid kind remote arguments old new result =
 
 -- what a datagram does, where the books number the entries
 abbrev pub reply_to : Books → ℕ → Peer → List ℕ → Ledger → Option Ended × Ledger
-reply_to books clock from bytes = replied books.forwards.first_xid clock from bytes
+reply_to books clock from bytes = target_replied books.forwards.first_xid clock from bytes
 
 -- the call that is to be sent next, where the books number the entries
 abbrev pub unsent_of : Books → Ledger → Option Unsent

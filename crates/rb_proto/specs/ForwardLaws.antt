@@ -11,13 +11,13 @@ use Rattle.rb_stats.specs.Statistics.{Note}
 use Rattle.rb_stats.specs.Statistics.Note.{Forwarded}
 use Rattle.rb_forward.specs.declared.types.Kind.{Kind}
 use Rattle.rb_forward.specs.declared.types.Forward.{Forward}
-use Rattle.rb_forward.specs.Forwards.{started}
+use Rattle.rb_forward.specs.Forwards.{with_next_entry}
 use Rattle.rb_proto.specs.declared.answers.Answer.TheVariants as answers
 use Rattle.rb_proto.specs.declared.context.Context.{Context}
 use Rattle.rb_proto.specs.declared.remote.RemoteCall.{RemoteCall}
 use Rattle.rb_proto.specs.Remote.{args_of}
 use Rattle.rb_proto.specs.Ledger.{Ledger, rows_in}
-use Rattle.rb_proto.specs.Forwarding.{loopback, forward_call, replied, fell_due, caller_dropped, call_sent}
+use Rattle.rb_proto.specs.Forwarding.{loopback, forward_call, target_replied, fell_due, caller_dropped, call_sent}
 
 -- ---- where calls go
 
@@ -54,7 +54,7 @@ pub record AsksRegistered (context : Context) (rows : List Row) (remote : Remote
 pub record IsForwarded (context : Context) (xid : ℕ) (kind : Kind) (remote : RemoteCall) (arguments : List ℕ) (l : Ledger) : Type 0 where
   pub forward : Forward
   pub asks : AsksRegistered context (rows_in l) remote forward
-  pub left : (forward_call context xid kind remote arguments l).1 ≡ record l { forwards = started context.clock forward (args_of remote arguments) l.forwards }
+  pub left : (forward_call context xid kind remote arguments l).1 ≡ record l { forwards = with_next_entry context.clock forward (args_of remote arguments) l.forwards }
 
 abbrev pub ForwardsGoToRows : Type 0
 ForwardsGoToRows =
@@ -75,7 +75,7 @@ asked_so_far l = count_by is_outcome l.history + length l.forwards.all
 pub record IsNotedOnce (l : Ledger) : Type 0 where
   pub comes : (context : Context) (xid : ℕ) (kind : Kind) (remote : RemoteCall) (arguments : List ℕ) → asked_so_far (forward_call context xid kind remote arguments l).1 ≡ asked_so_far l + 1
   pub is_sent : (number : ℕ) → asked_so_far (call_sent number l) ≡ asked_so_far l
-  pub is_answered : (first_xid clock : ℕ) (from : Peer) (message : List ℕ) → asked_so_far (replied first_xid clock from message l).1 ≡ asked_so_far l
+  pub is_answered : (first_xid clock : ℕ) (from : Peer) (message : List ℕ) → asked_so_far (target_replied first_xid clock from message l).1 ≡ asked_so_far l
   pub falls_due : (clock : ℕ) → asked_so_far (fell_due clock l).1 ≡ asked_so_far l
   pub is_dropped : (id : ℕ) → asked_so_far (caller_dropped id l).1 ≡ asked_so_far l
 

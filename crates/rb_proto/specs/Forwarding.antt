@@ -21,14 +21,14 @@ use Rattle.rb_forward.specs.declared.types.Forward.{Forward}
 use Rattle.rb_forward.specs.declared.types.Outcome.{Outcome}
 use Rattle.rb_forward.specs.declared.types.Outcome.TheVariants as outcomes
 use Rattle.rb_forward.specs.declared.types.Ended.{Ended}
-use Rattle.rb_forward.specs.Forwards.{Forwards, reply, due, drop_caller, can_start, started, sent}
+use Rattle.rb_forward.specs.Forwards.{Forwards, reply, due, drop_caller, can_start, with_next_entry, sent}
 use Rattle.rb_proto.specs.declared.context.Context.{Context}
 use Rattle.rb_proto.specs.declared.remote.RemoteCall.{RemoteCall}
 use Rattle.rb_proto.specs.declared.answers.Answer.{Answer}
 use Rattle.rb_proto.specs.declared.answers.Answer.TheVariants as answers
 use Rattle.rb_proto.specs.Callers.{transport_of_caller}
 use Rattle.rb_proto.specs.Netids.{address_in}
-use Rattle.rb_proto.specs.Ledger.{Ledger, rows_in, noted}
+use Rattle.rb_proto.specs.Ledger.{Ledger, rows_in, with_note}
 use Rattle.rb_proto.specs.Remote.{args_of}
 
 -- ---- what is noted
@@ -100,14 +100,14 @@ refusal Indirect status = answers.Refused status
 -- what is refused at once is noted as a failure
 abbrev pub refuse : Context → Kind → RemoteCall → ReplyStatus → Ledger → Answer × Ledger
 refuse context kind remote status l =
-    (refusal kind status, noted (outcome_note kind context.caller remote.prog remote.vers remote.proc false) l)
+    (refusal kind status, with_note (outcome_note kind context.caller remote.prog remote.vers remote.proc false) l)
 
 -- a call of these arguments, to the registered host and port if there is one
 abbrev pub forward_to : Context → ℕ → Kind → RemoteCall → List ℕ → Option Peer → Ledger → Answer × Ledger
 forward_to context xid kind remote args None l = refuse context kind remote replies.ProgUnavail l
 forward_to context xid kind remote args (Some registered) l =
     if can_start context.forwards l.forwards
-    then (answers.Forwarded, record l { forwards = started context.clock (forward_of context xid kind remote registered) args l.forwards })
+    then (answers.Forwarded, record l { forwards = with_next_entry context.clock (forward_of context xid kind remote registered) args l.forwards })
     else refuse context kind remote replies.SystemErr l
 
 -- A call of this xid asks to have another one made: CALLIT, BCAST and INDIRECT.
@@ -136,8 +136,8 @@ abbrev pub noted_end : Option Ended × Forwards → Ledger → Option Ended × L
 noted_end ended l = (ended.0, record l { history = l.history ++ end_notes ended.0; forwards = ended.1 })
 
 -- a datagram comes in: from whom, at which moment, behind the xid of the first entry
-unfoldable pub replied : ℕ → ℕ → Peer → List ℕ → Ledger → Option Ended × Ledger
-replied first_xid clock from message l = noted_end (reply first_xid clock from message l.forwards) l
+unfoldable pub target_replied : ℕ → ℕ → Peer → List ℕ → Ledger → Option Ended × Ledger
+target_replied first_xid clock from message l = noted_end (reply first_xid clock from message l.forwards) l
 
 -- one entry whose deadline has come ends
 unfoldable pub fell_due : ℕ → Ledger → Option Ended × Ledger

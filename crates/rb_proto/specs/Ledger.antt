@@ -35,12 +35,12 @@ unfoldable pub version_of : ℕ → Version
 version_of vers = if vers == 2 then Two else if vers == 3 then Three else Four
 
 -- a note behind the others
-abbrev pub noted : Note → Ledger → Ledger
-noted note l = record l { history = l.history ++ note ∷ [] }
+abbrev pub with_note : Note → Ledger → Ledger
+with_note note l = record l { history = l.history ++ note ∷ [] }
 
 -- a call of a procedure that its version has is noted before it is answered, whether its arguments can be read or not
-unfoldable pub called : CallHead → Ledger → Ledger
-called head l = noted (Called (version_of head.vers) head.proc) l
+unfoldable pub with_call_noted : CallHead → Ledger → Ledger
+with_call_noted head l = with_note (Called (version_of head.vers) head.proc) l
 
 -- ---- what stands for it
 

@@ -50,15 +50,15 @@ abbrev pub IsBehindPart : List ℕ → Registry → ListReply → ListReply → 
 IsBehindPart host kept old new = rest_of host kept new ≡ drop longest_part (rest_of host kept old)
 
 -- The rows of the reply can be told, and what was given of that at the cursor is no more than a row adds.
-pub record IsTold (kept : Registry) (r : ListReply) : Type 0 where
+pub record CanBeContinued (kept : Registry) (r : ListReply) : Type 0 where
   pub place : StandsIn kept r.stamp r.cursor
   pub given : r.given ≤ longest_row
 
 -- in the new registry too the rows of the reply can be told, and the same is yet to be given
-pub record StaysTold (old new : Registry) (r : ListReply) : Type 0 where
-  pub told : IsTold new r
+pub record ContinuesAlike (old new : Registry) (r : ListReply) : Type 0 where
+  pub told : CanBeContinued new r
   pub rest : (host : List ℕ) → rest_of host new r ≡ rest_of host old r
 
 -- Whatever is called in between, the same is yet to be given, as long as the floor isn't above the reply's stamp.
 abbrev pub ListRepliesGoOn : Type 0
-ListRepliesGoOn = (old new : Registry) (r : ListReply) → GoesOn old new → new.floor ≤ r.stamp → IsTold old r → StaysTold old new r
+ListRepliesGoOn = (old new : Registry) (r : ListReply) → GoesOn old new → new.floor ≤ r.stamp → CanBeContinued old r → ContinuesAlike old new r

@@ -1,7 +1,7 @@
 -- The bytes of an answer's results (RFC 1833 sections 2.2 and 3.2).
 use Rattle.std.specs.Prelude.{ℕ, ◌==◌, Bool, true, false, ◌&&◌, if◌then◌else◌, List, [], ◌++◌, map, filter, take, drop}
 use Rattle.std.specs.List.{flat_map}
-use Rattle.rb_xdr.specs.Xdr.{number, boolean, opaque, listed}
+use Rattle.rb_xdr.specs.Xdr.{number, boolean, opaque, linked_list}
 use Rattle.rb_registry.specs.declared.row.Netid.{Netid}
 use Rattle.rb_registry.specs.declared.row.Row.{Row}
 use Rattle.rb_registry.specs.declared.row.Which.TheVariants.{Inet}
@@ -60,9 +60,9 @@ entry_of host row = record {
 
 -- the rows that a list shows, in their order
 abbrev pub list_bytes : List ℕ → List Row → Listing → List ℕ
-list_bytes host rows Mappings = listed mapping_spelling (map mapping_of (filter is_inet rows))
-list_bytes host rows Rpcbs = listed rpcb_spelling (map rpcb_of rows)
-list_bytes host rows (Entries prog vers) = listed entry_spelling (map (entry_of host) (filter (is_version prog vers) rows))
+list_bytes host rows Mappings = linked_list mapping_spelling (map mapping_of (filter is_inet rows))
+list_bytes host rows Rpcbs = linked_list rpcb_spelling (map rpcb_of rows)
+list_bytes host rows (Entries prog vers) = linked_list entry_spelling (map (entry_of host) (filter (is_version prog vers) rows))
 
 -- ---- all results
 

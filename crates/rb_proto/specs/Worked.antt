@@ -17,7 +17,7 @@ use Rattle.rb_proto.specs.declared.answers.Answer.TheVariants as answers
 use Rattle.rb_proto.specs.declared.answers.Listing.TheVariants.{Mappings}
 use Rattle.rb_proto.specs.Arguments.{Request, read_request}
 use Rattle.rb_proto.specs.Callers.{own_rows}
-use Rattle.rb_proto.specs.Ledger.{Ledger, fresh_ledger, called}
+use Rattle.rb_proto.specs.Ledger.{Ledger, fresh_ledger, with_call_noted}
 use Rattle.rb_proto.specs.Answers.{Answer, Call, Context, answer}
 use Rattle.rb_proto.specs.Results.{list_bytes, result_bytes, shown_of}
 
@@ -69,13 +69,13 @@ results_in (answers.Refused status) l = []
 results_in answers.Forwarded l = []
 results_in answers.Silent l = []
 
-abbrev pub shown : Answer × Ledger → Result (List ℕ) ArgumentFault × Ledger
-shown given = (Ok (results_in given.0 given.1), given.1)
+abbrev pub with_results : Answer × Ledger → Result (List ℕ) ArgumentFault × Ledger
+with_results given = (Ok (results_in given.0 given.1), given.1)
 
 -- the results, or why there are none, and the ledger after it
 abbrev pub outcome : ℕ → Message → Ledger → Result Request ArgumentFault → Result (List ℕ) ArgumentFault × Ledger
-outcome limit m l (Ok request) = shown (answer (context_of limit m) (call_of m request) m.args (called (head_of m) l))
-outcome limit m l (Err GarbageArgs) = (Err GarbageArgs, called (head_of m) l)
+outcome limit m l (Ok request) = with_results (answer (context_of limit m) (call_of m request) m.args (with_call_noted (head_of m) l))
+outcome limit m l (Err GarbageArgs) = (Err GarbageArgs, with_call_noted (head_of m) l)
 outcome limit m l (Err ProcUnavail) = (Err ProcUnavail, l)
 
 -- of calls one after another, over this limit of rows

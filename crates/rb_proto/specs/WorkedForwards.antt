@@ -17,7 +17,7 @@ use Rattle.rb_forward.specs.declared.types.Kind.TheVariants.{Callit2, Callit3, B
 use Rattle.rb_forward.specs.declared.types.Ended.{Ended}
 use Rattle.rb_forward.specs.declared.types.Outcome.{Outcome}
 use Rattle.rb_forward.specs.declared.types.Outcome.TheVariants as outcomes
-use Rattle.rb_forward.specs.Forwards.{no_forwards, started}
+use Rattle.rb_forward.specs.Forwards.{no_forwards, with_next_entry}
 use Rattle.rb_proto.specs.declared.answers.Answer.TheVariants as answers
 use Rattle.rb_proto.specs.declared.request.ArgumentFault.{ArgumentFault}
 use Rattle.rb_proto.specs.declared.request.ArgumentFault.TheVariants.{GarbageArgs}
@@ -26,9 +26,9 @@ use Rattle.rb_proto.specs.declared.remote.RemoteCall.{RemoteCall}
 use Rattle.rb_proto.specs.Arguments.{Request, is_known, read_request}
 use Rattle.rb_proto.specs.Callers.{own_rows}
 use Rattle.rb_proto.specs.Remote.{args_of}
-use Rattle.rb_proto.specs.Ledger.{Ledger, fresh_ledger, noted}
+use Rattle.rb_proto.specs.Ledger.{Ledger, fresh_ledger, with_note}
 use Rattle.rb_proto.specs.Answers.{Answer, answer}
-use Rattle.rb_proto.specs.Forwarding.{loopback, replied, fell_due, caller_dropped, call_sent, forwarded_bytes}
+use Rattle.rb_proto.specs.Forwarding.{loopback, target_replied, fell_due, caller_dropped, call_sent, forwarded_bytes}
 use Rattle.rb_proto.specs.Worked.{Message, listener, call, call_with, context_of, call_of, outcome, results_behind, says, rpcb_args}
 
 -- ---- calls
@@ -46,8 +46,8 @@ answer_of places m l (Ok request) = Some (answer (record (context_of 300 m) { fo
 answer_of places m l (Err fault) = None
 
 -- what a call is answered where so many calls may be forwarded at a time, and what it leaves
-abbrev pub answered : ℕ → Message → Ledger → Option (Answer × Ledger)
-answered places m l = answer_of places m l (read_request m.vers m.proc m.args)
+abbrev pub answer_to : ℕ → Message → Ledger → Option (Answer × Ledger)
+answer_to places m l = answer_of places m l (read_request m.vers m.proc m.args)
 
 -- calls of procedure 0 of a program's version, without arguments
 abbrev pub indirect : ℕ → ℕ → Message
@@ -57,8 +57,8 @@ abbrev pub callit : ℕ → ℕ → Message
 callit prog vers = call 2 5 (prog ∷ vers ∷ 0 ∷ 0 ∷ [])
 
 -- (200001, 1) on udp, at port 2049 of every host
-abbrev pub registered : Ledger
-registered = left_by fresh (call 2 1 (200001 ∷ 1 ∷ 17 ∷ 2049 ∷ []) ∷ [])
+abbrev pub one_registered : Ledger
+one_registered = left_by fresh (call 2 1 (200001 ∷ 1 ∷ 17 ∷ 2049 ∷ []) ∷ [])
 
 -- the notes of an INDIRECT and of a CALLIT that fail
 abbrev pub indirect_failed : ℕ → ℕ → Note
@@ -70,8 +70,8 @@ callit_failed prog vers = Forwarded versions.Two (record { prog = prog; vers = v
 -- where so many calls may be forwarded, the INDIRECT is refused so, and the CALLIT is silent
 abbrev pub IsRefused : ℕ → ℕ → ℕ → Answer → Ledger → Type 0
 IsRefused places prog vers refused l =
-    (answered places (indirect prog vers) l ≡ Some (refused, noted (indirect_failed prog vers) l))
-    × (answered places (callit prog vers) l ≡ Some (answers.Silent, noted (callit_failed prog vers) l))
+    (answer_to places (indirect prog vers) l ≡ Some (refused, with_note (indirect_failed prog vers) l))
+    × (answer_to places (callit prog vers) l ≡ Some (answers.Silent, with_note (callit_failed prog vers) l))
 
 -- ---- the table of procedures
 
@@ -95,23 +95,23 @@ GreatestArguments =
 -- ---- what is refused
 
 abbrev pub WithoutRow : Type 0
-WithoutRow = IsRefused 4 200003 1 (answers.Refused replies.ProgUnavail) registered
+WithoutRow = IsRefused 4 200003 1 (answers.Refused replies.ProgUnavail) one_registered
 
 -- a row of another version, or of tcp, is none
 abbrev pub WithOtherRows : Type 0
 WithOtherRows =
-    IsRefused 4 200001 2 (answers.Refused replies.ProgUnavail) registered
+    IsRefused 4 200001 2 (answers.Refused replies.ProgUnavail) one_registered
     × IsRefused 4 200001 1 (answers.Refused replies.ProgUnavail) (left_by fresh (call 2 1 (200001 ∷ 1 ∷ 6 ∷ 2049 ∷ []) ∷ []))
 
 -- the portmapper's own rows are not forwarded to
 abbrev pub PortmapperIsNotCalled : Type 0
-PortmapperIsNotCalled = IsRefused 4 rpcb_prog 4 (answers.Refused replies.ProgUnavail) registered
+PortmapperIsNotCalled = IsRefused 4 rpcb_prog 4 (answers.Refused replies.ProgUnavail) one_registered
 
 -- no place for a forwarded call; a missing row comes first
 abbrev pub TableIsFull : Type 0
 TableIsFull =
-    IsRefused 0 200001 1 (answers.Refused replies.SystemErr) registered
-    × IsRefused 0 200003 1 (answers.Refused replies.ProgUnavail) registered
+    IsRefused 0 200001 1 (answers.Refused replies.SystemErr) one_registered
+    × IsRefused 0 200003 1 (answers.Refused replies.ProgUnavail) one_registered
 
 -- GETSTAT after an INDIRECT and a CALLIT without a row
 abbrev pub FailuresAreCounted : Type 0
@@ -148,10 +148,10 @@ at_moment clock m = record m { clock = clock }
 abbrev pub AnyHostIsThisMachine : Type 0
 AnyHostIsThisMachine =
     let m : Message = at_moment 1000 (indirect 200001 1) in
-    answered 4 m registered
+    answer_to 4 m one_registered
     ≡ Some (
       answers.Forwarded,
-      record registered { forwards = started 1000 (forward_at Indirect m.caller loopback listener.host) [] no_forwards },
+      record one_registered { forwards = with_next_entry 1000 (forward_at Indirect m.caller loopback listener.host) [] no_forwards },
     )
 
 -- (200001, 1) on udp, at 10.0.0.5
@@ -162,18 +162,18 @@ elsewhere = left_by fresh (call_with credentials.None 4 1 (rpcb_args 200001 1 (c
 abbrev pub OtherHostsStay : Type 0
 OtherHostsStay =
     let m : Message = call 4 5 (200001 ∷ 1 ∷ 0 ∷ 4 ∷ 7 ∷ 9 ∷ []) in
-    answered 4 m elsewhere
+    answer_to 4 m elsewhere
     ≡ Some (
       answers.Forwarded,
-      record elsewhere { forwards = started 0 (forward_at Bcast m.caller (10 ∷ 0 ∷ 0 ∷ 5 ∷ []) (10 ∷ 0 ∷ 0 ∷ 5 ∷ [])) (words (7 ∷ [])) no_forwards },
+      record elsewhere { forwards = with_next_entry 0 (forward_at Bcast m.caller (10 ∷ 0 ∷ 0 ∷ 5 ∷ []) (10 ∷ 0 ∷ 0 ∷ 5 ∷ [])) (words (7 ∷ [])) no_forwards },
     )
 
 -- ---- how it ends
 
 -- a call of this kind that waits, in a ledger without notes
-abbrev pub waiting : Kind → Caller → Ledger
-waiting kind caller =
-    call_sent 1 (record fresh { forwards = started 1000 (forward_at kind caller loopback listener.host) [] no_forwards })
+abbrev pub one_sent : Kind → Caller → Ledger
+one_sent kind caller =
+    call_sent 1 (record fresh { forwards = with_next_entry 1000 (forward_at kind caller loopback listener.host) [] no_forwards })
 
 -- the entry ended so, and this was noted
 abbrev pub EndsWithNote : Kind → Caller → Outcome → Note → Option Ended × Ledger → Type 0
@@ -191,30 +191,30 @@ by_connection = Tcp 3 (record { host = loopback; port = 900 })
 
 -- an accepted reply by the target, at moment 2000, without results
 abbrev pub target_said : List ℕ → Ledger → Option Ended × Ledger
-target_said numbers l = replied 1000 2000 (at_host loopback) (words (1000 ∷ 1 ∷ 0 ∷ 0 ∷ 0 ∷ numbers)) l
+target_said numbers l = target_replied 1000 2000 (at_host loopback) (words (1000 ∷ 1 ∷ 0 ∷ 0 ∷ 0 ∷ numbers)) l
 
 abbrev pub EndsAreNoted : Type 0
 EndsAreNoted =
     EndsWithNote Indirect by_datagram (outcomes.Passed 24)
     (Forwarded versions.Four (record { prog = 200001; vers = 1; transport = transports.Udp }) 0 true true)
-    (target_said (0 ∷ []) (waiting Indirect by_datagram))
+    (target_said (0 ∷ []) (one_sent Indirect by_datagram))
     × EndsWithNote Callit3 by_connection (outcomes.Passed 24)
     (Forwarded versions.Three (record { prog = 200001; vers = 1; transport = transports.Tcp }) 0 true false)
-    (target_said (0 ∷ []) (waiting Callit3 by_connection))
+    (target_said (0 ∷ []) (one_sent Callit3 by_connection))
     × EndsWithNote Bcast by_datagram (outcomes.Refused replies.ProcUnavail)
     (Forwarded versions.Four (record { prog = 200001; vers = 1; transport = transports.Udp }) 0 false false)
-    (target_said (3 ∷ []) (waiting Bcast by_datagram))
-    × EndsWithNote Callit2 by_datagram outcomes.Failed (callit_failed 200001 1) (fell_due 6000 (waiting Callit2 by_datagram))
+    (target_said (3 ∷ []) (one_sent Bcast by_datagram))
+    × EndsWithNote Callit2 by_datagram outcomes.Failed (callit_failed 200001 1) (fell_due 6000 (one_sent Callit2 by_datagram))
     × EndsWithNote Callit2 by_connection outcomes.Dropped
     (Forwarded versions.Two (record { prog = 200001; vers = 1; transport = transports.Tcp }) 0 false false)
-    (caller_dropped 3 (waiting Callit2 by_connection))
+    (caller_dropped 3 (one_sent Callit2 by_connection))
 
 -- what does not end a call is not noted
 abbrev pub OthersAreNotNoted : Type 0
 OthersAreNotNoted =
-    let l : Ledger = waiting Indirect by_datagram in
+    let l : Ledger = one_sent Indirect by_datagram in
     (fell_due 5999 l ≡ (None, l)) × (caller_dropped 3 l ≡ (None, l))
-    × (replied 1000 2000 (at_host listener.host) (words (1000 ∷ 1 ∷ 0 ∷ 0 ∷ 0 ∷ 0 ∷ [])) l ≡ (None, l))
+    × (target_replied 1000 2000 (at_host listener.host) (words (1000 ∷ 1 ∷ 0 ∷ 0 ∷ 0 ∷ 0 ∷ [])) l ≡ (None, l))
 
 -- ---- results that passed
 

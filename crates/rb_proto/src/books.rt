@@ -69,7 +69,7 @@ impl Books {
     ghost use Rattle.rb_forward.specs.Forwards.{can_be_sent};
     ghost use Rattle.rb_forward.specs.Outcomes.{PassesWithin};
     ghost use Rattle.rb_forward.specs.StandsFor.{slots_of, longest_call};
-    ghost use Rattle.rb_forward.specs.Table.{seen, count_lent, is_waiting, IsNew, NoneWaitsAnew};
+    ghost use Rattle.rb_forward.specs.Table.{plain_unsent, count_lent, is_waiting, IsNew, NoneWaitsAnew};
     ghost use Rattle.rb_proto.specs.Forwarding.{fell_due, caller_dropped, call_sent};
     ghost use Rattle.rb_proto.specs.Books.{unsent_of, reply_to, removals_in, wants_room_in, BooksShow, IsOkWhere, ActsAs, Becomes, AreTied, SameFrame};
     ghost use Rattle.rb_proto.specs.Puts.{ending_cost, lending_cost, room_cost};
@@ -78,7 +78,7 @@ impl Books {
     ghost use Rattle.rb_registry.specs.Table.{floor_told, later_than};
     ghost use Rattle.rb_registry.specs.Cursors.{GoesOn};
     ghost use Rattle.rb_proto.specs.Callers.{own_rows};
-    ghost use Rattle.rb_proto.specs.Ledger.{Ledger, StandsForLedger, fresh_ledger, called};
+    ghost use Rattle.rb_proto.specs.Ledger.{Ledger, StandsForLedger, fresh_ledger, with_call_noted};
 
     /// Books with the listener's own six rows alone, for at most `limit` rows and at most `forwards` forwarded calls
     /// at a time, the first with the xid `first_xid`. `BadLimits` where `limit` is below 6, else `NoMemory` where an
@@ -113,9 +113,9 @@ impl Books {
 
     /// Notes a call of a procedure that its version has, before it is answered: those too whose arguments can't be
     /// read (RFC 1833 section 2.1, rpcb_stat).
-    #[tactic(auto, unfolding(crate::specs::Ledger::called))]
+    #[tactic(auto, unfolding(crate::specs::Ledger::with_call_noted))]
     pub fn note_call(&mut self, head: &CallHead)
-        ensures called { Becomes (called head.now) self.old self.new }
+        ensures called { Becomes (with_call_noted head.now) self.old self.new }
         ensures registry { self.new.registry ≡ self.old.registry }
         ensures forwards { self.new.forwards ≡ self.old.forwards }
         ensures frame { SameFrame self.old self.new }
@@ -161,7 +161,7 @@ impl Books {
     /// sent. It has at most 8,840 bytes.
     pub fn unsent(&self, meter: &mut Meter) -> Option<Unsent<'_>>
         requires { AreTied meter.old.tie self.now }
-        ensures unsent { BooksShow (unsent_of self.now) self.now (seen result) }
+        ensures unsent { BooksShow (unsent_of self.now) self.now (plain_unsent result) }
         ensures few { IfSome result (λ lent. length lent.call.now ≤ longest_call) }
         ensures cost { PaysAtMost meter.old meter.new (lending_cost self.now (count_lent result)) }
     {
@@ -187,7 +187,7 @@ impl Books {
     /// Takes a datagram that came from the peer `from` at the moment `clock`, in milliseconds. Where it is a reply to
     /// forwarded calls, that of least number ends, and its outcome is noted. Any other datagram changes nothing, and
     /// the answer is `None`.
-    #[tactic(auto, unfolding(crate::specs::Forwarding::replied))]
+    #[tactic(auto, unfolding(crate::specs::Forwarding::target_replied))]
     pub fn reply(
         &mut self,
         clock: u64,

@@ -5,7 +5,7 @@ ghost use Rattle.rb_xdr.specs.Puts.{Appends};
 ghost use Rattle.rb_registry.specs.Registry.{slots_of};
 ghost use Rattle.rb_registry.specs.Cursors.{StandsIn};
 ghost use Rattle.rb_proto.specs.ListReplies.{longest_part, longest_row, part_room, head_unless, rest_of};
-ghost use Rattle.rb_proto.specs.ListParts.{ListsRows, IsNextPart, IsBehindPart, IsTold, Fills};
+ghost use Rattle.rb_proto.specs.ListParts.{ListsRows, IsNextPart, IsBehindPart, CanBeContinued, Fills};
 ghost use Rattle.rb_proto.specs.Puts.{fill_cost, part_cost};
 
 use crate::answers::Listing;
@@ -59,7 +59,7 @@ impl ListReply {
     /// A reply under this xid, of which nothing was given, with the rows that are live now. It costs nothing.
     pub fn new(xid: u32, list: Listing, registry: &Registry) -> ListReply
         ensures rest { ListsRows xid list registry.now result }
-        ensures told { IsTold registry.now result }
+        ensures told { CanBeContinued registry.now result }
         ensures stamp { result.stamp ≡ registry.now.stamp }
     {
         ListReply {
@@ -92,7 +92,7 @@ impl ListReply {
         requires registry { meter.old.tie ≡ registry.now.tie }
         requires tie { meter.old.tie ≡ out.old.tie }
         requires room { part_room ≤ out.old.cap }
-        requires told { IsTold registry.now self.old }
+        requires told { CanBeContinued registry.now self.old }
         ensures part { IsNextPart host registry.now self.old out.new.bytes result }
         ensures rest { IsBehindPart host registry.now self.old self.new }
         ensures last { result.last
@@ -100,7 +100,7 @@ impl ListReply {
         ensures range { result.start ≤ result.end }
         ensures few { result.end ≤ result.start + longest_part }
         ensures within { result.end ≤ length out.new.bytes }
-        ensures told { IsTold registry.now self.new }
+        ensures told { CanBeContinued registry.now self.new }
         ensures stamp { self.new.stamp ≡ self.old.stamp }
         ensures cap { out.new.cap ≡ out.old.cap }
         ensures tie { out.new.tie ≡ out.old.tie }

@@ -3,7 +3,7 @@ ghost use Rattle.std.specs.Prelude.{◌≡◌, IfSome};
 ghost use Rattle.rb_proto.specs.Arguments.{front};
 ghost use Rattle.rb_proto.specs.Remote.{HasContent, read_remote, args_of};
 
-use rb_forward::LONGEST_ARGUMENTS;
+use rb_forward::LONGEST_FORWARDED;
 use rb_xdr::{Xdr, XdrFault, take_opaque};
 
 /// Where the content of args begins, behind three numbers and its count.
@@ -38,7 +38,7 @@ impl RemoteCall {
     }
 
     /// The same with where it ends, or the first fault.
-    #[tactic(auto, unfolding(crate::specs::Remote::read_remote, rb_forward::specs::Forwards::longest_arguments))]
+    #[tactic(auto, unfolding(crate::specs::Remote::read_remote, rb_forward::specs::Forwards::longest_forwarded))]
     fn read_front(bytes: &[u8]) -> Result<(RemoteCall, usize), XdrFault>
         ensures { result ≡ read_remote bytes.now }
     {
@@ -48,7 +48,7 @@ impl RemoteCall {
         let bytes = &bytes[second..];
         let (proc, third) = u32::read(bytes)?;
         let bytes = &bytes[third..];
-        let (args, fourth) = take_opaque(bytes, LONGEST_ARGUMENTS)?;
+        let (args, fourth) = take_opaque(bytes, LONGEST_FORWARDED)?;
         let count = args.len();
         let used = first + (second + (third + fourth));
         Ok((

@@ -4,18 +4,18 @@ use Rattle.std.proofs.Common.{◌≡◌, ◌+◌, ℕ, Bool, true, false, List, 
 use Rattle.std.proofs.lemmas.List.{take-append-le, take_all}
 use Rattle.std.proofs.Math.Seq.{take-append-add}
 use Rattle.std.proofs.lemmas.List.Folds.{concat-append}
-use Rattle.rb_record.specs.Tapes.{Tape, ending, EndsWithin, Records, HasFirst, IsRecordOf, empty_tape}
+use Rattle.rb_record.specs.Tapes.{Tape, last_line, EndsWithin, Records, HasFirst, IsRecordOf, empty_tape}
 
 -- some entries behind others
 behind : (front : List ℕ) (xs ys : List (List ℕ)) → (front ++ concat xs) ++ concat ys ≡ front ++ concat (xs ++ ys)
 behind front xs ys =
     append_assoc front (concat xs) (concat ys) ∙ ap (λ (t : List ℕ). front ++ t) (sym (concat-append xs ys))
 
-ended_behind : (front : List ℕ) (xs ys : List (List ℕ)) (k : ℕ) → (front ++ concat xs) ++ (concat (take k ys) ++ ending) ≡ front ++ (concat (take (length xs + k) (xs ++ ys)) ++ ending)
+ended_behind : (front : List ℕ) (xs ys : List (List ℕ)) (k : ℕ) → (front ++ concat xs) ++ (concat (take k ys) ++ last_line) ≡ front ++ (concat (take (length xs + k) (xs ++ ys)) ++ last_line)
 ended_behind front xs ys k =
-    sym (append_assoc (front ++ concat xs) (concat (take k ys)) ending)
-    ∙ ap (λ (t : List ℕ). t ++ ending) (behind front xs (take k ys) ∙ ap (λ (zs : List (List ℕ)). front ++ concat zs) (sym (take-append-add xs ys k)))
-    ∙ append_assoc front (concat (take (length xs + k) (xs ++ ys))) ending
+    sym (append_assoc (front ++ concat xs) (concat (take k ys)) last_line)
+    ∙ ap (λ (t : List ℕ). t ++ last_line) (behind front xs (take k ys) ∙ ap (λ (zs : List (List ℕ)). front ++ concat zs) (sym (take-append-add xs ys k)))
+    ∙ append_assoc front (concat (take (length xs + k) (xs ++ ys))) last_line
 
 -- entries behind others that were recorded
 pub records_more : (first second : List (List ℕ)) (old mid new : Tape) → Records first old mid → Records second mid new → Records (first ++ second) old new
@@ -34,14 +34,14 @@ records_more first second old mid new one two = record {
         record {
           count = length first + e.count;
           some_are_left = omega (arith, e.some_are_left, length-append first second);
-          text = e.text ∙ ap (λ (t : List ℕ). t ++ (concat (take e.count second) ++ ending)) (one.grows is) ∙ ended_behind old.text first second e.count;
+          text = e.text ∙ ap (λ (t : List ℕ). t ++ (concat (take e.count second) ++ last_line)) (one.grows is) ∙ ended_behind old.text first second e.count;
         }
     by_mid was off false is =
         let e = one.ends was is in
         record {
           count = e.count;
           some_are_left = omega (arith, e.some_are_left, length-append first second);
-          text = ap (λ (t : Tape). t.text) (two.stays is) ∙ e.text ∙ ap (λ (zs : List (List ℕ)). old.text ++ (concat zs ++ ending)) (sym (take-append-le e.count first second (omega (arith, e.some_are_left))));
+          text = ap (λ (t : Tape). t.text) (two.stays is) ∙ e.text ∙ ap (λ (zs : List (List ℕ)). old.text ++ (concat zs ++ last_line)) (sym (take-append-le e.count first second (omega (arith, e.some_are_left))));
         }
 
 -- ---- records of a run
@@ -76,9 +76,9 @@ record_goes_on entries more old new was records = record {
         record {
           count = length entries + e.count;
           are_there = omega (arith, e.some_are_left, length-append entries more);
-          last = ending;
+          last = last_line;
           last_is = inr refl;
-          is = e.text ∙ ap (λ (t : List ℕ). t ++ (concat (take e.count more) ++ ending)) (was.all on) ∙ ended_behind [] entries more e.count;
+          is = e.text ∙ ap (λ (t : List ℕ). t ++ (concat (take e.count more) ++ last_line)) (was.all on) ∙ ended_behind [] entries more e.count;
         }
 
     by_old : (flag : Bool) → old.is_on ≡ flag → HasFirst (entries ++ more) new.text

@@ -12,7 +12,7 @@ use Rattle.rb_record.specs.declared.happening.Happening.{Happening}
 use Rattle.rb_record.specs.declared.happening.Happening.TheVariants as happening
 use Rattle.rb_record.specs.declared.shown.Shown.{Shown}
 use Rattle.rb_record.specs.declared.entries.Start.{Start}
-use Rattle.rb_record.specs.Printing.{bytes_line, peer_line, text_of, shown_of}
+use Rattle.rb_record.specs.Printing.{bytes_line, peer_line, output_text, shown_output}
 
 -- the line of an event
 abbrev pub event_text : Event → List ℕ
@@ -30,7 +30,7 @@ event_text (Expire now) = codes "expire " ++ (decimal now ++ codes "\n")
 
 -- an event, and what it gave behind `#> `
 abbrev pub entry_text : Event → Output → List ℕ
-entry_text event output = event_text event ++ (codes "#> " ++ text_of output)
+entry_text event output = event_text event ++ (codes "#> " ++ output_text output)
 
 -- what is written of a run, event by event, each with what it gives
 unfoldable pub run_entries : State → List Event → List (List ℕ)
@@ -74,7 +74,7 @@ event_of (happening.Forward now from bytes) = Forward now from bytes.now
 event_of (happening.Expire now) = Expire now
 
 abbrev pub entry_of : Happening → Shown → List ℕ
-entry_of event output = entry_text (event_of event) (shown_of output)
+entry_of event output = entry_text (event_of event) (shown_output output)
 
 abbrev pub options_of : Start → List ℕ
 options_of start = options_text start.limits start.listener start.first_xid start.moment

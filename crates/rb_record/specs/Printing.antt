@@ -40,50 +40,50 @@ abbrev pub unsent_line : Unsent → List ℕ
 unsent_line unsent = codes "unsent " ++ (decimal unsent.number ++ peer_line (codes " ") unsent.target unsent.call)
 
 -- the line of an output
-abbrev pub text_of : Output → List ℕ
-text_of (Replied bytes) = bytes_line (codes "reply ") bytes
-text_of Silent = codes "silent\n"
-text_of (Opened id) = codes "open " ++ (decimal id ++ codes "\n")
-text_of (Refused fault) = refusal_text fault
-text_of (Took n) = codes "took " ++ (decimal n ++ codes "\n")
-text_of (TookAndClosed n) = codes "took " ++ (decimal n ++ codes " closed\n")
-text_of (IsPending bytes) = bytes_line (codes "pending ") bytes
-text_of Done = codes "ok\n"
-text_of TooMuch = codes "toomuch\n"
-text_of (LostIs None) = codes "lost -\n"
-text_of (LostIs (Some id)) = codes "lost " ++ (decimal id ++ codes "\n")
-text_of Forwarded = codes "forwarded\n"
-text_of (UnsentIs None) = codes "unsent -\n"
-text_of (UnsentIs (Some unsent)) = unsent_line unsent
-text_of Ignored = codes "ignored\n"
-text_of Nothing = codes "nothing\n"
-text_of (ConnectionClosed id) = codes "closed " ++ (decimal id ++ codes "\n")
-text_of (Ready id) = codes "ready " ++ (decimal id ++ codes "\n")
-text_of (RepliedTo peer bytes) = peer_line (codes "datagram ") peer bytes
+abbrev pub output_text : Output → List ℕ
+output_text (Replied bytes) = bytes_line (codes "reply ") bytes
+output_text Silent = codes "silent\n"
+output_text (Opened id) = codes "open " ++ (decimal id ++ codes "\n")
+output_text (Refused fault) = refusal_text fault
+output_text (Took n) = codes "took " ++ (decimal n ++ codes "\n")
+output_text (TookAndClosed n) = codes "took " ++ (decimal n ++ codes " closed\n")
+output_text (IsPending bytes) = bytes_line (codes "pending ") bytes
+output_text Done = codes "ok\n"
+output_text TooMuch = codes "toomuch\n"
+output_text (LostIs None) = codes "lost -\n"
+output_text (LostIs (Some id)) = codes "lost " ++ (decimal id ++ codes "\n")
+output_text Forwarded = codes "forwarded\n"
+output_text (UnsentIs None) = codes "unsent -\n"
+output_text (UnsentIs (Some unsent)) = unsent_line unsent
+output_text Ignored = codes "ignored\n"
+output_text Nothing = codes "nothing\n"
+output_text (ConnectionClosed id) = codes "closed " ++ (decimal id ++ codes "\n")
+output_text (Ready id) = codes "ready " ++ (decimal id ++ codes "\n")
+output_text (RepliedTo peer bytes) = peer_line (codes "datagram ") peer bytes
 
 -- ---- as the code has them
 
 abbrev pub call_of : ShownCall → Unsent
 call_of unsent = record { number = unsent.number; target = unsent.target; call = unsent.call.now }
 
-abbrev pub shown_of : Shown → Output
-shown_of (shown.Opened number) = Opened number
-shown_of (shown.Refused fault) = Refused fault
-shown_of shown.TooMuch = TooMuch
-shown_of (shown.Took count) = Took count
-shown_of (shown.TookAndClosed count) = TookAndClosed count
-shown_of (shown.Pending bytes) = IsPending bytes.now
-shown_of shown.Done = Done
-shown_of (shown.Lost number) = LostIs number
-shown_of (shown.Replied reply) = Replied reply.now
-shown_of shown.Forwarded = Forwarded
-shown_of shown.Silent = Silent
-shown_of (shown.Unsent unsent) = UnsentIs (option_map call_of unsent)
-shown_of shown.Ignored = Ignored
-shown_of shown.Nothing = Nothing
-shown_of (shown.ConnectionClosed number) = ConnectionClosed number
-shown_of (shown.Ready number) = Ready number
-shown_of (shown.RepliedTo peer reply) = RepliedTo peer reply.now
+abbrev pub shown_output : Shown → Output
+shown_output (shown.Opened number) = Opened number
+shown_output (shown.Refused fault) = Refused fault
+shown_output shown.TooMuch = TooMuch
+shown_output (shown.Took count) = Took count
+shown_output (shown.TookAndClosed count) = TookAndClosed count
+shown_output (shown.Pending bytes) = IsPending bytes.now
+shown_output shown.Done = Done
+shown_output (shown.Lost number) = LostIs number
+shown_output (shown.Replied reply) = Replied reply.now
+shown_output shown.Forwarded = Forwarded
+shown_output shown.Silent = Silent
+shown_output (shown.Unsent unsent) = UnsentIs (option_map call_of unsent)
+shown_output shown.Ignored = Ignored
+shown_output shown.Nothing = Nothing
+shown_output (shown.ConnectionClosed number) = ConnectionClosed number
+shown_output (shown.Ready number) = Ready number
+shown_output (shown.RepliedTo peer reply) = RepliedTo peer reply.now
 
 -- Where what a writer holds is known, it has grown by this text and by nothing else.
 abbrev pub Writes : {T : Type 0} → (T → Option (List ℕ)) → T → T → List ℕ → Type 0

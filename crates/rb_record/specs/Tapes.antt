@@ -10,30 +10,30 @@ pub record Tape : Type 0 where
   pub limit : ℕ
 
 -- what the file has not got yet
-abbrev pub unwritten : Tape → List ℕ
-unwritten tape = drop tape.written tape.text
+abbrev pub unwritten_text : Tape → List ℕ
+unwritten_text tape = drop tape.written tape.text
 
 -- the last line of a record that reached its limit
-abbrev pub ending : List ℕ
-ending = codes "# the limit of this record is reached: what follows is not in it\n"
+abbrev pub last_line : List ℕ
+last_line = codes "# the limit of this record is reached: what follows is not in it\n"
 
 -- A new one: it records if there is room for more than the last line.
 abbrev pub empty_tape : ℕ → Tape
-empty_tape limit = record { text = []; written = 0; is_on = nat_lt (length ending) limit; limit = limit }
+empty_tape limit = record { text = []; written = 0; is_on = nat_lt (length last_line) limit; limit = limit }
 
 -- Whether an entry can be recorded behind a text: the last line has to fit behind both.
-abbrev pub fits : ℕ → List ℕ → List ℕ → Bool
-fits limit text entry = nat_le (length text + length entry + length ending) limit
+abbrev pub entry_fits : ℕ → List ℕ → List ℕ → Bool
+entry_fits limit text entry = nat_le (length text + length entry + length last_line) limit
 
 -- a text with an entry behind it, or with the last line where that does not fit
 abbrev pub with_entry : ℕ → List ℕ → List ℕ → List ℕ
-with_entry limit text entry = text ++ (if fits limit text entry then entry else ending)
+with_entry limit text entry = text ++ (if entry_fits limit text entry then entry else last_line)
 
 -- Of these entries the first ones were recorded, whole, but not all; and behind them the last line.
 pub record EndsWithin (entries : List (List ℕ)) (old new : List ℕ) : Type 0 where
   pub count : ℕ
   pub some_are_left : count < length entries
-  pub text : new ≡ old ++ (concat (take count entries) ++ ending)
+  pub text : new ≡ old ++ (concat (take count entries) ++ last_line)
 
 -- Where the recording goes on, it went on before, and these entries are recorded behind what was. Where they reach the limit,
 -- it ends in front of the first that does not fit. Where it had ended, all stays.
@@ -50,7 +50,7 @@ pub record HasFirst (entries : List (List ℕ)) (text : List ℕ) : Type 0 where
   pub count : ℕ
   pub are_there : count ≤ length entries
   pub last : List ℕ
-  pub last_is : (last ≡ []) ⊎ (last ≡ ending)
+  pub last_is : (last ≡ []) ⊎ (last ≡ last_line)
   pub is : text ≡ concat (take count entries) ++ last
 
 -- A tape is a record of these entries: it has all of them while the recording goes on, and the first ones in any case.

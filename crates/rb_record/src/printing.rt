@@ -2,7 +2,7 @@
 ghost use Rattle.std.specs.Prelude.{OnOk};
 ghost use Rattle.hex.specs.Hex.{encode_lower};
 ghost use Rattle.rb_rpc.specs.Peers.{peer_text};
-ghost use Rattle.rb_record.specs.Printing.{hex_text, bytes_line, peer_line, call_of, unsent_line, refusal_text, text_of, shown_of, Writes};
+ghost use Rattle.rb_record.specs.Printing.{hex_text, bytes_line, peer_line, call_of, unsent_line, refusal_text, output_text, shown_output, Writes};
 
 use crate::shown::{Shown, ShownCall};
 use rb_model::CoreFault;
@@ -87,7 +87,7 @@ fn write_refusal<W: Write>(fault: CoreFault, writer: &mut W) -> io::Result<()>
 /// Writes the line of an output (docs/EVENTS.md). An error where the writer fails; how much of the line it has then
 /// is not known.
 pub fn write_output<W: Write>(output: &Shown<'_>, writer: &mut W) -> io::Result<()>
-    ensures { OnOk result (Writes W.contents writer.old writer.new (text_of (shown_of output.now))) }
+    ensures { OnOk result (Writes W.contents writer.old writer.new (output_text (shown_output output.now))) }
 {
     match output {
         Shown::Replied(bytes) => write_bytes("reply ", bytes, writer),

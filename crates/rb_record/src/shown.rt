@@ -1,7 +1,7 @@
 //! Outputs of a run, over bytes that lie elsewhere.
 ghost use Rattle.std.specs.Prelude.{◌≡◌};
 ghost use Rattle.rb_model.specs.Plain.{output_of};
-ghost use Rattle.rb_record.specs.Printing.{shown_of};
+ghost use Rattle.rb_record.specs.Printing.{shown_output};
 
 use rb_model::{CoreFault, Output};
 use rb_rpc::Peer;
@@ -58,7 +58,7 @@ pub enum Shown<'a> {
 
 /// The same output, over its own bytes.
 pub fn show(output: &Output) -> Shown<'_>
-    ensures { shown_of result ≡ output_of output.now }
+    ensures { shown_output result ≡ output_of output.now }
 {
     match output {
         Output::Opened(id) => Shown::Opened(*id),

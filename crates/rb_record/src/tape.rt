@@ -1,6 +1,6 @@
 //! The tape that a run is recorded on.
 ghost use Rattle.std.specs.Prelude.{◌≡◌, ◌≤◌, ◌+◌, [], true, length, vec_capacity, IfOk};
-ghost use Rattle.rb_record.specs.Tapes.{ending, fits, with_entry};
+ghost use Rattle.rb_record.specs.Tapes.{last_line, entry_fits, with_entry};
 
 use crate::entries::{Start, write_entry, write_options};
 use crate::happening::Happening;
@@ -85,7 +85,7 @@ struct Page {
     is_on: bool,
     ghost room: { limit ≤ vec_capacity text },
     ghost within: { length text.items ≤ limit },
-    ghost last_fits: { is_on ≡ true → length text.items + length ending ≤ limit },
+    ghost last_fits: { is_on ≡ true → length text.items + length last_line ≤ limit },
 }
 
 impl Page {
@@ -94,7 +94,7 @@ impl Page {
     /// Adds an entry. Where it does not fit, that ends the record.
     fn add(&mut self, entry: &[u8])
         requires { self.old.is_on ≡ true }
-        ensures on { self.new.is_on ≡ fits self.old.limit self.old.text.items entry.now }
+        ensures on { self.new.is_on ≡ entry_fits self.old.limit self.old.text.items entry.now }
         ensures text { self.new.text.items
             ≡ with_entry self.old.limit self.old.text.items entry.now }
         ensures limit { self.new.limit ≡ self.old.limit }
@@ -109,7 +109,7 @@ impl Page {
     fn end(&mut self)
         requires { self.old.is_on ≡ true }
         ensures on { self.new.is_on ≡ false }
-        ensures text { self.new.text.items ≡ self.old.text.items ++ ending }
+        ensures text { self.new.text.items ≡ self.old.text.items ++ last_line }
         ensures limit { self.new.limit ≡ self.old.limit }
     {
         self.is_on = false;
@@ -138,7 +138,7 @@ impl Tape {
     ghost use Rattle.std.specs.Prelude.{◌≡◌, [], ◌∷◌, false, length, IfOk, OnOk, OnErr};
     ghost use Rattle.rb_record.specs.Printing.{Writes};
     ghost use Rattle.rb_record.specs.Entries.{entry_of, options_of};
-    ghost use Rattle.rb_record.specs.Tapes.{Records, empty_tape, unwritten};
+    ghost use Rattle.rb_record.specs.Tapes.{Records, empty_tape, unwritten_text};
 
     /// An empty one that records up to `limit` bytes, its last line among them; with no room for more than that it
     /// records nothing. An error where an allocation is refused.
@@ -198,7 +198,7 @@ impl Tape {
     /// is not known.
     pub fn write_out<W: Write>(&mut self, writer: &mut W) -> io::Result<()>
         ensures written { OnOk result
-            (Writes W.contents writer.old writer.new (unwritten self.old)) }
+            (Writes W.contents writer.old writer.new (unwritten_text self.old)) }
         ensures ok { OnOk result
             (self.new ≡ record self.old { written = length self.old.text }) }
         ensures err { OnErr result (self.new ≡ record self.old { is_on = false }) }

@@ -9,7 +9,7 @@ use Rattle.rb_xdr.specs.Pool.{value_at, without}
 use Rattle.rb_registry.specs.declared.slot.Slot.{Slot}
 use Rattle.rb_registry.specs.Rows.{Change, covers}
 use Rattle.rb_registry.specs.Slots.{is_dropped, removed_by}
-use Rattle.rb_registry.specs.Table.{AreStamped, goes, all_marked, count_going, undropped}
+use Rattle.rb_registry.specs.Table.{AreStamped, goes, entries_with_marks, count_going, entries_left}
 use Rattle.rb_registry.specs.Registry.{removals}
 use Rattle.rb_registry.proofs.Tables.{live_has_none}
 
@@ -45,7 +45,7 @@ some_counted p xs some =
 
 -- each row that it marks is one more
 pub removals-marked : (stamp : ℕ) (change : Change) (entries : List (ℕ × Slot)) → AreStamped stamp entries
-    → length (removals (all_marked stamp change entries)) ≡ length (removals entries) + count_going stamp change entries
+    → length (removals (entries_with_marks stamp change entries)) ≡ length (removals entries) + count_going stamp change entries
 removals-marked stamp change [] h = refl
 removals-marked stamp change (e ∷ rest) h = by_test (goes stamp change e.1) refl (removals-marked stamp change rest h.1)
   where
@@ -60,17 +60,17 @@ removals-marked stamp change (e ∷ rest) h = by_test (goes stamp change e.1) re
     as_long None n ms ns same = same
     as_long (Some r) n ms ns same = omega (arith, same)
 
-    by_test : (b : Bool) → goes stamp change e.1 ≡ b → length (removals (all_marked stamp change rest)) ≡ length (removals rest) + count_going stamp change rest
-        → length (removals (all_marked stamp change (e ∷ rest))) ≡ length (removals (e ∷ rest)) + count_going stamp change (e ∷ rest)
+    by_test : (b : Bool) → goes stamp change e.1 ≡ b → length (removals (entries_with_marks stamp change rest)) ≡ length (removals rest) + count_going stamp change rest
+        → length (removals (entries_with_marks stamp change (e ∷ rest))) ≡ length (removals (e ∷ rest)) + count_going stamp change (e ∷ rest)
     by_test true t further =
         let count : count_going stamp change (e ∷ rest) ≡ 1 + count_going stamp change rest = count_cons (goes stamp change) e.1 (values_of rest) true t in
         let live : (is_none e.1.removed && covers e.1.row change) ≡ true = rw (live_has_none stamp e.1 h.0) at t in
         let none : e.1.removed ≡ None = was_live e.1.removed (covers e.1.row change) live in
-        rw (count, t) (longer e.1.removed (stamp + 1) (count_going stamp change rest) (removals (all_marked stamp change rest)) (removals rest) none further)
+        rw (count, t) (longer e.1.removed (stamp + 1) (count_going stamp change rest) (removals (entries_with_marks stamp change rest)) (removals rest) none further)
     by_test false t further =
         let count : count_going stamp change (e ∷ rest) ≡ 0 + count_going stamp change rest = count_cons (goes stamp change) e.1 (values_of rest) false t in
         let same : count_going stamp change (e ∷ rest) ≡ count_going stamp change rest = omega (arith, count) in
-        rw (same, t) (as_long e.1.removed (count_going stamp change rest) (removals (all_marked stamp change rest)) (removals rest) further)
+        rw (same, t) (as_long e.1.removed (count_going stamp change rest) (removals (entries_with_marks stamp change rest)) (removals rest) further)
 
 -- ---- a trim
 
@@ -105,12 +105,12 @@ removals-without (e ∷ rest) key slot h dead = by_test (eqb e.0 key) refl (λ f
     by_test false t further = rw t (both_more e.1.removed (removals (without rest key)) (removals rest) (further (rw t at h)))
 
 -- where no row is dead, it drops none
-pub none_dropped : (oldest : Option ℕ) (entries : List (ℕ × Slot)) → length (removals entries) ≡ 0 → undropped oldest entries ≡ entries
+pub none_dropped : (oldest : Option ℕ) (entries : List (ℕ × Slot)) → length (removals entries) ≡ 0 → entries_left oldest entries ≡ entries
 unfolding is_dropped
 none_dropped oldest [] h = refl
 none_dropped oldest (e ∷ rest) h = by_removed e.1.removed refl h (λ none. none_dropped oldest rest none)
   where
-    by_removed : (removed : Option ℕ) → e.1.removed ≡ removed → length (cons_option removed (removals rest)) ≡ 0 → (length (removals rest) ≡ 0 → undropped oldest rest ≡ rest)
-        → undropped oldest (e ∷ rest) ≡ e ∷ rest
+    by_removed : (removed : Option ℕ) → e.1.removed ≡ removed → length (cons_option removed (removals rest)) ≡ 0 → (length (removals rest) ≡ 0 → entries_left oldest rest ≡ rest)
+        → entries_left oldest (e ∷ rest) ≡ e ∷ rest
     by_removed None t none further = rw (t, further none) refl
     by_removed (Some r) t none further = absurd (omega (arith, none))

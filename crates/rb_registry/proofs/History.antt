@@ -13,7 +13,7 @@ use Rattle.rb_registry.specs.declared.row.Which.{Which}
 use Rattle.rb_registry.specs.Rows.{Change, covers, rpcb_prog}
 use Rattle.rb_registry.specs.Rows.Change.{Added, Removed}
 use Rattle.rb_registry.specs.Slots.{slot_of, removed_by, is_dropped, removal_of, slots_by, all_slots, slots_from}
-use Rattle.rb_registry.specs.Table.{IsStamped, AreStamped, marked, all_marked, undropped}
+use Rattle.rb_registry.specs.Table.{IsStamped, AreStamped, with_mark, entries_with_marks, entries_left}
 use Rattle.rb_registry.specs.Registry.{AreOwn}
 use Rattle.rb_registry.proofs.Changes.{own_row, both}
 use Rattle.rb_registry.proofs.Finds.{values_of-push, values_of-filter}
@@ -28,7 +28,7 @@ next_removal covered number (Some removed) = Some removed
 abbrev noted : ℕ → Change → Slot → Slot
 noted number change slot = record slot { removed = next_removal (covers slot.row change) number slot.removed }
 
-marked_noted : (stamp : ℕ) (change : Change) (slot : Slot) → IsStamped stamp slot → marked stamp change slot ≡ noted (stamp + 1) change slot
+marked_noted : (stamp : ℕ) (change : Change) (slot : Slot) → IsStamped stamp slot → with_mark stamp change slot ≡ noted (stamp + 1) change slot
 marked_noted stamp change slot h = rw (live_has_none stamp slot h) (by_removed slot.removed refl)
   where
     by_removed : (removed : Option ℕ) → slot.removed ≡ removed
@@ -120,7 +120,7 @@ filter_noted floor number change (slot ∷ slots) lt = rw (still_noted floor num
     by_test true = refl
     by_test false = refl
 
-values_noted : (stamp : ℕ) (change : Change) (entries : List (ℕ × Slot)) → AreStamped stamp entries → values_of (all_marked stamp change entries) ≡ map (noted (stamp + 1) change) (values_of entries)
+values_noted : (stamp : ℕ) (change : Change) (entries : List (ℕ × Slot)) → AreStamped stamp entries → values_of (entries_with_marks stamp change entries) ≡ map (noted (stamp + 1) change) (values_of entries)
 values_noted stamp change [] h = refl
 values_noted stamp change (e ∷ rest) h = rw (marked_noted stamp change e.1 h.0, values_noted stamp change rest h.1) refl
 
@@ -138,11 +138,11 @@ slots-set floor stamp key row entries own changes count same =
 
 pub slots-unset : (floor stamp : ℕ) (prog vers : ℕ) (which : Which) (owner : Owner) (entries : List (ℕ × Slot)) (own : List Row) (changes : List Change) → floor ≤ stamp → AreStamped stamp entries → AreOwn own
     → stamp ≡ length changes → values_of entries ≡ slots_from floor own changes
-    → values_of (all_marked stamp (Removed prog vers which owner) entries) ≡ slots_from floor own (changes ++ Removed prog vers which owner ∷ [])
+    → values_of (entries_with_marks stamp (Removed prog vers which owner) entries) ≡ slots_from floor own (changes ++ Removed prog vers which owner ∷ [])
 slots-unset floor stamp prog vers which owner entries own changes made stamped are_own count same =
     let gone = Removed prog vers which owner in
     let lt : floor < length changes + 1 = omega (arith, made, count) in
-    let now : values_of (all_marked stamp gone entries) ≡ map (noted (length changes + 1) gone) (slots_from floor own changes) = values_noted stamp gone entries stamped ∙ rw (same, count) refl in
+    let now : values_of (entries_with_marks stamp gone entries) ≡ map (noted (length changes + 1) gone) (slots_from floor own changes) = values_noted stamp gone entries stamped ∙ rw (same, count) refl in
     now ∙ sym (rw (all_slots-removed own changes prog vers which owner are_own) (filter_noted floor (length changes + 1) gone (all_slots own changes) lt))
 
 -- a trim is told the present stamp where it is told none, or one to come
@@ -181,7 +181,7 @@ filter_both a b (slot ∷ slots) = rw (← still_both a b slot, ← filter_both 
     by_test false t e = refl
 
 pub slots-trim : (floor stamp : ℕ) (oldest : Option ℕ) (entries : List (ℕ × Slot)) (own : List Row) (changes : List Change) → AreStamped stamp entries
-    → values_of entries ≡ slots_from floor own changes → values_of (undropped oldest entries) ≡ slots_from (max floor (min (unwrap_or oldest stamp) stamp)) own changes
+    → values_of entries ≡ slots_from floor own changes → values_of (entries_left oldest entries) ≡ slots_from (max floor (min (unwrap_or oldest stamp) stamp)) own changes
 slots-trim floor stamp oldest entries own changes stamped same =
     ap (λ (es : List (ℕ × Slot)). values_of es) (filter_told stamp oldest entries stamped)
     ∙ values_of-filter (still (min (unwrap_or oldest stamp) stamp)) entries

@@ -7,7 +7,7 @@ use Rattle.rb_registry.specs.declared.row.Row.{Row}
 use Rattle.rb_registry.specs.declared.slot.Slot.{Slot}
 use Rattle.rb_registry.specs.Rows.{Change}
 use Rattle.rb_registry.specs.Slots.{slot_of, held_in}
-use Rattle.rb_registry.specs.Table.{AreStamped, goes, marked, all_marked}
+use Rattle.rb_registry.specs.Table.{AreStamped, goes, with_mark, entries_with_marks}
 use Rattle.rb_registry.proofs.Finds.{values_of-push}
 
 abbrev pub charge : Slot → ℕ
@@ -18,15 +18,15 @@ held-push key added row entries =
     ap (λ (slots : List Slot). held_in slots) (values_of-push entries key (slot_of added row)) ∙ sum_by_push charge (values_of entries) (slot_of added row)
 
 -- a row that is marked holds what it held
-same_charge : (stamp : ℕ) (change : Change) (slot : Slot) → charge (marked stamp change slot) ≡ charge slot
+same_charge : (stamp : ℕ) (change : Change) (slot : Slot) → charge (with_mark stamp change slot) ≡ charge slot
 same_charge stamp change slot = elim (goes stamp change slot) as (λ b. charge (cond b (record slot { removed = Some (stamp + 1) }) slot) ≡ charge slot) [ true ↦ refl | false ↦ refl ]
 
-pub held-marked : (stamp : ℕ) (change : Change) (entries : List (ℕ × Slot)) → held_in (values_of (all_marked stamp change entries)) ≡ held_in (values_of entries)
+pub held-marked : (stamp : ℕ) (change : Change) (entries : List (ℕ × Slot)) → held_in (values_of (entries_with_marks stamp change entries)) ≡ held_in (values_of entries)
 held-marked stamp change [] = refl
 held-marked stamp change (e ∷ rest) =
     let here = same_charge stamp change e.1 in
     let further = held-marked stamp change rest in
-    let new = sum_by-cons charge (marked stamp change e.1) (values_of (all_marked stamp change rest)) in
+    let new = sum_by-cons charge (with_mark stamp change e.1) (values_of (entries_with_marks stamp change rest)) in
     let old = sum_by-cons charge e.1 (values_of rest) in
     omega (arith, here, further, new, old)
 

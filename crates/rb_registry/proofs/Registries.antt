@@ -9,10 +9,10 @@ use Rattle.rb_registry.specs.declared.row.Row.{Row}
 use Rattle.rb_registry.specs.declared.slot.Slot.{Slot}
 use Rattle.rb_registry.specs.Rows.{Change, is_of_key, is_change_left, has_place, removes_some}
 use Rattle.rb_registry.specs.Slots.{slot_of}
-use Rattle.rb_registry.specs.Table.{goes, AreStamped, all_marked, undropped, takes, stamp_told}
-use Rattle.rb_registry.specs.Registry.{Registry, dead_count, rows_of, table_of}
+use Rattle.rb_registry.specs.Table.{goes, AreStamped, entries_with_marks, entries_left, takes, stamp_told}
+use Rattle.rb_registry.specs.Registry.{Registry, retained_count, rows_of, table_of}
 use Rattle.rb_registry.specs.Cursors.{GoesOn}
-use Rattle.rb_registry.proofs.Tables.{set_before, marked_table_before, trimmed_table, past_told, past_now, live_and_dead, any_goes, none_marked}
+use Rattle.rb_registry.proofs.Tables.{set_before, marked_table_before, trimmed_table, past_told, past_now, live_and_retained, any_goes, none_marked}
 
 -- ---- any call
 
@@ -38,9 +38,9 @@ pub place_left : (kept : Registry) (row : Row)
     → AreStamped kept.stamp kept.entries → takes kept row ≡ true
 unfolding has_place
 place_left kept row free room left stamped =
-    let whole = live_and_dead kept.stamp kept.entries stamped in
+    let whole = live_and_retained kept.stamp kept.entries stamped in
     let few : nat_lt (length (rows_of kept)) kept.limit ≡ true = lt-ltb _ _ (omega (arith, room, whole)) in
-    let fits : nat_lt (length (rows_of kept) + dead_count kept) kept.limit ≡ true = lt-ltb _ _ (omega (arith, room, whole)) in
+    let fits : nat_lt (length (rows_of kept) + retained_count kept) kept.limit ≡ true = lt-ltb _ _ (omega (arith, room, whole)) in
     rw (free, few, left, fits) refl
 
 pub key_taken : (kept : Registry) (row : Row) → list_any (is_of_key row) (rows_of kept) ≡ true → takes kept row ≡ false
@@ -53,8 +53,8 @@ no_change_left kept row none = rw (none, and_false) refl
 
 pub no_room : (kept : Registry) (row : Row) → kept.limit ≤ length kept.entries → AreStamped kept.stamp kept.entries → takes kept row ≡ false
 no_room kept row full stamped =
-    let whole = live_and_dead kept.stamp kept.entries stamped in
-    let fits : nat_lt (length (rows_of kept) + dead_count kept) kept.limit ≡ false = le-ltb _ _ (omega (arith, full, whole)) in
+    let whole = live_and_retained kept.stamp kept.entries stamped in
+    let fits : nat_lt (length (rows_of kept) + retained_count kept) kept.limit ≡ false = le-ltb _ _ (omega (arith, full, whole)) in
     rw (fits, and_false (has_place kept.limit (rows_of kept) kept.stamp row)) refl
 
 -- the registry with a new row
@@ -68,7 +68,7 @@ goes_on-set kept key row = goes_on kept (with_row kept key row) (λ n f m. set_b
 
 -- the registry after a removal
 abbrev pub with_removal : Registry → Change → Registry
-with_removal kept change = record kept { entries = all_marked kept.stamp change kept.entries; stamp = kept.stamp + 1 }
+with_removal kept change = record kept { entries = entries_with_marks kept.stamp change kept.entries; stamp = kept.stamp + 1 }
 
 pub goes_on-unset : (kept : Registry) (change : Change) → AreStamped kept.stamp kept.entries → GoesOn kept (with_removal kept change)
 goes_on-unset kept change stamped = goes_on kept (with_removal kept change) (λ n f m. marked_table_before kept.stamp n change kept.entries stamped m) (omega arith)
@@ -88,14 +88,14 @@ removal_made kept change removed left is_any =
     rw (left, ← any_goes kept.stamp change kept.entries, ← is_any) (and_true removed)
 
 -- where nothing is covered, the table stays as it is
-pub unchanged : (stamp : ℕ) (change : Change) (old new : Pool Slot) → new ≡ record { entries = all_marked stamp change old.entries; cap = old.cap; memory = old.memory; tie = old.tie }
+pub unchanged : (stamp : ℕ) (change : Change) (old new : Pool Slot) → new ≡ record { entries = entries_with_marks stamp change old.entries; cap = old.cap; memory = old.memory; tie = old.tie }
     → list_any (goes stamp change) (values_of old.entries) ≡ false → new ≡ old
 unchanged stamp change old new is_marked none_goes = is_marked ∙ rw (none_marked stamp change old.entries none_goes) refl
 
 -- ---- trim
 
 abbrev pub trimmed : Registry → Option ℕ → Registry
-trimmed kept oldest = record kept { entries = undropped oldest kept.entries; floor = max kept.floor (stamp_told kept oldest) }
+trimmed kept oldest = record kept { entries = entries_left oldest kept.entries; floor = max kept.floor (stamp_told kept oldest) }
 
 module _ (kept : Registry) (oldest : Option ℕ) (stamped : AreStamped kept.stamp kept.entries) where
   pub trimmed_at : (n : ℕ) → max kept.floor (stamp_told kept oldest) ≤ n → table_of (trimmed kept oldest) n ≡ table_of kept n

@@ -13,18 +13,18 @@ use Rattle.rb_registry.specs.declared.row.Which.{Which}
 use Rattle.rb_registry.specs.Rows.{Change, covers, left_by, live}
 use Rattle.rb_registry.specs.Rows.Change.{Added, Removed}
 use Rattle.rb_registry.specs.Slots.{slot_of, is_dropped, slots_from}
-use Rattle.rb_registry.specs.Table.{AreStamped, marked, undropped}
-use Rattle.rb_registry.specs.Registry.{Registry, Reaches, StandsForChanges, slots_of, rows_of, rows_at, table_of, dead_count}
+use Rattle.rb_registry.specs.Table.{AreStamped, with_mark, entries_left}
+use Rattle.rb_registry.specs.Registry.{Registry, Reaches, StandsForChanges, slots_of, rows_of, rows_at, table_of, retained_count}
 use Rattle.rb_registry.proofs.Changes.{left_by-added, left_by-removed, own_stay}
 use Rattle.rb_registry.proofs.Finds.{values_of-push, values_of-filter}
-use Rattle.rb_registry.proofs.Tables.{set_before, set_now, marked_table_before, marked_table_after, live_and_dead, AreStamped-push, AreStamped-marked, AreStamped-filter}
+use Rattle.rb_registry.proofs.Tables.{set_before, set_now, marked_table_before, marked_table_after, live_and_retained, AreStamped-push, AreStamped-marked, AreStamped-filter}
 use Rattle.rb_registry.proofs.Registries.{with_row, with_removal, trimmed, trimmed_at, trimmed_now}
 use Rattle.rb_registry.proofs.History.{slots-set, slots-unset, slots-trim}
 
 -- ---- any call
 
-pub all_counted : (kept : Registry) → AreStamped kept.stamp kept.entries → length (rows_of kept) + dead_count kept ≡ length (slots_of kept)
-all_counted kept stamped = live_and_dead kept.stamp kept.entries stamped ∙ sym (length-values_of kept.entries)
+pub all_counted : (kept : Registry) → AreStamped kept.stamp kept.entries → length (rows_of kept) + retained_count kept ≡ length (slots_of kept)
+all_counted kept stamped = live_and_retained kept.stamp kept.entries stamped ∙ sym (length-values_of kept.entries)
 
 -- one more change
 record OneMore (old new : Registry) (own : List Row) (changes : List Change) (change : Change) : Type 0 where
@@ -97,7 +97,7 @@ after_unset kept prog vers which owner own changes stamped made h =
     let gone = Removed prog vers which owner in
     let now : rows_of (with_removal kept gone) ≡ filter (λ row. not (covers row gone)) (rows_of kept) =
     ap (λ (es : List (ℕ × Row)). values_of es) (marked_table_after kept.stamp gone kept.entries stamped) ∙ values_of-filter (λ (row : Row). not (covers row gone)) (table_of kept kept.stamp) in
-    let as_long : length (with_removal kept gone).entries ≡ length kept.entries = length-map {B = ℕ × Slot} kept.entries (λ (e : ℕ × Slot). (e.0, marked kept.stamp gone e.1)) in
+    let as_long : length (with_removal kept gone).entries ≡ length kept.entries = length-map {B = ℕ × Slot} kept.entries (λ (e : ℕ × Slot). (e.0, with_mark kept.stamp gone e.1)) in
     let as_many = length-values_of (with_removal kept gone).entries in
     let as_many_before = length-values_of kept.entries in
     let within = h.within in
@@ -122,7 +122,7 @@ length-filter_le test (e ∷ rest) = by_test (test e) (length-filter_le test res
     by_test true h = omega (arith, h)
     by_test false h = omega (arith, h)
 
-pub fewer_left : (oldest : Option ℕ) (entries : List (ℕ × Slot)) → length (undropped oldest entries) ≤ length entries
+pub fewer_left : (oldest : Option ℕ) (entries : List (ℕ × Slot)) → length (entries_left oldest entries) ≤ length entries
 fewer_left oldest entries = length-filter_le (λ (e : ℕ × Slot). not (is_dropped oldest e.1)) entries
 
 pub after_trim : (kept : Registry) (oldest : Option ℕ) (own : List Row) (changes : List Change) → AreStamped kept.stamp kept.entries

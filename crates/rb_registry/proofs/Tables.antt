@@ -12,7 +12,7 @@ use Rattle.rb_registry.specs.declared.row.Row.{Row}
 use Rattle.rb_registry.specs.declared.slot.Slot.{Slot}
 use Rattle.rb_registry.specs.Rows.{Change, covers}
 use Rattle.rb_registry.specs.Slots.{is_live_at, stays_at, slot_of, removed_by, is_dropped}
-use Rattle.rb_registry.specs.Table.{IsStamped, AreStamped, goes, marked, all_marked, lesser, least_of, IsLeast}
+use Rattle.rb_registry.specs.Table.{IsStamped, AreStamped, goes, with_mark, entries_with_marks, lesser_of, least_of, IsLeast}
 use Rattle.rb_registry.specs.Registry.{table_at, removals}
 
 -- ---- one slot
@@ -78,18 +78,18 @@ module _ (stamp : ℕ) (change : Change) (slot : Slot) (h : IsStamped stamp slot
       and_false false = refl
 
   -- a removal changes nothing at the moments before it
-  pub marked_before : (n : ℕ) → n ≤ stamp → is_live_at n (marked stamp change slot) ≡ is_live_at n slot
+  pub marked_before : (n : ℕ) → n ≤ stamp → is_live_at n (with_mark stamp change slot) ≡ is_live_at n slot
   marked_before n le = by_test (goes stamp change slot) refl
     where
       by_test : (b : Bool) → goes stamp change slot ≡ b → is_live_at n (cond b removed_next slot) ≡ is_live_at n slot
       by_test true t = next_before n le ((both (is_live_at stamp slot) (covers slot.row change) t).0)
       by_test false t = refl
 
-  pub marked_row : (marked stamp change slot).row ≡ slot.row
+  pub marked_row : (with_mark stamp change slot).row ≡ slot.row
   marked_row = elim (goes stamp change slot) as (λ b. (cond b removed_next slot).row ≡ slot.row) [ true ↦ refl | false ↦ refl ]
 
   -- after it those are live that were and that it does not cover
-  pub marked_after : is_live_at (stamp + 1) (marked stamp change slot) ≡ (is_live_at stamp slot && not (covers slot.row change))
+  pub marked_after : is_live_at (stamp + 1) (with_mark stamp change slot) ≡ (is_live_at stamp slot && not (covers slot.row change))
   marked_after = by_tests (is_live_at stamp slot) refl (covers slot.row change) (live_on stamp (stamp + 1) slot h (omega arith))
     where
       by_tests : (b : Bool) → is_live_at stamp slot ≡ b → (c : Bool) → is_live_at (stamp + 1) slot ≡ is_live_at stamp slot
@@ -98,7 +98,7 @@ module _ (stamp : ℕ) (change : Change) (slot : Slot) (h : IsStamped stamp slot
       by_tests true t false e = e ∙ t
       by_tests false t c e = e ∙ t
 
-  pub IsStamped-marked : IsStamped (stamp + 1) (marked stamp change slot)
+  pub IsStamped-marked : IsStamped (stamp + 1) (with_mark stamp change slot)
   IsStamped-marked = elim (goes stamp change slot) as (λ b. IsStamped (stamp + 1) (cond b removed_next slot)) [
     | true ↦ record { added = omega (arith, h.added); removed = omega arith; addr = h.addr }
     | false ↦ IsStamped-later stamp slot h
@@ -106,7 +106,7 @@ module _ (stamp : ℕ) (change : Change) (slot : Slot) (h : IsStamped stamp slot
 
 -- the mark as it is written
 pub marked_is : (stamp : ℕ) (change : Change) (slot gone : Slot) → gone ≡ slot → is_live_at stamp slot ≡ true → covers slot.row change ≡ true
-    → record { row = gone.row; added = gone.added; removed = Some (stamp + 1) } ≡ marked stamp change slot
+    → record { row = gone.row; added = gone.added; removed = Some (stamp + 1) } ≡ with_mark stamp change slot
 marked_is stamp change slot gone same live covered = rw (same, live, covered) refl
 
 pub goes_is : (stamp : ℕ) (change : Change) (slot : Slot) → is_live_at stamp slot ≡ true → covers slot.row change ≡ true → goes stamp change slot ≡ true
@@ -118,7 +118,7 @@ dead_stays stamp change slot dead = rw dead refl
 pub not_covered_stays : (stamp : ℕ) (change : Change) (slot : Slot) → is_live_at stamp slot ≡ true → covers slot.row change ≡ false → goes stamp change slot ≡ false
 not_covered_stays stamp change slot live not_covered = rw (live, not_covered) refl
 
-pub not_marked : (stamp : ℕ) (change : Change) (slot : Slot) → goes stamp change slot ≡ false → marked stamp change slot ≡ slot
+pub not_marked : (stamp : ℕ) (change : Change) (slot : Slot) → goes stamp change slot ≡ false → with_mark stamp change slot ≡ slot
 not_marked stamp change slot stays = rw stays refl
 
 -- what a trim drops was dead at the moments from its stamp on
@@ -167,13 +167,13 @@ table_on stamp n [] h le = refl
 table_on stamp n (e ∷ rest) h le = rw (live_on stamp n e.1 h.0 le, table_on stamp n rest h.1 le) refl
 
 pub marked_table_before : (stamp n : ℕ) (change : Change) (entries : List (ℕ × Slot)) → AreStamped stamp entries → n ≤ stamp
-    → table_at n (all_marked stamp change entries) ≡ table_at n entries
+    → table_at n (entries_with_marks stamp change entries) ≡ table_at n entries
 marked_table_before stamp n change [] h le = refl
 marked_table_before stamp n change (e ∷ rest) h le =
     rw (marked_before stamp change e.1 h.0 n le, marked_row stamp change e.1 h.0, marked_table_before stamp n change rest h.1 le) refl
 
 pub marked_table_after : (stamp : ℕ) (change : Change) (entries : List (ℕ × Slot)) → AreStamped stamp entries
-    → table_at (stamp + 1) (all_marked stamp change entries) ≡ filter (λ e. not (covers e.1 change)) (table_at stamp entries)
+    → table_at (stamp + 1) (entries_with_marks stamp change entries) ≡ filter (λ e. not (covers e.1 change)) (table_at stamp entries)
 marked_table_after stamp change [] h = refl
 marked_table_after stamp change (e ∷ rest) h =
     rw (marked_after stamp change e.1 h.0, marked_row stamp change e.1 h.0, marked_table_after stamp change rest h.1)
@@ -204,7 +204,7 @@ pub AreStamped-push : (stamp key : ℕ) (row : Row) (entries : List (ℕ × Slot
 AreStamped-push stamp key row [] few h = (record { added = omega arith; removed = tt; addr = few }, tt)
 AreStamped-push stamp key row (e ∷ rest) few h = (IsStamped-later stamp e.1 h.0, AreStamped-push stamp key row rest few h.1)
 
-pub AreStamped-marked : (stamp : ℕ) (change : Change) (entries : List (ℕ × Slot)) → AreStamped stamp entries → AreStamped (stamp + 1) (all_marked stamp change entries)
+pub AreStamped-marked : (stamp : ℕ) (change : Change) (entries : List (ℕ × Slot)) → AreStamped stamp entries → AreStamped (stamp + 1) (entries_with_marks stamp change entries)
 AreStamped-marked stamp change [] h = tt
 AreStamped-marked stamp change (e ∷ rest) h = (IsStamped-marked stamp change e.1 h.0, AreStamped-marked stamp change rest h.1)
 
@@ -300,9 +300,9 @@ live_has_none stamp slot h =
     by_removed None p = refl
     by_removed (Some r) p = grind (arith, nat_tests, p)
 
-pub live_and_dead : (stamp : ℕ) (entries : List (ℕ × Slot)) → AreStamped stamp entries → length (values_of (table_at stamp entries)) + length (removals entries) ≡ length entries
-live_and_dead stamp [] h = refl
-live_and_dead stamp (e ∷ rest) h = rw (live_has_none stamp e.1 h.0) (by_removed e.1.removed (live_and_dead stamp rest h.1))
+pub live_and_retained : (stamp : ℕ) (entries : List (ℕ × Slot)) → AreStamped stamp entries → length (values_of (table_at stamp entries)) + length (removals entries) ≡ length entries
+live_and_retained stamp [] h = refl
+live_and_retained stamp (e ∷ rest) h = rw (live_has_none stamp e.1 h.0) (by_removed e.1.removed (live_and_retained stamp rest h.1))
   where
     by_removed : (removed : Option ℕ) → length (values_of (table_at stamp rest)) + length (removals rest) ≡ length rest
         → length (values_of (cond (is_none removed) ((e.0, e.1.row) ∷ table_at stamp rest) (table_at stamp rest))) + length (cons_option removed (removals rest)) ≡ suc (length rest)
@@ -313,7 +313,7 @@ pub removals-push : (key added : ℕ) (row : Row) (entries : List (ℕ × Slot))
 removals-push key added row [] = refl
 removals-push key added row (e ∷ rest) = ap (λ (ns : List ℕ). cons_option e.1.removed ns) (removals-push key added row rest)
 
-pub as_many_marked : (stamp : ℕ) (change : Change) (entries : List (ℕ × Slot)) → length (values_of (all_marked stamp change entries)) ≡ length (values_of entries)
+pub as_many_marked : (stamp : ℕ) (change : Change) (entries : List (ℕ × Slot)) → length (values_of (entries_with_marks stamp change entries)) ≡ length (values_of entries)
 as_many_marked stamp change [] = refl
 as_many_marked stamp change (e ∷ rest) = ap (λ n. suc n) (as_many_marked stamp change rest)
 
@@ -336,7 +336,7 @@ any_goes stamp change (e ∷ rest) = by_test (is_live_at stamp e.1) (any_goes st
     by_test false further = further
 
 -- where none goes, none is marked
-pub none_marked : (stamp : ℕ) (change : Change) (entries : List (ℕ × Slot)) → list_any (goes stamp change) (values_of entries) ≡ false → all_marked stamp change entries ≡ entries
+pub none_marked : (stamp : ℕ) (change : Change) (entries : List (ℕ × Slot)) → list_any (goes stamp change) (values_of entries) ≡ false → entries_with_marks stamp change entries ≡ entries
 none_marked stamp change [] h = refl
 none_marked stamp change (e ∷ rest) h =
     let parts = neither (goes stamp change e.1) (list_any (goes stamp change) (values_of rest)) h in
@@ -364,15 +364,15 @@ trimmed_removals oldest (e ∷ rest) = by_removed e.1.removed refl (trimmed_remo
         by_test true d = rw d further
         by_test false d = rw (d, t) (ap (λ (ns : List ℕ). r ∷ ns) further)
 
-missing-marked : (stamp : ℕ) (change : Change) (key : ℕ) (entries : List (ℕ × Slot)) → value_at entries key ≡ None → value_at (all_marked stamp change entries) key ≡ None
+missing-marked : (stamp : ℕ) (change : Change) (key : ℕ) (entries : List (ℕ × Slot)) → value_at entries key ≡ None → value_at (entries_with_marks stamp change entries) key ≡ None
 missing-marked stamp change key [] h = refl
 missing-marked stamp change key (e ∷ rest) h = by_test (eqb e.0 key) refl (missing-marked stamp change key rest)
   where
-    by_test : (t : Bool) → eqb e.0 key ≡ t → (value_at rest key ≡ None → value_at (all_marked stamp change rest) key ≡ None) → value_at (all_marked stamp change (e ∷ rest)) key ≡ None
+    by_test : (t : Bool) → eqb e.0 key ≡ t → (value_at rest key ≡ None → value_at (entries_with_marks stamp change rest) key ≡ None) → value_at (entries_with_marks stamp change (e ∷ rest)) key ≡ None
     by_test true t further = let clash : Some e.1 ≡ None = rw t at h in absurd cc
     by_test false t further = rw t (further (rw t at h))
 
-pub distinct-marked : (stamp : ℕ) (change : Change) (entries : List (ℕ × Slot)) → HasDistinctKeys entries → HasDistinctKeys (all_marked stamp change entries)
+pub distinct-marked : (stamp : ℕ) (change : Change) (entries : List (ℕ × Slot)) → HasDistinctKeys entries → HasDistinctKeys (entries_with_marks stamp change entries)
 distinct-marked stamp change [] d = tt
 distinct-marked stamp change (e ∷ rest) d = (missing-marked stamp change e.0 rest d.0, distinct-marked stamp change rest d.1)
 
@@ -381,7 +381,7 @@ distinct-marked stamp change (e ∷ rest) d = (missing-marked stamp change e.0 r
 -- what is left of the least of a first number and others
 record LeastSome (first : ℕ) (numbers : List ℕ) : Type 0 where
   least : ℕ
-  is : fold (λ least number. Some (lesser least number)) (Some first) numbers ≡ Some least
+  is : fold (λ least number. Some (lesser_of least number)) (Some first) numbers ≡ Some least
   low : least ≤ first
   all : All (λ number. least ≤ number) numbers
   one : (least ≡ first) ⊎ Contains numbers least

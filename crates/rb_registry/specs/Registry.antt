@@ -54,8 +54,8 @@ rows_of kept = rows_at kept kept.stamp
 abbrev pub removals_of : Registry → List ℕ
 removals_of kept = removals kept.entries
 
-abbrev pub dead_count : Registry → ℕ
-dead_count kept = length (removals_of kept)
+abbrev pub retained_count : Registry → ℕ
+retained_count kept = length (removals_of kept)
 
 -- the rows after so many changes can be told
 pub record Reaches (kept : Registry) (stamp : ℕ) : Type 0 where
@@ -74,7 +74,7 @@ pub record StandsForChanges (kept : Registry) (own : List Row) (changes : List C
   pub rows : rows_of kept ≡ live own changes
   pub past : (n : ℕ) → Reaches kept n → rows_at kept n ≡ live own (take n changes)
   pub slots : slots_of kept ≡ slots_from kept.floor own changes
-  pub counted : length (rows_of kept) + dead_count kept ≡ length (slots_of kept)
+  pub counted : length (rows_of kept) + retained_count kept ≡ length (slots_of kept)
   pub within : length (slots_of kept) ≤ kept.limit
   pub stamp : kept.stamp ≡ length changes
 

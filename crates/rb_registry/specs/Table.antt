@@ -7,15 +7,15 @@ use Rattle.rb_xdr.specs.Places.{to_come}
 use Rattle.rb_xdr.specs.Meter.{Meter}
 use Rattle.rb_registry.specs.declared.slot.Slot.{Slot}
 use Rattle.rb_registry.specs.declared.row.Row.{Row}
-use Rattle.rb_registry.specs.Registry.{table_at, removals, Registry, rows_of, dead_count, StandsForChanges}
+use Rattle.rb_registry.specs.Registry.{table_at, removals, Registry, rows_of, retained_count, StandsForChanges}
 use Rattle.rb_registry.specs.Slots.{is_live_at, removed_by, is_dropped, held_in}
 use Rattle.rb_registry.specs.Rows.{Change, covers, has_place}
 
 -- ---- what a registry counts
 
 -- how many of these rows are retained
-abbrev pub count_dead : List (ℕ × Slot) → ℕ
-count_dead entries = length (removals entries)
+abbrev pub count_retained : List (ℕ × Slot) → ℕ
+count_retained entries = length (removals entries)
 
 -- the bytes that they hold, live and retained
 abbrev pub count_held : List (ℕ × Slot) → ℕ
@@ -32,14 +32,14 @@ AreStamped stamp [] = Unit {0}
 AreStamped stamp (e ∷ rest) = IsStamped stamp e.1 × AreStamped stamp rest
 
 -- What is true of a registry between two calls, where it counts so many bytes as held, and so many rows as retained.
-pub record IsTable (stamp floor limit held dead : ℕ) (entries : List (ℕ × Slot)) : Type 0 where
+pub record IsTable (stamp floor limit held retained : ℕ) (entries : List (ℕ × Slot)) : Type 0 where
   pub distinct : HasDistinctKeys entries
   pub stamped : AreStamped stamp entries
   pub made : floor ≤ stamp
   pub few : limit < 2 ^ 56
   pub within : length entries ≤ limit
   pub is_held : held ≡ count_held entries
-  pub are_dead : dead ≡ count_dead entries
+  pub are_retained : retained ≡ count_retained entries
 
 -- ---- what a removal marks, and what a trim drops
 
@@ -48,20 +48,20 @@ abbrev pub goes : ℕ → Change → Slot → Bool
 goes stamp change slot = is_live_at stamp slot && covers slot.row change
 
 -- a slot after the next change, which removes its row where it covers it
-abbrev pub marked : ℕ → Change → Slot → Slot
-marked stamp change slot = if goes stamp change slot then record slot { removed = Some (stamp + 1) } else slot
+abbrev pub with_mark : ℕ → Change → Slot → Slot
+with_mark stamp change slot = if goes stamp change slot then record slot { removed = Some (stamp + 1) } else slot
 
-abbrev pub all_marked : ℕ → Change → List (ℕ × Slot) → List (ℕ × Slot)
-all_marked stamp change entries = map (λ e. (e.0, marked stamp change e.1)) entries
+abbrev pub entries_with_marks : ℕ → Change → List (ℕ × Slot) → List (ℕ × Slot)
+entries_with_marks stamp change entries = map (λ e. (e.0, with_mark stamp change e.1)) entries
 
 abbrev pub count_going : ℕ → Change → List (ℕ × Slot) → ℕ
 count_going stamp change entries = count_by (goes stamp change) (values_of entries)
 
 abbrev pub with_marks : ℕ → Change → Pool Slot → Pool Slot
-with_marks stamp change pool = record pool { entries = all_marked stamp change pool.entries }
+with_marks stamp change pool = record pool { entries = entries_with_marks stamp change pool.entries }
 
-abbrev pub undropped : Option ℕ → List (ℕ × Slot) → List (ℕ × Slot)
-undropped oldest entries = filter (λ e. not (is_dropped oldest e.1)) entries
+abbrev pub entries_left : Option ℕ → List (ℕ × Slot) → List (ℕ × Slot)
+entries_left oldest entries = filter (λ e. not (is_dropped oldest e.1)) entries
 
 -- ---- places in the table
 
@@ -80,13 +80,13 @@ PaysFor entries place next old new = new.steps + 2 * count_left entries next ≤
 
 -- ---- the least of the changes that removed the retained rows
 
-abbrev pub lesser : Option ℕ → ℕ → ℕ
-lesser None number = number
-lesser (Some least) number = min least number
+abbrev pub lesser_of : Option ℕ → ℕ → ℕ
+lesser_of None number = number
+lesser_of (Some least) number = min least number
 
 -- the least of these numbers, 0 where there is none
 abbrev pub least_of : List ℕ → ℕ
-least_of numbers = unwrap_or (fold (λ least number. Some (lesser least number)) None numbers) 0
+least_of numbers = unwrap_or (fold (λ least number. Some (lesser_of least number)) None numbers) 0
 
 pub record IsLeast (numbers : List ℕ) (least : ℕ) : Type 0 where
   pub none : numbers ≡ [] → least ≡ 0
@@ -102,7 +102,7 @@ later_than oldest numbers = filter (λ number. not (removed_by (Some number) old
 -- the row may be set, and there is room for it beside the live and the retained rows
 abbrev pub takes : Registry → Row → Bool
 takes kept row =
-    has_place kept.limit (rows_of kept) kept.stamp row && nat_lt (length (rows_of kept) + dead_count kept) kept.limit
+    has_place kept.limit (rows_of kept) kept.stamp row && nat_lt (length (rows_of kept) + retained_count kept) kept.limit
 
 -- the stamp that a trim is told, None and one to come counting as the present one
 abbrev pub stamp_told : Registry → Option ℕ → ℕ

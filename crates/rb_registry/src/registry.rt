@@ -8,7 +8,7 @@ use crate::removal::Removal;
 use crate::row::{Netid, Owner, Row, Which};
 use crate::slot::Slot;
 use crate::walk::{
-    drop_dead, find_exact, find_row, has_key, least_removal, live_after, mark_covered,
+    drop_retained, find_exact, find_row, has_key, least_removal, live_after, mark_covered,
 };
 use rb_xdr::{Meter, NoMemory, Pool};
 use std::alloc::Global;
@@ -27,7 +27,7 @@ pub struct Registry {
     changes: u64,
     floor: u64,
     held: u64,
-    dead: usize,
+    retained: usize,
 }
 
 /// A core keeps its bytes in pools and buffers alone. A further field would not compile here: it
@@ -38,11 +38,11 @@ fn layout(registry: &Registry) {
         changes,
         floor,
         held,
-        dead,
+        retained,
     } = registry;
     let _: &Pool<Slot> = slots;
     let _: [u64; 3] = [*changes, *floor, *held];
-    let _: usize = *dead;
+    let _: usize = *retained;
 }
 
 impl Model for Registry {
@@ -60,7 +60,7 @@ impl Model for Registry {
       tie = r.slots.tie;
     } };
 
-    ghost invariant = { λ r. IsTable r.changes r.floor r.slots.cap r.held r.dead r.slots.entries };
+    ghost invariant = { λ r. IsTable r.changes r.floor r.slots.cap r.held r.retained r.slots.entries };
 }
 
 // Whether one more change has a number.
@@ -79,7 +79,7 @@ impl Registry {
     ghost use Rattle.rb_registry.specs.declared.row.Row.{Row};
     ghost use Rattle.rb_registry.specs.Rows.{find_exact, find_row, live};
     ghost use Rattle.rb_registry.specs.Rows.Change.{Added, Removed};
-    ghost use Rattle.rb_registry.specs.Registry.{rows_of, slots_of, removals_of, dead_count, Reaches, AreOwn, StandsForChanges};
+    ghost use Rattle.rb_registry.specs.Registry.{rows_of, slots_of, removals_of, retained_count, Reaches, AreOwn, StandsForChanges};
     ghost use Rattle.rb_registry.specs.Table.{takes, floor_told, StandsForMore, StandsForSame, later_than, IsLeast, PaysFor};
     ghost use Rattle.rb_registry.specs.Removals.{takes_removal};
     ghost use Rattle.rb_registry.specs.Cursors.{RowsAreLive, StandsIn, PassesOne, IsWithin, IsAtEnd, row_behind, slots_left, GoesOn};
@@ -99,7 +99,7 @@ impl Registry {
         ensures made { IfOk result (λ made. StandsForChanges made own_rows []) }
         ensures limit { IfOk result (λ made. made.limit ≡ cap) }
         ensures floor { IfOk result (λ made. made.floor ≡ 0) }
-        ensures dead { IfOk result (λ made. removals_of made ≡ []) }
+        ensures retained { IfOk result (λ made. removals_of made ≡ []) }
         ensures tie { IfOk result (λ made. made.tie ≡ meter.old.tie) }
         ensures bad { IsErrOf result RegistryFault.BadLimits ↔ (cap < 6) }
         ensures cost { OnOk result (Pays meter.old meter.new 6) }
@@ -130,7 +130,7 @@ impl Registry {
             changes: 0,
             floor: 0,
             held,
-            dead: 0,
+            retained: 0,
         })
     }
 
@@ -143,7 +143,7 @@ impl Registry {
         requires { meter.old.tie ≡ self.old.tie }
         ensures taken { result ≡ takes self.old row }
         ensures changes { StandsForMore self.old self.new result (Added row) }
-        ensures dead { removals_of self.new ≡ removals_of self.old }
+        ensures retained { removals_of self.new ≡ removals_of self.old }
         ensures cursors { GoesOn self.old self.new }
         ensures rejected { OnFalse result (self.new ≡ self.old) }
         ensures floor { self.new.floor ≡ self.old.floor }
@@ -209,7 +209,7 @@ impl Registry {
             return false;
         }
         self.changes += 1;
-        self.dead += removed;
+        self.retained += removed;
         true
     }
 
@@ -238,19 +238,19 @@ impl Registry {
         requires { meter.old.tie ≡ self.now.tie }
         ensures len { result ≡ length (rows_of self.now) }
         ensures within_limit { result ≤ self.now.limit }
-        ensures counted { length (rows_of self.now) + dead_count self.now
+        ensures counted { length (rows_of self.now) + retained_count self.now
             ≡ length (slots_of self.now) }
         ensures few { length (slots_of self.now) ≤ self.now.limit }
         ensures cost { PaysAtMost meter.old meter.new 1 }
     {
-        self.slots.len(meter) - self.dead
+        self.slots.len(meter) - self.retained
     }
 
     /// How many removed rows are retained, for no step.
-    pub fn dead(&self) -> usize
-        ensures count { result ≡ dead_count self.now }
+    pub fn retained(&self) -> usize
+        ensures count { result ≡ retained_count self.now }
     {
-        self.dead
+        self.retained
     }
 
     /// How many changes were accepted: rows set, and removals of at least one row.
@@ -265,15 +265,15 @@ impl Registry {
     /// there is none. It costs at most 2 steps for each row and 1, and nothing where no row is retained.
     pub fn kept(&self, meter: &mut Meter) -> (usize, u64)
         requires { meter.old.tie ≡ self.now.tie }
-        ensures count { result.0 ≡ dead_count self.now }
+        ensures count { result.0 ≡ retained_count self.now }
         ensures least { IsLeast (removals_of self.now) result.1 }
         ensures cost { PaysAtMost meter.old meter.new (2 * length (slots_of self.now) + 1) }
-        ensures free { dead_count self.now ≡ 0 → meter.new ≡ meter.old }
+        ensures free { retained_count self.now ≡ 0 → meter.new ≡ meter.old }
     {
-        if self.dead == 0 {
+        if self.retained == 0 {
             return (0, 0);
         }
-        (self.dead, least_removal(&self.slots, meter))
+        (self.retained, least_removal(&self.slots, meter))
     }
 
     /// Drops the retained rows that were removed by the change of number `oldest` or an earlier one; all of them
@@ -294,10 +294,10 @@ impl Registry {
         ensures memory { self.new.memory ≡ self.old.memory }
         ensures tie { self.new.tie ≡ self.old.tie }
         ensures cost { PaysAtMost meter.old meter.new (3 * length (slots_of self.old) + 1) }
-        ensures free { dead_count self.old ≡ 0 → meter.new ≡ meter.old }
+        ensures free { retained_count self.old ≡ 0 → meter.new ≡ meter.old }
     {
-        let dropped = drop_dead(&mut self.slots, self.dead, oldest, meter);
-        self.dead -= dropped.rows;
+        let dropped = drop_retained(&mut self.slots, self.retained, oldest, meter);
+        self.retained -= dropped.rows;
         self.held -= dropped.bytes;
         let told = oldest.unwrap_or(self.changes).min(self.changes);
         self.floor = self.floor.max(told);

@@ -6,7 +6,7 @@ ghost use Rattle.rb_xdr.specs.Pool.{HasDistinctKeys};
 ghost use Rattle.rb_registry.specs.Removals.{change_of};
 ghost use Rattle.rb_registry.specs.Rows.{find_exact, find_row, is_of_key};
 ghost use Rattle.rb_registry.specs.Registry.{live_at, removals};
-ghost use Rattle.rb_registry.specs.Table.{count_going, with_marks, undropped, count_dead, count_held, lesser, least_of, IsNextLive, count_left, PaysFor};
+ghost use Rattle.rb_registry.specs.Table.{count_going, with_marks, entries_left, count_retained, count_held, lesser_of, least_of, IsNextLive, count_left, PaysFor};
 
 use crate::removal::Removal;
 use crate::row::{Netid, Row};
@@ -116,25 +116,25 @@ pub(crate) struct Dropped {
 
 /// Takes out, of so many retained rows, those that were removed by that change or one before it, all where none is
 /// named. Where no row is retained, none is looked at.
-pub(crate) fn drop_dead(
+pub(crate) fn drop_retained(
     slots: &mut Pool<Slot>,
-    dead: usize,
+    retained: usize,
     oldest: Option<u64>,
     meter: &mut Meter,
 ) -> Dropped
     requires tie { meter.old.tie ≡ slots.old.tie }
-    requires dead { dead ≡ count_dead slots.old.entries }
+    requires retained { retained ≡ count_retained slots.old.entries }
     requires held { count_held slots.old.entries < 2 ^ 64 }
     requires distinct { HasDistinctKeys slots.old.entries }
     ensures left { slots.new
-        ≡ record slots.old { entries = undropped oldest slots.old.entries } }
+        ≡ record slots.old { entries = entries_left oldest slots.old.entries } }
     ensures distinct { HasDistinctKeys slots.new.entries }
-    ensures rows { result.rows + count_dead slots.new.entries ≡ count_dead slots.old.entries }
+    ensures rows { result.rows + count_retained slots.new.entries ≡ count_retained slots.old.entries }
     ensures bytes { result.bytes + count_held slots.new.entries ≡ count_held slots.old.entries }
     ensures cost { PaysAtMost meter.old meter.new (3 * length slots.old.entries + 1) }
-    ensures free { dead ≡ 0 → meter.new ≡ meter.old }
+    ensures free { retained ≡ 0 → meter.new ≡ meter.old }
 {
-    if dead == 0 {
+    if retained == 0 {
         return Dropped { rows: 0, bytes: 0 };
     }
     let mut rows = 0;
@@ -170,7 +170,7 @@ pub(crate) fn least_removal(slots: &Pool<Slot>, meter: &mut Meter) -> u64
 }
 
 fn lesser(least: Option<u64>, number: u64) -> u64
-    ensures { result ≡ lesser least number }
+    ensures { result ≡ lesser_of least number }
 {
     match least {
         None => number,

@@ -8,7 +8,7 @@ use Rattle.std.proofs.lemmas.Bool.{eqb-true, ltb-false, ltb-true, lt-ltb, cond-t
 use Rattle.rb_xdr.specs.Xdr.{AreBytes, number, number_at}
 use Rattle.rb_xdr.proofs.Words.{number-number_at, number_at_small}
 use Rattle.rb_rpc.specs.Records.{Fragment, fragment_header, marking, markings, is_last, fragment_end, is_cut, record_of, first_record, data_in, data_of}
-use Rattle.rb_rpc.specs.RecordLaws.{joined, is_empty, AreFragments, IsMarked, IsMarkedAs, Records}
+use Rattle.rb_rpc.specs.RecordLaws.{joined_data, is_empty, AreFragments, IsMarked, IsMarkedAs, Records}
 use Rattle.rb_rpc.specs.Marks.{Marks, Place, Part, AreOpen, number_so_far, IsInHeader, IsAt, StandsForFed}
 use Rattle.rb_rpc.specs.Streams.{StandsForStream, RecordEnds, ArePart, StandsForMore, StreamGoesOn, RecordData, no_data, more_data, data_among, behind, behind_header, NoRecordEnded}
 use Rattle.rb_rpc.specs.declared.marks.Place.TheVariants.{Header, Data}
@@ -50,7 +50,7 @@ first_open fragments rest are cut =
     ∙ ap (λ (x : Option ℕ). option_map (λ n. length (markings fragments) + n) x) (none_cut j rest cut)
 
 open_data : (k j : ℕ) (fragments : List Fragment) (rest : List ℕ) → AreOpen fragments → k ≡ length fragments + j
-    → data_in k (markings fragments ++ rest) ≡ joined fragments ++ data_in j rest
+    → data_in k (markings fragments ++ rest) ≡ joined_data fragments ++ data_in j rest
 open_data k j [] rest are e = ap (λ (i : ℕ). data_in i rest) (e ∙ zero-add j)
 open_data zero j (f ∷ more) rest are e = absurd (omega (arith, e))
 open_data (suc k) j (f ∷ more) rest are e =
@@ -58,7 +58,7 @@ open_data (suc k) j (f ∷ more) rest are e =
     ∙ data_step k f (markings more ++ rest) are.0
     ∙ cond-false _ _ _ are.1
     ∙ ap (λ (xs : List ℕ). f.content ++ xs) (open_data k j more rest are.2 (omega (arith, e)))
-    ∙ sym (append_assoc f.content (joined more) (data_in j rest))
+    ∙ sym (append_assoc f.content (joined_data more) (data_in j rest))
 
 -- ---- the data of what is no whole fragment
 
@@ -73,12 +73,12 @@ none_yet (suc j) rest short =
     by_test true e f = e
     by_test false e f = rw (e, f) refl
 
-header_data : (fragments : List Fragment) (front : List ℕ) → AreOpen fragments → length front ≤ 4 → data_of (markings fragments ++ front) ≡ joined fragments
+header_data : (fragments : List Fragment) (front : List ℕ) → AreOpen fragments → length front ≤ 4 → data_of (markings fragments ++ front) ≡ joined_data fragments
 unfolding data_of
 header_data fragments front are short =
     let j : ℕ = length (markings fragments ++ front) - length fragments in
     open_data (length (markings fragments ++ front)) j fragments front are (omega (arith, at_least fragments, length-append (markings fragments) front))
-    ∙ ap (λ (xs : List ℕ). joined fragments ++ xs) (none_yet j front short) ∙ append-nil (joined fragments)
+    ∙ ap (λ (xs : List ℕ). joined_data fragments ++ xs) (none_yet j front short) ∙ append-nil (joined_data fragments)
 
 -- behind a header, the data as far as it goes
 some_data : (j len : ℕ) (last : Bool) (content : List ℕ) → length content ≤ len → len < 2 ^ 31 → data_in (suc j) (fragment_header len last ++ content) ≡ content
@@ -97,13 +97,13 @@ some_data j len last content few small =
     by_flag false = append-nil content
 
 fragment_data : (fragments : List Fragment) (len : ℕ) (last : Bool) (content : List ℕ) → AreOpen fragments → length content ≤ len → len < 2 ^ 31
-    → data_of (markings fragments ++ (fragment_header len last ++ content)) ≡ joined fragments ++ content
+    → data_of (markings fragments ++ (fragment_header len last ++ content)) ≡ joined_data fragments ++ content
 unfolding data_of
 fragment_data fragments len last content are few small =
     let front : List ℕ = fragment_header len last ++ content in
     let j : ℕ = length (markings fragments ++ front) - length fragments - 1 in
     open_data (length (markings fragments ++ front)) (suc j) fragments front are (omega (arith, at_least fragments, length-append (markings fragments) front, length-append (fragment_header len last) content, length-header len last))
-    ∙ ap (λ (xs : List ℕ). joined fragments ++ xs) (some_data j len last content few small)
+    ∙ ap (λ (xs : List ℕ). joined_data fragments ++ xs) (some_data j len last content few small)
 
 -- ---- one fragment more
 
@@ -147,7 +147,7 @@ at_end fragments true content are small =
       is_record = λ e. record {
         fragments = all;
         marked = is;
-        content_is = ap data_of (sym (append-nil bytes)) ∙ data_again bytes (joined all) [] (record { fragments = all; marked = is; content_is = refl });
+        content_is = ap data_of (sym (append-nil bytes)) ∙ data_again bytes (joined_data all) [] (record { fragments = all; marked = is; content_is = refl });
       };
       stands = record { fragments = []; front = []; open_still = tt; fed_is = refl; place = at_start };
     }
@@ -293,7 +293,7 @@ header_step seen number byte fed small h =
       subst (λ (p : ℕ × List ℕ). Reached (cond (ltb seen 3) (Header (seen + 1) p.0, false) (behind (p.0 % 2 ^ 31) (not (ltb p.0 (2 ^ 31))))) p.1) (pair_is _ _ _ _ (sym next) (sym text))
           (by_test (ltb seen 3) refl seen_is len few are),
       ap data_of text ∙ header_data h.fragments front h.open_still (omega (arith, len, few))
-          ∙ sym (append-nil (joined h.fragments)) ∙ ap (λ (xs : List ℕ). xs ++ []) (sym (ap data_of h.fed_is ∙ header_data h.fragments h.front h.open_still (omega (arith, few)))),
+          ∙ sym (append-nil (joined_data h.fragments)) ∙ ap (λ (xs : List ℕ). xs ++ []) (sym (ap data_of h.fed_is ∙ header_data h.fragments h.front h.open_still (omega (arith, few)))),
     )
   where
     pair_is : (a b : ℕ) (x y : List ℕ) → a ≡ b → x ≡ y → ◌≡◌ {A = ℕ × List ℕ} (a, x) (b, y)
@@ -343,7 +343,7 @@ data_steps left last run fed few h =
     let reached : Reached (behind (left - length run) last) (markings h.fragments ++ (fragment_header (length more + (left - length run)) last ++ more)) =
     at_data h.fragments (left - length run) last more h.open_still (omega (arith, sum, small)) in (
       subst (λ (xs : List ℕ). Reached (behind (left - length run) last) xs) (ap (λ (k : ℕ). markings h.fragments ++ (fragment_header k last ++ more)) sum ∙ sym text) reached,
-      ap data_of text ∙ fragment_data h.fragments len last more h.open_still (omega (arith, more_len, few)) small ∙ sym (append_assoc (joined h.fragments) content run)
+      ap data_of text ∙ fragment_data h.fragments len last more h.open_still (omega (arith, more_len, few)) small ∙ sym (append_assoc (joined_data h.fragments) content run)
           ∙ ap (λ (xs : List ℕ). xs ++ run) (sym (ap data_of before ∙ fragment_data h.fragments len last content h.open_still (omega arith) small)),
     )
 

@@ -7,8 +7,8 @@ use Rattle.std.proofs.lemmas.Bool.{ltb-false, ltb-true, le-ltb, lt-ltb, cond-tru
 use Rattle.std.proofs.lemmas.List.Elements.{All-cons, All-nil}
 use Rattle.std.proofs.Math.Seq.{take-add}
 use Rattle.rb_xdr.specs.Xdr.{AreBytes, number, number_at}
-use Rattle.rb_rpc.specs.Records.{Fragment, fragment_header, marking, markings, is_last, fragment_end, is_cut, record_of, first_record, data_in, data_of, BeginsWithRecord, fragment_size, cut_up, reply_fragments, marked}
-use Rattle.rb_rpc.specs.RecordLaws.{joined, is_empty, AreFragments, IsMarked, IsMarkedAs, HasNoRecord, FirstRecordIsLeast, NoneWhereNoFrontIsOne, DataIsJoined, NoRecordBeginsAnother, IsReplyFragment, AreReplyFragments, RepliesAreMarked}
+use Rattle.rb_rpc.specs.Records.{Fragment, fragment_header, marking, markings, is_last, fragment_end, is_cut, record_of, first_record, data_in, data_of, BeginsWithRecord, fragment_size, cut_up, reply_fragments, marked_reply}
+use Rattle.rb_rpc.specs.RecordLaws.{joined_data, is_empty, AreFragments, IsMarked, IsMarkedAs, HasNoRecord, FirstRecordIsLeast, NoneWhereNoFrontIsOne, DataIsJoined, NoRecordBeginsAnother, IsReplyFragment, AreReplyFragments, RepliesAreMarked}
 use Rattle.rb_xdr.proofs.Words.{AreBytes-drop, length-number, number_at-number, number-number_at, number_at_small}
 
 pub length-header : (len : ℕ) (last : Bool) → length (fragment_header len last) ≡ 4
@@ -84,7 +84,7 @@ data_step k f rest small =
     rw (last_is, content_is, behind) refl
 
 data_walk : (k : ℕ) (fragments : List Fragment) (rest : List ℕ) → is_empty fragments ≡ false → AreFragments fragments → length fragments ≤ k
-    → data_in k (markings fragments ++ rest) ≡ joined fragments
+    → data_in k (markings fragments ++ rest) ≡ joined_data fragments
 data_walk k [] rest some are enough = absurd cc
 data_walk zero (f ∷ more) rest some are enough = absurd (omega (arith, enough))
 data_walk (suc k) (f ∷ []) rest some are enough =
@@ -236,7 +236,7 @@ first_is_least bytes are n = (
   λ e.
       let f = found_first bytes n are e in
       record {
-        content = joined f.fragments;
+        content = joined_data f.fragments;
         within = f.within;
         is_marked = record { fragments = f.fragments; marked = f.is_marked; content_is = refl };
         least = λ m other lt is. absurd (omega (arith, lt, some_is m n (sym (whole_again m bytes other (omega (arith, lt, f.within)) is) ∙ e)));
@@ -261,7 +261,7 @@ none_where_no_front bytes are = (
     by_value None e h = e
     by_value (Some n) e h =
         let f = found_first bytes n are e in
-        absurd (h n (joined f.fragments) f.within (record { fragments = f.fragments; marked = f.is_marked; content_is = refl }))
+        absurd (h n (joined_data f.fragments) f.within (record { fragments = f.fragments; marked = f.is_marked; content_is = refl }))
 
 pub data_is_joined : DataIsJoined
 data_is_joined = data_again
@@ -311,5 +311,5 @@ cut_up_are (suc k) reply some enough =
     by_test false behind e are = alone reply some (ltb-false _ _ e)
 
 pub replies_are_marked : RepliesAreMarked
-unfolding reply_fragments marked
+unfolding reply_fragments marked_reply
 replies_are_marked reply some = cut_up_are (length reply) reply some (omega arith)

@@ -7,7 +7,7 @@ use Rattle.std.proofs.lemmas.Nat.{from_be_bytes-to_be_bytes_4}
 use Rattle.rb_xdr.specs.Xdr.{AreBytes, IsNumber, number, number_at, word}
 use Rattle.rb_rpc.specs.Messages.{AuthStat, auth, auth_stat_number, auth_stats, auth_stat_of}
 use Rattle.rb_rpc.specs.Verdict.{auth_end}
-use Rattle.rb_rpc.specs.Replies.{ReplyStatus, ReplyHead, accepted, denied, reply_with, reply_head}
+use Rattle.rb_rpc.specs.Replies.{ReplyStatus, ReplyHead, accepted_reply, rejected_reply, reply_with, reply_head}
 use Rattle.rb_rpc.specs.ReadReplies.{Read, says, refused_by, by_accept_stat, read_prog_mismatch, read_accept_stat, read_accepted, read_rpc_mismatch, read_denied, read_reply}
 use Rattle.rb_rpc.specs.declared.reply.ReplyStatus.TheVariants.{Success, ProgUnavail, ProgMismatch, ProcUnavail, GarbageArgs, SystemErr, RpcMismatch, AuthError}
 use Rattle.rb_rpc.specs.declared.auth.AuthStat.TheVariants as stats
@@ -38,10 +38,10 @@ record TailThere (status : ReplyStatus) (place : ℕ) (bytes : List ℕ) (end : 
   text : (xid : ℕ) (verifier : List ℕ) → number xid ++ (number 1 ++ (number 0 ++ (verifier ++ drop place bytes))) ≡ reply_with verifier xid status ++ rest
   size : (xid : ℕ) (verifier : List ℕ) → length (reply_with verifier xid status) + place ≡ 12 + length verifier + end
 
-plain_text : (xid stat : ℕ) (verifier rest front : List ℕ) → front ≡ number stat ++ rest → number xid ++ (number 1 ++ (number 0 ++ (verifier ++ front))) ≡ accepted xid verifier stat ++ rest
+plain_text : (xid stat : ℕ) (verifier rest front : List ℕ) → front ≡ number stat ++ rest → number xid ++ (number 1 ++ (number 0 ++ (verifier ++ front))) ≡ accepted_reply xid verifier stat ++ rest
 plain_text xid stat verifier rest front e = rw e (simp append_assoc refl)
 
-length-accepted : (xid : ℕ) (verifier : List ℕ) (stat : ℕ) → length (accepted xid verifier stat) ≡ 16 + length verifier
+length-accepted : (xid : ℕ) (verifier : List ℕ) (stat : ℕ) → length (accepted_reply xid verifier stat) ≡ 16 + length verifier
 length-accepted xid verifier stat =
     omega (arith, length-append (number xid ++ number 1 ++ number 0 ++ verifier) (number stat), length-append (number xid ++ number 1 ++ number 0) verifier, length-append (number xid ++ number 1) (number 0), length-append (number xid) (number 1), length-number xid, length-number 1, length-number 0, length-number stat)
 
@@ -50,7 +50,7 @@ stat_front place stat bytes are long e = split_number place bytes are long ∙ a
 
 -- two more numbers
 two_text : (xid stat low high : ℕ) (verifier rest front : List ℕ) → front ≡ number stat ++ (number low ++ (number high ++ rest))
-    → number xid ++ (number 1 ++ (number 0 ++ (verifier ++ front))) ≡ (accepted xid verifier stat ++ number low ++ number high) ++ rest
+    → number xid ++ (number 1 ++ (number 0 ++ (verifier ++ front))) ≡ (accepted_reply xid verifier stat ++ number low ++ number high) ++ rest
 two_text xid stat low high verifier rest front e = rw e (simp append_assoc refl)
 
 two_front : (place : ℕ) (bytes : List ℕ) → AreBytes bytes → place + 8 ≤ length bytes → drop place bytes ≡ number (number_at place bytes) ++ (number (number_at (place + 4) bytes) ++ drop (place + 8) bytes)
@@ -73,7 +73,7 @@ mismatch_there place bytes are long e =
       rest = rest;
       fits = (number_at_small (place + 4) bytes are, number_at_small (place + 8) bytes are);
       text = λ xid verifier. two_text xid 2 low high verifier rest (drop place bytes) front;
-      size = λ xid verifier. omega (arith, length-two (accepted xid verifier 2) low high, length-accepted xid verifier 2);
+      size = λ xid verifier. omega (arith, length-two (accepted_reply xid verifier 2) low high, length-accepted xid verifier 2);
     }
   where
     pair_is : (a b c d : ℕ) → a ≡ b → c ≡ d → ◌≡◌ {A = ℕ × ℕ} (a, c) (b, d)
@@ -89,8 +89,8 @@ stat_there place bytes r are e =
     let a = passed _ _ r e in
     let long : place + 4 ≤ length bytes = ltb-false _ _ a.0 in
     let stat : ℕ = number_at place bytes in
-    let size : (k xid : ℕ) (verifier : List ℕ) → length (accepted xid verifier k) + place ≡ 12 + length verifier + (place + 4) = λ k xid verifier. omega (arith, length-accepted xid verifier k) in
-    let text : (k : ℕ) → stat ≡ k → (xid : ℕ) (verifier : List ℕ) → number xid ++ (number 1 ++ (number 0 ++ (verifier ++ drop place bytes))) ≡ accepted xid verifier k ++ drop (place + 4) bytes =
+    let size : (k xid : ℕ) (verifier : List ℕ) → length (accepted_reply xid verifier k) + place ≡ 12 + length verifier + (place + 4) = λ k xid verifier. omega (arith, length-accepted xid verifier k) in
+    let text : (k : ℕ) → stat ≡ k → (xid : ℕ) (verifier : List ℕ) → number xid ++ (number 1 ++ (number 0 ++ (verifier ++ drop place bytes))) ≡ accepted_reply xid verifier k ++ drop (place + 4) bytes =
     λ k e xid verifier. plain_text xid k verifier (drop (place + 4) bytes) (drop place bytes) (stat_front place k bytes are long e) in
     elim (chosen (eqb stat 0) _ _ r a.1) [
       | inl h ↦ subst (StatThere place bytes) (some_is _ r h.1) (record { xid_is = refl; tail = record { rest = drop (place + 4) bytes; fits = tt; text = text 0 (eqb-true _ _ h.0); size = size 0 } })
@@ -151,7 +151,7 @@ accepted_there bytes r are long w1 w2 e =
       place_is = omega (arith, s.tail.size r.0.xid verifier, v.end_is);
     }
 
-four_words : (bytes : List ℕ) → AreBytes bytes → 16 ≤ length bytes → word 1 bytes ≡ 1 → word 2 bytes ≡ 1 → bytes ≡ denied (word 0 bytes) (word 3 bytes) ++ drop 16 bytes
+four_words : (bytes : List ℕ) → AreBytes bytes → 16 ≤ length bytes → word 1 bytes ≡ 1 → word 2 bytes ≡ 1 → bytes ≡ rejected_reply (word 0 bytes) (word 3 bytes) ++ drop 16 bytes
 four_words bytes are long w1 w2 =
     three_words bytes are (omega (arith, long))
     ∙ ap (λ (k : ℕ). number (word 0 bytes) ++ (number k ++ (number (word 2 bytes) ++ drop 12 bytes))) w1
@@ -159,7 +159,7 @@ four_words bytes are long w1 w2 =
     ∙ ap (λ (xs : List ℕ). number (word 0 bytes) ++ (number 1 ++ (number 1 ++ xs))) (split_number 12 bytes are (omega (arith, long)))
     ∙ simp append_assoc refl
 
-length-denied : (xid stat : ℕ) → length (denied xid stat) ≡ 16
+length-denied : (xid stat : ℕ) → length (rejected_reply xid stat) ≡ 16
 unfolding number
 length-denied xid stat = refl
 
@@ -195,8 +195,8 @@ error_there bytes r are w1 w2 long w3 e = by_stat (auth_stat_of (word 4 bytes)) 
           xid_fits = number_at_small 0 bytes are;
           status_fits = tt;
           verifier_fits = none_fits;
-          whole = four_words bytes are (omega (arith, long)) w1 w2 ∙ ap (λ (k : ℕ). denied (word 0 bytes) k ++ drop 16 bytes) w3 ∙ ap (λ (xs : List ℕ). denied (word 0 bytes) 1 ++ xs) (split_number 16 bytes are long) ∙ sym (append_assoc (denied (word 0 bytes) 1) (number (word 4 bytes)) (drop 20 bytes)) ∙ ap (λ (k : ℕ). denied (word 0 bytes) 1 ++ number k ++ drop 20 bytes) n_is;
-          place_is = omega (arith, length-append (denied (word 0 bytes) 1) (number n), length-denied (word 0 bytes) 1, length-number n);
+          whole = four_words bytes are (omega (arith, long)) w1 w2 ∙ ap (λ (k : ℕ). rejected_reply (word 0 bytes) k ++ drop 16 bytes) w3 ∙ ap (λ (xs : List ℕ). rejected_reply (word 0 bytes) 1 ++ xs) (split_number 16 bytes are long) ∙ sym (append_assoc (rejected_reply (word 0 bytes) 1) (number (word 4 bytes)) (drop 20 bytes)) ∙ ap (λ (k : ℕ). rejected_reply (word 0 bytes) 1 ++ number k ++ drop 20 bytes) n_is;
+          place_is = omega (arith, length-append (rejected_reply (word 0 bytes) 1) (number n), length-denied (word 0 bytes) 1, length-number n);
         })
 
 denied_there : (bytes : List ℕ) (r : ReplyHead × ℕ) → AreBytes bytes → word 1 bytes ≡ 1 → word 2 bytes ≡ 1 → read_denied bytes ≡ Some r → BeginsWithReply r.0.xid r.0.status r.1 bytes
@@ -216,8 +216,8 @@ denied_there bytes r are w1 w2 e =
             xid_fits = number_at_small 0 bytes are;
             status_fits = (number_at_small 16 bytes are, number_at_small 20 bytes are);
             verifier_fits = none_fits;
-            whole = whole ∙ ap (λ (k : ℕ). denied (word 0 bytes) k ++ drop 16 bytes) (eqb-true _ _ h.0) ∙ ap (λ (xs : List ℕ). denied (word 0 bytes) 0 ++ xs) (two_front 16 bytes are more) ∙ simp append_assoc refl;
-            place_is = omega (arith, length-two (denied (word 0 bytes) 0) (word 4 bytes) (word 5 bytes), length-denied (word 0 bytes) 0);
+            whole = whole ∙ ap (λ (k : ℕ). rejected_reply (word 0 bytes) k ++ drop 16 bytes) (eqb-true _ _ h.0) ∙ ap (λ (xs : List ℕ). rejected_reply (word 0 bytes) 0 ++ xs) (two_front 16 bytes are more) ∙ simp append_assoc refl;
+            place_is = omega (arith, length-two (rejected_reply (word 0 bytes) 0) (word 4 bytes) (word 5 bytes), length-denied (word 0 bytes) 0);
           })
       | inr b ↦ elim (chosen (eqb (word 3 bytes) 1) _ _ r b.1) [
         | inl h ↦ error_there bytes r are w1 w2 long (eqb-true _ _ h.0) h.1
@@ -260,7 +260,7 @@ accepted_again : (xid : ℕ) (tail : List ℕ) → IsNumber xid → WordsAgain x
 unfolding number number_at
 accepted_again xid tail small = record { w0 = from_be_bytes-to_be_bytes_4 xid small; w1 = refl; w2 = refl }
 
-denied_again : (xid stat : ℕ) (tail : List ℕ) → IsNumber xid → WordsAgain xid 1 (denied xid stat ++ tail)
+denied_again : (xid stat : ℕ) (tail : List ℕ) → IsNumber xid → WordsAgain xid 1 (rejected_reply xid stat ++ tail)
 unfolding number number_at
 denied_again xid stat tail small = record { w0 = from_be_bytes-to_be_bytes_4 xid small; w1 = refl; w2 = refl }
 
@@ -274,7 +274,7 @@ record StatAgain (xid stat place : ℕ) (bytes tail : List ℕ) : Type 0 where
   long : place + 4 + length tail ≤ length bytes
   was : read_reply bytes ≡ by_accept_stat stat place bytes
 
-stat_again : (xid stat flavor : ℕ) (body tail bytes : List ℕ) → IsNumber xid → stat < 2 ^ 32 → IsAuth flavor body → bytes ≡ accepted xid (auth flavor body) stat ++ tail
+stat_again : (xid stat flavor : ℕ) (body tail bytes : List ℕ) → IsNumber xid → stat < 2 ^ 32 → IsAuth flavor body → bytes ≡ accepted_reply xid (auth flavor body) stat ++ tail
     → StatAgain xid stat (12 + length (auth flavor body)) bytes tail
 unfolding read_reply read_accepted read_accept_stat
 stat_again xid stat flavor body tail bytes small stat_small is whole =
@@ -369,9 +369,9 @@ mismatch_again xid low high place flavor body rest bytes small low_fits high_fit
     let high_is : number_at (p + 8) bytes ≡ high =
     behind_at p 8 high bytes (number 2 ++ number low) rest high_fits (omega (arith, length-append (number 2) (number low), length-number 2, length-number low)) (s.behind ∙ sym (append_assoc (number 2) (number low) (number high ++ rest))) in
     s.was ∙ cond-false _ _ _ (le-ltb (length bytes) (p + 12) (omega (arith, s.long, tail_len)))
-    ∙ made_mismatch _ _ _ _ _ _ _ _ s.w0 low_is high_is (omega (arith, place_is, length-two (accepted xid v 2) low high, length-accepted xid v 2))
+    ∙ made_mismatch _ _ _ _ _ _ _ _ s.w0 low_is high_is (omega (arith, place_is, length-two (accepted_reply xid v 2) low high, length-accepted xid v 2))
 
-fourth : (xid stat : ℕ) (tail : List ℕ) → IsNumber stat → word 3 (denied xid stat ++ tail) ≡ stat
+fourth : (xid stat : ℕ) (tail : List ℕ) → IsNumber stat → word 3 (rejected_reply xid stat ++ tail) ≡ stat
 unfolding number number_at
 fourth xid stat tail small = from_be_bytes-to_be_bytes_4 stat small
 
@@ -381,12 +381,12 @@ record DeniedWords (xid stat : ℕ) (bytes tail : List ℕ) : Type 0 where
   behind : drop 16 bytes ≡ tail
   long : 16 + length tail ≤ length bytes
 
-denied_words : (xid stat : ℕ) (tail : List ℕ) → IsNumber xid → IsNumber stat → DeniedWords xid stat (denied xid stat ++ tail) tail
+denied_words : (xid stat : ℕ) (tail : List ℕ) → IsNumber xid → IsNumber stat → DeniedWords xid stat (rejected_reply xid stat ++ tail) tail
 denied_words xid stat tail small stat_small = record {
   words_are = denied_again xid stat tail small;
   w3 = fourth xid stat tail stat_small;
-  behind = drop_at (denied xid stat) tail 16 (length-denied xid stat);
-  long = omega (arith, length-append (denied xid stat) tail, length-denied xid stat);
+  behind = drop_at (rejected_reply xid stat) tail 16 (length-denied xid stat);
+  long = omega (arith, length-append (rejected_reply xid stat) tail, length-denied xid stat);
 }
 
 rpc_again : (xid low high place : ℕ) (verifier rest bytes : List ℕ) → IsNumber xid → IsNumber low → IsNumber high
@@ -394,7 +394,7 @@ rpc_again : (xid low high place : ℕ) (verifier rest bytes : List ℕ) → IsNu
 unfolding read_reply read_denied read_rpc_mismatch
 rpc_again xid low high place verifier rest bytes small low_fits high_fits whole place_is =
     let tail : List ℕ = number low ++ (number high ++ rest) in
-    let w : bytes ≡ denied xid 0 ++ tail = whole ∙ simp append_assoc refl in
+    let w : bytes ≡ rejected_reply xid 0 ++ tail = whole ∙ simp append_assoc refl in
     let d : DeniedWords xid 0 bytes tail = subst (λ (xs : List ℕ). DeniedWords xid 0 xs tail) (sym w) (denied_words xid 0 tail small (omega arith)) in
     let tail_len : length tail ≡ 8 + length rest = omega (arith, length-append (number low) (number high ++ rest), length-append (number high) rest, length-number low, length-number high) in
     let low_is : word 4 bytes ≡ low = behind_at 16 0 low bytes [] (number high ++ rest) low_fits refl d.behind in
@@ -405,7 +405,7 @@ rpc_again xid low high place verifier rest bytes small low_fits high_fits whole 
     ∙ cond-false _ _ _ (le-ltb (length bytes) 20 (omega (arith, d.long, tail_len)))
     ∙ cond-true _ _ _ (ap (λ (k : ℕ). eqb k 0) d.w3)
     ∙ cond-false _ _ _ (le-ltb (length bytes) 24 (omega (arith, d.long, tail_len)))
-    ∙ made_rpc _ _ _ _ _ _ _ _ d.words_are.w0 low_is high_is (omega (arith, place_is, length-two (denied xid 0) low high, length-denied xid 0))
+    ∙ made_rpc _ _ _ _ _ _ _ _ d.words_are.w0 low_is high_is (omega (arith, place_is, length-two (rejected_reply xid 0) low high, length-denied xid 0))
 
 error_again : (xid place : ℕ) (stat : AuthStat) (verifier rest bytes : List ℕ) → IsNumber xid
     → bytes ≡ reply_with verifier xid (AuthError stat) ++ rest → place ≡ length (reply_with verifier xid (AuthError stat)) → read_reply bytes ≡ says xid (AuthError stat) place
@@ -413,7 +413,7 @@ unfolding read_reply read_denied
 error_again xid place stat verifier rest bytes small whole place_is =
     let n : ℕ = auth_stat_number stat in
     let tail : List ℕ = number n ++ rest in
-    let w : bytes ≡ denied xid 1 ++ tail = whole ∙ append_assoc (denied xid 1) (number n) rest in
+    let w : bytes ≡ rejected_reply xid 1 ++ tail = whole ∙ append_assoc (rejected_reply xid 1) (number n) rest in
     let d : DeniedWords xid 1 bytes tail = subst (λ (xs : List ℕ). DeniedWords xid 1 xs tail) (sym w) (denied_words xid 1 tail small (omega arith)) in
     let tail_len : length tail ≡ 4 + length rest = omega (arith, length-append (number n) rest, length-number n) in
     let stat_is : word 4 bytes ≡ n = behind_at 16 0 n bytes [] rest (omega (arith, few_stats stat)) refl d.behind in
@@ -423,7 +423,7 @@ error_again xid place stat verifier rest bytes small whole place_is =
     ∙ cond-false _ _ _ (le-ltb (length bytes) 20 (omega (arith, d.long, tail_len)))
     ∙ cond-false _ _ _ (ap (λ (k : ℕ). eqb k 0) d.w3)
     ∙ cond-true _ _ _ (ap (λ (k : ℕ). eqb k 1) d.w3)
-    ∙ made_error _ _ _ _ stat d.words_are.w0 stat_is (omega (arith, place_is, length-append (denied xid 1) (number n), length-denied xid 1, length-number n))
+    ∙ made_error _ _ _ _ stat d.words_are.w0 stat_is (omega (arith, place_is, length-append (rejected_reply xid 1) (number n), length-denied xid 1, length-number n))
 
 again : (xid place flavor : ℕ) (status : ReplyStatus) (body rest bytes : List ℕ) → IsNumber xid → IsReplyStatus status → IsAuth flavor body
     → bytes ≡ reply_with (auth flavor body) xid status ++ rest → place ≡ length (reply_with (auth flavor body) xid status) → read_reply bytes ≡ says xid status place

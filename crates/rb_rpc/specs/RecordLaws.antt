@@ -2,7 +2,7 @@
 use Rattle.std.specs.Prelude.{◌≡◌, ◌↔◌, ◌<◌, ◌≤◌, ⊤, ℕ, ◌^◌, Bool, true, false, List, [], ◌∷◌, ◌++◌, length, take, drop, All, Some, None}
 use Rattle.std.specs.List.{flat_map}
 use Rattle.rb_xdr.specs.Xdr.{AreBytes}
-use Rattle.rb_rpc.specs.Records.{Fragment, markings, first_record, data_of, fragment_size, reply_fragments, marked}
+use Rattle.rb_rpc.specs.Records.{Fragment, markings, first_record, data_of, fragment_size, reply_fragments, marked_reply}
 
 -- ---- the relation
 
@@ -15,8 +15,8 @@ abbrev pub AreFragments : List Fragment → Type 0
 AreFragments [] = ⊤
 AreFragments (f ∷ more) = (length f.content < 2 ^ 31) × (f.last ≡ is_empty more) × AreFragments more
 
-abbrev pub joined : List Fragment → List ℕ
-joined fragments = flat_map (λ f. f.content) fragments
+abbrev pub joined_data : List Fragment → List ℕ
+joined_data fragments = flat_map (λ f. f.content) fragments
 
 -- The bytes are a marked record of these fragments.
 pub record IsMarkedAs (fragments : List Fragment) (bytes : List ℕ) : Type 0 where
@@ -28,7 +28,7 @@ pub record IsMarkedAs (fragments : List Fragment) (bytes : List ℕ) : Type 0 wh
 pub record IsMarked (bytes content : List ℕ) : Type 0 where
   pub fragments : List Fragment
   pub marked : IsMarkedAs fragments bytes
-  pub content_is : content ≡ joined fragments
+  pub content_is : content ≡ joined_data fragments
 
 -- ---- the first record of bytes
 
@@ -106,7 +106,7 @@ pub record IsReplyFragment (f : Fragment) : Type 0 where
 pub record AreReplyFragments (fragments : List Fragment) (reply bytes : List ℕ) : Type 0 where
   pub sizes : All IsReplyFragment fragments
   pub is_marked : IsMarkedAs fragments bytes
-  pub content : reply ≡ joined fragments
+  pub content : reply ≡ joined_data fragments
 
 abbrev pub RepliesAreMarked : Type 0
-RepliesAreMarked = (reply : List ℕ) → 0 < length reply → AreReplyFragments (reply_fragments reply) reply (marked reply)
+RepliesAreMarked = (reply : List ℕ) → 0 < length reply → AreReplyFragments (reply_fragments reply) reply (marked_reply reply)

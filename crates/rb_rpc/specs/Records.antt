@@ -85,5 +85,5 @@ cut_up (suc k) reply =
 unfoldable pub reply_fragments : List ℕ → List Fragment
 reply_fragments reply = cut_up (length reply) reply
 
-unfoldable pub marked : List ℕ → List ℕ
-marked reply = markings (reply_fragments reply)
+unfoldable pub marked_reply : List ℕ → List ℕ
+marked_reply reply = markings (reply_fragments reply)

@@ -7,23 +7,23 @@ pub use Rattle.rb_rpc.specs.declared.reply.ReplyStatus.{ReplyStatus}
 pub use Rattle.rb_rpc.specs.declared.reply.ReplyHead.{ReplyHead}
 
 -- xid, REPLY, MSG_ACCEPTED, a verifier, accept_stat
-abbrev pub accepted : ℕ → List ℕ → ℕ → List ℕ
-accepted xid verifier stat = number xid ++ number 1 ++ number 0 ++ verifier ++ number stat
+abbrev pub accepted_reply : ℕ → List ℕ → ℕ → List ℕ
+accepted_reply xid verifier stat = number xid ++ number 1 ++ number 0 ++ verifier ++ number stat
 
 -- xid, REPLY, MSG_DENIED, reject_stat
-abbrev pub denied : ℕ → ℕ → List ℕ
-denied xid stat = number xid ++ number 1 ++ number 1 ++ number stat
+abbrev pub rejected_reply : ℕ → ℕ → List ℕ
+rejected_reply xid stat = number xid ++ number 1 ++ number 1 ++ number stat
 
 -- with this verifier, where the reply has one
 abbrev pub reply_with : List ℕ → ℕ → ReplyStatus → List ℕ
-reply_with verifier xid Success = accepted xid verifier 0
-reply_with verifier xid ProgUnavail = accepted xid verifier 1
-reply_with verifier xid (ProgMismatch low high) = accepted xid verifier 2 ++ number low ++ number high
-reply_with verifier xid ProcUnavail = accepted xid verifier 3
-reply_with verifier xid GarbageArgs = accepted xid verifier 4
-reply_with verifier xid SystemErr = accepted xid verifier 5
-reply_with verifier xid (RpcMismatch low high) = denied xid 0 ++ number low ++ number high
-reply_with verifier xid (AuthError stat) = denied xid 1 ++ number (auth_stat_number stat)
+reply_with verifier xid Success = accepted_reply xid verifier 0
+reply_with verifier xid ProgUnavail = accepted_reply xid verifier 1
+reply_with verifier xid (ProgMismatch low high) = accepted_reply xid verifier 2 ++ number low ++ number high
+reply_with verifier xid ProcUnavail = accepted_reply xid verifier 3
+reply_with verifier xid GarbageArgs = accepted_reply xid verifier 4
+reply_with verifier xid SystemErr = accepted_reply xid verifier 5
+reply_with verifier xid (RpcMismatch low high) = rejected_reply xid 0 ++ number low ++ number high
+reply_with verifier xid (AuthError stat) = rejected_reply xid 1 ++ number (auth_stat_number stat)
 
 -- the daemon's verifier is AUTH_NONE, empty
 unfoldable pub reply_head : ℕ → ReplyStatus → List ℕ

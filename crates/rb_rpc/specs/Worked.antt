@@ -10,7 +10,7 @@ use Rattle.rb_rpc.specs.declared.call.Verdict.TheVariants as verdicts
 use Rattle.rb_rpc.specs.declared.call.Credential.TheVariants as credentials
 use Rattle.rb_rpc.specs.declared.auth.AuthStat.TheVariants as stats
 use Rattle.rb_rpc.specs.declared.reply.ReplyStatus.TheVariants as replies
-use Rattle.rb_rpc.specs.Records.{first_record, data_of, marked, reply_fragments}
+use Rattle.rb_rpc.specs.Records.{first_record, data_of, marked_reply, reply_fragments}
 
 -- the head with AUTH_NONE, and the one with AUTH_SYS of a uid; program 100000
 abbrev pub with_none : ℕ → ℕ → ℕ → List ℕ
@@ -77,20 +77,20 @@ abbrev pub GoodResidue : Type 0
 GoodResidue = verdict (words (13 ∷ 0 ∷ 2 ∷ 0x186a0 ∷ 2 ∷ 0 ∷ 0 ∷ 1 ∷ 0xff000000 ∷ 0 ∷ 0 ∷ [])) ≡ verdicts.Call (head 13 100000 2 0 credentials.None) 44
 
 -- the bytes without their last ones, from none of them on
-abbrev pub cut_short : List ℕ → List (List ℕ)
-cut_short [] = []
-cut_short (b ∷ more) = [] ∷ map (λ front. b ∷ front) (cut_short more)
+abbrev pub proper_fronts : List ℕ → List (List ℕ)
+proper_fronts [] = []
+proper_fronts (b ∷ more) = [] ∷ map (λ front. b ∷ front) (proper_fronts more)
 
 -- SET by AUTH_SYS is no call wherever it is cut in the head
 abbrev pub CutCalls : Type 0
-CutCalls = map verdict (cut_short (with_sys 1 2 1 500)) ≡ replicate 60 verdicts.NoCall
+CutCalls = map verdict (proper_fronts (with_sys 1 2 1 500)) ≡ replicate 60 verdicts.NoCall
 
 -- the version of RPC decides from its word on, and an overlong credential from its length word on
 abbrev pub CutMismatches : Type 0
-CutMismatches = map verdict (cut_short (words (5 ∷ 0 ∷ 3 ∷ 7 ∷ 7 ∷ 7 ∷ []))) ≡ replicate 12 verdicts.NoCall ++ replicate 12 (verdicts.RpcMismatch 5)
+CutMismatches = map verdict (proper_fronts (words (5 ∷ 0 ∷ 3 ∷ 7 ∷ 7 ∷ 7 ∷ []))) ≡ replicate 12 verdicts.NoCall ++ replicate 12 (verdicts.RpcMismatch 5)
 
 abbrev pub CutCredentials : Type 0
-CutCredentials = map verdict (cut_short (take 60 (credential_of 401))) ≡ replicate 32 verdicts.NoCall ++ replicate 28 (verdicts.AuthError 9 stats.BadCredential)
+CutCredentials = map verdict (proper_fronts (take 60 (credential_of 401))) ≡ replicate 32 verdicts.NoCall ++ replicate 28 (verdicts.AuthError 9 stats.BadCredential)
 
 -- ---- calls as they are written
 
@@ -145,13 +145,13 @@ ReadsVerifier = read_reply (words (3 ∷ 1 ∷ 0 ∷ 9 ∷ 1 ∷ 0xff000000 ∷ 
 -- ---- records
 
 -- each byte in a fragment of its own, and an empty fragment behind it
-abbrev pub scattered : List ℕ → List ℕ
-scattered [] = []
-scattered (b ∷ more) = words (1 ∷ []) ++ (b ∷ []) ++ words (0 ∷ []) ++ scattered more
+abbrev pub in_single_bytes : List ℕ → List ℕ
+in_single_bytes [] = []
+in_single_bytes (b ∷ more) = words (1 ∷ []) ++ (b ∷ []) ++ words (0 ∷ []) ++ in_single_bytes more
 
 -- NULL in 40 fragments of one byte, an empty one between each two, and the empty last one: 360 bytes
 abbrev pub in_many : List ℕ
-in_many = take 356 (scattered (with_none 1 2 0)) ++ words (0x80000000 ∷ [])
+in_many = take 356 (in_single_bytes (with_none 1 2 0)) ++ words (0x80000000 ∷ [])
 
 abbrev pub ManyFragments : Type 0
 ManyFragments = first_record (in_many ++ with_none 2 2 0) ≡ Some 360
@@ -172,7 +172,7 @@ abbrev pub HugeFragment : Type 0
 HugeFragment = first_record (words (0xffffffff ∷ 5 ∷ 0 ∷ 3 ∷ [])) ≡ None
 
 abbrev pub MarkedReply : Type 0
-MarkedReply = marked (answer 1 0) ≡ words (0x80000018 ∷ []) ++ answer 1 0
+MarkedReply = marked_reply (answer 1 0) ≡ words (0x80000018 ∷ []) ++ answer 1 0
 
 -- 9,048 bytes are eight fragments of 1,024 and one of 856
 abbrev pub MarkedInNine : Type 0

@@ -4,7 +4,7 @@ ghost use Rattle.std.specs.Result.{result_ok};
 ghost use Rattle.rb_xdr.specs.Meter.{Pays};
 ghost use Rattle.rb_rpc.specs.Messages.{auth_none};
 ghost use Rattle.rb_xdr.specs.Puts.{Appends, HasRoom};
-ghost use Rattle.rb_rpc.specs.Replies.{accepted, reply_bytes};
+ghost use Rattle.rb_rpc.specs.Replies.{accepted_reply, reply_bytes};
 ghost use Rattle.rb_rpc.specs.ReadReplies.{read_prog_mismatch, read_accept_stat, read_accepted, read_rpc_mismatch, read_denied, read_reply};
 
 use crate::auth::AuthStat;
@@ -82,7 +82,7 @@ const AUTH_ERROR: u32 = 1;
 /// An accepted reply with the null verifier up to its accept_stat.
 #[tactic(auto, unfolding(rb_xdr::specs::Xdr::number, rb_xdr::specs::Xdr::opaque))]
 fn accepted(xid: u32, stat: u32) -> [u8; ACCEPTED_HEAD]
-    ensures { result ≡ accepted xid auth_none stat }
+    ensures { result ≡ accepted_reply xid auth_none stat }
 {
     let mut head = [0; ACCEPTED_HEAD];
     head[..4].copy_from_slice(&xid.to_be_bytes());
@@ -97,8 +97,8 @@ fn accepted(xid: u32, stat: u32) -> [u8; ACCEPTED_HEAD]
 /// reply with results begins so.
 fn put_accepted(xid: u32, stat: u32, out: &mut Kept, meter: &mut Meter) -> Result<(), Full>
     requires { meter.old.tie ≡ out.old.tie }
-    ensures room { IsOk result ↔ HasRoom (accepted xid auth_none stat) out.old }
-    ensures ok { OnOk result (Appends (accepted xid auth_none stat) out.old out.new) }
+    ensures room { IsOk result ↔ HasRoom (accepted_reply xid auth_none stat) out.old }
+    ensures ok { OnOk result (Appends (accepted_reply xid auth_none stat) out.old out.new) }
     ensures err { OnErr result (out.new ≡ out.old) }
     ensures cap { out.new.cap ≡ out.old.cap }
     ensures tie { out.new.tie ≡ out.old.tie }

@@ -10,7 +10,7 @@ use Rattle.std.specs.List.{AllByRecursion}
 use Rattle.rb_names.specs.Netids.{netid_text}
 use Rattle.rb_names.specs.declared.netid.Netid.{Netid}
 use Rattle.rb_names.specs.declared.netid.Netid.TheVariants.{Tcp, Udp, Tcp6, Udp6, Local}
-use Rattle.rb_forward.specs.Forwards.{longest_arguments}
+use Rattle.rb_forward.specs.Forwards.{longest_forwarded}
 use Rattle.rb_proto.specs.Remote.{SpellsRemote}
 use Rattle.rb_show.specs.Asks.{netid_text_of, rpcb_of, mapping_of, callit_arguments}
 use Rattle.rb_show.specs.AskLaws.{remote_of, QuestionsAreRequests}
@@ -51,7 +51,7 @@ remote_fits prog vers p v = record {
   prog = p;
   vers = v;
   proc = omega arith;
-  args = nothing longest_arguments;
+  args = nothing longest_forwarded;
   count = refl;
   rest = [];
   whole = append_assoc (number prog) (number vers) (number 0 ++ number 0);

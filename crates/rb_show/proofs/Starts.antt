@@ -7,7 +7,7 @@ use Rattle.rb_ask.specs.declared.record.Record.{Record}
 use Rattle.rb_ask.specs.declared.fault.InfoFault.{InfoFault}
 use Rattle.rb_ask.specs.declared.fault.InfoFault.TheVariants.{Refused}
 use Rattle.rb_ask.specs.Sources.{Supply}
-use Rattle.rb_ask.specs.Data.{longest_record, front_of, end_of, data_left, ends_in, is_whole, Stands}
+use Rattle.rb_ask.specs.Data.{longest_record, front_of, end_of, data_left, ends_in, is_whole, StandsBefore}
 use Rattle.rb_ask.proofs.Records.{ends_none}
 use Rattle.rb_ask.specs.Telling.{Teller, stop, Tells, Outcome}
 
@@ -21,7 +21,7 @@ all_taken n bytes = refl
 starts_whole : (bytes : List ℕ) → is_whole bytes ≡ ends_in start bytes
 starts_whole bytes = sym (ends_none start bytes refl refl)
 
-start_stands : (known : Supply) (bytes : List ℕ) → known.bytes ≡ Some bytes → Stands bytes known start (data_of (front_of bytes))
+start_stands : (known : Supply) (bytes : List ℕ) → known.bytes ≡ Some bytes → StandsBefore bytes known start (data_of (front_of bytes))
 unfolding data_of data_left front_of
 start_stands known bytes is = record {
   read = [];

@@ -9,21 +9,21 @@ use Rattle.std.proofs.lemmas.Bool.{cases_Bool}
 use Rattle.std.proofs.lemmas.List.{map-append, take_more}
 use Rattle.std.proofs.lemmas.List.Sums.{fold-append}
 use Rattle.rb_show.specs.declared.summary.Row.{Row}
-use Rattle.rb_show.specs.Summary.{ShownRow, plain, shown, lent, owner_of}
+use Rattle.rb_show.specs.Summary.{ShownRow, shown_row, shown_rows, borrowed_texts, owner_of}
 
 -- one more row
 pub fold_more : {B : Type 0} (step : B → ShownRow → B) (first : B) (rows : List Row) (i : ℕ) (row : Row) → i < length rows → row ≡ get_or rows i row
-    → fold step first (shown (take (i + 1) rows)) ≡ step (fold step first (shown (take i rows))) (plain row)
+    → fold step first (shown_rows (take (i + 1) rows)) ≡ step (fold step first (shown_rows (take i rows))) (shown_row row)
 fold_more step first rows i row within is =
     let one : take (i + 1) rows ≡ take i rows ++ row ∷ [] = take_more rows i row within ∙ ap (λ (x : Row). take i rows ++ x ∷ []) (sym is) in
-    ap (λ (xs : List Row). fold step first (shown xs)) one ∙ ap (fold step first) (map-append plain (take i rows) (row ∷ [])) ∙ fold-append step first (shown (take i rows)) (plain row ∷ [])
+    ap (λ (xs : List Row). fold step first (shown_rows xs)) one ∙ ap (fold step first) (map-append shown_row (take i rows) (row ∷ [])) ∙ fold-append step first (shown_rows (take i rows)) (shown_row row ∷ [])
 
 abbrev owner_at : Option Row → List ℕ
 owner_at (Some row) = string_bytes row.owner
 owner_at None = []
 
 -- the first row of a program, among the rows in memory
-pub owner_found : (rows : List Row) (prog : ℕ) (found : Option Row) → found ≡ find (λ row. nat_eq row.prog prog) rows → owner_at found ≡ owner_of (shown rows) prog
+pub owner_found : (rows : List Row) (prog : ℕ) (found : Option Row) → found ≡ find (λ row. nat_eq row.prog prog) rows → owner_at found ≡ owner_of (shown_rows rows) prog
 owner_found [] prog found e = rw e refl
 owner_found (row ∷ rows) prog found e =
     elim (cases_Bool (nat_eq row.prog prog)) [
@@ -32,6 +32,6 @@ owner_found (row ∷ rows) prog found e =
     ]
 
 -- a text is among those behind their borrows
-pub any_at : (text : List ℕ) (texts : List (Bor (List ℕ))) → list_any (λ (one : Bor (List ℕ)). bytes_eq one.now text) texts ≡ list_any (λ (one : List ℕ). bytes_eq one text) (lent texts)
+pub any_at : (text : List ℕ) (texts : List (Bor (List ℕ))) → list_any (λ (one : Bor (List ℕ)). bytes_eq one.now text) texts ≡ list_any (λ (one : List ℕ). bytes_eq one text) (borrowed_texts texts)
 any_at text [] = refl
 any_at text (one ∷ texts) = ap (λ (rest : Bool). bytes_eq one.now text || rest) (any_at text texts)

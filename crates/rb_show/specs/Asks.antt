@@ -103,5 +103,5 @@ abbrev pub marked_call : Ask → ℕ → List ℕ
 marked_call ask xid = fragment_header (length (call_of ask xid)) true ++ call_of ask xid
 
 -- these bytes were written, and nothing else
-abbrev pub HasWritten : {W : Type 0} → (W → Option (List ℕ)) → W → W → List ℕ → Type 0
-HasWritten contents writer writer' bytes = Appends (contents writer) (contents writer') bytes
+abbrev pub Writes : {W : Type 0} → (W → Option (List ℕ)) → W → W → List ℕ → Type 0
+Writes contents writer writer' bytes = Appends (contents writer) (contents writer') bytes

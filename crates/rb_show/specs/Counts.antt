@@ -54,11 +54,11 @@ unfoldable pub tell_lists : Form → ℕ → Teller (ℕ × ℕ)
 tell_lists form vers =
     tell_items read_look_ups (addr_line form vers) greatest_list 0 >>= λ found. tell_items read_forwards (call_line form vers) greatest_list 0 >>= λ called. give (found, called)
 
-unfoldable pub tell_columns : ℕ → Numbers → Teller (Unit {0})
-tell_columns vers n = tell (version_line vers ∷ []) >>= λ _. tell (info_line n ∷ []) >>= λ _. tell (sets_line n ∷ [])
+unfoldable pub tell_count_lines : ℕ → Numbers → Teller (Unit {0})
+tell_count_lines vers n = tell (version_line vers ∷ []) >>= λ _. tell (info_line n ∷ []) >>= λ _. tell (sets_line n ∷ [])
 
 abbrev pub tell_counts : Form → ℕ → Numbers → Teller (Unit {0})
-tell_counts form vers n = if is_json form then tell (numbers_object vers n ∷ []) else tell_columns vers n
+tell_counts form vers n = if is_json form then tell (numbers_object vers n ∷ []) else tell_count_lines vers n
 
 unfoldable pub tell_version : Form → ℕ → Teller (ℕ × ℕ)
 tell_version form vers = take_one read_numbers >>= λ n. tell_counts form vers n >>= λ _. tell_lists form vers

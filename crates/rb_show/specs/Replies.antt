@@ -25,7 +25,7 @@ use Rattle.rb_show.specs.declared.form.Form.{Form}
 use Rattle.rb_show.specs.declared.show.Shown.{Shown}
 use Rattle.rb_show.specs.declared.show.Shown.TheVariants as shown
 use Rattle.rb_show.specs.Counts.{tell_statistics}
-use Rattle.rb_show.specs.Summary.{ShownRow, row_of, old_row_of, summed_text}
+use Rattle.rb_show.specs.Summary.{ShownRow, row_of, old_row_of, items_summary}
 use Rattle.rb_show.specs.Lines.{is_json, heading, mapping_line, row_line, short_line, old_row_line, old_short_line, entry_line}
 
 -- the items of a list, a line each
@@ -33,12 +33,12 @@ unfoldable pub tell_list : {A : Type 0} → Reader A → (A → List ℕ) → Te
 tell_list reads line = tell_items reads line greatest_list 0 >>= λ n. give (shown.Rows n)
 
 -- the summary of items
-abbrev pub summed : {A : Type 0} → Form → (A → ShownRow) → List A → Teller (Unit {0})
-summed form row items = tell (summed_text form row items ∷ [])
+abbrev pub tell_items_summary : {A : Type 0} → Form → (A → ShownRow) → List A → Teller (Unit {0})
+tell_items_summary form row items = tell (items_summary form row items ∷ [])
 
 -- the items of a list, summed up once all of them were read
 unfoldable pub tell_summary : {A : Type 0} → Form → Reader A → (A → ShownRow) → Teller Shown
-tell_summary form reads row = take_items reads greatest_list [] >>= λ items. summed form row items >>= λ _. give (shown.Rows (length items))
+tell_summary form reads row = take_items reads greatest_list [] >>= λ items. tell_items_summary form row items >>= λ _. give (shown.Rows (length items))
 
 -- the same behind its heading
 unfoldable pub tell_columns : Form → Teller Shown

@@ -23,11 +23,11 @@ pub record ShownRow : Type 0 where
   pub netid : List ℕ
   pub owner : List ℕ
 
-abbrev pub plain : Row → ShownRow
-plain row = record { prog = row.prog; vers = row.vers; netid = string_bytes row.netid; owner = string_bytes row.owner }
+abbrev pub shown_row : Row → ShownRow
+shown_row row = record { prog = row.prog; vers = row.vers; netid = string_bytes row.netid; owner = string_bytes row.owner }
 
-abbrev pub shown : List Row → List ShownRow
-shown rows = map plain rows
+abbrev pub shown_rows : List Row → List ShownRow
+shown_rows rows = map shown_row rows
 
 abbrev pub row_of : Rpcb → ShownRow
 row_of r = record { prog = r.prog; vers = r.vers; netid = shown_text r.netid; owner = shown_text r.owner }
@@ -37,8 +37,8 @@ abbrev pub old_row_of : Mapping → ShownRow
 old_row_of m = record { prog = m.prog; vers = m.vers; netid = prot_text m.prot; owner = codes "unknown" }
 
 -- the texts behind their borrows
-abbrev pub lent : List (Bor (List ℕ)) → List (List ℕ)
-lent texts = map (λ text. text.now) texts
+abbrev pub borrowed_texts : List (Bor (List ℕ)) → List (List ℕ)
+borrowed_texts texts = map (λ text. text.now) texts
 
 -- ---- what a program has
 
@@ -74,9 +74,9 @@ owner_of rows prog = owner_in (find (λ row. row.prog == prog) rows)
 -- ---- lines
 
 -- with commas between them
-abbrev pub joined : List (List ℕ) → List ℕ
-joined [] = []
-joined (text ∷ texts) = text ++ flat_map (λ next. codes "," ++ next) texts
+abbrev pub comma_list : List (List ℕ) → List ℕ
+comma_list [] = []
+comma_list (text ∷ texts) = text ++ flat_map (λ next. codes "," ++ next) texts
 
 abbrev pub service_text : Form → ℕ → List ℕ
 service_text Plain prog = codes "-"
@@ -87,10 +87,10 @@ abbrev pub summary_heading : List ℕ
 summary_heading = codes "   program version(s) netid(s)                         service     owner\n"
 
 abbrev pub versions_text : List ShownRow → ℕ → List ℕ
-versions_text rows prog = at_left 10 (joined (map decimal (versions_of rows prog)))
+versions_text rows prog = at_left 10 (comma_list (map decimal (versions_of rows prog)))
 
 abbrev pub netids_text : List ShownRow → ℕ → List ℕ
-netids_text rows prog = at_left 32 (joined (netids_of rows prog))
+netids_text rows prog = at_left 32 (comma_list (netids_of rows prog))
 
 -- program, versions, netids, service and owner
 abbrev pub summary_line : Form → List ShownRow → ℕ → List ℕ
@@ -102,5 +102,5 @@ abbrev pub summary_text : Form → List ShownRow → List ℕ
 summary_text form rows = summary_heading ++ flat_map (summary_line form rows) (programs_of rows)
 
 -- the same of items that are rows
-abbrev pub summed_text : {A : Type 0} → Form → (A → ShownRow) → List A → List ℕ
-summed_text form row items = summary_text form (map row items)
+abbrev pub items_summary : {A : Type 0} → Form → (A → ShownRow) → List A → List ℕ
+items_summary form row items = summary_text form (map row items)

@@ -1,7 +1,7 @@
 //! What a portmapper is asked, and the call that asks it.
 ghost use Rattle.std.specs.Prelude.{◌≡◌, ◌⊎◌, OnOk, IfErr};
 ghost use Rattle.rb_xdr.specs.Puts.{Appends as Adds};
-ghost use Rattle.rb_show.specs.Asks.{of_portmapper, procedure_of, head_of, call_of, arguments_of, netid_text_of, rpcb_arguments, marked_call, HasWritten};
+ghost use Rattle.rb_show.specs.Asks.{of_portmapper, procedure_of, head_of, call_of, arguments_of, netid_text_of, rpcb_arguments, marked_call, Writes};
 
 use rb_ask::InfoFault;
 use rb_names::Netid;
@@ -203,7 +203,7 @@ pub fn write_call<W: Write>(
     writer: &mut W,
 ) -> Result<(), InfoFault>
     ensures ok { OnOk result
-        (HasWritten W.contents writer.old writer.new (marked_call ask.now xid)) }
+        (Writes W.contents writer.old writer.new (marked_call ask.now xid)) }
     ensures faults { IfErr result (λ fault. (fault ≡ InfoFault.Memory) ⊎ (fault ≡ InfoFault.Write)) }
 {
     let mut meter = Meter::new();

@@ -1,14 +1,14 @@
 //! Shows what a reply tells.
 ghost use Rattle.std.specs.Prelude.{◌≡◌, List, [], ◌∷◌, ℕ};
-ghost use Rattle.rb_ask.specs.Telling.{tell, Shows, Takes, Writes};
+ghost use Rattle.rb_ask.specs.Telling.{tell, Shows, Takes, WritesOnly};
 ghost use Rattle.rb_show.specs.Lines.{heading};
-ghost use Rattle.rb_show.specs.Replies.{tell_list, summed, tell_summary, tell_columns, tell_table, tell_port, address_in, tell_address, tell_ready, tell_removed, removed_line, tell_unset, tell_results, is_success, by_head, IsShown};
+ghost use Rattle.rb_show.specs.Replies.{tell_list, tell_items_summary, tell_summary, tell_columns, tell_table, tell_port, address_in, tell_address, tell_ready, tell_removed, removed_line, tell_unset, tell_results, is_success, by_head, IsShown};
 
 use crate::ask::{Ask, Question};
 use crate::form::Form;
 use crate::lines::{EntryLines, OldRowLines, OldShortLines, RowLines, ShortLines, Table};
 use crate::statistics::show_statistics;
-use crate::summary::{AsRow, summary_text};
+use crate::summary::{AsRow, items_summary};
 use rb_ask::{ByteSource, InfoFault, Record, Style, show_list, take_head, take_item, take_list};
 use rb_proto::{Mapping, Rpcb};
 use rb_rpc::{ReplyHead, ReplyStatus};
@@ -48,7 +48,7 @@ fn heading(form: Form<'_>) -> &'static [u8]
 /// Writes a line.
 #[tactic(auto, using(rb_ask::proofs::Tellings::tells_line, rb_ask::proofs::Tellings::tells_write_fault))]
 fn show_line<W: Write>(line: &[u8], writer: &mut W) -> Result<(), InfoFault>
-    ensures { Writes W.contents writer.old writer.new (tell (line.now ∷ [])) result }
+    ensures { WritesOnly W.contents writer.old writer.new (tell (line.now ∷ [])) result }
 {
     if writer.write_all(line).is_err() {
         return Err(InfoFault::Write);
@@ -78,10 +78,10 @@ fn show_text<T: AsRow, W: Write>(
     items: &[T],
     writer: &mut W,
 ) -> Result<(), InfoFault>
-    ensures { Writes W.contents writer.old writer.new
-        (summed form.entry T.as_shown items.now) result }
+    ensures { WritesOnly W.contents writer.old writer.new
+        (tell_items_summary form.entry T.as_shown items.now) result }
 {
-    let Ok(text) = summary_text(alloc, form, items) else {
+    let Ok(text) = items_summary(alloc, form, items) else {
         return Err(InfoFault::Memory);
     };
     show_line(text.as_bytes(), writer)
@@ -184,7 +184,7 @@ fn show_ready<W: Write>(
     vers: u32,
     writer: &mut W,
 ) -> Result<Shown, InfoFault>
-    ensures { Writes W.contents writer.old writer.new (tell_ready prog vers) result }
+    ensures { WritesOnly W.contents writer.old writer.new (tell_ready prog vers) result }
 {
     let Ok(line) = format!(in alloc; "program {prog} version {vers} ready\n") else {
         return Err(InfoFault::Memory);
@@ -205,7 +205,7 @@ fn removed_line(removed: bool) -> &'static [u8]
 
 /// Says whether UNSET removed a row.
 fn show_removed<W: Write>(removed: bool, writer: &mut W) -> Result<Shown, InfoFault>
-    ensures { Writes W.contents writer.old writer.new (tell_removed removed) result }
+    ensures { WritesOnly W.contents writer.old writer.new (tell_removed removed) result }
 {
     show_line(removed_line(removed), writer)?;
     Ok(Shown::Removed(removed))

@@ -1,9 +1,9 @@
 //! The statistics of GETSTAT (RFC 1833 section 2.1, rpcb_stat_byvers).
 ghost use Rattle.std.specs.Prelude.{◌≡◌, [], ◌∷◌, IfOk};
 ghost use Rattle.std.specs.String.{string_bytes};
-ghost use Rattle.rb_ask.specs.Telling.{tell, Shows, Writes};
+ghost use Rattle.rb_ask.specs.Telling.{tell, Shows, WritesOnly};
 ghost use Rattle.rb_show.specs.Objects.{numbers_object};
-ghost use Rattle.rb_show.specs.Counts.{four_text, version_line, info_line, sets_line, addr_columns, addr_line, procedure_text, outcomes_text, call_columns, call_line, tell_columns, tell_counts, tell_lists, tell_version, tell_statistics, total};
+ghost use Rattle.rb_show.specs.Counts.{four_text, version_line, info_line, sets_line, addr_columns, addr_line, procedure_text, outcomes_text, call_columns, call_line, tell_count_lines, tell_counts, tell_lists, tell_version, tell_statistics, total};
 
 use crate::form::Form;
 use crate::objects::{forwards_object, look_ups_object, numbers_object};
@@ -154,31 +154,31 @@ impl Style<Numbers> for NumbersObject {
 }
 
 fn show_heading<W: Write>(alloc: Global, vers: u32, writer: &mut W) -> Result<(), InfoFault>
-    ensures { Writes W.contents writer.old writer.new (tell (version_line vers ∷ [])) result }
+    ensures { WritesOnly W.contents writer.old writer.new (tell (version_line vers ∷ [])) result }
 {
     show_item(alloc, &VersionLine, &vers, writer)
 }
 
 fn show_info<W: Write>(alloc: Global, numbers: &Numbers, writer: &mut W) -> Result<(), InfoFault>
-    ensures { Writes W.contents writer.old writer.new (tell (info_line numbers.now ∷ [])) result }
+    ensures { WritesOnly W.contents writer.old writer.new (tell (info_line numbers.now ∷ [])) result }
 {
     show_item(alloc, &InfoLine, numbers, writer)
 }
 
 fn show_sets<W: Write>(alloc: Global, numbers: &Numbers, writer: &mut W) -> Result<(), InfoFault>
-    ensures { Writes W.contents writer.old writer.new (tell (sets_line numbers.now ∷ [])) result }
+    ensures { WritesOnly W.contents writer.old writer.new (tell (sets_line numbers.now ∷ [])) result }
 {
     show_item(alloc, &SetsLine, numbers, writer)
 }
 
 /// Shows the numbers of a version in columns.
-fn show_columns<W: Write>(
+fn show_count_lines<W: Write>(
     alloc: Global,
     vers: u32,
     numbers: &Numbers,
     writer: &mut W,
 ) -> Result<(), InfoFault>
-    ensures { Writes W.contents writer.old writer.new (tell_columns vers numbers.now) result }
+    ensures { WritesOnly W.contents writer.old writer.new (tell_count_lines vers numbers.now) result }
 {
     show_heading(alloc, vers, writer)?;
     show_info(alloc, numbers, writer)?;
@@ -193,13 +193,13 @@ fn show_numbers<W: Write>(
     numbers: &Numbers,
     writer: &mut W,
 ) -> Result<(), InfoFault>
-    ensures { Writes W.contents writer.old writer.new
+    ensures { WritesOnly W.contents writer.old writer.new
         (tell_counts form.entry vers numbers.now) result }
 {
     if form.is_json() {
         show_item(alloc, &NumbersObject { rpcbind: vers }, numbers, writer)
     } else {
-        show_columns(alloc, vers, numbers, writer)
+        show_count_lines(alloc, vers, numbers, writer)
     }
 }
 

@@ -5,7 +5,7 @@ ghost use Rattle.std.specs.List.{list_any};
 ghost use Rattle.std.specs.Str.{bytes_eq};
 ghost use Rattle.std.specs.String.{string_bytes};
 ghost use Rattle.rb_show.specs.Texts.{at_left};
-ghost use Rattle.rb_show.specs.Summary.{ShownRow, plain, shown, row_of, old_row_of, add_program, programs_of, add_version, versions_of, lent, add_netid, netids_of, owner_of, joined, service_text, versions_text, netids_text, summary_line, summary_text, summed_text};
+ghost use Rattle.rb_show.specs.Summary.{ShownRow, shown_row, shown_rows, row_of, old_row_of, add_program, programs_of, add_version, versions_of, borrowed_texts, add_netid, netids_of, owner_of, comma_list, service_text, versions_text, netids_text, summary_line, summary_text, items_summary};
 
 use crate::form::{Form, program_name};
 use crate::texts::{prot_text, shown_text};
@@ -29,7 +29,7 @@ pub trait AsRow {
     ghost as_shown: { Self → ShownRow };
 
     fn as_row(&self, alloc: Global) -> Result<Row, AllocError>
-        ensures { IfOk result (λ shown. plain shown ≡ as_shown self.now) };
+        ensures { IfOk result (λ shown. shown_row shown ≡ as_shown self.now) };
 }
 
 impl AsRow for Rpcb {
@@ -64,7 +64,7 @@ impl AsRow for Mapping {
 
 /// The rows that items are.
 fn rows_of<T: AsRow>(alloc: Global, items: &[T]) -> Result<Vec<Row>, AllocError>
-    ensures { IfOk result (λ rows. shown rows.items ≡ map T.as_shown items.now) }
+    ensures { IfOk result (λ rows. shown_rows rows.items ≡ map T.as_shown items.now) }
 {
     let mut rows = Vec::new(alloc);
     for item in items {
@@ -75,7 +75,7 @@ fn rows_of<T: AsRow>(alloc: Global, items: &[T]) -> Result<Vec<Row>, AllocError>
 
 /// Adds a row's program, where it is not there yet.
 fn add_program(row: &Row, programs: &mut Vec<u32>) -> Result<(), AllocError>
-    ensures { OnOk result (programs.new.items ≡ add_program programs.old.items (plain row.now)) }
+    ensures { OnOk result (programs.new.items ≡ add_program programs.old.items (shown_row row.now)) }
 {
     if !programs.contains(&row.prog) {
         programs.push(row.prog)?;
@@ -85,7 +85,7 @@ fn add_program(row: &Row, programs: &mut Vec<u32>) -> Result<(), AllocError>
 
 /// The programs, each once, in the order in which they appear.
 fn programs_of(alloc: Global, rows: &[Row]) -> Result<Vec<u32>, AllocError>
-    ensures { IfOk result (λ programs. programs.items ≡ programs_of (shown rows.now)) }
+    ensures { IfOk result (λ programs. programs.items ≡ programs_of (shown_rows rows.now)) }
 {
     let mut programs = Vec::new(alloc);
     for row in rows {
@@ -97,7 +97,7 @@ fn programs_of(alloc: Global, rows: &[Row]) -> Result<Vec<u32>, AllocError>
 /// Adds the version of a row of this program in front, where it is not there yet.
 fn add_version(row: &Row, prog: u32, versions: &mut Vec<u32>) -> Result<(), AllocError>
     ensures { OnOk result
-        (versions.new.items ≡ add_version prog versions.old.items (plain row.now)) }
+        (versions.new.items ≡ add_version prog versions.old.items (shown_row row.now)) }
 {
     if row.prog == prog && !versions.contains(&row.vers) {
         versions.insert(0, row.vers)?;
@@ -107,7 +107,7 @@ fn add_version(row: &Row, prog: u32, versions: &mut Vec<u32>) -> Result<(), Allo
 
 /// The versions of a program, each once, the one that appears last first.
 fn versions_of(alloc: Global, rows: &[Row], prog: u32) -> Result<Vec<u32>, AllocError>
-    ensures { IfOk result (λ versions. versions.items ≡ versions_of (shown rows.now) prog) }
+    ensures { IfOk result (λ versions. versions.items ≡ versions_of (shown_rows rows.now) prog) }
 {
     let mut versions = Vec::new(alloc);
     for row in rows {
@@ -117,7 +117,7 @@ fn versions_of(alloc: Global, rows: &[Row], prog: u32) -> Result<Vec<u32>, Alloc
 }
 
 fn has_text(texts: &[&str], text: &str) -> bool
-    ensures { result ≡ list_any (λ one. bytes_eq one text.now) (lent texts.now) }
+    ensures { result ≡ list_any (λ one. bytes_eq one text.now) (borrowed_texts texts.now) }
 {
     texts.iter().any(|one| *one == text)
 }
@@ -125,7 +125,7 @@ fn has_text(texts: &[&str], text: &str) -> bool
 /// Adds the netid of a row of this program in front, where it is not there yet.
 fn add_netid<'a>(row: &'a Row, prog: u32, seen: &mut Vec<&'a str>) -> Result<(), AllocError>
     ensures { OnOk result
-        (lent seen.new.items ≡ add_netid prog (lent seen.old.items) (plain row.now)) }
+        (borrowed_texts seen.new.items ≡ add_netid prog (borrowed_texts seen.old.items) (shown_row row.now)) }
 {
     let netid = row.netid.as_str();
     if row.prog == prog && !has_text(seen, netid) {
@@ -137,7 +137,7 @@ fn add_netid<'a>(row: &'a Row, prog: u32, seen: &mut Vec<&'a str>) -> Result<(),
 /// The netids of a program, each once, the one that appears last first.
 fn netids_of<'a>(alloc: Global, rows: &'a [Row], prog: u32) -> Result<Vec<&'a str>, AllocError>
     ensures { IfOk result
-        (λ netids. lent netids.items ≡ netids_of (shown rows.now) prog) }
+        (λ netids. borrowed_texts netids.items ≡ netids_of (shown_rows rows.now) prog) }
 {
     let mut netids = Vec::new(alloc);
     for row in rows {
@@ -148,7 +148,7 @@ fn netids_of<'a>(alloc: Global, rows: &'a [Row], prog: u32) -> Result<Vec<&'a st
 
 /// The owner of a program's first row.
 fn owner_of(rows: &[Row], prog: u32) -> &str
-    ensures { result.now ≡ owner_of (shown rows.now) prog }
+    ensures { result.now ≡ owner_of (shown_rows rows.now) prog }
 {
     match rows.iter().find(|row| row.prog == prog) {
         Some(row) => row.owner.as_str(),
@@ -157,9 +157,9 @@ fn owner_of(rows: &[Row], prog: u32) -> &str
 }
 
 /// Texts with commas between them.
-fn joined(alloc: Global, texts: &[&str]) -> Result<String, AllocError>
+fn comma_list(alloc: Global, texts: &[&str]) -> Result<String, AllocError>
     ensures { IfOk result
-        (λ text. string_bytes text ≡ joined (lent texts.now)) }
+        (λ text. string_bytes text ≡ comma_list (borrowed_texts texts.now)) }
 {
     let [first, rest @ ..] = texts else {
         return Ok(String::new(alloc));
@@ -174,7 +174,7 @@ fn joined(alloc: Global, texts: &[&str]) -> Result<String, AllocError>
 
 /// Numbers with commas between them.
 fn joined_numbers(alloc: Global, numbers: &[u32]) -> Result<String, AllocError>
-    ensures { IfOk result (λ text. string_bytes text ≡ joined (map decimal numbers.now)) }
+    ensures { IfOk result (λ text. string_bytes text ≡ comma_list (map decimal numbers.now)) }
 {
     let [first, rest @ ..] = numbers else {
         return Ok(String::new(alloc));
@@ -210,7 +210,7 @@ fn service_text(alloc: Global, form: Form<'_>, prog: u32) -> Result<String, Allo
 /// The versions of a program as they are shown.
 fn versions_text(alloc: Global, rows: &[Row], prog: u32) -> Result<String, AllocError>
     ensures { IfOk result
-        (λ text. string_bytes text ≡ versions_text (shown rows.now) prog) }
+        (λ text. string_bytes text ≡ versions_text (shown_rows rows.now) prog) }
 {
     let versions = versions_of(alloc, rows, prog)?;
     let text = joined_numbers(alloc, &versions)?;
@@ -220,10 +220,10 @@ fn versions_text(alloc: Global, rows: &[Row], prog: u32) -> Result<String, Alloc
 /// The netids of a program as they are shown.
 fn netids_text(alloc: Global, rows: &[Row], prog: u32) -> Result<String, AllocError>
     ensures { IfOk result
-        (λ text. string_bytes text ≡ netids_text (shown rows.now) prog) }
+        (λ text. string_bytes text ≡ netids_text (shown_rows rows.now) prog) }
 {
     let netids = netids_of(alloc, rows, prog)?;
-    let text = joined(alloc, &netids)?;
+    let text = comma_list(alloc, &netids)?;
     at_left(alloc, &text, 32)
 }
 
@@ -236,7 +236,7 @@ fn summary_line(
     prog: u32,
 ) -> Result<String, AllocError>
     ensures { IfOk result
-        (λ line. string_bytes line ≡ summary_line form.entry (shown rows.now) prog) }
+        (λ line. string_bytes line ≡ summary_line form.entry (shown_rows rows.now) prog) }
 {
     let versions = versions_text(alloc, rows, prog)?;
     let netids = netids_text(alloc, rows, prog)?;
@@ -247,9 +247,9 @@ fn summary_line(
 }
 
 /// A line for each program, behind the heading.
-fn summary_of_rows(alloc: Global, form: Form<'_>, rows: &[Row]) -> Result<String, AllocError>
+fn summary_text(alloc: Global, form: Form<'_>, rows: &[Row]) -> Result<String, AllocError>
     ensures { IfOk result
-        (λ text. string_bytes text ≡ summary_text form.entry (shown rows.now)) }
+        (λ text. string_bytes text ≡ summary_text form.entry (shown_rows rows.now)) }
 {
     let programs = programs_of(alloc, rows)?;
     let mut text = String::from_str(alloc, HEADING)?;
@@ -261,14 +261,14 @@ fn summary_of_rows(alloc: Global, form: Form<'_>, rows: &[Row]) -> Result<String
 }
 
 /// The summary of items that are rows.
-pub(crate) fn summary_text<T: AsRow>(
+pub(crate) fn items_summary<T: AsRow>(
     alloc: Global,
     form: Form<'_>,
     items: &[T],
 ) -> Result<String, AllocError>
     ensures { IfOk result
-        (λ text. string_bytes text ≡ summed_text form.entry T.as_shown items.now) }
+        (λ text. string_bytes text ≡ items_summary form.entry T.as_shown items.now) }
 {
     let rows = rows_of(alloc, items)?;
-    summary_of_rows(alloc, form, &rows)
+    summary_text(alloc, form, &rows)
 }

@@ -18,7 +18,7 @@ use Rattle.rb_stats.specs.declared.key.Info.TheVariants.{Addr, Rmt}
 use Rattle.rb_stats.specs.declared.key.Key.{Key}
 use Rattle.rb_stats.specs.declared.item.Item.{Item}
 use Rattle.rb_stats.specs.Statistics.{Count, is_version, is_key, is_in, info_of, greatest_list}
-use Rattle.rb_stats.specs.Table.{counted, after_count, new_item, is_item, items_in, IsTable}
+use Rattle.rb_stats.specs.Table.{item_after, after_count, new_item, is_item, items_in, IsTable}
 use Rattle.rb_stats.proofs.Keys.{by_test, key_same, in_place}
 use Rattle.rb_stats.proofs.Items.{filter-bumped, none_bumped}
 
@@ -89,7 +89,7 @@ module _ (c : Count) where
       h
 
   pub values-with : (entries : List (ℕ × Item)) (place : ℕ) (item : Item) → HasDistinctKeys entries → place_in is_own entries ≡ Some place → value_at entries place ≡ Some item
-      → length (filter is_own (values_of entries)) ≤ 1 → values_of (with_value entries place (counted c.passed c.indirect item)) ≡ map (after_count c) (values_of entries)
+      → length (filter is_own (values_of entries)) ≤ 1 → values_of (with_value entries place (item_after c.passed c.indirect item)) ≡ map (after_count c) (values_of entries)
   values-with [] place item d found there once = absurd cc
   values-with (e ∷ rest) place item d found there once = by_cases (is_own e.1) refl (values-with rest place item d.1)
     where
@@ -101,8 +101,8 @@ module _ (c : Count) where
 
       by_cases : (b : Bool) → is_own e.1 ≡ b
           → (place_in is_own rest ≡ Some place → value_at rest place ≡ Some item → length (filter is_own (values_of rest)) ≤ 1
-          → values_of (with_value rest place (counted c.passed c.indirect item)) ≡ map (after_count c) (values_of rest))
-          → values_of (with_value (e ∷ rest) place (counted c.passed c.indirect item)) ≡ cond (is_own e.1) (counted c.passed c.indirect e.1) e.1 ∷ map (after_count c) (values_of rest)
+          → values_of (with_value rest place (item_after c.passed c.indirect item)) ≡ map (after_count c) (values_of rest))
+          → values_of (with_value (e ∷ rest) place (item_after c.passed c.indirect item)) ≡ cond (is_own e.1) (item_after c.passed c.indirect e.1) e.1 ∷ map (after_count c) (values_of rest)
       by_cases true is further =
           let first : Some e.0 ≡ Some place = rw is at found in
           let same : e.0 ≡ place = cc in
@@ -119,12 +119,12 @@ module _ (c : Count) where
           rw (other, is) (ap (λ (is : List Item). e.1 ∷ is) (further found_later (rw other at there) few))
 
   pub table-with : (old : Pool Item) (place : ℕ) (item : Item) → IsTable old → place_in is_own old.entries ≡ Some place → value_at old.entries place ≡ Some item
-      → IsTable (record old { entries = with_value old.entries place (counted c.passed c.indirect item) })
+      → IsTable (record old { entries = with_value old.entries place (item_after c.passed c.indirect item) })
   unfolding items_in
   table-with old place item t found there =
       let values = values-with old.entries place item t.distinct found there (t.once c.key) in
       record {
-        distinct = distinct-with old.entries place (counted c.passed c.indirect item) t.distinct;
+        distinct = distinct-with old.entries place (item_after c.passed c.indirect item) t.distinct;
         cap = t.cap;
         once = λ key. rw (values, filter-bumped c (λ (k : Key). is_key k key) (values_of old.entries), length-map) (t.once key);
         few = λ version info. rw (values, filter-bumped c (is_in version info) (values_of old.entries), length-map) (t.few version info);
@@ -178,7 +178,7 @@ module _ (c : Count) (old : Pool Item) (t : IsTable old) where
       h
 
   abbrev item : Item
-  item = counted c.passed c.indirect (new_item c.key)
+  item = item_after c.passed c.indirect (new_item c.key)
 
   module _ (place : ℕ) where
     pub table-push : list_any (is_item c.key) all ≡ false → length (items_in c.key.version (info_of c.key.proc) all) < greatest_list → value_at old.entries place ≡ None

@@ -9,8 +9,8 @@ use Rattle.rb_stats.specs.declared.key.Version.{Version}
 use Rattle.rb_stats.specs.declared.key.Info.{Info}
 use Rattle.rb_stats.specs.declared.key.Key.{Key}
 use Rattle.rb_stats.specs.declared.item.Item.{Item}
-use Rattle.rb_stats.specs.Statistics.{Count, is_key, is_in, distinct, keys_of, items_of, item_of, info_of, counts_in, number_of, one_more, greatest_int, greatest_list}
-use Rattle.rb_stats.specs.Table.{counted, after_count, new_item, is_item, items_in, Holds}
+use Rattle.rb_stats.specs.Statistics.{Count, is_key, is_in, distinct_keys, keys_of, items_of, item_of, info_of, counts_in, number_of, one_more, greatest_int, greatest_list}
+use Rattle.rb_stats.specs.Table.{item_after, after_count, new_item, is_item, items_in, Holds}
 use Rattle.rb_stats.proofs.Keys.{by_test, key_same, key_itself, in_place, first-found, first-new, first-full, not-first}
 
 -- ---- numbers
@@ -62,7 +62,7 @@ module _ (c : Count) where
     where
       by_tests : (b p i : Bool) (item : Item)
           → record { key = item.key; success = cond (b && p) (one_more item.success) item.success; failure = cond (b && not p) (one_more item.failure) item.failure; indirect = cond (b && i) (one_more item.indirect) item.indirect }
-          ≡ cond b (counted p i item) item
+          ≡ cond b (item_after p i item) item
       by_tests true true true item = refl
       by_tests true true false item = refl
       by_tests true false true item = refl
@@ -78,13 +78,13 @@ module _ (c : Count) where
   pub none_bumped : (items : List Item) → list_any (is_item c.key) items ≡ false → map bumped items ≡ items
   none_bumped [] h = refl
   none_bumped (item ∷ items) h =
-      by_test (λ b. (b || list_any (is_item c.key) items) ≡ false → cond b (counted c.passed c.indirect item) item ∷ map bumped items ≡ item ∷ items) (is_key item.key c.key)
+      by_test (λ b. (b || list_any (is_item c.key) items) ≡ false → cond b (item_after c.passed c.indirect item) item ∷ map bumped items ≡ item ∷ items) (is_key item.key c.key)
       (λ same h. absurd cc)
       (λ other h. ap (λ (is : List Item). item ∷ is) (none_bumped items h))
       h
 
   pub key-bumped : (item : Item) → (bumped item).key ≡ item.key
-  key-bumped item = elim (is_key item.key c.key) as (λ b. (cond b (counted c.passed c.indirect item) item).key ≡ item.key) [ true ↦ refl | false ↦ refl ]
+  key-bumped item = elim (is_key item.key c.key) as (λ b. (cond b (item_after c.passed c.indirect item) item).key ≡ item.key) [ true ↦ refl | false ↦ refl ]
 
   -- what is told by the key alone does not change
   pub filter-bumped : (test : Key → Bool) (items : List Item) → filter (λ (item : Item). test item.key) (map bumped items) ≡ map bumped (filter (λ (item : Item). test item.key) items)
@@ -108,18 +108,18 @@ module _ (c : Count) where
   unfolding items_of keys_of
   items-found counts found =
       let keys : List Key = map (λ (count : Count). count.key) counts in
-      let there : list_any (λ (key : Key). is_key key c.key) (take greatest_list (distinct keys)) ≡ true = sym (any-item_of counts (take greatest_list (distinct keys))) ∙ found in
-      ap (λ (ks : List Key). map (item_of (counts ++ c ∷ [])) (take greatest_list (distinct ks))) (map_keys counts)
+      let there : list_any (λ (key : Key). is_key key c.key) (take greatest_list (distinct_keys keys)) ≡ true = sym (any-item_of counts (take greatest_list (distinct_keys keys))) ∙ found in
+      ap (λ (ks : List Key). map (item_of (counts ++ c ∷ [])) (take greatest_list (distinct_keys ks))) (map_keys counts)
       ∙ ap (map (item_of (counts ++ c ∷ []))) (first-found c.key keys there)
-      ∙ bumped_items counts (take greatest_list (distinct keys))
+      ∙ bumped_items counts (take greatest_list (distinct_keys keys))
 
   pub items-full : (counts : List Count) → greatest_list ≤ length (items_of counts) → items_of (counts ++ c ∷ []) ≡ map bumped (items_of counts)
   unfolding items_of keys_of
   items-full counts full =
       let keys : List Key = map (λ (count : Count). count.key) counts in
-      ap (λ (ks : List Key). map (item_of (counts ++ c ∷ [])) (take greatest_list (distinct ks))) (map_keys counts)
+      ap (λ (ks : List Key). map (item_of (counts ++ c ∷ [])) (take greatest_list (distinct_keys ks))) (map_keys counts)
       ∙ ap (map (item_of (counts ++ c ∷ []))) (first-full c.key keys (rw length-map at full))
-      ∙ bumped_items counts (take greatest_list (distinct keys))
+      ∙ bumped_items counts (take greatest_list (distinct_keys keys))
 
   -- ---- a new item
 
@@ -144,18 +144,18 @@ module _ (c : Count) where
   none_passed counts h = rw (not_counted (λ (count : Count). count.passed) counts h, not_counted (λ (count : Count). not count.passed) counts h, not_counted (λ (count : Count). count.indirect) counts h) refl
 
   pub items-new : (counts : List Count) → list_any (is_item c.key) (items_of counts) ≡ false → length (items_of counts) < greatest_list
-      → items_of (counts ++ c ∷ []) ≡ items_of counts ++ counted c.passed c.indirect blank ∷ []
+      → items_of (counts ++ c ∷ []) ≡ items_of counts ++ item_after c.passed c.indirect blank ∷ []
   unfolding items_of keys_of
   items-new counts missing few =
       let keys : List Key = map (λ (count : Count). count.key) counts in
-      let firsts : List Key = take greatest_list (distinct keys) in
+      let firsts : List Key = take greatest_list (distinct_keys keys) in
       let missed : list_any (λ (key : Key). is_key key c.key) firsts ≡ false = sym (any-item_of counts firsts) ∙ missing in
       let fewer : length firsts < greatest_list = rw length-map at few in
       let none_there : list_any (λ (key : Key). is_key key c.key) keys ≡ false = not-first c.key keys missed fewer in
       let same : map (item_of (counts ++ c ∷ [])) firsts ≡ map (item_of counts) firsts = bumped_items counts firsts ∙ none_bumped (map (item_of counts) firsts) missing in
-      let here : item_of (counts ++ c ∷ []) c.key ≡ counted c.passed c.indirect blank =
-      item_of-push counts c.key ∙ rw (key_itself c.key) (ap (counted c.passed c.indirect) (none_passed counts none_there)) in
-      ap (λ (ks : List Key). map (item_of (counts ++ c ∷ [])) (take greatest_list (distinct ks))) (map_keys counts)
+      let here : item_of (counts ++ c ∷ []) c.key ≡ item_after c.passed c.indirect blank =
+      item_of-push counts c.key ∙ rw (key_itself c.key) (ap (item_after c.passed c.indirect) (none_passed counts none_there)) in
+      ap (λ (ks : List Key). map (item_of (counts ++ c ∷ [])) (take greatest_list (distinct_keys ks))) (map_keys counts)
       ∙ ap (map (item_of (counts ++ c ∷ []))) (first-new c.key keys missed fewer)
       ∙ map-append (item_of (counts ++ c ∷ [])) firsts (c.key ∷ [])
       ∙ ap (λ (is : List Item). is ++ item_of (counts ++ c ∷ []) c.key ∷ []) same
@@ -234,13 +234,13 @@ module _ (c : Count) (items : List Item) (counts : List Count) (h : Holds items 
     items_in-new version info item is =
         filter-append (λ (i : Item). is_in version info i.key) items (item ∷ []) ∙ ap (λ (key : Key). filter (λ (i : Item). is_in version info i.key) items ++ cond (is_in version info key) (item ∷ []) []) is
 
-    pub holds-new : length (items_in c.key.version (info_of c.key.proc) items) < greatest_list → Holds (items ++ counted c.passed c.indirect (blank c) ∷ []) more
+    pub holds-new : length (items_in c.key.version (info_of c.key.proc) items) < greatest_list → Holds (items ++ item_after c.passed c.indirect (blank c) ∷ []) more
     holds-new few version info =
-        items_in-new version info (counted c.passed c.indirect (blank c)) refl
-        ∙ by_test (λ b. items_in version info items ++ cond b (counted c.passed c.indirect (blank c) ∷ []) [] ≡ items_of (counts_in version info more)) (is_in version info c.key)
+        items_in-new version info (item_after c.passed c.indirect (blank c)) refl
+        ∙ by_test (λ b. items_in version info items ++ cond b (item_after c.passed c.indirect (blank c) ∷ []) [] ≡ items_of (counts_in version info more)) (is_in version info c.key)
         (λ own.
         let fewer : length (items_of (counts_in version info counts)) < greatest_list = rw (own_list version info own) few in
-        ap (λ (is : List Item). is ++ counted c.passed c.indirect (blank c) ∷ []) (h version info)
+        ap (λ (is : List Item). is ++ item_after c.passed c.indirect (blank c) ∷ []) (h version info)
         ∙ sym (items-new c (counts_in version info counts) (missed version info own) fewer) ∙ ap items_of (sym (here version info own)))
         (λ other. append-nil (items_in version info items) ∙ h version info ∙ sym (elsewhere version info other))
 

@@ -14,7 +14,7 @@ use Rattle.rb_stats.specs.declared.key.Info.{Info}
 use Rattle.rb_stats.specs.declared.key.Info.TheVariants.{Addr, Rmt}
 use Rattle.rb_stats.specs.declared.key.Target.{Target}
 use Rattle.rb_stats.specs.declared.key.Key.{Key}
-use Rattle.rb_stats.specs.Statistics.{is_version, is_transport, is_target, is_proc, is_key, is_in, info_of, distinct, greatest_list}
+use Rattle.rb_stats.specs.Statistics.{is_version, is_transport, is_target, is_proc, is_key, is_in, info_of, distinct_keys, greatest_list}
 
 pub both : (a b : Bool) → (a && b) ≡ true → (a ≡ true) × (b ≡ true)
 both true b e = (refl, e)
@@ -112,12 +112,12 @@ module _ (k : Key) where
   not_passed first false = elim (is_key first k) as (λ b. cond (not b) (k ∷ []) [] ≡ if_new (b || false)) [ true ↦ refl | false ↦ refl ]
 
   -- one more key is new, or it is there
-  pub distinct-push : (keys : List Key) → distinct (keys ++ k ∷ []) ≡ distinct keys ++ if_new (list_any same_key keys)
+  pub distinct-push : (keys : List Key) → distinct_keys (keys ++ k ∷ []) ≡ distinct_keys keys ++ if_new (list_any same_key keys)
   distinct-push [] = refl
   distinct-push (first ∷ keys) =
       ap (λ (ks : List Key). first ∷ filter (is_other first) ks) (distinct-push keys)
-      ∙ ap (λ (ks : List Key). first ∷ ks) (filter-append (is_other first) (distinct keys) (if_new (list_any same_key keys)))
-      ∙ ap (λ (ks : List Key). first ∷ (filter (is_other first) (distinct keys) ++ ks)) (not_passed first (list_any same_key keys))
+      ∙ ap (λ (ks : List Key). first ∷ ks) (filter-append (is_other first) (distinct_keys keys) (if_new (list_any same_key keys)))
+      ∙ ap (λ (ks : List Key). first ∷ (filter (is_other first) (distinct_keys keys) ++ ks)) (not_passed first (list_any same_key keys))
 
   any-others : (first : Key) → is_key first k ≡ false → (keys : List Key) → list_any same_key (filter (is_other first) keys) ≡ list_any same_key keys
   any-others first differs [] = refl
@@ -126,12 +126,12 @@ module _ (k : Key) where
       (λ same. let e : first ≡ key = key_same first key same in let f : is_key key k ≡ false = rw (← e) differs in rw f (any-others first differs keys))
       (λ other. ap (λ b. is_key key k || b) (any-others first differs keys))
 
-  pub any-distinct : (keys : List Key) → list_any same_key (distinct keys) ≡ list_any same_key keys
+  pub any-distinct : (keys : List Key) → list_any same_key (distinct_keys keys) ≡ list_any same_key keys
   any-distinct [] = refl
   any-distinct (first ∷ keys) =
-      by_test (λ b. (b || list_any same_key (filter (is_other first) (distinct keys))) ≡ (b || list_any same_key keys)) (is_key first k)
+      by_test (λ b. (b || list_any same_key (filter (is_other first) (distinct_keys keys))) ≡ (b || list_any same_key keys)) (is_key first k)
       (λ same. refl)
-      (λ differs. any-others first differs (distinct keys) ∙ any-distinct keys)
+      (λ differs. any-others first differs (distinct_keys keys) ∙ any-distinct keys)
 
   or_true : (b : Bool) → (b || true) ≡ true
   or_true true = refl
@@ -143,32 +143,32 @@ module _ (k : Key) where
 
   module _ (keys : List Key) where
     -- a key that is among the first stays
-    pub first-found : list_any same_key (take greatest_list (distinct keys)) ≡ true → take greatest_list (distinct (keys ++ k ∷ [])) ≡ take greatest_list (distinct keys)
+    pub first-found : list_any same_key (take greatest_list (distinct_keys keys)) ≡ true → take greatest_list (distinct_keys (keys ++ k ∷ [])) ≡ take greatest_list (distinct_keys keys)
     first-found found =
-        let there : list_any same_key keys ≡ true = sym (any-distinct keys) ∙ any-take greatest_list (distinct keys) found in
-        ap (take greatest_list) (distinct-push keys ∙ ap (λ b. distinct keys ++ if_new b) there ∙ append-nil (distinct keys))
+        let there : list_any same_key keys ≡ true = sym (any-distinct keys) ∙ any-take greatest_list (distinct_keys keys) found in
+        ap (take greatest_list) (distinct-push keys ∙ ap (λ b. distinct_keys keys ++ if_new b) there ∙ append-nil (distinct_keys keys))
 
-    whole : length (take greatest_list (distinct keys)) < greatest_list → length (distinct keys) < greatest_list
-    whole few = omega (arith, length-take greatest_list (distinct keys))
+    whole : length (take greatest_list (distinct_keys keys)) < greatest_list → length (distinct_keys keys) < greatest_list
+    whole few = omega (arith, length-take greatest_list (distinct_keys keys))
 
-    all_taken : length (take greatest_list (distinct keys)) < greatest_list → take greatest_list (distinct keys) ≡ distinct keys
-    all_taken few = take_all greatest_list (distinct keys) (omega (arith, whole few))
+    all_taken : length (take greatest_list (distinct_keys keys)) < greatest_list → take greatest_list (distinct_keys keys) ≡ distinct_keys keys
+    all_taken few = take_all greatest_list (distinct_keys keys) (omega (arith, whole few))
 
-    pub not-first : list_any same_key (take greatest_list (distinct keys)) ≡ false → length (take greatest_list (distinct keys)) < greatest_list → list_any same_key keys ≡ false
-    not-first missing few = let all : take greatest_list (distinct keys) ≡ distinct keys = all_taken few in sym (any-distinct keys) ∙ rw all at missing
+    pub not-first : list_any same_key (take greatest_list (distinct_keys keys)) ≡ false → length (take greatest_list (distinct_keys keys)) < greatest_list → list_any same_key keys ≡ false
+    not-first missing few = let all : take greatest_list (distinct_keys keys) ≡ distinct_keys keys = all_taken few in sym (any-distinct keys) ∙ rw all at missing
 
     -- a new key among fewer comes last
-    pub first-new : list_any same_key (take greatest_list (distinct keys)) ≡ false → length (take greatest_list (distinct keys)) < greatest_list
-        → take greatest_list (distinct (keys ++ k ∷ [])) ≡ take greatest_list (distinct keys) ++ k ∷ []
+    pub first-new : list_any same_key (take greatest_list (distinct_keys keys)) ≡ false → length (take greatest_list (distinct_keys keys)) < greatest_list
+        → take greatest_list (distinct_keys (keys ++ k ∷ [])) ≡ take greatest_list (distinct_keys keys) ++ k ∷ []
     first-new missing few =
-        let all : take greatest_list (distinct keys) ≡ distinct keys = all_taken few in
+        let all : take greatest_list (distinct_keys keys) ≡ distinct_keys keys = all_taken few in
         let none_there : list_any same_key keys ≡ false = not-first missing few in
-        ap (take greatest_list) (distinct-push keys ∙ ap (λ b. distinct keys ++ if_new b) none_there)
-        ∙ take_all greatest_list (distinct keys ++ k ∷ []) (omega (arith, whole few, length-append (distinct keys) (k ∷ [])))
+        ap (take greatest_list) (distinct-push keys ∙ ap (λ b. distinct_keys keys ++ if_new b) none_there)
+        ∙ take_all greatest_list (distinct_keys keys ++ k ∷ []) (omega (arith, whole few, length-append (distinct_keys keys) (k ∷ [])))
         ∙ ap (λ (ks : List Key). ks ++ k ∷ []) (sym all)
 
     -- and stays out where they are all that there may be
-    pub first-full : greatest_list ≤ length (take greatest_list (distinct keys)) → take greatest_list (distinct (keys ++ k ∷ [])) ≡ take greatest_list (distinct keys)
+    pub first-full : greatest_list ≤ length (take greatest_list (distinct_keys keys)) → take greatest_list (distinct_keys (keys ++ k ∷ [])) ≡ take greatest_list (distinct_keys keys)
     first-full full =
         ap (take greatest_list) (distinct-push keys)
-        ∙ take-append-le greatest_list (distinct keys) (if_new (list_any same_key keys)) (omega (arith, length-take greatest_list (distinct keys)))
+        ∙ take-append-le greatest_list (distinct_keys keys) (if_new (list_any same_key keys)) (omega (arith, length-take greatest_list (distinct_keys keys)))

@@ -4,7 +4,7 @@ use Rattle.std.specs.Prelude.{filter, filter_map, is_none, is_some}
 use Rattle.std.specs.List.{flat_map, list_all}
 use Rattle.std.proofs.lemmas.List.{take-append-drop, length-map, length-take}
 use Rattle.std.proofs.lemmas.List.Folds.{list_all-append, list_all-map}
-use Rattle.rb_xdr.specs.Xdr.{number, words, boolean, opaque, listed}
+use Rattle.rb_xdr.specs.Xdr.{number, words, boolean, opaque, linked_list}
 use Rattle.rb_xdr.proofs.Words.{length-number}
 use Rattle.rb_registry.specs.declared.row.Transport.{Transport}
 use Rattle.rb_registry.specs.declared.row.Transport.TheVariants.{Tcp, Udp}
@@ -16,7 +16,7 @@ use Rattle.rb_stats.specs.declared.key.Info.TheVariants.{Addr, Rmt}
 use Rattle.rb_stats.specs.declared.key.Key.{Key}
 use Rattle.rb_stats.specs.declared.item.Item.{Item}
 use Rattle.rb_stats.specs.declared.counts.Counts.{Counts}
-use Rattle.rb_stats.specs.Statistics.{Note, Count, Stat, is_version, is_key, is_in, count_of, counts_in, distinct, keys_of, items_of, item_of, item_spelling, lookup_spelling, forward_spelling, spelling_by, stat, stat_spelling, statistics, greatest_list}
+use Rattle.rb_stats.specs.Statistics.{Note, Count, Stat, is_version, is_key, is_in, count_of, counts_in, distinct_keys, keys_of, items_of, item_of, item_spelling, lookup_spelling, forward_spelling, spelling_by, stat, stat_spelling, statistics, greatest_list}
 use Rattle.rb_stats.specs.Table.{items_in, stat_in, stat_size}
 use Rattle.rb_stats.specs.Stats.{Stats, StandsForHistory, stat_len, key_count}
 use Rattle.rb_stats.specs.Counting.{spelling}
@@ -82,8 +82,8 @@ length-items info (item ∷ items) fit =
     let p = both (fits_in info item.key) (list_all (λ (item : Item). fits_in info item.key) items) fit in
     omega (arith, length-append (behind_true item_spelling item) (flat_map (behind_true item_spelling) items), length-item info item p.0, length-items info items p.1)
 
-pub length-listed : (info : Info) (items : List Item) → list_all (λ (item : Item). fits_in info item.key) items ≡ true → length (listed item_spelling items) ≡ item_size info * length items + 4
-unfolding listed
+pub length-listed : (info : Info) (items : List Item) → list_all (λ (item : Item). fits_in info item.key) items ≡ true → length (linked_list item_spelling items) ≡ item_size info * length items + 4
+unfolding linked_list
 length-listed info items fit = omega (arith, length-append (flat_map (behind_true item_spelling) items) (boolean false), length-false, length-items info items fit)
 
 -- ---- lists whose items fit
@@ -116,11 +116,11 @@ pub items_in-fit : (version : Version) (info : Info) (items : List Item) → lis
 unfolding items_in
 items_in-fit version info items = all_passed (λ (item : Item). is_in version info item.key) (λ (item : Item). fits_in info item.key) (λ item own. fits version info item.key own) items
 
-all_distinct : (info : Info) (keys : List Key) → list_all (fits_in info) keys ≡ true → list_all (fits_in info) (distinct keys) ≡ true
+all_distinct : (info : Info) (keys : List Key) → list_all (fits_in info) keys ≡ true → list_all (fits_in info) (distinct_keys keys) ≡ true
 all_distinct info [] all = refl
 all_distinct info (key ∷ keys) all =
     let p = both (fits_in info key) (list_all (fits_in info) keys) all in
-    rw p.0 (all_left (fits_in info) (λ other. not (is_key key other)) (distinct keys) (all_distinct info keys p.1))
+    rw p.0 (all_left (fits_in info) (λ other. not (is_key key other)) (distinct_keys keys) (all_distinct info keys p.1))
 
 pub items_of-fit : (version : Version) (info : Info) (counts : List Count) → list_all (λ (item : Item). fits_in info item.key) (items_of (counts_in version info counts)) ≡ true
 unfolding items_of keys_of
@@ -130,7 +130,7 @@ items_of-fit version info counts =
     let all : list_all (fits_in info) keys ≡ true =
     list_all-map (fits_in info) (λ (count : Count). count.key) own
     ∙ all_passed (λ (count : Count). is_in version info count.key) (λ (count : Count). fits_in info count.key) (λ count own. fits version info count.key own) counts in
-    list_all-map (λ (item : Item). fits_in info item.key) (item_of own) (take greatest_list (distinct keys)) ∙ all_first (fits_in info) greatest_list (distinct keys) (all_distinct info keys all)
+    list_all-map (λ (item : Item). fits_in info item.key) (item_of own) (take greatest_list (distinct_keys keys)) ∙ all_first (fits_in info) greatest_list (distinct_keys keys) (all_distinct info keys all)
 
 -- ---- rpcb_stat
 
@@ -146,10 +146,10 @@ length-stat s thirteen lookups forwards =
       length-number s.unsetinfo,
       length-listed Addr s.addrinfo lookups,
       length-listed Rmt s.rmtinfo forwards,
-      length-append (words s.info) (number s.setinfo ++ (number s.unsetinfo ++ (listed item_spelling s.addrinfo ++ listed item_spelling s.rmtinfo))),
-      length-append (number s.setinfo) (number s.unsetinfo ++ (listed item_spelling s.addrinfo ++ listed item_spelling s.rmtinfo)),
-      length-append (number s.unsetinfo) (listed item_spelling s.addrinfo ++ listed item_spelling s.rmtinfo),
-      length-append (listed item_spelling s.addrinfo) (listed item_spelling s.rmtinfo),
+      length-append (words s.info) (number s.setinfo ++ (number s.unsetinfo ++ (linked_list item_spelling s.addrinfo ++ linked_list item_spelling s.rmtinfo))),
+      length-append (number s.setinfo) (number s.unsetinfo ++ (linked_list item_spelling s.addrinfo ++ linked_list item_spelling s.rmtinfo)),
+      length-append (number s.unsetinfo) (linked_list item_spelling s.addrinfo ++ linked_list item_spelling s.rmtinfo),
+      length-append (linked_list item_spelling s.addrinfo) (linked_list item_spelling s.rmtinfo),
     )
 
 pub length-stat_in : (version : Version) (counts : Counts) (items : List Item) → length counts.info ≡ 13
@@ -161,7 +161,7 @@ length-stat_in version counts items thirteen = length-stat (stat_in version coun
 pub few_items : (counts : List Count) → length (items_of counts) ≤ greatest_list
 unfolding items_of keys_of
 few_items counts =
-    let keys : List Key = distinct (map (λ (count : Count). count.key) counts) in
+    let keys : List Key = distinct_keys (map (λ (count : Count). count.key) counts) in
     omega (arith, length-map (take greatest_list keys) (item_of counts), length-take greatest_list keys)
 
 pub short_lists : (version : Version) (notes : List Note) → (length (stat version notes).addrinfo ≤ greatest_list) × (length (stat version notes).rmtinfo ≤ greatest_list)

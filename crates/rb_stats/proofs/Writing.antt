@@ -1,5 +1,5 @@
 -- A list that is written item by item.
-use Rattle.std.proofs.Common.{◌≡◌, ◌≤◌, ◌<◌, ◌+◌, ℕ, true, List, [], ◌∷◌, ◌++◌, length, take, get_or, sym, ap, ◌∙◌, append_assoc, append-nil, length-append, arith}
+use Rattle.std.proofs.Common.{◌≡◌, ◌≤◌, ◌<◌, ◌+◌, ℕ, true, List, [], ◌∷◌, ◌++◌, length, take, get_or, sym, ap, ◌∙◌, append-nil, length-append, arith}
 use Rattle.std.specs.List.{flat_map}
 use Rattle.std.proofs.lemmas.Grind.{flat_map-append}
 use Rattle.std.proofs.lemmas.List.{take_more}
@@ -44,14 +44,3 @@ module _ {T : Type 0} (f : T → List ℕ) (items : List T) (n : ℕ) (began out
         let cap : out.cap ≡ began.cap = ap (λ (k : Kept). k.cap) w.written in
         let size : length out.bytes ≡ length began.bytes + length so_far = ap (λ (k : Kept). length k.bytes) w.written ∙ length-append began.bytes so_far in
         omega (arith, room, cap, size, no_longer, length-append (flat_map f items) end)
-
-    pub item_written : (more : Kept) (later : Meter) → more ≡ record out { bytes = out.bytes ++ f x } → later ≡ record meter { steps = meter.steps + length (f x) }
-        → Writing f items (n + 1) began more first later
-    item_written more later added cost = record {
-      written =
-          added ∙ ap (λ (k : Kept). record k { bytes = k.bytes ++ f x }) w.written
-          ∙ ap (λ (bytes : List ℕ). record began { bytes = bytes }) (append_assoc began.bytes so_far (f x) ∙ ap (λ (xs : List ℕ). began.bytes ++ xs) (sym one_more));
-      paid =
-          cost ∙ ap (λ (m : Meter). record m { steps = m.steps + length (f x) }) w.paid
-          ∙ ap (λ (k : ℕ). record first { steps = k }) (omega (arith, ap (λ (xs : List ℕ). length xs) one_more, length-append so_far (f x)));
-    }

@@ -1,6 +1,6 @@
 -- Statistics over the history of completed calls (RFC 1833 section 2.1, rpcb_stat_byvers).
 use Rattle.std.specs.Prelude.{ℕ, ◌+◌, ◌-◌, ◌^◌, ◌==◌, min, Bool, true, false, not, ◌&&◌, List, [], ◌∷◌, ◌++◌, map, filter, filter_map, count_by, take, Option, Some, None, is_some, is_none}
-use Rattle.rb_xdr.specs.Xdr.{number, words, opaque, listed}
+use Rattle.rb_xdr.specs.Xdr.{number, words, opaque, linked_list}
 use Rattle.rb_registry.specs.declared.row.Transport.{Transport}
 use Rattle.rb_registry.specs.declared.row.Transport.TheVariants.{Tcp, Udp}
 use Rattle.rb_registry.specs.Rows.{netid_of, netid_text}
@@ -93,16 +93,16 @@ abbrev pub counts_in : Version → Info → List Count → List Count
 counts_in version info counts = filter (λ (count : Count). is_in version info count.key) counts
 
 -- each key once, where it stands first
-abbrev pub distinct : List Key → List Key
-distinct [] = []
-distinct (key ∷ keys) = key ∷ filter (λ other. not (is_key key other)) (distinct keys)
+abbrev pub distinct_keys : List Key → List Key
+distinct_keys [] = []
+distinct_keys (key ∷ keys) = key ∷ filter (λ other. not (is_key key other)) (distinct_keys keys)
 
 -- a list has the first 32 keys
 abbrev pub greatest_list : ℕ
 greatest_list = 32
 
 unfoldable pub keys_of : List Count → List Key
-keys_of counts = take greatest_list (distinct (map (λ (count : Count). count.key) counts))
+keys_of counts = take greatest_list (distinct_keys (map (λ (count : Count). count.key) counts))
 
 -- one more, as far as an int goes
 abbrev pub one_more : ℕ → ℕ
@@ -167,7 +167,7 @@ item_spelling item = spelling_by item.key.proc item
 
 -- info, setinfo, unsetinfo, and the two lists
 unfoldable pub stat_spelling : Stat → List ℕ
-stat_spelling s = words s.info ++ (number s.setinfo ++ (number s.unsetinfo ++ (listed item_spelling s.addrinfo ++ listed item_spelling s.rmtinfo)))
+stat_spelling s = words s.info ++ (number s.setinfo ++ (number s.unsetinfo ++ (linked_list item_spelling s.addrinfo ++ linked_list item_spelling s.rmtinfo)))
 
 -- rpcb_stat_byvers: versions 2, 3 and 4
 unfoldable pub statistics : List Note → List ℕ

@@ -55,8 +55,8 @@ count_with key passed indirect = record { key = key; passed = passed; indirect =
 abbrev pub new_item : Key → Item
 new_item key = record { key = key; success = 0; failure = 0; indirect = 0 }
 
-abbrev pub counted : Bool → Bool → Item → Item
-counted passed indirect item = record {
+abbrev pub item_after : Bool → Bool → Item → Item
+item_after passed indirect item = record {
   key = item.key;
   success = if passed then one_more item.success else item.success;
   failure = if passed then item.failure else one_more item.failure;
@@ -65,7 +65,7 @@ counted passed indirect item = record {
 
 -- the count's own item has one more, any other stays as it is
 abbrev pub after_count : Count → Item → Item
-after_count count item = if is_item count.key item then counted count.passed count.indirect item else item
+after_count count item = if is_item count.key item then item_after count.passed count.indirect item else item
 
 -- the count is in its own item
 abbrev pub HasCounted : Count → Pool Item → Pool Item → Type 0
@@ -74,7 +74,7 @@ HasCounted count old new = values_of new.entries ≡ map (after_count count) (va
 -- or in a new item behind the others
 abbrev pub HasAdded : Count → Pool Item → Pool Item → Type 0
 HasAdded count old new =
-    values_of new.entries ≡ values_of old.entries ++ counted count.passed count.indirect (new_item count.key) ∷ []
+    values_of new.entries ≡ values_of old.entries ++ item_after count.passed count.indirect (new_item count.key) ∷ []
 
 -- ---- rpcb_stat
 

@@ -3,7 +3,7 @@ ghost use Rattle.std.specs.Prelude.{◌≡◌, ◌+◌, ◌≤◌, ◌++◌, len
 ghost use Rattle.rb_xdr.specs.Meter.{Pays};
 ghost use Rattle.rb_xdr.specs.Puts.{Appends, HasRoom};
 ghost use Rattle.rb_stats.specs.Statistics.{one_more, item_spelling};
-ghost use Rattle.rb_stats.specs.Table.{new_item, counted};
+ghost use Rattle.rb_stats.specs.Table.{new_item, item_after};
 
 use crate::key::{Key, Target, Version};
 use rb_registry::Transport;
@@ -56,7 +56,7 @@ impl Item {
 
     /// Counts one more of the key, also at its INDIRECT calls where it is one.
     pub(crate) fn count(&mut self, passed: bool, indirect: bool)
-        ensures { self.new ≡ counted passed indirect self.old }
+        ensures { self.new ≡ item_after passed indirect self.old }
     {
         if passed {
             count_one(&mut self.success);

@@ -3,7 +3,7 @@ ghost use Rattle.std.specs.Prelude.{◌≡◌, ◌+◌, ◌*◌, ◌≤◌, ◌+
 ghost use Rattle.std.specs.Map.{values_of};
 ghost use Rattle.rb_xdr.specs.Meter.{Pays, PaysAtMost};
 ghost use Rattle.rb_xdr.specs.Puts.{Appends, HasRoom};
-ghost use Rattle.rb_xdr.specs.Xdr.{listed, words};
+ghost use Rattle.rb_xdr.specs.Xdr.{linked_list, words};
 ghost use Rattle.rb_stats.specs.Statistics.{item_spelling, stat_spelling, greatest_list};
 ghost use Rattle.rb_stats.specs.Table.{items_in, stat_size};
 ghost use Rattle.rb_stats.specs.Lists.{size_of, stat_with, lists_size};
@@ -81,12 +81,12 @@ pub(crate) fn lists_of(items: &Pool<Item>, version: Version, meter: &mut Meter) 
 }
 
 /// Writes a list, each item behind TRUE, and FALSE at its end.
-#[tactic(auto, unfolding(rb_xdr::specs::Xdr::listed))]
+#[tactic(auto, unfolding(rb_xdr::specs::Xdr::linked_list))]
 pub(crate) fn write_list(items: &[Item], out: &mut Kept, meter: &mut Meter)
     requires tie { meter.old.tie ≡ out.old.tie }
-    requires room { HasRoom (listed item_spelling items.now) out.old }
-    ensures written { Appends (listed item_spelling items.now) out.old out.new }
-    ensures cost { Pays meter.old meter.new (length (listed item_spelling items.now)) }
+    requires room { HasRoom (linked_list item_spelling items.now) out.old }
+    ensures written { Appends (linked_list item_spelling items.now) out.old out.new }
+    ensures cost { Pays meter.old meter.new (length (linked_list item_spelling items.now)) }
 {
     for item in items {
         true.write(out, meter);

@@ -1,9 +1,7 @@
 ghost use Rattle.std.specs.Prelude.{◌≡◌, IfOk};
 
-use rb_core::{
-    Core, CoreFault, Event, Exchanged, Limits, Listener, NoMemory, Outcome, Output, Peer, Taken,
-    replay,
-};
+use rb_core::{Core, CoreFault, Exchanged, Limits, Listener, NoMemory, Outcome, Peer, Taken};
+use rb_replay::{Event, Output, replay};
 use rb_xdr::Meter;
 use std::alloc::{AllocError, Global};
 use std::process::Abort;

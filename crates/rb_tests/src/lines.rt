@@ -1,6 +1,7 @@
 //! Event lines, read and run.
-use rb_core::{Core, Event, Limits, Listener};
-use rb_lines::{Beginning, ReadFault, read_events, run_replay};
+use rb_core::{Core, Limits, Listener};
+use rb_lines::{Beginning, ReadFault, read_events};
+use rb_replay::{Event, run_replay};
 use rb_xdr::Meter;
 use std::alloc::{AllocError, Global};
 use std::io;

@@ -2,7 +2,7 @@ ghost use Rattle.std.specs.Prelude.{◌≡◌, IfOk};
 ghost use Rattle.rb_registry.specs.Cursors.{GoesOn};
 ghost use Rattle.rb_rpc.specs.declared.peer.Caller.TheVariants.{Udp};
 ghost use Rattle.rb_proto.specs.Books.{AreTied};
-ghost use Rattle.rb_proto.specs.ListParts.{IsTold};
+ghost use Rattle.rb_proto.specs.ListParts.{CanBeContinued};
 ghost use Rattle.rb_tests.specs.Ready.{AreReady};
 
 use rb_forward::{Forward, FwdId, Kind};
@@ -138,8 +138,8 @@ fn serve(
     let context = context();
     books.note_call(&head);
     let request = read_args(vers, proc, args)?;
-    let (dead, _) = books.registry.kept(meter);
-    if LIMIT - books.registry.len(meter) <= dead {
+    let (retained, _) = books.registry.kept(meter);
+    if LIMIT - books.registry.len(meter) <= retained {
         return Err("no room".into());
     }
     let given = answer(books, &context, &Call { head, request }, args, meter);
@@ -175,7 +175,7 @@ fn calls_are_read_answered_and_put(rt: HostRuntime) -> Result<(), Fail> {
 // Begins a list while a seventh row is there, which is then removed.
 fn begin_list(books: &mut Books, out: &mut Kept, meter: &mut Meter) -> Result<ListReply, Fail>
     requires { AreReady meter.old.tie books.old out.old }
-    ensures told { IfOk result (λ list. IsTold books.new.registry list) }
+    ensures told { IfOk result (λ list. CanBeContinued books.new.registry list) }
     ensures ready { AreReady meter.new.tie books.new out.new }
     ensures room { out.new.cap ≡ out.old.cap }
 {

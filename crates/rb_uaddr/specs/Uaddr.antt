@@ -105,9 +105,9 @@ unfoldable pub merged_host : List ℕ → List ℕ → List ℕ
 merged_host host own = if bytes_eq own any_host then host else own
 
 -- The IPv4 host 0.0.0.0 is replaced, and nothing else: the IPv6 host `::` stays.
-unfoldable pub merged : List ℕ → Uaddr → Uaddr
-merged host (V4 own port) = V4 (merged_host host own) port
-merged host (V6 own port) = V6 own port
+unfoldable pub merged_address : List ℕ → Uaddr → Uaddr
+merged_address host (V4 own port) = V4 (merged_host host own) port
+merged_address host (V6 own port) = V6 own port
 
 -- ---- the transport form, which RFC 1833 section 2.1 leaves open
 

@@ -1,6 +1,6 @@
 //! Universal addresses of TCP and UDP (RFC 5665 section 5.2.3).
 ghost use Rattle.std.specs.Prelude.{◌≡◌, ◌+◌, ◌*◌, slice_index};
-ghost use Rattle.rb_uaddr.specs.Uaddr.{any_host, port_bytes, port_of, merged, merged_host};
+ghost use Rattle.rb_uaddr.specs.Uaddr.{any_host, port_bytes, port_of, merged_address, merged_host};
 
 use thiserror::Error;
 
@@ -40,9 +40,9 @@ impl Uaddr {
 
     /// The address with this host in place of 0.0.0.0. Any other host stays, and so does each IPv6
     /// host, `::` among them.
-    #[tactic(auto, unfolding(crate::specs::Uaddr::merged))]
+    #[tactic(auto, unfolding(crate::specs::Uaddr::merged_address))]
     pub fn merge(self, host: [u8; 4]) -> Uaddr
-        ensures { result ≡ merged host self }
+        ensures { result ≡ merged_address host self }
     {
         match self {
             Uaddr::V4(own, port) => Uaddr::V4(merge_host(host, own), port),

@@ -33,8 +33,8 @@ use Rattle.rb_names.specs.Numbers.{number_in}
 
 -- ---- refusals
 
-abbrev pub refused : {A : Type 0} → Spot → Wanted → Result A Refusal
-refused at wanted = Err (record { at = at; wanted = wanted })
+abbrev pub refusal_at : {A : Type 0} → Spot → Wanted → Result A Refusal
+refusal_at at wanted = Err (record { at = at; wanted = wanted })
 
 -- one after the other, up to the first that is refused
 infixl 10 ◌>>=◌
@@ -46,24 +46,24 @@ abbrev pub ◌>>=◌ : {A B : Type 0} → Result A Refusal → (A → Result B R
 abbrev pub flag_of : List Flag → Result (Option Flag) Refusal
 flag_of [] = Ok None
 flag_of (flag ∷ []) = Ok (Some flag)
-flag_of (flag ∷ second ∷ flags) = refused (spots.Flag second) wants.OneFlag
+flag_of (flag ∷ second ∷ flags) = refusal_at (spots.Flag second) wants.OneFlag
 
-abbrev pub or_refused : {A : Type 0} → Spot → Wanted → Option A → Result A Refusal
-or_refused at wanted (Some x) = Ok x
-or_refused at wanted None = refused at wanted
+abbrev pub or_refusal : {A : Type 0} → Spot → Wanted → Option A → Result A Refusal
+or_refusal at wanted (Some x) = Ok x
+or_refusal at wanted None = refusal_at at wanted
 
-abbrev pub given : {A : Type 0} → Spot → Wanted → Option A → Result (Option A) Refusal
-given at wanted (Some x) = Ok (Some x)
-given at wanted None = refused at wanted
+abbrev pub some_or_refusal : {A : Type 0} → Spot → Wanted → Option A → Result (Option A) Refusal
+some_or_refusal at wanted (Some x) = Ok (Some x)
+some_or_refusal at wanted None = refusal_at at wanted
 
 -- the number that an option has
 abbrev pub option_number : Option (Bor (List ℕ)) → Spot → Wanted → ℕ → ℕ → Result (Option ℕ) Refusal
 option_number None at wanted least most = Ok None
-option_number (Some text) at wanted least most = given at wanted (number_in least most text.now)
+option_number (Some text) at wanted least most = some_or_refusal at wanted (number_in least most text.now)
 
 abbrev pub word_number : ℕ → Wanted → Option (Bor (List ℕ)) → Result ℕ Refusal
-word_number i wanted None = refused spots.End wanted
-word_number i wanted (Some text) = or_refused (spots.Word i) wanted (number_in 0 4294967295 text.now)
+word_number i wanted None = refusal_at spots.End wanted
+word_number i wanted (Some text) = or_refusal (spots.Word i) wanted (number_in 0 4294967295 text.now)
 
 -- the number that a word is
 abbrev pub number_at : List (Bor (List ℕ)) → ℕ → Wanted → Result ℕ Refusal
@@ -74,8 +74,8 @@ abbrev pub program_of : List Service → List ℕ → Option ℕ
 program_of services text = option_or (number_in 0 4294967295 text) (number_of services text)
 
 abbrev pub word_program : Shape → ℕ → Option (Bor (List ℕ)) → Result ℕ Refusal
-word_program shape i None = refused spots.End wants.Program
-word_program shape i (Some text) = or_refused (spots.Word i) wants.Program (program_of shape.services.now text.now)
+word_program shape i None = refusal_at spots.End wants.Program
+word_program shape i (Some text) = or_refusal (spots.Word i) wants.Program (program_of shape.services.now text.now)
 
 -- the program that a word is
 abbrev pub program_at : Shape → ℕ → Result ℕ Refusal
@@ -83,7 +83,7 @@ program_at shape i = word_program shape i (slice_get shape.words.now i)
 
 abbrev pub no_word : ℕ → Option (Bor (List ℕ)) → Result (Unit {0}) Refusal
 no_word i None = Ok tt
-no_word i (Some text) = refused (spots.Word i) wants.NoWord
+no_word i (Some text) = refusal_at (spots.Word i) wants.NoWord
 
 -- no word stands at this place
 abbrev pub ends_at : List (Bor (List ℕ)) → ℕ → Result (Unit {0}) Refusal
@@ -96,7 +96,7 @@ abbrev pub source_of : List ℕ → Source
 source_of text = if bytes_eq text (codes "-") then Input else Named
 
 abbrev pub source_in : Option (Bor (List ℕ)) → Result Source Refusal
-source_in None = refused spots.End wants.Host
+source_in None = refusal_at spots.End wants.Host
 source_in (Some text) = Ok (source_of text.now)
 
 abbrev pub source_at : List (Bor (List ℕ)) → Result Source Refusal
@@ -104,8 +104,8 @@ source_at words = source_in (slice_get words 0)
 
 abbrev pub host_in : Source → Result (Unit {0}) Refusal
 host_in Named = Ok tt
-host_in Here = refused (spots.Word 0) wants.Host
-host_in Input = refused (spots.Word 0) wants.Host
+host_in Here = refusal_at (spots.Word 0) wants.Host
+host_in Input = refusal_at (spots.Word 0) wants.Host
 
 -- the first word names a host
 abbrev pub host_at : List (Bor (List ℕ)) → Result (Unit {0}) Refusal
@@ -113,17 +113,17 @@ host_at words = source_at words >>= host_in
 
 -- ---- the words of each form
 
-abbrev pub shown_from : Listing → Option (Bor (List ℕ)) → Plan
-shown_from listing None = Show listing Here
-shown_from listing (Some text) = Show listing (source_of text.now)
+abbrev pub show_from : Listing → Option (Bor (List ℕ)) → Plan
+show_from listing None = Show listing Here
+show_from listing (Some text) = Show listing (source_of text.now)
 
 -- [HOST]
-abbrev pub shown : Listing → List (Bor (List ℕ)) → Result Plan Refusal
-shown listing words = ends_at words 1 >>= λ _. Ok (shown_from listing (slice_get words 0))
+abbrev pub show_plan : Listing → List (Bor (List ℕ)) → Result Plan Refusal
+show_plan listing words = ends_at words 1 >>= λ _. Ok (show_from listing (slice_get words 0))
 
 -- HOST PROGRAM VERSION
-abbrev pub listed : Shape → Result Plan Refusal
-listed shape = do
+abbrev pub entries_plan : Shape → Result Plan Refusal
+entries_plan shape = do
   source ← source_at shape.words.now
   prog ← program_at shape 1
   vers ← number_at shape.words.now 2 wants.Version
@@ -139,15 +139,15 @@ version_in words i (Some text) = do
   Ok (Some vers)
 
 -- PROGRAM [VERSION]
-abbrev pub pinged : Means → Shape → ℕ → Result Plan Refusal
-pinged means shape i = do
+abbrev pub ping_plan : Means → Shape → ℕ → Result Plan Refusal
+ping_plan means shape i = do
   prog ← program_at shape i
   vers ← version_in shape.words.now (i + 1) (slice_get shape.words.now (i + 1))
   Ok (Ping means prog vers)
 
 -- HOST PROGRAM [VERSION]
-abbrev pub pinged_at_host : Means → Shape → Result Plan Refusal
-pinged_at_host means shape = host_at shape.words.now >>= λ _. pinged means shape 1
+abbrev pub ping_plan_at_host : Means → Shape → Result Plan Refusal
+ping_plan_at_host means shape = host_at shape.words.now >>= λ _. ping_plan means shape 1
 
 -- PROGRAM VERSION
 abbrev pub program_and_version : Shape → Result (ℕ × ℕ) Refusal
@@ -161,22 +161,22 @@ program_and_version shape = do
 
 abbrev pub option_netid : Option (Bor (List ℕ)) → Result (Option Netid) Refusal
 option_netid None = Ok None
-option_netid (Some text) = given spots.Netid wants.Netid (netid_of text.now)
+option_netid (Some text) = some_or_refusal spots.Netid wants.Netid (netid_of text.now)
 
 -- ---- what each flag asks for
 
 -- procedure 0 at the address of `-a`, or at that which GETADDR says
 abbrev pub by_address : Netid → Shape → Option (Bor (List ℕ)) → Result Plan Refusal
-by_address netid shape None = pinged_at_host (means.Netid netid) shape
-by_address netid shape (Some address) = pinged (means.Address netid) shape 0
+by_address netid shape None = ping_plan_at_host (means.Netid netid) shape
+by_address netid shape (Some address) = ping_plan (means.Address netid) shape 0
 
 abbrev pub by_netid : Netid → Shape → Result Plan Refusal
 by_netid netid shape = by_address netid shape shape.address
 
 -- a socket has no address of a host
 abbrev pub by_option : Shape → Option Netid → Result Plan Refusal
-by_option shape None = shown listings.Rows shape.words.now
-by_option shape (Some netids.Local) = refused spots.Netid wants.Socket
+by_option shape None = show_plan listings.Rows shape.words.now
+by_option shape (Some netids.Local) = refusal_at spots.Netid wants.Socket
 by_option shape (Some netid) = by_netid netid shape
 
 abbrev pub without_flag : Shape → Result Plan Refusal
@@ -184,32 +184,32 @@ without_flag shape = option_netid shape.netid >>= by_option shape
 
 -- procedure 0 at the port of `-n`, or at that which GETPORT says
 abbrev pub by_port : Transport → Shape → Option ℕ → Result Plan Refusal
-by_port transport shape None = pinged_at_host (means.Mapped transport) shape
-by_port transport shape (Some port) = pinged_at_host (means.Port transport port) shape
+by_port transport shape None = ping_plan_at_host (means.Mapped transport) shape
+by_port transport shape (Some port) = ping_plan_at_host (means.Port transport port) shape
 
 abbrev pub by_transport : Transport → Shape → Result Plan Refusal
 by_transport transport shape = option_number shape.target spots.Target wants.Port 1 65535 >>= by_port transport shape
 
-abbrev pub deleted : Shape → Result Plan Refusal
-deleted shape = do
+abbrev pub delete_plan : Shape → Result Plan Refusal
+delete_plan shape = do
   netid ← option_netid shape.netid
   program ← program_and_version shape
   Ok (Delete netid program.0 program.1)
 
-abbrev pub broadcast : Shape → Result Plan Refusal
-broadcast shape = program_and_version shape >>= λ program. Ok (Broadcast program.0 program.1)
+abbrev pub broadcast_plan : Shape → Result Plan Refusal
+broadcast_plan shape = program_and_version shape >>= λ program. Ok (Broadcast program.0 program.1)
 
 abbrev pub plan_of : Option Flag → Shape → Result Plan Refusal
 plan_of None shape = without_flag shape
-plan_of (Some flags.Table) shape = shown listings.Table shape.words.now
-plan_of (Some flags.Short) shape = shown listings.Short shape.words.now
-plan_of (Some flags.Summary) shape = shown listings.Summary shape.words.now
-plan_of (Some flags.List) shape = listed shape
-plan_of (Some flags.Statistics) shape = shown listings.Statistics shape.words.now
+plan_of (Some flags.Table) shape = show_plan listings.Table shape.words.now
+plan_of (Some flags.Short) shape = show_plan listings.Short shape.words.now
+plan_of (Some flags.Summary) shape = show_plan listings.Summary shape.words.now
+plan_of (Some flags.List) shape = entries_plan shape
+plan_of (Some flags.Statistics) shape = show_plan listings.Statistics shape.words.now
 plan_of (Some flags.Tcp) shape = by_transport transports.Tcp shape
 plan_of (Some flags.Udp) shape = by_transport transports.Udp shape
-plan_of (Some flags.Delete) shape = deleted shape
-plan_of (Some flags.Broadcast) shape = broadcast shape
+plan_of (Some flags.Delete) shape = delete_plan shape
+plan_of (Some flags.Broadcast) shape = broadcast_plan shape
 
 -- ---- which options a flag has
 
@@ -228,15 +228,15 @@ may_have_netid (Some flags.Delete) = true
 may_have_netid _ = false
 
 abbrev pub only_where : Bool → Bool → Spot → Wanted → Result (Unit {0}) Refusal
-only_where given has at wanted = if given && not has then refused at wanted else Ok tt
+only_where given has at wanted = if given && not has then refusal_at at wanted else Ok tt
 
 abbrev pub has_address : Option Flag → Bool → Bool
 has_address None netid = netid
 has_address (Some flag) netid = false
 
 -- each option that is given is one that the flag has
-abbrev pub placed : Option Flag → Shape → Result (Unit {0}) Refusal
-placed flag shape = do
+abbrev pub check_options : Option Flag → Shape → Result (Unit {0}) Refusal
+check_options flag shape = do
   _ ← only_where (is_some shape.target) (is_ping flag) spots.Target wants.Ping
   _ ← only_where (is_some shape.netid) (may_have_netid flag) spots.Netid wants.NoFlagOrDelete
   _ ← only_where (is_some shape.broadcast) (is_broadcast flag) spots.Broadcast wants.BroadcastAlone
@@ -256,14 +256,14 @@ wanted_with layouts.Names = wants.List
 wanted_with layouts.Json = wants.Objects
 
 -- statistics have no names, the short rows are no objects, and a summary is written in one way
-abbrev pub shown_with : Listing → Layout → Bool
-shown_with listings.Statistics layouts.Names = false
-shown_with listings.Short layouts.Json = false
-shown_with listings.Summary layout = false
-shown_with listing layout = true
+abbrev pub listing_has_layout : Listing → Layout → Bool
+listing_has_layout listings.Statistics layouts.Names = false
+listing_has_layout listings.Short layouts.Json = false
+listing_has_layout listings.Summary layout = false
+listing_has_layout listing layout = true
 
 abbrev pub has_layout : Plan → Layout → Bool
-has_layout (Show listing source) layout = shown_with listing layout
+has_layout (Show listing source) layout = listing_has_layout listing layout
 has_layout (Entries source prog vers) layout = true
 has_layout (Ping means prog vers) layout = false
 has_layout (Delete netid prog vers) layout = false
@@ -272,8 +272,8 @@ has_layout (Broadcast prog vers) layout = false
 -- at most one layout, and one that the plan has
 abbrev pub layout_of : List Layout → Plan → Result (Option Layout) Refusal
 layout_of [] plan = Ok None
-layout_of (layout ∷ []) plan = if has_layout plan layout then Ok (Some layout) else refused (spots.Layout layout) (wanted_with layout)
-layout_of (layout ∷ second ∷ layouts) plan = refused (spots.Layout second) wants.OneLayout
+layout_of (layout ∷ []) plan = if has_layout plan layout then Ok (Some layout) else refusal_at (spots.Layout layout) (wanted_with layout)
+layout_of (layout ∷ second ∷ layouts) plan = refusal_at (spots.Layout second) wants.OneLayout
 
 -- ---- all of it
 
@@ -281,7 +281,7 @@ layout_of (layout ∷ second ∷ layouts) plan = refused (spots.Layout second) w
 abbrev pub request_of : Shape → Result Request Refusal
 request_of shape = do
   flag ← flag_of shape.flags.now
-  _ ← placed flag shape
+  _ ← check_options flag shape
   port ← option_number shape.port spots.Port wants.Port 1 65535
   uid ← option_number shape.uid spots.Uid wants.Uid 0 4294967295
   plan ← plan_of flag shape

@@ -1,6 +1,6 @@
 //! Reads the words of a command line.
 ghost use Rattle.std.specs.Prelude.{◌≡◌, ◌<◌};
-ghost use Rattle.rb_words.specs.Words.{flag_of, option_number, number_at, program_of, program_at, ends_at, source_of, source_at, host_at, shown, listed, pinged, pinged_at_host, program_and_version, option_netid, by_netid, by_transport, without_flag, deleted, plan_of, is_ping, is_broadcast, broadcast, may_have_netid, is_here, wanted_with, has_layout, layout_of, only_where, placed, request_of};
+ghost use Rattle.rb_words.specs.Words.{flag_of, option_number, number_at, program_of, program_at, ends_at, source_of, source_at, host_at, show_plan, entries_plan, ping_plan, ping_plan_at_host, program_and_version, option_netid, by_netid, by_transport, without_flag, delete_plan, plan_of, is_ping, is_broadcast, broadcast_plan, may_have_netid, is_here, wanted_with, has_layout, layout_of, only_where, check_options, request_of};
 
 use crate::plan::{Layout, Listing, Means, Plan, Request, Source, Transport};
 use crate::refusal::{Refusal, Spot, Wanted};
@@ -10,7 +10,7 @@ use rb_names::{Netid, Service, number_in, number_of};
 /// The portmapper's port.
 const PORT: u16 = 111;
 
-fn refused<T>(at: Spot, wanted: Wanted) -> Result<T, Refusal>
+fn refusal_at<T>(at: Spot, wanted: Wanted) -> Result<T, Refusal>
     ensures { result ≡ Err (record { at = at; wanted = wanted }) }
 {
     Err(Refusal { at, wanted })
@@ -23,7 +23,7 @@ fn flag_of(flags: &[Flag]) -> Result<Option<Flag>, Refusal>
     match flags {
         [] => Ok(None),
         [flag] => Ok(Some(*flag)),
-        [_, second, ..] => refused(Spot::Flag(*second), Wanted::OneFlag),
+        [_, second, ..] => refusal_at(Spot::Flag(*second), Wanted::OneFlag),
     }
 }
 
@@ -41,7 +41,7 @@ fn option_number(
         None => Ok(None),
         Some(text) => match number_in(text, least, most) {
             Some(n) => Ok(Some(n)),
-            None => refused(at, wanted),
+            None => refusal_at(at, wanted),
         },
     }
 }
@@ -51,10 +51,10 @@ fn number_at(words: &[&str], i: usize, wanted: Wanted) -> Result<u32, Refusal>
     ensures { result ≡ number_at words.now i wanted }
 {
     match words.get(i) {
-        None => refused(Spot::End, wanted),
+        None => refusal_at(Spot::End, wanted),
         Some(text) => match number_in(text, 0, u32::MAX) {
             Some(n) => Ok(n),
-            None => refused(Spot::Word(i), wanted),
+            None => refusal_at(Spot::Word(i), wanted),
         },
     }
 }
@@ -74,10 +74,10 @@ fn program_at(shape: &Shape<'_, '_, '_>, i: usize) -> Result<u32, Refusal>
     ensures { result ≡ program_at shape.now i }
 {
     match shape.words.get(i) {
-        None => refused(Spot::End, Wanted::Program),
+        None => refusal_at(Spot::End, Wanted::Program),
         Some(text) => match program_of(shape.services, text) {
             Some(n) => Ok(n),
-            None => refused(Spot::Word(i), Wanted::Program),
+            None => refusal_at(Spot::Word(i), Wanted::Program),
         },
     }
 }
@@ -88,7 +88,7 @@ fn ends_at(words: &[&str], i: usize) -> Result<(), Refusal>
 {
     match words.get(i) {
         None => Ok(()),
-        Some(_) => refused(Spot::Word(i), Wanted::NoWord),
+        Some(_) => refusal_at(Spot::Word(i), Wanted::NoWord),
     }
 }
 
@@ -108,7 +108,7 @@ fn source_at(words: &[&str]) -> Result<Source, Refusal>
     ensures { result ≡ source_at words.now }
 {
     match words.get(0) {
-        None => refused(Spot::End, Wanted::Host),
+        None => refusal_at(Spot::End, Wanted::Host),
         Some(text) => Ok(source_of(text)),
     }
 }
@@ -119,13 +119,13 @@ fn host_at(words: &[&str]) -> Result<(), Refusal>
 {
     match source_at(words)? {
         Source::Named => Ok(()),
-        Source::Here | Source::Input => refused(Spot::Word(0), Wanted::Host),
+        Source::Here | Source::Input => refusal_at(Spot::Word(0), Wanted::Host),
     }
 }
 
 /// A list of the host that the first word names, or of this machine.
-fn shown(listing: Listing, words: &[&str]) -> Result<Plan, Refusal>
-    ensures { result ≡ shown listing words.now }
+fn show_plan(listing: Listing, words: &[&str]) -> Result<Plan, Refusal>
+    ensures { result ≡ show_plan listing words.now }
 {
     ends_at(words, 1)?;
     match words.get(0) {
@@ -135,8 +135,8 @@ fn shown(listing: Listing, words: &[&str]) -> Result<Plan, Refusal>
 }
 
 /// HOST PROGRAM VERSION, where HOST may be standard input.
-fn listed(shape: &Shape<'_, '_, '_>) -> Result<Plan, Refusal>
-    ensures { result ≡ listed shape.now }
+fn entries_plan(shape: &Shape<'_, '_, '_>) -> Result<Plan, Refusal>
+    ensures { result ≡ entries_plan shape.now }
 {
     let source = source_at(shape.words)?;
     let prog = program_at(shape, 1)?;
@@ -146,9 +146,9 @@ fn listed(shape: &Shape<'_, '_, '_>) -> Result<Plan, Refusal>
 }
 
 /// PROGRAM, and VERSION where it is there, from this place on.
-fn pinged(means: Means, shape: &Shape<'_, '_, '_>, i: usize) -> Result<Plan, Refusal>
+fn ping_plan(means: Means, shape: &Shape<'_, '_, '_>, i: usize) -> Result<Plan, Refusal>
     requires { i < 2 }
-    ensures { result ≡ pinged means shape.now i }
+    ensures { result ≡ ping_plan means shape.now i }
 {
     let prog = program_at(shape, i)?;
     if shape.words.get(i + 1).is_none() {
@@ -160,11 +160,11 @@ fn pinged(means: Means, shape: &Shape<'_, '_, '_>, i: usize) -> Result<Plan, Ref
 }
 
 /// HOST PROGRAM, and VERSION where it is there.
-fn pinged_at_host(means: Means, shape: &Shape<'_, '_, '_>) -> Result<Plan, Refusal>
-    ensures { result ≡ pinged_at_host means shape.now }
+fn ping_plan_at_host(means: Means, shape: &Shape<'_, '_, '_>) -> Result<Plan, Refusal>
+    ensures { result ≡ ping_plan_at_host means shape.now }
 {
     host_at(shape.words)?;
-    pinged(means, shape, 1)
+    ping_plan(means, shape, 1)
 }
 
 /// PROGRAM VERSION.
@@ -185,7 +185,7 @@ fn option_netid(text: Option<&str>) -> Result<Option<Netid>, Refusal>
         None => Ok(None),
         Some(text) => match Netid::from_text(text) {
             Some(netid) => Ok(Some(netid)),
-            None => refused(Spot::Netid, Wanted::Netid),
+            None => refusal_at(Spot::Netid, Wanted::Netid),
         },
     }
 }
@@ -205,8 +205,8 @@ fn by_netid(netid: Netid, shape: &Shape<'_, '_, '_>) -> Result<Plan, Refusal>
     ensures { result ≡ by_netid netid shape.now }
 {
     match shape.address {
-        None => pinged_at_host(Means::Netid(netid), shape),
-        Some(_) => pinged(Means::Address(netid), shape, 0),
+        None => ping_plan_at_host(Means::Netid(netid), shape),
+        Some(_) => ping_plan(Means::Address(netid), shape, 0),
     }
 }
 
@@ -215,8 +215,8 @@ fn without_flag(shape: &Shape<'_, '_, '_>) -> Result<Plan, Refusal>
     ensures { result ≡ without_flag shape.now }
 {
     match option_netid(shape.netid)? {
-        None => shown(Listing::Rows, shape.words),
-        Some(Netid::Local) => refused(Spot::Netid, Wanted::Socket),
+        None => show_plan(Listing::Rows, shape.words),
+        Some(Netid::Local) => refusal_at(Spot::Netid, Wanted::Socket),
         Some(netid) => by_netid(netid, shape),
     }
 }
@@ -226,21 +226,21 @@ fn by_transport(transport: Transport, shape: &Shape<'_, '_, '_>) -> Result<Plan,
     ensures { result ≡ by_transport transport shape.now }
 {
     match option_port(shape.target, Spot::Target)? {
-        None => pinged_at_host(Means::Mapped(transport), shape),
-        Some(port) => pinged_at_host(Means::Port(transport, port), shape),
+        None => ping_plan_at_host(Means::Mapped(transport), shape),
+        Some(port) => ping_plan_at_host(Means::Port(transport, port), shape),
     }
 }
 
-fn deleted(shape: &Shape<'_, '_, '_>) -> Result<Plan, Refusal>
-    ensures { result ≡ deleted shape.now }
+fn delete_plan(shape: &Shape<'_, '_, '_>) -> Result<Plan, Refusal>
+    ensures { result ≡ delete_plan shape.now }
 {
     let netid = option_netid(shape.netid)?;
     let (prog, vers) = program_and_version(shape)?;
     Ok(Plan::Delete(netid, prog, vers))
 }
 
-fn broadcast(shape: &Shape<'_, '_, '_>) -> Result<Plan, Refusal>
-    ensures { result ≡ broadcast shape.now }
+fn broadcast_plan(shape: &Shape<'_, '_, '_>) -> Result<Plan, Refusal>
+    ensures { result ≡ broadcast_plan shape.now }
 {
     let (prog, vers) = program_and_version(shape)?;
     Ok(Plan::Broadcast(prog, vers))
@@ -252,15 +252,15 @@ fn plan_of(flag: Option<Flag>, shape: &Shape<'_, '_, '_>) -> Result<Plan, Refusa
 {
     match flag {
         None => without_flag(shape),
-        Some(Flag::Table) => shown(Listing::Table, shape.words),
-        Some(Flag::Short) => shown(Listing::Short, shape.words),
-        Some(Flag::Summary) => shown(Listing::Summary, shape.words),
-        Some(Flag::List) => listed(shape),
-        Some(Flag::Statistics) => shown(Listing::Statistics, shape.words),
+        Some(Flag::Table) => show_plan(Listing::Table, shape.words),
+        Some(Flag::Short) => show_plan(Listing::Short, shape.words),
+        Some(Flag::Summary) => show_plan(Listing::Summary, shape.words),
+        Some(Flag::List) => entries_plan(shape),
+        Some(Flag::Statistics) => show_plan(Listing::Statistics, shape.words),
         Some(Flag::Tcp) => by_transport(Transport::Tcp, shape),
         Some(Flag::Udp) => by_transport(Transport::Udp, shape),
-        Some(Flag::Delete) => deleted(shape),
-        Some(Flag::Broadcast) => broadcast(shape),
+        Some(Flag::Delete) => delete_plan(shape),
+        Some(Flag::Broadcast) => broadcast_plan(shape),
     }
 }
 
@@ -287,14 +287,14 @@ fn only_where(given: bool, has: bool, at: Spot, wanted: Wanted) -> Result<(), Re
     ensures { result ≡ only_where given has at wanted }
 {
     if given && !has {
-        return refused(at, wanted);
+        return refusal_at(at, wanted);
     }
     Ok(())
 }
 
 /// Each option that is given is one that the flag has.
-fn placed(flag: Option<Flag>, shape: &Shape<'_, '_, '_>) -> Result<(), Refusal>
-    ensures { result ≡ placed flag shape.now }
+fn check_options(flag: Option<Flag>, shape: &Shape<'_, '_, '_>) -> Result<(), Refusal>
+    ensures { result ≡ check_options flag shape.now }
 {
     let netid = shape.netid.is_some();
     only_where(
@@ -374,10 +374,10 @@ fn layout_of(layouts: &[Layout], plan: Plan) -> Result<Option<Layout>, Refusal>
             if has_layout(plan, layout) {
                 Ok(Some(layout))
             } else {
-                refused(Spot::Layout(layout), wanted_with(layout))
+                refusal_at(Spot::Layout(layout), wanted_with(layout))
             }
         }
-        [_, second, ..] => refused(Spot::Layout(*second), Wanted::OneLayout),
+        [_, second, ..] => refusal_at(Spot::Layout(*second), Wanted::OneLayout),
     }
 }
 
@@ -389,7 +389,7 @@ pub fn read_words(shape: &Shape<'_, '_, '_>) -> Result<Request, Refusal>
     ensures { result ≡ request_of shape.now }
 {
     let flag = flag_of(shape.flags)?;
-    placed(flag, shape)?;
+    check_options(flag, shape)?;
     let port = option_port(shape.port, Spot::Port)?.unwrap_or(PORT);
     let uid = option_number(shape.uid, Spot::Uid, Wanted::Uid, 0, u32::MAX)?;
     let plan = plan_of(flag, shape)?;

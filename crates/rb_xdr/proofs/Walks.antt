@@ -94,10 +94,6 @@ module _ {T : Type 0} where
   step entries None key d h = step_first entries key h
   step entries (Some a) key d h = step_behind entries a key d h
 
-  pub none_to_come : (entries : List (ℕ × T)) → first_key entries ≡ None → entries ≡ []
-  none_to_come [] h = refl
-  none_to_come (e ∷ rest) h = absurd cc
-
   pub next_entry : (entries : List (ℕ × T)) (place : Option ℕ) (key : ℕ) (value : T) → HasDistinctKeys entries → first_key (to_come entries place) ≡ Some key → value_at entries key ≡ Some value
       → to_come entries place ≡ (key, value) ∷ behind entries key
   next_entry entries place key value d h found =

@@ -1,7 +1,7 @@
 -- Worked examples of the definitions, byte by byte.
 use Rattle.std.specs.Prelude.{◌≡◌, ℕ, List, [], ◌∷◌, ◌++◌, Some, None, Ok, Err, codes, pos, negsuc}
 use Rattle.rb_xdr.specs.declared.fault.XdrFault.TheVariants.{Short, TooLong, BadBool, BadPadding}
-use Rattle.rb_xdr.specs.Xdr.{XdrFault, Reading, number, words, opaque, array, listed, read_number, read_bool, read_opaque, read_array}
+use Rattle.rb_xdr.specs.Xdr.{XdrFault, Reading, number, words, opaque, array, linked_list, read_number, read_bool, read_opaque, read_array}
 use Rattle.rb_xdr.specs.XdrTypes.{signed, optional, read_signed, read_pair, read_optional}
 
 abbrev pub WritesNumbers : Type 0
@@ -35,7 +35,7 @@ abbrev pub ReadsOptions : Type 0
 ReadsOptions = read_pair (read_optional read_number) (read_optional read_bool) (words (1 ∷ 7 ∷ 0 ∷ [])) ≡ Ok ((Some 7, None), 12)
 
 abbrev pub WritesLists : Type 0
-WritesLists = listed number (5 ∷ 6 ∷ []) ++ array (5 ∷ 6 ∷ []) ≡ words (1 ∷ 5 ∷ 1 ∷ 6 ∷ 0 ∷ 2 ∷ 5 ∷ 6 ∷ [])
+WritesLists = linked_list number (5 ∷ 6 ∷ []) ++ array (5 ∷ 6 ∷ []) ≡ words (1 ∷ 5 ∷ 1 ∷ 6 ∷ 0 ∷ 2 ∷ 5 ∷ 6 ∷ [])
 
 abbrev pub ReadsArray : Type 0
 ReadsArray = read_array 2 (words (2 ∷ 5 ∷ 6 ∷ [])) ≡ Ok (5 ∷ 6 ∷ [], 12)

@@ -54,8 +54,8 @@ array numbers = number (length numbers) ++ words numbers
 -- ---- lists
 
 -- a linked list is TRUE and the item for each item, then FALSE (section 4.19)
-unfoldable pub listed : {A : Type 0} → (A → List ℕ) → List A → List ℕ
-listed spelling items = flat_map (λ x. boolean true ++ spelling x) items ++ boolean false
+unfoldable pub linked_list : {A : Type 0} → (A → List ℕ) → List A → List ℕ
+linked_list spelling items = flat_map (λ x. boolean true ++ spelling x) items ++ boolean false
 
 -- ---- reading
 

@@ -4,7 +4,7 @@ ghost use Rattle.rb_xdr.specs.Forms.{FirstFault};
 ghost use Rattle.rb_xdr.specs.Forms.Form.{Content};
 ghost use Rattle.rb_xdr.specs.Xdr.{IsContent, opaque, residue, are_zero, read_content, read_opaque, max_opaque};
 ghost use Rattle.rb_xdr.specs.XdrLaws.{BeginsWith, IsOnlyRead, BeginsWithNone};
-ghost use Rattle.rb_xdr.specs.XdrLends.{lent};
+ghost use Rattle.rb_xdr.specs.XdrLends.{reading_of};
 ghost use Rattle.rb_xdr.specs.Puts.{Appends, HasRoom};
 ghost use Rattle.rb_xdr.specs.Meter.{Pays};
 
@@ -52,7 +52,7 @@ pub fn are_zero(bytes: &[u8]) -> bool
 #[tactic(auto, unfolding(crate::specs::Xdr::read_content))]
 fn take_content(bytes: &[u8], count: usize) -> Result<(&[u8], usize), XdrFault>
     requires { count < 2 ^ 32 }
-    ensures exact { lent result ≡ read_content count bytes.now }
+    ensures exact { reading_of result ≡ read_content count bytes.now }
     ensures within { IfOk result (λ read. read.1 ≤ length bytes.now) }
 {
     let padded = count + residue(count);
@@ -68,7 +68,7 @@ fn take_content(bytes: &[u8], count: usize) -> Result<(&[u8], usize), XdrFault>
 // Opaque data of at most so many bytes.
 #[tactic(auto, unfolding(crate::specs::Xdr::read_opaque))]
 fn lend_opaque(bytes: &[u8], limit: usize) -> Result<(&[u8], usize), XdrFault>
-    ensures { lent result ≡ read_opaque limit bytes.now }
+    ensures { reading_of result ≡ read_opaque limit bytes.now }
 {
     let (count, used) = u32::read(bytes)?;
     if count as usize > limit {
@@ -84,11 +84,11 @@ fn lend_opaque(bytes: &[u8], limit: usize) -> Result<(&[u8], usize), XdrFault>
 /// A count that is cut short is Short, one over the limit TooLong; then content or residual bytes
 /// that are missing are Short, and a residual byte that is not zero is BadPadding.
 pub fn take_opaque(bytes: &[u8], limit: usize) -> Result<(&[u8], usize), XdrFault>
-    ensures found { IfOk (lent result) (BeginsWith (IsContent limit) opaque bytes.now) }
-    ensures only { IsOnlyRead (IsContent limit) opaque bytes.now (lent result) }
+    ensures found { IfOk (reading_of result) (BeginsWith (IsContent limit) opaque bytes.now) }
+    ensures only { IsOnlyRead (IsContent limit) opaque bytes.now (reading_of result) }
     ensures none { OnErr result (BeginsWithNone (IsContent limit) opaque bytes.now) }
     ensures fault { IfErr result (FirstFault (Content limit) bytes.now) }
-    ensures exact { lent result ≡ read_opaque limit bytes.now }
+    ensures exact { reading_of result ≡ read_opaque limit bytes.now }
 {
     lend_opaque(bytes, limit)
 }

@@ -3,12 +3,11 @@
 
 ghost use Rattle.std.specs.Prelude.{◌≤◌, IfErr};
 
-mod arguments;
-mod options;
 mod service;
 
-use arguments::Words;
-use rb_lines::{Beginning, Fault, explain, run_check, run_replay};
+use rb_commands::{Words, read_words};
+use rb_lines::{Beginning, Fault, explain};
+use rb_replay::{run_check, run_replay};
 use service::run_service;
 use std::io::{BufWriter, ErrorKind};
 use std::process::ExitCode;
@@ -73,7 +72,7 @@ fn check(rt: &HostRuntime, beginning: &Beginning) -> u8
 fn asked<'a>(rt: &HostRuntime, words: &'a [String]) -> Result<Words<'a>, u8>
     ensures { IfErr result (λ status. status ≤ 2) }
 {
-    arguments::read(rt.alloc(), words, &mut io::writer(rt), &mut rt.stderr())
+    read_words(rt.alloc(), words, &mut io::writer(rt), &mut rt.stderr())
 }
 
 fn main(rt: HostRuntime) -> ExitCode {

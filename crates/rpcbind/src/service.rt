@@ -4,7 +4,7 @@ ghost use Rattle.rpcbind.specs.Faults.{TellsFault};
 
 use rb_daemon::{Daemon, DaemonFault, LocalSocket, Settings, SocketFault, Step};
 use rb_lines::{Ending, Fault, Service, explain, explain_run};
-use rb_policy::{announced, is_no_address};
+use rb_policy::{announced_address, is_no_address};
 use std::fs::{File, Files};
 use std::io;
 use std::io::Write;
@@ -73,7 +73,7 @@ fn settings_of<'a>(service: &'a Service<'a>) -> Settings<'a> {
         hosts: service.hosts.as_slice(),
         loopback6: service.loopback6,
         local,
-        announce: announced(service.announce, first),
+        announce: announced_address(service.announce, first),
         port: service.port,
         limits: service.limits,
         record: match &service.recorded {
@@ -93,26 +93,41 @@ where
     ensures { result ≤ 1 }
 {
     let settings = settings_of(service);
-    let mut daemon = match Daemon::new(rt.alloc(), rt, rt, &settings) {
-        Ok(daemon) => daemon,
-        Err(fault) => return explain_fault(&fault, &settings, faults).status,
-    };
+    match Daemon::new(rt.alloc(), rt, rt, &settings) {
+        Ok(mut daemon) => serve(rt, &mut daemon, service, &settings, faults),
+        Err(fault) => explain_fault(&fault, &settings, faults).status,
+    }
+}
+
+/// Says where the daemon listens, and takes its turns.
+fn serve<R, E>(
+    rt: &R,
+    daemon: &mut Daemon<'_, R>,
+    service: &Service<'_>,
+    settings: &Settings<'_>,
+    faults: &mut E,
+) -> u8
+where
+    R: Files + Clock + Wait + Print,
+    E: Write,
+    ensures { result ≤ 1 }
+{
     if service.announce.is_none() && is_no_address(settings.announce) {
         let _ = writeln!(
             faults,
             "rpcbind: no --announce: clients from elsewhere will be told 0.0.0.0"
         );
     }
-    if say_where(rt, &settings).is_err() {
+    if say_where(rt, settings).is_err() {
         return explain(Fault::WriteFailed, faults).status;
     }
     let mut recorder = match recorder_of(rt, service, faults) {
         Ok(recorder) => recorder,
         Err(status) => return status,
     };
-    match take_turns(rt, &mut daemon, service.turns, &mut recorder, faults) {
+    match take_turns(rt, daemon, service.turns, &mut recorder, faults) {
         Ok(()) => 0,
-        Err(fault) => explain_fault(&fault, &settings, faults).status,
+        Err(fault) => explain_fault(&fault, settings, faults).status,
     }
 }
 

@@ -9,7 +9,7 @@ use Rattle.rb_ask.specs.declared.fault.InfoFault.{InfoFault}
 use Rattle.rb_ask.specs.declared.fault.InfoFault.TheVariants.{Read, Unreadable, TooLong, Memory}
 use Rattle.rb_ask.specs.declared.record.Record.{Record}
 use Rattle.rb_ask.specs.Sources.{Supply}
-use Rattle.rb_ask.specs.Telling.{Told, Outcome, lines_of}
+use Rattle.rb_ask.specs.Telling.{Told, Outcome, told_lines}
 use Rattle.rb_ask.specs.Telling.Told.{Stop}
 use Rattle.rb_show.specs.declared.ask.Ask.{Ask}
 use Rattle.rb_show.specs.declared.form.Form.{Form}
@@ -45,7 +45,7 @@ told_cut told held fault e =
       left = nothing;
       at = record { left = 0; last = false; allowed = 0 };
       steady = refl;
-      outcome = record { lines = []; more = lines_of told; lines_are = refl; written = Appends-nil held };
+      outcome = record { lines = []; more = told_lines told; lines_are = refl; written = Appends-nil held };
     }))
 
 text_fault : (text : List ℕ) (fault : InfoFault) → bytes_of text ≡ Err fault → (fault ≡ TooLong) ⊎ (fault ≡ Unreadable)

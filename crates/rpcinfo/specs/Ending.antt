@@ -119,23 +119,23 @@ shown_status Null = 0
 shown_status (Removed true) = 0
 shown_status (Removed false) = 1
 
-abbrev pub removed_line : Shown → List ℕ
-removed_line (Rows n) = []
-removed_line (Statistics n) = []
-removed_line (Port port) = []
-removed_line (Address address) = []
-removed_line Null = []
-removed_line (Removed true) = []
-removed_line (Removed false) = codes "rpcinfo: there is no such row, or it is another user's\n"
+abbrev pub no_row_line : Shown → List ℕ
+no_row_line (Rows n) = []
+no_row_line (Statistics n) = []
+no_row_line (Port port) = []
+no_row_line (Address address) = []
+no_row_line Null = []
+no_row_line (Removed true) = []
+no_row_line (Removed false) = codes "rpcinfo: there is no such row, or it is another user's\n"
 
 abbrev pub status_of : Result Shown Fault → ℕ
 status_of (Ok shown) = shown_status shown
 status_of (Err fault) = 1
 
 -- what is said of it to the fault output
-abbrev pub said_of : Result Shown Fault → List ℕ
-said_of (Ok shown) = removed_line shown
-said_of (Err fault) = fault_lines fault
+abbrev pub answer_lines : Result Shown Fault → List ℕ
+answer_lines (Ok shown) = no_row_line shown
+answer_lines (Err fault) = fault_lines fault
 
 -- the address that answered, where the host has several
 abbrev pub answered_line : Option IpAddr → List ℕ
@@ -159,7 +159,7 @@ Says contents faults faults' ending text = SaysWhere contents faults faults' end
 -- the command ends by this answer
 pub record EndsBy {E : Type 0} (contents : E → Option (List ℕ)) (faults faults' : E) (ending : Ending) (answer : Result Shown Fault) (notices : Notices) : Type 0 where
   pub status : ending.status ≡ status_of answer
-  pub said : Says contents faults faults' ending (notice_lines notices ++ said_of answer)
+  pub said : Says contents faults faults' ending (notice_lines notices ++ answer_lines answer)
 
 -- nothing is to be noticed
 pub record IsNothing (notices : Notices) : Type 0 where

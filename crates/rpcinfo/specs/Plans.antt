@@ -70,14 +70,14 @@ answer_of (Err (Info (Refused head))) = Ok (answers.Refused head.status)
 answer_of (Err fault) = Err fault
 
 -- the end of a program's course
-abbrev pub ended : ℕ → ℕ → Stage → Result Shown Fault
-ended prog xid (End ends.Ready) = Ok shown.Null
-ended prog xid (End ends.SomeLack) = Err SomeLack
-ended prog xid (End (ends.NotAvailable vers why)) = Err (NotAvailable prog vers why)
-ended prog xid (End (ends.NoProgram why)) = Err (NoProgram prog why)
-ended prog xid (End (ends.Refused status)) = Err (Info (Refused (record { xid = xid; status = status })))
-ended prog xid (End ends.Unreadable) = Err (Info Unreadable)
-ended prog xid (End ends.TooMany) = Err (Info TooMany)
-ended prog xid (Find aim) = Err (Info TooMany)
-ended prog xid (FindOld aim transport) = Err (Info TooMany)
-ended prog xid (Call aim place) = Err (Info TooMany)
+abbrev pub course_end : ℕ → ℕ → Stage → Result Shown Fault
+course_end prog xid (End ends.Ready) = Ok shown.Null
+course_end prog xid (End ends.SomeLack) = Err SomeLack
+course_end prog xid (End (ends.NotAvailable vers why)) = Err (NotAvailable prog vers why)
+course_end prog xid (End (ends.NoProgram why)) = Err (NoProgram prog why)
+course_end prog xid (End (ends.Refused status)) = Err (Info (Refused (record { xid = xid; status = status })))
+course_end prog xid (End ends.Unreadable) = Err (Info Unreadable)
+course_end prog xid (End ends.TooMany) = Err (Info TooMany)
+course_end prog xid (Find aim) = Err (Info TooMany)
+course_end prog xid (FindOld aim transport) = Err (Info TooMany)
+course_end prog xid (Call aim place) = Err (Info TooMany)

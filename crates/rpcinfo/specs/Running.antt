@@ -32,22 +32,22 @@ use Rattle.rpcinfo.specs.declared.fault.Fault.{Fault}
 use Rattle.rpcinfo.specs.declared.fault.Fault.TheVariants.{Info, NoConnection, NoHost, NotAvailable, NoProgram, SomeLack}
 use Rattle.rpcinfo.specs.declared.words.Words.{Words}
 use Rattle.rpcinfo.specs.Input.{tell_text, IsToldOr}
-use Rattle.rpcinfo.specs.Ending.{notice_lines, status_of, said_of, IsNothing, Says}
+use Rattle.rpcinfo.specs.Ending.{notice_lines, status_of, answer_lines, IsNothing, Says}
 use Rattle.rpcinfo.specs.Plans.{plan_question}
 
 -- a question of the user that the words name
 abbrev pub ask_of : Words → Question → Ask
 ask_of words question = record { question = question; uid = words.request.uid }
 
-abbrev pub laid_out : Option Layout → Bor (List Service) → Form
-laid_out None services = Plain
-laid_out (Some layouts.Names) services = Named services
-laid_out (Some layouts.Json) services = Json
+abbrev pub layout_form : Option Layout → Bor (List Service) → Form
+layout_form None services = Plain
+layout_form (Some layouts.Names) services = Named services
+layout_form (Some layouts.Json) services = Json
 
 -- a summary always has names
 abbrev pub form_by : Plan → Option Layout → Bor (List Service) → Form
 form_by (Show listings.Summary source) layout services = Named services
-form_by plan layout services = laid_out layout services
+form_by plan layout services = layout_form layout services
 
 -- how the words ask for a list
 abbrev pub form_of : Request → Bor (List Service) → Form
@@ -133,7 +133,7 @@ pub record IsExplained {E : Type 0} (contents : E → Option (List ℕ)) (faults
   pub answer : Result Shown Fault
   pub notices : Notices
   pub status : ending.status ≡ status_of answer
-  pub said : Says contents faults faults' ending (notice_lines notices ++ said_of answer)
+  pub said : Says contents faults faults' ending (notice_lines notices ++ answer_lines answer)
 
 -- what was said is the lines of what there was to notice; without that nothing was
 pub record IsNoticed {E : Type 0} (contents : E → Option (List ℕ)) (faults faults' : E) (ending : Ending) : Type 0 where

@@ -2,5 +2,5 @@
 use Rattle.std.specs.Prelude.{ℕ, ◌-◌, nat_lt, min, if◌then◌else◌, Option, Some, None}
 
 -- at most `most`, and no longer than what is left of `whole`
-abbrev pub left_of : ℕ → ℕ → ℕ → Option ℕ
-left_of most whole passed = if nat_lt passed whole then Some (min most (whole - passed)) else None
+abbrev pub wait_left : ℕ → ℕ → ℕ → Option ℕ
+wait_left most whole passed = if nat_lt passed whole then Some (min most (whole - passed)) else None

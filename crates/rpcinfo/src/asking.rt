@@ -8,7 +8,7 @@ use crate::fault::Fault;
 use crate::hosts::{addresses_of, at_place, here, is_of};
 use crate::input::FIRST_XID;
 use crate::net::{Peer, ask_datagram, ask_stream};
-use crate::plans::{aim_of, answer_of, ended, way_of};
+use crate::plans::{aim_of, answer_of, course_end, way_of};
 use crate::words::Words;
 use rb_course::{Course, Place, Stage, asked, begin, fallback, next, show_lack};
 use rb_show::{Ask, Form, InfoFault, Question, Shown};
@@ -196,7 +196,7 @@ fn run_course<N: Net + Clock, O: Write>(
         }
         stage = step.stage;
     }
-    ended(course.prog, FIRST_XID, stage)
+    course_end(course.prog, FIRST_XID, stage)
 }
 
 /// Calls procedure 0 of a program on the host that the words name, at each of its addresses until one answers.

@@ -3,7 +3,7 @@ use crate::fault::Fault;
 use crate::input::FIRST_XID;
 use crate::net::{HEADER, LONGEST_DATAGRAM, marked};
 use crate::networks::networks_of;
-use crate::waits::{WAITS, left_of};
+use crate::waits::{WAITS, wait_left};
 use crate::words::Words;
 use rb_show::{Form, HeldBytes, InfoFault, Question, Shown, show_reply, write_call};
 use std::alloc::Global;
@@ -39,7 +39,7 @@ fn next_answer<C: Clock>(
     for _ in 0..u64::MAX {
         let passed = Instant::now(clock)?.duration_since(begun).as_millis();
         let passed = u64::try_from(passed).unwrap_or(u64::MAX);
-        let Some(wait) = left_of(WAITS.broadcast, WAITS.broadcast, passed) else {
+        let Some(wait) = wait_left(WAITS.broadcast, WAITS.broadcast, passed) else {
             break;
         };
         socket.set_read_timeout(Some(Duration::from_millis(wait)))?;

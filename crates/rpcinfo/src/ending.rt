@@ -1,7 +1,7 @@
 //! How the command ends.
 ghost use Rattle.std.specs.Prelude.{◌≡◌, None, true, false, IsOk};
 ghost use Rattle.rb_words.specs.Refusals.{Prints};
-ghost use Rattle.rpcinfo.specs.Ending.{info_text, fault_line, auth_text, server_line, versions_line, auth_line, status_line, status_in, detail_line, fault_lines, removed_line, answered_line, old_line, notice_lines, shown_status, status_of, said_of, EndsBy, IsNothing, Says, SaysWhere};
+ghost use Rattle.rpcinfo.specs.Ending.{info_text, fault_line, auth_text, server_line, versions_line, auth_line, status_line, status_in, detail_line, fault_lines, no_row_line, answered_line, old_line, notice_lines, shown_status, status_of, answer_lines, EndsBy, IsNothing, Says, SaysWhere};
 
 use crate::fault::Fault;
 use rb_rpc::{AuthStat, ReplyStatus};
@@ -195,7 +195,7 @@ fn shown_status(shown: Shown) -> u8
 /// Says why UNSET may have removed nothing.
 #[tactic(auto, using(crate::proofs::Written::nothing))]
 fn write_removed<E: Write>(shown: Shown, faults: &mut E) -> io::Result<()>
-    ensures said { Prints E.contents faults.old faults.new (removed_line shown) result }
+    ensures said { Prints E.contents faults.old faults.new (no_row_line shown) result }
     ensures quiet { shown_status shown ≡ 0 → faults.new ≡ faults.old }
 {
     match shown {
@@ -217,7 +217,7 @@ fn write_removed<E: Write>(shown: Shown, faults: &mut E) -> io::Result<()>
 /// Ends by what was shown.
 fn end_shown<E: Write>(shown: Shown, faults: &mut E) -> Ending
     ensures status { result.status ≡ shown_status shown }
-    ensures said { Says E.contents faults.old faults.new result (removed_line shown) }
+    ensures said { Says E.contents faults.old faults.new result (no_row_line shown) }
     ensures quiet { result.status ≡ 0 → faults.new ≡ faults.old }
 {
     let is_told = write_removed(shown, faults).is_ok();
@@ -230,7 +230,7 @@ fn end_shown<E: Write>(shown: Shown, faults: &mut E) -> Ending
 /// Ends by an answer alone.
 fn end_answer<E: Write>(answer: Result<Shown, Fault>, faults: &mut E) -> Ending
     ensures status { result.status ≡ status_of answer }
-    ensures said { Says E.contents faults.old faults.new result (said_of answer) }
+    ensures said { Says E.contents faults.old faults.new result (answer_lines answer) }
     ensures quiet { result.status ≡ 0 → faults.new ≡ faults.old }
 {
     match answer {

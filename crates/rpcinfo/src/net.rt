@@ -1,7 +1,7 @@
 //! Calls over TCP, UDP and sockets of this machine.
 use crate::fault::Fault;
 use crate::patient::{Patient, Stream};
-use crate::waits::{WAITS, left_of};
+use crate::waits::{WAITS, wait_left};
 use rb_show::{Ask, Form, HeldBytes, InfoFault, ReadBytes, Shown, show_reply, write_call};
 use std::alloc::{AllocError, Global};
 use std::io;
@@ -98,7 +98,7 @@ fn receive<C: Clock>(clock: &C, socket: &UdpSocket, datagram: &mut [u8]) -> io::
     for _ in 0..u64::MAX {
         let passed = Instant::now(clock)?.duration_since(begun).as_millis();
         let passed = u64::try_from(passed).unwrap_or(u64::MAX);
-        let Some(wait) = left_of(WAITS.datagram, WAITS.datagram, passed) else {
+        let Some(wait) = wait_left(WAITS.datagram, WAITS.datagram, passed) else {
             break;
         };
         socket.set_read_timeout(Some(Duration::from_millis(wait)))?;

@@ -1,5 +1,5 @@
 //! A connection that waits no longer than it may.
-use crate::waits::{Waits, left_of};
+use crate::waits::{Waits, wait_left};
 use std::io;
 use std::io::{ErrorKind, Read, Write};
 use std::net::OpenStream;
@@ -55,7 +55,7 @@ impl<'a, C: Clock, S: Read + Write + OpenStream + Drop> Patient<'a, C, S> {
             .duration_since(self.begun)
             .as_millis();
         let passed = u64::try_from(passed).unwrap_or(u64::MAX);
-        match left_of(self.waits.silence, self.waits.whole, passed) {
+        match wait_left(self.waits.silence, self.waits.whole, passed) {
             Some(wait) => self.stream.set_waits(Duration::from_millis(wait)),
             None => Err(io::Error::from(ErrorKind::TimedOut)),
         }

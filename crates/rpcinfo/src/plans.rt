@@ -1,6 +1,6 @@
 //! Plans as questions and courses.
 ghost use Rattle.std.specs.Prelude.{◌≡◌};
-ghost use Rattle.rpcinfo.specs.Plans.{question_of, plan_question, way_of, aim_of, answer_of, ended};
+ghost use Rattle.rpcinfo.specs.Plans.{question_of, plan_question, way_of, aim_of, answer_of, course_end};
 
 use crate::fault::Fault;
 use rb_course::{Aim, Answer, End, Place, Stage, Way, transport_of};
@@ -75,8 +75,8 @@ pub fn answer_of(reply: Result<Shown, Fault>) -> Result<Answer, Fault>
 }
 
 /// The end of a program's course. Where it isn't over there are more versions than are called.
-pub fn ended(prog: u32, xid: u32, stage: Stage) -> Result<Shown, Fault>
-    ensures { result ≡ ended prog xid stage }
+pub fn course_end(prog: u32, xid: u32, stage: Stage) -> Result<Shown, Fault>
+    ensures { result ≡ course_end prog xid stage }
 {
     match stage {
         Stage::End(End::Ready) => Ok(Shown::Null),

@@ -1,6 +1,6 @@
 //! How long is waited.
 ghost use Rattle.std.specs.Prelude.{◌≡◌};
-ghost use Rattle.rpcinfo.specs.Waits.{left_of};
+ghost use Rattle.rpcinfo.specs.Waits.{wait_left};
 
 /// How long is waited, in milliseconds.
 #[derive(Clone, Copy, Debug, PartialEq, Eq)]
@@ -27,8 +27,8 @@ pub const WAITS: Waits = Waits {
 };
 
 /// How long may be waited now, at most `most`, where so much of `whole` has passed. Once it is over, nothing may.
-pub fn left_of(most: u64, whole: u64, passed: u64) -> Option<u64>
-    ensures { result ≡ left_of most whole passed }
+pub fn wait_left(most: u64, whole: u64, passed: u64) -> Option<u64>
+    ensures { result ≡ wait_left most whole passed }
 {
     if passed < whole {
         Some(most.min(whole - passed))

@@ -1,11 +1,11 @@
 -- The bytes are those that were read, and without the last they were no value yet.
-use Rattle.rb_ask.specs.Reading.{Holds}
+use Rattle.rb_ask.specs.Reading.{HasReadData}
 use Rattle.rb_ask.proofs.Items.{IsShort}
 use Rattle.rb_ask.proofs.item.take_item.Given as goal
 
 abbrev pub invariant-bytes : goal.invariant-bytes
 invariant-bytes g l = record {
-  holds : Holds (g.B.ByteSource.left l.initial.source) (g.B.ByteSource.left l.source) l.initial.at l.at l.bytes.items;
+  holds : HasReadData (g.B.ByteSource.left l.initial.source) (g.B.ByteSource.left l.source) l.initial.at l.at l.bytes.items;
   short : IsShort g.T.Xdr.reads l.bytes.items;
 }
 

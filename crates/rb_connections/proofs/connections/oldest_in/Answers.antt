@@ -9,7 +9,7 @@ slots-preserved c =
     let paid = rw c.in-Some.ensures.next at c.slots.invariant.steps in
     let looked : c.entry_after.new.meter.steps ≡ c.slots.meter.steps + 2 = ap (λ (m : Meter). m.steps) c.in-Some.ensures.cost in
     record {
-      oldest = rw (c.earlier-oldest.ensures, c.began.ensures) (rw c.in-Some.ensures.next at c.slots.invariant.oldest);
+      oldest = rw (c.earlier-oldest.ensures, c.stamp.ensures) (rw c.in-Some.ensures.next at c.slots.invariant.oldest);
       tie = ap (λ (m : Meter). m.tie) c.in-Some.ensures.cost ∙ c.slots.invariant.tie;
       rises = omega (arith, looked, c.slots.invariant.rises);
       steps = omega (arith, looked, paid);

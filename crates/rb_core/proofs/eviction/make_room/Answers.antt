@@ -2,7 +2,7 @@ use Rattle.std.proofs.Common.{◌≡◌, ◌≤◌, ◌<◌, ◌+◌, true, fals
 use Rattle.rb_registry.specs.Registry.{rows_of, removals_of}
 use Rattle.rb_proto.specs.Ledger.{rows_in}
 use Rattle.rb_proto.specs.Books.{wants_room_in}
-use Rattle.rb_model.specs.Losses.{asks_room, retained_removals, evicting}
+use Rattle.rb_model.specs.Losses.{asks_room, retained_removals, evict}
 use Rattle.rb_laws.proofs.Crowding.{none_evicted, not_asked, not_crowded, crowded, no_call_asks, row_within}
 use Rattle.rb_connections.specs.Listings.{CanListOn, stamps_of, IsEarliest}
 use Rattle.rb_connections.proofs.ListsGoOn.{lists_on, stands_on, trimmed_low}
@@ -91,7 +91,7 @@ returns-clause-makes c = λ x l z h.
     let first = stands_on host c.args.books.now.registry one.registry c.trim.ensures.cursors table x low c.requires.lists z in
     let evicts = c.evict.ensures.evicts (removals_of one.registry) (the_earliest c) (source_in host one) x first in (
       rw (crowded c.args.context.now c.args.message.now x.all l asks full, ← kept)
-          (stands_on host one.registry c.trim-2.new.self.registry c.trim-2.ensures.cursors c.evict.new.self (evicting (removals_of one.registry) x) (still_low c) (evicted_lists c) evicts),
+          (stands_on host one.registry c.trim-2.new.self.registry c.trim-2.ensures.cursors c.evict.new.self (evict (removals_of one.registry) x) (still_low c) (evicted_lists c) evicts),
       c.trim-2.ensures.stands l after,
     )
 

@@ -1,13 +1,13 @@
 use Rattle.std.proofs.Common.{◌≡◌, Bool, ◌+◌, ◌*◌, ◌≤◌, length}
 use Rattle.rb_xdr.specs.Places.{to_come}
 use Rattle.rb_registry.specs.Removals.{change_of}
-use Rattle.rb_registry.specs.Table.{goes, marked, count_going}
+use Rattle.rb_registry.specs.Table.{goes, with_mark, count_going}
 use Rattle.rb_registry.proofs.Marking.{Marking}
 use Rattle.rb_registry.proofs.walk.mark_covered.Given as goal
 
 abbrev pub invariant-rows : goal.invariant-rows
 invariant-rows l = record {
-  marking : (some : Bool) × Marking (goes l.stamp (change_of l.fn.removal)) (marked l.stamp (change_of l.fn.removal)) l.fn.slots.entries l.slots.entries l.place some;
+  marking : (some : Bool) × Marking (goes l.stamp (change_of l.fn.removal)) (with_mark l.stamp (change_of l.fn.removal)) l.fn.slots.entries l.slots.entries l.place some;
   counted : l.removed + count_going l.stamp (change_of l.fn.removal) (to_come l.slots.entries l.place) ≡ count_going l.stamp (change_of l.fn.removal) l.fn.slots.entries;
   cap : l.slots.cap ≡ l.fn.slots.cap;
   memory : l.slots.memory ≡ l.fn.slots.memory;

@@ -1,8 +1,8 @@
 -- The programs of the rows so far are there.
 use Rattle.std.proofs.Common.{◌≡◌, [], take}
 use Rattle.std.specs.List.{fold}
-use Rattle.rb_show.specs.Summary.{add_program, shown}
+use Rattle.rb_show.specs.Summary.{add_program, shown_rows}
 use Rattle.rb_show.proofs.summary.programs_of.Given as goal
 
 abbrev pub invariant-loop-row : goal.invariant-loop-row
-invariant-loop-row l = l.programs.items ≡ fold add_program [] (shown (take l.row-index l.rows))
+invariant-loop-row l = l.programs.items ≡ fold add_program [] (shown_rows (take l.row-index l.rows))

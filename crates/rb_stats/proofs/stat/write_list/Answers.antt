@@ -1,5 +1,5 @@
 use Rattle.std.proofs.Common.{length, get_or, None, true, false, ap, arith, length-append}
-use Rattle.rb_xdr.specs.Xdr.{boolean, listed}
+use Rattle.rb_xdr.specs.Xdr.{boolean, linked_list}
 use Rattle.rb_xdr.specs.Kept.{Kept}
 use Rattle.rb_registry.specs.declared.row.Transport.TheVariants.{Tcp}
 use Rattle.rb_stats.specs.declared.key.Version.TheVariants.{Two}
@@ -12,13 +12,13 @@ abbrev blank : Item
 blank = record { key = record { version = Two; target = record { prog = 0; vers = 0; transport = Tcp }; proc = None }; success = 0; failure = 0; indirect = 0 }
 
 pub write-requires-clause-room : goal.write-requires-clause-room
-unfolding listed
+unfolding linked_list
 write-requires-clause-room c =
     let fits = item_fits (behind_true item_spelling) c.args.items.now c.loop-item.item-index c.args.out.now c.loop-item.out c.args.meter.now c.loop-item.meter c.loop-item.invariant blank c.loop-item-test.true (boolean false) c.requires.room in
     omega (arith, fits, length-append (boolean true) (item_spelling (get_or c.args.items.now c.loop-item.item-index blank)))
 
 pub write-requires-in-loop-item-clause-room : goal.write-requires-in-loop-item-clause-room
-unfolding listed
+unfolding linked_list
 write-requires-in-loop-item-clause-room c =
     let fits = item_fits (behind_true item_spelling) c.args.items.now c.loop-item.item-index c.args.out.now c.loop-item.out c.args.meter.now c.loop-item.meter c.loop-item.invariant blank c.loop-item-test.true (boolean false) c.requires.room in
     let bytes = ap (λ (k : Kept). length k.bytes) c.write.ensures.written in

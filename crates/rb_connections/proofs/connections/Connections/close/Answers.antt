@@ -17,7 +17,7 @@ use Rattle.rb_connections.proofs.ByHint.{distinct_numbers}
 use Rattle.rb_connections.proofs.connections.Connections.close.Goals as goal
 
 pub wanted_key-requires-clause-numbers : goal.wanted_key-requires-clause-numbers
-wanted_key-requires-clause-numbers c = distinct_numbers c.self.inside.given (values_of c.self.inside.slots.entries) c.self.invariant.numbers
+wanted_key-requires-clause-numbers c = distinct_numbers c.self.inside.last_number (values_of c.self.inside.slots.entries) c.self.invariant.numbers
 
 pub returns-in_default-clause-acts : goal.returns-in_default-clause-acts
 returns-in_default-clause-acts c =
@@ -29,11 +29,11 @@ unreachable-requires c = slot_is_there _ c.self.inside.slots.entries [] c.in-Som
 
 pub charge-requires : goal.charge-requires
 charge-requires c =
-    its_buffers c.self.inside.slots c.self.inside.spare c.self.inside.given c.self.inside.conns c.self.inside.held c.self.invariant c.in-Some.key c.in-Some-remove.slot (sym c.in-Some-remove.ensures.value) c.remove.new.meter
+    its_buffers c.self.inside.slots c.self.inside.spare c.self.inside.last_number c.self.inside.conns c.self.inside.held c.self.invariant c.in-Some.key c.in-Some-remove.slot (sym c.in-Some-remove.ensures.value) c.remove.new.meter
     (ap (λ (m : Meter). m.tie) c.remove.ensures.cost ∙ c.wanted_key.ensures.cost.tie ∙ c.requires ∙ sym (ap (λ t. t.tie) c.self.view_is))
 
 pub overflow_sub-self : goal.overflow_sub-self
-overflow_sub-self c = rw c.charge.ensures.charge (charge_fits c.self.inside.slots c.self.inside.spare c.self.inside.given c.self.inside.conns c.self.inside.held c.self.invariant c.in-Some.key c.in-Some-remove.slot (sym c.in-Some-remove.ensures.value))
+overflow_sub-self c = rw c.charge.ensures.charge (charge_fits c.self.inside.slots c.self.inside.spare c.self.inside.last_number c.self.inside.conns c.self.inside.held c.self.invariant c.in-Some.key c.in-Some-remove.slot (sym c.in-Some-remove.ensures.value))
 
 pub put_buffers-requires-clause-made : goal.put_buffers-requires-clause-made
 put_buffers-requires-clause-made c =
@@ -53,11 +53,11 @@ invariant_of-self c =
       tie = c.put_buffers.ensures.tie ∙ c.self.invariant.tie;
       buffers = All-without (HasBuffers c.self.inside.slots.tie) es c.in-Some.key c.self.invariant.buffers;
       spare_buffers = subst (λ t. All (AreSpare t) (values_of c.put_buffers.new.spare.entries)) c.self.invariant.tie c.put_buffers.ensures.buffers;
-      numbers = numbered-without c.self.inside.given es c.in-Some.key c.self.invariant.numbers;
+      numbers = numbered-without c.self.inside.last_number es c.in-Some.key c.self.invariant.numbers;
       few = c.self.invariant.few;
       within = All-without IsWithin es c.in-Some.key c.self.invariant.within;
       is_held =
-          let sum = held_without c.self.inside.slots c.self.inside.spare c.self.inside.given c.self.inside.conns c.self.inside.held c.self.invariant c.in-Some.key c.in-Some-remove.slot (sym c.in-Some-remove.ensures.value) in
+          let sum = held_without c.self.inside.slots c.self.inside.spare c.self.inside.last_number c.self.inside.conns c.self.inside.held c.self.invariant c.in-Some.key c.in-Some-remove.slot (sym c.in-Some-remove.ensures.value) in
           rw c.charge.ensures.charge (omega (arith, sum));
     })
 

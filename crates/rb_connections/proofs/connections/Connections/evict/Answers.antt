@@ -13,8 +13,8 @@ use Rattle.rb_connections.proofs.connections.Connections.evict.Goals as goal
 
 pub invariant_of-self : goal.invariant_of-self
 invariant_of-self c =
-    subst (λ (slots : Pool Slot). IsTable slots c.self.inside.spare c.self.inside.given c.self.inside.conns c.self.inside.held) (sym c.evict_slots.ensures.evicted)
-    (table_evicted c.self.inside.slots c.self.inside.spare c.self.inside.given c.self.inside.conns c.self.inside.held c.args.earliest c.self.invariant)
+    subst (λ (slots : Pool Slot). IsTable slots c.self.inside.spare c.self.inside.last_number c.self.inside.conns c.self.inside.held) (sym c.evict_slots.ensures.evicted)
+    (table_evicted c.self.inside.slots c.self.inside.spare c.self.inside.last_number c.self.inside.conns c.self.inside.held c.args.earliest c.self.invariant)
 
 pub returns-clause-evicts : goal.returns-clause-evicts
 returns-clause-evicts c = λ changes e source x z.

@@ -1,7 +1,7 @@
 use Rattle.std.specs.Map.{values_of}
 use Rattle.std.proofs.Common.{◌≡◌, false, ap, sym, subst, ◌∙◌, arith}
 use Rattle.rb_xdr.proofs.PoolLemmas.{All-value_at}
-use Rattle.rb_model.specs.Connections.{on_live, giving}
+use Rattle.rb_model.specs.Connections.{on_live, give}
 use Rattle.rb_connections.specs.contracts.connections.Connections.{the_view}
 use Rattle.rb_connections.specs.Slots.{HasBuffers}
 use Rattle.rb_connections.specs.StandsFor.{source_for}
@@ -16,7 +16,7 @@ use Rattle.rb_connections.proofs.LiveSlots.{within_by, live_fits, live_table}
 use Rattle.rb_connections.proofs.connections.Connections.give.Goals as goal
 
 pub live_slot-requires-clause-numbers : goal.live_slot-requires-clause-numbers
-live_slot-requires-clause-numbers c = distinct_numbers c.self.inside.given (values_of c.self.inside.slots.entries) c.self.invariant.numbers
+live_slot-requires-clause-numbers c = distinct_numbers c.self.inside.last_number (values_of c.self.inside.slots.entries) c.self.invariant.numbers
 
 pub overflow_add-self : goal.overflow_add-self
 overflow_add-self c =
@@ -32,8 +32,8 @@ invariant_of-self-2 c =
 pub returns-in_default-clause-acts : goal.returns-in_default-clause-acts
 returns-in_default-clause-acts c =
     let source = source_for c.args.host c.args.registry.now in
-    acts_from source (on_live c.args.id (giving c.args.clock c.args.n)) (the_view c.self.inside) c.args.self.now _ _ c.self.view_is
-    (gone_acts source c.args.id (giving c.args.clock c.args.n) (the_view c.self.inside) c.in_default.ensures.found)
+    acts_from source (on_live c.args.id (give c.args.clock c.args.n)) (the_view c.self.inside) c.args.self.now _ _ c.self.view_is
+    (gone_acts source c.args.id (give c.args.clock c.args.n) (the_view c.self.inside) c.in_default.ensures.found)
 
 pub returns-clause-stays : goal.returns-clause-stays
 returns-clause-stays c = stays_changed (the_view c.self.inside) c.args.self.now _ c.give.new.self c.self.view_is (within_by c.give.new.self _ c.charge.ensures.charge c.charge.ensures.within)
@@ -41,8 +41,8 @@ returns-clause-stays c = stays_changed (the_view c.self.inside) c.args.self.now 
 pub returns-clause-acts : goal.returns-clause-acts
 returns-clause-acts c =
     let source = source_for c.args.host c.args.registry.now in
-    acts_from source (on_live c.args.id (giving c.args.clock c.args.n)) (the_view c.self.inside) c.args.self.now _ _ c.self.view_is
-    (live_acts source c.args.id (giving c.args.clock c.args.n) (the_view c.self.inside) _ c.in-Some.slot.now c.give.new.self _ c.self.invariant.distinct c.in-Some.ensures.found.key c.in-Some.ensures.found.there c.give.ensures.acts)
+    acts_from source (on_live c.args.id (give c.args.clock c.args.n)) (the_view c.self.inside) c.args.self.now _ _ c.self.view_is
+    (live_acts source c.args.id (give c.args.clock c.args.n) (the_view c.self.inside) _ c.in-Some.slot.now c.give.new.self _ c.self.invariant.distinct c.in-Some.ensures.found.key c.in-Some.ensures.found.there c.give.ensures.acts)
 
 pub returns-in_default-clause-free : goal.returns-in_default-clause-free
 returns-in_default-clause-free c = λ id none. subst (λ t. is_free id t ≡ false) (sym c.self.view_is) none

@@ -25,7 +25,7 @@ returns-then-self-clause-acts c =
     (spent_acts source c.self.inside.conns c.args.peer c.args.clock (the_view c.self.inside) (omega (arith, c.len.ensures.len, c.if-len-self.false)) c.if-self.true)
 
 pub overflow_add-self-2 : goal.overflow_add-self-2
-overflow_add-self-2 c = let room = room_for_one c.self.inside.slots c.self.inside.spare c.self.inside.given c.self.inside.conns c.self.inside.held c.self.invariant in omega (arith, room)
+overflow_add-self-2 c = let room = room_for_one c.self.inside.slots c.self.inside.spare c.self.inside.last_number c.self.inside.conns c.self.inside.held c.self.invariant in omega (arith, room)
 
 pub invariant_of-self : goal.invariant_of-self
 invariant_of-self c = record {
@@ -42,7 +42,7 @@ invariant_of-self c = record {
   spare_buffers =
       subst (λ t. All (AreSpare t) (values_of c.take_buffers-buffer.new.spare.entries)) (c.self.invariant.tie ∙ sym c.put_slot-key.ensures.tie)
       c.take_buffers-buffer.ensures.buffers;
-  numbers = rw c.put_slot-key.ensures.last (numbered-more c.self.inside.given (values_of c.self.inside.slots.entries) _ c.self.invariant.numbers refl);
+  numbers = rw c.put_slot-key.ensures.last (numbered-more c.self.inside.last_number (values_of c.self.inside.slots.entries) _ c.self.invariant.numbers refl);
   few = c.self.invariant.few;
   within =
       rw c.put_slot-key.ensures.last

@@ -1,6 +1,6 @@
 use Rattle.std.specs.Map.{values_of}
 use Rattle.std.proofs.Common.{ap, sym, subst, ◌∙◌, arith, ◌≡◌, true, false, refl}
-use Rattle.rb_model.specs.Connections.{settled}
+use Rattle.rb_model.specs.Connections.{settle}
 use Rattle.rb_connections.specs.contracts.connections.Connections.{the_view}
 use Rattle.rb_connections.specs.Settling.{served_in}
 use Rattle.rb_connections.specs.StandsFor.{StandsForConnections, source_for}
@@ -15,7 +15,7 @@ use Rattle.rb_connections.proofs.LiveSlots.{within_by, live_fits, live_table}
 use Rattle.rb_connections.proofs.connections.Connections.settle.Goals as goal
 
 pub live_slot-requires-clause-numbers : goal.live_slot-requires-clause-numbers
-live_slot-requires-clause-numbers c = distinct_numbers c.self.inside.given (values_of c.self.inside.slots.entries) c.self.invariant.numbers
+live_slot-requires-clause-numbers c = distinct_numbers c.self.inside.last_number (values_of c.self.inside.slots.entries) c.self.invariant.numbers
 
 pub overflow_add-self : goal.overflow_add-self
 overflow_add-self c =
@@ -32,7 +32,7 @@ pub returns-in_default-clause-stands : goal.returns-in_default-clause-stands
 returns-in_default-clause-stands c = λ o h.
     let source = source_for c.args.host c.args.registry.now in
     let z = subst (λ t. StandsForConnections source t o) (sym c.self.view_is) h in
-    gone_stays source c.args.id (settled c.args.clock (served_in source c.args.served c.args.draft.now.bytes)) (the_view c.self.inside) c.in_default.ensures.found o z
+    gone_stays source c.args.id (settle c.args.clock (served_in source c.args.served c.args.draft.now.bytes)) (the_view c.self.inside) c.in_default.ensures.found o z
 
 pub returns-clause-stays : goal.returns-clause-stays
 returns-clause-stays c = stays_changed (the_view c.self.inside) c.args.self.now _ c.settle.new.self c.self.view_is (within_by c.settle.new.self _ c.charge.ensures.charge c.charge.ensures.within)
@@ -41,7 +41,7 @@ pub returns-clause-stands : goal.returns-clause-stands
 returns-clause-stands c = λ o h.
     let source = source_for c.args.host c.args.registry.now in
     let z = subst (λ t. StandsForConnections source t o) (sym c.self.view_is) h in
-    live_changed source c.args.id (settled c.args.clock (served_in source c.args.served c.args.draft.now.bytes)) (the_view c.self.inside) _ c.in-Some.slot.now c.settle.new.self c.self.invariant.distinct c.in-Some.ensures.found.key c.in-Some.ensures.found.there c.settle.ensures.stands o z
+    live_changed source c.args.id (settle c.args.clock (served_in source c.args.served c.args.draft.now.bytes)) (the_view c.self.inside) _ c.in-Some.slot.now c.settle.new.self c.self.invariant.distinct c.in-Some.ensures.found.key c.in-Some.ensures.found.there c.settle.ensures.stands o z
 
 pub returns-in_default-clause-others : goal.returns-in_default-clause-others
 returns-in_default-clause-others c = λ id apart none. subst (λ t. is_free id t ≡ false) (sym c.self.view_is) none

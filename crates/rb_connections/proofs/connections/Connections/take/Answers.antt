@@ -3,18 +3,18 @@ use Rattle.std.proofs.Common.{length, Ok, ap, sym, subst, ◌∙◌, arith}
 use Rattle.rb_xdr.proofs.PoolLemmas.{length-with}
 use Rattle.rb_model.specs.Connections.{on_live}
 use Rattle.rb_connections.specs.contracts.connections.Connections.{the_view}
-use Rattle.rb_connections.specs.Slots.{Shows, HasBuffers, feeding, arguments_on}
+use Rattle.rb_connections.specs.Slots.{Shows, HasBuffers, take_piece, arguments_on}
 use Rattle.rb_connections.specs.StandsFor.{StandsForConnections}
 use Rattle.rb_connections.specs.Awaits.{GoOn}
 use Rattle.rb_connections.proofs.GoingOn.{goes_on_same, goes_on_changed}
 use Rattle.rb_connections.proofs.Slots.{acts_from, gone_acts, live_acts, gone_arguments, live_arguments}
-use Rattle.rb_connections.proofs.Freed.{found_live, hears_from, heard_from}
+use Rattle.rb_connections.proofs.Freed.{found_live, ends_from, ended_from}
 use Rattle.rb_connections.proofs.ByHint.{distinct_numbers}
 use Rattle.rb_connections.proofs.LiveSlots.{within_by, live_fits, live_table}
 use Rattle.rb_connections.proofs.connections.Connections.take.Goals as goal
 
 pub live_slot-requires-clause-numbers : goal.live_slot-requires-clause-numbers
-live_slot-requires-clause-numbers c = distinct_numbers c.self.inside.given (values_of c.self.inside.slots.entries) c.self.invariant.numbers
+live_slot-requires-clause-numbers c = distinct_numbers c.self.inside.last_number (values_of c.self.inside.slots.entries) c.self.invariant.numbers
 
 pub overflow_add-self : goal.overflow_add-self
 overflow_add-self c =
@@ -29,13 +29,13 @@ invariant_of-self-2 c =
 
 pub returns-in_default-clause-acts : goal.returns-in_default-clause-acts
 returns-in_default-clause-acts c =
-    λ source. acts_from source (on_live c.args.id (feeding c.args.clock c.args.piece.now)) (the_view c.self.inside) c.args.self.now _ _ c.self.view_is
-    (gone_acts source c.args.id (feeding c.args.clock c.args.piece.now) (the_view c.self.inside) c.in_default.ensures.found)
+    λ source. acts_from source (on_live c.args.id (take_piece c.args.clock c.args.piece.now)) (the_view c.self.inside) c.args.self.now _ _ c.self.view_is
+    (gone_acts source c.args.id (take_piece c.args.clock c.args.piece.now) (the_view c.self.inside) c.in_default.ensures.found)
 
 pub returns-clause-acts : goal.returns-clause-acts
 returns-clause-acts c =
-    λ source. acts_from source (on_live c.args.id (feeding c.args.clock c.args.piece.now)) (the_view c.self.inside) c.args.self.now _ _ c.self.view_is
-    (live_acts source c.args.id (feeding c.args.clock c.args.piece.now) (the_view c.self.inside) _ c.in-Some.slot.now c.take-received.new.self _ c.self.invariant.distinct c.in-Some.ensures.found.key c.in-Some.ensures.found.there (c.take-received.ensures.acts source))
+    λ source. acts_from source (on_live c.args.id (take_piece c.args.clock c.args.piece.now)) (the_view c.self.inside) c.args.self.now _ _ c.self.view_is
+    (live_acts source c.args.id (take_piece c.args.clock c.args.piece.now) (the_view c.self.inside) _ c.in-Some.slot.now c.take-received.new.self _ c.self.invariant.distinct c.in-Some.ensures.found.key c.in-Some.ensures.found.there (c.take-received.ensures.acts source))
 
 pub returns-clause-as_many : goal.returns-clause-as_many
 returns-clause-as_many c = length-with c.self.inside.slots.entries _ c.take-received.new.self ∙ ap (λ t. length t.slots) c.self.view_is
@@ -50,11 +50,11 @@ returns-clause-arguments c =
     λ source. subst (λ t. Shows (StandsForConnections source) (arguments_on c.args.id c.args.arguments.now.bytes c.args.piece.now) t c.take-received.new.arguments.bytes) c.self.view_is
     (live_arguments source c.args.id c.args.arguments.now.bytes c.args.piece.now (the_view c.self.inside) _ c.in-Some.slot.now c.take-received.new.arguments.bytes c.self.invariant.distinct c.in-Some.ensures.found.key c.in-Some.ensures.found.there (c.take-received.ensures.arguments source))
 
-pub returns-clause-hears : goal.returns-clause-hears
-returns-clause-hears c =
+pub returns-clause-ends : goal.returns-clause-ends
+returns-clause-ends c =
     let l = found_live c.args.id _ c.self.inside.slots.entries c.in-Some.slot.now c.self.invariant.distinct c.in-Some.ensures.found.key c.in-Some.ensures.found.there in
-    hears_from c.args.id c.args.clock (the_view c.self.inside) c.args.self.now _ (Ok c.take-received.result) c.self.view_is
-    (heard_from (the_view c.self.inside) c.args.id c.args.clock _ c.in-Some.slot.now c.take-received.new.self c.take-received.result c.self.invariant.numbers c.in-Some.ensures.found.there l.0 c.take-received.ensures.stays.number c.take-received.ensures.heard)
+    ends_from c.args.id c.args.clock (the_view c.self.inside) c.args.self.now _ (Ok c.take-received.result) c.self.view_is
+    (ended_from (the_view c.self.inside) c.args.id c.args.clock _ c.in-Some.slot.now c.take-received.new.self c.take-received.result c.self.invariant.numbers c.in-Some.ensures.found.there l.0 c.take-received.ensures.stays.number c.take-received.ensures.ended)
 
 pub returns-in_default-clause-goes_on : goal.returns-in_default-clause-goes_on
 returns-in_default-clause-goes_on c = subst (λ t. GoOn t (the_view c.self.inside)) c.self.view_is (goes_on_same (the_view c.self.inside))

@@ -1,8 +1,8 @@
 use Rattle.std.proofs.Common.{◌++◌, refl, subst}
 use Rattle.rb_rpc.specs.Records.{first_record}
-use Rattle.rb_model.specs.Connections.{reading}
+use Rattle.rb_model.specs.Connections.{keep_reading}
 use Rattle.rb_connections.specs.Reading.{StandsBehind}
-use Rattle.rb_connections.proofs.OneSlot.{heard_then, not_ended, has_ended, counts_to}
+use Rattle.rb_connections.proofs.OneSlot.{ended_then, not_ended, has_ended, counts_to}
 use Rattle.rb_connections.proofs.slot.Slot.feed.Goals as goal
 
 pub returns-clause-received : goal.returns-clause-received
@@ -11,7 +11,7 @@ returns-clause-received c = λ x fed b.
     let taken = c.feed-count.ensures.taken fed b.reads in
     let end = has_ended fed piece (first_record (fed ++ piece)) c.feed-count.result c.in-Some.verdict taken c.in-Some.is in
     let count = counts_to fed piece end.at (first_record (fed ++ piece)) c.feed-count.result taken end.is in
-    heard_then fed piece x _ end.at _ _ end.is count b.peer end.says
+    ended_then fed piece x _ end.at _ _ end.is count b.peer end.says
 
 pub returns-clause-stands : goal.returns-clause-stands
 returns-clause-stands c = λ source x fed b.
@@ -27,7 +27,7 @@ returns-clause-arguments c = λ x fed b.
     rw (end.is, c.swap.ensures.y_after) kept
 
 pub returns-in_default-clause-stands : goal.returns-in_default-clause-stands
-unfolding reading
+unfolding keep_reading
 returns-in_default-clause-stands c = λ source x fed b.
     let piece = c.args.piece.now in
     let none = not_ended fed piece (first_record (fed ++ piece)) c.feed-count.result (c.feed-count.ensures.taken fed b.reads) c.in_default.is in

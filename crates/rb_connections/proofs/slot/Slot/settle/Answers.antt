@@ -1,26 +1,26 @@
 use Rattle.std.proofs.Common.{ℕ, Some, None, refl, ap}
 use Rattle.rb_xdr.specs.Kept.{Kept}
-use Rattle.rb_model.specs.Connections.{settled}
+use Rattle.rb_model.specs.Connections.{settle}
 use Rattle.rb_connections.proofs.Progress.{slot_lists_on, slot_begins}
 use Rattle.rb_connections.proofs.ReplyHeads.{fresh_is_some}
 use Rattle.rb_connections.proofs.slot.Slot.settle.Goals as goal
 
 pub returns-in-Answered-NoCall-clause-stands : goal.returns-in-Answered-NoCall-clause-stands
-unfolding settled
+unfolding settle
 returns-in-Answered-NoCall-clause-stands c = λ x h. rw (c.in-Answered-NoCall.is, rw c.in-Answered-NoCall.is at c.in-Answered-NoCall.field-0-is) (record { number = h.number; peer = h.peer; since = refl; phase = tt })
 
 pub returns-in-Answered-Forwarded-clause-stands : goal.returns-in-Answered-Forwarded-clause-stands
-unfolding settled
+unfolding settle
 returns-in-Answered-Forwarded-clause-stands c = λ x h.
     rw (c.in-Answered-Forwarded.is, rw c.in-Answered-Forwarded.is at c.in-Answered-Forwarded.field-0-is, c.empty.ensures.emptied) (record { number = h.number; peer = h.peer; since = refl; phase = (refl, refl) })
 
 pub returns-in-Answered-Silent-clause-stands : goal.returns-in-Answered-Silent-clause-stands
-unfolding settled
+unfolding settle
 returns-in-Answered-Silent-clause-stands c = λ x h.
     rw (c.in-Answered-Silent.is, rw c.in-Answered-Silent.is at c.in-Answered-Silent.field-0-is, c.empty-in-Answered-Silent.ensures.emptied) (record { number = h.number; peer = h.peer; since = refl; phase = (refl, refl) })
 
 pub returns-in-Answered-Reply-clause-stands : goal.returns-in-Answered-Reply-clause-stands
-unfolding settled
+unfolding settle
 returns-in-Answered-Reply-clause-stands c = λ x h.
     rw (c.in-Answered-Reply.is, rw c.in-Answered-Reply.is at c.in-Answered-Reply.field-0-is)
     (slot_begins _ _ _ c.show.new.self c.show.ensures.shows c.args.clock x c.args.draft.now.bytes None h.number h.peer refl c.requires.buffers.window_cap
@@ -34,7 +34,7 @@ show-requires-in-Listed-clause-some c =
     fresh_is_some c.args.host c.args.registry.now c.in-Listed.xid c.in-Listed.listing c.new-list.result c.new-list.ensures.rest
 
 pub returns-in-Listed-clause-stands : goal.returns-in-Listed-clause-stands
-unfolding settled
+unfolding settle
 returns-in-Listed-clause-stands c = λ x h.
     rw c.in-Listed.is
     (slot_begins _ _ _ c.show-in-Listed.new.self c.show-in-Listed.ensures.shows c.args.clock x _ _ h.number h.peer refl c.requires.buffers.window_cap

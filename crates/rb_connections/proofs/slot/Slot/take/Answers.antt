@@ -2,7 +2,7 @@ use Rattle.std.proofs.Common.{◌≡◌, ◌⊎◌, [], ◌∷◌, true, false, 
 use Rattle.std.proofs.lemmas.Bool.Decides.{nat_tests}
 use Rattle.rb_xdr.specs.Kept.{Kept}
 use Rattle.rb_model.specs.State.{Phase}
-use Rattle.rb_model.specs.Connections.{taking, taking_on, fed_in}
+use Rattle.rb_model.specs.Connections.{taking_of, taking_on, fed_in}
 use Rattle.rb_model.specs.Connections.Taking.{TakesNone}
 use Rattle.rb_connections.specs.declared.slot.Stage.{Stage}
 use Rattle.rb_connections.specs.declared.slot.Stage.TheVariants as stages
@@ -65,7 +65,7 @@ returns-in-Reading-clause-acts c =
       stands = c.feed-in-Reading.ensures.stands source x p.0 before;
     })
 
-nothing_where : (source : Source) (stage : Stage) (buffer window : Kept) (phase : Phase) (piece : List ℕ) → ((giving : Giving) × (stage ≡ stages.Giving giving)) ⊎ ((stage ≡ stages.Awaiting) ⊎ (stage ≡ stages.Lost)) → StandsForPhase source stage buffer window phase → taking phase piece ≡ TakesNone
+nothing_where : (source : Source) (stage : Stage) (buffer window : Kept) (phase : Phase) (piece : List ℕ) → ((giving : Giving) × (stage ≡ stages.Giving giving)) ⊎ ((stage ≡ stages.Awaiting) ⊎ (stage ≡ stages.Lost)) → StandsForPhase source stage buffer window phase → taking_of phase piece ≡ TakesNone
 nothing_where source stage buffer window phase piece (inl o) h = let p = giving_phase source o.0 stage buffer window phase o.1 h in nothing_where_owing phase p.0 piece p.1
 nothing_where source stage buffer window phase piece (inr (inl a)) h = nothing_where_awaiting phase piece (awaiting_phase source stage buffer window phase a h)
 nothing_where source stage buffer window phase piece (inr (inr l)) h = nothing_where_lost phase piece (lost_phase source stage buffer window phase l h)

@@ -7,7 +7,7 @@ pub invariant_of-self-clause-served : goal.invariant_of-self-clause-served
 invariant_of-self-clause-served c = datagram_served _ c.datagram.new.self _ _ c.args.self.now.moment c.args.peer _ Reply _ _ c.udp_reply-reply.follows.holds-at-none c.in-Reply.ensures.acts (rw c.udp_reply-reply.ensures.held at c.«record».ensures) c.args.self.now.served
 
 pub invariant_of-self-in-Forwarded-clause-served : goal.invariant_of-self-in-Forwarded-clause-served
-invariant_of-self-in-Forwarded-clause-served c = datagram_served _ c.datagram.new.self _ c.datagram.new.self.begun c.args.self.now.moment c.args.peer _ Forwarded _ _ refl c.in-Forwarded.ensures.acts c.record-in-Forwarded.ensures c.args.self.now.served
+invariant_of-self-in-Forwarded-clause-served c = datagram_served _ c.datagram.new.self _ c.datagram.new.self.steps_before c.args.self.now.moment c.args.peer _ Forwarded _ _ refl c.in-Forwarded.ensures.acts c.record-in-Forwarded.ensures c.args.self.now.served
 
 pub invariant_of-self-in-NoCall-clause-served : goal.invariant_of-self-in-NoCall-clause-served
 invariant_of-self-in-NoCall-clause-served c = silent_served _ c.datagram.new.self c.args.self.now.moment c.args.peer _ c.datagram.result _ _ c.in-NoCall.is c.datagram.ensures.acts c.record-in-NoCall.ensures c.args.self.now.served

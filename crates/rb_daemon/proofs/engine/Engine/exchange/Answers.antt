@@ -1,6 +1,6 @@
 use Rattle.std.proofs.Common.{take, length, arith}
 use Rattle.std.proofs.lemmas.List.{length-take}
-use Rattle.rb_core.specs.AtOnce.{count_given, taken_in}
+use Rattle.rb_model.specs.Exchanges.{count_given, taken_in}
 use Rattle.rb_daemon.proofs.Exchanges.{exchange_records, exchange_served}
 use Rattle.rb_daemon.proofs.engine.Engine.exchange.Goals as goal
 

@@ -3,13 +3,13 @@ use Rattle.rb_daemon.proofs.Reached.{expire_records, expire_served}
 use Rattle.rb_daemon.proofs.engine.Engine.expire.Goals as goal
 
 pub invariant_of-self-clause-served : goal.invariant_of-self-clause-served
-invariant_of-self-clause-served c = expire_served _ c.expire.new.self _ c.expire.new.self.begun c.args.self.now.moment _ _ _ refl c.in-Nothing.ensures.acts c.«record».ensures c.args.self.now.served
+invariant_of-self-clause-served c = expire_served _ c.expire.new.self _ c.expire.new.self.steps_before c.args.self.now.moment _ _ _ refl c.in-Nothing.ensures.acts c.«record».ensures c.args.self.now.served
 
 pub returns-in-Nothing-clause-recorded : goal.returns-in-Nothing-clause-recorded
 returns-in-Nothing-clause-recorded c = expire_records _ c.expire.new.self c.args.self.now.moment _ _ _ c.in-Nothing.ensures.acts c.«record».ensures
 
 pub invariant_of-self-in-ConnectionClosed-clause-served : goal.invariant_of-self-in-ConnectionClosed-clause-served
-invariant_of-self-in-ConnectionClosed-clause-served c = expire_served _ c.expire.new.self _ c.expire.new.self.begun c.args.self.now.moment _ _ _ refl c.in-ConnectionClosed.ensures.acts c.record-in-ConnectionClosed.ensures c.args.self.now.served
+invariant_of-self-in-ConnectionClosed-clause-served c = expire_served _ c.expire.new.self _ c.expire.new.self.steps_before c.args.self.now.moment _ _ _ refl c.in-ConnectionClosed.ensures.acts c.record-in-ConnectionClosed.ensures c.args.self.now.served
 
 pub returns-in-ConnectionClosed-clause-recorded : goal.returns-in-ConnectionClosed-clause-recorded
 returns-in-ConnectionClosed-clause-recorded c = expire_records _ c.expire.new.self c.args.self.now.moment _ _ _ c.in-ConnectionClosed.ensures.acts c.record-in-ConnectionClosed.ensures

@@ -1,6 +1,6 @@
 use Rattle.std.proofs.Common.{Ok, Err, sym, ap, ◌∙◌}
 use Rattle.rb_core.specs.StandsFor.{Held}
-use Rattle.rb_core.proofs.Begun.{began, same_tie}
+use Rattle.rb_core.proofs.Begun.{with_steps_before, same_tie}
 use Rattle.rb_daemon.proofs.Reached.{look_records, look_served, gift_records, gift_served}
 use Rattle.rb_daemon.proofs.engine.Engine.give.Goals as goal
 
@@ -24,7 +24,7 @@ invariant_of-self-in-Ok-gave-clause-served g c = gift_served c.args.self.now.cor
 
 pub invariant_of-self-in-Err-gave-clause-served : goal.invariant_of-self-in-Err-gave-clause-served
 invariant_of-self-in-Err-gave-clause-served g c =
-    look_served c.args.self.now.core c.gave.new.self c.gave.new.self.begun c.args.id (Ok c.in-Ok.owed.now) _ _ (c.in-Err-gave.ensures.refused ∙ ap (λ (held : Held). began held c.gave.new.self.begun) c.pending.follows.holds-at-none) c.in-Ok.ensures.lent c.«record».ensures c.args.self.now.served
+    look_served c.args.self.now.core c.gave.new.self c.gave.new.self.steps_before c.args.id (Ok c.in-Ok.owed.now) _ _ (c.in-Err-gave.ensures.refused ∙ ap (λ (held : Held). with_steps_before held c.gave.new.self.steps_before) c.pending.follows.holds-at-none) c.in-Ok.ensures.lent c.«record».ensures c.args.self.now.served
 
 pub invariant_of-self-in-Err-written : goal.invariant_of-self-in-Err-written
 invariant_of-self-in-Err-written g c = record {

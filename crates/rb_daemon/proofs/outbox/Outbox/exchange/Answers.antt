@@ -17,7 +17,7 @@ returns-clause-acts c =
       acts = c.in_ok-done.ensures.acts;
       appended =
           ap (λ (xs : List ℕ). drop sent (take (end + c.in_ok-done.done.given) xs))
-          (with_items_is c.self.inside.held _ (room_stays end (length c.as_mut_slice.result.now - end) c.as_mut_slice.result.now c.exchange.new.room fits c.exchange.auto.room ∙ c.as_mut_slice.ensures.len))
+          (with_items_is c.self.inside.bytes _ (room_stays end (length c.as_mut_slice.result.now - end) c.as_mut_slice.result.now c.exchange.new.room fits c.exchange.auto.room ∙ c.as_mut_slice.ensures.len))
           ∙ waits_more sent end c.in_ok-done.done.given c.as_mut_slice.result.now c.exchange.new.room (post_of end (length c.as_mut_slice.result.now - end) c.as_mut_slice.result.now) c.self.invariant.0 fits c.in_ok-done.ensures.fits
           ∙ ap (λ (xs : List ℕ). drop sent (take end xs) ++ given) same
           ∙ ap (λ (xs : List ℕ). xs ++ given) c.self.view_is;

@@ -13,7 +13,7 @@ returns-clause-bytes c =
     let new : List ℕ = c.copy_from_slice.new.self in
     let same = c.as_mut_slice.ensures.value in
     let fits : end ≤ length room = omega (arith, c.self.invariant.1, ap (λ (xs : List ℕ). length xs) same) in
-    ap (λ (xs : List ℕ). drop sent (take (end + count) xs)) (with_items_is c.self.inside.held _ (room_stays end (end + count - end) room new fits c.copy_from_slice.auto.self ∙ c.as_mut_slice.ensures.len))
+    ap (λ (xs : List ℕ). drop sent (take (end + count) xs)) (with_items_is c.self.inside.bytes _ (room_stays end (end + count - end) room new fits c.copy_from_slice.auto.self ∙ c.as_mut_slice.ensures.len))
     ∙ waits_more sent end count room new (post_of end (end + count - end) room) c.self.invariant.0 fits
     (omega (arith, ap (λ (xs : List ℕ). length xs) c.copy_from_slice.ensures.after, length-take count c.args.bytes.now, c.min-count.ensures))
     ∙ ap (λ (xs : List ℕ). drop sent (take end xs) ++ take count new) same

@@ -3,7 +3,7 @@ use Rattle.std.proofs.Math.ListN.{take}
 use Rattle.std.proofs.Math.Seq.{take-append_seam}
 use Rattle.rb_feed.specs.Stages.{Stage}
 use Rattle.rb_feed.specs.Feeds.{CallFeed, StandsForCall}
-use Rattle.rb_feed.specs.Saved.{loaded, stage_saved_as}
+use Rattle.rb_feed.specs.Saved.{feed_saved_as, stage_saved_as}
 use Rattle.rb_feed.proofs.feed.CallFeed.save.Goals as goal
 
 feed_is : (feed : CallFeed) (seen number : ℕ) (stage : Stage) → seen ≡ feed.seen → number ≡ feed.number → stage ≡ feed.stage → ◌≡◌ {A = CallFeed} (record { seen = seen; number = number; stage = stage }) feed
@@ -14,7 +14,7 @@ eleven : (xs ys : List ℕ) → length xs ≡ 11 → take 11 (xs ++ ys) ≡ xs
 eleven xs ys count = subst (λ (n : ℕ). take n (xs ++ ys) ≡ xs) count (take-append_seam xs ys)
 
 pub returns-clause-same : goal.returns-clause-same
-unfolding loaded
+unfolding feed_saved_as
 returns-clause-same c =
     let small : c.args.self.now.seen < 256 = omega arith in
     let seen_is : c.from.result % 256 ≡ c.args.self.now.seen = omega (arith, c.from.ensures) in

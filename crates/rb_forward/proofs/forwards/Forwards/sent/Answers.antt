@@ -3,7 +3,7 @@ use Rattle.rb_xdr.specs.Meter.{Meter}
 use Rattle.rb_forward.specs.declared.entries.Wanted.TheVariants as wanted
 use Rattle.rb_forward.specs.StandsFor.{StandsForForwards}
 use Rattle.rb_forward.proofs.Stands.{none_sent, one_sent, sent_stands, next_sent, is_there, first_wanted, found_first}
-use Rattle.rb_forward.specs.Table.{emptied, is_wanted_slot, is_waiting}
+use Rattle.rb_forward.specs.Table.{without_call, is_wanted_slot, is_waiting}
 use Rattle.rb_forward.proofs.TableSteps.{its_buffer, fits_in_held, table_sent}
 use Rattle.std.specs.Map.{values_of}
 use Rattle.rb_forward.specs.declared.entries.Slot.{Slot}
@@ -56,7 +56,7 @@ returns-clause-waiting c = λ id h.
     let sought : Wanted = wanted.Unsent c.args.id.number in
     let first = first_wanted sought c.self.inside.slots.entries c.in-Some.key c.self.invariant.distinct (sym c.in-Some.ensures.key) in
     let found = found_first sought c.self.inside.slots.entries c.in-Some.key c.in-Some-get_mut.slot.now c.self.invariant.distinct (sym c.in-Some.ensures.key) (sym c.in-Some-get_mut.ensures.value) in
-    rw (c.empty.ensures.sent, first.changed (emptied c.in-Some-get_mut.slot.now))
-    (any-changed (λ (s : Slot). is_connection id s.forward.caller) (is_wanted_slot sought) (emptied c.in-Some-get_mut.slot.now) (values_of c.self.inside.slots.entries)
+    rw (c.empty.ensures.sent, first.changed (without_call c.in-Some-get_mut.slot.now))
+    (any-changed (λ (s : Slot). is_connection id s.forward.caller) (is_wanted_slot sought) (without_call c.in-Some-get_mut.slot.now) (values_of c.self.inside.slots.entries)
     (λ a is. ap (λ (s : Slot). is_connection id s.forward.caller) (some_is c.in-Some-get_mut.slot.now a (sym found ∙ is)))
     ∙ subst (λ t. is_waiting id (values_of t.slots) ≡ false) (sym c.self.view_is) h)

@@ -55,7 +55,7 @@ returns-clause-ok c = λ f h.
     record {
       all = rw c.put_slot.ensures.last
           (started_stands c.self.inside.first_xid (values_of c.self.inside.slots.entries) c.args.clock c.args.forward.now c.args.args.now f _ z.all
-          (stands_new c.self.inside.first_xid c.self.inside.given c.args.clock c.args.forward.now c.args.args.now f c.head_of-head.result c.write_call.new.buffer c.saturating_add.result z.next
+          (stands_new c.self.inside.first_xid c.self.inside.last_number c.args.clock c.args.forward.now c.args.args.now f c.head_of-head.result c.write_call.new.buffer c.saturating_add.result z.next
           c.head_of-head.ensures c.saturating_add.ensures (ap (λ (k : Kept). k.bytes) c.write_call.ensures.written)));
       next = next_started c.args.clock c.args.forward.now c.args.args.now f ∙ ap (λ n. n + 1) z.next;
     }

@@ -13,7 +13,7 @@ use Rattle.rb_xdr.proofs.Walks.{distinct-push}
 use Rattle.rb_registry.proofs.Finds.{values_of-push}
 use Rattle.rb_registry.proofs.History.{slots-new}
 use Rattle.rb_registry.proofs.Holding.{held-push, held_bound}
-use Rattle.rb_registry.proofs.Tables.{own_now, AreStamped-own, live_and_dead, removals-push}
+use Rattle.rb_registry.proofs.Tables.{own_now, AreStamped-own, live_and_retained, removals-push}
 use Rattle.rb_registry.proofs.registry.Registry.new.Goals as goal
 
 pub own-preserved : goal.own-preserved
@@ -33,7 +33,7 @@ own-preserved c =
         few = c.own.invariant.table.few;
         within = room;
         is_held = omega (arith, c.charge-held.ensures.charge, c.own.invariant.table.is_held, held-push c.in-Ok.field-0 0 c.in-Some.row c.own.slots.entries);
-        are_dead = c.own.invariant.table.are_dead ∙ ap (λ (ns : List ℕ). length ns) (sym (removals-push c.in-Ok.field-0 0 c.in-Some.row c.own.slots.entries));
+        are_retained = c.own.invariant.table.are_retained ∙ ap (λ (ns : List ℕ). length ns) (sym (removals-push c.in-Ok.field-0 0 c.in-Some.row c.own.slots.entries));
       });
       slots = rw c.in-Ok.ensures.ok
           (values_of-push c.own.slots.entries c.in-Ok.field-0 (slot_of 0 c.in-Some.row)
@@ -41,7 +41,7 @@ own-preserved c =
           ∙ sym (map-append (slot_of 0) c.own.yielded (c.in-Some.row ∷ []))
           ∙ sym (slots-new 0 (c.own.yielded ++ c.in-Some.row ∷ [])));
       dead = rw c.in-Ok.ensures.ok (removals-push c.in-Ok.field-0 0 c.in-Some.row c.own.slots.entries ∙ c.own.invariant.dead);
-      counted = rw c.in-Ok.ensures.ok (live_and_dead 0 _ (AreStamped-own c.in-Ok.field-0 c.in-Some.row c.own.slots.entries c.charge-held.ensures.addr c.own.invariant.table.stamped));
+      counted = rw c.in-Ok.ensures.ok (live_and_retained 0 _ (AreStamped-own c.in-Ok.field-0 c.in-Some.row c.own.slots.entries c.charge-held.ensures.addr c.own.invariant.table.stamped));
       count = rw c.in-Ok.ensures.ok (omega (arith, more, longer, c.own.invariant.count));
       rows = rw c.in-Ok.ensures.ok
           (ap (λ (es : List (ℕ × Row)). values_of es) (own_now c.in-Ok.field-0 c.in-Some.row c.own.slots.entries)

@@ -28,7 +28,7 @@ invariant_of-self c = rw c.in-Ok.ensures.ok (record {
   made = let made = c.self.invariant.made in omega (arith, made);
   few = c.self.invariant.few;
   within = let room : length c.self.inside.slots.entries < c.self.inside.slots.cap = c.in-Ok.ensures.room.0 (λ i. true) in let longer = length-append c.self.inside.slots.entries ((c.in-Ok.field-0, slot_of (c.self.inside.changes + 1) c.args.row) ∷ []) in omega (arith, room, longer);
-  are_dead = c.self.invariant.are_dead ∙ ap (λ (ns : List ℕ). length ns) (sym (removals-push c.in-Ok.field-0 (c.self.inside.changes + 1) c.args.row c.self.inside.slots.entries));
+  are_retained = c.self.invariant.are_retained ∙ ap (λ (ns : List ℕ). length ns) (sym (removals-push c.in-Ok.field-0 (c.self.inside.changes + 1) c.args.row c.self.inside.slots.entries));
   is_held = let more = held-push c.in-Ok.field-0 (c.self.inside.changes + 1) c.args.row c.self.inside.slots.entries in let held = c.self.invariant.is_held in omega (arith, more, held, c.charge-charge.ensures.charge);
 })
 
@@ -51,8 +51,8 @@ returns-in-Err-clause-taken c =
 pub returns-in-Err-clause-cursors : goal.returns-in-Err-clause-cursors
 returns-in-Err-clause-cursors c = rw (c.in-Err.ensures.err, c.self.view_is) (goes_on_same _)
 
-pub returns-in-Ok-clause-dead : goal.returns-in-Ok-clause-dead
-returns-in-Ok-clause-dead c = rw (← c.self.view_is, c.in-Ok.ensures.ok) (removals-push c.in-Ok.field-0 _ c.args.row c.self.inside.slots.entries)
+pub returns-in-Ok-clause-retained : goal.returns-in-Ok-clause-retained
+returns-in-Ok-clause-retained c = rw (← c.self.view_is, c.in-Ok.ensures.ok) (removals-push c.in-Ok.field-0 _ c.args.row c.self.inside.slots.entries)
 
 pub overflow_add-self-in-Ok : goal.overflow_add-self-in-Ok
 overflow_add-self-in-Ok c =

@@ -3,7 +3,7 @@ use Rattle.std.specs.List.{list_any}
 use Rattle.std.specs.Map.{values_of}
 use Rattle.std.proofs.lemmas.List.{length-map}
 use Rattle.rb_registry.specs.declared.slot.Slot.{Slot}
-use Rattle.rb_registry.specs.Table.{goes, marked, all_marked}
+use Rattle.rb_registry.specs.Table.{goes, with_mark, entries_with_marks}
 use Rattle.rb_registry.specs.Rows.Change.{Removed}
 use Rattle.rb_registry.specs.Registry.{Registry, StandsForChanges}
 use Rattle.rb_registry.specs.contracts.registry.Registry.{the_view}
@@ -31,9 +31,9 @@ pub overflow_add-self-2 : goal.overflow_add-self-2
 overflow_add-self-2 c =
     let change = Removed c.args.prog c.args.vers c.args.which c.args.owner in
     let more = removals-marked c.self.inside.changes change c.self.inside.slots.entries c.self.invariant.stamped in
-    let few = removals_within (all_marked c.self.inside.changes change c.self.inside.slots.entries) in
-    let as_long = length-map {B = ℕ × Slot} c.self.inside.slots.entries (λ (e : ℕ × Slot). (e.0, marked c.self.inside.changes change e.1)) in
-    omega (arith, more, few, as_long, c.mark_covered-removed.ensures.removed, c.self.invariant.are_dead, c.self.invariant.within, c.self.invariant.few)
+    let few = removals_within (entries_with_marks c.self.inside.changes change c.self.inside.slots.entries) in
+    let as_long = length-map {B = ℕ × Slot} c.self.inside.slots.entries (λ (e : ℕ × Slot). (e.0, with_mark c.self.inside.changes change e.1)) in
+    omega (arith, more, few, as_long, c.mark_covered-removed.ensures.removed, c.self.invariant.are_retained, c.self.invariant.within, c.self.invariant.few)
 
 pub invariant_of-self : goal.invariant_of-self
 invariant_of-self c = rw (unchanged _ _ _ _ c.mark_covered-removed.ensures.marks (none_goes c)) c.self.invariant
@@ -46,9 +46,9 @@ invariant_of-self-2 c =
       stamped = AreStamped-marked c.self.inside.changes change c.self.inside.slots.entries c.self.invariant.stamped;
       made = let made = c.self.invariant.made in omega (arith, made);
       few = c.self.invariant.few;
-      within = let as_long = length-map {B = ℕ × Slot} c.self.inside.slots.entries (λ (e : ℕ × Slot). (e.0, marked c.self.inside.changes change e.1)) in let within = c.self.invariant.within in omega (arith, as_long, within);
+      within = let as_long = length-map {B = ℕ × Slot} c.self.inside.slots.entries (λ (e : ℕ × Slot). (e.0, with_mark c.self.inside.changes change e.1)) in let within = c.self.invariant.within in omega (arith, as_long, within);
       is_held = c.self.invariant.is_held ∙ sym (held-marked c.self.inside.changes change c.self.inside.slots.entries);
-      are_dead = let more = removals-marked c.self.inside.changes change c.self.inside.slots.entries c.self.invariant.stamped in let dead = c.self.invariant.are_dead in omega (arith, more, dead, c.mark_covered-removed.ensures.removed);
+      are_retained = let more = removals-marked c.self.inside.changes change c.self.inside.slots.entries c.self.invariant.stamped in let dead = c.self.invariant.are_retained in omega (arith, more, dead, c.mark_covered-removed.ensures.removed);
     })
 
 pub returns-then-removed-eq0-clause-cursors : goal.returns-then-removed-eq0-clause-cursors

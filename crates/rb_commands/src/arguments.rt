@@ -1,0 +1,223 @@
+//! The words of the command line: two commands and their options.
+ghost use Rattle.std.specs.Prelude.{◌≤◌, IfErr};
+
+use crate::options::command;
+use clap::error::ErrorKind;
+use clap::{ArgMatches, Error};
+use rb_lines::{
+    Beginning, Fault, MOST_HOSTS, ReplayTexts, ServeFault, ServeTexts, Service, Valued, explain,
+    read_beginning, read_service,
+};
+use std::alloc::Global;
+use std::convert::AsStr;
+use std::fmt;
+use std::fmt::{Display, Formatter};
+use std::io::Write;
+
+const NUMBER: &str = "a number of 64 bits";
+
+const ADDRESS: &str = "an IPv4 address as 192.0.2.1";
+
+/// What a command line asks for.
+#[derive(Debug, Drop)]
+pub enum Words<'a> {
+    /// The daemon.
+    Serve(Service<'a>),
+    /// A replay whose outputs are printed.
+    Replay(Beginning),
+    /// A replay whose outputs are compared with those of its input.
+    Check(Beginning),
+}
+
+/// An option whose value can't be read.
+#[derive(Clone, Copy, Debug, PartialEq, Eq)]
+struct BadValue<'a> {
+    option: &'static str,
+    value: &'a str,
+    wanted: &'static str,
+}
+
+/// Why words are not read.
+#[derive(Debug, Drop)]
+enum Unread<'a> {
+    BadValue(BadValue<'a>),
+    NoMemory,
+}
+
+impl<'a> From<BadValue<'a>> for Unread<'a> {
+    fn from(bad: BadValue<'a>) -> Unread<'a> {
+        Unread::BadValue(bad)
+    }
+}
+
+impl Display for BadValue<'_> {
+    fn fmt<W: fmt::Write>(&self, f: &mut Formatter<W>) -> fmt::Result {
+        let BadValue {
+            option,
+            value,
+            wanted,
+        } = self;
+        write!(
+            f,
+            "error: invalid value '{value}' for '--{option}': {wanted} is wanted"
+        )
+    }
+}
+
+/// What the words ask for, the program's own name first. Where nothing is to be run, what there is to say was
+/// written, and the exit status is the error: 0 where help or the version went to `output`; 2 where the words can't
+/// be read, and `faults` got the reason; 1 where memory or `output` failed.
+pub fn read_words<'a, S: AsStr, O: Write, E: Write>(
+    alloc: Global,
+    words: &'a [S],
+    output: &mut O,
+    faults: &mut E,
+) -> Result<Words<'a>, u8>
+    ensures { IfErr result (λ status. status ≤ 2) }
+{
+    let command = match command(alloc) {
+        Ok(command) => command,
+        Err(_) => return Err(explain(Fault::NoMemory, faults).status),
+    };
+    match command.try_get_matches_from(words) {
+        Ok(matches) => read_matches(alloc, &matches, faults),
+        Err(error) => Err(show(&error, output, faults)),
+    }
+}
+
+/// Writes help, or what is wrong with the words, and gives the status.
+fn show<O: Write, E: Write>(error: &Error, output: &mut O, faults: &mut E) -> u8
+    ensures { result ≤ 2 }
+{
+    if error.kind() == ErrorKind::OutOfMemory {
+        return explain(Fault::NoMemory, faults).status;
+    }
+    if error.use_stderr() {
+        let _ = write!(faults, "{error}");
+        return 2;
+    }
+    if write!(output, "{error}").is_err() || output.flush().is_err() {
+        return explain(Fault::WriteFailed, faults).status;
+    }
+    0
+}
+
+fn read_matches<'a, E: Write>(
+    alloc: Global,
+    matches: &ArgMatches<'a>,
+    faults: &mut E,
+) -> Result<Words<'a>, u8>
+    ensures { IfErr result (λ status. status ≤ 2) }
+{
+    match words_of(alloc, matches) {
+        Ok(words) => Ok(words),
+        Err(Unread::BadValue(bad)) => {
+            let _ = writeln!(faults, "{bad}");
+            Err(2)
+        }
+        Err(Unread::NoMemory) => Err(explain(Fault::NoMemory, faults).status),
+    }
+}
+
+/// `command` lets no words pass that name none of its commands.
+fn words_of<'a>(alloc: Global, matches: &ArgMatches<'a>) -> Result<Words<'a>, Unread<'a>> {
+    if let Some(serve) = matches.subcommand_matches("serve") {
+        return Ok(Words::Serve(service_of(alloc, serve)?));
+    }
+    if let Some(replay) = matches.subcommand_matches("replay") {
+        let beginning = beginning_of(replay)?;
+        return Ok(if replay.get_flag("check") {
+            Words::Check(beginning)
+        } else {
+            Words::Replay(beginning)
+        });
+    }
+    Err(Unread::BadValue(BadValue {
+        option: "help",
+        value: "",
+        wanted: "a command",
+    }))
+}
+
+/// What is served.
+fn service_of<'a>(alloc: Global, matches: &ArgMatches<'a>) -> Result<Service<'a>, Unread<'a>> {
+    let texts = ServeTexts {
+        announce: matches.get_str("announce"),
+        bind: matches.get_strs("bind").unwrap_or(&[]),
+        loopback6: matches.get_flag("loopback6"),
+        local: matches.get_str("local"),
+        local_mode: text_of(matches, "local-mode"),
+        port: text_of(matches, "port"),
+        conns: text_of(matches, "conns"),
+        rows: text_of(matches, "rows"),
+        forwards: text_of(matches, "forwards"),
+        turns: text_of(matches, "turns"),
+        record_path: matches.get_str("record"),
+        record_limit: text_of(matches, "record-limit"),
+    };
+    match read_service(alloc, &texts) {
+        Ok(service) => Ok(service),
+        Err(ServeFault::BadValue(bad)) => Err(Unread::BadValue(bad_value(bad, matches))),
+        Err(ServeFault::NoMemory) => Err(Unread::NoMemory),
+    }
+}
+
+/// What a replay begins with.
+fn beginning_of<'a>(matches: &ArgMatches<'a>) -> Result<Beginning, BadValue<'a>> {
+    let texts = ReplayTexts {
+        announce: text_of(matches, "announce"),
+        conns: text_of(matches, "conns"),
+        rows: text_of(matches, "rows"),
+        forwards: text_of(matches, "forwards"),
+        port: text_of(matches, "port"),
+        xid: text_of(matches, "xid"),
+        moment: text_of(matches, "now"),
+        steps: matches.get_flag("steps"),
+    };
+    match read_beginning(&texts) {
+        Ok(beginning) => Ok(beginning),
+        Err(bad) => Err(bad_value(bad, matches)),
+    }
+}
+
+/// What is wrong with the value of an option.
+fn bad_value<'a>(bad: Valued, matches: &ArgMatches<'a>) -> BadValue<'a> {
+    let (option, wanted) = match bad {
+        Valued::Announce => ("announce", ADDRESS),
+        Valued::Bind(place) => return bad_host(place, matches),
+        Valued::Local => ("local", "a path of at most 107 bytes"),
+        Valued::LocalMode => ("local-mode", "a mode from 0 to 777 in octal digits"),
+        Valued::Conns => ("conns", NUMBER),
+        Valued::Rows => ("rows", NUMBER),
+        Valued::Forwards => ("forwards", NUMBER),
+        Valued::Port => ("port", "a port from 1 to 65535"),
+        Valued::Xid => ("xid", "a number from 0 to 4294967295"),
+        Valued::Now => ("now", NUMBER),
+        Valued::Turns => ("turns", NUMBER),
+        Valued::RecordLimit => ("record-limit", "a number from 1000 to 16777216"),
+    };
+    BadValue {
+        option,
+        value: text_of(matches, option),
+        wanted,
+    }
+}
+
+/// What is wrong with the value of `--bind` at a place.
+fn bad_host<'a>(place: usize, matches: &ArgMatches<'a>) -> BadValue<'a> {
+    let values = matches.get_strs("bind").unwrap_or(&[]);
+    BadValue {
+        option: "bind",
+        value: values.get(place).copied().unwrap_or(""),
+        wanted: if place < MOST_HOSTS {
+            ADDRESS
+        } else {
+            "no more than 16 addresses"
+        },
+    }
+}
+
+/// The text of an option's value. One without a value has the empty text, which no reading takes.
+fn text_of<'a>(matches: &ArgMatches<'a>, option: &str) -> &'a str {
+    matches.get_str(option).unwrap_or("")
+}

@@ -1,0 +1,8 @@
+pub mod Prices
+pub mod RunSteps
+pub mod Runs
+pub mod StepBounds
+pub mod WholeRuns
+pub mod Headline
+pub mod Inputs
+pub mod Comparing

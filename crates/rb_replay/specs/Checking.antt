@@ -1,0 +1,140 @@
+-- What `rpcbind replay --check` says: whether an input's own output lines are those of the run of its events.
+use Rattle.std.specs.Prelude.{◌≡◌, ◌≢◌, ◌≤◌, ◌<◌, ◌⊎◌, ℕ, ◌+◌, if◌then◌else◌, List, [], ◌∷◌, ◌++◌, length, take, drop, map, codes, Option, Some, None, IfSome, Result, Ok, Err}
+use Rattle.std.specs.List.{flat_map}
+use Rattle.std.specs.Str.{bytes_eq}
+use Rattle.std.specs.Fmt.{decimal}
+use Rattle.std.specs.Borrow.{Bor}
+use Rattle.std.specs.declared.io.buffered.BufWriter.{BufWriter}
+use Rattle.rb_model.specs.Step.{Event, Output, run}
+use Rattle.rb_record.specs.Printing.{output_text}
+use Rattle.rb_lines.specs.declared.lines.ReadFault.{ReadFault}
+use Rattle.rb_lines.specs.declared.options.Beginning.{Beginning}
+use Rattle.rb_lines.specs.declared.faults.Ending.{Ending}
+use Rattle.rb_lines.specs.declared.faults.Fault.{Fault}
+use Rattle.rb_lines.specs.declared.faults.Fault.TheVariants.{NotText, Lines, NoMemory, BadLimits, SocketFailed, ReadFailed, WriteFailed, NoOutputs, Differs, Lacks}
+use Rattle.rb_lines.specs.Faults.{status_of}
+use Rattle.rb_lines.specs.Lines.{lines_of, read, Fails}
+use Rattle.rb_lines.specs.OutputLines.{output_line_in, output_lines_in, output_lines}
+use Rattle.rb_replay.specs.Running.{first_state, IsCoreFault, IsRead, IsRefused, BufWrites, EndsBy}
+
+-- ---- how both compare
+
+abbrev pub IsFrontOf : List (List ℕ) → List (List ℕ) → Type 0
+IsFrontOf some all = (rest : List (List ℕ)) × (all ≡ some ++ rest)
+
+-- This is the number of the first line at which the text and the outputs differ: what the lines before it say is a front
+-- of the outputs, and with it no more.
+pub record IsFirstOther (text : List ℕ) (outputs : List Output) (n : ℕ) : Type 0 where
+  pub before : List (List ℕ)
+  pub line : List ℕ
+  pub after : List (List ℕ)
+  pub lines : lines_of text ≡ before ++ line ∷ after
+  pub number : n ≡ length before + 1
+  pub agree : IsFrontOf (flat_map output_line_in before) (output_lines outputs)
+  pub differ : IsFrontOf (flat_map output_line_in before ++ output_line_in line) (output_lines outputs) → ⊥
+
+-- The text has the lines of the first outputs, and none for the one of this number, counted from 1.
+pub record IsLacking (text : List ℕ) (outputs : List Output) (n : ℕ) : Type 0 where
+  pub agree : IsFrontOf (output_lines_in text) (output_lines outputs)
+  pub number : n ≡ length (output_lines_in text) + 1
+  pub there : n ≤ length outputs
+
+-- The text has output lines, and they are those of the outputs.
+pub record Agrees (text : List ℕ) (outputs : List Output) : Type 0 where
+  pub same : output_lines_in text ≡ output_lines outputs
+  pub some : 0 < length outputs
+
+-- how it may be that the text's output lines are not those of the outputs, or that this is not known
+abbrev pub IsUnlike : List ℕ → List Output → Fault → Type 0
+IsUnlike text outputs NoMemory = Unit {0}
+IsUnlike text outputs NoOutputs = output_lines_in text ≡ []
+IsUnlike text outputs (Differs n) = IsFirstOther text outputs n
+IsUnlike text outputs (Lacks n) = IsLacking text outputs n
+IsUnlike text outputs other = ⊥
+
+-- ---- the command
+
+-- the line that says that so many agree
+abbrev pub agreement : ℕ → List ℕ
+agreement n = decimal n ++ codes " outputs agree\n"
+
+-- This holds of the outputs of the run of these events, which are there.
+abbrev pub OfRun : Beginning → (List Output → Type 0) → Result (List Event) ReadFault → Type 0
+OfRun beginning Holds (Ok events) = Holds (run (first_state beginning) events)
+OfRun beginning Holds (Err fault) = ⊥
+
+-- so many outputs
+abbrev pub AgreesWith : List ℕ → ℕ → List Output → Type 0
+AgreesWith text n outputs = Agrees text outputs × (n ≡ length outputs)
+
+-- Where the bytes that a reader has left are known, their output lines are those of the run of their events, so many.
+abbrev pub IsAgreed : {R : Type 0} → Beginning → (R → Option (List ℕ)) → R → ℕ → Type 0
+IsAgreed beginning remaining reader n =
+    IfSome (remaining reader) (λ input. OfRun beginning (AgreesWith input n) (read input))
+
+-- So they are, and that so many agree was written, and nothing else.
+abbrev pub FindsAgreed : {R W A : Type 0} → Beginning → (R → Option (List ℕ)) → R
+    → (W → Option (List ℕ)) → BufWriter W A → BufWriter W A → Type 0
+FindsAgreed beginning remaining reader contents old new =
+    (n : ℕ) × IsAgreed beginning remaining reader n × BufWrites contents old new (agreement n)
+
+-- The input is no event lines, or has no output lines.
+abbrev pub CannotBeChecked : List ℕ → Type 0
+CannotBeChecked input = IsRefused (read input) ⊎ (output_lines_in input ≡ [])
+
+-- what may be wrong with a text that is checked
+abbrev pub IsWrongWith : Beginning → List ℕ → Fault → Type 0
+IsWrongWith beginning text NotText = ⊥
+IsWrongWith beginning text (Lines fault) = Fails fault (read text)
+IsWrongWith beginning text NoMemory = IsRead (read text)
+IsWrongWith beginning text BadLimits = IsRead (read text) × IsCoreFault beginning BadLimits
+IsWrongWith beginning text SocketFailed = ⊥
+IsWrongWith beginning text ReadFailed = ⊥
+IsWrongWith beginning text WriteFailed = ⊥
+IsWrongWith beginning text NoOutputs = OfRun beginning (λ outputs. output_lines_in text ≡ []) (read text)
+IsWrongWith beginning text (Differs n) = OfRun beginning (λ outputs. IsFirstOther text outputs n) (read text)
+IsWrongWith beginning text (Lacks n) = OfRun beginning (λ outputs. IsLacking text outputs n) (read text)
+
+-- What may be wrong with an input that is checked; reading, writing and memory may fail too.
+abbrev pub IsWrongInput : Beginning → List ℕ → Fault → Type 0
+IsWrongInput beginning input NoMemory = Unit {0}
+IsWrongInput beginning input ReadFailed = Unit {0}
+IsWrongInput beginning input WriteFailed = Unit {0}
+IsWrongInput beginning input fault = IsWrongWith beginning input fault
+
+-- Where the bytes that a reader has left are known, the fault is what is wrong with them.
+abbrev pub IsWhy : {R : Type 0} → Beginning → (R → Option (List ℕ)) → R → Fault → Type 0
+IsWhy beginning remaining reader fault =
+    IfSome (remaining reader) (λ input. IsWrongInput beginning input fault)
+
+-- Where nothing is to be compared, the input is no event lines or has no output lines.
+abbrev pub RefusesCheck : {R : Type 0} → (R → Option (List ℕ)) → R → Fault → Type 0
+RefusesCheck remaining reader fault = status_of fault ≡ 2 → IfSome (remaining reader) CannotBeChecked
+
+-- A check that does not end well ends by such a fault.
+abbrev pub ExplainsCheck : {R E : Type 0} → Beginning → (R → Option (List ℕ)) → R
+    → (E → Option (List ℕ)) → E → E → Ending → Type 0
+ExplainsCheck beginning remaining reader contents old new result =
+    result.status ≢ 0 → EndsBy (IsWhy beginning remaining reader) beginning.limits contents old new result
+
+-- ---- as the code has them
+
+abbrev pub output_line_of : Option (Bor (List ℕ)) → List (List ℕ)
+output_line_of None = []
+output_line_of (Some text) = (text.now ++ codes "\n") ∷ []
+
+-- how the output lines may end that are those of so many outputs, of so many that there are
+abbrev pub IsEnd : ℕ → ℕ → Fault → Type 0
+IsEnd found count NoOutputs = found ≡ 0
+IsEnd found count (Lacks n) = (n ≡ found + 1) × (found < count)
+IsEnd found count other = ⊥
+
+-- From so many outputs of these lines that agree, the line goes on to so many.
+abbrev pub GoesOn : List (List ℕ) → List ℕ → ℕ → ℕ → Type 0
+GoesOn all line old new = take new all ≡ take old all ++ output_line_in line
+
+-- what may be wrong with the line of this number, behind so many outputs of these lines that agree
+abbrev pub IsWrongAt : ℕ → List (List ℕ) → List ℕ → ℕ → Fault → Type 0
+IsWrongAt number all line next NoMemory = Unit {0}
+IsWrongAt number all line next (Differs n) = (n ≡ number) × (IsFrontOf (take next all ++ output_line_in line) all → ⊥)
+IsWrongAt number all line next other = ⊥

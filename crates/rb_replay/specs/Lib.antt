@@ -1,0 +1,5 @@
+pub mod Events
+pub mod Runs
+pub mod Headline
+pub mod Running
+pub mod Checking

@@ -1,0 +1,63 @@
+-- What a list of events does to a core, what it costs, and how many bytes are held after it.
+use Rattle.std.specs.Prelude.{◌≡◌, ◌<◌, ◌≤◌, ◌-◌, ◌^◌, min, true, List, ◌++◌, length, take, ℕ}
+use Rattle.std.specs.List.{sum_by}
+use Rattle.std.specs.Map.{values_of}
+use Rattle.rb_xdr.specs.Meter.{Meter, PaysAtMost}
+use Rattle.rb_model.specs.declared.types.Limits.{Limits}
+use Rattle.rb_model.specs.declared.events.Event as event
+use Rattle.rb_model.specs.declared.events.Output as output
+use Rattle.rb_model.specs.Step.{Event, Output, run, after, IsReached}
+use Rattle.rb_model.specs.State.{State, are_good}
+use Rattle.rb_model.specs.Costs.{run_cost}
+use Rattle.rb_model.specs.Bounds.{bytes_bound, run_bound}
+use Rattle.rb_model.specs.Plain.{events_of}
+use Rattle.rb_model.specs.WholeRuns.{whole_bound}
+use Rattle.rb_connections.specs.declared.slot.Slot.{Slot}
+use Rattle.rb_core.specs.StandsFor.{Held, StandsFor}
+use Rattle.rb_core.specs.HeldBytes.{held}
+use Rattle.rb_core.specs.Events.{greatest_count}
+
+-- ---- a run
+
+-- the events whose outputs were appended to the earlier ones
+abbrev pub answered_events : List event.Event → List output.Output → List output.Output → List Event
+answered_events events before now = take (length now - length before) (events_of events)
+
+-- From the state the events have happened: their outputs came behind the earlier ones, and what is held stands for
+-- the state after them.
+pub record Happened (s : State) (events : List Event) (before now : List Output) (core : Held) : Type 0 where
+  pub outputs : now ≡ before ++ run s events
+  pub state : StandsFor core (after s events)
+
+-- At most the cost of these events is paid, from whatever state the core stood for.
+abbrev pub PaysForRun : Held → List Event → Meter → Meter → Type 0
+PaysForRun core events before now = (s : State) → StandsFor core s → PaysAtMost before now (run_cost s events)
+
+-- From each state that a run reaches at good limits and that the core stood for, no more is paid
+-- for these events than their bounds.
+abbrev pub PaysWithinBound : Held → List Event → Meter → Meter → Type 0
+PaysWithinBound core events before now =
+    (s : State) → StandsFor core s → IsReached s → are_good s.setting.limits ≡ true → PaysAtMost before now (run_bound s events)
+
+-- From each state that a run reaches, with a listener on a port of 16 bits, and that the old core
+-- stood for, the new one holds no more than the bound.
+abbrev pub StaysWithinBound : Held → Held → Type 0
+StaysWithinBound old new =
+    (s : State) → StandsFor old s → IsReached s → s.setting.listener.port < 2 ^ 16 → held new ≤ bytes_bound s.setting.limits
+
+-- the bytes in the buffers of all connections
+abbrev pub buffer_bytes : Held → ℕ
+buffer_bytes core = sum_by (λ (slot : Slot). length slot.buffer.bytes) (values_of core.connections.slots)
+
+-- From each state that a run reaches at good limits and that the core stood for, no more is paid for these events than the
+-- bound of the run.
+abbrev pub PaysWithinWhole : Held → List Event → Meter → Meter → Type 0
+PaysWithinWhole core events before now =
+    (s : State) → StandsFor core s → IsReached s → are_good s.setting.limits ≡ true
+    → PaysAtMost before now (whole_bound s.setting.limits (buffer_bytes core) events (run s events))
+
+-- ---- what is told of its steps
+
+-- the bound as it is told: where the buffers are empty, and as far as a number of 128 bits goes
+abbrev pub bound_shown : Limits → List Event → List Output → ℕ
+bound_shown limits events outputs = min (whole_bound limits 0 events outputs) greatest_count

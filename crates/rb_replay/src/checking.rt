@@ -1,0 +1,186 @@
+//! The command `replay --check`: the outputs of a run, against those that stand in its input.
+ghost use Rattle.std.specs.Prelude.{◌≡◌, ◌≤◌, ◌<◌, ◌++◌, [], length, codes, IsTrue, IfOk, IfErr, IfSome, OnOk};
+ghost use Rattle.std.specs.Bool.{Decides};
+ghost use Rattle.std.specs.Io.Buffered.{writer_buffer};
+ghost use Rattle.rb_model.specs.State.{are_good};
+ghost use Rattle.rb_model.specs.Plain.{output_of, outputs_of};
+ghost use Rattle.rb_lines.specs.Lines.{read};
+ghost use Rattle.rb_record.specs.Printing.{output_text};
+ghost use Rattle.rb_replay.specs.Running.{BufWrites};
+ghost use Rattle.rb_lines.specs.OutputLines.{output_line_in, output_lines};
+ghost use Rattle.rb_replay.specs.Checking.{output_line_of, agreement, Agrees, AgreesWith, IsUnlike, OfRun, IsAgreed, FindsAgreed, CannotBeChecked, IsWrongWith, GoesOn, IsWrongAt, IsEnd, IsWhy, RefusesCheck, ExplainsCheck};
+
+use crate::running::{read_input, run_from};
+use rb_lines::{
+    Beginning, DONE, Ending, Fault, WriteFailed, explain_run, print_output, read_events,
+};
+use rb_model::Output;
+use std::alloc::Global;
+use std::io::{BufWriter, Read, Write};
+
+/// What an output line says, which stands behind `#> `.
+#[tactic(auto, unfolding(rb_lines::specs::OutputLines::output_line_in))]
+fn output_line_in(line: &[u8]) -> Option<&[u8]>
+    ensures { output_line_of result ≡ output_line_in line.now }
+{
+    line.strip_prefix(b"#> ")
+}
+
+/// Whether the text is this line and the line feed that ends it.
+fn is_ended(text: &[u8], line: &[u8]) -> bool
+    ensures { Decides result (text.now ≡ line.now ++ codes "\n") }
+{
+    match text.strip_suffix(b"\n") {
+        Some(front) => front == line,
+        None => false,
+    }
+}
+
+/// Whether the output is printed as this line, which is not ended by its line feed.
+fn is_printed_as(output: &Output, line: &[u8], shown: &mut Vec<u8>) -> Result<bool, Fault>
+    ensures same { IfOk result
+        (λ same. Decides same (output_text (output_of output.now) ≡ line.now ++ codes "\n")) }
+    ensures err { IfErr result (λ fault. fault ≡ Fault.NoMemory) }
+{
+    shown.clear();
+    match print_output(output, shown) {
+        Ok(()) => Ok(is_ended(shown, line)),
+        Err(WriteFailed) => Err(Fault::NoMemory),
+    }
+}
+
+/// Compares the line of this number with the next output, where it is an output line.
+fn compare_line(
+    outputs: &[Output],
+    next: &mut usize,
+    number: usize,
+    line: &[u8],
+    shown: &mut Vec<u8>,
+) -> Result<(), Fault>
+    requires { next.old ≤ length outputs.now }
+    ensures few { OnOk result (next.new ≤ length outputs.now) }
+    ensures ok { OnOk result
+        (GoesOn (output_lines (outputs_of outputs.now)) line.now next.old next.new) }
+    ensures err { IfErr result
+        (IsWrongAt number (output_lines (outputs_of outputs.now)) line.now next.old) }
+{
+    let Some(said) = output_line_in(line) else {
+        return Ok(());
+    };
+    let Some(output) = outputs.get(*next) else {
+        return Err(Fault::Differs(number));
+    };
+    if !is_printed_as(output, said, shown)? {
+        return Err(Fault::Differs(number));
+    }
+    *next += 1;
+    Ok(())
+}
+
+/// What is said where the output lines of a text are those of so many outputs from the first, of so many that there
+/// are.
+fn end_of(found: usize, count: usize) -> Result<(), Fault>
+    ensures ok { OnOk result ((count ≤ found) × (0 < found)) }
+    ensures err { IfErr result (IsEnd found count) }
+{
+    if found == 0 {
+        Err(Fault::NoOutputs)
+    } else if found < count {
+        Err(Fault::Lacks(found + 1))
+    } else {
+        Ok(())
+    }
+}
+
+/// Compares the output lines of a text with the outputs of a run.
+fn compare(alloc: Global, text: &[u8], outputs: &[Output]) -> Result<(), Fault>
+    ensures ok { OnOk result (Agrees text.now (outputs_of outputs.now)) }
+    ensures err { IfErr result (IsUnlike text.now (outputs_of outputs.now)) }
+{
+    let mut shown = Vec::new(alloc);
+    let mut next = 0;
+    for (i, line) in text.split(|b| *b == b'\n').enumerate() {
+        if let Err(fault) = compare_line(outputs, &mut next, i + 1, line, &mut shown) {
+            return Err(fault);
+        }
+    }
+    end_of(next, outputs.len())
+}
+
+/// Runs the events of a text, and compares what they give with the output lines of the text. The answer is how many
+/// outputs there are, all of which agree. `NoOutputs` where the text has no output lines, `Differs` with the number
+/// of the first line that says another output than the run gives there, and `Lacks` with the number of the first
+/// output for which the text has no line, each counted from 1; `Lines` and `BadLimits` as where it is replayed.
+pub fn check_text(alloc: Global, beginning: &Beginning, text: &[u8]) -> Result<usize, Fault>
+    ensures ok { IfOk result (λ n. OfRun beginning.now (AgreesWith text.now n) (read text.now)) }
+    ensures good { OnOk result (IsTrue (are_good beginning.now.limits)) }
+    ensures err { IfErr result (IsWrongWith beginning.now text.now) }
+{
+    let events = match read_events(alloc, text) {
+        Ok(events) => events,
+        Err(fault) => return Err(Fault::Lines(fault)),
+    };
+    let ran = run_from(alloc, beginning, &events)?;
+    compare(alloc, text, &ran.outputs)?;
+    Ok(ran.outputs.len())
+}
+
+/// Reads all there is, and checks it.
+fn check_all<R: Read>(alloc: Global, beginning: &Beginning, reader: &mut R) -> Result<usize, Fault>
+    ensures ok { IfOk result (λ n. IsAgreed beginning.now R.remaining reader.old n) }
+    ensures good { OnOk result (IsTrue (are_good beginning.now.limits)) }
+    ensures refused { IfErr result (RefusesCheck R.remaining reader.old) }
+    ensures why { IfErr result (IsWhy beginning.now R.remaining reader.old) }
+{
+    let text = match read_input(alloc, reader) {
+        Ok(text) => text,
+        Err(fault) => return Err(fault),
+    };
+    check_text(alloc, beginning, &text)
+}
+
+/// Writes that so many outputs agree, to the last byte.
+fn put_agreement<W: Write + Drop>(count: usize, out: &mut BufWriter<W>) -> Result<(), Fault>
+    ensures ok { OnOk result (BufWrites W.contents out.old out.new (agreement count)) }
+    ensures flushed { OnOk result (writer_buffer out.new ≡ []) }
+    ensures err { IfErr result (λ fault. fault ≡ Fault.WriteFailed) }
+{
+    if writeln!(out, "{count} outputs agree").is_err() || out.flush().is_err() {
+        return Err(Fault::WriteFailed);
+    }
+    Ok(())
+}
+
+/// Runs the command `replay --check`: it reads event lines to the end, makes a core, runs their events on it, and
+/// compares what each gives with the output lines of the input, which begin with `#> `.
+///
+/// Status 0 says that all agree, and so does the one line that is written to `out`. 2 says that the input is no event
+/// lines or has no output lines. 1 says that an output differs or has no line, that the limits are out of their
+/// ranges, or that reading, writing or memory failed. What is wrong is written to `faults`; at 0 nothing is.
+pub fn run_check<R: Read, W: Write + Drop, E: Write>(
+    alloc: Global,
+    beginning: &Beginning,
+    reader: &mut R,
+    out: &mut BufWriter<W>,
+    faults: &mut E,
+) -> Ending
+    ensures status { result.status ≤ 2 }
+    ensures ok { result.status ≡ 0
+        → FindsAgreed beginning.now R.remaining reader.old W.contents out.old out.new }
+    ensures good { result.status ≡ 0 → IsTrue (are_good beginning.now.limits) }
+    ensures flushed { result.status ≡ 0 → writer_buffer out.new ≡ [] }
+    ensures quiet { result.status ≡ 0 → faults.new ≡ faults.old }
+    ensures refused { result.status ≡ 2 → IfSome (R.remaining reader.old) CannotBeChecked }
+    ensures unwritten { result.status ≡ 2 → out.new ≡ out.old }
+    ensures told { ExplainsCheck
+        beginning.now R.remaining reader.old E.contents faults.old faults.new result }
+{
+    let count = match check_all(alloc, beginning, reader) {
+        Ok(count) => count,
+        Err(fault) => return explain_run(fault, &beginning.limits, faults),
+    };
+    match put_agreement(count, out) {
+        Ok(()) => DONE,
+        Err(fault) => explain_run(fault, &beginning.limits, faults),
+    }
+}

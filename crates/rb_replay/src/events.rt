@@ -1,0 +1,267 @@
+//! Single events: a call on a core, with the look at its reply where there is one.
+ghost use Rattle.std.specs.Prelude.{◌≡◌, ◌≤◌, ◌+◌, [], length, vec_capacity, OnErr};
+ghost use Rattle.rb_model.specs.Calls.{longest_reply};
+ghost use Rattle.rb_model.specs.Step.{show_taken, show_told, pending, is_too_much};
+ghost use Rattle.rb_model.specs.Step.Event.{Open, Bytes, Pending, Gave, Closed, NextLost, Datagram, Unsent, Sent, Forward, Expire};
+ghost use Rattle.rb_core.specs.StandsFor.{StandsFor};
+ghost use Rattle.rb_model.specs.Plain.{event_of, output_of};
+ghost use Rattle.rb_core.specs.Events.{OnlyBegins};
+ghost use Rattle.rb_replay.specs.Events.{HasHappened, MayHappen};
+ghost use Rattle.rb_xdr.specs.Meter.{PaysAtMost};
+ghost use Rattle.rb_connections.specs.Slots.{Shows};
+ghost use Rattle.rb_connections.specs.Costs.{look_cost};
+
+use rb_connections::{LONGEST_FRAGMENT, LONGEST_REPLY, Outcome};
+use rb_core::Core;
+use rb_forward::{FwdId, LONGEST_CALL};
+use rb_model::{Event, Expired, Output, Taken, Told, UnsentCall};
+use rb_rpc::Peer;
+use rb_xdr::{Meter, NoMemory};
+use std::alloc::Global;
+
+#[tactic(auto, unfolding(rb_model::specs::Step::step))]
+fn open(core: &mut Core, now: u64, peer: Peer, meter: &mut Meter) -> Output
+    requires { meter.old.tie ≡ core.old.tie }
+    ensures { HasHappened (Open now peer) core.old core.new meter.old meter.new result }
+{
+    match core.open(now, peer, meter) {
+        Ok(number) => Output::Opened(number),
+        Err(fault) => Output::Refused(fault),
+    }
+}
+
+#[tactic(auto, unfolding(rb_model::specs::Step::step))]
+fn bytes(core: &mut Core, now: u64, id: u64, piece: &[u8], meter: &mut Meter) -> Output
+    requires { meter.old.tie ≡ core.old.tie }
+    ensures { HasHappened (Bytes now id piece.now) core.old core.new meter.old meter.new result }
+{
+    match core.bytes(now, id, piece, meter) {
+        Ok(taken) => show_taken(taken),
+        Err(fault) => Output::Refused(fault),
+    }
+}
+
+fn show_taken(taken: Taken) -> Output
+    ensures { output_of result ≡ show_taken taken }
+{
+    if taken.closed {
+        Output::TookAndClosed(taken.count)
+    } else {
+        Output::Took(taken.count)
+    }
+}
+
+/// Looks at what is pending.
+#[tactic(auto, unfolding(rb_model::specs::Step::step, rb_model::specs::Connections::longest_fragment))]
+fn pending(alloc: Global, core: &mut Core, id: u64, meter: &mut Meter) -> Result<Output, NoMemory>
+    requires { meter.old.tie ≡ core.old.tie }
+    ensures ok { MayHappen (Pending id) core.old core.new meter.old meter.new result }
+    ensures err { OnErr result (core.new ≡ core.old) }
+    ensures free { OnErr result (meter.new ≡ meter.old) }
+{
+    let Ok(mut copy) = Vec::with_capacity(alloc, LONGEST_FRAGMENT) else {
+        return Err(NoMemory);
+    };
+    match core.pending(id, meter) {
+        Ok(bytes) => {
+            copy.extend_from_slice(bytes).unwrap();
+            Ok(Output::Pending(copy))
+        }
+        Err(fault) => Ok(Output::Refused(fault)),
+    }
+}
+
+fn is_too_much(core: &Core, id: u64, n: u64, meter: &mut Meter) -> bool
+    requires { meter.old.tie ≡ core.now.tie }
+    ensures value { Shows StandsFor (λ s. is_too_much n (pending s id)) core.now result }
+    ensures cost { PaysAtMost meter.old meter.new (look_cost core.now.connections + 1) }
+{
+    match core.pending_len(id, meter) {
+        Ok(len) => (len as u64) < n,
+        Err(_) => false,
+    }
+}
+
+#[tactic(auto, unfolding(rb_model::specs::Step::step))]
+fn gave(core: &mut Core, now: u64, id: u64, n: u64, meter: &mut Meter) -> Output
+    requires { meter.old.tie ≡ core.old.tie }
+    ensures { HasHappened (Gave now id n) core.old core.new meter.old meter.new result }
+{
+    if is_too_much(core, id, n, meter) {
+        return Output::TooMuch;
+    }
+    match core.gave(now, id, n as usize, meter) {
+        Ok(()) => Output::Done,
+        Err(fault) => Output::Refused(fault),
+    }
+}
+
+#[tactic(auto, unfolding(rb_model::specs::Step::step))]
+fn closed(core: &mut Core, id: u64, meter: &mut Meter) -> Output
+    requires { meter.old.tie ≡ core.old.tie }
+    ensures { HasHappened (Closed id) core.old core.new meter.old meter.new result }
+{
+    match core.closed(id, meter) {
+        Ok(()) => Output::Done,
+        Err(fault) => Output::Refused(fault),
+    }
+}
+
+#[tactic(auto, unfolding(rb_model::specs::Step::step))]
+fn next_lost(core: &mut Core, meter: &mut Meter) -> Output
+    requires { meter.old.tie ≡ core.old.tie }
+    ensures { HasHappened NextLost core.old core.new meter.old meter.new result }
+{
+    Output::Lost(core.next_lost(meter))
+}
+
+#[tactic(auto, unfolding(rb_model::specs::Step::step, rb_model::specs::Calls::longest_reply))]
+fn datagram(
+    alloc: Global,
+    core: &mut Core,
+    now: u64,
+    peer: Peer,
+    content: &[u8],
+    meter: &mut Meter,
+) -> Result<Output, NoMemory>
+    requires { meter.old.tie ≡ core.old.tie }
+    ensures ok { MayHappen (Datagram now peer content.now) core.old core.new meter.old meter.new result }
+    ensures err { OnErr result (core.new ≡ core.old) }
+    ensures free { OnErr result (meter.new ≡ meter.old) }
+{
+    let Ok(mut reply) = Vec::with_capacity(alloc, LONGEST_REPLY) else {
+        return Err(NoMemory);
+    };
+    match core.datagram(now, peer, content, meter) {
+        Outcome::NoCall | Outcome::Silent => Ok(Output::Silent),
+        Outcome::Forwarded => Ok(Output::Forwarded),
+        Outcome::Reply => {
+            reply.extend_from_slice(core.udp_reply(meter)).unwrap();
+            reply.shrink_to_fit();
+            Ok(Output::Replied(reply))
+        }
+    }
+}
+
+/// Looks for the forwarded call that is to be sent.
+#[tactic(auto, unfolding(rb_model::specs::Step::step, rb_forward::specs::Forwards::longest_forwarded))]
+fn unsent(alloc: Global, core: &mut Core, meter: &mut Meter) -> Result<Output, NoMemory>
+    requires { meter.old.tie ≡ core.old.tie }
+    ensures ok { MayHappen Unsent core.old core.new meter.old meter.new result }
+    ensures err { OnErr result (core.new ≡ core.old) }
+    ensures free { OnErr result (meter.new ≡ meter.old) }
+{
+    let Ok(mut call) = Vec::with_capacity(alloc, LONGEST_CALL) else {
+        return Err(NoMemory);
+    };
+    let Some(unsent) = core.unsent(meter) else {
+        return Ok(Output::Unsent(None));
+    };
+    call.extend_from_slice(unsent.call).unwrap();
+    let (number, target) = (unsent.id.number, unsent.target);
+    Ok(Output::Unsent(Some(UnsentCall {
+        number,
+        target,
+        call,
+    })))
+}
+
+#[tactic(auto, unfolding(rb_model::specs::Step::step))]
+fn sent(core: &mut Core, number: u64, meter: &mut Meter) -> Output
+    requires { meter.old.tie ≡ core.old.tie }
+    ensures { HasHappened (Sent number) core.old core.new meter.old meter.new result }
+{
+    match core.sent(FwdId { number }, meter) {
+        Ok(()) => Output::Done,
+        Err(fault) => Output::Refused(fault),
+    }
+}
+
+/// What is told of a forwarded call that ended, with the reply over UDP where there is one.
+#[tactic(auto, unfolding(rb_model::specs::Calls::longest_reply))]
+fn show_told(core: &mut Core, told: Told, mut reply: Vec<u8>, meter: &mut Meter) -> Output
+    requires tie { meter.old.tie ≡ core.old.tie }
+    requires short { length core.old.reply ≤ longest_reply }
+    requires empty { reply.items ≡ [] }
+    requires room { longest_reply ≤ vec_capacity reply }
+    ensures told { output_of result ≡ show_told core.old.reply told }
+    ensures core { OnlyBegins core.old core.new }
+    ensures cost { PaysAtMost meter.old meter.new (1 + length core.old.reply) }
+{
+    match told {
+        Told::TcpReady(id) => Output::Ready(id),
+        Told::Datagram(peer) => {
+            reply.extend_from_slice(core.udp_reply(meter)).unwrap();
+            reply.shrink_to_fit();
+            Output::RepliedTo(peer, reply)
+        }
+        Told::Silent => Output::Silent,
+    }
+}
+
+#[tactic(auto, unfolding(rb_model::specs::Step::step, rb_model::specs::Calls::longest_reply))]
+fn forward(
+    alloc: Global,
+    core: &mut Core,
+    now: u64,
+    from: Peer,
+    message: &[u8],
+    meter: &mut Meter,
+) -> Result<Output, NoMemory>
+    requires { meter.old.tie ≡ core.old.tie }
+    ensures ok { MayHappen (Forward now from message.now) core.old core.new meter.old meter.new result }
+    ensures err { OnErr result (core.new ≡ core.old) }
+    ensures free { OnErr result (meter.new ≡ meter.old) }
+{
+    let Ok(reply) = Vec::with_capacity(alloc, LONGEST_REPLY) else {
+        return Err(NoMemory);
+    };
+    match core.forward_reply(now, from, message, meter) {
+        Some(told) => Ok(show_told(core, told, reply, meter)),
+        None => Ok(Output::Ignored),
+    }
+}
+
+#[tactic(auto, unfolding(rb_model::specs::Step::step, rb_model::specs::Calls::longest_reply))]
+fn expire(alloc: Global, core: &mut Core, now: u64, meter: &mut Meter) -> Result<Output, NoMemory>
+    requires { meter.old.tie ≡ core.old.tie }
+    ensures ok { MayHappen (Expire now) core.old core.new meter.old meter.new result }
+    ensures err { OnErr result (core.new ≡ core.old) }
+    ensures free { OnErr result (meter.new ≡ meter.old) }
+{
+    let Ok(reply) = Vec::with_capacity(alloc, LONGEST_REPLY) else {
+        return Err(NoMemory);
+    };
+    match core.expire(now, meter) {
+        Expired::Ended(told) => Ok(show_told(core, told, reply, meter)),
+        Expired::ConnectionClosed(id) => Ok(Output::ConnectionClosed(id)),
+        Expired::Nothing => Ok(Output::Nothing),
+    }
+}
+
+/// Does one event; `NoMemory`, and nothing is done, where the allocation for its output is refused.
+pub(crate) fn happen(
+    alloc: Global,
+    core: &mut Core,
+    event: &Event,
+    meter: &mut Meter,
+) -> Result<Output, NoMemory>
+    requires { meter.old.tie ≡ core.old.tie }
+    ensures ok { MayHappen (event_of event.now) core.old core.new meter.old meter.new result }
+    ensures err { OnErr result (core.new ≡ core.old) }
+    ensures free { OnErr result (meter.new ≡ meter.old) }
+{
+    match event {
+        Event::Open(now, peer) => Ok(open(core, *now, *peer, meter)),
+        Event::Bytes(now, id, piece) => Ok(bytes(core, *now, *id, piece, meter)),
+        Event::Pending(id) => pending(alloc, core, *id, meter),
+        Event::Gave(now, id, n) => Ok(gave(core, *now, *id, *n, meter)),
+        Event::Closed(id) => Ok(closed(core, *id, meter)),
+        Event::NextLost => Ok(next_lost(core, meter)),
+        Event::Datagram(now, peer, content) => datagram(alloc, core, *now, *peer, content, meter),
+        Event::Unsent => unsent(alloc, core, meter),
+        Event::Sent(number) => Ok(sent(core, *number, meter)),
+        Event::Forward(now, from, message) => forward(alloc, core, *now, *from, message, meter),
+        Event::Expire(now) => expire(alloc, core, *now, meter),
+    }
+}

@@ -1,0 +1,203 @@
+//! The command `replay`.
+ghost use Rattle.std.specs.Prelude.{◌≡◌, ◌≤◌, ◌⊎◌, ◌-◌, [], IsTrue, IfOk, IfErr, OnOk};
+ghost use Rattle.std.specs.Io.Buffered.{writer_buffer};
+ghost use Rattle.rb_model.specs.State.{State, are_good};
+ghost use Rattle.rb_model.specs.Plain.{events_of};
+ghost use Rattle.rb_core.specs.StandsFor.{StandsFor};
+ghost use Rattle.rb_core.specs.Events.{count_shown};
+ghost use Rattle.rb_lines.specs.Lines.{read};
+ghost use Rattle.rb_lines.specs.Faults.{status_of};
+ghost use Rattle.rb_replay.specs.Running.{first_state, IsFresh, IsRunFrom, KeepsBound, BufWrites, IsEnoughOf, IsReplayFault, IsCoreFault, IsRefused, PrintsRun, Reads, Replays, Refuses, RunsFrom, ran_text, Explains};
+
+use crate::run::replay;
+use crate::run_bound::whole_bound;
+use rb_core::{Core, CoreFault};
+use rb_lines::{
+    Beginning, DONE, Ending, Fault, WriteFailed, explain_run, longest_input, print_outputs,
+    print_steps, read_events,
+};
+use rb_model::{Event, Limits, Output};
+use rb_xdr::Meter;
+use std::alloc::Global;
+use std::io;
+use std::io::{BufWriter, Read, Write};
+
+/// The first bytes of what the reader has left: as many as an input may have, and one more.
+pub(crate) fn read_input<R: Read>(alloc: Global, reader: &mut R) -> Result<Vec<u8>, Fault>
+    ensures bytes { IfOk result (λ text. IsEnoughOf (R.remaining reader.old) text.items) }
+    ensures err { IfErr result (λ fault. (fault ≡ Fault.NoMemory) ⊎ (fault ≡ Fault.ReadFailed)) }
+{
+    let mut text = Vec::new(alloc);
+    let limit = longest_input() as u64 + 1;
+    match reader.take(limit).read_to_end(&mut text) {
+        Ok(_) => Ok(text),
+        Err(error) if error.kind() == io::ErrorKind::OutOfMemory => Err(Fault::NoMemory),
+        Err(_) => Err(Fault::ReadFailed),
+    }
+}
+
+/// A new core, as a replay begins.
+fn first_core(alloc: Global, beginning: &Beginning, meter: &mut Meter) -> Result<Core, Fault>
+    ensures made { IfOk result (λ core. StandsFor core (first_state beginning.now)) }
+    ensures tie { IfOk result (λ core. core.tie ≡ meter.new.tie) }
+    ensures good { OnOk result (IsTrue (are_good beginning.now.limits)) }
+    ensures err { IfErr result (IsCoreFault beginning.now) }
+{
+    let Beginning {
+        limits,
+        listener,
+        first_xid,
+        moment,
+        steps: _,
+    } = *beginning;
+    match Core::new(alloc, limits, listener, first_xid, moment, meter) {
+        Ok(core) => Ok(core),
+        Err(CoreFault::BadLimits) => Err(Fault::BadLimits),
+        Err(_) => Err(Fault::NoMemory),
+    }
+}
+
+/// What a run gave, how many steps it took, and how many it may.
+#[derive(Drop)]
+pub(crate) struct Ran {
+    pub outputs: Vec<Output>,
+    pub steps: u128,
+    pub bound: u128,
+}
+
+/// Runs the events on a core of these limits.
+fn run_on(
+    alloc: Global,
+    core: &mut Core,
+    limits: &Limits,
+    events: &[Event],
+    meter: &mut Meter,
+) -> Result<Ran, Fault>
+    requires { meter.old.tie ≡ core.old.tie }
+    ensures ok { RunsFrom limits.now (events_of events.now) core.old result }
+    ensures steps { IfOk result (λ ran. ran.steps ≡ count_shown meter.new - count_shown meter.old) }
+    ensures within { (s : State) → StandsFor core.old s → IsFresh limits.now s
+        → IfOk result KeepsBound }
+    ensures err { IfErr result (λ fault. fault ≡ Fault.NoMemory) }
+{
+    let before = meter.count();
+    let mut outputs = Vec::new(alloc);
+    match replay(alloc, core, events, &mut outputs, meter) {
+        Ok(()) => {
+            let steps = meter.count().saturating_sub(before);
+            let bound = whole_bound(limits, events, &outputs);
+            Ok(Ran {
+                outputs,
+                steps,
+                bound,
+            })
+        }
+        Err(_) => Err(Fault::NoMemory),
+    }
+}
+
+/// Runs the events, from a new core.
+pub(crate) fn run_from(alloc: Global, beginning: &Beginning, events: &[Event]) -> Result<Ran, Fault>
+    ensures ok { IfOk result (IsRunFrom
+        beginning.now.limits (events_of events.now) (first_state beginning.now)) }
+    ensures within { IfOk result KeepsBound }
+    ensures good { OnOk result (IsTrue (are_good beginning.now.limits)) }
+    ensures err { IfErr result (IsCoreFault beginning.now) }
+{
+    let mut meter = Meter::new();
+    let mut core = first_core(alloc, beginning, &mut meter)?;
+    run_on(alloc, &mut core, &beginning.limits, events, &mut meter)
+}
+
+/// Writes what a run is printed as, to the last byte, and its steps where that is asked for.
+fn put_ran<W: Write + Drop>(
+    ran: &Ran,
+    shows_steps: bool,
+    out: &mut BufWriter<W>,
+) -> Result<(), WriteFailed>
+    ensures ok { OnOk result
+        (BufWrites W.contents out.old out.new (ran_text ran.now shows_steps)) }
+    ensures flushed { OnOk result (writer_buffer out.new ≡ []) }
+{
+    print_outputs(&ran.outputs, out)?;
+    if shows_steps {
+        print_steps(ran.steps, ran.bound, out)?;
+    }
+    match out.flush() {
+        Ok(()) => Ok(()),
+        Err(_) => Err(WriteFailed),
+    }
+}
+
+/// Runs the events of a text and writes what they give.
+fn replay_text<W: Write + Drop>(
+    alloc: Global,
+    beginning: &Beginning,
+    text: &[u8],
+    out: &mut BufWriter<W>,
+) -> Result<(), Fault>
+    ensures ok { OnOk result
+        (PrintsRun beginning.now W.contents out.old out.new (read text.now)) }
+    ensures good { OnOk result (IsTrue (are_good beginning.now.limits)) }
+    ensures flushed { OnOk result (writer_buffer out.new ≡ []) }
+    ensures err { IfErr result (λ fault. IsReplayFault beginning.now fault (read text.now)) }
+    ensures unwritten { IfErr result (λ fault. status_of fault ≡ 2 → out.new ≡ out.old) }
+{
+    let events = match read_events(alloc, text) {
+        Ok(events) => events,
+        Err(fault) => return Err(Fault::Lines(fault)),
+    };
+    let ran = run_from(alloc, beginning, &events)?;
+    match put_ran(&ran, beginning.steps, out) {
+        Ok(()) => Ok(()),
+        Err(WriteFailed) => Err(Fault::WriteFailed),
+    }
+}
+
+/// Reads all there is, runs its events and writes what they give.
+fn replay_all<R: Read, W: Write + Drop>(
+    alloc: Global,
+    beginning: &Beginning,
+    reader: &mut R,
+    out: &mut BufWriter<W>,
+) -> Result<(), Fault>
+    ensures ok { OnOk result
+        (Replays beginning.now R.remaining reader.old W.contents out.old out.new) }
+    ensures good { OnOk result (IsTrue (are_good beginning.now.limits)) }
+    ensures flushed { OnOk result (writer_buffer out.new ≡ []) }
+    ensures refused { IfErr result (Refuses beginning.now R.remaining reader.old) }
+    ensures unwritten { IfErr result (λ fault. status_of fault ≡ 2 → out.new ≡ out.old) }
+{
+    let text = read_input(alloc, reader)?;
+    replay_text(alloc, beginning, &text, out)
+}
+
+/// Runs the command `replay`: it reads event lines to the end, makes a core, runs their events on it and writes a
+/// line for each.
+///
+/// Status 0 says that all went well and that the writer's buffer was written out. 2 says that the input is no event
+/// lines, and nothing was run or written, whatever the limits are. 1 says that the limits are out of their ranges, or
+/// that reading, writing or memory failed. What is wrong is written to `faults`; at 0 nothing is.
+pub fn run_replay<R: Read, W: Write + Drop, E: Write>(
+    alloc: Global,
+    beginning: &Beginning,
+    reader: &mut R,
+    out: &mut BufWriter<W>,
+    faults: &mut E,
+) -> Ending
+    ensures status { result.status ≤ 2 }
+    ensures ok { result.status ≡ 0
+        → Replays beginning.now R.remaining reader.old W.contents out.old out.new }
+    ensures good { result.status ≡ 0 → IsTrue (are_good beginning.now.limits) }
+    ensures flushed { result.status ≡ 0 → writer_buffer out.new ≡ [] }
+    ensures quiet { result.status ≡ 0 → faults.new ≡ faults.old }
+    ensures refused { result.status ≡ 2 → Reads R.remaining reader.old IsRefused }
+    ensures unwritten { result.status ≡ 2 → out.new ≡ out.old }
+    ensures told { Explains
+        beginning.now R.remaining reader.old E.contents faults.old faults.new result }
+{
+    match replay_all(alloc, beginning, reader, out) {
+        Ok(()) => DONE,
+        Err(fault) => explain_run(fault, &beginning.limits, faults),
+    }
+}

@@ -1,0 +1,74 @@
+//! Steps with sockets that failed.
+use std::alloc::AllocError;
+use std::fmt::{Display, Formatter};
+use std::net::SocketAddr;
+use std::{fmt, io};
+use thiserror::Error;
+
+/// A step that failed, and the system's word for it. It is written as `bind TCP 127.0.0.1:111: Permission denied (os
+/// error 13)`.
+#[derive(Debug, Drop)]
+pub struct SocketFault {
+    /// What was tried.
+    pub step: Step,
+    /// Why it failed.
+    pub error: io::Error,
+}
+
+/// Why sockets could not be bound.
+#[derive(Debug, Drop, Error)]
+pub enum BindFault {
+    /// An allocation was refused.
+    #[error("no memory")]
+    Memory(#[from] AllocError),
+    /// A step with a socket failed.
+    #[error("{0}")]
+    Socket(SocketFault),
+}
+
+/// What a daemon does with sockets.
+#[derive(Clone, Copy, Debug, PartialEq, Eq)]
+pub enum Step {
+    /// It binds a TCP socket to the address, and listens.
+    BindTcp(SocketAddr),
+    /// It binds a UDP socket to the address.
+    BindUdp(SocketAddr),
+    /// It looks at the file of the local socket, binds it, listens and sets its mode.
+    BindLocal,
+    /// It prepares to wait for events (epoll).
+    Prepare,
+    /// It waits for events.
+    Wait,
+    /// It accepts a connection.
+    Accept,
+    /// It reads a clock.
+    Clock,
+}
+
+impl Step {
+    /// The fault of this step.
+    pub fn failed(self, error: io::Error) -> SocketFault {
+        SocketFault { step: self, error }
+    }
+}
+
+impl Display for Step {
+    fn fmt<W: fmt::Write>(&self, f: &mut Formatter<W>) -> fmt::Result {
+        match self {
+            Step::BindTcp(address) => write!(f, "bind TCP {address}"),
+            Step::BindUdp(address) => write!(f, "bind UDP {address}"),
+            Step::BindLocal => write!(f, "bind the local socket"),
+            Step::Prepare => write!(f, "prepare for events"),
+            Step::Wait => write!(f, "wait for events"),
+            Step::Accept => write!(f, "accept a connection"),
+            Step::Clock => write!(f, "read the clock"),
+        }
+    }
+}
+
+impl Display for SocketFault {
+    fn fmt<W: fmt::Write>(&self, f: &mut Formatter<W>) -> fmt::Result {
+        let SocketFault { step, error } = self;
+        write!(f, "{step}: {error}")
+    }
+}
