@@ -119,7 +119,7 @@ fn read_matches<'a, E: Write>(
     }
 }
 
-/// `command` lets no words pass that name none of its commands.
+/// What the matches ask for. `command` takes no words without one of its two commands, so the last case never comes.
 fn words_of<'a>(alloc: Global, matches: &ArgMatches<'a>) -> Result<Words<'a>, Unread<'a>> {
     if let Some(serve) = matches.subcommand_matches("serve") {
         return Ok(Words::Serve(service_of(alloc, serve)?));
@@ -217,7 +217,7 @@ fn bad_host<'a>(place: usize, matches: &ArgMatches<'a>) -> BadValue<'a> {
     }
 }
 
-/// The text of an option's value. One without a value has the empty text, which no reading takes.
+/// The text of an option's value. One without a value has the empty text, which no reader of a value takes.
 fn text_of<'a>(matches: &ArgMatches<'a>, option: &str) -> &'a str {
     matches.get_str(option).unwrap_or("")
 }

@@ -5,8 +5,7 @@ use std::alloc::{AllocError, Global};
 
 const VERSION: &str = "0.1.0";
 
-/// An option with a value. Values are read as texts: what a number is, and what an address, the reader of the words
-/// says.
+/// An option with a value. clap takes each value as a text; what is a number and what an address is said in rb_lines.
 fn option<'a>(alloc: Global, name: &'a str, value: &'a str, help: &'a str) -> Arg<'a> {
     Arg::new(alloc, name)
         .long(name)

@@ -1,4 +1,5 @@
--- Which connections could begin a forwarded call: those that are not open yet, and those that await none.
+-- Numbers of connections for which no call is forwarded: those not given yet, and those of connections that are not
+-- Awaiting.
 use Rattle.std.specs.Prelude.{◌≡◌, ℕ, ◌==◌, nat_lt, Bool, true, false, not, ◌&&◌, ◌||◌, if◌then◌else◌, length, Option, Some, None, IfSome, Result, IfOk}
 use Rattle.std.specs.List.{list_any}
 use Rattle.std.specs.Map.{values_of}
@@ -67,7 +68,7 @@ pub record GoOn (old new : Table) : Type 0 where
   pub free : NoneIsFreed old new
   pub stays : StaysTable old new
 
--- What stays of connections while those are closed whose lists are in the way of a row.
+-- What stays of connections while those become Lost whose lists are in the way of a row.
 pub record StayOpen (old new : Table) : Type 0 where
   pub idle : (id : ℕ) → has_idle id old ≡ true → has_idle id new ≡ true
   pub if_there : KeepsIdle old new

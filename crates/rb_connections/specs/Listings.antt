@@ -1,4 +1,4 @@
--- The lists that are given on the connections of a table, and the connections that are lost with them.
+-- The lists that are given on the connections of a table, and which of these connections become Lost for room.
 use Rattle.std.specs.Prelude.{◌≡◌, ◌≤◌, ⊤, ℕ, nat_lt, min, Bool, false, if◌then◌else◌, List, [], map, filter_map, All, Contains, Option, Some, None}
 use Rattle.std.specs.Map.{values_of}
 use Rattle.rb_xdr.specs.Pool.{Pool}

@@ -14,8 +14,8 @@ pub use Rattle.rb_connections.specs.declared.reading.Reader.{Reader}
 
 -- ---- a record that is read
 
--- what is told of a piece behind the bytes `fed`: it is taken up to the end of the first record, with the verdict on
--- that, or whole
+-- what is returned of a piece behind the bytes `fed`: it is taken up to the end of the first record, with the verdict
+-- on that, or whole
 abbrev pub fed_until : List ℕ → List ℕ → Option ℕ → Fed
 fed_until fed piece None = record { count = length piece; verdict = None }
 fed_until fed piece (Some n) = record { count = n - length fed; verdict = Some (verdict (data_of (take n (fed ++ piece)))) }
@@ -26,7 +26,7 @@ abbrev pub StandsBehind : Reader → Kept → List ℕ → Option ℕ → Type 0
 StandsBehind reader kept all None = IsReading reader kept all
 StandsBehind reader kept all (Some n) = kept.bytes ≡ kept_of (data_of (take n all))
 
--- Whatever record the reader stands in, this is what is told of a piece,
+-- Whatever record the reader stands in, this is what is returned of a piece,
 abbrev pub TellsOfPiece : Reader → Kept → List ℕ → Fed → Type 0
 TellsOfPiece reader kept piece result =
     (fed : List ℕ) → IsReading reader kept fed → result ≡ fed_until fed piece (first_record (fed ++ piece))

@@ -1,4 +1,4 @@
--- What a connection goes on with: a reply that is written, or a list that is streamed.
+-- What a connection is settled with: a reply that is written, or a list that is given in fragments.
 use Rattle.std.specs.Prelude.{◌≡◌, ◌<◌, ℕ, Bool, List, [], length, Some, None}
 use Rattle.rb_registry.specs.Registry.{rows_of}
 use Rattle.rb_proto.specs.declared.answers.Listing.{Listing}
@@ -30,7 +30,7 @@ abbrev pub served_in : Source → Served → List ℕ → Outcome
 served_in source (Answered given) reply = outcome_with given reply
 served_in source (Listed xid listing) reply = listing_outcome source xid listing
 
--- The connection that a slot stands for goes on with what its record is answered with, where `written` is the reply.
+-- The connection that a slot stands for is settled with what its record is answered with, where `written` is the reply.
 abbrev pub SlotSettles : Source → ℕ → Served → List ℕ → Slot → Slot → Type 0
 SlotSettles source clock served written old new = SlotBecomesFrom source (settle clock (served_in source served written)) old new
 

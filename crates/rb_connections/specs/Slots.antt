@@ -79,13 +79,13 @@ pub record IsBeforePiece (slot : Slot) (reader : Reader) (clock : ℕ) (c : Conn
 abbrev pub ended_record : Peer → List ℕ → EndedRecord
 ended_record peer content = record { peer = peer; verdict = verdict content }
 
--- what the core is told of a piece that a connection takes
+-- what a connection that takes a piece returns of it
 abbrev pub received_of : List ℕ → Connection → Taking → Received
 received_of piece c TakesNone = record { count = 0; ended = None }
 received_of piece c (GoesOn fed) = record { count = length piece; ended = None }
 received_of piece c (Ends n content) = record { count = n; ended = Some (ended_record c.peer content) }
 
--- what the core is told of a record that is one fragment with this data
+-- what a connection returns of a record that is one fragment with this data
 abbrev pub received_whole : Peer → List ℕ → Received
 received_whole peer content = record { count = 4 + length content; ended = Some (ended_record peer content) }
 
@@ -101,7 +101,7 @@ connection_after clock c TakesNone = c
 connection_after clock c (GoesOn fed) = keep_reading clock fed c
 connection_after clock c (Ends n content) = record c { phase = Idle; since = clock }
 
--- Whatever bytes of a record were fed before, this is what the core is told of the piece.
+-- Whatever bytes of a record were fed before, this is what is returned of the piece.
 abbrev pub ReceivesPiece : Slot → Reader → ℕ → List ℕ → Received → Type 0
 ReceivesPiece slot reader clock piece result =
     (c : Connection) (fed : List ℕ) → IsBeforePiece slot reader clock c fed → result ≡ received_of piece c (taking_on fed piece)
@@ -286,7 +286,7 @@ pub record AreSpare (tie : ℕ) (b : Buffers) : Type 0 where
   pub buffer_empty : b.buffer.bytes ≡ []
   pub window_empty : b.window.bytes ≡ []
 
--- a buffer to write a reply in, which a connection takes in exchange for its own
+-- a buffer of the core, for a reply or for arguments, which can be swapped for a connection's own
 pub record IsDraft (tie : ℕ) (kept : Kept) : Type 0 where
   pub tie_is : kept.tie ≡ tie
   pub cap : kept.cap ≡ buffer_size

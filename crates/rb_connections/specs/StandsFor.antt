@@ -107,7 +107,7 @@ IsWithin slot = charge slot ≤ most_charge
 -- ---- all connections
 
 -- the slots of connections with their keys, in order of opening, the last number that was given, how many connections
--- there may be, and the number of the meter that counts the accesses
+-- there may be, and the number of the meter that counts the steps
 pub record Table : Type 0 where
   pub slots : List (ℕ × Slot)
   pub last_number : ℕ

@@ -30,7 +30,7 @@ pub const BUFFER_SIZE: usize = if LONGEST_KEPT < LONGEST_REPLY {
     LONGEST_KEPT
 };
 
-/// The connections that are open, in the order of their openings, and the buffers of those that are not.
+/// The connections that are open, in the order of their openings, and spare buffers for those that may be opened.
 #[derive(Drop)]
 pub struct Connections {
     slots: Pool<Slot>,
@@ -41,8 +41,8 @@ pub struct Connections {
     hints: Hints,
 }
 
-/// A core keeps its bytes in pools and buffers alone. A further field would not compile here: it
-/// belongs in the table of charges of docs/RULES.md first.
+/// Names each field, so that a further one does not compile until it stands here. It belongs in the table of
+/// charges of docs/RULES.md first.
 fn layout(connections: &Connections) {
     let Connections {
         slots,
@@ -394,9 +394,9 @@ impl Connections {
         Ok(received)
     }
 
-    /// The live connection of the number goes on as its record is answered, or the call that was forwarded for it has
-    /// ended. It owes the reply in `draft`, for which it gives an empty buffer, or a list, whose first fragment is
-    /// made in `draft`; or it is Awaiting, Idle or Lost.
+    /// Settles the live connection of the number when its record was answered, or its forwarded call has ended. It
+    /// owes the reply in `draft`, for which it gives an empty buffer, or a list, whose first fragment is made in
+    /// `draft`; or it is Awaiting, Idle or Lost.
     pub fn settle(
         &mut self,
         id: u64,

@@ -1,4 +1,4 @@
-//! How long a connection may stay in a phase.
+//! How long a connection may stay in a stage.
 ghost use Rattle.std.specs.Prelude.{◌≡◌};
 ghost use Rattle.rb_model.specs.Losses.{time_in};
 ghost use Rattle.rb_connections.specs.Slots.{phase_like};

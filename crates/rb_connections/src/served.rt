@@ -17,7 +17,7 @@ pub enum Outcome {
     Silent,
 }
 
-/// What a connection goes on with once its record was answered, or its forwarded call ended.
+/// What a connection is settled with once its record was answered, or its forwarded call ended.
 #[derive(Clone, Copy, Debug, PartialEq, Eq)]
 pub enum Served {
     /// A reply that is written, or none.

@@ -93,15 +93,15 @@ pub struct Slot {
     pub window: Kept,
 }
 
-/// The buffers of a connection that is not open.
+/// Spare buffers, which no connection has.
 #[derive(Drop)]
 pub struct Buffers {
     pub buffer: Kept,
     pub window: Kept,
 }
 
-/// A core keeps its bytes in pools and buffers alone. A further field would not compile here: it
-/// belongs in the table of charges of docs/RULES.md first.
+/// Names each field, so that a further one does not compile until it stands here. It belongs in the table of
+/// charges of docs/RULES.md first.
 fn layout(slot: &Slot, spare: &Buffers) {
     let Slot {
         number,
@@ -246,7 +246,7 @@ impl Slot {
         }
     }
 
-    /// Goes on as a record comes whole at this moment, and returns its sender. The connection stays Idle until it is
+    /// Notes that a record came whole at this moment, and returns its sender. The connection stays Idle until it is
     /// settled. `None` where it is not the connection of this number, or not Idle; then nothing changed.
     pub fn take_whole(&mut self, id: u64, clock: u64) -> Option<Peer>
         ensures idle { IfSome result (λ peer. self.old.stage ≡ Stage.Idle) }
@@ -312,7 +312,7 @@ impl Slot {
         reply.clear(meter);
     }
 
-    /// Goes on as its record is answered, or the call that was forwarded for it has ended. It owes the reply in
+    /// Settles the connection when its record was answered, or its forwarded call has ended. It owes the reply in
     /// `draft`, which is swapped for its own buffer, or a list, whose first fragment is made in `draft`; or it is
     /// Awaiting, Idle or Lost. `draft` is empty after it.
     pub fn settle(

@@ -23,7 +23,8 @@ abbrev pub CountsGiven : ℕ → ℕ → List ℕ → List ℕ → Held → Resu
 CountsGiven now id piece room held result =
     Shows StandsFor (count_now now id piece (length room)) held (count_given result)
 
--- From each state that the old core stands for, bytes are taken so, and these are given, where there is this room.
+-- From each state that the old core stands for, the call does the model's `exchange` with so much room, and the first
+-- bytes of `room` are those that were given.
 abbrev pub Exchanges : ℕ → ℕ → List ℕ → Held → Held → Result Exchanged CoreFault → List ℕ → Type 0
 Exchanges now id piece old new result room =
     Acts StandsFor (exchange now id piece (length room)) old new (taken_in result, take (count_given result) room)

@@ -27,8 +27,9 @@ use Rattle.rb_core.specs.StandsFor.{Held, StandsFor}
 use Rattle.rb_core.specs.Awaits.{AreAwaited}
 use Rattle.rb_core.specs.Eviction.{source_in}
 
--- What is true of all that a core holds: it has one meter, its draft is empty between two events, each connection for which
--- a call is forwarded awaits it, the registry can tell the lists that are given, and the reply has so many bytes.
+-- What is true of all that a core holds: it has one meter, its draft is empty between two events, each connection for
+-- which a call is forwarded awaits it, the registry can make the rest of each list that is being given, and the reply
+-- has so many bytes.
 pub record IsCore (setting : Setting) (connections : Table) (books : Books) (reply draft arguments : Kept) (reply_len : ℕ) : Type 0 where
   pub conns : connections.conns ≡ setting.limits.conns
   pub few_conns : setting.limits.conns ≤ 256

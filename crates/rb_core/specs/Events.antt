@@ -1,4 +1,4 @@
--- How an event begins, and what is told of its steps.
+-- What an event does to `steps_before`, and the steps that `Core::steps` returns.
 use Rattle.std.specs.Prelude.{◌≡◌, ◌<◌, ◌≤◌, ℕ, ◌+◌, ◌-◌, ◌*◌, ◌^◌, min, List, length, Result, Ok, Err}
 use Rattle.std.specs.Borrow.{Fml, Bor, MutBor}
 use Rattle.std.specs.Io.BufRead.{Rests}
@@ -14,7 +14,7 @@ use Rattle.rb_core.specs.contracts.events.Core.{the_row}
 use Rattle.rb_model.specs.declared.types.Exchanged.{Exchanged}
 use Rattle.rb_model.specs.Exchanges.{taken_in, count_given}
 
--- ---- what is told of them
+-- ---- counted steps
 
 -- the greatest count that a meter shows
 abbrev pub greatest_count : ℕ

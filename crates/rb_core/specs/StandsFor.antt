@@ -21,8 +21,9 @@ pub record Held : Type 0 where
 abbrev pub source_of : Held → Source
 source_of held = source_for held.setting.listener.host held.books.registry
 
--- Neither the changes nor the history of calls is held, nor a list as a whole. Between two events no arguments are,
--- and no more bytes of a connection and of the reply than there is room for. A state has nothing like `steps_before`.
+-- What a core holds stands for a state. The changes of rows, the history of calls and whole lists are not held, and
+-- between two events no arguments are. What is held of a connection and of the reply has its limit. A state has nothing
+-- like `steps_before`.
 pub record StandsFor (held : Held) (s : State) : Type 0 where
   pub setting : held.setting ≡ s.setting
   pub clock : held.clock ≡ s.clock

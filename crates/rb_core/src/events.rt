@@ -48,8 +48,8 @@ pub struct Core {
     steps_before: u128,
 }
 
-/// A core keeps its bytes in pools and buffers alone. A further field would not compile here: it
-/// belongs in the table of charges of docs/RULES.md first.
+/// Names each field, so that a further one does not compile until it stands here. It belongs in the table of
+/// charges of docs/RULES.md first.
 fn layout(core: &Core) {
     let Core {
         limits,
@@ -470,8 +470,9 @@ impl Core {
         self.connections.pending(id, meter)
     }
 
-    /// Records that `n` pending bytes were sent at the moment `now`, or all if fewer are pending. The next fragment is
-    /// pending then, or the connection takes the next record. `Gone` where there is no such connection, or it is Lost.
+    /// Records that `n` pending bytes were given at the moment `now`, or all if fewer are pending. The next fragment
+    /// is pending then, or the connection takes the next record. `Gone` where there is no such connection, or it is
+    /// Lost.
     #[tactic(auto, using(crate::proofs::HeldBytes::never_passes, crate::proofs::CallBounds::gave_within))]
     pub fn gave(&mut self, now: u64, id: u64, n: usize, meter: &mut Meter) -> Result<(), CoreFault>
         requires { meter.old.tie ≡ self.old.tie }
@@ -596,7 +597,8 @@ impl Core {
     }
 
     /// Does one thing that is due at the moment `now`: ends the due forwarded call of least number, or where there is
-    /// none, makes the due connection of least number Lost. `Nothing` where nothing is due. Call it until then.
+    /// none, makes the due connection of least number Lost. `Nothing` where nothing is due. Call it until it answers
+    /// `Nothing`.
     #[tactic(auto, using(crate::proofs::HeldBytes::never_passes, crate::proofs::CallBounds::ending_within))]
     pub fn expire(&mut self, now: u64, meter: &mut Meter) -> Expired
         requires { meter.old.tie ≡ self.old.tie }
@@ -646,8 +648,8 @@ impl Core {
             + self.reply_len
     }
 
-    /// How many steps the last event took, a refused one too, while the count of the meter is below 2^128 - 1. An event
-    /// is a call with `&mut self`; what the meter was paid since it counts as its own.
+    /// How many steps the meter counted since the last call with `&mut self` began: those of that call, also where it
+    /// was refused, and what the meter was paid since. It is right while the count of the meter is below 2^128 - 1.
     pub fn steps(&self, meter: &Meter) -> u128
         requires { meter.now.tie ≡ self.now.tie }
         ensures { TellsSteps self.now meter.now result }

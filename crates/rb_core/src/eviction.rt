@@ -1,4 +1,5 @@
-//! Room for a row among the live rows and those that were removed, but are retained for lists that are being given.
+//! Room for a row beside the live rows and the retained ones: those that were removed, and not dropped yet, since a
+//! list that is being given may need them.
 ghost use Rattle.std.specs.Prelude.{◌≡◌, ◌≤◌, IsTrue};
 ghost use Rattle.rb_xdr.specs.Meter.{PaysAtMost};
 ghost use Rattle.rb_proto.specs.Books.{AreTied, HasPlaceLeft, SameFrame};
@@ -14,8 +15,8 @@ use rb_proto::{Books, Context};
 use rb_registry::Registry;
 use rb_xdr::Meter;
 
-/// From this number of retained rows on, a SET looks for those that can go, though there is room beside them. Fewer stay, so
-/// that not each SET walks the rows.
+/// With so many retained rows or more, a SET drops those that no list needs, even where there is room. With fewer it
+/// does not walk the rows.
 const MANY_RETAINED: usize = 16;
 
 /// Returns whether there is room for a row beside the live and the retained rows, and few are retained.

@@ -1,5 +1,6 @@
-//! The port mapper's logic without sockets: one event is one public call on `Core`, and nothing happens between two.
-//! `Core::exchange` alone is up to two in one: bytes that arrive, and the `gave` of a short reply to them.
+//! The portmapper's logic without sockets: each event is one call on `Core`, and nothing happens between two. The
+//! look at a reply over UDP, `udp_reply`, belongs to the event before it. `Core::exchange` alone is up to two events
+//! in one: bytes that arrive, and the `gave` of a short reply to them.
 #![tactic(auto)]
 
 mod calls;

@@ -246,7 +246,7 @@ fn put_passed(forward: &Forward, results: &[u8], out: &mut Kept, meter: &mut Met
     }
 }
 
-/// Writes what the caller of a failed call is told into an empty buffer.
+/// Writes the reply to the caller of a forwarded call that failed into an empty buffer; nothing where it gets none.
 #[tactic(auto, unfolding(rb_model::specs::Calls::longest_reply))]
 fn put_failed(forward: &Forward, status: ReplyStatus, out: &mut Kept, meter: &mut Meter) -> Outcome
     requires out { IsEmptyReply meter.old.tie out.old }
@@ -266,8 +266,8 @@ fn put_failed(forward: &Forward, status: ReplyStatus, out: &mut Kept, meter: &mu
     }
 }
 
-/// Writes what the caller of a forwarded call is told at its end into an empty buffer; `message` is the datagram that ended
-/// it.
+/// Writes the reply to the caller of a forwarded call that ended into an empty buffer; nothing where it gets none.
+/// `message` is the datagram that ended it.
 pub fn put_end(ended: &Ended, message: &[u8], out: &mut Kept, meter: &mut Meter) -> Outcome
     requires within { PassesWithin ended.now.outcome (length message.now) }
     requires out { IsEmptyReply meter.old.tie out.old }

@@ -15,7 +15,8 @@ use Rattle.rb_daemon.specs.declared.engine.Engine.{Engine}
 use Rattle.rb_daemon.specs.declared.engine.Given.{Given}
 use Rattle.rb_daemon.specs.Served.{WasGiven}
 
--- It stands at the opening; the first forwarded call has the low 32 bits of the moment for its number.
+-- Its core stands for the state before the first event; the xid of the first forwarded call is the low 32 bits of the
+-- moment.
 abbrev pub BeginsAt : ℕ → Limits → Listener → Engine → Type 0
 BeginsAt moment limits listener engine = StandsFor engine.core (opening limits listener (moment % 2 ^ 32) moment)
 
@@ -23,7 +24,7 @@ BeginsAt moment limits listener engine = StandsFor engine.core (opening limits l
 abbrev pub Moves : (State → ℕ → State) → Engine → Engine → Type 0
 Moves next old new = (s : State) → StandsFor old.core s → StandsFor new.core (next s old.moment)
 
--- It answers besides as the step does.
+-- The same, and its result is that of the step.
 abbrev pub ActsNow : {R : Type 0} → (State → ℕ → R × State) → Engine → Engine → R → Type 0
 ActsNow step old new result = Acts StandsFor (λ s. step s old.moment) old.core new.core result
 

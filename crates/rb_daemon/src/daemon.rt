@@ -21,8 +21,7 @@ use std::time::Duration;
 /// The most events that one wait shows. The system keeps the others for the next.
 const EVENTS: usize = 64;
 
-/// A core and the sockets that it is served by. What it takes of memory it takes in `new`; `tests/run-memory.sh`
-/// shows so.
+/// A core and the sockets around it. What it takes of memory it takes in `new`; `tests/run-memory.sh` shows so.
 #[derive(Drop)]
 pub struct Daemon<'a, R: Clock> {
     clock: &'a R,
@@ -86,9 +85,9 @@ impl<'a, R: Clock> Daemon<'a, R> {
 
     /// Waits for events once, at most `wait_ms` milliseconds, and not at all where something is left from the last
     /// turn, and serves all that it showed, in this order: datagrams, what comes back for forwarded calls,
-    /// connections, those that are owed bytes last, what is due, and at last connections that are to be accepted, for
-    /// which places are free by then. After a fault, `Socket` of a listener, the wait or the clock, what was handed
-    /// to the core stands, and the daemon can do no more.
+    /// connections, those that are owed bytes last, and what is due. Then it closes Lost connections, and accepts
+    /// connections as far as there are free places. After a fault, `Socket` of a listener, the wait or the clock,
+    /// what was handed to the core stands, and the daemon can do no more.
     pub fn turn(&mut self, wait_ms: u64) -> Result<(), DaemonFault> {
         self.wait(wait_ms)?;
         let now = self.moment()?;
@@ -151,8 +150,8 @@ fn millis(time: Duration) -> u64 {
     u64::try_from(time.as_millis()).unwrap_or(u64::MAX)
 }
 
-/// An engine, at the moment that the clock gave, and the moments that follow. The limits are looked at before the
-/// clock is.
+/// An engine at the moment `first` that the clocks gave, and the source of later moments. Bad limits are reported
+/// before a clock that failed.
 fn engine_of(
     alloc: Global,
     limits: Limits,

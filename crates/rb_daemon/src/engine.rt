@@ -99,8 +99,8 @@ impl Engine {
     ghost use Rattle.rb_daemon.specs.Served.{after_giving, answer_datagram, ready_of, take_forward_reply, expire_due, send_forward};
     ghost use Rattle.rb_daemon.specs.Moves.{BeginsAt, Moves, ActsNow, GivesPending, RecordsEvents, CountsGiven};
 
-    /// A new core at this moment, which is the first. The first forwarded call has the low 32 bits of it for its
-    /// number. Up to `record_limit` bytes of its events are recorded. `BadLimits` where a limit is out of its range, else
+    /// A new core at this moment, which is the first. The xid of the first forwarded call is the low 32 bits of it.
+    /// Up to `record_limit` bytes of its events are recorded. `BadLimits` where a limit is out of its range, else
     /// `NoMemory` where an allocation is refused.
     pub(crate) fn new(
         alloc: Global,

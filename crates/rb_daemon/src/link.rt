@@ -15,7 +15,7 @@ use std::io::Read;
 /// How many bytes of a connection are read ahead of the core.
 const READ_AHEAD: usize = 1024;
 
-/// Each exchange with the core, but the last, takes or gives a byte at least.
+/// The most exchanges with the core in one step: each but the last takes or gives a byte at least.
 const EXCHANGES: usize = READ_AHEAD + LONG_ROOM;
 
 /// The number of a turn, and its moment in milliseconds.
@@ -25,7 +25,8 @@ pub(crate) struct Turn {
     pub(crate) moment: u64,
 }
 
-/// All of its memory is there before the first connection has it, and stays for the next.
+/// The place of an accepted connection. Its memory is taken before the first connection has it, and stays for the
+/// next.
 #[derive(Drop)]
 pub(crate) struct Link {
     /// The core's number of the connection.
@@ -65,7 +66,7 @@ pub(crate) struct Link {
 /// How a connection stands after it was served.
 #[derive(Clone, Copy, Debug, PartialEq, Eq)]
 pub(crate) enum Progress {
-    /// The next event on it will be shown.
+    /// It waits for an event.
     Blocked,
     /// It used up its socket calls, or wrote enough.
     CutOff,
@@ -141,7 +142,7 @@ impl Link {
         self.is_waiting
     }
 
-    /// It is to be served though no event shows it, since the core waited for something else, and that has come.
+    /// It is to be served though no event shows it: its forwarded call has ended, and the core may owe the reply.
     pub(crate) fn wake(&mut self) {
         self.is_waiting = true;
         self.is_awaiting = false;
@@ -168,7 +169,7 @@ impl Link {
         self.is_waiting = !self.is_free();
     }
 
-    /// What is kept of the connection that has the place, for the door.
+    /// What `Arrival` is decided by, of the connection that has the place.
     pub(crate) fn holder(&self) -> Option<Holder> {
         if self.is_free() {
             return None;
@@ -235,7 +236,7 @@ impl Link {
 
     /// Makes at most one socket call: a write where replies wait, else a read. Replies are taken over only where the
     /// socket has taken all that were before. Where bytes are left that the core does not take while no reply is
-    /// owed, it waits for something else.
+    /// owed, it waits for the end of its forwarded call.
     fn step(&mut self, engine: &mut Engine, forwards: &ForwardSocket, may_end: bool) -> Next {
         if self.outbox.is_empty() && !self.exchange(engine, forwards) {
             let _ = self.write();
@@ -272,7 +273,7 @@ impl Link {
 
     /// Hands in the bytes that were read and not yet taken, up to the end of a record, and says how many were taken,
     /// or `None` where the connection is over. A short reply is in the outbox at once, and then the core owes none. A
-    /// call that is forwarded is sent at once: no other one is to be sent, since each was when it came.
+    /// call that is forwarded is sent at once: no other one is unsent, since each was sent when it came.
     fn hand_in(&mut self, engine: &mut Engine, forwards: &ForwardSocket) -> Option<usize> {
         if self.start == self.end {
             return Some(0);
@@ -293,8 +294,8 @@ impl Link {
         Some(taken.count)
     }
 
-    /// Notes whether a record ended with the bytes that were taken, of so many that were there. Of one that is
-    /// answered later its reply tells (`take_over`).
+    /// Notes whether a record ended with the bytes that were taken, of so many that were there. If it is answered
+    /// later, `take_over` notes that.
     fn note_taken(&mut self, taken: usize, read: usize, given: usize) {
         if ends_record(taken, read, given, self.is_awaiting) {
             self.made_progress = true;

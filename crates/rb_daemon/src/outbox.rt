@@ -85,7 +85,7 @@ impl Outbox {
         self.end = 0;
     }
 
-    /// Has the longer of two that are empty, in exchange for the shorter.
+    /// Swaps the two where both are empty and the other one is longer.
     pub(crate) fn take_longer(&mut self, other: &mut Outbox)
         ensures stays { self.new ≡ self.old }
         ensures other { other.new ≡ other.old }

@@ -26,7 +26,7 @@ const DATAGRAMS: usize = SOCKET_CALLS / 2;
 /// The most that can be due at one moment: forwarded calls, at most 64, and connections, at most 256.
 const THINGS_DUE: usize = 64 + 256;
 
-/// A forwarded call has ended after so many milliseconds.
+/// A forwarded call ends so many milliseconds after it came, or before.
 const FORWARDED: u64 = 5_000;
 
 /// The core with its sockets, the places of connections, and what is left for the next turn.
@@ -36,7 +36,7 @@ pub(crate) struct Serving {
     sockets: Sockets,
     /// The places of connections, by the keys that their events show.
     links: Vec<Link>,
-    /// What is kept of each of them for the door, as it was when somebody came last.
+    /// What decides who is let in knows of each place, as of the last newcomer.
     holders: Vec<Option<Holder>>,
     /// How many places have connections.
     taken: usize,
@@ -46,13 +46,13 @@ pub(crate) struct Serving {
     long_outbox: Outbox,
     datagram: Vec<u8>,
     turn: Turn,
-    /// The last moment at whose end nothing was due any more.
+    /// The moment at which the core was last asked for all that was due.
     expired_at: Option<u64>,
     /// The moment by which each call that came over UDP and was forwarded has ended.
     awaited_until: u64,
     /// Whether connections are to be served though no event shows them.
     are_links_left: bool,
-    /// The key at which the next last round begins.
+    /// The key at which the last round of the next turn begins.
     first_left: usize,
 }
 
@@ -174,7 +174,7 @@ impl Serving {
         }
     }
 
-    /// Serves a connection, at most once in a turn, whose peer may have ended what it sends, or has not.
+    /// Serves a connection, at most once in a turn. `may_end` is whether its peer may have ended what it sends.
     fn serve_link(&mut self, key: usize, may_end: bool) {
         let Some(link) = self.links.get_mut(key) else {
             return;

@@ -28,8 +28,8 @@ pub(crate) enum SysField {
 /// Names the type of a part, for `layout`.
 pub(crate) fn part<T: Copy>(_part: T) {}
 
-/// A core keeps its bytes in pools and buffers alone. A further field would not compile here: it
-/// belongs in the table of charges of docs/RULES.md first.
+/// Names each field, so that a further one does not compile until it stands here. It belongs in the table of
+/// charges of docs/RULES.md first.
 fn layout(field: &SysField) {
     match *field {
         SysField::Stamp | SysField::NameLength | SysField::Uid | SysField::Unreadable => {}

@@ -29,8 +29,8 @@ pub struct Forwards {
     held: u64,
 }
 
-/// A core keeps its bytes in pools and buffers alone. A further field would not compile here: it
-/// belongs in the table of charges of docs/RULES.md first.
+/// Names each field, so that a further one does not compile until it stands here. It belongs in the table of
+/// charges of docs/RULES.md first.
 fn layout(forwards: &Forwards) {
     let Forwards {
         slots,
@@ -45,7 +45,7 @@ fn layout(forwards: &Forwards) {
     let _: (u64, u32, u32, u64) = (*last_number, *first_xid, *cap, *held);
 }
 
-/// The head of the call behind so many.
+/// The head of the next forwarded call, where the last one had the number `last_number`.
 #[tactic(auto, unfolding(crate::specs::Forwards::xid_of), using(crate::proofs::Xids::xids))]
 fn head_of(first_xid: u32, last_number: u64, forward: &Forward) -> CallHead
     ensures { result ≡ head_of first_xid (last_number + 1) forward.now }

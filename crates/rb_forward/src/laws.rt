@@ -2,8 +2,9 @@
 ghost use Rattle.rb_forward.specs.Ends.{RepliesEndTheirOwn, DeadlinesEnd, ClosingsEnd};
 ghost use Rattle.rb_forward.specs.Laws.{NumbersNeverRecur, EachEndsOnce, EntriesAreInOrder, EndsAreTold};
 
-/// A call ends the first entry that is meant, and leaves the others as they are: a datagram that was sent, whose xid, host
-/// and port are right, before its deadline; a deadline that has come; the caller's connection.
+/// A datagram ends the first entry that was sent, whose xid, host and port are those of the datagram and whose
+/// deadline has not come. `due` ends the first entry whose deadline has come, and the end of a connection its entry.
+/// The others stay as they are.
 pub fn calls_end_the_first()
     ensures replies { RepliesEndTheirOwn }
     ensures deadlines { DeadlinesEnd }

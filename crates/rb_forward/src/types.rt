@@ -24,7 +24,7 @@ pub struct Forward {
     pub xid: u32,
     /// The procedure by which it was asked for, which says what the answer shows.
     pub kind: Kind,
-    /// Where the call is sent, and whence its reply comes.
+    /// Where the call is sent, and where its reply has to come from.
     pub target: Peer,
     /// The host and the port that the answer shows.
     pub shown: Peer,
@@ -36,8 +36,8 @@ pub struct Forward {
     pub proc: u32,
 }
 
-/// A core keeps its bytes in pools and buffers alone. A further field would not compile here: it
-/// belongs in the table of charges of docs/RULES.md first.
+/// Names each field, so that a further one does not compile until it stands here. It belongs in the table of
+/// charges of docs/RULES.md first.
 fn layout(forward: &Forward) {
     let Forward {
         caller,
@@ -66,7 +66,7 @@ pub struct FwdId {
 /// A call that is yet to be sent.
 #[derive(Clone, Copy)]
 pub struct Unsent<'a> {
-    /// The entry's number, by which `sent` is told of it.
+    /// The entry's number, which `sent` takes.
     pub id: FwdId,
     /// Where it is to be sent.
     pub target: Peer,

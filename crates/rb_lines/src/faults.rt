@@ -37,8 +37,7 @@ pub enum Fault {
 impl Fault {
     ghost use Rattle.rb_lines.specs.Faults.{status_of};
 
-    /// The exit status of a program that ends by this fault: 2 where nothing was run because of its
-    /// words or its input, else 1.
+    /// The exit status of a program that ends by this fault: 2 where its words or its input are at fault, else 1.
     pub fn status(self) -> u8
         ensures { result ≡ status_of self }
     {

@@ -14,7 +14,7 @@ pub struct Beginning {
     pub limits: Limits,
     /// The host that answers show for 0.0.0.0, and the port.
     pub listener: Listener,
-    /// The number of the first forwarded call.
+    /// The xid of the first forwarded call.
     pub first_xid: u32,
     /// The first moment, in milliseconds since the start of 1970.
     pub moment: u64,
@@ -64,7 +64,7 @@ pub struct ReplayTexts<'a> {
     pub forwards: &'a str,
     /// From 1 to 65535.
     pub port: &'a str,
-    /// The number of the first forwarded call, of 32 bits.
+    /// The xid of the first forwarded call, of 32 bits.
     pub xid: &'a str,
     /// The first moment, in milliseconds since the start of 1970.
     pub moment: &'a str,

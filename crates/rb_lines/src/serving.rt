@@ -86,7 +86,7 @@ pub enum ServeFault {
 }
 
 /// The text that stands for the value of an option of `serve` that is not given, as it stands in the help. Where
-/// nothing stands for it, the empty text, which no reading takes.
+/// nothing stands for it, the empty text, which no reader of a value takes.
 pub fn serve_default(option: Valued) -> &'static str
     ensures { result.now ≡ default_of option }
 {

@@ -21,7 +21,7 @@ pub record Sizes : Type 0 where
   pub left : ℕ
   pub forwards : ℕ
 
--- those of a state, whose rows count as many as there may be
+-- those of a state, where the rows count by their limit
 abbrev pub sizes_in : State → Sizes
 sizes_in s = record {
   connections = length s.connections.all;

@@ -60,11 +60,11 @@ unless_refused now s (Ok x, connections) = (Ok x, record (at_moment now s) { con
 
 -- ---- bytes that arrive on a connection
 
--- the connection goes on by the outcome; and whether it is Lost now, since the record is no call
+-- settles the connection with the outcome; and whether it is Lost now, since the record is no call
 abbrev pub settle_on : ℕ → Outcome × State → Bool × State
 settle_on id (given, s) = (is_no_call given, on_connection id (settle s.clock given) s)
 
--- the data of a record on a connection is answered, and the connection goes on
+-- the data of a record on a connection is answered, and the connection is settled
 unfoldable pub serve_record : State → ℕ → Peer → List ℕ → Bool × State
 serve_record s id peer content = settle_on id (serve s (Tcp id peer) content)
 

@@ -63,9 +63,8 @@ whole_bound limits buffered events outputs =
 
 -- ---- laws
 
--- An event costs at most 16 steps for each of its bytes, and its allowance. Arguments that wait are paid ahead, two steps
--- for each byte, by the event that brings them: what is left behind is paid besides, and the event that reads them has
--- those steps.
+-- An event costs at most 16 steps for each of its bytes, and its allowance. This bound is amortised: the event that
+-- brings a byte of arguments pays two steps ahead for it, and the event that answers the record spends them.
 abbrev pub EventsArePaidAhead : Type 0
 EventsArePaidAhead =
     (s : State) → IsReached s → are_good s.setting.limits ≡ true → (event : Event)

@@ -1,4 +1,4 @@
--- Worked examples: lists that are streamed, rows that are retained for them, and connections that are closed for room.
+-- Worked examples: lists that are streamed, rows that are retained for them, and connections that become Lost for room.
 use Rattle.std.specs.Prelude.{◌≡◌, ℕ, ◌+◌, List, [], ◌∷◌, ◌++◌, take, drop, map, Some, None}
 use Rattle.std.specs.List.{flat_map, range_with_len}
 use Rattle.rb_xdr.specs.Xdr.{words}
@@ -46,7 +46,7 @@ C = 200003
 
 -- ---- retained rows, and room
 
--- a list is that of its call while rows go, and the oldest reader is closed for room
+-- a list is that of its call while rows go, and the connection with the oldest list becomes Lost for room
 abbrev pub DumpSurvivesUnsetAndEvicts : Type 0
 DumpSurvivesUnsetAndEvicts =
     run (fresh_with 8)
@@ -59,7 +59,7 @@ DumpSurvivesUnsetAndEvicts =
     ∷ LostIs (Some 1) ∷ Refused Gone ∷ was_true ∷ IsPending (words (0x800000a8 ∷ []) ++ dump_reply (B ∷ []))
     ∷ Done ∷ LostIs None ∷ []
 
--- all that began before the row went are closed, and none that began later
+-- each connection whose list began before the row went becomes Lost, and none whose list began later
 abbrev pub OldReadersAreEvicted : Type 0
 OldReadersAreEvicted =
     run (fresh_with 8)
@@ -69,7 +69,7 @@ OldReadersAreEvicted =
     ∷ LostIs (Some 1) ∷ Done ∷ LostIs (Some 2) ∷ Done ∷ LostIs None
     ∷ IsPending (words (0x800000a8 ∷ []) ++ dump_reply (B ∷ [])) ∷ []
 
--- a table that is full of live rows refuses, and closes nobody
+-- a table that is full of live rows refuses, and no connection becomes Lost
 abbrev pub FullTableRefuses : Type 0
 FullTableRefuses =
     run (fresh_with 8) (open_event ∷ set A ∷ set B ∷ dump 1 ∷ set C ∷ NextLost ∷ [])

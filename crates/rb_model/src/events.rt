@@ -12,7 +12,7 @@ pub enum Event {
     Bytes(u64, u64, Vec<u8>),
     /// Asks which bytes are to be sent next on the connection of this number.
     Pending(u64),
-    /// Pending bytes were sent on a connection: the moment, its number, and how many.
+    /// Pending bytes were given on a connection: the moment, its number, and how many.
     Gave(u64, u64, u64),
     /// The connection of the number was closed.
     Closed(u64),
@@ -48,7 +48,7 @@ pub enum Output {
     Opened(u64),
     /// The call on the core was refused, and changed nothing.
     Refused(CoreFault),
-    /// More bytes were reported as sent than are pending, so `gave` was not called.
+    /// More bytes were reported as given than are pending, so `gave` was not called.
     TooMuch,
     /// So many bytes were taken.
     Took(usize),

@@ -49,12 +49,12 @@ IsNextPart host kept r shown part = slice_range shown part.start part.end ≡ ta
 abbrev pub IsBehindPart : List ℕ → Registry → ListReply → ListReply → Type 0
 IsBehindPart host kept old new = rest_of host kept new ≡ drop longest_part (rest_of host kept old)
 
--- The rows of the reply can be told, and what was given of that at the cursor is no more than a row adds.
+-- The rows of the reply can be listed, and what was given of that at the cursor is no more than a row adds.
 pub record CanBeContinued (kept : Registry) (r : ListReply) : Type 0 where
   pub place : StandsIn kept r.stamp r.cursor
   pub given : r.given ≤ longest_row
 
--- in the new registry too the rows of the reply can be told, and the same is yet to be given
+-- in the new registry too the rows of the reply can be listed, and the same is yet to be given
 pub record ContinuesAlike (old new : Registry) (r : ListReply) : Type 0 where
   pub told : CanBeContinued new r
   pub rest : (host : List ℕ) → rest_of host new r ≡ rest_of host old r

@@ -27,8 +27,8 @@ pub struct Books {
     pub forwards: Forwards,
 }
 
-/// A core keeps its bytes in pools and buffers alone. A further field would not compile here: it
-/// belongs in the table of charges of docs/RULES.md first.
+/// Names each field, so that a further one does not compile until it stands here. It belongs in the table of
+/// charges of docs/RULES.md first.
 fn layout(books: &Books) {
     let Books {
         registry,

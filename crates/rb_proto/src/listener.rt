@@ -16,8 +16,8 @@ pub struct Listener {
     pub port: u16,
 }
 
-/// A core keeps its bytes in pools and buffers alone. A further field would not compile here: it
-/// belongs in the table of charges of docs/RULES.md first.
+/// Names each field, so that a further one does not compile until it stands here. It belongs in the table of
+/// charges of docs/RULES.md first.
 fn layout(listener: &Listener) {
     let Listener { host, port } = *listener;
     let _: ([u8; 4], u16) = (host, port);

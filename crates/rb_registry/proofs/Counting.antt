@@ -1,4 +1,4 @@
--- How many rows are dead.
+-- How many rows are retained.
 use Rattle.std.proofs.Common.{◌≡◌, ℕ, ◌+◌, Bool, true, false, not, cond, eqb, List, [], ◌∷◌, length, Option, Some, None, refl, ◌∙◌, arith}
 use Rattle.std.specs.Prelude.{is_some, is_none, ◌&&◌, count_by}
 use Rattle.std.specs.List.{list_any, cons_option}
@@ -74,7 +74,7 @@ removals-marked stamp change (e ∷ rest) h = by_test (goes stamp change e.1) re
 
 -- ---- a trim
 
--- what it drops was dead
+-- what it drops was removed
 pub was_removed : (oldest : Option ℕ) (slot : Slot) → is_dropped oldest slot ≡ true → is_some slot.removed ≡ true
 unfolding is_dropped
 was_removed oldest slot t = by_removed slot.removed t
@@ -104,7 +104,7 @@ removals-without (e ∷ rest) key slot h dead = by_test (eqb e.0 key) refl (λ f
         rw t (one_more e.1.removed (removals rest) (rw same dead))
     by_test false t further = rw t (both_more e.1.removed (removals (without rest key)) (removals rest) (further (rw t at h)))
 
--- where no row is dead, it drops none
+-- where no row is retained, it drops none
 pub none_dropped : (oldest : Option ℕ) (entries : List (ℕ × Slot)) → length (removals entries) ≡ 0 → entries_left oldest entries ≡ entries
 unfolding is_dropped
 none_dropped oldest [] h = refl

@@ -121,7 +121,7 @@ not_covered_stays stamp change slot live not_covered = rw (live, not_covered) re
 pub not_marked : (stamp : ℕ) (change : Change) (slot : Slot) → goes stamp change slot ≡ false → with_mark stamp change slot ≡ slot
 not_marked stamp change slot stays = rw stays refl
 
--- what a trim drops was dead at the moments from its stamp on
+-- what a trim drops was not live at the moments from its stamp on
 abbrev pub IsPast : ℕ → Option ℕ → ℕ → Type 0
 IsPast stamp oldest n = (r : ℕ) → r ≤ stamp → removed_by (Some r) oldest ≡ true → r ≤ n
 
@@ -286,7 +286,7 @@ pub AreStamped-own : (key : ℕ) (row : Row) (entries : List (ℕ × Slot)) → 
 AreStamped-own key row [] few h = (record { added = omega arith; removed = tt; addr = few }, tt)
 AreStamped-own key row (e ∷ rest) few h = (h.0, AreStamped-own key row rest few h.1)
 
--- ---- live and dead rows
+-- ---- live and retained rows
 
 -- at the last change a slot is live where it has no removal
 pub live_has_none : (stamp : ℕ) (slot : Slot) → IsStamped stamp slot → is_live_at stamp slot ≡ is_none slot.removed
@@ -346,7 +346,7 @@ none_marked stamp change (e ∷ rest) h =
     neither true b t = absurd cc
     neither false b t = (refl, t)
 
--- a trim drops of the dead rows those that it names
+-- a trim drops of the retained rows those that it names
 pub trimmed_removals : (oldest : Option ℕ) (entries : List (ℕ × Slot)) → removals (filter (λ e. not (is_dropped oldest e.1)) entries) ≡ filter (λ r. not (removed_by (Some r) oldest)) (removals entries)
 unfolding is_dropped
 trimmed_removals oldest [] = refl

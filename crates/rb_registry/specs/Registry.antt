@@ -24,9 +24,9 @@ removals entries = filter_map (λ slot. slot.removed) (values_of entries)
 
 -- ---- the registry
 
--- the rows with their changes, under their keys, how many there may be, the memory that the table holds (as of a `Pool`),
--- how many changes were accepted, the least number of changes after which the rows can be told, and the number of the
--- meter that counts the calls
+-- the rows with their changes, under their keys, how many there may be, the memory that the table holds (as of a
+-- `Pool`), how many changes were accepted, the least number of changes after which the rows can be listed, and the
+-- number of the meter that counts the steps
 pub record Registry : Type 0 where
   pub entries : List (ℕ × Slot)
   pub limit : ℕ
@@ -57,7 +57,7 @@ removals_of kept = removals kept.entries
 abbrev pub retained_count : Registry → ℕ
 retained_count kept = length (removals_of kept)
 
--- the rows after so many changes can be told
+-- the rows after so many changes can be listed
 pub record Reaches (kept : Registry) (stamp : ℕ) : Type 0 where
   pub from_floor : kept.floor ≤ stamp
   pub made : stamp ≤ kept.stamp

@@ -104,7 +104,7 @@ abbrev pub takes : Registry → Row → Bool
 takes kept row =
     has_place kept.limit (rows_of kept) kept.stamp row && nat_lt (length (rows_of kept) + retained_count kept) kept.limit
 
--- the stamp that a trim is told, None and one to come counting as the present one
+-- the stamp that a trim asks for, where None or one to come counts as the present one
 abbrev pub stamp_told : Registry → Option ℕ → ℕ
 stamp_told kept oldest = min (unwrap_or oldest kept.stamp) kept.stamp
 

@@ -15,8 +15,8 @@ pub(crate) struct Slot {
     pub(crate) row: Row,
 }
 
-/// A core keeps its bytes in pools and buffers alone. A further field would not compile here: it
-/// belongs in the table of charges of docs/RULES.md first.
+/// Names each field, so that a further one does not compile until it stands here. It belongs in the table of
+/// charges of docs/RULES.md first.
 fn layout(slot: &Slot) {
     let Slot {
         added,
@@ -57,7 +57,8 @@ impl Slot {
         self.row.is_of(prog, vers, netid) && self.is_live_at(stamp)
     }
 
-    /// Whether the row was removed by that change or one before it, or by any where none is named.
+    /// Whether `trim` drops the row: it was removed by the change of number `oldest` or an earlier one, or by any
+    /// where `oldest` is `None`.
     #[tactic(auto, unfolding(crate::specs::Slots::is_dropped))]
     pub(crate) fn is_dropped(&self, oldest: Option<u64>) -> bool
         ensures { result ≡ is_dropped oldest self.now }

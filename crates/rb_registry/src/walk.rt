@@ -114,8 +114,8 @@ pub(crate) struct Dropped {
     pub(crate) bytes: u64,
 }
 
-/// Takes out, of so many retained rows, those that were removed by that change or one before it, all where none is
-/// named. Where no row is retained, none is looked at.
+/// Drops the rows that were removed by the change of number `oldest` or an earlier one, or all removed rows where it
+/// is `None`. `retained` is how many removed rows there are; where it is 0, no row is looked at.
 pub(crate) fn drop_retained(
     slots: &mut Pool<Slot>,
     retained: usize,

@@ -22,8 +22,8 @@ use Rattle.rb_replay.specs.Running.{first_state, IsCoreFault, IsRead, IsRefused,
 abbrev pub IsFrontOf : List (List ℕ) → List (List ℕ) → Type 0
 IsFrontOf some all = (rest : List (List ℕ)) × (all ≡ some ++ rest)
 
--- This is the number of the first line at which the text and the outputs differ: what the lines before it say is a front
--- of the outputs, and with it no more.
+-- This is the number of the first line at which the text and the outputs differ: the output lines before it are a front
+-- of those of the outputs, and with this line they are none.
 pub record IsFirstOther (text : List ℕ) (outputs : List Output) (n : ℕ) : Type 0 where
   pub before : List (List ℕ)
   pub line : List ℕ
@@ -44,7 +44,7 @@ pub record Agrees (text : List ℕ) (outputs : List Output) : Type 0 where
   pub same : output_lines_in text ≡ output_lines outputs
   pub some : 0 < length outputs
 
--- how it may be that the text's output lines are not those of the outputs, or that this is not known
+-- why the text's output lines are not those of the outputs, or why that is not known
 abbrev pub IsUnlike : List ℕ → List Output → Fault → Type 0
 IsUnlike text outputs NoMemory = Unit {0}
 IsUnlike text outputs NoOutputs = output_lines_in text ≡ []
@@ -58,12 +58,12 @@ IsUnlike text outputs other = ⊥
 abbrev pub agreement : ℕ → List ℕ
 agreement n = decimal n ++ codes " outputs agree\n"
 
--- This holds of the outputs of the run of these events, which are there.
+-- The text was read, and this holds of the outputs of the run of its events.
 abbrev pub OfRun : Beginning → (List Output → Type 0) → Result (List Event) ReadFault → Type 0
 OfRun beginning Holds (Ok events) = Holds (run (first_state beginning) events)
 OfRun beginning Holds (Err fault) = ⊥
 
--- so many outputs
+-- the text's output lines are those of the outputs, and n is how many
 abbrev pub AgreesWith : List ℕ → ℕ → List Output → Type 0
 AgreesWith text n outputs = Agrees text outputs × (n ≡ length outputs)
 
@@ -72,7 +72,7 @@ abbrev pub IsAgreed : {R : Type 0} → Beginning → (R → Option (List ℕ)) �
 IsAgreed beginning remaining reader n =
     IfSome (remaining reader) (λ input. OfRun beginning (AgreesWith input n) (read input))
 
--- So they are, and that so many agree was written, and nothing else.
+-- The output lines agree with the run, and the line that says how many was written, and nothing else.
 abbrev pub FindsAgreed : {R W A : Type 0} → Beginning → (R → Option (List ℕ)) → R
     → (W → Option (List ℕ)) → BufWriter W A → BufWriter W A → Type 0
 FindsAgreed beginning remaining reader contents old new =
@@ -107,7 +107,7 @@ abbrev pub IsWhy : {R : Type 0} → Beginning → (R → Option (List ℕ)) → 
 IsWhy beginning remaining reader fault =
     IfSome (remaining reader) (λ input. IsWrongInput beginning input fault)
 
--- Where nothing is to be compared, the input is no event lines or has no output lines.
+-- At status 2 the input is no event lines or has no output lines.
 abbrev pub RefusesCheck : {R : Type 0} → (R → Option (List ℕ)) → R → Fault → Type 0
 RefusesCheck remaining reader fault = status_of fault ≡ 2 → IfSome (remaining reader) CannotBeChecked
 
@@ -123,7 +123,7 @@ abbrev pub output_line_of : Option (Bor (List ℕ)) → List (List ℕ)
 output_line_of None = []
 output_line_of (Some text) = (text.now ++ codes "\n") ∷ []
 
--- how the output lines may end that are those of so many outputs, of so many that there are
+-- what is said once all output lines of a text agreed: they are `found`, where the run has `count` outputs
 abbrev pub IsEnd : ℕ → ℕ → Fault → Type 0
 IsEnd found count NoOutputs = found ≡ 0
 IsEnd found count (Lacks n) = (n ≡ found + 1) × (found < count)

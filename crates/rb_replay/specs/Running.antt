@@ -109,7 +109,7 @@ abbrev pub Reads : {R : Type 0} → (R → Option (List ℕ)) → R
     → (Result (List Event) ReadFault → Type 0) → Type 0
 Reads remaining reader Holds = IfSome (remaining reader) (λ input. Holds (read input))
 
--- Where they are known, the printed outputs of the run of their events were written, and nothing else.
+-- Where they are known, what `PrintsRun` says of what they read as was written.
 abbrev pub Replays : {R W A : Type 0} → Beginning → (R → Option (List ℕ)) → R
     → (W → Option (List ℕ)) → BufWriter W A → BufWriter W A → Type 0
 Replays beginning remaining reader contents old new =
@@ -119,12 +119,12 @@ Replays beginning remaining reader contents old new =
 abbrev pub IsEnoughOf : Option (List ℕ) → List ℕ → Type 0
 IsEnoughOf left text = IfSome left (λ input. text ≡ take (longest_input + 1) input)
 
--- Where nothing was run, the fault is what is wrong with the input.
+-- At status 2 the fault is what is wrong with the input.
 abbrev pub Refuses : {R : Type 0} → Beginning → (R → Option (List ℕ)) → R → Fault → Type 0
 Refuses beginning remaining reader fault =
     status_of fault ≡ 2 → Reads remaining reader (IsReplayFault beginning fault)
 
--- A replay that does not end well ends by a fault, which is what is wrong with the input where nothing was run.
+-- A replay that does not end well ends by a fault, which at status 2 is what is wrong with the input.
 abbrev pub Explains : {R E : Type 0} → Beginning → (R → Option (List ℕ)) → R
     → (E → Option (List ℕ)) → E → E → Ending → Type 0
 Explains beginning remaining reader contents old new result =

@@ -56,8 +56,8 @@ PaysWithinWhole core events before now =
     (s : State) → StandsFor core s → IsReached s → are_good s.setting.limits ≡ true
     → PaysAtMost before now (whole_bound s.setting.limits (buffer_bytes core) events (run s events))
 
--- ---- what is told of its steps
+-- ---- the bound as it is printed
 
--- the bound as it is told: where the buffers are empty, and as far as a number of 128 bits goes
+-- the bound as it is printed: from empty buffers, and as far as a number of 128 bits goes
 abbrev pub bound_shown : Limits → List Event → List Output → ℕ
 bound_shown limits events outputs = min (whole_bound limits 0 events outputs) greatest_count

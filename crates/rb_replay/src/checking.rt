@@ -77,8 +77,7 @@ fn compare_line(
     Ok(())
 }
 
-/// What is said where the output lines of a text are those of so many outputs from the first, of so many that there
-/// are.
+/// What is said once all output lines of a text agreed: they are `found`, where the run has `count` outputs.
 fn end_of(found: usize, count: usize) -> Result<(), Fault>
     ensures ok { OnOk result ((count ≤ found) × (0 < found)) }
     ensures err { IfErr result (IsEnd found count) }
@@ -125,7 +124,7 @@ pub fn check_text(alloc: Global, beginning: &Beginning, text: &[u8]) -> Result<u
     Ok(ran.outputs.len())
 }
 
-/// Reads all there is, and checks it.
+/// Reads the reader to its end, or one byte more than an input may have, and checks the text.
 fn check_all<R: Read>(alloc: Global, beginning: &Beginning, reader: &mut R) -> Result<usize, Fault>
     ensures ok { IfOk result (λ n. IsAgreed beginning.now R.remaining reader.old n) }
     ensures good { OnOk result (IsTrue (are_good beginning.now.limits)) }

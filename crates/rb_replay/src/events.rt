@@ -177,7 +177,7 @@ fn sent(core: &mut Core, number: u64, meter: &mut Meter) -> Output
     }
 }
 
-/// What is told of a forwarded call that ended, with the reply over UDP where there is one.
+/// The output of an event that ended a forwarded call, with the reply over UDP where there is one.
 #[tactic(auto, unfolding(rb_model::specs::Calls::longest_reply))]
 fn show_told(core: &mut Core, told: Told, mut reply: Vec<u8>, meter: &mut Meter) -> Output
     requires tie { meter.old.tie ≡ core.old.tie }

@@ -154,7 +154,7 @@ fn replay_text<W: Write + Drop>(
     }
 }
 
-/// Reads all there is, runs its events and writes what they give.
+/// Reads the reader to its end, or one byte more than an input may have, runs the events and writes what they give.
 fn replay_all<R: Read, W: Write + Drop>(
     alloc: Global,
     beginning: &Beginning,

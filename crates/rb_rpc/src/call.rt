@@ -36,8 +36,8 @@ pub struct CallHead {
     pub cred: Credential,
 }
 
-/// A core keeps its bytes in pools and buffers alone. A further field would not compile here: it
-/// belongs in the table of charges of docs/RULES.md first.
+/// Names each field, so that a further one does not compile until it stands here. It belongs in the table of
+/// charges of docs/RULES.md first.
 fn layout(head: &CallHead) {
     let CallHead {
         xid,

@@ -36,8 +36,8 @@ pub enum Caller {
     Udp(Peer),
 }
 
-/// A core keeps its bytes in pools and buffers alone. A further field would not compile here: it
-/// belongs in the table of charges of docs/RULES.md first.
+/// Names each field, so that a further one does not compile until it stands here. It belongs in the table of
+/// charges of docs/RULES.md first.
 fn layout(caller: &Caller, peer: &Peer) {
     match *caller {
         Caller::Tcp(number, peer) => {

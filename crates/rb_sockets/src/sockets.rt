@@ -92,7 +92,7 @@ impl Listener {
         }
     }
 
-    /// A connection, and the peer that the core is handed for it. One without is to be closed.
+    /// A connection, and the peer that the core is handed for it. One without a peer is to be closed.
     pub fn accept(&self) -> io::Result<(Stream, Option<Peer>)> {
         match self {
             Listener::Inet(listener) => {
@@ -148,7 +148,7 @@ impl<S> Watched<S> {
         self.is_shown || self.again != Again::AtEvent
     }
 
-    /// It was served, and is to be served again so.
+    /// It was served; `again` says when it is served next.
     pub fn leave(&mut self, again: Again) {
         self.again = again;
         self.is_shown = false;

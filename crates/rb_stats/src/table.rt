@@ -93,8 +93,8 @@ pub(crate) struct Items {
     len: u64,
 }
 
-/// A core keeps its bytes in pools and buffers alone. A further field would not compile here: it
-/// belongs in the table of charges of docs/RULES.md first.
+/// Names each field, so that a further one does not compile until it stands here. It belongs in the table of
+/// charges of docs/RULES.md first.
 fn layout(items: &Items) {
     let Items { items, len } = items;
     let _: &Pool<Item> = items;

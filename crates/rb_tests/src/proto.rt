@@ -185,7 +185,7 @@ fn begin_list(books: &mut Books, out: &mut Kept, meter: &mut Meter) -> Result<Li
     Ok(list)
 }
 
-// The list has the removed row too, which is kept for it.
+// The list has the removed row too, which is retained for it.
 fn list_is_as_of_its_call(
     rt: &impl Abort,
     books: &mut Books,

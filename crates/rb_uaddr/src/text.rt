@@ -33,8 +33,8 @@ impl Model for AddressText {
     ghost invariant = { λ t. (t.len ≤ 128) × (t.address ≡ parse (take t.len t.bytes)) };
 }
 
-/// A core keeps its bytes in pools and buffers alone. A further field would not compile here: it
-/// belongs in the table of charges of docs/RULES.md first.
+/// Names each field, so that a further one does not compile until it stands here. It belongs in the table of
+/// charges of docs/RULES.md first.
 fn layout(text: &AddressText) {
     let AddressText {
         address,
