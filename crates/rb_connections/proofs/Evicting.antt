@@ -18,7 +18,7 @@ use Rattle.rb_connections.specs.declared.slot.Stage.TheVariants as stages
 use Rattle.rb_connections.specs.StandsFor.{Source, Table, StandsForPhase, StandsForConnection, StandsForConnections, charge, held_in, IsWithin, stamp_of_rest}
 use Rattle.rb_connections.specs.Slots.{IsTable, StaysTable, HasBuffers, AreNumbered, is_numbered, is_idle_stage}
 use Rattle.rb_connections.specs.Awaits.{is_free_slot, is_free, is_idle_slot, has_idle, NoneIsFreed}
-use Rattle.rb_connections.specs.Listings.{stamp_of_stage, stamp_of_slot, SlotListsOn, IsOldest, earlier_of, IsEarliest, began_early, evicted_slot, with_evicted}
+use Rattle.rb_connections.specs.Listings.{stamp_of_stage, stamp_of_slot, CanContinueSlot, IsOldest, earlier_of, IsEarliest, began_before_earliest, evicted_slot, with_evicted}
 use Rattle.rb_connections.proofs.Phases.{by_phase}
 
 -- ---- one slot
@@ -47,7 +47,7 @@ before_all changes earliest n e = by_test (nat_lt n earliest) refl
 none_within : (earliest : ℕ) → Contains [] earliest → ⊥
 none_within earliest c = absurd (omega (arith, c.1))
 
-pub before_earliest : (changes : List ℕ) (earliest : ℕ) (began : Option ℕ) → IsEarliest changes earliest → began_before changes began ≡ began_early earliest began
+pub before_earliest : (changes : List ℕ) (earliest : ℕ) (began : Option ℕ) → IsEarliest changes earliest → began_before changes began ≡ began_before_earliest earliest began
 before_earliest [] earliest began e = absurd (none_within earliest e.one)
 before_earliest (change ∷ changes) earliest None e = refl
 before_earliest (change ∷ changes) earliest (Some n) e = before_all (change ∷ changes) earliest n e
@@ -56,18 +56,18 @@ pub evicted_stands : (source : Source) (changes : List ℕ) (earliest : ℕ) (sl
     → StandsForConnection source (evicted_slot earliest slot) (evict_early changes c)
 unfolding evict_early
 evicted_stands source changes earliest slot c e h =
-    let same : began_before changes (stamp_in c.phase) ≡ began_early earliest (stamp_of_slot slot) =
-    before_earliest changes earliest (stamp_in c.phase) e ∙ ap (began_early earliest) (sym (began_alike source slot.stage slot.buffer slot.window c.phase h.phase)) in
-    rw same (by_test (began_early earliest (stamp_of_slot slot)))
+    let same : began_before changes (stamp_in c.phase) ≡ began_before_earliest earliest (stamp_of_slot slot) =
+    before_earliest changes earliest (stamp_in c.phase) e ∙ ap (began_before_earliest earliest) (sym (began_alike source slot.stage slot.buffer slot.window c.phase h.phase)) in
+    rw same (by_test (began_before_earliest earliest (stamp_of_slot slot)))
   where
     by_test : (b : Bool) → StandsForConnection source (cond b (record slot { stage = stages.Lost }) slot) (cond b (record c { phase = Lost }) c)
     by_test true = record { number = h.number; peer = h.peer; since = h.since; phase = tt }
     by_test false = h
 
-pub marked_is : (earliest : ℕ) (slot gone : Slot) → gone ≡ slot → began_early earliest (stamp_of_slot slot) ≡ true → record gone { stage = stages.Lost } ≡ evicted_slot earliest slot
+pub marked_is : (earliest : ℕ) (slot gone : Slot) → gone ≡ slot → began_before_earliest earliest (stamp_of_slot slot) ≡ true → record gone { stage = stages.Lost } ≡ evicted_slot earliest slot
 marked_is earliest slot gone same early = rw (same, early) refl
 
-pub not_marked : (earliest : ℕ) (slot : Slot) → began_early earliest (stamp_of_slot slot) ≡ false → evicted_slot earliest slot ≡ slot
+pub not_marked : (earliest : ℕ) (slot : Slot) → began_before_earliest earliest (stamp_of_slot slot) ≡ false → evicted_slot earliest slot ≡ slot
 not_marked earliest slot early = rw early refl
 
 -- ---- all of them
@@ -91,22 +91,22 @@ module _ (P : Slot → Type 0) (earliest : ℕ) (keeps : (slot : Slot) → P slo
   all_keep [] h = All-nil P
   all_keep (e ∷ es) h = All-cons P _ _ (keeps e.1 (All-head P e.1 (values_of es) h)) (all_keep es (All-tail P e.1 (values_of es) h))
 
-pub lists_evicted : (source : Source) (earliest : ℕ) (slot : Slot) → SlotListsOn source slot → SlotListsOn source (evicted_slot earliest slot)
-lists_evicted source earliest slot told = by_test (began_early earliest (stamp_of_slot slot))
+pub lists_evicted : (source : Source) (earliest : ℕ) (slot : Slot) → CanContinueSlot source slot → CanContinueSlot source (evicted_slot earliest slot)
+lists_evicted source earliest slot told = by_test (began_before_earliest earliest (stamp_of_slot slot))
   where
-    by_test : (b : Bool) → SlotListsOn source (cond b (record slot { stage = stages.Lost }) slot)
+    by_test : (b : Bool) → CanContinueSlot source (cond b (record slot { stage = stages.Lost }) slot)
     by_test true = tt
     by_test false = told
 
 buffers_evicted : (tie earliest : ℕ) (slot : Slot) → HasBuffers tie slot → HasBuffers tie (evicted_slot earliest slot)
-buffers_evicted tie earliest slot h = by_test (began_early earliest (stamp_of_slot slot))
+buffers_evicted tie earliest slot h = by_test (began_before_earliest earliest (stamp_of_slot slot))
   where
     by_test : (b : Bool) → HasBuffers tie (cond b (record slot { stage = stages.Lost }) slot)
     by_test true = h
     by_test false = h
 
 charge_evicted : (earliest : ℕ) (slot : Slot) → charge (evicted_slot earliest slot) ≡ charge slot
-charge_evicted earliest slot = by_test (began_early earliest (stamp_of_slot slot))
+charge_evicted earliest slot = by_test (began_before_earliest earliest (stamp_of_slot slot))
   where
     by_test : (b : Bool) → charge (cond b (record slot { stage = stages.Lost }) slot) ≡ charge slot
     by_test true = refl
@@ -127,7 +127,7 @@ stays_evicted earliest view now is =
     rw (← is) (record { conns = refl; tie = refl; within = λ within. all_keep IsWithin earliest (within_evicted earliest) view.slots within })
 
 number_evicted : (earliest : ℕ) (slot : Slot) → (evicted_slot earliest slot).number ≡ slot.number
-number_evicted earliest slot = by_test (began_early earliest (stamp_of_slot slot))
+number_evicted earliest slot = by_test (began_before_earliest earliest (stamp_of_slot slot))
   where
     by_test : (b : Bool) → (cond b (record slot { stage = stages.Lost }) slot).number ≡ slot.number
     by_test true = refl
@@ -200,7 +200,7 @@ idle_stays earliest id slot idle = by_stage slot.stage refl
     by_stage : (stage : Stage) → slot.stage ≡ stage → is_idle_slot id (evicted_slot earliest slot) ≡ true
     by_stage stages.Idle is = rw is (rw is at idle)
     by_stage (stages.Reading reader) is = let clash : false ≡ true = rw is at (and_true (eqb slot.number id) (is_idle_stage slot.stage) idle) in absurd cc
-    by_stage (stages.Giving giving) is = let clash : false ≡ true = rw is at (and_true (eqb slot.number id) (is_idle_stage slot.stage) idle) in absurd cc
+    by_stage (stages.Owing giving) is = let clash : false ≡ true = rw is at (and_true (eqb slot.number id) (is_idle_stage slot.stage) idle) in absurd cc
     by_stage stages.Awaiting is = let clash : false ≡ true = rw is at (and_true (eqb slot.number id) (is_idle_stage slot.stage) idle) in absurd cc
     by_stage stages.Lost is = let clash : false ≡ true = rw is at (and_true (eqb slot.number id) (is_idle_stage slot.stage) idle) in absurd cc
 
@@ -223,9 +223,9 @@ free_alike earliest id slot = by_stage slot.stage refl
     by_stage : (stage : Stage) → slot.stage ≡ stage → is_free_slot id (evicted_slot earliest slot) ≡ is_free_slot id slot
     by_stage stages.Idle is = rw is refl
     by_stage (stages.Reading reader) is = rw is refl
-    by_stage (stages.Giving giving) is = by_test (began_early earliest (stamp_of_rest giving.rest)) refl
+    by_stage (stages.Owing giving) is = by_test (began_before_earliest earliest (stamp_of_rest giving.rest)) refl
       where
-        by_test : (b : Bool) → began_early earliest (stamp_of_rest giving.rest) ≡ b → is_free_slot id (evicted_slot earliest slot) ≡ is_free_slot id slot
+        by_test : (b : Bool) → began_before_earliest earliest (stamp_of_rest giving.rest) ≡ b → is_free_slot id (evicted_slot earliest slot) ≡ is_free_slot id slot
         by_test true t = rw (is, t) refl
         by_test false t = rw (is, t) refl
     by_stage stages.Awaiting is = rw is refl

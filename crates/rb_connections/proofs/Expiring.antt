@@ -60,7 +60,7 @@ module _ (source : Source) (clock : ℕ) (table : Table) where
 not-awaiting : (clock since : ℕ) (stage : Stage) → has_come clock (deadline since (phase_like stage)) ≡ true → is_awaiting_stage stage ≡ false
 not-awaiting clock since stages.Idle h = refl
 not-awaiting clock since (stages.Reading reader) h = refl
-not-awaiting clock since (stages.Giving giving) h = refl
+not-awaiting clock since (stages.Owing giving) h = refl
 not-awaiting clock since stages.Awaiting h = absurd cc
 not-awaiting clock since stages.Lost h = refl
 

@@ -32,7 +32,7 @@ idle_lives source id slot c stands idle =
     by_stage stages.Idle Awaiting e z = refl
     by_stage stages.Idle Lost e z = absurd z
     by_stage (stages.Reading reader) phase e z = absurd cc
-    by_stage (stages.Giving giving) phase e z = absurd cc
+    by_stage (stages.Owing giving) phase e z = absurd cc
     by_stage stages.Awaiting phase e z = absurd cc
     by_stage stages.Lost phase e z = absurd cc
 

@@ -7,23 +7,23 @@ use Rattle.rb_xdr.specs.Pool.{value_at, with_value, without}
 use Rattle.rb_xdr.proofs.PoolLemmas.{All-value_at, All-with_value, All-without}
 use Rattle.rb_connections.specs.declared.slot.Slot.{Slot}
 use Rattle.rb_connections.specs.StandsFor.{Source, Table}
-use Rattle.rb_connections.specs.Listings.{SlotListsOn, SlotKeepsListing, CanListOn, KeepsListing}
+use Rattle.rb_connections.specs.Listings.{CanContinueSlot, SlotKeepsListing, CanContinueAll, KeepsListing}
 
 module _ (view now : Table) (is : view ≡ now) where
-  lists_before : (source : Source) → CanListOn source now → CanListOn source view
-  lists_before source told = subst (λ (t : Table). CanListOn source t) (sym is) told
+  lists_before : (source : Source) → CanContinueAll source now → CanContinueAll source view
+  lists_before source told = subst (λ (t : Table). CanContinueAll source t) (sym is) told
 
-  pub lists_changed : (source : Source) (k : ℕ) (new : Slot) → CanListOn source now → SlotListsOn source new → CanListOn source (record view { slots = with_value view.slots k new })
-  lists_changed source k new told slot = All-with_value (SlotListsOn source) view.slots k new (lists_before source told) slot
+  pub lists_changed : (source : Source) (k : ℕ) (new : Slot) → CanContinueAll source now → CanContinueSlot source new → CanContinueAll source (record view { slots = with_value view.slots k new })
+  lists_changed source k new told slot = All-with_value (CanContinueSlot source) view.slots k new (lists_before source told) slot
 
   pub keeps_changed : (k : ℕ) (old new : Slot) → value_at view.slots k ≡ Some old → SlotKeepsListing old new → KeepsListing now (record view { slots = with_value view.slots k new })
   keeps_changed k old new found keeps = λ source told.
-      lists_changed source k new told (keeps source (All-value_at (SlotListsOn source) view.slots k old (lists_before source told) found))
+      lists_changed source k new told (keeps source (All-value_at (CanContinueSlot source) view.slots k old (lists_before source told) found))
 
-  pub keeps_more : (slot : Slot) (entries : List (ℕ × Slot)) → values_of entries ≡ values_of view.slots ++ slot ∷ [] → ((source : Source) → SlotListsOn source slot)
-      → (source : Source) → CanListOn source now → All (SlotListsOn source) (values_of entries)
+  pub keeps_more : (slot : Slot) (entries : List (ℕ × Slot)) → values_of entries ≡ values_of view.slots ++ slot ∷ [] → ((source : Source) → CanContinueSlot source slot)
+      → (source : Source) → CanContinueAll source now → All (CanContinueSlot source) (values_of entries)
   keeps_more slot entries more slot_lists_on = λ source told.
-      subst (All (SlotListsOn source)) (sym more) (All-push (SlotListsOn source) (values_of view.slots) slot (lists_before source told) (slot_lists_on source))
+      subst (All (CanContinueSlot source)) (sym more) (All-push (CanContinueSlot source) (values_of view.slots) slot (lists_before source told) (slot_lists_on source))
 
   pub keeps_less : (k : ℕ) → KeepsListing now (record view { slots = without view.slots k })
-  keeps_less k = λ source told. All-without (SlotListsOn source) view.slots k (lists_before source told)
+  keeps_less k = λ source told. All-without (CanContinueSlot source) view.slots k (lists_before source told)

@@ -6,7 +6,7 @@ use Rattle.std.proofs.Common.{◌≡◌, ◌≤◌, ℕ, List, [], ◌∷◌, ma
 use Rattle.std.proofs.lemmas.List.Elements.{All-head, All-tail, All-cons, All-nil}
 use Rattle.rb_xdr.specs.Kept.{Kept}
 use Rattle.rb_registry.specs.Registry.{Registry}
-use Rattle.rb_registry.specs.Table.{stamp_told}
+use Rattle.rb_registry.specs.Table.{stamp_named}
 use Rattle.rb_registry.specs.Cursors.{GoesOn}
 use Rattle.rb_proto.proofs.ListReplies.{list_reply_goes_on}
 use Rattle.rb_model.specs.State.{Owed, Phase, Connection, Connections}
@@ -19,7 +19,7 @@ use Rattle.rb_connections.specs.declared.giving.Rest.{Rest}
 use Rattle.rb_connections.specs.declared.giving.Rest.TheVariants as rests
 use Rattle.rb_connections.specs.Giving.{CanMake}
 use Rattle.rb_connections.specs.StandsFor.{IsGiving, rest_in, stamp_of_rest, Source, Table, StandsForPhase, StandsForConnection, StandsForConnections, source_for}
-use Rattle.rb_connections.specs.Listings.{stamp_of_stage, stamp_of_slot, StageListsOn, SlotListsOn, CanListOn, stamps_of, IsOldest}
+use Rattle.rb_connections.specs.Listings.{stamp_of_stage, stamp_of_slot, CanContinueStage, CanContinueSlot, CanContinueAll, stamps_of, IsOldest}
 use Rattle.rb_connections.proofs.Evicting.{began_alike}
 use Rattle.rb_connections.proofs.Phases.{by_phase}
 
@@ -42,21 +42,21 @@ module _ (host : List ℕ) (old new : Registry) (goes : GoesOn old new) where
       let s = list_reply_goes_on old new list goes (low list.stamp refl) t in
       (s.told, λ buffer. s.rest host)
 
-  stage_lists_on : (buffer : List ℕ) (stage : Stage) → IsLow stage → StageListsOn before buffer stage → StageListsOn after buffer stage
+  stage_lists_on : (buffer : List ℕ) (stage : Stage) → IsLow stage → CanContinueStage before buffer stage → CanContinueStage after buffer stage
   stage_lists_on buffer stages.Idle low t = tt
   stage_lists_on buffer (stages.Reading reader) low t = tt
-  stage_lists_on buffer (stages.Giving giving) low t =
+  stage_lists_on buffer (stages.Owing giving) low t =
       let s = rest_goes_on giving.rest low t.made in
       record { made = s.0; some = λ more. rw (s.1 buffer) (t.some more) }
   stage_lists_on buffer stages.Awaiting low t = tt
   stage_lists_on buffer stages.Lost low t = tt
 
-  phase_stands : (stage : Stage) (buffer window : Kept) (phase : Phase) → IsLow stage → StageListsOn before buffer.bytes stage → StandsForPhase before stage buffer window phase → StandsForPhase after stage buffer window phase
+  phase_stands : (stage : Stage) (buffer window : Kept) (phase : Phase) → IsLow stage → CanContinueStage before buffer.bytes stage → StandsForPhase before stage buffer window phase → StandsForPhase after stage buffer window phase
   phase_stands stage buffer window phase low t h =
-      by_phase before buffer window (λ s p. IsLow s → StageListsOn before buffer.bytes s → StandsForPhase after s buffer window p)
+      by_phase before buffer window (λ s p. IsLow s → CanContinueStage before buffer.bytes s → StandsForPhase after s buffer window p)
       (λ z l u. z) (λ reader fed z l u. z) (λ g o z l u. goes_on g o z l u) (λ z l u. z) (λ l u. tt) stage phase h low t
     where
-      goes_on : (g : Giving) (o : Owed) → IsGiving before g buffer.bytes window o → IsLow (stages.Giving g) → StageListsOn before buffer.bytes (stages.Giving g) → IsGiving after g buffer.bytes window o
+      goes_on : (g : Giving) (o : Owed) → IsGiving before g buffer.bytes window o → IsLow (stages.Owing g) → CanContinueStage before buffer.bytes (stages.Owing g) → IsGiving after g buffer.bytes window o
       goes_on g o z l u =
           let s = rest_goes_on g.rest l u.made in
           record { reply = z.reply; shows = z.shows; stamp = z.stamp; place = z.place; rest = s.1 buffer.bytes ∙ z.rest; last = z.last }
@@ -75,44 +75,44 @@ module _ (host : List ℕ) (old new : Registry) (goes : GoesOn old new) where
             All-tail (λ k. new.floor ≤ k) m (filter_map stamp_of_slot slots) here,
           )
 
-  all_list_on : (slots : List Slot) → AreLow slots → All (SlotListsOn before) slots → All (SlotListsOn after) slots
-  all_list_on [] low t = All-nil (SlotListsOn after)
+  all_list_on : (slots : List Slot) → AreLow slots → All (CanContinueSlot before) slots → All (CanContinueSlot after) slots
+  all_list_on [] low t = All-nil (CanContinueSlot after)
   all_list_on (slot ∷ slots) low t =
       let l = first_low slot slots low in
-      All-cons (SlotListsOn after) slot slots (stage_lists_on slot.buffer.bytes slot.stage l.0 (All-head (SlotListsOn before) slot slots t)) (all_list_on slots l.1 (All-tail (SlotListsOn before) slot slots t))
+      All-cons (CanContinueSlot after) slot slots (stage_lists_on slot.buffer.bytes slot.stage l.0 (All-head (CanContinueSlot before) slot slots t)) (all_list_on slots l.1 (All-tail (CanContinueSlot before) slot slots t))
 
-  all_stand : (slots : List Slot) (all : List Connection) → AreLow slots → All (SlotListsOn before) slots → AllZip (StandsForConnection before) slots all → AllZip (StandsForConnection after) slots all
+  all_stand : (slots : List Slot) (all : List Connection) → AreLow slots → All (CanContinueSlot before) slots → AllZip (StandsForConnection before) slots all → AllZip (StandsForConnection after) slots all
   all_stand [] [] low t z = tt
   all_stand [] (c ∷ all) low t z = absurd z
   all_stand (slot ∷ slots) [] low t z = absurd z
   all_stand (slot ∷ slots) (c ∷ all) low t z =
       let l = first_low slot slots low in
-      let told : StageListsOn before slot.buffer.bytes slot.stage = All-head (SlotListsOn before) slot slots t in (
+      let told : CanContinueStage before slot.buffer.bytes slot.stage = All-head (CanContinueSlot before) slot slots t in (
         record { number = z.0.number; peer = z.0.peer; since = z.0.since; phase = phase_stands slot.stage slot.buffer slot.window c.phase l.0 told z.0.phase },
-        all_stand slots all l.1 (All-tail (SlotListsOn before) slot slots t) z.1,
+        all_stand slots all l.1 (All-tail (CanContinueSlot before) slot slots t) z.1,
       )
 
-  pub lists_on : (table : Table) → All (λ n. new.floor ≤ n) (stamps_of table) → CanListOn before table → CanListOn after table
+  pub lists_on : (table : Table) → All (λ n. new.floor ≤ n) (stamps_of table) → CanContinueAll before table → CanContinueAll after table
   lists_on table low t = all_list_on (values_of table.slots) low t
 
-  pub stands_on : (table : Table) (c : Connections) → All (λ n. new.floor ≤ n) (stamps_of table) → CanListOn before table → StandsForConnections before table c → StandsForConnections after table c
+  pub stands_on : (table : Table) (c : Connections) → All (λ n. new.floor ≤ n) (stamps_of table) → CanContinueAll before table → StandsForConnections before table c → StandsForConnections after table c
   stands_on table c low t z = record { all = all_stand (values_of table.slots) c.all low t z.all; next = z.next }
 
 abbrev pub Reach : Source → List Slot → Type 0
 Reach source slots = All (λ n. (source.registry.floor ≤ n) × (n ≤ source.registry.stamp)) (filter_map stamp_of_slot slots)
 
 -- the stamps of lists that can be made are from the floor to the present
-pub stamps_reach : (source : Source) (slots : List Slot) → All (SlotListsOn source) slots → All (λ n. (source.registry.floor ≤ n) × (n ≤ source.registry.stamp)) (filter_map stamp_of_slot slots)
+pub stamps_reach : (source : Source) (slots : List Slot) → All (CanContinueSlot source) slots → All (λ n. (source.registry.floor ≤ n) × (n ≤ source.registry.stamp)) (filter_map stamp_of_slot slots)
 stamps_reach source [] t = All-nil (λ n. (source.registry.floor ≤ n) × (n ≤ source.registry.stamp))
-stamps_reach source (slot ∷ slots) t = by_stage slot.stage refl (All-head (SlotListsOn source) slot slots t) (stamps_reach source slots (All-tail (SlotListsOn source) slot slots t))
+stamps_reach source (slot ∷ slots) t = by_stage slot.stage refl (All-head (CanContinueSlot source) slot slots t) (stamps_reach source slots (All-tail (CanContinueSlot source) slot slots t))
   where
-    by_stage : (stage : Stage) → slot.stage ≡ stage → StageListsOn source slot.buffer.bytes slot.stage → Reach source slots → Reach source (slot ∷ slots)
+    by_stage : (stage : Stage) → slot.stage ≡ stage → CanContinueStage source slot.buffer.bytes slot.stage → Reach source slots → Reach source (slot ∷ slots)
     by_stage stages.Idle is t further = rw is further
     by_stage (stages.Reading reader) is t further = rw is further
-    by_stage (stages.Giving giving) is t further = by_rest giving.rest refl (made_in is t)
+    by_stage (stages.Owing giving) is t further = by_rest giving.rest refl (made_in is t)
       where
-        made_in : slot.stage ≡ stages.Giving giving → StageListsOn source slot.buffer.bytes slot.stage → CanMake source giving.rest
-        made_in e z = let it : StageListsOn source slot.buffer.bytes (stages.Giving giving) = subst (StageListsOn source slot.buffer.bytes) e z in it.made
+        made_in : slot.stage ≡ stages.Owing giving → CanContinueStage source slot.buffer.bytes slot.stage → CanMake source giving.rest
+        made_in e z = let it : CanContinueStage source slot.buffer.bytes (stages.Owing giving) = subst (CanContinueStage source slot.buffer.bytes) e z in it.made
 
         by_rest : (rest : Rest) → giving.rest ≡ rest → CanMake source rest → Reach source (slot ∷ slots)
         by_rest (rests.Held start) r made = rw (is, r) further
@@ -121,12 +121,12 @@ stamps_reach source (slot ∷ slots) t = by_stage slot.stage refl (All-head (Slo
     by_stage stages.Awaiting is t further = rw is further
     by_stage stages.Lost is t further = rw is further
 
-pub stamps_low : (source : Source) (table : Table) → CanListOn source table → All (λ n. source.registry.floor ≤ n) (stamps_of table)
+pub stamps_low : (source : Source) (table : Table) → CanContinueAll source table → All (λ n. source.registry.floor ≤ n) (stamps_of table)
 stamps_low source table t = λ k d within. (stamps_reach source (values_of table.slots) t k d within).0
 
 -- so they are from the floor on once it rose to the least of them
-pub trimmed_low : (source : Source) (table : Table) (oldest : Option ℕ) (floor : ℕ) → CanListOn source table → IsOldest (stamps_of table) oldest
-    → floor ≡ max source.registry.floor (stamp_told source.registry oldest) → All (λ n. floor ≤ n) (stamps_of table)
+pub trimmed_low : (source : Source) (table : Table) (oldest : Option ℕ) (floor : ℕ) → CanContinueAll source table → IsOldest (stamps_of table) oldest
+    → floor ≡ max source.registry.floor (stamp_named source.registry oldest) → All (λ n. floor ≤ n) (stamps_of table)
 trimmed_low source table None floor t none is = subst (All (λ n. floor ≤ n)) (sym none) (All-nil (λ n. floor ≤ n))
 trimmed_low source table (Some k) floor t least is = λ i d within.
     let low = (stamps_reach source (values_of table.slots) t i d within).0 in

@@ -37,10 +37,10 @@ reading_phase source reader stage buffer window phase is h =
     (λ z e. absurd cc) (λ r fed z e. let same : r ≡ reader = cc in (fed, refl, subst (λ (x : Reader). IsReading x buffer fed) same z.0, z.1))
     (λ g o z e. absurd cc) (λ z e. absurd cc) (λ e. absurd cc) stage phase h is
 
-pub giving_phase : (source : Source) (giving : Giving) (stage : Stage) (buffer window : Kept) (phase : Phase) → stage ≡ stages.Giving giving → StandsForPhase source stage buffer window phase
+pub giving_phase : (source : Source) (giving : Giving) (stage : Stage) (buffer window : Kept) (phase : Phase) → stage ≡ stages.Owing giving → StandsForPhase source stage buffer window phase
     → (o : Owed) × (phase ≡ Owing o) × IsGiving source giving buffer.bytes window o
 giving_phase source giving stage buffer window phase is h =
-    by_phase source buffer window (λ s p. s ≡ stages.Giving giving → (o : Owed) × (p ≡ Owing o) × IsGiving source giving buffer.bytes window o)
+    by_phase source buffer window (λ s p. s ≡ stages.Owing giving → (o : Owed) × (p ≡ Owing o) × IsGiving source giving buffer.bytes window o)
     (λ z e. absurd cc) (λ reader fed z e. absurd cc)
     (λ g o z e. let same : g ≡ giving = cc in (o, refl, subst (λ (x : Giving). IsGiving source x buffer.bytes window o) same z)) (λ z e. absurd cc) (λ e. absurd cc) stage phase h is
 
@@ -150,13 +150,13 @@ none_given source old clock n none = record {
 }
 
 -- nothing is pending but where a reply is owed
-pub nothing_pending : (source : Source) (stage : Stage) (buffer window : Kept) (phase : Phase) → ((x : Giving) → stage ≡ stages.Giving x → ⊥) → StandsForPhase source stage buffer window phase → pending_in phase ≡ []
+pub nothing_pending : (source : Source) (stage : Stage) (buffer window : Kept) (phase : Phase) → ((x : Giving) → stage ≡ stages.Owing x → ⊥) → StandsForPhase source stage buffer window phase → pending_in phase ≡ []
 nothing_pending source stage buffer window phase other h =
-    by_phase source buffer window (λ s p. ((x : Giving) → s ≡ stages.Giving x → ⊥) → pending_in p ≡ [])
+    by_phase source buffer window (λ s p. ((x : Giving) → s ≡ stages.Owing x → ⊥) → pending_in p ≡ [])
     (λ z not. refl) (λ reader fed z not. refl) (λ g o z not. absurd (not g refl)) (λ z not. refl) (λ not. refl) stage phase h other
 
 pub goes_on_giving : (source : Source) (giving : Giving) (buffer window : Kept) (more : ℕ) (o : Owed) → IsGiving source giving buffer.bytes window (record o { given = o.given + more })
-    → StandsForPhase source (stages.Giving giving) buffer window (phase_when_given more (Owing o))
+    → StandsForPhase source (stages.Owing giving) buffer window (phase_when_given more (Owing o))
 goes_on_giving source giving buffer window more o g = rw (lt-ltb (o.given + more) (length o.marked) g.shows.owes) g
 
 pub is_given : (source : Source) (buffer window : Kept) (more : ℕ) (o : Owed) → length o.marked ≤ o.given + more → buffer.bytes ≡ [] → window.bytes ≡ []
@@ -164,7 +164,7 @@ pub is_given : (source : Source) (buffer window : Kept) (more : ℕ) (o : Owed) 
 is_given source buffer window more o all b w = rw (le-ltb (o.given + more) (length o.marked) all) (b, w)
 
 module _ (source : Source) (old new : Slot) (clock n more : ℕ) (giving_is : Giving)
-    (stage : old.stage ≡ stages.Giving giving_is)
+    (stage : old.stage ≡ stages.Owing giving_is)
     (counted : (o : Owed) → IsGiving source giving_is old.buffer.bytes old.window o → more ≡ min n (length (pending_of o)))
     (some : 0 < more)
     (number : new.number ≡ old.number) (peer : new.peer ≡ old.peer) (since : new.since ≡ clock)

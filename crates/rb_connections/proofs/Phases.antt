@@ -13,7 +13,7 @@ use Rattle.rb_connections.specs.StandsFor.{Source, StandsForPhase, IsGiving}
 module _ (source : Source) (buffer window : Kept) (P : Stage → Phase → Type 0)
     (idle : StandsForPhase source stages.Idle buffer window Idle → P stages.Idle Idle)
     (reading : (reader : Reader) (fed : List ℕ) → StandsForPhase source (stages.Reading reader) buffer window (Reading fed) → P (stages.Reading reader) (Reading fed))
-    (giving : (g : Giving) (o : Owed) → IsGiving source g buffer.bytes window o → P (stages.Giving g) (Owing o))
+    (giving : (g : Giving) (o : Owed) → IsGiving source g buffer.bytes window o → P (stages.Owing g) (Owing o))
     (awaiting : StandsForPhase source stages.Awaiting buffer window Awaiting → P stages.Awaiting Awaiting)
     (lost : P stages.Lost Lost) where
   pub by_phase : (stage : Stage) (phase : Phase) → StandsForPhase source stage buffer window phase → P stage phase
@@ -27,11 +27,11 @@ module _ (source : Source) (buffer window : Kept) (P : Stage → Phase → Type 
   by_phase (stages.Reading reader) (Owing o) h = absurd h
   by_phase (stages.Reading reader) Awaiting h = absurd h
   by_phase (stages.Reading reader) Lost h = absurd h
-  by_phase (stages.Giving g) Idle h = absurd h
-  by_phase (stages.Giving g) (Reading fed) h = absurd h
-  by_phase (stages.Giving g) (Owing o) h = giving g o h
-  by_phase (stages.Giving g) Awaiting h = absurd h
-  by_phase (stages.Giving g) Lost h = absurd h
+  by_phase (stages.Owing g) Idle h = absurd h
+  by_phase (stages.Owing g) (Reading fed) h = absurd h
+  by_phase (stages.Owing g) (Owing o) h = giving g o h
+  by_phase (stages.Owing g) Awaiting h = absurd h
+  by_phase (stages.Owing g) Lost h = absurd h
   by_phase stages.Awaiting Idle h = absurd h
   by_phase stages.Awaiting (Reading fed) h = absurd h
   by_phase stages.Awaiting (Owing o) h = absurd h

@@ -12,8 +12,8 @@ use Rattle.rb_model.specs.Connections.{longest_fragment, owed_of, pending_of}
 use Rattle.rb_connections.specs.declared.giving.Giving.{Giving}
 use Rattle.rb_connections.specs.declared.giving.Rest.{Rest}
 use Rattle.rb_connections.specs.declared.slot.Slot.{Slot}
-use Rattle.rb_connections.specs.Listings.{SlotListsOn}
-use Rattle.rb_connections.specs.Giving.{SlotShowsNext, GoesOnBy, ShowsNext}
+use Rattle.rb_connections.specs.Listings.{CanContinueSlot}
+use Rattle.rb_connections.specs.Giving.{SlotShowsNext, CanContinueReply, ShowsNext}
 use Rattle.rb_connections.specs.StandsFor.{Source, IsGiving, StandsForConnection, rest_in, stamp_of_rest}
 use Rattle.rb_connections.proofs.Fragments.{pending_shown, pending_count, giving_begins, giving_stays, giving_moves, giving_ends, fragment_few, fragment_full}
 
@@ -80,7 +80,7 @@ module _ (source : Source) (giving : Giving) (buffer : List ℕ) (window : Kept)
 
 module _ (source : Source) (buffer : List ℕ) (rest : Rest) (before next : Kept) (new : Giving) (shows : ShowsNext source buffer rest before next new) where
   -- behind a fragment that was shown and is not the last one, something is to come
-  pub goes_on_shown : GoesOnBy source buffer new
+  pub goes_on_shown : CanContinueReply source buffer new
   goes_on_shown = record {
     made = shows.made;
     some = λ more.
@@ -103,8 +103,8 @@ module _ (source : Source) (buffer : List ℕ) (rest : Rest) (before next : Kept
 
 -- so it is on a slot
 module _ (source : Source) (rest : Rest) (old new : Slot) (s : SlotShowsNext source rest old new) where
-  pub slot_lists_on : SlotListsOn source new
-  slot_lists_on = subst (λ (t : Slot). SlotListsOn source t) (sym s.is) (goes_on_shown source old.buffer.bytes rest old.window new.window s.giving s.shows)
+  pub slot_lists_on : CanContinueSlot source new
+  slot_lists_on = subst (λ (t : Slot). CanContinueSlot source t) (sym s.is) (goes_on_shown source old.buffer.bytes rest old.window new.window s.giving s.shows)
 
   pub slot_begins : (clock : ℕ) (c : Connection) (reply : List ℕ) (began : Option ℕ) → old.number ≡ c.number → old.peer ≡ c.peer → old.since ≡ clock → old.window.cap ≡ longest_fragment
       → rest_in source old.buffer.bytes rest ≡ reply → stamp_of_rest rest ≡ began → StandsForConnection source new (record c { phase = Owing (owed_of reply began 0); since = clock })

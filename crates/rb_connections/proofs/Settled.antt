@@ -21,7 +21,7 @@ use Rattle.rb_connections.specs.declared.slot.Wanted.TheVariants as wanted
 use Rattle.rb_connections.specs.StandsFor.{IsWithin, Source, Table, StandsForConnection, StandsForConnections, stamp_of_rest}
 use Rattle.rb_connections.specs.Slots.{Acts, Shows, AreNumbered, HasBuffers, IsTable, take_piece, arguments_taken, arguments_on, received_whole, is_idle_stage, is_wanted_slot, wanted_slot}
 use Rattle.rb_connections.specs.Awaits.{GoOn, is_awaiting_stage, is_not_idle_since, IsIdleIfThere, EndedOn}
-use Rattle.rb_connections.specs.Listings.{SlotListsOn, began_early, evicted_slot}
+use Rattle.rb_connections.specs.Listings.{CanContinueSlot, began_before_earliest, evicted_slot}
 use Rattle.rb_connections.proofs.Evicting.{all_evicted}
 use Rattle.rb_connections.proofs.Freed.{ended_on_slot}
 use Rattle.rb_connections.proofs.ByHint.{distinct_numbers, first_by_hint}
@@ -41,9 +41,9 @@ unsettled_alike earliest id clock slot none = by_stage slot.stage refl
     by_stage : (stage : Stage) → slot.stage ≡ stage → is_not_idle_since id clock (evicted_slot earliest slot) ≡ false
     by_stage stages.Idle is = rw is (rw is at none)
     by_stage (stages.Reading reader) is = rw is (rw is at none)
-    by_stage (stages.Giving giving) is = by_test (began_early earliest (stamp_of_rest giving.rest)) refl
+    by_stage (stages.Owing giving) is = by_test (began_before_earliest earliest (stamp_of_rest giving.rest)) refl
       where
-        by_test : (b : Bool) → began_early earliest (stamp_of_rest giving.rest) ≡ b → is_not_idle_since id clock (evicted_slot earliest slot) ≡ false
+        by_test : (b : Bool) → began_before_earliest earliest (stamp_of_rest giving.rest) ≡ b → is_not_idle_since id clock (evicted_slot earliest slot) ≡ false
         by_test true t = rw (is, t) (rw is at none)
         by_test false t = rw (is, t) (rw is at none)
     by_stage stages.Awaiting is = rw is (rw is at none)
@@ -63,7 +63,7 @@ settled_evicted earliest id clock table h = none_unsettled earliest id clock tab
 stage_is_idle : (stage : Stage) → is_idle_stage stage ≡ true → stage ≡ stages.Idle
 stage_is_idle stages.Idle e = refl
 stage_is_idle (stages.Reading reader) e = absurd cc
-stage_is_idle (stages.Giving giving) e = absurd cc
+stage_is_idle (stages.Owing giving) e = absurd cc
 stage_is_idle stages.Awaiting e = absurd cc
 stage_is_idle stages.Lost e = absurd cc
 
@@ -129,7 +129,7 @@ module _ (k : ℕ) (table : Table) (old new : Slot) (there : value_at table.slot
 
   pub since_goes_on : (now : Table) → table ≡ now → All IsWithin (values_of table.slots) → GoOn now (record table { slots = with_value table.slots k new })
   since_goes_on now is within =
-      goes_on_changed table now is k old new there (λ source told. subst (λ (s : Slot). SlotListsOn source s) (sym kept) told)
+      goes_on_changed table now is k old new there (λ source told. subst (λ (s : Slot). CanContinueSlot source s) (sym kept) told)
       (ap (λ (s : Slot). s.number) kept) (ap (λ (s : Slot). is_awaiting_stage s.stage) kept) (since_within within)
 
   pub since_stays : new ≡ old → record table { slots = with_value table.slots k new } ≡ table

@@ -19,7 +19,7 @@ use Rattle.rb_model.specs.declared.types.CoreFault.TheVariants.{Full, Spent, Gon
 use Rattle.rb_model.specs.Calls.{longest_kept, kept_of}
 use Rattle.rb_model.specs.State.{Phase, Connection, Connections, greatest_number}
 use Rattle.rb_model.specs.State.Phase.{Idle}
-use Rattle.rb_model.specs.Connections.{change_first, changed_at, is_lost, is_live, live_connection, on_live, has_number, number_for, opening_of, is_there, without_number, closing_of}
+use Rattle.rb_model.specs.Connections.{change_first, changed_at, is_lost, is_live, live_connection, on_live, has_number, number_for, open_in_table, is_there, without_number, close_in_table}
 use Rattle.rb_model.proofs.Found.{all_kept, none_any, none_some, some_any}
 use Rattle.rb_connections.specs.Reading.{Reader}
 use Rattle.rb_connections.specs.StandsFor.{buffer_size, IsReading, Source, StandsForConnection, StandsForPhase, StandsForConnections, Table, charge, IsWithin}
@@ -328,8 +328,8 @@ removed source id given (e ∷ es) (c ∷ all) k slot d n z h = by_cases (eqb e.
         by_key false y in_rest other = rw (y, other) (z.0, further in_rest)
 
 module _ (source : Source) (id : ℕ) (table : Table) where
-  pub none_closed : option_map (λ e. e.0) (wanted_slot (wanted.Numbered id) table.slots) ≡ None → Acts (StandsForConnections source) (closing_of id) table table (Err Gone)
-  unfolding closing_of is_there is_wanted
+  pub none_closed : option_map (λ e. e.0) (wanted_slot (wanted.Numbered id) table.slots) ≡ None → Acts (StandsForConnections source) (close_in_table id) table table (Err Gone)
+  unfolding close_in_table is_there is_wanted
   none_closed h = record {
     gives = λ c z. rw (none_any (has_number id) c.all (no_slot source (wanted.Numbered id) table.slots c.all z.all h)) refl;
     stands = λ c z. rw (none_any (has_number id) c.all (no_slot source (wanted.Numbered id) table.slots c.all z.all h)) z;
@@ -337,8 +337,8 @@ module _ (source : Source) (id : ℕ) (table : Table) where
 
   pub one_closed : (k : ℕ) (slot : Slot) → HasDistinctKeys table.slots → AreNumbered table.last_number (values_of table.slots)
       → option_map (λ e. e.0) (wanted_slot (wanted.Numbered id) table.slots) ≡ Some k → value_at table.slots k ≡ Some slot
-      → Acts (StandsForConnections source) (closing_of id) table (record table { slots = without table.slots k }) (Ok tt)
-  unfolding closing_of is_there is_wanted wanted_slot is_wanted_slot without_number
+      → Acts (StandsForConnections source) (close_in_table id) table (record table { slots = without table.slots k }) (Ok tt)
+  unfolding close_in_table is_there is_wanted wanted_slot is_wanted_slot without_number
   one_closed k slot d n h v = record {
     gives = λ c z. rw (there c z) refl;
     stands = λ c z. rw (there c z) (record { all = removed source id table.last_number table.slots c.all k slot d n z.all h; next = z.next });
@@ -371,8 +371,8 @@ pub as_many : (source : Source) (es : List (ℕ × Slot)) (all : List Connection
 as_many source es all z = sym (same_length_of (StandsForConnection source) (values_of es) all z) ∙ length-values_of es
 
 module _ (source : Source) (conns : ℕ) (peer : Peer) (clock : ℕ) (table : Table) where
-  pub full_acts : conns ≤ length table.slots → Acts (StandsForConnections source) (opening_of conns peer clock) table table (Err Full)
-  unfolding opening_of number_for
+  pub full_acts : conns ≤ length table.slots → Acts (StandsForConnections source) (open_in_table conns peer clock) table table (Err Full)
+  unfolding open_in_table number_for
   full_acts full = record {
     gives = λ c z. rw (no_room c z) refl;
     stands = λ c z. rw (no_room c z) z;
@@ -381,8 +381,8 @@ module _ (source : Source) (conns : ℕ) (peer : Peer) (clock : ℕ) (table : Ta
       no_room : (c : Connections) → StandsForConnections source table c → nat_lt (length c.all) conns ≡ false
       no_room c z = let many = as_many source table.slots c.all z.all in grind (arith, nat_tests)
 
-  pub spent_acts : length table.slots < conns → table.last_number ≡ greatest_number → Acts (StandsForConnections source) (opening_of conns peer clock) table table (Err Spent)
-  unfolding opening_of number_for
+  pub spent_acts : length table.slots < conns → table.last_number ≡ greatest_number → Acts (StandsForConnections source) (open_in_table conns peer clock) table table (Err Spent)
+  unfolding open_in_table number_for
   spent_acts room spent = record {
     gives = λ c z. rw (has_room c z, no_number c z) refl;
     stands = λ c z. rw (has_room c z, no_number c z) z;
@@ -397,8 +397,8 @@ module _ (source : Source) (conns : ℕ) (peer : Peer) (clock : ℕ) (table : Ta
   pub opened_acts : (slot : Slot) (new : Table) → length table.slots < conns → table.last_number < greatest_number
       → values_of new.slots ≡ values_of table.slots ++ slot ∷ [] → new.last_number ≡ table.last_number + 1
       → StandsForConnection source slot (record { number = table.last_number + 1; peer = peer; phase = Idle; since = clock })
-      → Acts (StandsForConnections source) (opening_of conns peer clock) table new (Ok (table.last_number + 1))
-  unfolding opening_of number_for
+      → Acts (StandsForConnections source) (open_in_table conns peer clock) table new (Ok (table.last_number + 1))
+  unfolding open_in_table number_for
   opened_acts slot new room left more given stands = record {
     gives = λ c z. rw (has_room c z, has_number_left c z) (ap Ok (sym z.next));
     stands = λ c z. rw (has_room c z, has_number_left c z) (record {

@@ -19,7 +19,7 @@ abbrev pub is_awaiting_stage : Stage → Bool
 is_awaiting_stage stages.Awaiting = true
 is_awaiting_stage stages.Idle = false
 is_awaiting_stage (stages.Reading reader) = false
-is_awaiting_stage (stages.Giving giving) = false
+is_awaiting_stage (stages.Owing giving) = false
 is_awaiting_stage stages.Lost = false
 
 -- it has this number and awaits no forwarded call

@@ -19,7 +19,7 @@ CanMake source (rests.Held start) = ⊤
 CanMake source (rests.Listed list) = CanBeContinued source.registry list
 
 -- It can make what is behind the fragment that is shown, which is something unless that is the last one.
-pub record GoesOnBy (source : Source) (buffer : List ℕ) (giving : Giving) : Type 0 where
+pub record CanContinueReply (source : Source) (buffer : List ℕ) (giving : Giving) : Type 0 where
   pub made : CanMake source giving.rest
   pub some : giving.last ≡ false → 0 < length (rest_in source buffer giving.rest)
 
@@ -40,7 +40,7 @@ pending_count (Err fault) = Err fault
 -- A slot shows the next fragment of a reply, where `rest` was not shown yet.
 pub record SlotShowsNext (source : Source) (rest : Rest) (old new : Slot) : Type 0 where
   pub giving : Giving
-  pub is : new ≡ record old { stage = stages.Giving giving; window = new.window }
+  pub is : new ≡ record old { stage = stages.Owing giving; window = new.window }
   pub shows : ShowsNext source old.buffer.bytes rest old.window new.window giving
 
 -- ---- a reply that is given whole

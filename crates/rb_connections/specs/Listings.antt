@@ -7,14 +7,14 @@ use Rattle.rb_connections.specs.declared.slot.Stage.{Stage}
 use Rattle.rb_connections.specs.declared.slot.Stage.TheVariants as stages
 use Rattle.rb_connections.specs.declared.slot.Slot.{Slot}
 use Rattle.rb_connections.specs.StandsFor.{Source, stamp_of_rest, Table}
-use Rattle.rb_connections.specs.Giving.{GoesOnBy}
+use Rattle.rb_connections.specs.Giving.{CanContinueReply}
 use Rattle.rb_connections.specs.Slots.{TableBecomes}
 
 -- ---- one slot
 
 -- the stamp of the list that is given: how many changes were accepted before it began
 abbrev pub stamp_of_stage : Stage → Option ℕ
-stamp_of_stage (stages.Giving giving) = stamp_of_rest giving.rest
+stamp_of_stage (stages.Owing giving) = stamp_of_rest giving.rest
 stamp_of_stage stages.Idle = None
 stamp_of_stage (stages.Reading reader) = None
 stamp_of_stage stages.Awaiting = None
@@ -24,31 +24,31 @@ abbrev pub stamp_of_slot : Slot → Option ℕ
 stamp_of_slot slot = stamp_of_stage slot.stage
 
 -- the source can make the rest of the reply that is given in this stage
-abbrev pub StageListsOn : Source → List ℕ → Stage → Type 0
-StageListsOn source buffer (stages.Giving giving) = GoesOnBy source buffer giving
-StageListsOn source buffer stages.Idle = ⊤
-StageListsOn source buffer (stages.Reading reader) = ⊤
-StageListsOn source buffer stages.Awaiting = ⊤
-StageListsOn source buffer stages.Lost = ⊤
+abbrev pub CanContinueStage : Source → List ℕ → Stage → Type 0
+CanContinueStage source buffer (stages.Owing giving) = CanContinueReply source buffer giving
+CanContinueStage source buffer stages.Idle = ⊤
+CanContinueStage source buffer (stages.Reading reader) = ⊤
+CanContinueStage source buffer stages.Awaiting = ⊤
+CanContinueStage source buffer stages.Lost = ⊤
 
-abbrev pub SlotListsOn : Source → Slot → Type 0
-SlotListsOn source slot = StageListsOn source slot.buffer.bytes slot.stage
+abbrev pub CanContinueSlot : Source → Slot → Type 0
+CanContinueSlot source slot = CanContinueStage source slot.buffer.bytes slot.stage
 
 -- for every source of lists
-abbrev pub SlotListsOnByAll : Slot → Type 0
-SlotListsOnByAll slot = (source : Source) → SlotListsOn source slot
+abbrev pub CanContinueSlotByAll : Slot → Type 0
+CanContinueSlotByAll slot = (source : Source) → CanContinueSlot source slot
 
 -- each source that could make the rest of the old list can make that of the new one
 abbrev pub SlotKeepsListing : Slot → Slot → Type 0
-SlotKeepsListing old new = (source : Source) → SlotListsOn source old → SlotListsOn source new
+SlotKeepsListing old new = (source : Source) → CanContinueSlot source old → CanContinueSlot source new
 
 -- ---- all of them
 
-abbrev pub CanListOn : Source → Table → Type 0
-CanListOn source table = All (SlotListsOn source) (values_of table.slots)
+abbrev pub CanContinueAll : Source → Table → Type 0
+CanContinueAll source table = All (CanContinueSlot source) (values_of table.slots)
 
 abbrev pub KeepsListing : Table → Table → Type 0
-KeepsListing old new = (source : Source) → CanListOn source old → CanListOn source new
+KeepsListing old new = (source : Source) → CanContinueAll source old → CanContinueAll source new
 
 -- the stamps of the lists that are given
 abbrev pub stamps_in : List (ℕ × Slot) → List ℕ
@@ -76,9 +76,9 @@ pub record IsEarliest (changes : List ℕ) (earliest : ℕ) : Type 0 where
   pub all : All (λ change. earliest ≤ change) changes
 
 -- a list that began before this change
-abbrev pub began_early : ℕ → Option ℕ → Bool
-began_early earliest None = false
-began_early earliest (Some n) = nat_lt n earliest
+abbrev pub began_before_earliest : ℕ → Option ℕ → Bool
+began_before_earliest earliest None = false
+began_before_earliest earliest (Some n) = nat_lt n earliest
 
 -- The connections become Lost whose lists began before these changes, of which the earliest is this one.
 abbrev pub EvictsBefore : ℕ → Table → Table → Type 0
@@ -87,7 +87,7 @@ EvictsBefore earliest old new =
 
 -- a slot after the eviction, Lost where its list began before the change
 abbrev pub evicted_slot : ℕ → Slot → Slot
-evicted_slot earliest slot = if began_early earliest (stamp_of_slot slot) then record slot { stage = stages.Lost } else slot
+evicted_slot earliest slot = if began_before_earliest earliest (stamp_of_slot slot) then record slot { stage = stages.Lost } else slot
 
 abbrev pub with_evicted : ℕ → Pool Slot → Pool Slot
 with_evicted earliest slots = record slots { entries = map (λ e. (e.0, evicted_slot earliest e.1)) slots.entries }

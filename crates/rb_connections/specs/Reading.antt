@@ -27,8 +27,8 @@ StandsBehind reader kept all None = IsReading reader kept all
 StandsBehind reader kept all (Some n) = kept.bytes ≡ kept_of (data_of (take n all))
 
 -- Whatever record the reader stands in, this is what is returned of a piece,
-abbrev pub TellsOfPiece : Reader → Kept → List ℕ → Fed → Type 0
-TellsOfPiece reader kept piece result =
+abbrev pub CountsPiece : Reader → Kept → List ℕ → Fed → Type 0
+CountsPiece reader kept piece result =
     (fed : List ℕ) → IsReading reader kept fed → result ≡ fed_until fed piece (first_record (fed ++ piece))
 
 -- and there the reader and the buffer stand behind it.

@@ -39,8 +39,8 @@ abbrev pub Settles : Source → ℕ → ℕ → Served → List ℕ → Table �
 Settles source id clock served written old new =
     BecomesFrom source (changed_at id (settle clock (served_in source served written))) old new
 
-abbrev pub is_closed_by : Source → Served → List ℕ → Bool
-is_closed_by source served reply = is_no_call (served_in source served reply)
+abbrev pub is_lost_by : Source → Served → List ℕ → Bool
+is_lost_by source served reply = is_no_call (served_in source served reply)
 
 abbrev pub kind_in : Served → Written
 kind_in (Answered given) = given

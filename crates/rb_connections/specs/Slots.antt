@@ -192,7 +192,7 @@ empty_table conns tie = record { slots = []; last_number = 0; conns = conns; tie
 abbrev pub phase_like : Stage → Phase
 phase_like stages.Idle = Idle
 phase_like (stages.Reading reader) = Reading []
-phase_like (stages.Giving giving) = Owing (record { marked = []; given = 0; stamp = None })
+phase_like (stages.Owing giving) = Owing (record { marked = []; given = 0; stamp = None })
 phase_like stages.Awaiting = Awaiting
 phase_like stages.Lost = Lost
 
@@ -203,14 +203,14 @@ abbrev pub is_lost_stage : Stage → Bool
 is_lost_stage stages.Lost = true
 is_lost_stage stages.Idle = false
 is_lost_stage (stages.Reading reader) = false
-is_lost_stage (stages.Giving giving) = false
+is_lost_stage (stages.Owing giving) = false
 is_lost_stage stages.Awaiting = false
 
 abbrev pub is_idle_stage : Stage → Bool
 is_idle_stage stages.Idle = true
 is_idle_stage stages.Lost = false
 is_idle_stage (stages.Reading reader) = false
-is_idle_stage (stages.Giving giving) = false
+is_idle_stage (stages.Owing giving) = false
 is_idle_stage stages.Awaiting = false
 
 unfoldable pub is_wanted_slot : Wanted → Slot → Bool

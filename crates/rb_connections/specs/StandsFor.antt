@@ -82,7 +82,7 @@ pub record IsGiving (source : Source) (giving : Giving) (buffer : List ℕ) (sho
 abbrev pub StandsForPhase : Source → Stage → Kept → Kept → Phase → Type 0
 StandsForPhase source stages.Idle buffer window Idle = (buffer.bytes ≡ []) × (window.bytes ≡ [])
 StandsForPhase source (stages.Reading reader) buffer window (Reading fed) = IsReading reader buffer fed × (window.bytes ≡ [])
-StandsForPhase source (stages.Giving giving) buffer window (Owing o) = IsGiving source giving buffer.bytes window o
+StandsForPhase source (stages.Owing giving) buffer window (Owing o) = IsGiving source giving buffer.bytes window o
 StandsForPhase source stages.Awaiting buffer window Awaiting = (buffer.bytes ≡ []) × (window.bytes ≡ [])
 StandsForPhase source stages.Lost buffer window Lost = ⊤
 StandsForPhase source stage buffer window phase = ⊥

@@ -8,7 +8,7 @@ ghost use Rattle.rb_xdr.specs.Pool.{HasDistinctKeys};
 ghost use Rattle.rb_connections.specs.Slots.{wanted_slot, AreBuffers, AreSpare, HasBuffers, HasDistinctNumbers};
 ghost use Rattle.rb_connections.specs.LiveSlots.{charge_of, count_cost, FindsLive, LendsLive};
 ghost use Rattle.rb_connections.specs.StandsFor.{held_in};
-ghost use Rattle.rb_connections.specs.Listings.{earlier_of, began_early, with_evicted, stamps_in, IsOldest};
+ghost use Rattle.rb_connections.specs.Listings.{earlier_of, began_before_earliest, with_evicted, stamps_in, IsOldest};
 ghost use Rattle.rb_model.specs.Costs.{oldest_cost, evict_cost};
 
 use crate::giving::LONGEST_FRAGMENT;
@@ -157,8 +157,8 @@ fn oldest_in(slots: &Pool<Slot>, meter: &mut Meter) -> Option<u64>
 }
 
 /// Whether a list with this stamp began before a change.
-fn is_early(stamp: Option<u64>, earliest: u64) -> bool
-    ensures { result ≡ began_early earliest stamp }
+fn began_before_earliest(stamp: Option<u64>, earliest: u64) -> bool
+    ensures { result ≡ began_before_earliest earliest stamp }
 {
     match stamp {
         Some(stamp) => stamp < earliest,
@@ -175,7 +175,7 @@ fn evict_slots(slots: &mut Pool<Slot>, earliest: u64, meter: &mut Meter)
 {
     let mut place = None;
     'slots: while let Some((key, slot)) = slots.entry_after(place, meter) {
-        if is_early(slot.stamp(), earliest) {
+        if began_before_earliest(slot.stamp(), earliest) {
             let Some(reader) = slots.get_mut(key, meter) else {
                 unreachable!()
             };
@@ -254,10 +254,10 @@ fn live_slot<'a>(
 
 impl Connections {
     ghost use Rattle.std.specs.Prelude.{◌≡◌, ◌≤◌, ◌<◌, ◌+◌, ◌*◌, [], true, false, ℕ, length, Some, OnErr, IfOk, IfSome, IfNone, All};
-    ghost use Rattle.rb_model.specs.Connections.{on_live, opening_of, closing_of, first_lost, longest_fragment};
+    ghost use Rattle.rb_model.specs.Connections.{on_live, open_in_table, close_in_table, next_lost_in_table, longest_fragment};
     ghost use Rattle.rb_connections.specs.Giving.{pending_count};
     ghost use Rattle.rb_connections.specs.Settling.{Settles, kind_in, IsWritten};
-    ghost use Rattle.rb_connections.specs.Listings.{CanListOn, KeepsListing, EvictsBefore, stamps_of, IsOldest};
+    ghost use Rattle.rb_connections.specs.Listings.{CanContinueAll, KeepsListing, EvictsBefore, stamps_of, IsOldest};
     ghost use Rattle.rb_model.specs.Losses.{expire_first};
     ghost use Rattle.rb_connections.specs.Slots.{Finds, TableActs, TableGives, TableHasArguments, TableLends, TableShows, TakesWhole, KeepsWhole, StaysTable, IsDraft, IsEmptyDraft, empty_table, take_piece, HasBuffers};
     ghost use Rattle.rb_model.specs.Step.{pending_at};
@@ -288,7 +288,7 @@ impl Connections {
     /// them, else `Spent` where no number is left.
     pub fn open(&mut self, clock: u64, peer: Peer, meter: &mut Meter) -> Result<u64, CoreFault>
         requires { meter.old.tie ≡ self.old.tie }
-        ensures acts { TableActs (opening_of self.old.conns peer clock) self.old self.new result }
+        ensures acts { TableActs (open_in_table self.old.conns peer clock) self.old self.new result }
         ensures goes_on { GoOn self.old self.new }
         ensures refused { OnErr result (self.new ≡ self.old) }
         ensures cost { PaysAtMost meter.old meter.new 4 }
@@ -318,7 +318,7 @@ impl Connections {
     /// Removes the connection of the number, live or Lost: `Gone` where there is none.
     pub fn close(&mut self, id: u64, meter: &mut Meter) -> Result<(), CoreFault>
         requires { meter.old.tie ≡ self.old.tie }
-        ensures acts { TableActs (closing_of id) self.old self.new result }
+        ensures acts { TableActs (close_in_table id) self.old self.new result }
         ensures goes_on { GoOn self.old self.new }
         ensures refused { OnErr result (self.new ≡ self.old) }
         ensures cost { PaysAtMost meter.old meter.new (look_cost self.old + 5) }
@@ -411,10 +411,10 @@ impl Connections {
         requires tie { meter.old.tie ≡ self.old.tie }
         requires draft { IsDraft meter.old.tie draft.old }
         requires written { IsWritten served draft.old.bytes }
-        requires lists { CanListOn (source_for host registry.now) self.old }
+        requires lists { CanContinueAll (source_for host registry.now) self.old }
         ensures stands { Settles
             (source_for host registry.now) id clock served draft.old.bytes self.old self.new }
-        ensures lists { CanListOn (source_for host registry.now) self.new }
+        ensures lists { CanContinueAll (source_for host registry.now) self.new }
         ensures others { OnlyIsFreed id self.old self.new }
         ensures awaits { AwaitsIfForwarded (kind_in served) id self.old self.new }
         ensures stays { StaysTable self.old self.new }
@@ -440,20 +440,20 @@ impl Connections {
         clock: u64,
         host: [u8; 4],
         registry: &Registry,
-        scratch: &mut Kept,
+        draft: &mut Kept,
         meter: &mut Meter,
     ) -> Result<(), CoreFault>
         requires registry { meter.old.tie ≡ registry.now.tie }
         requires tie { meter.old.tie ≡ self.old.tie }
-        requires scratch { IsEmptyDraft meter.old.tie scratch.old }
-        requires lists { CanListOn (source_for host registry.now) self.old }
+        requires draft { IsEmptyDraft meter.old.tie draft.old }
+        requires lists { CanContinueAll (source_for host registry.now) self.old }
         ensures acts { TableGives
             (source_for host registry.now) id clock n self.old self.new result }
-        ensures lists { CanListOn (source_for host registry.now) self.new }
+        ensures lists { CanContinueAll (source_for host registry.now) self.new }
         ensures free { NoneIsFreed self.old self.new }
         ensures refused { OnErr result (self.new ≡ self.old) }
         ensures stays { StaysTable self.old self.new }
-        ensures draft { IsEmptyDraft meter.old.tie scratch.new }
+        ensures draft { IsEmptyDraft meter.old.tie draft.new }
         ensures cost { PaysAtMost meter.old meter.new
             (look_cost self.old + (given_cost (row_count registry.now) + recount_cost)) }
     {
@@ -461,7 +461,7 @@ impl Connections {
         else {
             return Err(CoreFault::Gone);
         };
-        slot.give(n, clock, host, registry, scratch, meter);
+        slot.give(n, clock, host, registry, draft, meter);
         self.held += slot.charge(meter);
         Ok(())
     }
@@ -558,7 +558,7 @@ impl Connections {
     /// The least number of those that are Lost.
     pub fn next_lost(&self, meter: &mut Meter) -> Option<u64>
         requires { meter.old.tie ≡ self.now.tie }
-        ensures lost { TableShows first_lost self.now result }
+        ensures lost { TableShows next_lost_in_table self.now result }
         ensures cost { PaysAtMost meter.old meter.new (look_cost self.now) }
     {
         match self.first(Wanted::AnyLost, meter) {

@@ -21,7 +21,7 @@ pub(crate) fn time_in(stage: &Stage) -> Option<u64>
     match stage {
         Stage::Idle => Some(IDLE_TIME),
         Stage::Reading(_) => Some(READING_TIME),
-        Stage::Giving(_) => Some(OWING_TIME),
+        Stage::Owing(_) => Some(OWING_TIME),
         Stage::Awaiting | Stage::Lost => None,
     }
 }

@@ -124,31 +124,31 @@ fn show_held(start: usize, buffer: &Kept, window: &mut Kept, meter: &mut Meter) 
     }
 }
 
-/// Puts the next fragment of a list in the window. It is made in `scratch`, empty before and after.
+/// Puts the next fragment of a list in the window. It is made in `draft`, empty before and after.
 #[tactic(auto, unfolding(rb_model::specs::Connections::longest_fragment, rb_model::specs::Calls::longest_kept, crate::specs::StandsFor::buffer_size, rb_model::specs::Calls::longest_reply))]
 fn show_list(
     mut list: ListReply,
     registry: &Registry,
     host: [u8; 4],
     window: &mut Kept,
-    scratch: &mut Kept,
+    draft: &mut Kept,
     meter: &mut Meter,
 ) -> Giving
     requires registry { meter.old.tie ≡ registry.now.tie }
     requires window_tie { meter.old.tie ≡ window.old.tie }
-    requires scratch { IsDraft meter.old.tie scratch.old }
+    requires draft { IsDraft meter.old.tie draft.old }
     requires cap { window.old.cap ≡ longest_fragment }
     requires made { CanMake (source_for host registry.now) (Listed list) }
     requires some { 0 < length (rest_in (source_for host registry.now) [] (Listed list)) }
     ensures shows { (buffer : List ℕ) → ShowsNext (source_for host registry.now) buffer
         (Listed list) window.old window.new result }
-    ensures draft { IsEmptyDraft meter.old.tie scratch.new }
+    ensures draft { IsEmptyDraft meter.old.tie draft.new }
     ensures cost { PaysAtMost meter.old meter.new (listed_cost (row_count registry.now)) }
 {
-    let part = list.next_part(registry, host, scratch, meter);
-    let data = scratch.lend(part.start..part.end, meter);
+    let part = list.next_part(registry, host, draft, meter);
+    let data = draft.lend(part.start..part.end, meter);
     show(data, part.last, window, meter);
-    scratch.clear(meter);
+    draft.clear(meter);
     Giving {
         rest: Rest::Listed(list),
         place: 0,
@@ -157,31 +157,31 @@ fn show_list(
 }
 
 /// Puts the next fragment of a reply in the window, where `rest` was not shown yet: from `buffer`, or of a list,
-/// whose fragment is made in `scratch`, which is empty before and after.
+/// whose fragment is made in `draft`, which is empty before and after.
 pub fn show_next(
     rest: Rest,
     buffer: &Kept,
     registry: &Registry,
     host: [u8; 4],
     window: &mut Kept,
-    scratch: &mut Kept,
+    draft: &mut Kept,
     meter: &mut Meter,
 ) -> Giving
     requires registry { meter.old.tie ≡ registry.now.tie }
     requires buffer_tie { meter.old.tie ≡ buffer.now.tie }
     requires window_tie { meter.old.tie ≡ window.old.tie }
-    requires scratch { IsEmptyDraft meter.old.tie scratch.old }
+    requires draft { IsEmptyDraft meter.old.tie draft.old }
     requires cap { window.old.cap ≡ longest_fragment }
     requires made { CanMake (source_for host registry.now) rest }
     requires some { 0 < length (rest_in (source_for host registry.now) buffer.now.bytes rest) }
     ensures shows { ShowsNext (source_for host registry.now) buffer.now.bytes rest
         window.old window.new result }
-    ensures draft { IsEmptyDraft meter.old.tie scratch.new }
+    ensures draft { IsEmptyDraft meter.old.tie draft.new }
     ensures cost { PaysAtMost meter.old meter.new (next_cost registry.now rest) }
 {
     match rest {
         Rest::Held(start) => show_held(start, buffer, window, meter),
-        Rest::Listed(list) => show_list(list, registry, host, window, scratch, meter),
+        Rest::Listed(list) => show_list(list, registry, host, window, draft, meter),
     }
 }
 

@@ -5,7 +5,7 @@ ghost use Rattle.rb_rpc.specs.Marks.{StandsForFed};
 ghost use Rattle.rb_rpc.specs.Streams.{RecordEnds, ArePart, StandsForMore};
 ghost use Rattle.rb_feed.specs.Feeds.{StandsForCall};
 ghost use Rattle.rb_connections.specs.StandsFor.{IsHeld};
-ghost use Rattle.rb_connections.specs.Reading.{HasData, HasMore, KeepsMore, TakesData, TellsOfPiece, ReadsPiece};
+ghost use Rattle.rb_connections.specs.Reading.{HasData, HasMore, KeepsMore, TakesData, CountsPiece, ReadsPiece};
 
 use rb_feed::CallFeed;
 use rb_rpc::{Marks, Part, Verdict};
@@ -168,7 +168,7 @@ impl Reader {
     pub fn feed(&mut self, kept: &mut Kept, piece: &[u8], meter: &mut Meter) -> Fed
         requires { meter.old.tie ≡ kept.old.tie }
         ensures within { result.count ≤ length piece.now }
-        ensures taken { TellsOfPiece self.old kept.old piece.now result }
+        ensures taken { CountsPiece self.old kept.old piece.now result }
         ensures after { ReadsPiece self.old kept.old piece.now self.new kept.new }
         ensures cap { kept.new.cap ≡ kept.old.cap }
         ensures tie { kept.new.tie ≡ kept.old.tie }

@@ -29,11 +29,11 @@ pub enum Served {
 impl Served {
     ghost use Rattle.std.specs.Prelude.{◌≡◌, ℕ, List};
     ghost use Rattle.rb_connections.specs.StandsFor.{Source};
-    ghost use Rattle.rb_connections.specs.Settling.{is_closed_by};
+    ghost use Rattle.rb_connections.specs.Settling.{is_lost_by};
 
     /// Whether the message is no call: then the connection on which it came is Lost.
     pub fn is_no_call(self) -> bool
-        ensures { (source : Source) (reply : List ℕ) → result ≡ is_closed_by source self reply }
+        ensures { (source : Source) (reply : List ℕ) → result ≡ is_lost_by source self reply }
     {
         matches!(self, Served::Answered(Outcome::NoCall))
     }

@@ -24,7 +24,7 @@ pub enum Stage {
     /// In the middle of a record.
     Reading(Reader),
     /// A reply is being given.
-    Giving(Giving),
+    Owing(Giving),
     /// Its call is forwarded, and its reply comes when that call ends.
     Awaiting,
     /// It takes and gives nothing more, and waits to be closed.
@@ -117,7 +117,7 @@ fn layout(slot: &Slot, spare: &Buffers) {
         Stage::Reading(reader) => {
             let _: Reader = reader;
         }
-        Stage::Giving(giving) => {
+        Stage::Owing(giving) => {
             let _: Giving = giving;
         }
     }
@@ -160,7 +160,7 @@ impl Slot {
     ghost use Rattle.rb_connections.specs.Slots.{is_due_slot, SlotActs, SlotGives, SlotHasArguments, SlotShows, emptied_slot, ReceivesPiece, StandsBehindPiece, KeepsArgumentsOfPiece, HasBuffers, IsDraft, IsEmptyDraft, StaysSlot, take_piece, received_whole, is_lost_stage, is_idle_stage, is_wanted_slot};
     ghost use Rattle.rb_connections.specs.StandsFor.{StandsForConnection, charge, most_charge, rest_in, source_for};
     ghost use Rattle.rb_model.specs.Calls.{kept_of};
-    ghost use Rattle.rb_connections.specs.Listings.{stamp_of_slot, SlotListsOn, SlotKeepsListing, SlotListsOnByAll};
+    ghost use Rattle.rb_connections.specs.Listings.{stamp_of_slot, CanContinueSlot, SlotKeepsListing, CanContinueSlotByAll};
     ghost use Rattle.rb_connections.specs.Giving.{CanMake};
     ghost use Rattle.rb_connections.specs.Settling.{SlotSettles, IsWritten, kind_in};
     ghost use Rattle.rb_connections.specs.Giving.{SlotShowsNext};
@@ -191,7 +191,7 @@ impl Slot {
         ensures { result ≡ stamp_of_slot self.now }
     {
         match self.stage {
-            Stage::Giving(giving) => giving.rest.stamp(),
+            Stage::Owing(giving) => giving.rest.stamp(),
             Stage::Idle | Stage::Reading(_) | Stage::Awaiting | Stage::Lost => None,
         }
     }
@@ -222,7 +222,7 @@ impl Slot {
         ensures received { ReceivesPiece self.old reader clock piece.now result }
         ensures stands { StandsBehindPiece self.old self.new reader clock piece.now }
         ensures stage { is_awaiting_stage self.new.stage ≡ false }
-        ensures lists { SlotListsOnByAll self.new }
+        ensures lists { CanContinueSlotByAll self.new }
         ensures ended { IfSome result.ended (λ ended. IsIdleAt clock self.new) }
         ensures arguments { KeepsArgumentsOfPiece self.old reader clock piece.now arguments.old arguments.new }
         ensures within { result.count ≤ length piece.now }
@@ -295,7 +295,7 @@ impl Slot {
                 self.feed(Reader::new(), piece, clock, arguments, meter)
             }
             Stage::Reading(reader) => self.feed(reader, piece, clock, arguments, meter),
-            Stage::Giving(_) | Stage::Awaiting | Stage::Lost => nothing(),
+            Stage::Owing(_) | Stage::Awaiting | Stage::Lost => nothing(),
         }
     }
 
@@ -332,7 +332,7 @@ impl Slot {
             (source_for host registry.now) clock served draft.old.bytes self.old self.new }
         ensures awaits { kind_in served ≡ Outcome.Forwarded
             → is_awaiting_stage self.new.stage ≡ true }
-        ensures lists { SlotListsOn (source_for host registry.now) self.new }
+        ensures lists { CanContinueSlot (source_for host registry.now) self.new }
         ensures stays { StaysSlot meter.old.tie self.old self.new }
         ensures draft { IsEmptyDraft meter.old.tie draft.new }
         ensures cost { PaysAtMost meter.old meter.new (answered_cost registry.now served) }
@@ -370,17 +370,17 @@ impl Slot {
         rest: Rest,
         host: [u8; 4],
         registry: &Registry,
-        scratch: &mut Kept,
+        draft: &mut Kept,
         meter: &mut Meter,
     )
         requires registry { meter.old.tie ≡ registry.now.tie }
         requires buffers { HasBuffers meter.old.tie self.old }
-        requires scratch { IsEmptyDraft meter.old.tie scratch.old }
+        requires draft { IsEmptyDraft meter.old.tie draft.old }
         requires made { CanMake (source_for host registry.now) rest }
         requires some { 0 < length (rest_in (source_for host registry.now)
             self.old.buffer.bytes rest) }
         ensures shows { SlotShowsNext (source_for host registry.now) rest self.old self.new }
-        ensures draft { IsEmptyDraft meter.old.tie scratch.new }
+        ensures draft { IsEmptyDraft meter.old.tie draft.new }
         ensures cost { PaysAtMost meter.old meter.new (next_cost registry.now rest) }
     {
         let giving = show_next(
@@ -389,10 +389,10 @@ impl Slot {
             registry,
             host,
             &mut self.window,
-            scratch,
+            draft,
             meter,
         );
-        self.stage = Stage::Giving(giving);
+        self.stage = Stage::Owing(giving);
     }
 
     /// Counts n of the pending bytes as given, or as many as there are: with the last byte of its reply the
@@ -403,21 +403,21 @@ impl Slot {
         clock: u64,
         host: [u8; 4],
         registry: &Registry,
-        scratch: &mut Kept,
+        draft: &mut Kept,
         meter: &mut Meter,
     )
         requires registry { meter.old.tie ≡ registry.now.tie }
         requires buffers { HasBuffers meter.old.tie self.old }
-        requires scratch { IsEmptyDraft meter.old.tie scratch.old }
-        requires lists { SlotListsOn (source_for host registry.now) self.old }
+        requires draft { IsEmptyDraft meter.old.tie draft.old }
+        requires lists { CanContinueSlot (source_for host registry.now) self.old }
         ensures acts { SlotGives (source_for host registry.now) clock n self.old self.new }
         ensures awaits { is_awaiting_stage self.new.stage ≡ is_awaiting_stage self.old.stage }
-        ensures lists { SlotListsOn (source_for host registry.now) self.new }
+        ensures lists { CanContinueSlot (source_for host registry.now) self.new }
         ensures stays { StaysSlot meter.old.tie self.old self.new }
-        ensures draft { IsEmptyDraft meter.old.tie scratch.new }
+        ensures draft { IsEmptyDraft meter.old.tie draft.new }
         ensures cost { PaysAtMost meter.old meter.new (given_cost (row_count registry.now)) }
     {
-        let Stage::Giving(giving) = self.stage else {
+        let Stage::Owing(giving) = self.stage else {
             return;
         };
         let shown = self.window.len(meter);
@@ -428,13 +428,13 @@ impl Slot {
         self.since = clock;
         let place = giving.place + more;
         if place < shown {
-            self.stage = Stage::Giving(Giving { place, ..giving });
+            self.stage = Stage::Owing(Giving { place, ..giving });
         } else if giving.last {
             self.stage = Stage::Idle;
             self.buffer.clear(meter);
             self.window.clear(meter);
         } else {
-            self.show(giving.rest, host, registry, scratch, meter);
+            self.show(giving.rest, host, registry, draft, meter);
         }
     }
 
@@ -456,7 +456,7 @@ impl Slot {
         ensures cost { PaysAtMost meter.old meter.new 1 }
     {
         match self.stage {
-            Stage::Giving(giving) => self.window.len(meter).saturating_sub(giving.place),
+            Stage::Owing(giving) => self.window.len(meter).saturating_sub(giving.place),
             Stage::Idle | Stage::Reading(_) | Stage::Awaiting | Stage::Lost => 0,
         }
     }
@@ -470,7 +470,7 @@ impl Slot {
         ensures cost { PaysAtMost meter.old meter.new pending_cost }
     {
         match self.stage {
-            Stage::Giving(giving) => {
+            Stage::Owing(giving) => {
                 let end = self.window.len(meter);
                 self.window.lend(end.min(giving.place)..end, meter)
             }

@@ -13,7 +13,7 @@ use Rattle.rb_model.specs.Losses.{asks_room}
 use Rattle.rb_laws.proofs.Crowding.{none_evicted, not_asked}
 use Rattle.rb_connections.specs.StandsFor.{Table}
 use Rattle.rb_connections.specs.Slots.{StaysTable}
-use Rattle.rb_connections.specs.Listings.{CanListOn, stamps_of}
+use Rattle.rb_connections.specs.Listings.{CanContinueAll, stamps_of}
 use Rattle.rb_connections.proofs.ListsGoOn.{lists_on, stands_on, stamps_low}
 use Rattle.rb_core.specs.StandsFor.{Held, source_of}
 use Rattle.rb_core.specs.Core.{context_of}
@@ -26,17 +26,17 @@ pub sees : (view now : Held) (context : Context) (caller : Caller) → view ≡ 
 sees view now context caller same is = is ∙ ap (λ (h : Held). context_of h caller) (sym same)
 
 -- The source tells the lists that are given once a message was served too.
-pub lists_then : (host : List ℕ) (table : Table) (mid books : Books) → GoesOn mid.registry books.registry → books.registry.floor ≡ mid.registry.floor → CanListOn (source_in host mid) table → CanListOn (source_in host books) table
+pub lists_then : (host : List ℕ) (table : Table) (mid books : Books) → GoesOn mid.registry books.registry → books.registry.floor ≡ mid.registry.floor → CanContinueAll (source_in host mid) table → CanContinueAll (source_in host books) table
 lists_then host table mid books cursors floor told =
     lists_on host mid.registry books.registry cursors table (subst (λ (f : ℕ). All (λ n. f ≤ n) (stamps_of table)) (sym floor) (stamps_low (source_in host mid) table told)) told
 
 module _ (view : Held) (caller : Caller) (context : Context) (is : context ≡ context_of view caller) where
-  pub lists_for_room : CanListOn (source_of view) view.connections → CanListOn (source_in context.listener.host view.books) view.connections
-  lists_for_room told = subst (λ (x : Context). CanListOn (source_in x.listener.host view.books) view.connections) (sym is) told
+  pub lists_for_room : CanContinueAll (source_of view) view.connections → CanContinueAll (source_in context.listener.host view.books) view.connections
+  lists_for_room told = subst (λ (x : Context). CanContinueAll (source_in x.listener.host view.books) view.connections) (sym is) told
 
   -- the same of what a call saw once it was answered
-  pub lists_for_view : (table : Table) (books : Books) → CanListOn (source_in context.listener.host books) table → CanListOn (source_in view.setting.listener.host books) table
-  lists_for_view table books told = subst (λ (x : Context). CanListOn (source_in x.listener.host books) table) is told
+  pub lists_for_view : (table : Table) (books : Books) → CanContinueAll (source_in context.listener.host books) table → CanContinueAll (source_in view.setting.listener.host books) table
+  lists_for_view table books told = subst (λ (x : Context). CanContinueAll (source_in x.listener.host books) table) is told
 
   pub served_by : (message : Message) (arguments : List ℕ) (table : Table) (books : Books) (given : Outcome) → ServesInRoom context message arguments view.connections view.books table books given
       → SameFrame view.books books → StaysTable view.connections table → Served (context_of view caller) view message arguments table books given
@@ -49,7 +49,7 @@ nothing_evicts context message before old none = λ c l z h. (rw (not_asked cont
 
 module _ (context : Context) (message : Message) (arguments : List ℕ) (before : Table) (old : Books) (given : Outcome) where
   -- once room was made
-  pub serves_in_room : (table : Table) (mid books : Books) → GoesOn mid.registry books.registry → books.registry.floor ≡ mid.registry.floor → CanListOn (source_in context.listener.host mid) table
+  pub serves_in_room : (table : Table) (mid books : Books) → GoesOn mid.registry books.registry → books.registry.floor ≡ mid.registry.floor → CanContinueAll (source_in context.listener.host mid) table
       → Evicts context message before old table mid → ActsAs (outcome context message arguments) mid books given → ServesInRoom context message arguments before old table books given
   serves_in_room table mid books cursors floor told makes acts = record {
     gives = λ c l z h. acts.gives l (makes c l z h).1;

@@ -8,7 +8,7 @@ use Rattle.std.proofs.lemmas.Bool.Decides.{nat_tests}
 use Rattle.std.proofs.lemmas.List.Elements.{All-head, All-tail, All-contains}
 use Rattle.rb_registry.specs.declared.slot.Slot.{Slot as RowSlot}
 use Rattle.rb_registry.specs.Registry.{removals_of}
-use Rattle.rb_registry.specs.Table.{stamp_told, later_than, IsLeast}
+use Rattle.rb_registry.specs.Table.{stamp_named, later_than, IsLeast}
 use Rattle.rb_registry.specs.Slots.{is_dropped, removed_by, all_slots}
 use Rattle.rb_proto.specs.declared.context.Context.{Context}
 use Rattle.rb_proto.specs.declared.call.Call.{Call}
@@ -19,9 +19,9 @@ use Rattle.rb_proto.proofs.ListReplies.{removals_kept}
 use Rattle.rb_model.specs.declared.message.Message.{Message}
 use Rattle.rb_model.specs.declared.message.Message.TheVariants as says
 use Rattle.rb_model.specs.State.{Connections}
-use Rattle.rb_model.specs.Losses.{list_stamps, is_retained_for, removals_by, retained_removals}
+use Rattle.rb_model.specs.Losses.{list_stamps, is_needed_for, removals_by, needed_removals}
 use Rattle.rb_connections.specs.StandsFor.{Source, Table, StandsForConnections}
-use Rattle.rb_connections.specs.Listings.{CanListOn, stamps_of, IsOldest, IsEarliest}
+use Rattle.rb_connections.specs.Listings.{CanContinueAll, stamps_of, IsOldest, IsEarliest}
 use Rattle.rb_connections.proofs.ListsGoOn.{stamps_reach, stamps_low, begins_alike}
 use Rattle.rb_core.specs.Eviction.{HasRoom}
 
@@ -44,7 +44,7 @@ not_dropped k (slot ∷ slots) = by_removed slot.removed refl (not_dropped k slo
         by_test true t = let low : nat_le r k ≡ false = grind (arith, nat_tests) in rw (is, low, t) (ap (λ (xs : List ℕ). r ∷ xs) further)
         by_test false t = let low : nat_le r k ≡ true = grind (arith, nat_tests) in rw (is, low, t) further
 
-retained_by_oldest : (stamps : List ℕ) (k change : ℕ) → IsOldest stamps (Some k) → is_retained_for stamps change ≡ nat_lt k change
+retained_by_oldest : (stamps : List ℕ) (k change : ℕ) → IsOldest stamps (Some k) → is_needed_for stamps change ≡ nat_lt k change
 retained_by_oldest stamps k change least = by_test (nat_lt k change) refl
   where
     some_below : (ns : List ℕ) (i : ℕ) → i < length ns → slice_index_or ns i k ≡ k → k < change → list_any (λ n. nat_lt n change) ns ≡ true
@@ -61,7 +61,7 @@ retained_by_oldest stamps k change least = by_test (nat_lt k change) refl
         let here : nat_lt n change ≡ false = le-ltb n change (omega (arith, first, late)) in
         rw here (none_below ns (All-tail (λ m. k ≤ m) n ns low) late)
 
-    by_test : (b : Bool) → nat_lt k change ≡ b → is_retained_for stamps change ≡ b
+    by_test : (b : Bool) → nat_lt k change ≡ b → is_needed_for stamps change ≡ b
     by_test true t = some_below stamps least.0.0 least.0.1 least.0.2 (ltb-true k change t)
     by_test false t = none_below stamps least.1 (ltb-false k change t)
 
@@ -69,7 +69,7 @@ filter_alike : (p q : ℕ → Bool) (xs : List ℕ) → ((x : ℕ) → p x ≡ q
 filter_alike p q [] same = refl
 filter_alike p q (x ∷ xs) same = rw (same x, filter_alike p q xs same) refl
 
-none_pass : (xs : List ℕ) → filter (is_retained_for []) xs ≡ []
+none_pass : (xs : List ℕ) → filter (is_needed_for []) xs ≡ []
 none_pass [] = refl
 none_pass (x ∷ xs) = none_pass xs
 
@@ -79,12 +79,12 @@ none_later (x ∷ xs) = none_later xs
 
 -- after a trim to the oldest list, the retained rows are those that a list needs
 pub kept_are : (source : Source) (table : Table) (c : Connections) (books : Books) (l : Ledger) (oldest : Option ℕ) (before : List ℕ)
-    → CanListOn source table → StandsForConnections source table c → IsOldest (stamps_of table) oldest → StandsForLedger books l
-    → books.registry.floor ≡ max source.registry.floor (stamp_told source.registry oldest) → removals_of books.registry ≡ later_than oldest before
-    → removals_of books.registry ≡ retained_removals c.all l
-unfolding retained_removals
+    → CanContinueAll source table → StandsForConnections source table c → IsOldest (stamps_of table) oldest → StandsForLedger books l
+    → books.registry.floor ≡ max source.registry.floor (stamp_named source.registry oldest) → removals_of books.registry ≡ later_than oldest before
+    → removals_of books.registry ≡ needed_removals c.all l
+unfolding needed_removals
 kept_are source table c books l None before t z none h floor dropped =
-    dropped ∙ none_later before ∙ sym (ap (λ (ns : List ℕ). filter (is_retained_for ns) (removals_by l)) (begins_alike source (values_of table.slots) c.all z.all ∙ none) ∙ none_pass (removals_by l))
+    dropped ∙ none_later before ∙ sym (ap (λ (ns : List ℕ). filter (is_needed_for ns) (removals_by l)) (begins_alike source (values_of table.slots) c.all z.all ∙ none) ∙ none_pass (removals_by l))
 kept_are source table c books l (Some k) before t z least h floor dropped =
     let reach : (source.registry.floor ≤ k) × (k ≤ source.registry.stamp) =
     All-contains (λ n. (source.registry.floor ≤ n) × (n ≤ source.registry.stamp)) (stamps_of table) k (stamps_reach source (values_of table.slots) t) least.0 in
@@ -92,8 +92,8 @@ kept_are source table c books l (Some k) before t z least h floor dropped =
     removals_kept books l h
     ∙ ap (λ (n : ℕ). removals_after n l) floor_is
     ∙ not_dropped k (all_slots l.own l.changes)
-    ∙ sym (ap (λ (ns : List ℕ). filter (is_retained_for ns) (removals_by l)) (begins_alike source (values_of table.slots) c.all z.all)
-    ∙ filter_alike (is_retained_for (stamps_of table)) (λ change. nat_lt k change) (removals_by l) (λ change. retained_by_oldest (stamps_of table) k change least))
+    ∙ sym (ap (λ (ns : List ℕ). filter (is_needed_for ns) (removals_by l)) (begins_alike source (values_of table.slots) c.all z.all)
+    ∙ filter_alike (is_needed_for (stamps_of table)) (λ change. nat_lt k change) (removals_by l) (λ change. retained_by_oldest (stamps_of table) k change least))
 
 filter_fewer : (p q : ℕ → Bool) (xs : List ℕ) → ((x : ℕ) → p x ≡ true → q x ≡ true) → length (filter p xs) ≤ length (filter q xs)
 filter_fewer p q [] also = omega arith
@@ -106,11 +106,11 @@ filter_fewer p q (x ∷ xs) also = by_test (p x) refl (q x) refl (filter_fewer p
     by_test false e false f fewer = rw (e, f) fewer
 
 -- what some list began before is above what none began before
-retained_above : (floor change : ℕ) (stamps : List ℕ) → All (λ n. floor ≤ n) stamps → is_retained_for stamps change ≡ true → nat_lt floor change ≡ true
+retained_above : (floor change : ℕ) (stamps : List ℕ) → All (λ n. floor ≤ n) stamps → is_needed_for stamps change ≡ true → nat_lt floor change ≡ true
 retained_above floor change [] low is = absurd cc
 retained_above floor change (n ∷ stamps) low is = by_test (nat_lt n change) refl (retained_above floor change stamps (All-tail (λ m. floor ≤ m) n stamps low))
   where
-    by_test : (b : Bool) → nat_lt n change ≡ b → (is_retained_for stamps change ≡ true → nat_lt floor change ≡ true) → nat_lt floor change ≡ true
+    by_test : (b : Bool) → nat_lt n change ≡ b → (is_needed_for stamps change ≡ true → nat_lt floor change ≡ true) → nat_lt floor change ≡ true
     by_test true t further =
         let first : floor ≤ n = All-head (λ m. floor ≤ m) n stamps low in
         let early = ltb-true n change t in
@@ -119,16 +119,16 @@ retained_above floor change (n ∷ stamps) low is = by_test (nat_lt n change) re
 
 -- the rows that lists need are among the retained ones
 pub kept_few : (source : Source) (table : Table) (c : Connections) (books : Books) (l : Ledger)
-    → CanListOn source table → StandsForConnections source table c → StandsForLedger books l → books.registry.floor ≡ source.registry.floor
-    → length (retained_removals c.all l) ≤ length (removals_of books.registry)
-unfolding retained_removals
+    → CanContinueAll source table → StandsForConnections source table c → StandsForLedger books l → books.registry.floor ≡ source.registry.floor
+    → length (needed_removals c.all l) ≤ length (removals_of books.registry)
+unfolding needed_removals
 kept_few source table c books l t z h floor =
     let dead : removals_of books.registry ≡ filter (λ change. nat_lt books.registry.floor change) (removals_by l) =
     removals_kept books l h ∙ not_dropped books.registry.floor (all_slots l.own l.changes) in
-    let kept : filter (is_retained_for (list_stamps c.all)) (removals_by l) ≡ filter (is_retained_for (stamps_of table)) (removals_by l) =
-    ap (λ (ns : List ℕ). filter (is_retained_for ns) (removals_by l)) (begins_alike source (values_of table.slots) c.all z.all) in
+    let kept : filter (is_needed_for (list_stamps c.all)) (removals_by l) ≡ filter (is_needed_for (stamps_of table)) (removals_by l) =
+    ap (λ (ns : List ℕ). filter (is_needed_for ns) (removals_by l)) (begins_alike source (values_of table.slots) c.all z.all) in
     let low : All (λ n. books.registry.floor ≤ n) (stamps_of table) = subst (λ (k : ℕ). All (λ n. k ≤ n) (stamps_of table)) (sym floor) (stamps_low source table t) in
-    let fewer = filter_fewer (is_retained_for (stamps_of table)) (λ change. nat_lt books.registry.floor change) (removals_by l) (λ change. retained_above books.registry.floor change (stamps_of table) low) in
+    let fewer = filter_fewer (is_needed_for (stamps_of table)) (λ change. nat_lt books.registry.floor change) (removals_by l) (λ change. retained_above books.registry.floor change (stamps_of table) low) in
     omega (arith, fewer, ap (λ (xs : List ℕ). length xs) dead, ap (λ (xs : List ℕ). length xs) kept)
 
 pub no_call_has_room : (context : Context) (message : Message) (books : Books) → ((call : Call) → message ≡ says.Asked call → ⊥) → HasRoom context message books

@@ -22,7 +22,7 @@ use Rattle.rb_registry.specs.Registry.{Registry, StandsForChanges, slots_of as r
 use Rattle.rb_registry.specs.Slots.{slot_of, is_dropped, slots_by, all_slots, slots_from, held_in as held_of_rows}
 use Rattle.rb_stats.proofs.Sizes.{few_keys}
 use Rattle.rb_forward.specs.Forwards.{Entry, Forwards, held_call, question, head_of}
-use Rattle.rb_forward.specs.StandsFor.{Table as Entries, StandsForForwards, slots_of as calls_of, held_in as held_of_calls, longest_call}
+use Rattle.rb_forward.specs.StandsFor.{Table as Entries, StandsForForwards, slots_of as calls_of, held_in as held_of_calls, longest_forwarded_call}
 use Rattle.rb_forward.proofs.Heads.{length-head}
 use Rattle.rb_forward.proofs.Stands.{held_alike}
 use Rattle.rb_proto.specs.declared.listener.Listener.{Listener}
@@ -31,7 +31,7 @@ use Rattle.rb_model.specs.Calls.{longest_reply, longest_kept, kept_of}
 use Rattle.rb_model.specs.Connections.{longest_fragment}
 use Rattle.rb_model.specs.State.{Phase, Connection}
 use Rattle.rb_model.specs.State.Phase.{Idle, Reading, Owing, Awaiting, Lost}
-use Rattle.rb_model.specs.Bounds.{greatest_call}
+use Rattle.rb_model.specs.Bounds.{longest_served_call}
 use Rattle.rb_laws.proofs.EntriesKept.{HasShortArgs, reached-kept}
 use Rattle.rb_laws.proofs.Ledgers.{IsShortChange, reached-short}
 use Rattle.rb_laws.proofs.Room.{reached-room}
@@ -64,7 +64,7 @@ holds_arguments : (source : Source) (slot : Slot) (c : Connection) → StandsFor
 holds_arguments source slot c z takes = phase_holds source slot.stage slot.buffer slot.window c.phase c refl z.phase takes
 
 abbrev share : ℕ
-share = 128 + greatest_call + longest_fragment
+share = 128 + longest_served_call + longest_fragment
 
 one_share : (source : Source) (slot : Slot) (c : Connection) → StandsForConnection source slot c → IsWithin slot → charge slot + unheld_share * cond (takes_bytes c) 1 0 ≤ share
 unfolding longest_reply longest_kept buffer_size longest_fragment
@@ -130,11 +130,11 @@ rows_within kept own changes stands owned changed =
 
 -- ---- forwarded calls
 
-call_short : (first_xid : ℕ) (e : Entry) → HasShortArgs e → length (held_call first_xid e) ≤ longest_call
+call_short : (first_xid : ℕ) (e : Entry) → HasShortArgs e → length (held_call first_xid e) ≤ longest_forwarded_call
 unfolding held_call question
 call_short first_xid e short = by_sent e.sent
   where
-    by_sent : (b : Bool) → length (cond b [] (question first_xid e)) ≤ longest_call
+    by_sent : (b : Bool) → length (cond b [] (question first_xid e)) ≤ longest_forwarded_call
     by_sent true = omega arith
     by_sent false =
         let whole = length-append (call_bytes (head_of first_xid e.number e.forward)) e.args in
@@ -142,12 +142,12 @@ call_short first_xid e short = by_sent e.sent
         omega (arith, whole, head, short)
 
 calls_within : (table : Entries) (f : Forwards) (most : ℕ) → StandsForForwards table f → All HasShortArgs f.all → length f.all ≤ most
-    → held_of_calls (calls_of table) ≤ most * (128 + longest_call)
+    → held_of_calls (calls_of table) ≤ most * (128 + longest_forwarded_call)
 calls_within table f most stands short few =
     let alike = held_alike table.first_xid (calls_of table) f stands.all in
-    let sum = sum_by-le (λ (e : Entry). 128 + length (held_call table.first_xid e)) (128 + longest_call) f.all
+    let sum = sum_by-le (λ (e : Entry). 128 + length (held_call table.first_xid e)) (128 + longest_forwarded_call) f.all
     (λ k e lt. let one = call_short table.first_xid (get_or f.all k e) (short k e lt) in omega (arith, one)) in
-    let more = mul-le-mul_right (128 + longest_call) few in
+    let more = mul-le-mul_right (128 + longest_forwarded_call) few in
     omega (arith, alike, sum, more)
 
 -- ---- all of it

@@ -23,7 +23,7 @@ use Rattle.rb_model.specs.declared.types.CoreFault.TheVariants.{Gone}
 use Rattle.rb_model.specs.Calls.{Outcome, outcome, message_with, message_of, is_no_call, reply_in, longest_reply, kept_of}
 use Rattle.rb_model.specs.State.{State, Phase, Connection, Connections, at_moment}
 use Rattle.rb_model.specs.State.Phase.{Idle, Reading, Owing, Awaiting, Lost}
-use Rattle.rb_model.specs.Connections.{Taking, taking_of, keep_reading, settle, is_lost, is_live, live_connection, change_first, changed_at, on_live, opening_of, closing_of, give}
+use Rattle.rb_model.specs.Connections.{Taking, taking_of, keep_reading, settle, is_lost, is_live, live_connection, change_first, changed_at, on_live, open_in_table, close_in_table, give}
 use Rattle.rb_model.specs.Connections.Taking.{TakesNone, GoesOn, Ends}
 use Rattle.rb_model.specs.Step.{context_in, with_ledger, with_reply, settle_on, serve_message, serve, serve_record, with_count, when_taken, bytes_to, bytes, datagram, gave, open_connection, close_connection, unless_refused, dropped_with, unsent_call, sent_call}
 use Rattle.rb_model.specs.declared.types.Taken.{Taken}
@@ -31,7 +31,7 @@ use Rattle.rb_model.specs.Laws.{is_owing}
 use Rattle.rb_model.specs.Losses.{stamp_in, removals_in_the_way, evict_early, evict, with_room}
 use Rattle.rb_model.specs.declared.types.Told.{Told}
 use Rattle.rb_model.specs.declared.types.Expired.TheVariants as Expires
-use Rattle.rb_model.specs.Ending.{told_at, tell, tell_end, at_fresh_moment, expired_as}
+use Rattle.rb_model.specs.Ending.{outcome_at_end, tell, tell_end, at_fresh_moment, expired_as}
 use Rattle.rb_laws.proofs.Crowds.{begins_changed, evicted_changed, crowding_alike}
 use Rattle.rb_connections.specs.declared.slot.EndedRecord.{EndedRecord}
 use Rattle.rb_connections.specs.declared.slot.Received.{Received}
@@ -108,23 +108,23 @@ pub acts_from : {A : Type 0} (act : State → A × State) (view now new : Held) 
 acts_from act view now new x is acts = subst (λ (held : Held). Acts StandsFor act held new x) is acts
 
 module _ (old : Held) (now clock : ℕ) (is : clock ≡ max old.clock now) (table : Table) where
-  open_at : (peer : Peer) (r : Result ℕ CoreFault) → Acts (StandsForConnections (source_of old)) (opening_of old.connections.conns peer clock) old.connections table r
-      → (s : State) → StandsFor old s → Acts (StandsForConnections (source_of old)) (opening_of s.setting.limits.conns peer (max s.clock now)) old.connections table r
+  open_at : (peer : Peer) (r : Result ℕ CoreFault) → Acts (StandsForConnections (source_of old)) (open_in_table old.connections.conns peer clock) old.connections table r
+      → (s : State) → StandsFor old s → Acts (StandsForConnections (source_of old)) (open_in_table s.setting.limits.conns peer (max s.clock now)) old.connections table r
   open_at peer r acts s h = rw (← h.conns, ← h.clock, ← is) acts
 
   give_at : (id n : ℕ) (r : Result (Unit {0}) CoreFault) → Acts (StandsForConnections (source_of old)) (on_live id (give clock n)) old.connections table r
       → (s : State) → StandsFor old s → Acts (StandsForConnections (source_of old)) (on_live id (give (max s.clock now) n)) old.connections table r
   give_at id n r acts s h = rw (← h.clock, ← is) acts
 
-  pub open_done : (peer : Peer) (x : ℕ) → StaysTable old.connections table → Acts (StandsForConnections (source_of old)) (opening_of old.connections.conns peer clock) old.connections table (Ok x)
+  pub open_done : (peer : Peer) (x : ℕ) → StaysTable old.connections table → Acts (StandsForConnections (source_of old)) (open_in_table old.connections.conns peer clock) old.connections table (Ok x)
       → Acts StandsFor (λ s. open_connection s now peer) old (record old { clock = clock; connections = table }) (Ok x)
   unfolding open_connection
-  open_done peer x stays acts = moved_acts old now clock (λ s. opening_of s.setting.limits.conns peer (max s.clock now)) table x is stays (open_at peer (Ok x) acts)
+  open_done peer x stays acts = moved_acts old now clock (λ s. open_in_table s.setting.limits.conns peer (max s.clock now)) table x is stays (open_at peer (Ok x) acts)
 
-  pub open_refused : (peer : Peer) (f : CoreFault) → Acts (StandsForConnections (source_of old)) (opening_of old.connections.conns peer clock) old.connections table (Err f)
+  pub open_refused : (peer : Peer) (f : CoreFault) → Acts (StandsForConnections (source_of old)) (open_in_table old.connections.conns peer clock) old.connections table (Err f)
       → Acts StandsFor (λ s. open_connection s now peer) old old (Err f)
   unfolding open_connection
-  open_refused peer f acts = refused_acts old now clock (λ s. opening_of s.setting.limits.conns peer (max s.clock now)) table f (open_at peer (Err f) acts)
+  open_refused peer f acts = refused_acts old now clock (λ s. open_in_table s.setting.limits.conns peer (max s.clock now)) table f (open_at peer (Err f) acts)
 
   pub gave_done : (id n : ℕ) (u : Unit {0}) → StaysTable old.connections table → Acts (StandsForConnections (source_of old)) (on_live id (give clock n)) old.connections table (Ok u)
       → Acts StandsFor (λ s. gave s now id n) old (record old { clock = clock; connections = table }) (Ok u)
@@ -137,12 +137,12 @@ module _ (old : Held) (now clock : ℕ) (is : clock ≡ max old.clock now) (tabl
   gave_refused id n f acts = refused_acts old now clock (λ s. on_live id (give (max s.clock now) n)) table f (give_at id n (Err f) acts)
 
 pub closed_acts : (old : Held) (id : ℕ) (table : Table) (books : Books) (u : Unit {0}) → books.registry ≡ old.books.registry → StaysTable old.connections table → SameFrame old.books books
-    → Acts (StandsForConnections (source_of old)) (closing_of id) old.connections table (Ok u) → Becomes (λ l. (caller_dropped id l).1) old.books books
+    → Acts (StandsForConnections (source_of old)) (close_in_table id) old.connections table (Ok u) → Becomes (λ l. (caller_dropped id l).1) old.books books
     → Acts StandsFor (λ s. close_connection s id) old (record old { connections = table; books = books }) (Ok u)
 unfolding close_connection
 closed_acts old id table books u same stays frame acts dropped = record {
-  gives = λ s h. by_result s (closing_of id s.connections) (acts.gives s.connections h.connections);
-  stands = λ s h. by_state s h (closing_of id s.connections) (acts.gives s.connections h.connections) (acts.stands s.connections h.connections);
+  gives = λ s h. by_result s (close_in_table id s.connections) (acts.gives s.connections h.connections);
+  stands = λ s h. by_state s h (close_in_table id s.connections) (acts.gives s.connections h.connections) (acts.stands s.connections h.connections);
 }
   where
     by_result : (s : State) (r : Result (Unit {0}) CoreFault × Connections) → Ok u ≡ r.0 → Ok u ≡ (dropped_with s id r).0
@@ -167,12 +167,12 @@ closed_acts old id table books u same stays frame acts dropped = record {
       arguments = h.arguments;
     }
 
-pub closed_refused : (old : Held) (id : ℕ) (table : Table) (f : CoreFault) → Acts (StandsForConnections (source_of old)) (closing_of id) old.connections table (Err f)
+pub closed_refused : (old : Held) (id : ℕ) (table : Table) (f : CoreFault) → Acts (StandsForConnections (source_of old)) (close_in_table id) old.connections table (Err f)
     → Acts StandsFor (λ s. close_connection s id) old old (Err f)
 unfolding close_connection
 closed_refused old id table f acts = record {
-  gives = λ s h. by_result s (closing_of id s.connections) (acts.gives s.connections h.connections);
-  stands = λ s h. by_state s h (closing_of id s.connections) (acts.gives s.connections h.connections);
+  gives = λ s h. by_result s (close_in_table id s.connections) (acts.gives s.connections h.connections);
+  stands = λ s h. by_state s h (close_in_table id s.connections) (acts.gives s.connections h.connections);
 }
   where
     by_result : (s : State) (r : Result (Unit {0}) CoreFault × Connections) → Err f ≡ r.0 → Err f ≡ (dropped_with s id r).0
@@ -653,7 +653,7 @@ module _ (old : Held) (now clock : ℕ) (is : clock ≡ max old.clock now) (mess
       goes : (s : State) → StandsFor old s → (None ≡ (ends s).0) × StandsFor ended_held (ends s).1
       goes s h = let g = given_by None acts s h in by_end s h (plain s s.ledger) g.0 g.1
 
-  pub one_ended : (ended : Ended) (told : Told) (new : Held) → ActsAs act old.books books (Some ended) → Acts StandsFor (tell ended.forward.caller (told_at message ended)) ended_held new told → Acts StandsFor ends old new (Some told)
+  pub one_ended : (ended : Ended) (told : Told) (new : Held) → ActsAs act old.books books (Some ended) → Acts StandsFor (tell ended.forward.caller (outcome_at_end message ended)) ended_held new told → Acts StandsFor ends old new (Some told)
   one_ended ended told new acts tells = record { gives = λ s h. (goes s h).0; stands = λ s h. (goes s h).1 }
     where
       by_end : (s : State) → StandsFor old s → (r : Option Ended × Ledger) → Some ended ≡ r.0 → StandsForLedger books r.1
@@ -663,8 +663,8 @@ module _ (old : Held) (now clock : ℕ) (is : clock ≡ max old.clock now) (mess
           let is_one : ended ≡ other = cc in
           let t : State = record (at_fresh_moment now s) { ledger = l } in
           let k = left s h l z in (
-            ap Some (tells.gives t k ∙ ap (λ (x : Ended). (tell x.forward.caller (told_at message x) t).0) is_one),
-            subst (λ (x : Ended). StandsFor new (tell x.forward.caller (told_at message x) t).1) is_one (tells.stands t k),
+            ap Some (tells.gives t k ∙ ap (λ (x : Ended). (tell x.forward.caller (outcome_at_end message x) t).0) is_one),
+            subst (λ (x : Ended). StandsFor new (tell x.forward.caller (outcome_at_end message x) t).1) is_one (tells.stands t k),
           )
 
       goes : (s : State) → StandsFor old s → (Some told ≡ (ends s).0) × StandsFor new (ends s).1

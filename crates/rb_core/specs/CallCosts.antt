@@ -21,15 +21,15 @@ use Rattle.rb_model.specs.Exchanges.{count_given}
 -- ---- by what is kept
 
 -- how many rows the books keep
-abbrev pub kept_count : Books → ℕ
-kept_count books = row_count books.registry
+abbrev pub row_count_of : Books → ℕ
+row_count_of books = row_count books.registry
 
 -- what the costs of a call depend on; `old` and `new` are the books before and after it
 abbrev pub sizes : Table → Books → Books → Sizes
 sizes table old new = record {
   connections = slot_count table;
-  rows = kept_count old;
-  left = kept_count new;
+  rows = row_count_of old;
+  left = row_count_of new;
   forwards = old.forwards.cap;
 }
 
@@ -44,12 +44,12 @@ PaysForPiece table result before now = PaysAtMost before now (look_cost table + 
 
 -- to put results into this buffer
 abbrev pub PaysForResults : Books → Kept → Meter → Meter → Type 0
-PaysForResults books out before now = PaysAtMost before now (results_cost (kept_count books) (length out.bytes))
+PaysForResults books out before now = PaysAtMost before now (results_cost (row_count_of books) (length out.bytes))
 
 -- to serve a message with these arguments, whose reply is in this buffer
 abbrev pub PaysToServe : Books → Books → List ℕ → Kept → Meter → Meter → Type 0
 PaysToServe old new args out before now =
-    PaysAtMost before now (serve_cost (kept_count old) (kept_count new) (length args) (length out.bytes))
+    PaysAtMost before now (serve_cost (row_count_of old) (row_count_of new) (length args) (length out.bytes))
 
 -- the same once there is room for its row
 abbrev pub PaysInRoom : Table → Books → Books → List ℕ → Kept → Meter → Meter → Type 0

@@ -13,14 +13,14 @@ use Rattle.rb_model.specs.State.{Setting, State}
 use Rattle.rb_model.specs.Calls.{message_with, Outcome, longest_reply}
 use Rattle.rb_model.specs.Connections.{on_live}
 use Rattle.rb_model.specs.declared.types.Told.{Told}
-use Rattle.rb_model.specs.Ending.{told_at, tell}
+use Rattle.rb_model.specs.Ending.{outcome_at_end, tell}
 use Rattle.rb_model.specs.Step.{serve_message, settle_on}
 use Rattle.rb_connections.specs.declared.served.Outcome as outcome
 use Rattle.rb_connections.specs.declared.slot.EndedRecord.{EndedRecord}
 use Rattle.rb_connections.specs.declared.slot.Received.{Received}
 use Rattle.rb_connections.specs.StandsFor.{Table}
 use Rattle.rb_connections.specs.Slots.{Acts, TableActs, TableShows, take_piece, arguments_on, IsDraft}
-use Rattle.rb_connections.specs.Listings.{CanListOn}
+use Rattle.rb_connections.specs.Listings.{CanContinueAll}
 use Rattle.rb_connections.specs.Settling.{outcome_with}
 use Rattle.rb_core.specs.declared.calls.Piece.{Piece}
 use Rattle.rb_core.specs.StandsFor.{Held, StandsFor}
@@ -41,7 +41,7 @@ pub record IsCore (setting : Setting) (connections : Table) (books : Books) (rep
   pub few : setting.limits.forwards ≤ 64
   pub first_xid : books.forwards.first_xid ≡ setting.first_xid
   pub awaited : AreAwaited books.forwards connections
-  pub lists : CanListOn (source_in setting.listener.host books) connections
+  pub lists : CanContinueAll (source_in setting.listener.host books) connections
   pub tied : AreTied reply.tie books
   pub connections_tie : connections.tie ≡ reply.tie
   pub reply_cap : reply.cap ≡ longest_reply
@@ -96,7 +96,7 @@ without_arguments held = record held { arguments = [] }
 
 -- The caller of a forwarded call that ended is told how; `message` is the datagram that ended it.
 abbrev pub TellsCaller : List ℕ → Ended → Held → Held → Told → Type 0
-TellsCaller message ended old new given = Acts StandsFor (tell ended.forward.caller (told_at message ended)) old new given
+TellsCaller message ended old new given = Acts StandsFor (tell ended.forward.caller (outcome_at_end message ended)) old new given
 
 -- An act that answers something, with the reply that is held after it.
 abbrev pub ActsWithReply : (State → Outcome × State) → Held → Held → outcome.Outcome → Type 0

@@ -5,7 +5,7 @@ ghost use Rattle.rb_connections.specs.Awaits.{GoOn, EndsOnFree, StayOpen};
 ghost use Rattle.rb_core.specs.CallCosts.{PaysForPiece, PaysInRoom};
 ghost use Rattle.rb_core.specs.Core.{arguments_in, received_in, HasArguments, TakesPiece};
 ghost use Rattle.rb_core.specs.Serving.{CanServe, IsEmptyReply, LeavesBooks, ServesVerdict};
-ghost use Rattle.rb_connections.specs.Listings.{CanListOn};
+ghost use Rattle.rb_connections.specs.Listings.{CanContinueAll};
 ghost use Rattle.rb_core.specs.Eviction.{source_in};
 ghost use Rattle.rb_connections.specs.Slots.{IsDraft};
 
@@ -102,11 +102,11 @@ pub fn serve_verdict(
     requires tie { meter.old.tie ≡ connections.old.tie }
     requires can { CanServe meter.old.tie context.now books.old }
     requires out { IsEmptyReply meter.old.tie out.old }
-    requires lists { CanListOn (source_in context.now.listener.host books.old) connections.old }
+    requires lists { CanContinueAll (source_in context.now.listener.host books.old) connections.old }
     ensures acts { ServesVerdict context.now verdict.now arguments.now connections.old books.old
         connections.new books.new result out.new }
     ensures leaves { LeavesBooks context.now books.old books.new result out.old out.new }
-    ensures lists { CanListOn (source_in context.now.listener.host books.new) connections.new }
+    ensures lists { CanContinueAll (source_in context.now.listener.host books.new) connections.new }
     ensures open { StayOpen connections.old connections.new }
     ensures cost { PaysInRoom
         connections.old books.old books.new arguments.now out.new meter.old meter.new }

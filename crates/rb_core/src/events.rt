@@ -10,7 +10,7 @@ use rb_connections::{
     BUFFER_SIZE, Connections, EndedRecord, LONGEST_FRAGMENT, LONGEST_REPLY, Outcome, Received,
     Served,
 };
-use rb_forward::{Ended, FwdId, LONGEST_CALL, Unsent};
+use rb_forward::{Ended, FwdId, LONGEST_FORWARDED_CALL, Unsent};
 use rb_model::{CoreFault, Exchanged, Expired, Limits, Taken, Told};
 use rb_proto::{Books, Context, Listener};
 use rb_rpc::{Caller, Peer, read_call};
@@ -19,7 +19,7 @@ use std::alloc::Global;
 use std::marker::Model;
 
 /// The longest call that is served: a head of 840 bytes, and arguments.
-const GREATEST_CALL: u64 = 9_656;
+const LONGEST_SERVED_CALL: u64 = 9_656;
 
 /// The longest address text of a row.
 const LONGEST_ADDRESS: u64 = 128;
@@ -129,9 +129,9 @@ fn bytes_bound(limits: &Limits) -> u64
     requires forwards { limits.now.forwards ≤ 64 }
     ensures { result ≡ bytes_bound limits.now }
 {
-    let conns = limits.conns as u64 * (128 + GREATEST_CALL + LONGEST_FRAGMENT as u64);
+    let conns = limits.conns as u64 * (128 + LONGEST_SERVED_CALL + LONGEST_FRAGMENT as u64);
     let rows = limits.rows as u64 * (32 + LONGEST_ADDRESS);
-    let forwards = limits.forwards as u64 * (128 + LONGEST_CALL as u64);
+    let forwards = limits.forwards as u64 * (128 + LONGEST_FORWARDED_CALL as u64);
     conns + rows + forwards + MOST_KEYS * 48 + LONGEST_REPLY as u64
 }
 
@@ -158,7 +158,7 @@ impl Core {
     ghost use Rattle.rb_model.specs.Connections.{longest_fragment};
     ghost use Rattle.rb_forward.specs.Costs.{sent_cost};
     ghost use Rattle.rb_forward.specs.Outcomes.{PassesWithin};
-    ghost use Rattle.rb_forward.specs.StandsFor.{slots_of, longest_call};
+    ghost use Rattle.rb_forward.specs.StandsFor.{slots_of, longest_forwarded_call};
     ghost use Rattle.rb_forward.specs.Table.{plain_unsent, count_lent, is_waiting, IsNew};
     ghost use Rattle.rb_model.specs.Step.{datagram, open_connection, bytes, pending, gave, close_connection, next_lost, unsent_call, sent_call};
     ghost use Rattle.rb_connections.specs.Giving.{pending_count};
@@ -538,7 +538,7 @@ impl Core {
         requires { meter.old.tie ≡ self.old.tie }
         ensures* begun { sem 𝓛 (LendsFrom self.entry meter.old) }
         ensures unsent { Shows StandsFor unsent_call self.old (plain_unsent result) }
-        ensures few { IfSome result (λ lent. length lent.call.now ≤ longest_call) }
+        ensures few { IfSome result (λ lent. length lent.call.now ≤ longest_forwarded_call) }
         ensures cost { PaysAtMost meter.old meter.new (lending_cost self.old (count_lent result)) }
         ensures bound { StaysWithinSteps self.old 0 (count_lent result) meter.old meter.new }
     {

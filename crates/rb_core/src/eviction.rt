@@ -4,9 +4,9 @@ ghost use Rattle.std.specs.Prelude.{◌≡◌, ◌≤◌, IsTrue};
 ghost use Rattle.rb_xdr.specs.Meter.{PaysAtMost};
 ghost use Rattle.rb_proto.specs.Books.{AreTied, HasPlaceLeft, SameFrame};
 ghost use Rattle.rb_connections.specs.Awaits.{StayOpen};
-ghost use Rattle.rb_connections.specs.Listings.{CanListOn};
+ghost use Rattle.rb_connections.specs.Listings.{CanContinueAll};
 ghost use Rattle.rb_core.specs.Eviction.{HasRoom, Evicts, source_in};
-ghost use Rattle.rb_core.specs.CallCosts.{kept_count, sizes};
+ghost use Rattle.rb_core.specs.CallCosts.{row_count_of, sizes};
 ghost use Rattle.rb_model.specs.Costs.{room_cost};
 
 use rb_connections::Connections;
@@ -46,15 +46,15 @@ pub fn make_room(
     requires tied { AreTied meter.old.tie books.old }
     requires tie { meter.old.tie ≡ connections.old.tie }
     requires limit { books.old.registry.limit ≡ context.now.limit }
-    requires lists { CanListOn (source_in context.now.listener.host books.old) connections.old }
+    requires lists { CanContinueAll (source_in context.now.listener.host books.old) connections.old }
     ensures makes { Evicts context.now message.now
         connections.old books.old connections.new books.new }
     ensures room { HasRoom context.now message.now books.new }
-    ensures lists { CanListOn (source_in context.now.listener.host books.new) connections.new }
+    ensures lists { CanContinueAll (source_in context.now.listener.host books.new) connections.new }
     ensures open { StayOpen connections.old connections.new }
     ensures forwards { books.new.forwards ≡ books.old.forwards }
     ensures frame { SameFrame books.old books.new }
-    ensures fewer { kept_count books.new ≤ kept_count books.old }
+    ensures fewer { row_count_of books.new ≤ row_count_of books.old }
     ensures cost { PaysAtMost meter.old meter.new
         (room_cost (sizes connections.old books.old books.new)) }
 {
@@ -69,7 +69,7 @@ pub fn make_room(
     }
     books.trim(connections.oldest(meter), meter);
     let live = books.registry.len(meter);
-    let (retained, earliest) = books.registry.kept(meter);
+    let (retained, earliest) = books.registry.retained_since(meter);
     if retained < context.limit - live {
         return;
     }

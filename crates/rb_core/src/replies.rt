@@ -12,7 +12,7 @@ ghost use Rattle.rb_proto.specs.Forwarding.{forwarded_bytes};
 ghost use Rattle.rb_connections.specs.declared.served.Served.TheVariants.{Answered};
 ghost use Rattle.rb_connections.specs.declared.served.Outcome.TheVariants.{Reply};
 ghost use Rattle.rb_model.specs.Calls.{reply_in, success, longest_reply};
-ghost use Rattle.rb_model.specs.Ending.{told_failed, told_at};
+ghost use Rattle.rb_model.specs.Ending.{outcome_of_failure, outcome_at_end};
 ghost use Rattle.rb_model.specs.Grammar.{HasArgsIn};
 ghost use Rattle.rb_core.specs.Awaits.{kind_of};
 ghost use Rattle.rb_core.specs.Eviction.{HasRoom};
@@ -250,7 +250,7 @@ fn put_passed(forward: &Forward, results: &[u8], out: &mut Kept, meter: &mut Met
 #[tactic(auto, unfolding(rb_model::specs::Calls::longest_reply))]
 fn put_failed(forward: &Forward, status: ReplyStatus, out: &mut Kept, meter: &mut Meter) -> Outcome
     requires out { IsEmptyReply meter.old.tie out.old }
-    ensures told { outcome_in result out.new ≡ told_failed forward.now status }
+    ensures told { outcome_in result out.new ≡ outcome_of_failure forward.now status }
     ensures held { out.new.bytes ≡ reply_in (outcome_in result out.new) }
     ensures written { IsWritten (Answered result) out.new.bytes }
     ensures out { WritesReply out.old out.new }
@@ -271,7 +271,7 @@ fn put_failed(forward: &Forward, status: ReplyStatus, out: &mut Kept, meter: &mu
 pub fn put_end(ended: &Ended, message: &[u8], out: &mut Kept, meter: &mut Meter) -> Outcome
     requires within { PassesWithin ended.now.outcome (length message.now) }
     requires out { IsEmptyReply meter.old.tie out.old }
-    ensures told { outcome_in result out.new ≡ told_at message.now ended.now }
+    ensures told { outcome_in result out.new ≡ outcome_at_end message.now ended.now }
     ensures held { out.new.bytes ≡ reply_in (outcome_in result out.new) }
     ensures written { IsWritten (Answered result) out.new.bytes }
     ensures out { WritesReply out.old out.new }

@@ -10,7 +10,7 @@ use Rattle.rb_xdr.specs.Pool.{Pool}
 use Rattle.rb_xdr.specs.Kept.{Kept}
 use Rattle.rb_forward.specs.Table.{IsTable, IsBuffer, HasBuffer, IsSpare, wanted_slot, is_wanted_slot, IsNew, without_call}
 use Rattle.rb_forward.specs.Forwards.{longest_forwarded}
-use Rattle.rb_forward.specs.StandsFor.{longest_call}
+use Rattle.rb_forward.specs.StandsFor.{longest_forwarded_call}
 use Rattle.std.specs.Prelude.{option_map, find}
 use Rattle.rb_xdr.specs.Pool.{HasDistinctKeys, value_at, without, with_value}
 use Rattle.rb_xdr.proofs.PoolLemmas.{All-value_at, All-with_value, All-without}
@@ -21,21 +21,21 @@ use Rattle.rb_forward.proofs.Tables.{some_is, sum-without, sum-changed}
 use Rattle.rb_forward.proofs.Callers.{callers-without, callers-changed, callers-more}
 use Rattle.rb_forward.proofs.Stands.{first_wanted, found_first}
 
-all_within : (meter : ℕ) (slots : List Slot) → All (HasBuffer meter) slots → All (λ (s : Slot). 128 + length s.call.bytes ≤ 128 + longest_call) slots
+all_within : (meter : ℕ) (slots : List Slot) → All (HasBuffer meter) slots → All (λ (s : Slot). 128 + length s.call.bytes ≤ 128 + longest_forwarded_call) slots
 all_within meter slots h = λ k slot lt. let here = (h k slot lt).within in omega (arith, here)
 
 module _ (slots : Pool Slot) (spare : Pool Kept) (cap held : ℕ) (t : IsTable slots spare cap held) where
-  pub held_few : held ≤ length slots.entries * (128 + longest_call)
+  pub held_few : held ≤ length slots.entries * (128 + longest_forwarded_call)
   held_few =
-      let sum = sum_by-le (λ (s : Slot). 128 + length s.call.bytes) (128 + longest_call) (values_of slots.entries) (all_within slots.tie (values_of slots.entries) t.buffers) in
+      let sum = sum_by-le (λ (s : Slot). 128 + length s.call.bytes) (128 + longest_forwarded_call) (values_of slots.entries) (all_within slots.tie (values_of slots.entries) t.buffers) in
       rw (t.is_held, ← length-values_of slots.entries) sum
 
-  pub held_within : held ≤ (128 + longest_call) * cap
+  pub held_within : held ≤ (128 + longest_forwarded_call) * cap
   held_within =
       let few = held_few in
       let le : length slots.entries ≤ cap = omega (arith, t.room) in
-      let more = mul-le-mul_right (128 + longest_call) le in
-      omega (arith, few, more, turned (128 + longest_call) cap)
+      let more = mul-le-mul_right (128 + longest_forwarded_call) le in
+      omega (arith, few, more, turned (128 + longest_forwarded_call) cap)
     where
       turned : (a b : ℕ) → b * a ≡ a * b
       turned a b = omega arith

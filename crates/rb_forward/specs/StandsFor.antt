@@ -6,8 +6,8 @@ use Rattle.rb_forward.specs.declared.entries.Slot.{Slot}
 use Rattle.rb_forward.specs.Forwards.{Entry, Forwards, xid_of, held_call, longest_forwarded}
 
 -- the longest unsent call: a head of 40 bytes and the arguments
-abbrev pub longest_call : ℕ
-longest_call = 40 + longest_forwarded
+abbrev pub longest_forwarded_call : ℕ
+longest_forwarded_call = 40 + longest_forwarded
 
 pub record StandsForEntry (first_xid : ℕ) (slot : Slot) (e : Entry) : Type 0 where
   pub number : slot.number ≡ e.number

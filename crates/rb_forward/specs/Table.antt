@@ -13,7 +13,7 @@ use Rattle.rb_forward.specs.declared.types.Outcome.{Outcome}
 use Rattle.rb_forward.specs.declared.types.Ended.{Ended}
 use Rattle.rb_forward.specs.declared.types.Unsent.{Unsent as Lent}
 use Rattle.rb_forward.specs.Forwards.{Entry, Forwards, is_same_peer, is_answered, is_due, is_connection, is_of_connection, with_end, Unsent, is_unsent}
-use Rattle.rb_forward.specs.StandsFor.{longest_call, Table, StandsForForwards, held_in}
+use Rattle.rb_forward.specs.StandsFor.{longest_forwarded_call, Table, StandsForForwards, held_in}
 
 -- ---- the table
 
@@ -104,12 +104,12 @@ AreOfDistinctCallers (slot ∷ rest) = IsNew slot.forward.caller rest × AreOfDi
 -- a buffer for an unsent call, made with this meter
 pub record IsBuffer (meter : ℕ) (buffer : Kept) : Type 0 where
   pub tie : buffer.tie ≡ meter
-  pub cap : buffer.cap ≡ longest_call
-  pub within : length buffer.bytes ≤ longest_call
+  pub cap : buffer.cap ≡ longest_forwarded_call
+  pub within : length buffer.bytes ≤ longest_forwarded_call
 
 pub record IsSpare (meter : ℕ) (buffer : Kept) : Type 0 where
   pub tie : buffer.tie ≡ meter
-  pub cap : buffer.cap ≡ longest_call
+  pub cap : buffer.cap ≡ longest_forwarded_call
   pub empty : buffer.bytes ≡ []
 
 abbrev pub HasBuffer : ℕ → Slot → Type 0

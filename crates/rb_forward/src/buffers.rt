@@ -7,7 +7,7 @@ ghost use Rattle.rb_rpc.specs.CallBytes.{call_bytes};
 ghost use Rattle.rb_rpc.specs.declared.call.Credential.TheVariants as credentials;
 ghost use Rattle.rb_forward.specs.Table.{IsBuffer, IsSpare};
 ghost use Rattle.rb_forward.specs.Forwards.{longest_forwarded};
-ghost use Rattle.rb_forward.specs.StandsFor.{longest_call};
+ghost use Rattle.rb_forward.specs.StandsFor.{longest_forwarded_call};
 
 use rb_rpc::{CallHead, put_call};
 use rb_xdr::{Kept, Meter, NoMemory, Pool};
@@ -20,7 +20,7 @@ pub const LONGEST_FORWARDED: usize = 8_800;
 pub(crate) const HEAD: usize = 40;
 
 /// The longest forwarded call, in bytes: its head and the content of its arguments.
-pub const LONGEST_CALL: usize = HEAD + LONGEST_FORWARDED;
+pub const LONGEST_FORWARDED_CALL: usize = HEAD + LONGEST_FORWARDED;
 
 /// Takes the first spare buffer out. It is empty.
 pub(crate) fn take_buffer(spare: &mut Pool<Kept>, meter: &mut Meter) -> Kept
@@ -82,7 +82,11 @@ pub(crate) fn make_spare(
 {
     let mut spare = Pool::new(alloc, cap, meter)?;
     for _i in 0..cap {
-        put_buffer(&mut spare, Kept::new(alloc, LONGEST_CALL, meter)?, meter);
+        put_buffer(
+            &mut spare,
+            Kept::new(alloc, LONGEST_FORWARDED_CALL, meter)?,
+            meter,
+        );
     }
     Ok(spare)
 }
@@ -92,7 +96,7 @@ pub(crate) fn make_spare(
 pub(crate) fn write_call(buffer: &mut Kept, head: &CallHead, args: &[u8], meter: &mut Meter)
     requires tie { meter.old.tie ≡ buffer.old.tie }
     requires spare { buffer.old.bytes ≡ [] }
-    requires cap { buffer.old.cap ≡ longest_call }
+    requires cap { buffer.old.cap ≡ longest_forwarded_call }
     requires head { head.now.cred ≡ credentials.None }
     requires args { length args.now ≤ longest_forwarded }
     ensures written { buffer.new

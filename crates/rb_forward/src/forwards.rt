@@ -83,7 +83,7 @@ impl Forwards {
     ghost use Rattle.rb_forward.specs.Costs.{start_cost, end_cost, sent_cost, unsent_cost};
     ghost use Rattle.rb_forward.specs.Forwards.{no_forwards, reply, due, drop_caller, can_start, with_next_entry, can_be_sent, sent, unsent, held, longest_forwarded, without_first};
     ghost use Rattle.rb_forward.specs.Outcomes.{PassesWithin};
-    ghost use Rattle.rb_forward.specs.StandsFor.{StandsForForwards, slots_of, longest_call, held_in};
+    ghost use Rattle.rb_forward.specs.StandsFor.{StandsForForwards, slots_of, longest_forwarded_call, held_in};
     ghost use Rattle.rb_forward.specs.Table.{Whatever, Becomes, GivenBy, LeftBy, end_of, IsNew, NoneWaitsAnew, OnlyWaitsAnew, is_waiting, AreOfDistinctCallers, is_wanted_slot, plain_unsent, count_lent};
 
     /// An empty table for at most `cap` entries; the first one will have the xid `first_xid`. It takes the memory for
@@ -168,7 +168,7 @@ impl Forwards {
     pub fn unsent(&self, meter: &mut Meter) -> Option<Unsent<'_>>
         requires { meter.old.tie ≡ self.now.tie }
         ensures unsent { Whatever self.now (λ f. plain_unsent result ≡ unsent self.now.first_xid f) }
-        ensures few { IfSome result (λ lent. length lent.call.now ≤ longest_call) }
+        ensures few { IfSome result (λ lent. length lent.call.now ≤ longest_forwarded_call) }
         ensures cost { PaysAtMost meter.old meter.new
             (unsent_cost self.now.cap (count_lent result)) }
     {
@@ -277,7 +277,7 @@ impl Forwards {
     pub fn held(&self) -> u64
         ensures held { result ≡ held_in (slots_of self.now) }
         ensures entries { Whatever self.now (λ f. result ≡ held self.now.first_xid f) }
-        ensures bound { result ≤ (128 + longest_call) * self.now.cap }
+        ensures bound { result ≤ (128 + longest_forwarded_call) * self.now.cap }
     {
         self.held
     }

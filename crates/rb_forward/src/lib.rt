@@ -10,7 +10,7 @@ mod outcome;
 mod types;
 mod worked;
 
-pub use buffers::{LONGEST_CALL, LONGEST_FORWARDED};
+pub use buffers::{LONGEST_FORWARDED, LONGEST_FORWARDED_CALL};
 pub use forwards::Forwards;
 pub use laws::{calls_end_the_first, each_entry_ends_once};
 pub use outcome::LONGEST_RESULTS;

@@ -29,14 +29,14 @@ use Rattle.rb_model.specs.Calls.Outcome.{NoCall, Reply, Forwarded, Silent}
 use Rattle.rb_model.specs.Sessions.{IsFinal}
 use Rattle.rb_model.specs.State.{State, Connection, Connections, at_moment}
 use Rattle.rb_model.specs.State.Phase.{Idle}
-use Rattle.rb_model.specs.Connections.{is_lost, has_number, is_live, live_connection, is_there, fed_in, change_first, changed_at, keep_reading, settle, give, without_number, closing_of}
+use Rattle.rb_model.specs.Connections.{is_lost, has_number, is_live, live_connection, is_there, fed_in, change_first, changed_at, keep_reading, settle, give, without_number, close_in_table}
 use Rattle.rb_model.specs.Step.{Event, Output, context_in, with_reply, datagram, show_outcome, serve_message, serve, dropped_with, bytes, close_connection, output_or, show_taken, show_done, show_expired, step, IsReached}
 use Rattle.rb_model.specs.declared.types.Taken.{Taken}
 use Rattle.rb_model.specs.Step.Event.{Open, Bytes, Pending, Gave, Closed, NextLost, Datagram, Unsent, Sent, Forward, Expire}
 use Rattle.rb_model.specs.Laws.{IsLive, IsLeast}
 use Rattle.rb_model.specs.DeadlineLaws.{NoEntryIsDue}
 use Rattle.rb_model.specs.declared.types.Expired.{Expired}
-use Rattle.rb_model.specs.Losses.{is_due, lose, stamp_in, retained_removals, asks_room, is_crowded, removals_in_the_way, began_before, evict_early, evict}
+use Rattle.rb_model.specs.Losses.{is_due, lose, stamp_in, needed_removals, asks_room, is_crowded, removals_in_the_way, began_before, evict_early, evict}
 use Rattle.rb_model.specs.Ending.{at_fresh_moment, expire}
 use Rattle.rb_model.specs.Closings.{EndsNoCall, EndsAtDeadline, BringsEnd, Brings, EndsForRoom, ClosesExactly, ConnectionsCloseExactly}
 use Rattle.rb_model.proofs.Found.{none_any}
@@ -270,19 +270,19 @@ is-false-too false h = refl
 -- where something is in the way, room is asked for and there is none
 record IsCrowding (context : Context) (message : Message) (all : List Connection) (l : Ledger) (c : Connection) : Type 0 where
   asks : asks_room context message l ≡ true
-  full : context.limit ≤ length (rows_in l) + length (retained_removals all l)
-  way : InTheWay (retained_removals all l) (stamp_in c.phase)
+  full : context.limit ≤ length (rows_in l) + length (needed_removals all l)
+  way : InTheWay (needed_removals all l) (stamp_in c.phase)
 
 crowds : (context : Context) (message : Message) (all : List Connection) (l : Ledger) (c : Connection) → began_before (removals_in_the_way context message all l) (stamp_in c.phase) ≡ true → IsCrowding context message all l c
 unfolding removals_in_the_way
 crowds context message all l c is = by_test (asks_room context message l) refl (is_crowded context.limit all l) refl is
   where
     by_test : (a : Bool) → asks_room context message l ≡ a → (b : Bool) → is_crowded context.limit all l ≡ b
-        → began_before (cond (a && b) (retained_removals all l) []) (stamp_in c.phase) ≡ true → IsCrowding context message all l c
+        → began_before (cond (a && b) (needed_removals all l) []) (stamp_in c.phase) ≡ true → IsCrowding context message all l c
     by_test true asks true full way = record {
       asks = asks;
-      full = ltb-false _ context.limit (is-false-too (nat_lt (length (rows_in l) + length (retained_removals all l)) context.limit) full);
-      way = in-the-way (retained_removals all l) (stamp_in c.phase) way;
+      full = ltb-false _ context.limit (is-false-too (nat_lt (length (rows_in l) + length (needed_removals all l)) context.limit) full);
+      way = in-the-way (needed_removals all l) (stamp_in c.phase) way;
     }
     by_test true asks false full way = absurd cc
     by_test false asks b full way = absurd cc
@@ -508,13 +508,13 @@ module _ (s : State) (reached : IsReached s) (id : ℕ) (c : Connection) (there 
 
   -- for room
   crowded-out : (at : ℕ) (caller : Caller) (content : List ℕ) → asks_room (context_in (at_moment at s) caller) (message_of content) s.ledger ≡ true
-      → s.setting.limits.rows ≤ length (rows_in s.ledger) + length (retained_removals s.connections.all s.ledger) → (n : ℕ) → stamp_in c.phase ≡ Some n → All (λ change. n < change) (retained_removals s.connections.all s.ledger)
+      → s.setting.limits.rows ≤ length (rows_in s.ledger) + length (needed_removals s.connections.all s.ledger) → (n : ℕ) → stamp_in c.phase ≡ Some n → All (λ change. n < change) (needed_removals s.connections.all s.ledger)
       → list_any (is_lost_one id) (map (evict_early (crowd_at s at caller content)) s.connections.all) ≡ true
   crowded-out at caller content asks full n lists before =
       let crowd = crowded (context_in (at_moment at s) caller) (message_of content) s.connections.all s.ledger asks full in
       let within = asks-within (context_in (at_moment at s) caller) (message_of content) s.ledger asks in
       let way : began_before (crowd_at s at caller content) (stamp_in c.phase) ≡ true =
-      ap (λ (xs : List ℕ). began_before xs (stamp_in c.phase)) crowd ∙ way-of (retained_removals s.connections.all s.ledger) (stamp_in c.phase) n lists (omega (arith, within, full)) before in
+      ap (λ (xs : List ℕ). began_before xs (stamp_in c.phase)) crowd ∙ way-of (needed_removals s.connections.all s.ledger) (stamp_in c.phase) n lists (omega (arith, within, full)) before in
       elim (live_or_lost id (crowd_at s at caller content) s.connections.all c found) [
         | inl stays ↦ let clash : true ≡ false = sym way ∙ stays.0 in absurd cc
         | inr goes ↦ goes.1
@@ -607,7 +607,7 @@ module _ (s : State) (reached : IsReached s) (id : ℕ) (c : Connection) (there 
   gone-where false e = e
 
   gone-at : there_in id (step s (Closed id)).1.connections.all ≡ false
-  unfolding step close_connection closing_of
+  unfolding step close_connection close_in_table
   gone-at = gone-where (is_there id s.connections) refl
 
   gone-by : (event : Event) → event ≡ Closed id → there_in id (step s event).1.connections.all ≡ false

@@ -10,7 +10,7 @@ use Rattle.rb_proto.specs.Ledger.{Ledger, rows_in}
 use Rattle.rb_model.specs.declared.message.Message.{Message}
 use Rattle.rb_model.specs.declared.message.Message.TheVariants as says
 use Rattle.rb_model.specs.State.{Connection, Connections}
-use Rattle.rb_model.specs.Losses.{retained_removals, asks_room, removals_in_the_way, evict_early, evict}
+use Rattle.rb_model.specs.Losses.{needed_removals, asks_room, removals_in_the_way, evict_early, evict}
 
 -- ---- who is in the way
 
@@ -29,17 +29,17 @@ pub not_asked : (context : Context) (message : Message) (all : List Connection) 
 unfolding removals_in_the_way
 not_asked context message all l none = rw none refl
 
-pub not_crowded : (context : Context) (message : Message) (all : List Connection) (l : Ledger) → length (rows_in l) + length (retained_removals all l) < context.limit → removals_in_the_way context message all l ≡ []
+pub not_crowded : (context : Context) (message : Message) (all : List Connection) (l : Ledger) → length (rows_in l) + length (needed_removals all l) < context.limit → removals_in_the_way context message all l ≡ []
 unfolding removals_in_the_way
 not_crowded context message all l room =
-    let fits : nat_lt (length (rows_in l) + length (retained_removals all l)) context.limit ≡ true = lt-ltb _ _ room in
-    rw fits (elim (asks_room context message l) as (λ b. cond (b && false) (retained_removals all l) [] ≡ []) [ true ↦ refl | false ↦ refl ])
+    let fits : nat_lt (length (rows_in l) + length (needed_removals all l)) context.limit ≡ true = lt-ltb _ _ room in
+    rw fits (elim (asks_room context message l) as (λ b. cond (b && false) (needed_removals all l) [] ≡ []) [ true ↦ refl | false ↦ refl ])
 
-pub crowded : (context : Context) (message : Message) (all : List Connection) (l : Ledger) → asks_room context message l ≡ true → context.limit ≤ length (rows_in l) + length (retained_removals all l)
-    → removals_in_the_way context message all l ≡ retained_removals all l
+pub crowded : (context : Context) (message : Message) (all : List Connection) (l : Ledger) → asks_room context message l ≡ true → context.limit ≤ length (rows_in l) + length (needed_removals all l)
+    → removals_in_the_way context message all l ≡ needed_removals all l
 unfolding removals_in_the_way
 crowded context message all l asks full =
-    let fits : nat_lt (length (rows_in l) + length (retained_removals all l)) context.limit ≡ false = le-ltb _ _ full in
+    let fits : nat_lt (length (rows_in l) + length (needed_removals all l)) context.limit ≡ false = le-ltb _ _ full in
     rw (asks, fits) refl
 
 pub no_call_asks : (context : Context) (message : Message) (l : Ledger) → ((call : Call) → message ≡ says.Asked call → ⊥) → asks_room context message l ≡ false

@@ -8,7 +8,7 @@ use Rattle.rb_proto.specs.Ledger.{Ledger}
 use Rattle.rb_model.specs.declared.message.Message.{Message}
 use Rattle.rb_model.specs.State.{Connection}
 use Rattle.rb_model.specs.Connections.{is_lost, is_live, change_first}
-use Rattle.rb_model.specs.Losses.{stamp_in, began_before, list_stamps, retained_removals, removals_in_the_way, evict_early}
+use Rattle.rb_model.specs.Losses.{stamp_in, began_before, list_stamps, needed_removals, removals_in_the_way, evict_early}
 
 -- a connection without a list stays
 pub no_list_stays : (changes : List ℕ) (c : Connection) → stamp_in c.phase ≡ None → evict_early changes c ≡ c
@@ -165,5 +165,5 @@ plain_lives id changes all c there none = elim (live_or_lost id changes all c th
 
 -- the rows that are in the way are the same
 pub crowding_alike : (context : Context) (message : Message) (all other : List Connection) (l : Ledger) → list_stamps all ≡ list_stamps other → removals_in_the_way context message all l ≡ removals_in_the_way context message other l
-unfolding removals_in_the_way retained_removals
+unfolding removals_in_the_way needed_removals
 crowding_alike context message all other l same = rw same refl

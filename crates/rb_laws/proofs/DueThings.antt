@@ -13,7 +13,7 @@ use Rattle.rb_model.specs.declared.types.Expired.TheVariants.{Nothing, Connectio
 use Rattle.rb_model.specs.State.{State, Connection}
 use Rattle.rb_model.specs.Connections.{changed_at}
 use Rattle.rb_model.specs.Losses.{is_due, first_due, lose, expire_first}
-use Rattle.rb_model.specs.Ending.{told_at, tell, tell_end, at_fresh_moment, expire_connection, expired_as, expire}
+use Rattle.rb_model.specs.Ending.{outcome_at_end, tell, tell_end, at_fresh_moment, expire_connection, expired_as, expire}
 
 -- the end of this entry at its deadline
 abbrev pub end_of : Entry → entry.Ended
@@ -24,7 +24,7 @@ end_of e = ended_by Failed e
 pub data Expiry (s : State) (clock : ℕ) (fresh : State) (r : Expired × State) : Type 0 where
   EntryEnds : (e : Entry) → find (entry_is_due clock) s.ledger.forwards.all ≡ Some e
       → (ledger : Ledger) → ledger.forwards ≡ record s.ledger.forwards { all = without_first (entry_is_due clock) s.ledger.forwards.all }
-      → r ≡ expired_as (Some (tell e.forward.caller (told_at [] (end_of e)) (record fresh { ledger = ledger })).0, (tell e.forward.caller (told_at [] (end_of e)) (record fresh { ledger = ledger })).1)
+      → r ≡ expired_as (Some (tell e.forward.caller (outcome_at_end [] (end_of e)) (record fresh { ledger = ledger })).0, (tell e.forward.caller (outcome_at_end [] (end_of e)) (record fresh { ledger = ledger })).1)
       → Expiry s clock fresh r
   ConnectionEnds : find (entry_is_due clock) s.ledger.forwards.all ≡ None → (c : Connection) → find (is_due clock) s.connections.all ≡ Some c
       → r ≡ (ConnectionClosed c.number, record fresh { connections = changed_at c.number lose s.connections }) → Expiry s clock fresh r

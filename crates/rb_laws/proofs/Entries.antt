@@ -27,8 +27,8 @@ use Rattle.rb_model.specs.Calls.Outcome.{NoCall, Reply, Forwarded, Silent}
 use Rattle.rb_model.specs.State.{State, Phase, Connection, Connections, at_moment, opening}
 use Rattle.rb_model.specs.State.Phase.{Idle, Reading, Owing, Awaiting, Lost}
 use Rattle.rb_model.specs.Laws.{is_awaiting}
-use Rattle.rb_model.specs.Connections.{is_live, live_connection, fed_in, pending_in, phase_when_given, with_given, give, keep_reading, settle, change_first, changed_at, on_found, is_there, without_number, closing_of, opening_as, opening_of, number_for, on_connection}
-use Rattle.rb_model.specs.Ending.{told_at, tell, tell_end, at_fresh_moment, forward_reply, expire}
+use Rattle.rb_model.specs.Connections.{is_live, live_connection, fed_in, pending_in, phase_when_given, with_given, give, keep_reading, settle, change_first, changed_at, on_found, is_there, without_number, close_in_table, opening_as, open_in_table, number_for, on_connection}
+use Rattle.rb_model.specs.Ending.{outcome_at_end, tell, tell_end, at_fresh_moment, forward_reply, expire}
 use Rattle.rb_model.specs.Step.{Event, Output, context_in, serve, bytes, unless_refused, gave, is_too_much, pending, pending_on, open_connection, dropped_with, close_connection, sent_call, with_reply, datagram, output_or, show_taken, show_done, show_outcome, show_end, show_expired, step, after, IsReached}
 use Rattle.rb_model.specs.declared.types.Taken.{Taken}
 use Rattle.rb_model.specs.Step.Event.{Open, Bytes, Pending, Gave, Closed, NextLost, Datagram, Unsent, Sent, Forward, Expire}
@@ -409,7 +409,7 @@ module _ (s : State) (sound : IsSound s) (h : Await s) where
       counts : (x : Entry) → find test s.ledger.forwards.all ≡ Some x → (id : ℕ) → present id s.ledger.forwards ≡ one_at id x + present id l.forwards
       counts x e id = sum-without test (one_at id) s.ledger.forwards.all x e ∙ ap (λ (f : Forwards). one_at id x + present id f) (sym left)
 
-      by_caller : (x : Entry) → find test s.ledger.forwards.all ≡ Some x → (caller : Caller) → x.forward.caller ≡ caller → Await (tell caller (told_at message ended) (record (at_fresh_moment at s) { ledger = l })).1
+      by_caller : (x : Entry) → find test s.ledger.forwards.all ≡ Some x → (caller : Caller) → x.forward.caller ≡ caller → Await (tell caller (outcome_at_end message ended) (record (at_fresh_moment at s) { ledger = l })).1
       by_caller x e (Udp peer) from = λ id.
           let none : one_at id x ≡ 0 = ap (λ (c : Caller). if_one (is_connection id c)) from in
           let count = counts x e id in
@@ -420,7 +420,7 @@ module _ (s : State) (sound : IsSound s) (h : Await s) where
           one : (id : ℕ) → one_at id x ≡ if_one (eqb k id)
           one id = ap (λ (c : Caller). if_one (is_connection id c)) from
 
-          told : (o : Option Connection) → live_connection k s.connections.all ≡ o → AwaitIn l.forwards (changed_at k (settle (max s.clock at) (told_at message ended)) s.connections)
+          told : (o : Option Connection) → live_connection k s.connections.all ≡ o → AwaitIn l.forwards (changed_at k (settle (max s.clock at) (outcome_at_end message ended)) s.connections)
           told None there =
               let here : one_at k x ≡ 1 = one k ∙ ap if_one (eq-eqb k k refl) in
               let count = counts x e k in
@@ -428,8 +428,8 @@ module _ (s : State) (sound : IsSound s) (h : Await s) where
               absurd (omega (arith, here, count, is))
           told (Some c) there = λ id.
               by_number id (eqb k id) refl
-              ∙ ap (λ (b : Bool). cond (eqb k id) (if_one b) (awaits id s.connections.all)) (sym (plain (told_at message ended) (told-final message ended)))
-              ∙ sym (settled-awaits k s.connections.all c there (max s.clock at) s.connections.next (told_at message ended) sound id)
+              ∙ ap (λ (b : Bool). cond (eqb k id) (if_one b) (awaits id s.connections.all)) (sym (plain (outcome_at_end message ended) (told-final message ended)))
+              ∙ sym (settled-awaits k s.connections.all c there (max s.clock at) s.connections.next (outcome_at_end message ended) sound id)
             where
               plain : (said : Outcome) → IsFinal said → is_forwarded said ≡ false
               plain NoCall f = absurd f
@@ -450,7 +450,7 @@ module _ (s : State) (sound : IsSound s) (h : Await s) where
                   let is = h id in
                   omega (arith, here, count, few, is)
 
-      by_found : (o : Option Entry) → find test s.ledger.forwards.all ≡ o → Some ended ≡ option_map (ended_by outcome) o → Await (tell ended.forward.caller (told_at message ended) (record (at_fresh_moment at s) { ledger = l })).1
+      by_found : (o : Option Entry) → find test s.ledger.forwards.all ≡ o → Some ended ≡ option_map (ended_by outcome) o → Await (tell ended.forward.caller (outcome_at_end message ended) (record (at_fresh_moment at s) { ledger = l })).1
       by_found None e gave = absurd cc
       by_found (Some x) e gave =
           let same : ended ≡ ended_by outcome x = cc in
@@ -494,7 +494,7 @@ module _ (s : State) (sound : IsSound s) (h : Await s) where
   shown-pending (Err fault) = h
 
   pub step-awaits : (event : Event) → Await (step s event).1
-  unfolding step open_connection opening_of pending gave close_connection closing_of datagram sent_call forward_reply serve
+  unfolding step open_connection open_in_table pending gave close_connection close_in_table datagram sent_call forward_reply serve
   step-awaits (Open at peer) = open-awaits at peer (number_for s.setting.limits.conns s.connections)
   step-awaits (Bytes at id piece) = bytes-await at id piece (bytes s at id piece) (arriving s at id piece)
   step-awaits (Pending id) = shown-pending (pending s id)

@@ -40,9 +40,9 @@ use Rattle.rb_model.specs.declared.types.Expired.{Expired}
 use Rattle.rb_model.specs.declared.types.Expired.TheVariants as expired
 use Rattle.rb_model.specs.Calls.{Outcome, Outcome as outcomes, message_of, outcome}
 use Rattle.rb_model.specs.State.{Setting, State, Connection, Connections, at_moment, opening}
-use Rattle.rb_model.specs.Connections.{Taking, taking_of, live_connection, closing_of}
+use Rattle.rb_model.specs.Connections.{Taking, taking_of, live_connection, close_in_table}
 use Rattle.rb_model.specs.Connections.Taking.{TakesNone, GoesOn, Ends}
-use Rattle.rb_model.specs.Ending.{told_at, tell, tell_end, at_fresh_moment, forward_reply, expire_connection, expired_as, expire}
+use Rattle.rb_model.specs.Ending.{outcome_at_end, tell, tell_end, at_fresh_moment, forward_reply, expire_connection, expired_as, expire}
 use Rattle.rb_model.specs.Step.{Event, Output, context_in, serve, serve_record, unless_refused, when_taken, bytes_to, bytes, pending, gave, is_too_much, open_connection, dropped_with, close_connection, with_reply, datagram, sent_call, output_or, show_taken, show_done, show_outcome, show_end, show_expired, step, after, IsReached}
 use Rattle.rb_model.specs.Step.Event.{Open, Bytes, Pending, Gave, Closed, NextLost, Datagram, Unsent, Sent, Forward as ForwardCame, Expire}
 use Rattle.rb_model.specs.Step.Output.{Opened, TooMuch, IsPending}
@@ -171,7 +171,7 @@ tell-follows s u (Udp peer) said f = record { setting = f.setting; goes = f.goes
 told-follows : (message : List ℕ) (s u : State) (o : Option Ended) (ledger : Ledger) → u.setting ≡ s.setting → Goes s.setting.limits.forwards s.ledger.forwards ledger.forwards → Follows s (tell_end message u (o, ledger)).1
 told-follows message s u None ledger same goes = record { setting = same; goes = goes }
 told-follows message s u (Some ended) ledger same goes =
-    tell-follows s (record u { ledger = ledger }) ended.forward.caller (told_at message ended) (record { setting = same; goes = goes })
+    tell-follows s (record u { ledger = ledger }) ended.forward.caller (outcome_at_end message ended) (record { setting = same; goes = goes })
 
 end-follows : (s : State) (r : Option Told × State) → Follows s r.1 → Follows s (show_end r).1
 end-follows s (None, u) f = f
@@ -191,7 +191,7 @@ step-follows s (Open now peer) = moved-follows s now Opened _
 step-follows s (Bytes now id piece) = bytes-follow s now id piece (live_connection id s.connections.all)
 step-follows s (Pending id) = shown-follows s IsPending (pending s id) s (stays s)
 step-follows s (Gave now id n) = either s (is_too_much n (pending s id)) (TooMuch, s) (output_or show_done (gave s now id n)) (stays s) (moved-follows s now show_done _)
-step-follows s (Closed id) = closed-follows s id (closing_of id s.connections)
+step-follows s (Closed id) = closed-follows s id (close_in_table id s.connections)
 step-follows s NextLost = stays s
 step-follows s (Datagram now peer content) = outcome-follows s (serve (at_moment now s) (Udp peer) content) (serve-follows s now (Udp peer) content)
 step-follows s Unsent = stays s

@@ -11,7 +11,7 @@ use Rattle.rb_model.specs.Calls.{Outcome}
 use Rattle.rb_model.specs.State.{State, Connection}
 use Rattle.rb_model.specs.Connections.{change_first, is_lost, is_live, settle}
 use Rattle.rb_model.specs.Losses.{is_due, lose}
-use Rattle.rb_model.specs.Ending.{told_at, tell, at_fresh_moment, expire}
+use Rattle.rb_model.specs.Ending.{outcome_at_end, tell, at_fresh_moment, expire}
 use Rattle.rb_model.specs.Step.{show_expired, step, after}
 use Rattle.rb_model.specs.Step.Event.{Expire}
 use Rattle.rb_model.specs.Step.Output.{Nothing}
@@ -103,7 +103,7 @@ tell-count s (Udp peer) said = omega arith
 
 less-due : (s : State) (now : ℕ) (r : Expired × State) → Expiry s (max s.clock now) (at_fresh_moment now s) r → (r.0 ≡ expiries.Nothing) ⊎ (due_count r.1 + 1 ≤ due_count s)
 less-due s now r (EntryEnds e found ledger left is) =
-    let told = tell-count (record (at_fresh_moment now s) { ledger = ledger }) e.forward.caller (told_at [] (end_of e)) in
+    let told = tell-count (record (at_fresh_moment now s) { ledger = ledger }) e.forward.caller (outcome_at_end [] (end_of e)) in
     let less = ended-count (entry_is_due (max s.clock now)) s.ledger.forwards.all e found in
     let entries = ap (λ f. length f.all) left in
     inr (rw is (omega (arith, told, less, entries)))

@@ -16,7 +16,7 @@ use Rattle.rb_model.specs.declared.types.Told.{Told}
 use Rattle.rb_model.specs.Calls.{Outcome}
 use Rattle.rb_model.specs.State.{State}
 use Rattle.rb_model.specs.Losses.{first_due, with_lost, expire_first}
-use Rattle.rb_model.specs.Ending.{told_at, tell, tell_end, at_fresh_moment, forward_reply, closed_as, expire_connection, expired_as, expire}
+use Rattle.rb_model.specs.Ending.{outcome_at_end, tell, tell_end, at_fresh_moment, forward_reply, lost_as, expire_connection, expired_as, expire}
 use Rattle.rb_model.specs.DeadlineLaws.{EntryIsDue}
 use Rattle.rb_model.specs.ForwardLaws.{CallerGets, EndsFirst, EndsNone, EndsByReply, RepliesEndTheirOwn, EndsByDeadline, DeadlinesEndOne}
 
@@ -29,7 +29,7 @@ module _ (Is : Entry → Type 0) (test : Entry → Bool) (means : (e : Entry) �
   ends = noted_end (with_end test outcome s.ledger.forwards) s.ledger
 
   abbrev says : Entry → Outcome
-  says e = told_at message (ended_by outcome e)
+  says e = outcome_at_end message (ended_by outcome e)
 
   abbrev pub EndsOrNot : Option Told → State → Type 0
   EndsOrNot None t = EndsNone Is s now t
@@ -61,7 +61,7 @@ module _ (Is : Entry → Type 0) (test : Entry → Bool) (means : (e : Entry) �
           record {
             entry = one.0;
             first = subst (λ (xs : List Entry). IsFirst Is s.ledger.forwards.all one.0 xs) (sym (ap (λ (x : Ledger). x.forwards.all) (same_entries e l e.forward.caller))) one.1;
-            tells = subst (λ (x : EntryEnd). CallerGets s (max s.clock now) (told_at message x) x.forward.caller (tell e.forward.caller (says e) (record (at_fresh_moment now s) { ledger = l })).0 (tell e.forward.caller (says e) (record (at_fresh_moment now s) { ledger = l })).1)
+            tells = subst (λ (x : EntryEnd). CallerGets s (max s.clock now) (outcome_at_end message x) x.forward.caller (tell e.forward.caller (says e) (record (at_fresh_moment now s) { ledger = l })).0 (tell e.forward.caller (says e) (record (at_fresh_moment now s) { ledger = l })).1)
                 same (is_told e l e.forward.caller);
           }
 
@@ -86,6 +86,6 @@ deadlines_end_one s now = as_expired (tell_end [] (at_fresh_moment now s) (noted
     as_expired (Some told, t) e = e
     as_expired (None, t) e = by_found (first_due t.clock t.connections)
       where
-        by_found : (o : Option ℕ) → EndsByDeadline s now (closed_as o) (record t { connections = with_lost o t.connections })
+        by_found : (o : Option ℕ) → EndsByDeadline s now (lost_as o) (record t { connections = with_lost o t.connections })
         by_found None = e
         by_found (Some id) = (e.none, ap (λ (u : State). u.ledger) e.stays)

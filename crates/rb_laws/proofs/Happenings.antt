@@ -26,8 +26,8 @@ use Rattle.rb_model.specs.declared.types.Told.TheVariants.{TcpReady}
 use Rattle.rb_model.specs.declared.types.Told.TheVariants as tolds
 use Rattle.rb_model.specs.Calls.{Outcome, Outcome as outcomes, is_no_call, message_of}
 use Rattle.rb_model.specs.State.{State, Connection, Connections, at_moment, greatest_number}
-use Rattle.rb_model.specs.Connections.{fed_in, taking_of, taking_up_to, keep_reading, settle, give, pending_in, live_connection, changed_at, on_found, number_for, with_new, opening_as, opening_of, is_there, without_number, closing_of}
-use Rattle.rb_model.specs.Ending.{refused_by, told_failed, told_of, told_at, tell, tell_end, at_fresh_moment, forward_reply, expired_as, expire}
+use Rattle.rb_model.specs.Connections.{fed_in, taking_of, taking_up_to, keep_reading, settle, give, pending_in, live_connection, changed_at, on_found, number_for, with_new, opening_as, open_in_table, is_there, without_number, close_in_table}
+use Rattle.rb_model.specs.Ending.{refused_by, outcome_of_failure, outcome_of_end, outcome_at_end, tell, tell_end, at_fresh_moment, forward_reply, expired_as, expire}
 use Rattle.rb_model.specs.Losses.{removals_in_the_way, evict, is_due as connection_is_due, lose}
 use Rattle.rb_model.specs.Step.{Event, Output, context_in, serve, serve_record, unless_refused, when_taken, bytes_to, bytes, pending, pending_on, gave, is_too_much, open_connection, dropped_with, close_connection, next_lost, with_reply, datagram, unsent_call, sent_call, output_or, show_taken, show_done, show_outcome, show_told, show_end, show_expired, on_connection, step}
 use Rattle.rb_model.specs.declared.types.Taken.{Taken}
@@ -35,7 +35,7 @@ use Rattle.rb_model.specs.Step.Event.{Open, Bytes, Pending, Gave, Closed, NextLo
 use Rattle.rb_model.specs.Step.Output.{Opened, Refused, TooMuch, Took, IsPending, Done, LostIs, Replied, Forwarded, Silent, UnsentIs, Ignored, Nothing, ConnectionClosed, Ready, RepliedTo}
 use Rattle.rb_model.specs.declared.types.Expired.{Expired}
 use Rattle.rb_model.specs.Laws.{number_given}
-use Rattle.rb_model.specs.Sessions.{piece_to, gave_to, given_by, IsFinal, told_ended, told_by}
+use Rattle.rb_model.specs.Sessions.{piece_to, gave_to, given_by, IsFinal, outcome_of_ended, outcome_by}
 use Rattle.rb_model.specs.Bounds.{count_in}
 use Rattle.rb_laws.proofs.DueThings.{end_of, Expiry, expiry}
 use Rattle.rb_laws.proofs.DueThings.Expiry.{EntryEnds, ConnectionEnds, NothingDue}
@@ -117,14 +117,14 @@ pub data Happening (s : State) (event : Event) (output : Output) (now : Connecti
   Gives : (at id n : ℕ) (c : Connection) → event ≡ Gave at id n → live_connection id s.connections.all ≡ Some c → n ≤ length (pending_in c.phase)
       → output ≡ Done → now ≡ changed_at id (λ x. (give (max s.clock at) n x).1) s.connections → Happening s event output now
   Closes : (id : ℕ) → event ≡ Closed id → output ≡ Done → is_there id s.connections ≡ true → now ≡ without_number id s.connections → Happening s event output now
-  Tells : (at id : ℕ) (said : Outcome) → is_end event ≡ true → IsQuiet s event output → IsFinal said → told_by s id event ≡ Some said → has_entry id s ≡ true
+  Tells : (at id : ℕ) (said : Outcome) → is_end event ≡ true → IsQuiet s event output → IsFinal said → outcome_by s id event ≡ Some said → has_entry id s ≡ true
       → now ≡ changed_at id (settle (max s.clock at) said) s.connections → Happening s event output now
   TimesOut : (at : ℕ) (c : Connection) → event ≡ Expire at → IsQuiet s event output → find (is_due (max s.clock at)) s.ledger.forwards.all ≡ None
       → find (connection_is_due (max s.clock at)) s.connections.all ≡ Some c → now ≡ changed_at c.number lose s.connections → Happening s event output now
 
 -- ---- what a caller is told at an end
 
-failed-final : (forward : EntryEnd) (status : ReplyStatus) → IsFinal (told_failed forward.forward status)
+failed-final : (forward : EntryEnd) (status : ReplyStatus) → IsFinal (outcome_of_failure forward.forward status)
 failed-final ended status = by_kind ended.forward.kind
   where
     by_kind : (kind : Kind) → IsFinal (refused_by ended.forward.xid (refusal kind status))
@@ -133,10 +133,10 @@ failed-final ended status = by_kind ended.forward.kind
     by_kind Bcast = tt
     by_kind Indirect = tt
 
-pub told-final : (message : List ℕ) (ended : EntryEnd) → IsFinal (told_at message ended)
+pub told-final : (message : List ℕ) (ended : EntryEnd) → IsFinal (outcome_at_end message ended)
 told-final message ended = by_outcome ended.outcome
   where
-    by_outcome : (o : target.Outcome) → IsFinal (told_of ended.forward message o)
+    by_outcome : (o : target.Outcome) → IsFinal (outcome_of_end ended.forward message o)
     by_outcome (Passed place) = tt
     by_outcome (ends.Refused status) = failed-final ended status
     by_outcome Failed = failed-final ended replies.SystemErr
@@ -255,22 +255,22 @@ module _ (s : State) where
       stays (Some told, t) = refl
 
   end-happens : (event : Event) (at : ℕ) (message : List ℕ) (show : Option Told × State → Output × State) (r : Option EntryEnd × Ledger)
-      → is_end event ≡ true → Shows event show → WasThere s r.0 → ((k : ℕ) → told_by s k event ≡ told_ended k message r.0) → Happens event (show (tell_end message (at_fresh_moment at s) r))
+      → is_end event ≡ true → Shows event show → WasThere s r.0 → ((k : ℕ) → outcome_by s k event ≡ outcome_of_ended k message r.0) → Happens event (show (tell_end message (at_fresh_moment at s) r))
   end-happens event at message show (None, l) is shows there told = Stays (shows.is_quiet _) (shows.leaves _)
   end-happens event at message show (Some ended, l) is shows there told = by_caller ended.forward.caller refl
     where
       after : Caller → Option Told × State
-      after caller = let x : Told × State = tell caller (told_at message ended) (record (at_fresh_moment at s) { ledger = l }) in (Some x.0, x.1)
+      after caller = let x : Told × State = tell caller (outcome_at_end message ended) (record (at_fresh_moment at s) { ledger = l }) in (Some x.0, x.1)
 
       by_caller : (caller : Caller) → ended.forward.caller ≡ caller → Happens event (show (after caller))
       by_caller (Udp peer) e = Stays (shows.is_quiet _) (shows.leaves _)
       by_caller (Tcp id peer) e =
           let of : is_connection id ended.forward.caller ≡ true = ap (is_connection id) e ∙ eq-eqb id id refl in
-          Tells at id (told_at message ended) is (shows.is_quiet _) (told-final message ended)
-          (told id ∙ ap (λ (b : Bool). cond b (Some (told_at message ended)) None) of) (there ended refl id of) (shows.leaves _)
+          Tells at id (outcome_at_end message ended) is (shows.is_quiet _) (told-final message ended)
+          (told id ∙ ap (λ (b : Bool). cond b (Some (outcome_at_end message ended)) None) of) (there ended refl id of) (shows.leaves _)
 
   -- what a connection is told by the end of this entry
-  due-told : (at k : ℕ) (e : Entry) → find (is_due (max s.clock at)) s.ledger.forwards.all ≡ Some e → told_by s k (Expire at) ≡ told_ended k [] (Some (end_of e))
+  due-told : (at k : ℕ) (e : Entry) → find (is_due (max s.clock at)) s.ledger.forwards.all ≡ Some e → outcome_by s k (Expire at) ≡ outcome_of_ended k [] (Some (end_of e))
   unfolding fell_due due
   due-told at k e found = rw found refl
 
@@ -280,18 +280,18 @@ module _ (s : State) where
   expire-happens at r (EntryEnds e found ledger left is) = rw is (by_caller e.forward.caller refl)
     where
       after : Caller → Told × State
-      after caller = tell caller (told_at [] (end_of e)) (record (at_fresh_moment at s) { ledger = ledger })
+      after caller = tell caller (outcome_at_end [] (end_of e)) (record (at_fresh_moment at s) { ledger = ledger })
 
       by_caller : (caller : Caller) → e.forward.caller ≡ caller → Happens (Expire at) (show_expired (expired_as (Some (after caller).0, (after caller).1)))
       by_caller (Udp peer) same = Stays (told-quiet (Expire at) (after (Udp peer)).1.reply (after (Udp peer)).0) refl
       by_caller (Tcp id peer) same =
           let of : is_connection id e.forward.caller ≡ true = ap (is_connection id) same ∙ eq-eqb id id refl in
-          Tells at id (told_at [] (end_of e)) refl (told-quiet (Expire at) (after (Tcp id peer)).1.reply (after (Tcp id peer)).0) (told-final [] (end_of e))
-          (due-told at id e found ∙ ap (λ (b : Bool). cond b (Some (told_at [] (end_of e))) None) of)
+          Tells at id (outcome_at_end [] (end_of e)) refl (told-quiet (Expire at) (after (Tcp id peer)).1.reply (after (Tcp id peer)).0) (told-final [] (end_of e))
+          (due-told at id e found ∙ ap (λ (b : Bool). cond b (Some (outcome_at_end [] (end_of e))) None) of)
           (find-any (is_due (max s.clock at)) (is_of_connection id) s.ledger.forwards.all e found of) refl
 
   pub happening : (event : Event) → Happening s event (step s event).0 (step s event).1.connections
-  unfolding step open_connection opening_of pending gave close_connection closing_of datagram sent_call forward_reply
+  unfolding step open_connection open_in_table pending gave close_connection close_in_table datagram sent_call forward_reply
   happening (Open at peer) = open-happens at peer (number_for s.setting.limits.conns s.connections) refl
   happening (Bytes at id piece) = bytes-happen at id piece (bytes s at id piece) (arriving s at id piece)
   happening (Pending id) = pending-happens id (pending s id)
@@ -317,42 +317,42 @@ pub record TellsTo (s : State) (event : Event) (id : ℕ) (said : Outcome) (now 
 
 module _ (s : State) where
   told-to : (event : Event) (at : ℕ) (message : List ℕ) (id : ℕ) (said : Outcome) (r : Option EntryEnd × Ledger) (show : Option Told × State → Output × State) → is_end event ≡ true → WasThere s r.0
-      → ((told : Told) (u : State) → (show (Some told, u)).1.connections ≡ u.connections) → told_ended id message r.0 ≡ Some said
+      → ((told : Told) (u : State) → (show (Some told, u)).1.connections ≡ u.connections) → outcome_of_ended id message r.0 ≡ Some said
       → TellsTo s event id said (show (tell_end message (at_fresh_moment at s) r)).1.connections
   told-to event at message id said (None, l) show is there leaves told = absurd cc
   told-to event at message id said (Some ended, l) show is there leaves told = by_caller ended.forward.caller refl
     where
       told-then : Caller → Told × State
-      told-then caller = tell caller (told_at message ended) (record (at_fresh_moment at s) { ledger = l })
+      told-then caller = tell caller (outcome_at_end message ended) (record (at_fresh_moment at s) { ledger = l })
 
       after : Caller → Option Told × State
       after caller = (Some (told-then caller).0, (told-then caller).1)
 
       by_caller : (caller : Caller) → ended.forward.caller ≡ caller → TellsTo s event id said (show (after caller)).1.connections
       by_caller (Udp peer) e =
-          let none : ◌≡◌ {A = Option Outcome} None (Some said) = sym (ap (λ (c : Caller). cond (is_connection id c) (Some (told_at message ended)) None) e) ∙ told in
+          let none : ◌≡◌ {A = Option Outcome} None (Some said) = sym (ap (λ (c : Caller). cond (is_connection id c) (Some (outcome_at_end message ended)) None) e) ∙ told in
           absurd cc
       by_caller (Tcp k peer) e = by_number (eqb k id) refl
         where
           by_number : (b : Bool) → eqb k id ≡ b → TellsTo s event id said (show (after (Tcp k peer))).1.connections
           by_number false n =
               let none : ◌≡◌ {A = Option Outcome} None (Some said) =
-              sym (ap (λ (c : Caller). cond (is_connection id c) (Some (told_at message ended)) None) e ∙ ap (λ (b : Bool). cond b (Some (told_at message ended)) None) n) ∙ told in
+              sym (ap (λ (c : Caller). cond (is_connection id c) (Some (outcome_at_end message ended)) None) e ∙ ap (λ (b : Bool). cond b (Some (outcome_at_end message ended)) None) n) ∙ told in
               absurd cc
           by_number true n =
               let of : is_connection id ended.forward.caller ≡ true = ap (is_connection id) e ∙ n in
-              let one : Some (told_at message ended) ≡ Some said = sym (ap (λ (b : Bool). cond b (Some (told_at message ended)) None) of) ∙ told in
-              let it : told_at message ended ≡ said = cc in
+              let one : Some (outcome_at_end message ended) ≡ Some said = sym (ap (λ (b : Bool). cond b (Some (outcome_at_end message ended)) None) of) ∙ told in
+              let it : outcome_at_end message ended ≡ said = cc in
               record {
                 at = at;
                 ends = is;
                 final = subst (λ (o : Outcome). IsFinal o) it (told-final message ended);
                 has = there ended refl id of;
-                same = leaves (told-then (Tcp k peer)).0 (told-then (Tcp k peer)).1 ∙ ap (λ (j : ℕ). changed_at j (settle (max s.clock at) (told_at message ended)) s.connections) (eqb-true k id n)
+                same = leaves (told-then (Tcp k peer)).0 (told-then (Tcp k peer)).1 ∙ ap (λ (j : ℕ). changed_at j (settle (max s.clock at) (outcome_at_end message ended)) s.connections) (eqb-true k id n)
                     ∙ ap (λ (o : Outcome). changed_at id (settle (max s.clock at) o) s.connections) it;
               }
 
-  pub tells : (event : Event) (id : ℕ) (said : Outcome) → told_by s id event ≡ Some said → TellsTo s event id said (step s event).1.connections
+  pub tells : (event : Event) (id : ℕ) (said : Outcome) → outcome_by s id event ≡ Some said → TellsTo s event id said (step s event).1.connections
   unfolding step forward_reply expire
   tells (Forward at from message) id said told = told-to (Forward at from message) at message id said (target_replied s.setting.first_xid (max s.clock at) from message s.ledger) show_end refl (replied-there s (max s.clock at) from message) (λ x u. refl) told
   tells (Expire at) id said told = told-to (Expire at) at [] id said (fell_due (max s.clock at) s.ledger) (λ r. show_expired (expired_as r)) refl (due-there s (max s.clock at)) (λ x u. refl) told

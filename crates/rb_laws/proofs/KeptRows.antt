@@ -13,7 +13,7 @@ use Rattle.rb_registry.specs.Slots.{slot_of, removal_of, slots_by, all_slots}
 use Rattle.rb_proto.specs.Ledger.{Ledger, rows_in}
 use Rattle.rb_model.specs.State.{Connection}
 use Rattle.rb_model.specs.Connections.{change_first}
-use Rattle.rb_model.specs.Losses.{stamp_in, list_stamps, is_retained_for, retained_removals, began_before, evict_early, lose}
+use Rattle.rb_model.specs.Losses.{stamp_in, list_stamps, is_needed_for, needed_removals, began_before, evict_early, lose}
 
 -- ---- which rows connections keep
 
@@ -26,12 +26,12 @@ is_before change (Some n) = nat_lt n change
 abbrev pub keeps : ℕ → Connection → Bool
 keeps change c = is_before change (stamp_in c.phase)
 
-pub retained_by : (change : ℕ) (all : List Connection) → is_retained_for (list_stamps all) change ≡ list_any (keeps change) all
+pub retained_by : (change : ℕ) (all : List Connection) → is_needed_for (list_stamps all) change ≡ list_any (keeps change) all
 unfolding list_stamps
 retained_by change [] = refl
 retained_by change (c ∷ all) = by_began (stamp_in c.phase) refl (retained_by change all)
   where
-    by_began : (o : Option ℕ) → stamp_in c.phase ≡ o → is_retained_for (list_stamps all) change ≡ list_any (keeps change) all → is_retained_for (list_stamps (c ∷ all)) change ≡ list_any (keeps change) (c ∷ all)
+    by_began : (o : Option ℕ) → stamp_in c.phase ≡ o → is_needed_for (list_stamps all) change ≡ list_any (keeps change) all → is_needed_for (list_stamps (c ∷ all)) change ≡ list_any (keeps change) (c ∷ all)
     by_began None e rest = rw e rest
     by_began (Some n) e rest = rw e (ap (λ (b : Bool). nat_lt n change || b) rest)
 
@@ -94,18 +94,18 @@ is_there slot = is_none slot.removed
 abbrev removals : List Slot → List ℕ
 removals slots = filter_map (λ (slot : Slot). slot.removed) slots
 
-parted : (all : List Connection) (slots : List Slot) → length (filter (counts all) slots) ≡ length (filter is_there slots) + length (filter (is_retained_for (list_stamps all)) (removals slots))
+parted : (all : List Connection) (slots : List Slot) → length (filter (counts all) slots) ≡ length (filter is_there slots) + length (filter (is_needed_for (list_stamps all)) (removals slots))
 parted all [] = refl
 parted all (slot ∷ slots) = by_removed slot.removed refl (parted all slots)
   where
-    by_removed : (o : Option ℕ) → slot.removed ≡ o → length (filter (counts all) slots) ≡ length (filter is_there slots) + length (filter (is_retained_for (list_stamps all)) (removals slots))
-        → length (filter (counts all) (slot ∷ slots)) ≡ length (filter is_there (slot ∷ slots)) + length (filter (is_retained_for (list_stamps all)) (removals (slot ∷ slots)))
+    by_removed : (o : Option ℕ) → slot.removed ≡ o → length (filter (counts all) slots) ≡ length (filter is_there slots) + length (filter (is_needed_for (list_stamps all)) (removals slots))
+        → length (filter (counts all) (slot ∷ slots)) ≡ length (filter is_there (slot ∷ slots)) + length (filter (is_needed_for (list_stamps all)) (removals (slot ∷ slots)))
     by_removed None e rest = rw e (omega (arith, rest))
     by_removed (Some change) e rest = by_test (list_any (keeps change) all) refl
       where
-        by_test : (b : Bool) → list_any (keeps change) all ≡ b → length (filter (counts all) (slot ∷ slots)) ≡ length (filter is_there (slot ∷ slots)) + length (filter (is_retained_for (list_stamps all)) (removals (slot ∷ slots)))
-        by_test true t = let kept : is_retained_for (list_stamps all) change ≡ true = retained_by change all ∙ t in rw e (rw (t, kept) (omega (arith, rest)))
-        by_test false t = let kept : is_retained_for (list_stamps all) change ≡ false = retained_by change all ∙ t in rw e (rw (t, kept) rest)
+        by_test : (b : Bool) → list_any (keeps change) all ≡ b → length (filter (counts all) (slot ∷ slots)) ≡ length (filter is_there (slot ∷ slots)) + length (filter (is_needed_for (list_stamps all)) (removals (slot ∷ slots)))
+        by_test true t = let kept : is_needed_for (list_stamps all) change ≡ true = retained_by change all ∙ t in rw e (rw (t, kept) (omega (arith, rest)))
+        by_test false t = let kept : is_needed_for (list_stamps all) change ≡ false = retained_by change all ∙ t in rw e (rw (t, kept) rest)
 
 none-removes : (count : ℕ) (row : Row) (later : List Change) → is_none (removal_of count row later) ≡ not (list_any (covers row) later)
 none-removes count row [] = refl
@@ -141,8 +141,8 @@ total-parts all own changes =
     ∙ length-append (filter (counts all) (map (slot_of 0) own)) (filter (counts all) (slots_by 0 changes))
     ∙ ap (λ (n : ℕ). n + length (filter (counts all) (slots_by 0 changes))) (own-there (counts all) (λ row. refl) own)
 
-pub total-is : (all : List Connection) (l : Ledger) → total all l.own l.changes ≡ length (rows_in l) + length (retained_removals all l)
-unfolding retained_removals
+pub total-is : (all : List Connection) (l : Ledger) → total all l.own l.changes ≡ length (rows_in l) + length (needed_removals all l)
+unfolding needed_removals
 total-is all l =
     let slots : List Slot = all_slots l.own l.changes in
     let there : length (filter is_there slots) ≡ length l.own + length (left_by l.changes) =

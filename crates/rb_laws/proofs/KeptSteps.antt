@@ -48,9 +48,9 @@ use Rattle.rb_model.specs.Calls.{Outcome, Outcome as outcomes, results_outcome, 
 use Rattle.rb_model.specs.Calls.Outcome.{NoCall, Reply, Forwarded, Silent}
 use Rattle.rb_model.specs.State.{Setting, State, Phase, Connection, Connections, at_moment, opening}
 use Rattle.rb_model.specs.State.Phase.{Idle, Reading, Owing, Awaiting, Lost}
-use Rattle.rb_model.specs.Connections.{change_first, is_live, live_connection, pending_in, phase_when_given, with_given, give, keep_reading, settle, on_found, number_for, opening_as, opening_of, is_there, without_number, closing_of}
-use Rattle.rb_model.specs.Losses.{asks_room, stamp_in, began_before, list_stamps, removals_in_the_way, evict_early, first_due, is_retained_for, retained_removals, lose, removals_by, with_lost, expire_first}
-use Rattle.rb_model.specs.Ending.{told_at, told_of, refused_by, tell, tell_end, at_fresh_moment, closed_as, expire_connection, expired_as, forward_reply, expire}
+use Rattle.rb_model.specs.Connections.{change_first, is_live, live_connection, pending_in, phase_when_given, with_given, give, keep_reading, settle, on_found, number_for, opening_as, open_in_table, is_there, without_number, close_in_table}
+use Rattle.rb_model.specs.Losses.{asks_room, stamp_in, began_before, list_stamps, removals_in_the_way, evict_early, first_due, is_needed_for, needed_removals, lose, removals_by, with_lost, expire_first}
+use Rattle.rb_model.specs.Ending.{outcome_at_end, outcome_of_end, refused_by, tell, tell_end, at_fresh_moment, lost_as, expire_connection, expired_as, forward_reply, expire}
 use Rattle.rb_model.specs.Step.{Event, Output, context_in, serve, bytes, pending, gave, is_too_much, unless_refused, open_connection, dropped_with, close_connection, with_reply, datagram, sent_call, output_or, show_taken, show_done, show_outcome, show_end, show_expired, step, after, IsReached}
 use Rattle.rb_model.specs.declared.types.Taken.{Taken}
 use Rattle.rb_model.specs.Step.Event.{Open, Bytes, Pending, Gave, Closed, NextLost, Datagram, Unsent, Sent, Forward, Expire}
@@ -176,10 +176,10 @@ refused-stamped n xid (answers.Results r) = tt
 refused-stamped n xid answers.Forwarded = tt
 refused-stamped n xid answers.Silent = tt
 
-ended-stamped : (n : ℕ) (message : List ℕ) (ended : EntryEnd) → IsStamped n (told_at message ended)
+ended-stamped : (n : ℕ) (message : List ℕ) (ended : EntryEnd) → IsStamped n (outcome_at_end message ended)
 ended-stamped n message ended = by_outcome ended.outcome
   where
-    by_outcome : (o : target.Outcome) → IsStamped n (told_of ended.forward message o)
+    by_outcome : (o : target.Outcome) → IsStamped n (outcome_of_end ended.forward message o)
     by_outcome (ends.Passed place) = tt
     by_outcome (ends.Refused status) = refused-stamped n ended.forward.xid (refusal ended.forward.kind status)
     by_outcome ends.Failed = refused-stamped n ended.forward.xid (refusal ended.forward.kind replies.SystemErr)
@@ -236,37 +236,37 @@ module _ (context : Context) (message : Message) (all : List Connection) (l : Le
   left = map (evict_early (removals_in_the_way context message all l)) all
 
   -- where those connections are evicted whose lists are in the way
-  evicted-fits : (change : ℕ) (changes : List ℕ) → retained_removals all l ≡ change ∷ changes → total (map (evict_early (change ∷ changes)) all) l.own l.changes < context.limit
-  unfolding retained_removals
+  evicted-fits : (change : ℕ) (changes : List ℕ) → needed_removals all l ≡ change ∷ changes → total (map (evict_early (change ∷ changes)) all) l.own l.changes < context.limit
+  unfolding needed_removals
   evicted-fits change changes is =
       let now : List Connection = map (evict_early (change ∷ changes)) all in
       let least : Least (change ∷ changes) = least-of change changes in
-      let also : (n : ℕ) → is_retained_for (list_stamps now) n ≡ true → is_retained_for (list_stamps all) n ≡ true =
+      let also : (n : ℕ) → is_needed_for (list_stamps now) n ≡ true → is_needed_for (list_stamps all) n ≡ true =
       λ n kept. retained_by n all ∙ mapped-kept n (evict_early (change ∷ changes)) (evicted-keeps n (change ∷ changes)) all n (omega arith) (sym (retained_by n now) ∙ kept) in
-      let out : is_retained_for (list_stamps now) least.value ≡ false = retained_by least.value now ∙ none-keep change changes least.value least.low all in
-      let there : list_any (λ n. eqb n least.value) (retained_removals all l) ≡ true = ap (λ (xs : List ℕ). list_any (λ n. eqb n least.value) xs) is ∙ least.there in
-      let fewer = one-fewer (is_retained_for (list_stamps now)) (is_retained_for (list_stamps all)) also least.value out (removals_by l) there in
+      let out : is_needed_for (list_stamps now) least.value ≡ false = retained_by least.value now ∙ none-keep change changes least.value least.low all in
+      let there : list_any (λ n. eqb n least.value) (needed_removals all l) ≡ true = ap (λ (xs : List ℕ). list_any (λ n. eqb n least.value) xs) is ∙ least.there in
+      let fewer = one-fewer (is_needed_for (list_stamps now)) (is_needed_for (list_stamps all)) also least.value out (removals_by l) there in
       omega (arith, fits, fewer, total-is all l, total-is now l)
 
   made-room : asks_room context message l ≡ true → total left l.own l.changes < context.limit
-  made-room asks = by_room (nat_lt (length (rows_in l) + length (retained_removals all l)) context.limit) refl
+  made-room asks = by_room (nat_lt (length (rows_in l) + length (needed_removals all l)) context.limit) refl
     where
       left-is : (changes : List ℕ) → removals_in_the_way context message all l ≡ changes → total left l.own l.changes ≡ total (map (evict_early changes) all) l.own l.changes
       left-is changes is = ap (λ (xs : List ℕ). total (map (evict_early xs) all) l.own l.changes) is
 
-      by_kept : (changes : List ℕ) → retained_removals all l ≡ changes → context.limit ≤ length (rows_in l) + length (retained_removals all l) → total left l.own l.changes < context.limit
+      by_kept : (changes : List ℕ) → needed_removals all l ≡ changes → context.limit ≤ length (rows_in l) + length (needed_removals all l) → total left l.own l.changes < context.limit
       by_kept [] is full = absurd (omega (arith, full, asks-within context message l asks, ap (λ (xs : List ℕ). length xs) is))
       by_kept (change ∷ changes) is full =
           omega (arith, left-is (change ∷ changes) (crowded context message all l asks full ∙ is), evicted-fits change changes is)
 
-      by_room : (b : Bool) → nat_lt (length (rows_in l) + length (retained_removals all l)) context.limit ≡ b → total left l.own l.changes < context.limit
+      by_room : (b : Bool) → nat_lt (length (rows_in l) + length (needed_removals all l)) context.limit ≡ b → total left l.own l.changes < context.limit
       by_room true t =
           let room = ltb-true _ _ t in
           let none = left-is [] (not_crowded context message all l room) in
           let same : total (map (evict_early []) all) l.own l.changes ≡ total all l.own l.changes =
           ap (λ (c : Connections). total c.all l.own l.changes) (none_evicted (record { next = 0; all = all })) in
           omega (arith, room, none, same, total-is all l)
-      by_room false t = by_kept (retained_removals all l) refl (ltb-false _ _ t)
+      by_room false t = by_kept (needed_removals all l) refl (ltb-false _ _ t)
 
   served-fits : (new : Ledger) → Effect (asks_room context message l) l new → total left new.own new.changes ≤ context.limit
   served-fits new (Same own same) =
@@ -362,10 +362,10 @@ module _ (s : State) (fits : Fits s) where
   told-fits now message (None, l) own changes = omega (arith, fits, same-rows s.connections.all l s.ledger own changes)
   told-fits now message (Some ended, l) own changes = by_caller ended.forward.caller
     where
-      by_caller : (caller : Caller) → Fits (tell caller (told_at message ended) (record (at_fresh_moment now s) { ledger = l })).1
+      by_caller : (caller : Caller) → Fits (tell caller (outcome_at_end message ended) (record (at_fresh_moment now s) { ledger = l })).1
       by_caller (Tcp id peer) =
-          let goes_on : Connection → Connection = settle (max s.clock now) (told_at message ended) in
-          let one = one-fits s fits id goes_on (settled-keeps (length s.ledger.changes) (max s.clock now) (told_at message ended) (ended-stamped (length s.ledger.changes) message ended)) in
+          let goes_on : Connection → Connection = settle (max s.clock now) (outcome_at_end message ended) in
+          let one = one-fits s fits id goes_on (settled-keeps (length s.ledger.changes) (max s.clock now) (outcome_at_end message ended) (ended-stamped (length s.ledger.changes) message ended)) in
           omega (arith, one, same-rows (change_first (is_live id) goes_on s.connections.all) l s.ledger own changes)
       by_caller (Udp peer) = omega (arith, fits, same-rows s.connections.all l s.ledger own changes)
 
@@ -378,12 +378,12 @@ module _ (s : State) (fits : Fits s) where
   expired-fits (Some told, u) f = f
   expired-fits (None, u) f = by_due (first_due u.clock u.connections)
     where
-      by_due : (o : Option ℕ) → Fits (show_expired (closed_as o, record u { connections = with_lost o u.connections })).1
+      by_due : (o : Option ℕ) → Fits (show_expired (lost_as o, record u { connections = with_lost o u.connections })).1
       by_due None = f
       by_due (Some id) = one-fits u f id lose (lost-keeps (length u.ledger.changes))
 
   step-fits : (event : Event) → Fits (step s event).1
-  unfolding step open_connection opening_of gave close_connection closing_of datagram sent_call forward_reply expire target_replied fell_due
+  unfolding step open_connection open_in_table gave close_connection close_in_table datagram sent_call forward_reply expire target_replied fell_due
   step-fits (Open now peer) = opened-fits now peer (number_for s.setting.limits.conns s.connections)
   step-fits (Bytes now id piece) = bytes-fit now id piece (bytes s now id piece) (arriving s now id piece)
   step-fits (Pending id) = output-fits IsPending (pending s id) s fits

@@ -15,7 +15,7 @@ use Rattle.rb_model.specs.declared.types.Told.{Told}
 use Rattle.rb_model.specs.Calls.{Outcome}
 use Rattle.rb_model.specs.Calls.Outcome.{NoCall, Reply, Forwarded, Silent}
 use Rattle.rb_model.specs.State.{State}
-use Rattle.rb_model.specs.Ending.{told_at, tell, tell_end, at_fresh_moment, forward_reply, expire}
+use Rattle.rb_model.specs.Ending.{outcome_at_end, tell, tell_end, at_fresh_moment, forward_reply, expire}
 use Rattle.rb_model.specs.Step.{Output, show_end, step}
 use Rattle.rb_model.specs.Step.Event.{Forward, Expire}
 use Rattle.rb_model.specs.ForwardLaws.{said_by, said_at_deadline, later_output, TellsOverUdp, UdpCallersAreTold}
@@ -52,8 +52,8 @@ module _ (s : State) (now : ℕ) (message : List ℕ) where
       subst (λ (c : Caller). (show_end (Some (tell c said (record (at_fresh_moment now s) { ledger = l })).0, (tell c said (record (at_fresh_moment now s) { ledger = l })).1)).0 ≡ later_output peer said) (sym udp) (shown l said peer)
 
   ended-shown : (test : Entry → Bool) (outcome : target.Outcome) (found : Option Entry) (e : Entry) (peer : Peer) → found ≡ Some e → e.forward.caller ≡ Udp peer
-      → ends show_end test outcome found ≡ later_output peer (told_at message (ended_by outcome e))
-  ended-shown test outcome found e peer is udp = rw is (shown-for (noted_end (Some (ended_by outcome e), record s.ledger.forwards { all = without_first test s.ledger.forwards.all }) s.ledger).1 (told_at message (ended_by outcome e)) e.forward.caller peer udp)
+      → ends show_end test outcome found ≡ later_output peer (outcome_at_end message (ended_by outcome e))
+  ended-shown test outcome found e peer is udp = rw is (shown-for (noted_end (Some (ended_by outcome e), record s.ledger.forwards { all = without_first test s.ledger.forwards.all }) s.ledger).1 (outcome_at_end message (ended_by outcome e)) e.forward.caller peer udp)
 
 replies-told : (s : State) (now : ℕ) (from : Peer) (message : List ℕ)
     → TellsOverUdp (IsReplyTo s.setting.first_xid (max s.clock now) from message) (said_by message) s (Forward now from message)

@@ -3,7 +3,7 @@ use Rattle.std.specs.Prelude.{All, Any, find, option_map}
 use Rattle.std.proofs.Common.{◌≡◌, ◌≤◌, ℕ, suc, ◌+◌, Bool, true, false, cond, Option, Some, None, List, [], ◌∷◌, refl, arith}
 use Rattle.std.proofs.lemmas.List.Elements.{All-nil, All-cons, All-weaker}
 use Rattle.rb_model.specs.State.{Connection}
-use Rattle.rb_model.specs.Connections.{is_lost, first_lost}
+use Rattle.rb_model.specs.Connections.{is_lost, next_lost_in_table}
 use Rattle.rb_model.specs.Step.{next_lost}
 use Rattle.rb_model.specs.Laws.{IsLeast, NextLostIsLeast}
 use Rattle.rb_laws.proofs.Reached.{AreSound, reached-sound}
@@ -45,5 +45,5 @@ module _ (test : Connection → Bool) where
       by_test false not later = found-later c all _ not later
 
 pub next_lost_is_least : NextLostIsLeast
-unfolding next_lost first_lost
+unfolding next_lost next_lost_in_table
 next_lost_is_least s reached = first-least (λ (c : Connection). is_lost c.phase) 0 s.connections.next s.connections.all (reached-sound s reached)

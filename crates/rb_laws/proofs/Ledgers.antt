@@ -41,14 +41,14 @@ use Rattle.rb_proto.proofs.Addresses.{address_short}
 use Rattle.rb_model.specs.declared.types.Told.{Told}
 use Rattle.rb_model.specs.declared.types.CoreFault.TheVariants.{Gone}
 use Rattle.rb_model.specs.Losses.{first_due, with_lost, expire_first}
-use Rattle.rb_model.specs.Ending.{told_at, tell, tell_end, at_fresh_moment, forward_reply, closed_as, expire_connection, expired_as, expire}
+use Rattle.rb_model.specs.Ending.{outcome_at_end, tell, tell_end, at_fresh_moment, forward_reply, lost_as, expire_connection, expired_as, expire}
 use Rattle.rb_model.specs.declared.message.Message.{Message}
 use Rattle.rb_model.specs.declared.message.Message.TheVariants as says
 use Rattle.rb_model.specs.declared.types.CoreFault.{CoreFault}
 use Rattle.rb_model.specs.declared.types.Limits.{Limits}
 use Rattle.rb_model.specs.Calls.{Outcome, Outcome as outcomes, message_of, outcome}
 use Rattle.rb_model.specs.State.{State, Connections, at_moment, opening, are_good}
-use Rattle.rb_model.specs.Connections.{closing_of}
+use Rattle.rb_model.specs.Connections.{close_in_table}
 use Rattle.rb_model.specs.Step.{Event, Output, context_in, serve, dropped_with, sent_call, show_end, show_expired, unless_refused, bytes, pending, gave, is_too_much, open_connection, close_connection, with_reply, datagram, output_or, show_taken, show_done, show_outcome, step, after, IsReached}
 use Rattle.rb_model.specs.declared.types.Taken.{Taken}
 use Rattle.rb_model.specs.Step.Event.{Open, Bytes, Pending, Gave, Closed, NextLost, Datagram, Unsent, Sent, Forward, Expire}
@@ -209,7 +209,7 @@ tell-follows : (s : State) (at : ℕ) (message : List ℕ) (r : Option EntryEnd 
 tell-follows s at message (None, l) e = record { setting = refl; grows = Same e.own e.changes }
 tell-follows s at message (Some ended, l) e = by_caller ended.forward.caller
   where
-    by_caller : (caller : Caller) → Follows s (tell caller (told_at message ended) (record (at_fresh_moment at s) { ledger = l })).1
+    by_caller : (caller : Caller) → Follows s (tell caller (outcome_at_end message ended) (record (at_fresh_moment at s) { ledger = l })).1
     by_caller (Tcp id peer) = record { setting = refl; grows = Same e.own e.changes }
     by_caller (Udp peer) = record { setting = refl; grows = Same e.own e.changes }
 
@@ -222,7 +222,7 @@ unfolding expire_connection expire_first
 expired-follows s (Some told, t) f = f
 expired-follows s (None, t) f = by_found (first_due t.clock t.connections)
   where
-    by_found : (o : Option ℕ) → Follows s (show_expired (closed_as o, record t { connections = with_lost o t.connections })).1
+    by_found : (o : Option ℕ) → Follows s (show_expired (lost_as o, record t { connections = with_lost o t.connections })).1
     by_found None = record { setting = f.setting; grows = f.grows }
     by_found (Some id) = record { setting = f.setting; grows = f.grows }
 
@@ -244,7 +244,7 @@ step-follows s (Open now peer) = moved-follows s now Opened _
 step-follows s (Bytes now id piece) = bytes-follow s now id piece (bytes s now id piece) (arriving s now id piece)
 step-follows s (Pending id) = shown-follows s IsPending (pending s id) s (stays s)
 step-follows s (Gave now id n) = either s (is_too_much n (pending s id)) (TooMuch, s) (output_or show_done (gave s now id n)) (stays s) (moved-follows s now show_done _)
-step-follows s (Closed id) = closed-follows s id (closing_of id s.connections)
+step-follows s (Closed id) = closed-follows s id (close_in_table id s.connections)
 step-follows s NextLost = stays s
 step-follows s (Datagram now peer content) =
     outcome-follows s (serve (at_moment now s) (Udp peer) content) (serve-follows s now (Udp peer) content)
@@ -343,5 +343,5 @@ ledgers_are_well_kept s r =
       fit = λ good.
           let six : length s.ledger.own ≡ 6 = rw k.own (six-own s.setting.listener) in
           live_rows_fit s.setting.limits.rows s.ledger.own s.ledger.changes own (omega (arith, six, eight s.setting.limits good)) k.accepted;
-      kept_fit = λ good. omega (arith, reached-fits s r (eight s.setting.limits good), total-is s.connections.all s.ledger);
+      needed_fit = λ good. omega (arith, reached-fits s r (eight s.setting.limits good), total-is s.connections.all s.ledger);
     }

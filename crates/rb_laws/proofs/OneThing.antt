@@ -15,7 +15,7 @@ use Rattle.rb_model.specs.declared.types.Expired.{Expired}
 use Rattle.rb_model.specs.Calls.{Outcome}
 use Rattle.rb_model.specs.State.{State, Connection}
 use Rattle.rb_model.specs.Losses.{is_due}
-use Rattle.rb_model.specs.Ending.{told_failed, told_at, tell, at_fresh_moment, expire}
+use Rattle.rb_model.specs.Ending.{outcome_of_failure, outcome_at_end, tell, at_fresh_moment, expire}
 use Rattle.rb_model.specs.Step.{IsReached}
 use Rattle.rb_model.specs.Laws.{IsLeast}
 use Rattle.rb_model.specs.DeadlineLaws.{clock_at, EntryIsDue, DoesOneThing, ExpireDoesOneThing}
@@ -79,13 +79,13 @@ module _ (s : State) (reached : IsReached s) (now : ℕ) where
       let ends = ending (Some e) found in
       let same : e.forward ≡ ends.0.forward = ap (λ (x : entry.Ended). x.forward) ends.2 in
       let mid : State = record (at_fresh_moment now s) { ledger = ledger } in
-      let said : Outcome = told_at [] (end_of e) in
+      let said : Outcome = outcome_at_end [] (end_of e) in
       subst (DoesOneThing now s) (sym is) (record {
         entry = ends.0;
         ends = subst (λ l. IsFirst (EntryIsDue (clock_at now s)) s.ledger.forwards.all ends.0 l.forwards.all) (sym (tell-ledger mid e.forward.caller said))
             (subst (λ f. IsFirst (EntryIsDue (clock_at now s)) s.ledger.forwards.all ends.0 f.all) (sym left) ends.1);
         least = first-is-least (EntryIsDue (clock_at now s)) s.ledger.forwards.next s.ledger.forwards.all _ ends.0 (reached-kept s reached).order ends.1;
-        tells = tell-told s mid e.forward.caller said ∙ ap (λ (f : Forward). (tell f.caller (told_failed f SystemErr) s).0) same;
+        tells = tell-told s mid e.forward.caller said ∙ ap (λ (f : Forward). (tell f.caller (outcome_of_failure f SystemErr) s).0) same;
       })
   by_case r (ConnectionEnds none c found is) =
       subst (DoesOneThing now s) (sym is) (record { entries = (ending None none).0; least = least-found (Some c) found; loses = refl })

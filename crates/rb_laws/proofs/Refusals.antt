@@ -6,7 +6,7 @@ use Rattle.rb_model.specs.declared.types.CoreFault.{CoreFault}
 use Rattle.rb_model.specs.declared.types.CoreFault.TheVariants.{Gone}
 use Rattle.rb_model.specs.Calls.{Outcome, Outcome as outcomes}
 use Rattle.rb_model.specs.State.{State, Connection, Connections}
-use Rattle.rb_model.specs.Connections.{live_connection, closing_of, is_there, without_number}
+use Rattle.rb_model.specs.Connections.{live_connection, close_in_table, is_there, without_number}
 use Rattle.rb_model.specs.declared.types.Told.{Told}
 use Rattle.rb_model.specs.declared.types.Told.TheVariants.{TcpReady}
 use Rattle.rb_model.specs.declared.types.Told.TheVariants as tolds
@@ -44,7 +44,7 @@ bytes_kept s now id piece None = refl
 bytes_kept s now id piece (Some c) = tt
 
 closes : (s : State) (id : ℕ) → IsKept s (close_connection s id)
-unfolding close_connection closing_of
+unfolding close_connection close_in_table
 closes s id =
     let P : Result (Unit {0}) CoreFault × Connections → Type 0 = λ r. IsKept s (dropped_with s id r) in
     either P (is_there id s.connections) (Ok tt, without_number id s.connections) (Err Gone, s.connections) tt refl

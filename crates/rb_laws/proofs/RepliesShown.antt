@@ -12,7 +12,7 @@ use Rattle.rb_model.specs.declared.types.Expired.TheVariants as expiries
 use Rattle.rb_model.specs.declared.types.Told.{Told}
 use Rattle.rb_model.specs.Calls.{Outcome, Outcome as outcomes}
 use Rattle.rb_model.specs.State.{State, at_moment}
-use Rattle.rb_model.specs.Ending.{told_at, tell, tell_end, at_fresh_moment, forward_reply, expired_as, expire_connection, expire}
+use Rattle.rb_model.specs.Ending.{outcome_at_end, tell, tell_end, at_fresh_moment, forward_reply, expired_as, expire_connection, expire}
 use Rattle.rb_model.specs.Step.{Output, serve, with_reply, datagram, unsent_call, show_outcome, show_end, show_expired, step}
 use Rattle.rb_model.specs.Step.Event.{Unsent, Datagram, Forward, Expire}
 use Rattle.rb_model.specs.Step.Output.{UnsentIs}
@@ -52,7 +52,7 @@ module _ (s : State) where
 
       by_end : (r : Option Ended × Ledger) → length (show_end (tell_end message (at_fresh_moment now s) r)).1.reply ≤ bytes_out (Forward now from message) (show_end (tell_end message (at_fresh_moment now s) r)).0
       by_end (None, ledger) = omega arith
-      by_end (Some ended, ledger) = by_caller ended.forward.caller (told_at message ended) ledger
+      by_end (Some ended, ledger) = by_caller ended.forward.caller (outcome_at_end message ended) ledger
 
   none_held : (now : ℕ) (ledger : Ledger) → length (expire_connection (record (at_fresh_moment now s) { ledger = ledger })).1.reply ≤ 0
   unfolding expire_connection
@@ -77,4 +77,4 @@ module _ (s : State) where
 
       by_end : (r : Option Ended × Ledger) → length (show_expired (expired_as (tell_end [] (at_fresh_moment now s) r))).1.reply ≤ bytes_out (Expire now) (show_expired (expired_as (tell_end [] (at_fresh_moment now s) r))).0
       by_end (None, ledger) = by_lost (expire_connection (record (at_fresh_moment now s) { ledger = ledger })) (none_held now ledger)
-      by_end (Some ended, ledger) = by_caller ended.forward.caller (told_at [] ended) ledger
+      by_end (Some ended, ledger) = by_caller ended.forward.caller (outcome_at_end [] ended) ledger

@@ -18,10 +18,10 @@ use Rattle.rb_model.specs.declared.types.Expired.{Expired}
 use Rattle.rb_model.specs.declared.types.Expired.TheVariants as expiries
 use Rattle.rb_model.specs.Calls.{Outcome, Outcome as outcomes, message_of}
 use Rattle.rb_model.specs.State.{State, Connection, at_moment, greatest_number, opening}
-use Rattle.rb_model.specs.Connections.{Taking, taking_of, keep_reading, settle, change_first, is_live, live_connection, give, on_found, number_for, opening_as, opening_of, is_there, without_number, closing_of}
+use Rattle.rb_model.specs.Connections.{Taking, taking_of, keep_reading, settle, change_first, is_live, live_connection, give, on_found, number_for, opening_as, open_in_table, is_there, without_number, close_in_table}
 use Rattle.rb_model.specs.State.Phase.{Idle}
 use Rattle.rb_model.specs.Connections.Taking.{TakesNone, GoesOn, Ends}
-use Rattle.rb_model.specs.Ending.{told_at, tell, tell_end, at_fresh_moment, forward_reply, expire}
+use Rattle.rb_model.specs.Ending.{outcome_at_end, tell, tell_end, at_fresh_moment, forward_reply, expire}
 use Rattle.rb_model.specs.Step.{Event, Output, context_in, serve, serve_record, unless_refused, when_taken, bytes_to, bytes, pending, gave, is_too_much, open_connection, dropped_with, close_connection, with_reply, datagram, sent_call, output_or, show_taken, show_done, show_outcome, show_end, show_expired, step, after, IsReached}
 use Rattle.rb_model.specs.Step.Event.{Open, Bytes, Pending, Gave, Closed, NextLost, Datagram, Unsent, Sent, Forward as ForwardCame, Expire}
 use Rattle.rb_model.specs.Step.Output.{Opened, TooMuch, IsPending}
@@ -91,7 +91,7 @@ module _ (s : State) where
 
   told-few : (message : List ℕ) (u : State) (r : Option Ended × Ledger) → count u ≤ count s → count (tell_end message u r).1 ≤ count s
   told-few message u (None, ledger) few = few
-  told-few message u (Some ended, ledger) few = tell-few (record u { ledger = ledger }) ended.forward.caller (told_at message ended) few
+  told-few message u (Some ended, ledger) few = tell-few (record u { ledger = ledger }) ended.forward.caller (outcome_at_end message ended) few
 
   end-few : (r : Option Told × State) → count r.1 ≤ count s → count (show_end r).1 ≤ count s
   end-few (None, u) few = few
@@ -103,7 +103,7 @@ module _ (s : State) where
   expired-few (expiries.ConnectionClosed id, u) few = few
 
   expire-few : (now : ℕ) (r : Expired × State) → Expiry s (max s.clock now) (at_fresh_moment now s) r → count r.1 ≤ count s
-  expire-few now r (EntryEnds e found ledger left is) = rw is (tell-few (record (at_fresh_moment now s) { ledger = ledger }) e.forward.caller (told_at [] (end_of e)) (omega arith))
+  expire-few now r (EntryEnds e found ledger left is) = rw is (tell-few (record (at_fresh_moment now s) { ledger = ledger }) e.forward.caller (outcome_at_end [] (end_of e)) (omega arith))
   expire-few now r (ConnectionEnds none c found is) = rw is (let same = changed-length (is_live c.number) lose s.connections.all in omega (arith, same))
   expire-few now r (NothingDue none found is) = rw is (omega arith)
 
@@ -127,7 +127,7 @@ abbrev HasRoom : State → Type 0
 HasRoom s = count s ≤ s.setting.limits.conns
 
 opened-room : (s : State) (now : ℕ) (peer : Peer) → HasRoom s → count (step s (Open now peer)).1 ≤ s.setting.limits.conns
-unfolding step open_connection opening_of number_for
+unfolding step open_connection open_in_table number_for
 opened-room s now peer few = by_room (nat_lt (count s) s.setting.limits.conns) refl (nat_lt greatest_number s.connections.next)
   where
     by_room : (b : Bool) → nat_lt (count s) s.setting.limits.conns ≡ b → (spent : Bool)
@@ -143,7 +143,7 @@ within : (s : State) (n : ℕ) → HasRoom s → n ≤ count s → n ≤ s.setti
 within s n few less = omega (arith, few, less)
 
 step-few : (s : State) (event : Event) → HasRoom s → count (step s event).1 ≤ s.setting.limits.conns
-unfolding step bytes gave close_connection closing_of datagram sent_call forward_reply
+unfolding step bytes gave close_connection close_in_table datagram sent_call forward_reply
 step-few s (Open now peer) few = opened-room s now peer few
 step-few s (Bytes now id piece) few = within s _ few (bytes-few s now id piece (live_connection id s.connections.all))
 step-few s (Pending id) few = within s _ few (output-few s IsPending (pending s id) s (omega arith))

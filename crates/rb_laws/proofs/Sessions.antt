@@ -20,7 +20,7 @@ use Rattle.rb_model.specs.Step.{Event, Output, pending, pending_on, show_taken, 
 use Rattle.rb_model.specs.declared.types.Taken.{Taken}
 use Rattle.rb_model.specs.Step.Event.{Bytes, Gave}
 use Rattle.rb_model.specs.Step.Output.{Opened, Took, TookAndClosed, Done}
-use Rattle.rb_model.specs.Sessions.{Exchange, Session, at_event, piece_to, taken_by, gave_to, pending_bytes, given_by, empty_session, session_with, session_after, told_by, with_told, with_last_told, replies_to, marked_reply_in, IsFinal, is_answered, AwaitsLast, AreAnswered, IsFront}
+use Rattle.rb_model.specs.Sessions.{Exchange, Session, at_event, piece_to, taken_by, gave_to, pending_bytes, given_by, empty_session, session_with, session_after, outcome_by, with_outcome, with_last_outcome, replies_to, marked_reply_in, IsFinal, is_answered, AwaitsLast, AreAnswered, IsFront}
 use Rattle.rb_model.specs.Bounds.{count_in}
 use Rattle.rb_model.specs.Losses.{lose as timed_out, evict_early, evict}
 use Rattle.rb_laws.proofs.Cuts.{IsFeeding, find-changed, find-holds, number-is, reading-feeds, fed-no-list}
@@ -125,12 +125,12 @@ more-answered Silent calls call plain says answered =
 more-answered Forwarded calls call plain says answered = record { before = calls; last = call; whole = refl; answered = answered; forwarded = says }
 
 -- the last call is told how it ended
-told-last : (said : Outcome) (before : List Exchange) (last : Exchange) → with_last_told said (before ++ last ∷ []) ≡ before ++ record last { said = said } ∷ []
+told-last : (said : Outcome) (before : List Exchange) (last : Exchange) → with_last_outcome said (before ++ last ∷ []) ≡ before ++ record last { said = said } ∷ []
 told-last said [] last = refl
 told-last said (call ∷ []) last = refl
 told-last said (call ∷ next ∷ before) last = ap (λ (calls : List Exchange). call ∷ calls) (told-last said (next ∷ before) last)
 
-same-contents : (said : Outcome) (calls : List Exchange) → contents (with_last_told said calls) ≡ contents calls
+same-contents : (said : Outcome) (calls : List Exchange) → contents (with_last_outcome said calls) ≡ contents calls
 same-contents said [] = refl
 same-contents said (call ∷ []) = refl
 same-contents said (call ∷ next ∷ calls) = ap (λ (xs : List (List ℕ)). call.content ∷ xs) (same-contents said (next ∷ calls))
@@ -476,7 +476,7 @@ module _ (id : ℕ) (s : State) (t : Session) (h : Holds id s.connections t) whe
           subst (λ (j : ℕ). Holds id now (with_event (Gave at j n) Done)) (sym number)
           (subst (λ (xs : List ℕ). Holds id now (session_with s id [] xs t)) (sym (given-is c there_is at n)) (give-on c there_is at n now goes few same_is))
 
-  by_case : (event : Event) (output : Output) (now : Connections) → Goes now → Happening s event output now → told_by s id event ≡ None → Holds id now (with_event event output)
+  by_case : (event : Event) (output : Output) (now : Connections) → Goes now → Happening s event output now → outcome_by s id event ≡ None → Holds id now (with_event event output)
   unfolding without_number
   by_case event output now goes (Stays q same) none =
       quiet event output now goes (ap (λ (n : ℕ). take n (piece_to id event)) q.no_count) (q.none_given id)
@@ -516,23 +516,23 @@ module _ (id : ℕ) (s : State) (t : Session) (h : Holds id s.connections t) whe
       other : (b : Bool) → eqb k id ≡ b → eqb k id ≡ false
       other false e = e
       other true e =
-          let clash : ◌≡◌ {A = Option Outcome} None (Some said) = sym none ∙ ap (λ (j : ℕ). told_by s j event) (sym (eqb-true k id e)) ∙ told in
+          let clash : ◌≡◌ {A = Option Outcome} None (Some said) = sym none ∙ ap (λ (j : ℕ). outcome_by s j event) (sym (eqb-true k id e)) ∙ told in
           absurd cc
 
   -- the call that was forwarded for it ends
   ended-holds : (event : Event) (output : Output) (said : Outcome) (now : Connections) → Goes now → Await s → TellsTo s event id said now
-      → Holds id now (record (with_event event output) { calls = with_last_told said (with_event event output).calls })
+      → Holds id now (record (with_event event output) { calls = with_last_outcome said (with_event event output).calls })
   ended-holds event output said now goes waits tells =
       let none = end-passes-none event tells.ends id in
       let w : IsWaiting id s.connections.all = entry-waits s id waits tells.has in
       let c : Connection = w.connection in
       let fits : Fits Awaiting t = subst (λ (p : Phase). Fits p t) w.phase (fits-live c w.there) in
       let a : AwaitsLast t.calls = fits.answered in
-      let calls : with_last_told said t.calls ≡ a.before ++ record a.last { said = said } ∷ [] = ap (with_last_told said) a.whole ∙ told-last said a.before a.last in
-      let new : Session = record t { calls = with_last_told said t.calls } in
+      let calls : with_last_outcome said t.calls ≡ a.before ++ record a.last { said = said } ∷ [] = ap (with_last_outcome said) a.whole ∙ told-last said a.before a.last in
+      let new : Session = record t { calls = with_last_outcome said t.calls } in
       let before : t.given ≡ replies_to a.before =
       sym (append-nil t.given) ∙ fits.rest ∙ ap replies_to a.whole ∙ one-more-reply a.before a.last ∙ ap (λ (o : Outcome). replies_to a.before ++ marked_reply_in o) a.forwarded ∙ append-nil (replies_to a.before) in
-      let rest : t.given ++ marked_reply_in said ≡ replies_to (with_last_told said t.calls) =
+      let rest : t.given ++ marked_reply_in said ≡ replies_to (with_last_outcome said t.calls) =
       ap (λ (xs : List ℕ). xs ++ marked_reply_in said) before ∙ sym (one-more-reply a.before (record a.last { said = said })) ∙ ap replies_to (sym calls) in
       let plain : is_no_call said ≡ false = final-call said tells.final in
       let under : id < s.connections.next = below c w.there in
@@ -540,7 +540,7 @@ module _ (id : ℕ) (s : State) (t : Session) (h : Holds id s.connections t) whe
       ap (λ (xs : List ℕ). session_with (at_event event s) id xs (given_by s id event output) t) (no-piece event output none.0)
       ∙ ap (λ (xs : List ℕ). session_with (at_event event s) id [] xs t) (none-gave s id event output none.1)
       ∙ none-passed (at_event event s) id t h.none in
-      subst (λ (x : Session). Holds id now (record x { calls = with_last_told said x.calls })) (sym same) (record {
+      subst (λ (x : Session). Holds id now (record x { calls = with_last_outcome said x.calls })) (sym same) (record {
         sound = goes.sound;
         none = h.none;
         records = λ are. subst (λ (xs : List (List ℕ)). Records t.taken xs t.unfinished) (sym (same-contents said t.calls)) (h.records are);
@@ -553,7 +553,7 @@ module _ (id : ℕ) (s : State) (t : Session) (h : Holds id s.connections t) whe
       })
 
   pub step-holds : (event : Event) → Await s → Holds id (step s event).1.connections (session_after s id event t)
-  step-holds event waits = by_told (told_by s id event) refl
+  step-holds event waits = by_told (outcome_by s id event) refl
     where
       goes : Goes (step s event).1.connections
       goes =
@@ -562,8 +562,8 @@ module _ (id : ℕ) (s : State) (t : Session) (h : Holds id s.connections t) whe
           record { sound = happening-sound s event (step s event).0 (step s event).1.connections h.sound what; later = grows (number_given (step s event).0) s.connections.next (step s event).1.connections.next next }
 
       with_all : Option Outcome → Session
-      with_all o = record (with_event event (step s event).0) { calls = with_told o (with_event event (step s event).0).calls }
+      with_all o = record (with_event event (step s event).0) { calls = with_outcome o (with_event event (step s event).0).calls }
 
-      by_told : (o : Option Outcome) → told_by s id event ≡ o → Holds id (step s event).1.connections (session_after s id event t)
+      by_told : (o : Option Outcome) → outcome_by s id event ≡ o → Holds id (step s event).1.connections (session_after s id event t)
       by_told None e = subst (λ (o : Option Outcome). Holds id (step s event).1.connections (with_all o)) (sym e) (by_case event (step s event).0 (step s event).1.connections goes (happening s event) e)
       by_told (Some said) e = subst (λ (o : Option Outcome). Holds id (step s event).1.connections (with_all o)) (sym e) (ended-holds event (step s event).0 said (step s event).1.connections goes waits (tells s event id said e))

@@ -18,9 +18,9 @@ use Rattle.rb_model.specs.declared.types.Expired.TheVariants as expiries
 use Rattle.rb_model.specs.Calls.{Outcome, Outcome as outcomes, message_of}
 use Rattle.rb_model.specs.State.{Phase, State, Connection, at_moment}
 use Rattle.rb_model.specs.State.Phase.{Idle, Reading, Owing, Awaiting, Lost}
-use Rattle.rb_model.specs.Connections.{settle, change_first, is_live, with_given, give, on_found, number_for, opening_as, opening_of, is_there, without_number, closing_of, phase_after, phase_when_given, pending_in, live_connection}
+use Rattle.rb_model.specs.Connections.{settle, change_first, is_live, with_given, give, on_found, number_for, opening_as, open_in_table, is_there, without_number, close_in_table, phase_after, phase_when_given, pending_in, live_connection}
 use Rattle.rb_model.specs.Losses.{stamp_in, began_before, removals_in_the_way, evict_early, lose}
-use Rattle.rb_model.specs.Ending.{told_at, tell, tell_end, at_fresh_moment, forward_reply, expire}
+use Rattle.rb_model.specs.Ending.{outcome_at_end, tell, tell_end, at_fresh_moment, forward_reply, expire}
 use Rattle.rb_model.specs.Step.{Output, context_in, serve, serve_record, unless_refused, pending, gave, is_too_much, open_connection, dropped_with, close_connection, with_reply, datagram, sent_call, output_or, show_done, show_outcome, show_end, show_expired, step}
 use Rattle.rb_model.specs.Step.Event.{Open, Pending, Gave, Closed, Datagram, Sent, Forward as ForwardCame, Expire}
 use Rattle.rb_model.specs.Step.Output.{Opened, TooMuch, IsPending}
@@ -171,7 +171,7 @@ module _ (s : State) where
 
   told-waits : (message : List ℕ) (u : State) (r : Option Ended × Ledger) → waiting u ≤ waiting s → waiting (tell_end message u r).1 ≤ waiting s
   told-waits message u (None, ledger) few = few
-  told-waits message u (Some ended, ledger) few = tell-waits (record u { ledger = ledger }) ended.forward.caller (told_at message ended) few
+  told-waits message u (Some ended, ledger) few = tell-waits (record u { ledger = ledger }) ended.forward.caller (outcome_at_end message ended) few
 
   end-waits : (r : Option Told × State) → waiting r.1 ≤ waiting s → waiting (show_end r).1 ≤ waiting s
   end-waits (None, u) few = few
@@ -186,7 +186,7 @@ module _ (s : State) where
   lost-few c = omega arith
 
   expire-waits : (now : ℕ) (r : Expired × State) → Expiry s (max s.clock now) (at_fresh_moment now s) r → waiting r.1 ≤ waiting s
-  expire-waits now r (EntryEnds e found ledger left is) = rw is (tell-waits (record (at_fresh_moment now s) { ledger = ledger }) e.forward.caller (told_at [] (end_of e)) (omega arith))
+  expire-waits now r (EntryEnds e found ledger left is) = rw is (tell-waits (record (at_fresh_moment now s) { ledger = ledger }) e.forward.caller (outcome_at_end [] (end_of e)) (omega arith))
   expire-waits now r (ConnectionEnds none c found is) = rw is (changed-waiting (is_live c.number) lose lost-few s.connections.all)
   expire-waits now r (NothingDue none found is) = rw is (omega arith)
 
@@ -205,7 +205,7 @@ module _ (s : State) where
   either false x y left right = right
 
   pub open-waits : (now : ℕ) (peer : Peer) → waiting (step s (Open now peer)).1 ≤ waiting s
-  unfolding step open_connection opening_of
+  unfolding step open_connection open_in_table
   open-waits now peer = opened-waits now peer (number_for s.setting.limits.conns s.connections)
 
   pub give-waits : (now id n : ℕ) → waiting (step s (Gave now id n)).1 ≤ waiting s
@@ -217,7 +217,7 @@ module _ (s : State) where
   pending-waits id = output-waits IsPending (pending s id) s (omega arith)
 
   pub close-waits : (id : ℕ) → waiting (step s (Closed id)).1 ≤ waiting s
-  unfolding step close_connection closing_of
+  unfolding step close_connection close_in_table
   close-waits id = closed-waits id (is_there id s.connections)
 
   pub datagram-waits : (now : ℕ) (peer : Peer) (content : List ℕ) → waiting (step s (Datagram now peer content)).1 ≤ waiting s

@@ -1,7 +1,7 @@
 -- Bounds, by the limits: of the bytes that are held, and of the steps that an event takes.
 use Rattle.std.specs.Prelude.{ℕ, ◌+◌, ◌*◌, List, [], ◌∷◌, length, Some}
 use Rattle.rb_stats.specs.Stats.{most_keys}
-use Rattle.rb_forward.specs.StandsFor.{longest_call}
+use Rattle.rb_forward.specs.StandsFor.{longest_forwarded_call}
 use Rattle.rb_model.specs.declared.types.Limits.{Limits}
 use Rattle.rb_model.specs.Calls.{longest_reply}
 use Rattle.rb_model.specs.Connections.{longest_fragment}
@@ -13,8 +13,8 @@ use Rattle.rb_model.specs.State.{State}
 -- ---- held bytes
 
 -- the longest call that is served: a head of 840 bytes and arguments of 8,816
-abbrev pub greatest_call : ℕ
-greatest_call = 9656
+abbrev pub longest_served_call : ℕ
+longest_served_call = 9656
 
 -- the longest address text of a row
 abbrev pub longest_address : ℕ
@@ -22,7 +22,7 @@ longest_address = 128
 
 abbrev pub bytes_bound : Limits → ℕ
 bytes_bound limits =
-    limits.conns * (128 + greatest_call + longest_fragment) + limits.rows * (32 + longest_address) + limits.forwards * (128 + longest_call)
+    limits.conns * (128 + longest_served_call + longest_fragment) + limits.rows * (32 + longest_address) + limits.forwards * (128 + longest_forwarded_call)
     + most_keys * 48 + longest_reply
 
 -- ---- steps
@@ -55,7 +55,7 @@ bytes_out event output = bytes_lent output
 -- the most steps of an event at these limits, where it takes so many bytes, and lends or reports as given so many
 abbrev pub steps_bound : Limits → ℕ → ℕ → ℕ
 steps_bound limits taken given =
-    8 * taken + 8 * given + 64 * (limits.conns + limits.rows + most_keys + limits.forwards) + 16 * greatest_call
+    8 * taken + 8 * given + 64 * (limits.conns + limits.rows + most_keys + limits.forwards) + 16 * longest_served_call
 
 -- the same of an event in a state
 abbrev pub bound_at : State → Event → ℕ

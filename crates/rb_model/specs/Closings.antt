@@ -8,7 +8,7 @@ use Rattle.rb_model.specs.declared.message.Message.TheVariants as says
 use Rattle.rb_model.specs.Calls.{message_of}
 use Rattle.rb_model.specs.State.{Connection, State, at_moment}
 use Rattle.rb_model.specs.Connections.{fed_in, is_there}
-use Rattle.rb_model.specs.Losses.{is_due, stamp_in, retained_removals, asks_room}
+use Rattle.rb_model.specs.Losses.{is_due, stamp_in, needed_removals, asks_room}
 use Rattle.rb_model.specs.Step.{context_in, Event, step, IsReached}
 use Rattle.rb_model.specs.Step.Event.{Bytes, Closed, Datagram, Expire}
 use Rattle.rb_model.specs.Laws.{IsLive, IsLost}
@@ -50,18 +50,18 @@ Brings s (Datagram at peer bytes) now caller content = (now ≡ at) × (caller �
 Brings s (Bytes at id piece) now caller content = (now ≡ at) × BringsEnd s id piece caller content
 Brings s other now caller content = ⊥
 
--- The event brings a SET that is accepted, the live and the retained rows reach the limit, and the connection is given a list
--- that began before each change that removed a retained row.
+-- The event brings a SET that is accepted, the live rows and those that lists need reach the limit, and the connection is
+-- given a list that began before each change that removed a row which some list needs.
 pub record EndsForRoom (s : State) (c : Connection) (event : Event) : Type 0 where
   pub now : ℕ
   pub caller : Caller
   pub content : List ℕ
   pub brings : Brings s event now caller content
   pub asks : asks_room (context_in (at_moment now s) caller) (message_of content) s.ledger ≡ true
-  pub full : s.setting.limits.rows ≤ length (rows_in s.ledger) + length (retained_removals s.connections.all s.ledger)
+  pub full : s.setting.limits.rows ≤ length (rows_in s.ledger) + length (needed_removals s.connections.all s.ledger)
   pub stamp : ℕ
   pub lists : stamp_in c.phase ≡ Some stamp
-  pub before : All (λ change. stamp < change) (retained_removals s.connections.all s.ledger)
+  pub before : All (λ change. stamp < change) (needed_removals s.connections.all s.ledger)
 
 -- A live connection becomes Lost exactly by the end of a record that is no call, at its deadline, or for the room of a row,
 -- and is gone exactly by its close.

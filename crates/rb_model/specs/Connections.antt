@@ -167,12 +167,12 @@ opening_as peer clock c (Err fault) = (Err fault, c)
 opening_as peer clock c (Ok number) = (Ok number, with_new peer clock c)
 
 -- a connection is opened where there may be one more
-unfoldable pub opening_of : ℕ → Peer → ℕ → Connections → Result ℕ CoreFault × Connections
-opening_of conns peer clock c = opening_as peer clock c (number_for conns c)
+unfoldable pub open_in_table : ℕ → Peer → ℕ → Connections → Result ℕ CoreFault × Connections
+open_in_table conns peer clock c = opening_as peer clock c (number_for conns c)
 
 -- The connections are in the order of their numbers, so the first is that of least number.
-unfoldable pub first_lost : Connections → Option ℕ
-first_lost c = option_map (λ (x : Connection). x.number) (find (λ (x : Connection). is_lost x.phase) c.all)
+unfoldable pub next_lost_in_table : Connections → Option ℕ
+next_lost_in_table c = option_map (λ (x : Connection). x.number) (find (λ (x : Connection). is_lost x.phase) c.all)
 
 unfoldable pub is_there : ℕ → Connections → Bool
 is_there id c = list_any (has_number id) c.all
@@ -181,5 +181,5 @@ unfoldable pub without_number : ℕ → Connections → Connections
 without_number id c = record c { all = filter (λ (x : Connection). not (x.number == id)) c.all }
 
 -- the connection of the number, live or Lost, is removed
-unfoldable pub closing_of : ℕ → Connections → Result (Unit {0}) CoreFault × Connections
-closing_of id c = if is_there id c then (Ok tt, without_number id c) else (Err Gone, c)
+unfoldable pub close_in_table : ℕ → Connections → Result (Unit {0}) CoreFault × Connections
+close_in_table id c = if is_there id c then (Ok tt, without_number id c) else (Err Gone, c)

@@ -9,7 +9,7 @@ use Rattle.rb_model.specs.declared.types.Expired.TheVariants as expiries
 use Rattle.rb_model.specs.State.{State}
 use Rattle.rb_model.specs.Connections.{changed_at}
 use Rattle.rb_model.specs.Losses.{is_due, lose}
-use Rattle.rb_model.specs.Ending.{told_failed, tell, at_fresh_moment, expire}
+use Rattle.rb_model.specs.Ending.{outcome_of_failure, tell, at_fresh_moment, expire}
 use Rattle.rb_model.specs.Step.{step, after, IsReached}
 use Rattle.rb_model.specs.Step.Event.{Expire}
 use Rattle.rb_model.specs.Step.Output.{Nothing}
@@ -33,7 +33,7 @@ pub record EntryEnded (now : ℕ) (s : State) (told : Told) (left : State) : Typ
   pub entry : Entry
   pub ends : IsFirst (EntryIsDue (clock_at now s)) s.ledger.forwards.all entry left.ledger.forwards.all
   pub least : All (λ (e : Entry). EntryIsDue (clock_at now s) e → entry.number ≤ e.number) s.ledger.forwards.all
-  pub tells : told ≡ (tell entry.forward.caller (told_failed entry.forward SystemErr) s).0
+  pub tells : told ≡ (tell entry.forward.caller (outcome_of_failure entry.forward SystemErr) s).0
 
 -- No entry is due, and the due connection of least number is Lost. Nothing else has changed but the clock and the last reply.
 pub record ConnectionEnded (now : ℕ) (s : State) (id : ℕ) (left : State) : Type 0 where

@@ -35,19 +35,19 @@ refused_by xid answers.Forwarded = Silent
 refused_by xid answers.Silent = Silent
 
 -- what the caller is told where its forwarded call failed with this status
-abbrev pub told_failed : Forward → ReplyStatus → Outcome
-told_failed forward status = refused_by forward.xid (refusal forward.kind status)
+abbrev pub outcome_of_failure : Forward → ReplyStatus → Outcome
+outcome_of_failure forward status = refused_by forward.xid (refusal forward.kind status)
 
 -- what the caller is told where its forwarded call ended with this outcome; `message` is the datagram of the target,
 -- whose last bytes are the results
-abbrev pub told_of : Forward → List ℕ → target.Outcome → Outcome
-told_of forward message (Passed place) = Reply (success forward.xid (forwarded_bytes forward (drop place message))) None
-told_of forward message (Refused status) = told_failed forward status
-told_of forward message Failed = told_failed forward replies.SystemErr
-told_of forward message Dropped = Silent
+abbrev pub outcome_of_end : Forward → List ℕ → target.Outcome → Outcome
+outcome_of_end forward message (Passed place) = Reply (success forward.xid (forwarded_bytes forward (drop place message))) None
+outcome_of_end forward message (Refused status) = outcome_of_failure forward status
+outcome_of_end forward message Failed = outcome_of_failure forward replies.SystemErr
+outcome_of_end forward message Dropped = Silent
 
-abbrev pub told_at : List ℕ → entry.Ended → Outcome
-told_at message ended = told_of ended.forward message ended.outcome
+abbrev pub outcome_at_end : List ℕ → entry.Ended → Outcome
+outcome_at_end message ended = outcome_of_end ended.forward message ended.outcome
 
 abbrev pub told_over_udp : Peer → Outcome → Told
 told_over_udp peer (Reply reply stamp) = Datagram peer
@@ -67,7 +67,7 @@ tell (Udp peer) said s = (told_over_udp peer said, record s { reply = reply_in s
 abbrev pub tell_end : List ℕ → State → Option entry.Ended × Ledger → Option Told × State
 tell_end message s (None, ledger) = (None, record s { ledger = ledger })
 tell_end message s (Some ended, ledger) =
-    let after : Told × State = tell ended.forward.caller (told_at message ended) (record s { ledger = ledger }) in
+    let after : Told × State = tell ended.forward.caller (outcome_at_end message ended) (record s { ledger = ledger }) in
     (Some after.0, after.1)
 
 -- the state at a moment, with no last reply over UDP
@@ -79,15 +79,15 @@ unfoldable pub forward_reply : State → ℕ → Peer → List ℕ → Option To
 forward_reply s now from message =
     tell_end message (at_fresh_moment now s) (target_replied s.setting.first_xid (max s.clock now) from message s.ledger)
 
-abbrev pub closed_as : Option ℕ → Expired
-closed_as None = Nothing
-closed_as (Some id) = ConnectionClosed id
+abbrev pub lost_as : Option ℕ → Expired
+lost_as None = Nothing
+lost_as (Some id) = ConnectionClosed id
 
 -- The due connection of least number becomes Lost, if there is one.
 unfoldable pub expire_connection : State → Expired × State
 expire_connection s =
     let after : Option ℕ × Connections = expire_first s.clock s.connections in
-    (closed_as after.0, record s { connections = after.1 })
+    (lost_as after.0, record s { connections = after.1 })
 
 abbrev pub expired_as : Option Told × State → Expired × State
 expired_as (None, s) = expire_connection s

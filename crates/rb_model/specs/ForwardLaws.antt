@@ -19,7 +19,7 @@ use Rattle.rb_model.specs.Calls.Outcome.{NoCall, Reply, Forwarded, Silent}
 use Rattle.rb_model.specs.State.{Connection, State, opening}
 use Rattle.rb_model.specs.Laws.{is_awaiting}
 use Rattle.rb_model.specs.Connections.{settle, live_connection, changed_at}
-use Rattle.rb_model.specs.Ending.{told_at, told_over_udp, at_fresh_moment, forward_reply, expire}
+use Rattle.rb_model.specs.Ending.{outcome_at_end, told_over_udp, at_fresh_moment, forward_reply, expire}
 use Rattle.rb_model.specs.Step.{Event, Output, Output as outputs, step, after, IsReached}
 use Rattle.rb_model.specs.Step.Event.{Forward, Expire}
 use Rattle.rb_model.specs.Step.Output.{RepliedTo}
@@ -61,7 +61,7 @@ pub record EndsNone (Is : Entry → Type 0) (s : State) (now : ℕ) (after : Sta
 
 -- what the caller of an entry is told by the datagram of its target
 abbrev pub said_by : List ℕ → Entry → Outcome
-said_by message e = told_at message (ended_by (outcome_of message) e)
+said_by message e = outcome_at_end message (ended_by (outcome_of message) e)
 
 abbrev pub EndsByReply : State → ℕ → Peer → List ℕ → Option Told → State → Type 0
 EndsByReply s now from message None after =
@@ -77,7 +77,7 @@ RepliesEndTheirOwn =
     → EndsByReply s now from message (forward_reply s now from message).0 (forward_reply s now from message).1
 
 abbrev pub said_at_deadline : Entry → Outcome
-said_at_deadline e = told_at [] (ended_by Failed e)
+said_at_deadline e = outcome_at_end [] (ended_by Failed e)
 
 abbrev pub EndsByDeadline : State → ℕ → Expired → State → Type 0
 EndsByDeadline s now Nothing after = EndsNone (EntryIsDue (clock_at now s)) s now after

@@ -12,7 +12,7 @@ use Rattle.rb_proto.specs.Ledger.{rows_in}
 use Rattle.rb_model.specs.declared.types.CoreFault.{CoreFault}
 use Rattle.rb_model.specs.declared.types.Taken.{Taken}
 use Rattle.rb_model.specs.State.{Owed, Phase, Connection, State, are_good, at_moment}
-use Rattle.rb_model.specs.Losses.{retained_removals}
+use Rattle.rb_model.specs.Losses.{needed_removals}
 use Rattle.rb_model.specs.Step.{serve, bytes, pending, gave, next_lost, Event, Output, step, run, after, IsReached}
 use Rattle.rb_model.specs.Step.Output.{Opened, Refused, TooMuch}
 use Rattle.rb_model.specs.Connections.{owed_of, fed_in, since_when_fed, is_lost, live_connection}
@@ -268,10 +268,10 @@ pub record IsWellKept (s : State) : Type 0 where
   -- No two own rows are of one program, version and netid, nor are two live ones.
   pub own_distinct : are_distinct s.ledger.own ≡ true
   pub distinct : are_distinct (rows_in s.ledger) ≡ true
-  -- At good limits no more rows are live than there may be, nor live or retained.
+  -- At good limits no more rows are live than there may be, nor live or needed by a list.
   pub fit : are_good s.setting.limits ≡ true → length (rows_in s.ledger) ≤ s.setting.limits.rows
-  pub kept_fit : are_good s.setting.limits ≡ true
-      → length (rows_in s.ledger) + length (retained_removals s.connections.all s.ledger) ≤ s.setting.limits.rows
+  pub needed_fit : are_good s.setting.limits ≡ true
+      → length (rows_in s.ledger) + length (needed_removals s.connections.all s.ledger) ≤ s.setting.limits.rows
 
 abbrev pub LedgersAreWellKept : Type 0
 LedgersAreWellKept = (s : State) → IsReached s → IsWellKept s

@@ -1,5 +1,5 @@
--- When a connection becomes Lost: at its deadline, or where the rows that are retained for its list are in the way. Moments are
--- in milliseconds.
+-- When a connection becomes Lost: at its deadline, or where the rows that its list needs are in the way. Moments are in
+-- milliseconds.
 use Rattle.std.specs.Prelude.{ℕ, ◌+◌, nat_le, nat_lt, Bool, false, not, ◌&&◌, if◌then◌else◌, List, [], ◌∷◌, length, map, find, filter, filter_map, Option, Some, None}
 use Rattle.std.specs.Option.{option_map}
 use Rattle.std.specs.List.{list_any, list_all}
@@ -69,7 +69,7 @@ with_lost (Some id) c = changed_at id lose c
 unfoldable pub expire_first : ℕ → Connections → Option ℕ × Connections
 expire_first clock c = (first_due clock c, with_lost (first_due clock c) c)
 
--- ---- retained rows
+-- ---- removed rows that lists need
 
 -- the stamp of the unfinished list on a connection: how many changes were accepted before it began
 abbrev pub stamp_in : Phase → Option ℕ
@@ -82,17 +82,17 @@ stamp_in Lost = None
 unfoldable pub list_stamps : List Connection → List ℕ
 list_stamps all = filter_map (λ (c : Connection). stamp_in c.phase) all
 
--- some of these lists began before the change
-abbrev pub is_retained_for : List ℕ → ℕ → Bool
-is_retained_for stamps change = list_any (λ n. nat_lt n change) stamps
+-- some of these lists began before the change, and may show the rows that it removed
+abbrev pub is_needed_for : List ℕ → ℕ → Bool
+is_needed_for stamps change = list_any (λ n. nat_lt n change) stamps
 
 -- the changes that removed rows, one for each row that was removed
 abbrev pub removals_by : Ledger → List ℕ
 removals_by l = filter_map (λ (slot : Slot). slot.removed) (all_slots l.own l.changes)
 
--- A removed row is retained where some unfinished list began before the change that removed it.
-unfoldable pub retained_removals : List Connection → Ledger → List ℕ
-retained_removals all l = filter (is_retained_for (list_stamps all)) (removals_by l)
+-- the changes that removed rows which some unfinished list needs: it began before them
+unfoldable pub needed_removals : List Connection → Ledger → List ℕ
+needed_removals all l = filter (is_needed_for (list_stamps all)) (removals_by l)
 
 -- ---- room for a row
 
@@ -103,15 +103,15 @@ asks_room context says.NoCall l = false
 asks_room context (says.Refused head) l = false
 asks_room context (says.Garbage head) l = false
 
--- the live and the retained rows reach the limit
+-- the live rows and those that lists need reach the limit
 abbrev pub is_crowded : ℕ → List Connection → Ledger → Bool
-is_crowded limit all l = not (nat_lt (length (rows_in l) + length (retained_removals all l)) limit)
+is_crowded limit all l = not (nat_lt (length (rows_in l) + length (needed_removals all l)) limit)
 
--- where a message wants room for a row and there is none, the changes that removed the retained rows, of which one
--- has to go
+-- where a message wants room for a row and there is none, the changes that removed the rows which lists need, of
+-- which one has to go
 unfoldable pub removals_in_the_way : Context → Message → List Connection → Ledger → List ℕ
 removals_in_the_way context message all l =
-    if asks_room context message l && is_crowded context.limit all l then retained_removals all l else []
+    if asks_room context message l && is_crowded context.limit all l then needed_removals all l else []
 
 -- a list that began before the earliest of these changes, if there is one
 abbrev pub began_before : List ℕ → Option ℕ → Bool
@@ -126,7 +126,7 @@ abbrev pub evict : List ℕ → Connections → Connections
 evict changes c = record c { all = map (evict_early changes) c.all }
 
 -- Before a message is answered that wants room, the connections become Lost whose lists began before the earliest change
--- that removed a retained row, where the live and the retained rows reach the limit.
+-- that removed a row which some list needs, where the live rows and those that lists need reach the limit.
 abbrev pub with_room : Context → Message → State → State
 with_room context message s =
     record s { connections = evict (removals_in_the_way context message s.connections.all s.ledger) s.connections }

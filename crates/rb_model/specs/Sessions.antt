@@ -19,7 +19,7 @@ use Rattle.rb_model.specs.Bounds.{count_in}
 use Rattle.rb_model.specs.State.{Connection, State, opening, at_moment}
 use Rattle.rb_model.specs.Step.Output.{Done}
 use Rattle.rb_model.specs.Connections.{live_connection}
-use Rattle.rb_model.specs.Ending.{told_at}
+use Rattle.rb_model.specs.Ending.{outcome_at_end}
 use Rattle.rb_model.specs.Calls.Outcome.{NoCall, Reply, Forwarded, Silent}
 use Rattle.rb_model.specs.Laws.{IsLive, owed_in, is_awaiting}
 
@@ -86,26 +86,26 @@ left_behind bytes None = bytes
 left_behind bytes (Some n) = []
 
 -- what a connection is told where a forwarded call ended, if that was one of its own
-abbrev pub told_ended : ℕ → List ℕ → Option Ended → Option Outcome
-told_ended id message None = None
-told_ended id message (Some ended) = if is_connection id ended.forward.caller then Some (told_at message ended) else None
+abbrev pub outcome_of_ended : ℕ → List ℕ → Option Ended → Option Outcome
+outcome_of_ended id message None = None
+outcome_of_ended id message (Some ended) = if is_connection id ended.forward.caller then Some (outcome_at_end message ended) else None
 
 -- what a connection is told by an event at which a forwarded call ends
-abbrev pub told_by : State → ℕ → Event → Option Outcome
-told_by s id (Forward now from message) =
-    told_ended id message (target_replied s.setting.first_xid (max s.clock now) from message s.ledger).0
-told_by s id (Expire now) = told_ended id [] (fell_due (max s.clock now) s.ledger).0
-told_by s id other = None
+abbrev pub outcome_by : State → ℕ → Event → Option Outcome
+outcome_by s id (Forward now from message) =
+    outcome_of_ended id message (target_replied s.setting.first_xid (max s.clock now) from message s.ledger).0
+outcome_by s id (Expire now) = outcome_of_ended id [] (fell_due (max s.clock now) s.ledger).0
+outcome_by s id other = None
 
 -- the calls, with this outcome for the last one
-abbrev pub with_last_told : Outcome → List Exchange → List Exchange
-with_last_told said [] = []
-with_last_told said (call ∷ []) = record call { said = said } ∷ []
-with_last_told said (call ∷ next ∷ calls) = call ∷ with_last_told said (next ∷ calls)
+abbrev pub with_last_outcome : Outcome → List Exchange → List Exchange
+with_last_outcome said [] = []
+with_last_outcome said (call ∷ []) = record call { said = said } ∷ []
+with_last_outcome said (call ∷ next ∷ calls) = call ∷ with_last_outcome said (next ∷ calls)
 
-abbrev pub with_told : Option Outcome → List Exchange → List Exchange
-with_told None calls = calls
-with_told (Some said) calls = with_last_told said calls
+abbrev pub with_outcome : Option Outcome → List Exchange → List Exchange
+with_outcome None calls = calls
+with_outcome (Some said) calls = with_last_outcome said calls
 
 -- ---- whole runs
 
@@ -125,7 +125,7 @@ abbrev pub session_after : State → ℕ → Event → Session → Session
 session_after s id event t =
     let output : Output = (step s event).0 in
     let after : Session = session_with (at_event event s) id (taken_by id event output) (given_by s id event output) t in
-    record after { calls = with_told (told_by s id event) after.calls }
+    record after { calls = with_outcome (outcome_by s id event) after.calls }
 
 abbrev pub session_from : State → ℕ → Session → List Event → Session
 session_from s id t [] = t

@@ -20,7 +20,7 @@ use Rattle.rb_model.specs.declared.types.Limits.{Limits}
 use Rattle.rb_model.specs.State.{Connection, Connections, State, opening, at_moment}
 use Rattle.rb_model.specs.Calls.{message_of, Outcome, Outcome as outcomes, is_no_call, reply_in, outcome}
 use Rattle.rb_model.specs.Losses.{with_room}
-use Rattle.rb_model.specs.Connections.{Taking, taking_of, keep_reading, settle, pending_in, give, live_connection, on_live, opening_of, first_lost, closing_of}
+use Rattle.rb_model.specs.Connections.{Taking, taking_of, keep_reading, settle, pending_in, give, live_connection, on_live, open_in_table, next_lost_in_table, close_in_table}
 use Rattle.rb_model.specs.Connections.Taking.{TakesNone, GoesOn, Ends}
 pub use Rattle.rb_model.specs.declared.types.Taken.{Taken}
 pub use Rattle.rb_model.specs.Connections.{on_connection}
@@ -111,7 +111,7 @@ is_too_much n (Ok bytes) = nat_lt (length bytes) n
 -- ---- connections that come and go
 
 unfoldable pub open_connection : State → ℕ → Peer → Result ℕ CoreFault × State
-open_connection s now peer = unless_refused now s (opening_of s.setting.limits.conns peer (max s.clock now) s.connections)
+open_connection s now peer = unless_refused now s (open_in_table s.setting.limits.conns peer (max s.clock now) s.connections)
 
 -- where a connection is closed, the call that was forwarded for it ends
 abbrev pub dropped_with : State → ℕ → Result (Unit {0}) CoreFault × Connections → Result (Unit {0}) CoreFault × State
@@ -121,11 +121,11 @@ dropped_with s id (Ok u, connections) =
 
 -- closing has no moment, and leaves the clock
 unfoldable pub close_connection : State → ℕ → Result (Unit {0}) CoreFault × State
-close_connection s id = dropped_with s id (closing_of id s.connections)
+close_connection s id = dropped_with s id (close_in_table id s.connections)
 
 -- the Lost connection of least number
 unfoldable pub next_lost : State → Option ℕ
-next_lost s = first_lost s.connections
+next_lost s = next_lost_in_table s.connections
 
 -- ---- datagrams
 

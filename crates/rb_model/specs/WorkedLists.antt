@@ -75,9 +75,9 @@ FullTableRefuses =
     run (fresh_with 8) (open_event ∷ set A ∷ set B ∷ dump 1 ∷ set C ∷ NextLost ∷ [])
     ≡ Opened 1 ∷ was_true ∷ was_true ∷ Took 44 ∷ was_false ∷ LostIs None ∷ []
 
--- a row that came and went while a list is given is retained for it too
-abbrev pub RowsThatCameAndWentAreKept : Type 0
-RowsThatCameAndWentAreKept =
+-- a row that came and went while a list is given is needed by it too
+abbrev pub RowsThatCameAndWentAreNeeded : Type 0
+RowsThatCameAndWentAreNeeded =
     run (fresh_with 8) (open_event ∷ set A ∷ dump 1 ∷ set B ∷ NextLost ∷ unset B ∷ NextLost ∷ set B ∷ NextLost ∷ [])
     ≡ Opened 1 ∷ was_true ∷ Took 44 ∷ was_true ∷ LostIs None ∷ was_true ∷ LostIs None ∷ was_true ∷ LostIs (Some 1) ∷ []
 

@@ -2,7 +2,7 @@
 ghost use Rattle.rb_model.specs.WorkedConnections.{NoCallCloses, OtherRpcVersionOnTcp, SingleByteFragmentsInOnePiece, SingleByteFragmentsByteByByte, SingleByteFragmentsInSevens, BytesBehindArguments, OneRecordAtATime, OneRecordAtATimePasses, NoCallPasses, GivenInParts, TooMuchIsRefused, GoodLimits, NumbersDoNotRecur};
 ghost use Rattle.rb_model.specs.WorkedForwards.{ForwardWithoutRow, RefusedCallsAreCounted, ForwardUntilDeadline, IndirectPasses, CallitPasses, TargetRefuses, DeniedIsSystemErr, CallitIsSilent, GreatestResults, NoPlace, GreatestArguments, SilentOnTcp, ForwardPassesOnTcp, ForwardOnTcpIsWhole, ClosedCallerIsDropped, EachEndsInTurn};
 ghost use Rattle.rb_model.specs.WorkedBounds.{BytesBounds, StepsBounds};
-ghost use Rattle.rb_model.specs.WorkedLists.{DumpSurvivesUnsetAndEvicts, OldReadersAreEvicted, FullTableRefuses, RowsThatCameAndWentAreKept, ListInTwoFragments, ListAsOfItsCall};
+ghost use Rattle.rb_model.specs.WorkedLists.{DumpSurvivesUnsetAndEvicts, OldReadersAreEvicted, FullTableRefuses, RowsThatCameAndWentAreNeeded, ListInTwoFragments, ListAsOfItsCall};
 ghost use Rattle.rb_model.specs.WorkedDeadlines.{IdleEnds, ReadingEnds, TwoEnd, OwingEnds, GivenBytesAreProgress, IdleAfterTheReply, DueAtOnceAtTheGreatestMoment, ForwardedCallsComeFirst};
 ghost use Rattle.rb_model.specs.Worked.{NullIsAnswered, SetThenAskThenSetAgain, GreatestVersionElse, OwnRowsAreAsked, LimitIsReached, LocalCallersSet, NothingIsSilent, NullBySys, OtherRpcVersion, TooShort, GreatestCredential, OverlongCredential, SysBodyCutShort, OverlongVerifier, BadResidue, GoodResidue, GssBeforeProgram, OtherVersion, UnknownProcedure, GarbageArguments, OtherProgram, NullOfThree, NullOfFour, GetstatFirstCall, GetstatOfRefusals};
 
@@ -77,7 +77,7 @@ pub fn worked_lists()
     ensures dump_survives_unset_and_evicts { DumpSurvivesUnsetAndEvicts }
     ensures old_readers { OldReadersAreEvicted }
     ensures full_table { FullTableRefuses }
-    ensures came_and_went { RowsThatCameAndWentAreKept }
+    ensures came_and_went { RowsThatCameAndWentAreNeeded }
     ensures two_fragments { ListInTwoFragments }
     ensures as_of_its_call { ListAsOfItsCall }
 {}

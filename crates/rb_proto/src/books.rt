@@ -68,14 +68,14 @@ impl Books {
     ghost use Rattle.rb_forward.specs.Costs.{sent_cost};
     ghost use Rattle.rb_forward.specs.Forwards.{can_be_sent};
     ghost use Rattle.rb_forward.specs.Outcomes.{PassesWithin};
-    ghost use Rattle.rb_forward.specs.StandsFor.{slots_of, longest_call};
+    ghost use Rattle.rb_forward.specs.StandsFor.{slots_of, longest_forwarded_call};
     ghost use Rattle.rb_forward.specs.Table.{plain_unsent, count_lent, is_waiting, IsNew, NoneWaitsAnew};
     ghost use Rattle.rb_proto.specs.Forwarding.{fell_due, caller_dropped, call_sent};
     ghost use Rattle.rb_proto.specs.Books.{unsent_of, reply_to, removals_in, wants_room_in, BooksShow, IsOkWhere, ActsAs, Becomes, AreTied, SameFrame};
     ghost use Rattle.rb_proto.specs.Puts.{ending_cost, lending_cost, room_cost};
     ghost use Rattle.rb_proto.specs.Answers.{wants_room};
     ghost use Rattle.rb_registry.specs.Registry.{rows_of, slots_of as row_slots};
-    ghost use Rattle.rb_registry.specs.Table.{floor_told, later_than};
+    ghost use Rattle.rb_registry.specs.Table.{floor_raised, later_than};
     ghost use Rattle.rb_registry.specs.Cursors.{GoesOn};
     ghost use Rattle.rb_proto.specs.Callers.{own_rows};
     ghost use Rattle.rb_proto.specs.Ledger.{Ledger, StandsForLedger, fresh_ledger, with_call_noted};
@@ -147,7 +147,7 @@ impl Books {
         ensures fewer { length (row_slots self.new.registry) ≤ length (row_slots self.old.registry) }
         ensures rows { rows_of self.new.registry ≡ rows_of self.old.registry }
         ensures stamp { self.new.registry.stamp ≡ self.old.registry.stamp }
-        ensures floor { self.new.registry.floor ≡ floor_told self.old.registry oldest }
+        ensures floor { self.new.registry.floor ≡ floor_raised self.old.registry oldest }
         ensures cursors { GoesOn self.old.registry self.new.registry }
         ensures forwards { self.new.forwards ≡ self.old.forwards }
         ensures frame { SameFrame self.old self.new }
@@ -162,7 +162,7 @@ impl Books {
     pub fn unsent(&self, meter: &mut Meter) -> Option<Unsent<'_>>
         requires { AreTied meter.old.tie self.now }
         ensures unsent { BooksShow (unsent_of self.now) self.now (plain_unsent result) }
-        ensures few { IfSome result (λ lent. length lent.call.now ≤ longest_call) }
+        ensures few { IfSome result (λ lent. length lent.call.now ≤ longest_forwarded_call) }
         ensures cost { PaysAtMost meter.old meter.new (lending_cost self.now (count_lent result)) }
     {
         self.forwards.unsent(meter)

@@ -145,24 +145,24 @@ slots-unset floor stamp prog vers which owner entries own changes made stamped a
     let now : values_of (entries_with_marks stamp gone entries) ≡ map (noted (length changes + 1) gone) (slots_from floor own changes) = values_noted stamp gone entries stamped ∙ rw (same, count) refl in
     now ∙ sym (rw (all_slots-removed own changes prog vers which owner are_own) (filter_noted floor (length changes + 1) gone (all_slots own changes) lt))
 
--- a trim is told the present stamp where it is told none, or one to come
-dropped_told : (stamp : ℕ) (oldest : Option ℕ) (slot : Slot) → IsStamped stamp slot → is_dropped oldest slot ≡ is_dropped (Some (min (unwrap_or oldest stamp) stamp)) slot
+-- a trim that names no stamp, or one to come, counts as one that names the present one
+dropped_named : (stamp : ℕ) (oldest : Option ℕ) (slot : Slot) → IsStamped stamp slot → is_dropped oldest slot ≡ is_dropped (Some (min (unwrap_or oldest stamp) stamp)) slot
 unfolding is_dropped
-dropped_told stamp (Some o) slot h = by_removed slot.removed h.removed
+dropped_named stamp (Some o) slot h = by_removed slot.removed h.removed
   where
     by_removed : (removed : Option ℕ) → IfSome removed (λ r. r ≤ stamp) → removed_by removed (Some o) ≡ removed_by removed (Some (min o stamp))
     by_removed None p = refl
     by_removed (Some r) p = grind (arith, nat_tests, p)
-dropped_told stamp None slot h = by_removed slot.removed h.removed
+dropped_named stamp None slot h = by_removed slot.removed h.removed
   where
     by_removed : (removed : Option ℕ) → IfSome removed (λ r. r ≤ stamp) → removed_by removed None ≡ removed_by removed (Some (min stamp stamp))
     by_removed None p = refl
     by_removed (Some r) p = grind (arith, nat_tests, p)
 
-filter_told : (stamp : ℕ) (oldest : Option ℕ) (entries : List (ℕ × Slot)) → AreStamped stamp entries
+filter_named : (stamp : ℕ) (oldest : Option ℕ) (entries : List (ℕ × Slot)) → AreStamped stamp entries
     → filter (λ e. not (is_dropped oldest e.1)) entries ≡ filter (λ e. still (min (unwrap_or oldest stamp) stamp) e.1) entries
-filter_told stamp oldest [] h = refl
-filter_told stamp oldest (e ∷ rest) h = rw (dropped_told stamp oldest e.1 h.0, filter_told stamp oldest rest h.1) refl
+filter_named stamp oldest [] h = refl
+filter_named stamp oldest (e ∷ rest) h = rw (dropped_named stamp oldest e.1 h.0, filter_named stamp oldest rest h.1) refl
 
 still_both : (a b : ℕ) (slot : Slot) → (still a slot && still b slot) ≡ still (max a b) slot
 unfolding is_dropped
@@ -183,7 +183,7 @@ filter_both a b (slot ∷ slots) = rw (← still_both a b slot, ← filter_both 
 pub slots-trim : (floor stamp : ℕ) (oldest : Option ℕ) (entries : List (ℕ × Slot)) (own : List Row) (changes : List Change) → AreStamped stamp entries
     → values_of entries ≡ slots_from floor own changes → values_of (entries_left oldest entries) ≡ slots_from (max floor (min (unwrap_or oldest stamp) stamp)) own changes
 slots-trim floor stamp oldest entries own changes stamped same =
-    ap (λ (es : List (ℕ × Slot)). values_of es) (filter_told stamp oldest entries stamped)
+    ap (λ (es : List (ℕ × Slot)). values_of es) (filter_named stamp oldest entries stamped)
     ∙ values_of-filter (still (min (unwrap_or oldest stamp) stamp)) entries
     ∙ rw same (filter_both floor (min (unwrap_or oldest stamp) stamp) (all_slots own changes))
 

@@ -9,10 +9,10 @@ use Rattle.rb_registry.specs.declared.row.Row.{Row}
 use Rattle.rb_registry.specs.declared.slot.Slot.{Slot}
 use Rattle.rb_registry.specs.Rows.{Change, is_of_key, is_change_left, has_place, removes_some}
 use Rattle.rb_registry.specs.Slots.{slot_of}
-use Rattle.rb_registry.specs.Table.{goes, AreStamped, entries_with_marks, entries_left, takes, stamp_told}
+use Rattle.rb_registry.specs.Table.{goes, AreStamped, entries_with_marks, entries_left, takes, stamp_named}
 use Rattle.rb_registry.specs.Registry.{Registry, retained_count, rows_of, table_of}
 use Rattle.rb_registry.specs.Cursors.{GoesOn}
-use Rattle.rb_registry.proofs.Tables.{set_before, marked_table_before, trimmed_table, past_told, past_now, live_and_retained, any_goes, none_marked}
+use Rattle.rb_registry.proofs.Tables.{set_before, marked_table_before, trimmed_table, past_named, past_now, live_and_retained, any_goes, none_marked}
 
 -- ---- any call
 
@@ -95,11 +95,11 @@ unchanged stamp change old new is_marked none_goes = is_marked ∙ rw (none_mark
 -- ---- trim
 
 abbrev pub trimmed : Registry → Option ℕ → Registry
-trimmed kept oldest = record kept { entries = entries_left oldest kept.entries; floor = max kept.floor (stamp_told kept oldest) }
+trimmed kept oldest = record kept { entries = entries_left oldest kept.entries; floor = max kept.floor (stamp_named kept oldest) }
 
 module _ (kept : Registry) (oldest : Option ℕ) (stamped : AreStamped kept.stamp kept.entries) where
-  pub trimmed_at : (n : ℕ) → max kept.floor (stamp_told kept oldest) ≤ n → table_of (trimmed kept oldest) n ≡ table_of kept n
-  trimmed_at n f = trimmed_table kept.stamp n oldest kept.entries stamped (past_told kept.stamp oldest n (omega (arith, f)))
+  pub trimmed_at : (n : ℕ) → max kept.floor (stamp_named kept oldest) ≤ n → table_of (trimmed kept oldest) n ≡ table_of kept n
+  trimmed_at n f = trimmed_table kept.stamp n oldest kept.entries stamped (past_named kept.stamp oldest n (omega (arith, f)))
 
   pub trimmed_now : rows_of (trimmed kept oldest) ≡ rows_of kept
   trimmed_now = ap (λ (es : List (ℕ × Row)). values_of es) (trimmed_table kept.stamp kept.stamp oldest kept.entries stamped (past_now kept.stamp oldest))

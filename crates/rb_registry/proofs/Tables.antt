@@ -125,9 +125,9 @@ not_marked stamp change slot stays = rw stays refl
 abbrev pub IsPast : ℕ → Option ℕ → ℕ → Type 0
 IsPast stamp oldest n = (r : ℕ) → r ≤ stamp → removed_by (Some r) oldest ≡ true → r ≤ n
 
-pub past_told : (stamp : ℕ) (oldest : Option ℕ) (n : ℕ) → min (unwrap_or oldest stamp) stamp ≤ n → IsPast stamp oldest n
-past_told stamp None n le r p t = omega (arith, p, le)
-past_told stamp (Some o) n le r p t = grind (arith, nat_tests, t, le)
+pub past_named : (stamp : ℕ) (oldest : Option ℕ) (n : ℕ) → min (unwrap_or oldest stamp) stamp ≤ n → IsPast stamp oldest n
+past_named stamp None n le r p t = omega (arith, p, le)
+past_named stamp (Some o) n le r p t = grind (arith, nat_tests, t, le)
 
 pub past_now : (stamp : ℕ) (oldest : Option ℕ) → IsPast stamp oldest stamp
 past_now stamp oldest r p t = p

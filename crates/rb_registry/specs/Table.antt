@@ -104,13 +104,13 @@ abbrev pub takes : Registry → Row → Bool
 takes kept row =
     has_place kept.limit (rows_of kept) kept.stamp row && nat_lt (length (rows_of kept) + retained_count kept) kept.limit
 
--- the stamp that a trim asks for, where None or one to come counts as the present one
-abbrev pub stamp_told : Registry → Option ℕ → ℕ
-stamp_told kept oldest = min (unwrap_or oldest kept.stamp) kept.stamp
+-- the stamp that a trim names, where None or one to come counts as the present one
+abbrev pub stamp_named : Registry → Option ℕ → ℕ
+stamp_named kept oldest = min (unwrap_or oldest kept.stamp) kept.stamp
 
 -- the floor after it
-abbrev pub floor_told : Registry → Option ℕ → ℕ
-floor_told kept oldest = max kept.floor (stamp_told kept oldest)
+abbrev pub floor_raised : Registry → Option ℕ → ℕ
+floor_raised kept oldest = max kept.floor (stamp_named kept oldest)
 
 -- Whatever changes a registry stood for, it now stands for those and, where it was accepted, for this one.
 abbrev pub StandsForMore : Registry → Registry → Bool → Change → Type 0

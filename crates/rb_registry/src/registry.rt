@@ -80,7 +80,7 @@ impl Registry {
     ghost use Rattle.rb_registry.specs.Rows.{find_exact, find_row, live};
     ghost use Rattle.rb_registry.specs.Rows.Change.{Added, Removed};
     ghost use Rattle.rb_registry.specs.Registry.{rows_of, slots_of, removals_of, retained_count, Reaches, AreOwn, StandsForChanges};
-    ghost use Rattle.rb_registry.specs.Table.{takes, floor_told, StandsForMore, StandsForSame, later_than, IsLeast, PaysFor};
+    ghost use Rattle.rb_registry.specs.Table.{takes, floor_raised, StandsForMore, StandsForSame, later_than, IsLeast, PaysFor};
     ghost use Rattle.rb_registry.specs.Removals.{takes_removal};
     ghost use Rattle.rb_registry.specs.Cursors.{RowsAreLive, StandsIn, PassesOne, IsWithin, IsAtEnd, row_behind, slots_left, GoesOn};
     ghost use Rattle.rb_registry.specs.Slots.{held_in};
@@ -263,7 +263,7 @@ impl Registry {
 
     /// How many removed rows are retained, and the number of the earliest change that removed one of them, or 0 where
     /// there is none. It costs at most 2 steps for each row and 1, and nothing where no row is retained.
-    pub fn kept(&self, meter: &mut Meter) -> (usize, u64)
+    pub fn retained_since(&self, meter: &mut Meter) -> (usize, u64)
         requires { meter.old.tie ≡ self.now.tie }
         ensures count { result.0 ≡ retained_count self.now }
         ensures least { IsLeast (removals_of self.now) result.1 }
@@ -288,7 +288,7 @@ impl Registry {
         ensures changes { StandsForSame self.old self.new }
         ensures cursors { GoesOn self.old self.new }
         ensures rows { rows_of self.new ≡ rows_of self.old }
-        ensures floor { self.new.floor ≡ floor_told self.old oldest }
+        ensures floor { self.new.floor ≡ floor_raised self.old oldest }
         ensures stamp { self.new.stamp ≡ self.old.stamp }
         ensures limit { self.new.limit ≡ self.old.limit }
         ensures memory { self.new.memory ≡ self.old.memory }
@@ -299,8 +299,8 @@ impl Registry {
         let dropped = drop_retained(&mut self.slots, self.retained, oldest, meter);
         self.retained -= dropped.rows;
         self.held -= dropped.bytes;
-        let told = oldest.unwrap_or(self.changes).min(self.changes);
-        self.floor = self.floor.max(told);
+        let named = oldest.unwrap_or(self.changes).min(self.changes);
+        self.floor = self.floor.max(named);
     }
 
     /// How many bytes are held: those of the address text of each row, live or retained, and 32 for the rest of it.

@@ -13,7 +13,7 @@ ghost use Rattle.rb_connections.specs.Costs.{look_cost};
 
 use rb_connections::{LONGEST_FRAGMENT, LONGEST_REPLY, Outcome};
 use rb_core::Core;
-use rb_forward::{FwdId, LONGEST_CALL};
+use rb_forward::{FwdId, LONGEST_FORWARDED_CALL};
 use rb_model::{Event, Expired, Output, Taken, Told, UnsentCall};
 use rb_rpc::Peer;
 use rb_xdr::{Meter, NoMemory};
@@ -151,7 +151,7 @@ fn unsent(alloc: Global, core: &mut Core, meter: &mut Meter) -> Result<Output, N
     ensures err { OnErr result (core.new ≡ core.old) }
     ensures free { OnErr result (meter.new ≡ meter.old) }
 {
-    let Ok(mut call) = Vec::with_capacity(alloc, LONGEST_CALL) else {
+    let Ok(mut call) = Vec::with_capacity(alloc, LONGEST_FORWARDED_CALL) else {
         return Err(NoMemory);
     };
     let Some(unsent) = core.unsent(meter) else {

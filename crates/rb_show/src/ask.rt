@@ -24,7 +24,7 @@ const NULL: u32 = 0;
 const NO_BYTES: u32 = 0;
 
 /// More bytes than any call has.
-const LONGEST_CALL: usize = 1024;
+const LONGEST_QUESTION: usize = 1024;
 
 /// A question, to the portmapper or to procedure 0 of a program.
 #[derive(Clone, Copy, Debug, PartialEq, Eq)]
@@ -207,7 +207,7 @@ pub fn write_call<W: Write>(
     ensures faults { IfErr result (λ fault. (fault ≡ InfoFault.Memory) ⊎ (fault ≡ InfoFault.Write)) }
 {
     let mut meter = Meter::new();
-    let Ok(mut call) = Kept::new(alloc, LONGEST_CALL, &mut meter) else {
+    let Ok(mut call) = Kept::new(alloc, LONGEST_QUESTION, &mut meter) else {
         return Err(InfoFault::Memory);
     };
     // there is room for every call

@@ -138,7 +138,7 @@ fn serve(
     let context = context();
     books.note_call(&head);
     let request = read_args(vers, proc, args)?;
-    let (retained, _) = books.registry.kept(meter);
+    let (retained, _) = books.registry.retained_since(meter);
     if LIMIT - books.registry.len(meter) <= retained {
         return Err("no room".into());
     }
@@ -200,7 +200,7 @@ fn list_is_as_of_its_call(
     assert!(rt; part.last);
     assert_eq!(rt; out.lend(part.start..part.end, meter), LISTED);
     books.trim(Some(list.stamp()), meter);
-    assert_eq!(rt; books.registry.kept(meter), (1, 2));
+    assert_eq!(rt; books.registry.retained_since(meter), (1, 2));
     Ok(())
 }
 

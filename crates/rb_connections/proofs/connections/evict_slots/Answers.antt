@@ -3,7 +3,7 @@ use Rattle.rb_xdr.specs.Meter.{Meter}
 use Rattle.rb_xdr.specs.Pool.{value_at}
 use Rattle.rb_xdr.specs.Places.{to_come, behind}
 use Rattle.rb_registry.proofs.Marking.{is_there, behind-with, marked_there, passed_by, all_marked_there}
-use Rattle.rb_connections.specs.Listings.{began_early, stamp_of_slot}
+use Rattle.rb_connections.specs.Listings.{began_before_earliest, stamp_of_slot}
 use Rattle.rb_connections.proofs.Evicting.{marked_is, not_marked}
 use Rattle.rb_connections.proofs.connections.evict_slots.Goals as goal
 
@@ -37,7 +37,7 @@ slots-preserved-in-Some-get_mut c =
     let got : Some c.in-Some-get_mut.reader.now ≡ value_at c.slots.slots.entries c.in-Some.key = c.in-Some-get_mut.ensures.value in
     let whole : Some c.in-Some-get_mut.reader.now ≡ Some c.in-Some.slot.now = got ∙ there in
     let same : c.in-Some-get_mut.reader.now ≡ c.in-Some.slot.now = cc whole in
-    let early : began_early c.args.earliest (stamp_of_slot c.in-Some.slot.now) ≡ true = ap (began_early c.args.earliest) (sym c.stamp.ensures) ∙ sym c.is_early.ensures ∙ c.if-is_early.true in
+    let early : began_before_earliest c.args.earliest (stamp_of_slot c.in-Some.slot.now) ≡ true = ap (began_before_earliest c.args.earliest) (sym c.stamp.ensures) ∙ sym c.began_before_earliest.ensures ∙ c.if-began_before_earliest.true in
     let fewer : length (to_come c.slots.slots.entries c.slots.place) ≡ length (behind c.slots.slots.entries c.in-Some.key) + 1 =
     ap (λ es. length es) c.in-Some.ensures.next ∙ omega arith in
     let looked : c.entry_after.new.meter.steps ≡ c.slots.meter.steps + 2 = ap (λ (m : Meter). m.steps) c.in-Some.ensures.cost in
@@ -55,7 +55,7 @@ slots-preserved-in-Some-get_mut c =
 
 pub slots-preserved : goal.slots-preserved
 slots-preserved c =
-    let early : began_early c.args.earliest (stamp_of_slot c.in-Some.slot.now) ≡ false = ap (began_early c.args.earliest) (sym c.stamp.ensures) ∙ sym c.is_early.ensures ∙ c.if-is_early.false in
+    let early : began_before_earliest c.args.earliest (stamp_of_slot c.in-Some.slot.now) ≡ false = ap (began_before_earliest c.args.earliest) (sym c.stamp.ensures) ∙ sym c.began_before_earliest.ensures ∙ c.if-began_before_earliest.false in
     let fewer : length (to_come c.slots.slots.entries c.slots.place) ≡ length (behind c.slots.slots.entries c.in-Some.key) + 1 =
     ap (λ es. length es) c.in-Some.ensures.next ∙ omega arith in
     let looked : c.entry_after.new.meter.steps ≡ c.slots.meter.steps + 2 = ap (λ (m : Meter). m.steps) c.in-Some.ensures.cost in

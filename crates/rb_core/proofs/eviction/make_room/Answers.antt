@@ -2,9 +2,9 @@ use Rattle.std.proofs.Common.{◌≡◌, ◌≤◌, ◌<◌, ◌+◌, true, fals
 use Rattle.rb_registry.specs.Registry.{rows_of, removals_of}
 use Rattle.rb_proto.specs.Ledger.{rows_in}
 use Rattle.rb_proto.specs.Books.{wants_room_in}
-use Rattle.rb_model.specs.Losses.{asks_room, retained_removals, evict}
+use Rattle.rb_model.specs.Losses.{asks_room, needed_removals, evict}
 use Rattle.rb_laws.proofs.Crowding.{none_evicted, not_asked, not_crowded, crowded, no_call_asks, row_within}
-use Rattle.rb_connections.specs.Listings.{CanListOn, stamps_of, IsEarliest}
+use Rattle.rb_connections.specs.Listings.{CanContinueAll, stamps_of, IsEarliest}
 use Rattle.rb_connections.proofs.ListsGoOn.{lists_on, stands_on, trimmed_low}
 use Rattle.rb_core.specs.Eviction.{source_in}
 use Rattle.rb_core.proofs.Crowding.{kept_are, kept_few, no_call_has_room, room_is_made, earliest_of}
@@ -22,7 +22,7 @@ returns-then-is_roomy-clause-makes c = λ x l z h.
     let source = source_in c.args.context.now.listener.host c.args.books.now in
     let few = kept_few source c.args.connections.now x c.args.books.now l c.requires.lists z h refl in
     let place = c.is_roomy.ensures.room (c.if-is_roomy.true) in
-    let room : length (rows_in l) + length (retained_removals x.all l) < c.args.context.now.limit = omega (arith, few, place, ap (λ rs. length rs) h.registry.rows, c.requires.limit) in
+    let room : length (rows_in l) + length (needed_removals x.all l) < c.args.context.now.limit = omega (arith, few, place, ap (λ rs. length rs) h.registry.rows, c.requires.limit) in
     (rw (not_crowded c.args.context.now c.args.message.now x.all l room, none_evicted x) z, h)
 
 pub returns-then-not-wants_room-clause-makes : goal.returns-then-not-wants_room-clause-makes
@@ -45,17 +45,17 @@ returns-then-retained-context-clause-makes c = λ x l z h.
     let after = c.trim.ensures.stands l h in
     let kept = kept_are source table x c.trim.new.self l c.oldest.result _ c.requires.lists z c.oldest.ensures.oldest after c.trim.ensures.floor c.trim.ensures.dropped in
     let rows = after.registry.rows in
-    let room : length (rows_in l) + length (retained_removals x.all l) < c.args.context.now.limit =
-    omega (arith, ap (λ rs. length rs) rows, ap (λ (ns : List ℕ). length ns) kept, c.len-live.ensures.len, c.kept-retained.ensures.count, c.if-retained-context.true) in
+    let room : length (rows_in l) + length (needed_removals x.all l) < c.args.context.now.limit =
+    omega (arith, ap (λ rs. length rs) rows, ap (λ (ns : List ℕ). length ns) kept, c.len-live.ensures.len, c.retained_since-retained.ensures.count, c.if-retained-context.true) in
     (rw (not_crowded c.args.context.now c.args.message.now x.all l room, none_evicted x) (stands_on host c.args.books.now.registry c.trim.new.self.registry c.trim.ensures.cursors table x low c.requires.lists z), after)
 
-first_lists : (c : goal.After-trim-2) → CanListOn (source_in c.args.context.now.listener.host c.trim.new.self) c.args.connections.now
+first_lists : (c : goal.After-trim-2) → CanContinueAll (source_in c.args.context.now.listener.host c.trim.new.self) c.args.connections.now
 first_lists c =
     let host = c.args.context.now.listener.host in
     let low = trimmed_low (source_in host c.args.books.now) c.args.connections.now c.oldest.result c.trim.new.self.registry.floor c.requires.lists c.oldest.ensures.oldest c.trim.ensures.floor in
     lists_on host c.args.books.now.registry c.trim.new.self.registry c.trim.ensures.cursors c.args.connections.now low c.requires.lists
 
-evicted_lists : (c : goal.After-trim-2) → CanListOn (source_in c.args.context.now.listener.host c.trim.new.self) c.evict.new.self
+evicted_lists : (c : goal.After-trim-2) → CanContinueAll (source_in c.args.context.now.listener.host c.trim.new.self) c.evict.new.self
 evicted_lists c = c.evict.ensures.lists (source_in c.args.context.now.listener.host c.trim.new.self) (first_lists c)
 
 still_low : (c : goal.After-trim-2) → All (λ n. c.trim-2.new.self.registry.floor ≤ n) (stamps_of c.evict.new.self)
@@ -66,10 +66,10 @@ some_retained : (c : goal.After-trim-2) → 0 < length (removals_of c.trim.new.s
 some_retained c =
     let wants : wants_room_in c.args.context.now c.in-Asked.call c.args.books.now.registry ≡ true = sym c.wants_room.ensures.wants ∙ c.if-not-wants_room.false in
     let within = row_within c.args.context.now c.in-Asked.call (rows_of c.args.books.now.registry) c.args.books.now.registry.stamp wants in
-    omega (arith, within, ap (λ rs. length rs) c.trim.ensures.rows, c.len-live.ensures.len, c.kept-retained.ensures.count, c.if-retained-context.false)
+    omega (arith, within, ap (λ rs. length rs) c.trim.ensures.rows, c.len-live.ensures.len, c.retained_since-retained.ensures.count, c.if-retained-context.false)
 
-the_earliest : (c : goal.After-trim-2) → IsEarliest (removals_of c.trim.new.self.registry) c.kept-retained.result.1
-the_earliest c = earliest_of (removals_of c.trim.new.self.registry) c.kept-retained.result.1 c.kept-retained.ensures.least (some_retained c)
+the_earliest : (c : goal.After-trim-2) → IsEarliest (removals_of c.trim.new.self.registry) c.retained_since-retained.result.1
+the_earliest c = earliest_of (removals_of c.trim.new.self.registry) c.retained_since-retained.result.1 c.retained_since-retained.ensures.least (some_retained c)
 
 pub returns-clause-lists : goal.returns-clause-lists
 returns-clause-lists c =
@@ -86,8 +86,8 @@ returns-clause-makes c = λ x l z h.
     let kept = kept_are source table x one l c.oldest.result _ c.requires.lists z c.oldest.ensures.oldest after c.trim.ensures.floor c.trim.ensures.dropped in
     let rows = after.registry.rows in
     let asks : asks_room c.args.context.now c.args.message.now l ≡ true = rw c.in-Asked.is (sym (c.wants_room.ensures.shows l h) ∙ c.if-not-wants_room.false) in
-    let full : c.args.context.now.limit ≤ length (rows_in l) + length (retained_removals x.all l) =
-    omega (arith, ap (λ rs. length rs) rows, ap (λ (ns : List ℕ). length ns) kept, c.len-live.ensures.len, c.kept-retained.ensures.count, c.if-retained-context.false) in
+    let full : c.args.context.now.limit ≤ length (rows_in l) + length (needed_removals x.all l) =
+    omega (arith, ap (λ rs. length rs) rows, ap (λ (ns : List ℕ). length ns) kept, c.len-live.ensures.len, c.retained_since-retained.ensures.count, c.if-retained-context.false) in
     let first = stands_on host c.args.books.now.registry one.registry c.trim.ensures.cursors table x low c.requires.lists z in
     let evicts = c.evict.ensures.evicts (removals_of one.registry) (the_earliest c) (source_in host one) x first in (
       rw (crowded c.args.context.now c.args.message.now x.all l asks full, ← kept)
@@ -97,7 +97,7 @@ returns-clause-makes c = λ x l z h.
 
 pub returns-clause-room : goal.returns-clause-room
 returns-clause-room c =
-    let fewer = room_is_made (removals_of c.trim.new.self.registry) (removals_of c.trim-2.new.self.registry) (stamps_of c.evict.new.self) c.kept-retained.result.1 c.oldest-2.result
+    let fewer = room_is_made (removals_of c.trim.new.self.registry) (removals_of c.trim-2.new.self.registry) (stamps_of c.evict.new.self) c.retained_since-retained.result.1 c.oldest-2.result
     (the_earliest c) c.evict.ensures.later c.oldest-2.ensures.oldest c.trim-2.ensures.dropped in
     let limit = c.trim-2.ensures.frame.limit in
     rw c.in-Asked.is (λ wants. omega (arith, fewer, ap (λ rs. length rs) c.trim-2.ensures.rows, c.len-live.ensures.counted, c.len-live.ensures.few, limit))

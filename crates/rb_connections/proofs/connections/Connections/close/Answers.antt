@@ -4,7 +4,7 @@ use Rattle.std.proofs.Common.{[], Err, refl, sym, ap, subst, ◌∙◌, arith}
 use Rattle.rb_xdr.specs.Meter.{Meter}
 use Rattle.rb_xdr.proofs.PoolLemmas.{All-value_at, All-without, distinct-without, length-without}
 use Rattle.rb_model.specs.declared.types.CoreFault.TheVariants.{Gone}
-use Rattle.rb_model.specs.Connections.{closing_of}
+use Rattle.rb_model.specs.Connections.{close_in_table}
 use Rattle.rb_connections.specs.contracts.connections.Connections.{the_view}
 use Rattle.rb_connections.specs.Slots.{Acts, HasBuffers, AreSpare}
 use Rattle.rb_connections.specs.StandsFor.{StandsForConnections, IsWithin}
@@ -21,7 +21,7 @@ wanted_key-requires-clause-numbers c = distinct_numbers c.self.inside.last_numbe
 
 pub returns-in_default-clause-acts : goal.returns-in_default-clause-acts
 returns-in_default-clause-acts c =
-    λ source. subst (λ t. Acts (StandsForConnections source) (closing_of c.args.id) t t (Err Gone)) c.self.view_is
+    λ source. subst (λ t. Acts (StandsForConnections source) (close_in_table c.args.id) t t (Err Gone)) c.self.view_is
     (none_closed source c.args.id (the_view c.self.inside) (sym c.in_default.ensures.key))
 
 pub unreachable-requires : goal.unreachable-requires
@@ -64,7 +64,7 @@ invariant_of-self c =
 pub returns-clause-acts : goal.returns-clause-acts
 returns-clause-acts c =
     λ source. rw c.remove.ensures.entries (
-    acts_from source (closing_of c.args.id) (the_view c.self.inside) c.args.self.now _ _ c.self.view_is
+    acts_from source (close_in_table c.args.id) (the_view c.self.inside) c.args.self.now _ _ c.self.view_is
     (one_closed source c.args.id (the_view c.self.inside) c.in-Some.key c.in-Some-remove.slot c.self.invariant.distinct c.self.invariant.numbers (sym c.in-Some.ensures.key) (sym c.in-Some-remove.ensures.value)))
 
 pub returns-in_default-clause-goes_on : goal.returns-in_default-clause-goes_on

@@ -5,7 +5,7 @@ use Rattle.rb_connections.specs.declared.slot.Slot.{Slot}
 use Rattle.rb_connections.specs.Awaits.{has_idle, IsIdleIfThere}
 use Rattle.rb_connections.specs.Slots.{IsTable}
 use Rattle.rb_connections.specs.StandsFor.{StandsForConnections}
-use Rattle.rb_connections.specs.Listings.{SlotListsOn, CanListOn}
+use Rattle.rb_connections.specs.Listings.{CanContinueSlot, CanContinueAll}
 use Rattle.rb_connections.proofs.Freed.{freed_from}
 use Rattle.rb_connections.proofs.Evicting.{table_evicts, table_evicted, lists_evicted, all_keep, later_evicted, length_evicted, idle_evicted, none_freed_by_eviction, stays_evicted}
 use Rattle.rb_connections.proofs.Settled.{settled_evicted}
@@ -24,7 +24,7 @@ returns-clause-evicts c = λ changes e source x z.
 pub returns-clause-lists : goal.returns-clause-lists
 returns-clause-lists c = λ source told.
     rw c.evict_slots.ensures.evicted
-    (all_keep (SlotListsOn source) c.args.earliest (lists_evicted source c.args.earliest) c.self.inside.slots.entries (subst (λ t. CanListOn source t) (sym c.self.view_is) told))
+    (all_keep (CanContinueSlot source) c.args.earliest (lists_evicted source c.args.earliest) c.self.inside.slots.entries (subst (λ t. CanContinueAll source t) (sym c.self.view_is) told))
 
 pub returns-clause-later : goal.returns-clause-later
 returns-clause-later c = rw c.evict_slots.ensures.evicted (later_evicted c.args.earliest c.self.inside.slots.entries)

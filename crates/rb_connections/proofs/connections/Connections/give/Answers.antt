@@ -5,7 +5,7 @@ use Rattle.rb_model.specs.Connections.{on_live, give}
 use Rattle.rb_connections.specs.contracts.connections.Connections.{the_view}
 use Rattle.rb_connections.specs.Slots.{HasBuffers}
 use Rattle.rb_connections.specs.StandsFor.{source_for}
-use Rattle.rb_connections.specs.Listings.{SlotListsOn, CanListOn}
+use Rattle.rb_connections.specs.Listings.{CanContinueSlot, CanContinueAll}
 use Rattle.rb_connections.specs.Awaits.{is_free}
 use Rattle.rb_connections.proofs.Holding.{stays_changed}
 use Rattle.rb_connections.proofs.Slots.{acts_from, gone_acts, live_acts}
@@ -54,8 +54,8 @@ returns-clause-free c = freed_from (the_view c.self.inside) c.args.self.now _ c.
 pub give-requires-clause-lists : goal.give-requires-clause-lists
 give-requires-clause-lists c =
     let source = source_for c.args.host c.args.registry.now in
-    All-value_at (SlotListsOn source) c.self.inside.slots.entries _ c.in-Some.slot.now
-    (subst (λ t. CanListOn source t) (sym c.self.view_is) c.requires.lists) c.in-Some.ensures.found.there
+    All-value_at (CanContinueSlot source) c.self.inside.slots.entries _ c.in-Some.slot.now
+    (subst (λ t. CanContinueAll source t) (sym c.self.view_is) c.requires.lists) c.in-Some.ensures.found.there
 
 pub returns-clause-lists : goal.returns-clause-lists
 returns-clause-lists c =

@@ -3,7 +3,7 @@ use Rattle.std.specs.Map.{values_of}
 use Rattle.std.proofs.Common.{Err, sym, subst, refl, ap, ◌∙◌, arith}
 use Rattle.std.proofs.lemmas.List.Elements.{All-push}
 use Rattle.rb_model.specs.declared.types.CoreFault.TheVariants.{Full, Spent}
-use Rattle.rb_model.specs.Connections.{opening_of}
+use Rattle.rb_model.specs.Connections.{open_in_table}
 use Rattle.rb_connections.specs.contracts.connections.Connections.{the_view}
 use Rattle.rb_connections.specs.Slots.{Acts, HasBuffers, AreBuffers, AreSpare}
 use Rattle.rb_connections.specs.StandsFor.{StandsForConnections}
@@ -16,12 +16,12 @@ use Rattle.rb_connections.proofs.connections.Connections.open.Goals as goal
 
 pub returns-then-len-self-clause-acts : goal.returns-then-len-self-clause-acts
 returns-then-len-self-clause-acts c =
-    λ source. subst (λ t. Acts (StandsForConnections source) (opening_of t.conns c.args.peer c.args.clock) t t (Err Full)) c.self.view_is
+    λ source. subst (λ t. Acts (StandsForConnections source) (open_in_table t.conns c.args.peer c.args.clock) t t (Err Full)) c.self.view_is
     (full_acts source c.self.inside.conns c.args.peer c.args.clock (the_view c.self.inside) (omega (arith, c.len.ensures.len, c.if-len-self.true)))
 
 pub returns-then-self-clause-acts : goal.returns-then-self-clause-acts
 returns-then-self-clause-acts c =
-    λ source. subst (λ t. Acts (StandsForConnections source) (opening_of t.conns c.args.peer c.args.clock) t t (Err Spent)) c.self.view_is
+    λ source. subst (λ t. Acts (StandsForConnections source) (open_in_table t.conns c.args.peer c.args.clock) t t (Err Spent)) c.self.view_is
     (spent_acts source c.self.inside.conns c.args.peer c.args.clock (the_view c.self.inside) (omega (arith, c.len.ensures.len, c.if-len-self.false)) c.if-self.true)
 
 pub overflow_add-self-2 : goal.overflow_add-self-2
@@ -55,7 +55,7 @@ invariant_of-self c = record {
 pub returns-clause-acts : goal.returns-clause-acts
 returns-clause-acts c = λ source.
     let conns = ap (λ t. t.conns) c.self.view_is in
-    acts_from source (opening_of c.args.self.now.conns c.args.peer c.args.clock) (the_view c.self.inside) c.args.self.now _ _ c.self.view_is
+    acts_from source (open_in_table c.args.self.now.conns c.args.peer c.args.clock) (the_view c.self.inside) c.args.self.now _ _ c.self.view_is
     (opened_acts source c.args.self.now.conns c.args.peer c.args.clock (the_view c.self.inside) _ _ (omega (arith, conns, c.len.ensures.len, c.if-len-self.false)) (omega (arith, c.if-self.false)) c.put_slot-key.ensures.last refl
     (record {
       number = refl;

@@ -21,22 +21,22 @@ pub returns-then-more-eq0-clause-acts : goal.returns-then-more-eq0-clause-acts
 returns-then-more-eq0-clause-acts c =
     none_given _ c.args.self.now c.args.clock c.args.n
     (λ x h.
-    let w = giving_phase _ c.in-Giving.giving _ _ _ x.phase c.in-Giving.is h.phase in
-    let count = pending_few _ c.in-Giving.giving _ _ w.0 w.2 in
+    let w = giving_phase _ c.in-Owing.giving _ _ _ x.phase c.in-Owing.is h.phase in
+    let count = pending_few _ c.in-Owing.giving _ _ w.0 w.2 in
     rw w.1 (omega (arith, count)))
 
 pub returns-then-place-shown-clause-acts : goal.returns-then-place-shown-clause-acts
 returns-then-place-shown-clause-acts c =
-    some_given _ c.args.self.now _ c.args.clock c.args.n c.min-more.result c.in-Giving.giving c.in-Giving.is
-    (λ o g. let count = pending_few _ c.in-Giving.giving _ _ o g in omega (arith, count)) (omega (arith, c.if-more-eq0.false)) refl refl refl
-    (λ o g. goes_on_giving _ _ c.args.self.now.buffer c.args.self.now.window _ o (stays _ c.in-Giving.giving _ _ o g c.min-more.result _ refl (omega arith)))
+    some_given _ c.args.self.now _ c.args.clock c.args.n c.min-more.result c.in-Owing.giving c.in-Owing.is
+    (λ o g. let count = pending_few _ c.in-Owing.giving _ _ o g in omega (arith, count)) (omega (arith, c.if-more-eq0.false)) refl refl refl
+    (λ o g. goes_on_giving _ _ c.args.self.now.buffer c.args.self.now.window _ o (stays _ c.in-Owing.giving _ _ o g c.min-more.result _ refl (omega arith)))
 
 pub returns-then-giving-clause-acts : goal.returns-then-giving-clause-acts
 returns-then-giving-clause-acts c =
     let source = source_for c.args.host c.args.registry.now in
-    some_given source c.args.self.now _ c.args.clock c.args.n c.min-more.result c.in-Giving.giving c.in-Giving.is
-    (λ o g. let count = pending_few _ c.in-Giving.giving _ _ o g in omega (arith, count)) (omega (arith, c.if-more-eq0.false)) refl refl refl
-    (λ o g. is_given source c.clear.new.self c.clear-then-giving.new.self _ o (ends source c.in-Giving.giving _ _ o g c.min-more.result (omega arith) c.if-giving.true)
+    some_given source c.args.self.now _ c.args.clock c.args.n c.min-more.result c.in-Owing.giving c.in-Owing.is
+    (λ o g. let count = pending_few _ c.in-Owing.giving _ _ o g in omega (arith, count)) (omega (arith, c.if-more-eq0.false)) refl refl refl
+    (λ o g. is_given source c.clear.new.self c.clear-then-giving.new.self _ o (ends source c.in-Owing.giving _ _ o g c.min-more.result (omega arith) c.if-giving.true)
     (ap (λ (k : Kept). k.bytes) c.clear.ensures.empty) (ap (λ (k : Kept). k.bytes) c.clear-then-giving.ensures.empty))
 
 pub returns-else-giving-clause-acts : goal.returns-else-giving-clause-acts
@@ -44,12 +44,12 @@ returns-else-giving-clause-acts c =
     let source = source_for c.args.host c.args.registry.now in
     let old = c.args.self.now in
     let s = c.show.ensures.shows in
-    some_given source old c.show.new.self c.args.clock c.args.n c.min-more.result c.in-Giving.giving c.in-Giving.is
-    (λ o g. let count = pending_few source c.in-Giving.giving _ _ o g in omega (arith, count)) (omega (arith, c.if-more-eq0.false))
+    some_given source old c.show.new.self c.args.clock c.args.n c.min-more.result c.in-Owing.giving c.in-Owing.is
+    (λ o g. let count = pending_few source c.in-Owing.giving _ _ o g in omega (arith, count)) (omega (arith, c.if-more-eq0.false))
     (ap (λ (t : Slot). t.number) s.is) (ap (λ (t : Slot). t.peer) s.is) (ap (λ (t : Slot). t.since) s.is)
     (λ o g. subst (λ (t : Slot). StandsForPhase source t.stage t.buffer t.window (phase_when_given c.min-more.result (Owing o))) (sym s.is)
     (goes_on_giving source s.giving old.buffer c.show.new.self.window _ o
-    (moves source c.in-Giving.giving _ _ o g c.min-more.result c.show.new.self.window s.giving (omega arith) c.if-giving.false c.requires.buffers.window_cap s.shows)))
+    (moves source c.in-Owing.giving _ _ o g c.min-more.result c.show.new.self.window s.giving (omega arith) c.if-giving.false c.requires.buffers.window_cap s.shows)))
 
 pub returns-else-giving-clause-lists : goal.returns-else-giving-clause-lists
 returns-else-giving-clause-lists c = slot_lists_on _ _ _ c.show.new.self c.show.ensures.shows

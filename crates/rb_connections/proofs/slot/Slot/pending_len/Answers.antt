@@ -3,8 +3,8 @@ use Rattle.rb_connections.proofs.OneSlot.{giving_phase}
 use Rattle.rb_connections.proofs.Progress.{pending_few}
 use Rattle.rb_connections.proofs.slot.Slot.pending_len.Goals as goal
 
-pub returns-in-Giving-clause-len : goal.returns-in-Giving-clause-len
-returns-in-Giving-clause-len c = λ source x h.
-    let w = giving_phase source c.in-Giving.giving _ _ _ x.phase c.in-Giving.is h.phase in
+pub returns-in-Owing-clause-len : goal.returns-in-Owing-clause-len
+returns-in-Owing-clause-len c = λ source x h.
+    let w = giving_phase source c.in-Owing.giving _ _ _ x.phase c.in-Owing.is h.phase in
     let count = pending_few source _ _ _ w.0 w.2 in
     rw w.1 (omega (arith, count))

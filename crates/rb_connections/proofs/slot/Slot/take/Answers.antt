@@ -65,17 +65,17 @@ returns-in-Reading-clause-acts c =
       stands = c.feed-in-Reading.ensures.stands source x p.0 before;
     })
 
-nothing_where : (source : Source) (stage : Stage) (buffer window : Kept) (phase : Phase) (piece : List ℕ) → ((giving : Giving) × (stage ≡ stages.Giving giving)) ⊎ ((stage ≡ stages.Awaiting) ⊎ (stage ≡ stages.Lost)) → StandsForPhase source stage buffer window phase → taking_of phase piece ≡ TakesNone
+nothing_where : (source : Source) (stage : Stage) (buffer window : Kept) (phase : Phase) (piece : List ℕ) → ((giving : Giving) × (stage ≡ stages.Owing giving)) ⊎ ((stage ≡ stages.Awaiting) ⊎ (stage ≡ stages.Lost)) → StandsForPhase source stage buffer window phase → taking_of phase piece ≡ TakesNone
 nothing_where source stage buffer window phase piece (inl o) h = let p = giving_phase source o.0 stage buffer window phase o.1 h in nothing_where_owing phase p.0 piece p.1
 nothing_where source stage buffer window phase piece (inr (inl a)) h = nothing_where_awaiting phase piece (awaiting_phase source stage buffer window phase a h)
 nothing_where source stage buffer window phase piece (inr (inr l)) h = nothing_where_lost phase piece (lost_phase source stage buffer window phase l h)
 
-pub returns-in-Giving-clause-acts : goal.returns-in-Giving-clause-acts
-returns-in-Giving-clause-acts c =
+pub returns-in-Owing-clause-acts : goal.returns-in-Owing-clause-acts
+returns-in-Owing-clause-acts c =
     λ source. feeding_acts source c.args.self.now _ c.args.clock c.args.piece.now _ (λ x h. record {
       taken = TakesNone;
-      is = nothing_where source c.args.self.now.stage _ _ x.phase c.args.piece.now c.in-Giving.is h.phase;
-      gives = c.nothing-in-Giving.ensures;
+      is = nothing_where source c.args.self.now.stage _ _ x.phase c.args.piece.now c.in-Owing.is h.phase;
+      gives = c.nothing-in-Owing.ensures;
       stands = h;
     })
 
@@ -107,9 +107,9 @@ returns-in-Reading-clause-arguments c = λ source x h.
     let before : IsBeforePiece _ c.in-Reading.reader c.args.clock x p.0 = record { number = h.number; peer = h.peer; since = h.since ∙ sym (since_of_reading c.args.clock x.since x.phase p.0 p.1); reads = p.2; window = p.3 } in
     taken_arguments _ _ piece x (taking_on p.0 piece) (some_where_fed x.phase p.0 piece (ap fed_in p.1) some) (c.feed-in-Reading.ensures.arguments x p.0 before)
 
-pub returns-in-Giving-clause-arguments : goal.returns-in-Giving-clause-arguments
-returns-in-Giving-clause-arguments c = λ source x h.
-    taken_arguments _ _ c.args.piece.now x TakesNone (nothing_where source c.args.self.now.stage _ _ x.phase c.args.piece.now c.in-Giving.is h.phase) refl
+pub returns-in-Owing-clause-arguments : goal.returns-in-Owing-clause-arguments
+returns-in-Owing-clause-arguments c = λ source x h.
+    taken_arguments _ _ c.args.piece.now x TakesNone (nothing_where source c.args.self.now.stage _ _ x.phase c.args.piece.now c.in-Owing.is h.phase) refl
 
 pub returns-in-Idle-clause-lists : goal.returns-in-Idle-clause-lists
 returns-in-Idle-clause-lists c = λ source told. c.feed.ensures.lists source

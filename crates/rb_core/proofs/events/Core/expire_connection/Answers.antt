@@ -1,5 +1,5 @@
 use Rattle.std.proofs.Common.{◌≡◌, sym, ap, ◌∙◌}
-use Rattle.rb_model.specs.Ending.{closed_as, expire_connection}
+use Rattle.rb_model.specs.Ending.{lost_as, expire_connection}
 use Rattle.rb_core.specs.contracts.events.Core.{the_view}
 use Rattle.rb_core.specs.StandsFor.{source_of}
 use Rattle.rb_core.proofs.Steps.{acts_from}
@@ -11,8 +11,8 @@ use Rattle.rb_core.proofs.events.Core.expire_connection.Goals.{in-Some, in-None}
 
 pub returns-clause-acts : goal.returns-clause-acts
 returns-clause-acts c =
-    let is : c.match-expire.result ≡ closed_as c.expire.result =
-    elim c.match-expire.branch [ in-Some w ↦ w.result-is ∙ ap closed_as (sym w.in-Some.is) | in-None w ↦ w.result-is ∙ ap closed_as (sym w.in-None.is) ] in
+    let is : c.match-expire.result ≡ lost_as c.expire.result =
+    elim c.match-expire.branch [ in-Some w ↦ w.result-is ∙ ap lost_as (sym w.in-Some.is) | in-None w ↦ w.result-is ∙ ap lost_as (sym w.in-None.is) ] in
     acts_from expire_connection (the_view c.self.inside) c.args.self.now _ _ c.self.view_is
     (due_closed (the_view c.self.inside) c.expire.new.self c.expire.result c.match-expire.result is c.expire.ensures.goes_on.stays (c.expire.ensures.acts (source_of (the_view c.self.inside))))
 

@@ -16,7 +16,7 @@ pub invariant_of-self : goal.invariant_of-self
 invariant_of-self c = record {
   distinct = c.drop_retained-dropped.ensures.distinct;
   stamped = rw c.drop_retained-dropped.ensures.left (AreStamped-filter c.self.inside.changes _ c.self.inside.slots.entries c.self.invariant.stamped);
-  made = let made = c.self.invariant.made in let told = c.min-told.ensures in let floor = c.max-self-inside.ensures in omega (arith, made, told, floor);
+  made = let made = c.self.invariant.made in let told = c.min-named.ensures in let floor = c.max-self-inside.ensures in omega (arith, made, told, floor);
   few = rw c.drop_retained-dropped.ensures.left c.self.invariant.few;
   within = rw c.drop_retained-dropped.ensures.left (let fewer = fewer_left c.args.oldest c.self.inside.slots.entries in let within = c.self.invariant.within in omega (arith, fewer, within));
   is_held = let freed = c.drop_retained-dropped.ensures.bytes in let held = c.self.invariant.is_held in omega (arith, freed, held);
@@ -28,7 +28,7 @@ returns-clause-dropped c = rw (← c.self.view_is, c.drop_retained-dropped.ensur
 
 pub returns-clause-changes : goal.returns-clause-changes
 returns-clause-changes c own changes h =
-    rw (c.drop_retained-dropped.ensures.left, c.max-self-inside.ensures, c.min-told.ensures, c.unwrap_or.ensures)
+    rw (c.drop_retained-dropped.ensures.left, c.max-self-inside.ensures, c.min-named.ensures, c.unwrap_or.ensures)
     (after_trim (the_view c.self.inside) c.args.oldest own changes c.self.invariant.stamped (subst (λ (kept : Registry). StandsForChanges kept own changes) (sym c.self.view_is) h))
 
 pub returns-clause-rows : goal.returns-clause-rows
@@ -36,7 +36,7 @@ returns-clause-rows c = rw (← c.self.view_is, c.drop_retained-dropped.ensures.
 
 pub returns-clause-cursors : goal.returns-clause-cursors
 returns-clause-cursors c =
-    rw (← c.self.view_is, c.drop_retained-dropped.ensures.left, c.max-self-inside.ensures, c.min-told.ensures, c.unwrap_or.ensures) (goes_on-trim (the_view c.self.inside) c.args.oldest c.self.invariant.stamped)
+    rw (← c.self.view_is, c.drop_retained-dropped.ensures.left, c.max-self-inside.ensures, c.min-named.ensures, c.unwrap_or.ensures) (goes_on-trim (the_view c.self.inside) c.args.oldest c.self.invariant.stamped)
 
 pub returns-clause-fewer : goal.returns-clause-fewer
 returns-clause-fewer c =
