@@ -2,7 +2,7 @@
 # may use, and how long they take.
 
 # What the repository was proved with, by `rt version`. The sum is that of the logic: kits of one sum prove the same.
-kit_name=rattle-kit-13b
+kit_name=rattle-kit-13f
 kit_logic=dac8208d650f15bf
 
 # Says which kit is wanted and which is here. Another logic is only warned of. The status is 1 where there is no `rt`.
