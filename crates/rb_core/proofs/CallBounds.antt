@@ -8,7 +8,7 @@ use Rattle.rb_rpc.specs.Records.{first_record}
 use Rattle.rb_feed.specs.Feeds.{arguments_of}
 use Rattle.rb_registry.specs.Registry.{slots_of}
 use Rattle.rb_forward.specs.Costs.{sent_cost, unsent_cost}
-use Rattle.rb_forward.specs.Forwards.{longest_forwarded as longest_args}
+use Rattle.rb_rpc.specs.Forwarded.{longest_forwarded as longest_args}
 use Rattle.rb_model.specs.Calls.{Outcome, longest_reply, longest_kept}
 use Rattle.rb_model.specs.State.{State, Setting, Connection, Connections, at_moment}
 use Rattle.rb_model.specs.declared.types.CoreFault.{CoreFault}

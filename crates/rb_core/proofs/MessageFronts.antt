@@ -7,18 +7,18 @@ use Rattle.rb_rpc.specs.Verdict.{verdict}
 use Rattle.rb_rpc.specs.declared.call.Verdict.{Verdict}
 use Rattle.rb_rpc.specs.declared.call.Verdict.TheVariants.{NoCall, RpcMismatch, AuthError, Call}
 use Rattle.rb_feed.specs.Feeds.{arguments_of}
-use Rattle.rb_forward.specs.Forwards.{longest_forwarded as longest_args}
-use Rattle.rb_proto.specs.declared.procedure.Procedure.{Procedure}
-use Rattle.rb_proto.specs.declared.procedure.Procedure.TheVariants as procedures
-use Rattle.rb_proto.specs.declared.request.Request.{Request}
-use Rattle.rb_proto.specs.declared.request.Request.TheVariants.{Mapping, Rpcb, Uaddr2taddr, Taddr2uaddr, Forward}
-use Rattle.rb_proto.specs.Remote.{read_remote}
-use Rattle.rb_proto.specs.Types.{read_mapping, read_rpcb, read_netbuf}
-use Rattle.rb_proto.specs.Arguments.{procedure_at, value_of, front, arguments, request, HasArgs}
+use Rattle.rb_rpc.specs.Forwarded.{longest_forwarded as longest_args}
+use Rattle.rb_arguments.specs.declared.procedure.Procedure.{Procedure}
+use Rattle.rb_arguments.specs.declared.procedure.Procedure.TheVariants as procedures
+use Rattle.rb_arguments.specs.declared.request.Request.{Request}
+use Rattle.rb_arguments.specs.declared.request.Request.TheVariants.{Mapping, Rpcb, Uaddr2taddr, Taddr2uaddr, Forward}
+use Rattle.rb_arguments.specs.Remote.{read_remote}
+use Rattle.rb_arguments.specs.Types.{read_mapping, read_rpcb, read_netbuf}
+use Rattle.rb_arguments.specs.Arguments.{procedure_at, value_of, front, arguments, request, HasArgs}
 use Rattle.rb_proto.specs.declared.answers.Answer.{Answer}
 use Rattle.rb_proto.specs.declared.context.Context.{Context}
 use Rattle.rb_proto.specs.Ledger.{Ledger, with_call_noted}
-use Rattle.rb_proto.proofs.Remotes.{answer_of_front}
+use Rattle.rb_proto.proofs.Fronts.{answer_of_front}
 use Rattle.rb_model.specs.declared.message.Message.{Message}
 use Rattle.rb_model.specs.declared.message.Message.TheVariants as says
 use Rattle.rb_model.specs.Calls.{call_of, message_with, message_of, reply_with, outcome, longest_kept, kept_of}

@@ -17,8 +17,8 @@ use Rattle.rb_proto.specs.declared.context.Context.{Context}
 use Rattle.rb_proto.specs.Ledger.{Ledger, StandsForLedger, with_call_noted, rows_in}
 use Rattle.rb_proto.specs.Answers.{answer}
 use Rattle.rb_proto.specs.declared.answers.Value.TheVariants as values
-use Rattle.rb_proto.specs.declared.procedure.VoidProcedure.TheVariants as voids
-use Rattle.rb_proto.specs.declared.request.Request.TheVariants as requests
+use Rattle.rb_arguments.specs.declared.procedure.VoidProcedure.TheVariants as voids
+use Rattle.rb_arguments.specs.declared.request.Request.TheVariants as requests
 use Rattle.rb_proto.specs.Results.{Shown, result_bytes, shown_of}
 use Rattle.rb_proto.specs.declared.answers.Listing.{Listing}
 use Rattle.rb_proto.specs.declared.answers.Results.{Results}

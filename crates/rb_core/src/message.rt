@@ -5,9 +5,10 @@ ghost use Rattle.rb_feed.specs.Feeds.{arguments_of};
 ghost use Rattle.rb_model.specs.Calls.{is_served, call_of, kept_of, message_with};
 ghost use Rattle.rb_core.specs.Messages.{AsksNothing, CallsProcedure};
 
+use rb_arguments::{Procedure, VoidProcedure};
 use rb_connections::LONGEST_KEPT;
 use rb_model::Message;
-use rb_proto::{Call, Procedure, VoidProcedure};
+use rb_proto::Call;
 use rb_registry::RPCB_PROG;
 use rb_rpc::{CallHead, ReplyHead, ReplyStatus, Verdict};
 
@@ -33,7 +34,7 @@ pub struct Called<'a> {
 
 impl Called<'_> {
     ghost use Rattle.std.specs.Prelude.{◌≡◌, ◌↔◌, IsTrue};
-    ghost use Rattle.rb_proto.specs.Arguments.{arguments as arguments_in};
+    ghost use Rattle.rb_arguments.specs.Arguments.{arguments as arguments_in};
     ghost use Rattle.rb_model.specs.Grammar.{HasArgsIn};
     ghost use Rattle.rb_core.specs.Messages.{asked_of};
 

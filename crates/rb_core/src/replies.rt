@@ -231,7 +231,7 @@ pub fn give_at_once(served: Served, draft: &mut Kept, room: &mut [u8], meter: &m
 }
 
 /// Writes the results that a target gave into an empty buffer, or SYSTEM_ERR where they do not fit.
-#[tactic(auto, using(rb_connections::proofs::ReplyHeads::some_fitting), unfolding(rb_model::specs::Calls::fitting_reply, rb_model::specs::Calls::longest_reply, rb_forward::specs::Forwards::longest_forwarded, rb_forward::specs::Forwards::longest_results))]
+#[tactic(auto, using(rb_connections::proofs::ReplyHeads::some_fitting), unfolding(rb_model::specs::Calls::fitting_reply, rb_model::specs::Calls::longest_reply, rb_rpc::specs::Forwarded::longest_forwarded, rb_forward::specs::Forwards::longest_results))]
 fn put_passed(forward: &Forward, results: &[u8], out: &mut Kept, meter: &mut Meter)
     requires results { length results.now ≤ longest_results }
     requires out { IsEmptyReply meter.old.tie out.old }

@@ -37,10 +37,6 @@ no_forwards = record { next = 1; all = [] }
 
 -- ---- what a target is asked
 
--- the most bytes of a call's arguments: the limit of args
-unfoldable pub longest_forwarded : ℕ
-longest_forwarded = 8800
-
 -- the xid of the entry of a number
 unfoldable pub xid_of : ℕ → ℕ → ℕ
 xid_of first_xid number = (first_xid + number - 1) % 2 ^ 32

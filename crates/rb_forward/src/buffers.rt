@@ -6,15 +6,12 @@ ghost use Rattle.rb_xdr.specs.Pool.{HasDistinctKeys};
 ghost use Rattle.rb_rpc.specs.CallBytes.{call_bytes};
 ghost use Rattle.rb_rpc.specs.declared.call.Credential.TheVariants as credentials;
 ghost use Rattle.rb_forward.specs.Table.{IsBuffer, IsSpare};
-ghost use Rattle.rb_forward.specs.Forwards.{longest_forwarded};
+ghost use Rattle.rb_rpc.specs.Forwarded.{longest_forwarded};
 ghost use Rattle.rb_forward.specs.StandsFor.{longest_forwarded_call};
 
-use rb_rpc::{CallHead, put_call};
+use rb_rpc::{CallHead, LONGEST_FORWARDED, put_call};
 use rb_xdr::{Kept, Meter, NoMemory, Pool};
 use std::alloc::Global;
-
-/// The most bytes of the content of arguments that are forwarded: `args` of RFC 1833 sections 2.1 and 3.1.
-pub const LONGEST_FORWARDED: usize = 8_800;
 
 /// A call's head with AUTH_NONE, in bytes.
 pub(crate) const HEAD: usize = 40;
@@ -66,7 +63,7 @@ pub(crate) fn put_buffer(spare: &mut Pool<Kept>, mut buffer: Kept, meter: &mut M
 }
 
 /// As many buffers as there may be entries.
-#[tactic(auto, unfolding(crate::specs::Forwards::longest_forwarded))]
+#[tactic(auto, unfolding(rb_rpc::specs::Forwarded::longest_forwarded))]
 pub(crate) fn make_spare(
     alloc: Global,
     cap: usize,

@@ -8,8 +8,8 @@ ghost use Rattle.rb_xdr.specs.Places.{to_come};
 ghost use Rattle.rb_forward.specs.Costs.{find_cost};
 ghost use Rattle.rb_forward.specs.Table.{is_wanted_slot, wanted_slot};
 
-use crate::types::{Forward, Kind};
-use rb_rpc::{Caller, Peer};
+use crate::types::Forward;
+use rb_rpc::{Caller, Kind, Peer};
 use rb_xdr::{Kept, Meter, NoMemory, Pool};
 use std::alloc::Global;
 

@@ -10,9 +10,9 @@ mod outcome;
 mod types;
 mod worked;
 
-pub use buffers::{LONGEST_FORWARDED, LONGEST_FORWARDED_CALL};
+pub use buffers::LONGEST_FORWARDED_CALL;
 pub use forwards::Forwards;
 pub use laws::{calls_end_the_first, each_entry_ends_once};
 pub use outcome::LONGEST_RESULTS;
-pub use types::{Ended, Forward, FwdId, Gone, Kind, Outcome, Unsent};
+pub use types::{Ended, Forward, FwdId, Gone, Outcome, Unsent};
 pub use worked::worked_examples;

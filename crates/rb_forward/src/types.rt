@@ -1,19 +1,6 @@
 //! What is forwarded, and how it ends.
-use rb_rpc::{Caller, Peer, ReplyStatus};
+use rb_rpc::{Caller, Kind, Peer, ReplyStatus};
 use thiserror::Error;
-
-/// The procedures that forward a call.
-#[derive(Clone, Copy, PartialEq, Eq, Debug)]
-pub enum Kind {
-    /// PMAPPROC_CALLIT of version 2 (RFC 1833 section 3.2).
-    Callit2,
-    /// RPCBPROC_CALLIT of version 3 (section 2.2.1).
-    Callit3,
-    /// RPCBPROC_BCAST of version 4 (section 2.2.1).
-    Bcast,
-    /// RPCBPROC_INDIRECT of version 4 (section 2.2.1).
-    Indirect,
-}
 
 /// What is asked of which target, and what its caller is told.
 #[derive(Clone, Copy, PartialEq, Eq, Debug)]

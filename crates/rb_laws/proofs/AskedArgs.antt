@@ -7,16 +7,16 @@ use Rattle.rb_rpc.specs.declared.call.Verdict.{Verdict}
 use Rattle.rb_rpc.specs.declared.call.Verdict.TheVariants.{NoCall, RpcMismatch, AuthError, Call}
 use Rattle.rb_rpc.specs.declared.reply.ReplyStatus.TheVariants as replies
 use Rattle.rb_registry.specs.Rows.{rpcb_prog}
-use Rattle.rb_proto.specs.declared.procedure.Procedure.{Procedure}
-use Rattle.rb_proto.specs.declared.procedure.Procedure.TheVariants as procedures
-use Rattle.rb_proto.specs.declared.remote.RemoteCall.{RemoteCall}
-use Rattle.rb_proto.specs.declared.request.ArgumentFault.{ArgumentFault}
-use Rattle.rb_proto.specs.declared.request.ArgumentFault.TheVariants as faults
-use Rattle.rb_proto.specs.declared.request.Request.{Request}
-use Rattle.rb_proto.specs.declared.request.Request.TheVariants.{Void, Mapping, Rpcb, Uaddr2taddr, Taddr2uaddr, Forward}
-use Rattle.rb_proto.specs.Remote.{read_remote, HasContent}
-use Rattle.rb_proto.specs.Arguments.{procedure_at, is_known, value_of, front, arguments, request, or_garbage, read_request, HasArgs}
-use Rattle.rb_proto.proofs.Remotes.{content_is_there}
+use Rattle.rb_arguments.specs.declared.procedure.Procedure.{Procedure}
+use Rattle.rb_arguments.specs.declared.procedure.Procedure.TheVariants as procedures
+use Rattle.rb_arguments.specs.declared.remote.RemoteCall.{RemoteCall}
+use Rattle.rb_arguments.specs.declared.request.ArgumentFault.{ArgumentFault}
+use Rattle.rb_arguments.specs.declared.request.ArgumentFault.TheVariants as faults
+use Rattle.rb_arguments.specs.declared.request.Request.{Request}
+use Rattle.rb_arguments.specs.declared.request.Request.TheVariants.{Void, Mapping, Rpcb, Uaddr2taddr, Taddr2uaddr, Forward}
+use Rattle.rb_arguments.specs.Remote.{read_remote, HasContent}
+use Rattle.rb_arguments.specs.Arguments.{procedure_at, is_known, value_of, front, arguments, request, or_garbage, read_request, HasArgs}
+use Rattle.rb_arguments.proofs.Remotes.{content_is_there}
 use Rattle.rb_model.specs.Calls.{is_served, refusal, request_of, call_of, message_with}
 use Rattle.rb_model.specs.Grammar.{HasArgsIn}
 

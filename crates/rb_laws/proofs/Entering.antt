@@ -11,24 +11,24 @@ use Rattle.rb_registry.specs.declared.row.Transport.{Transport}
 use Rattle.rb_registry.specs.declared.row.Row.{Row}
 use Rattle.rb_registry.specs.declared.row.Which.{Which}
 use Rattle.rb_forward.specs.declared.types.Forward.{Forward}
-use Rattle.rb_forward.specs.declared.types.Kind.{Kind}
-use Rattle.rb_forward.specs.declared.types.Kind.TheVariants.{Callit2, Callit3, Bcast, Indirect}
+use Rattle.rb_rpc.specs.declared.peer.Kind.{Kind}
+use Rattle.rb_rpc.specs.declared.peer.Kind.TheVariants.{Callit2, Callit3, Bcast, Indirect}
 use Rattle.rb_forward.specs.Forwards.{Forwards, can_start, with_next_entry}
 use Rattle.rb_proto.specs.declared.answers.Answer.{Answer}
 use Rattle.rb_proto.specs.declared.answers.Answer.TheVariants as answers
 use Rattle.rb_proto.specs.declared.answers.Results.{Results}
 use Rattle.rb_proto.specs.declared.answers.Results.TheVariants as results
 use Rattle.rb_proto.specs.declared.context.Context.{Context}
-use Rattle.rb_proto.specs.declared.mapping.Mapping.{Mapping}
-use Rattle.rb_proto.specs.declared.procedure.MappingProcedure.TheVariants as mappings
-use Rattle.rb_proto.specs.declared.procedure.RpcbProcedure.TheVariants as rpcbs
-use Rattle.rb_proto.specs.declared.remote.RemoteCall.{RemoteCall}
-use Rattle.rb_proto.specs.declared.request.Request.{Request}
-use Rattle.rb_proto.specs.declared.request.Request.TheVariants as requests
+use Rattle.rb_arguments.specs.declared.mapping.Mapping.{Mapping}
+use Rattle.rb_arguments.specs.declared.procedure.MappingProcedure.TheVariants as mappings
+use Rattle.rb_arguments.specs.declared.procedure.RpcbProcedure.TheVariants as rpcbs
+use Rattle.rb_arguments.specs.declared.remote.RemoteCall.{RemoteCall}
+use Rattle.rb_arguments.specs.declared.request.Request.{Request}
+use Rattle.rb_arguments.specs.declared.request.Request.TheVariants as requests
 use Rattle.rb_proto.specs.Ledger.{Ledger, rows_in, with_call_noted}
 use Rattle.rb_proto.specs.Results.{result_bytes, shown_of}
 use Rattle.rb_proto.specs.Netids.{transport_of_prot}
-use Rattle.rb_proto.specs.Remote.{args_of}
+use Rattle.rb_arguments.specs.Remote.{args_of}
 use Rattle.rb_proto.specs.Forwarding.{refusal, peer_to_forward, forward_of, refuse, forward_to, forward_call}
 use Rattle.rb_proto.specs.Answers.{set_row, unset_rows, port_on, getport, getaddr, getversaddr, answer_to, answer}
 use Rattle.rb_model.specs.declared.message.Message.{Message}

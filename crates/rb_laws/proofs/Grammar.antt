@@ -18,12 +18,12 @@ use Rattle.rb_rpc.proofs.Refusals.{mismatches_agree, auth_errors_agree, the_rest
 use Rattle.rb_feed.specs.Feeds.{behind_head, arguments_of}
 use Rattle.rb_registry.specs.Rows.{rpcb_prog}
 use Rattle.rb_proto.specs.declared.call.Call.{Call}
-use Rattle.rb_proto.specs.declared.procedure.Procedure.{Procedure}
-use Rattle.rb_proto.specs.declared.request.ArgumentFault.TheVariants as faults
-use Rattle.rb_proto.specs.declared.request.Request.{Request}
-use Rattle.rb_proto.specs.Arguments.{procedures, procedure_at, is_known, request, or_garbage, read_request}
-use Rattle.rb_proto.specs.Grammar.{Asks, procedure_of}
-use Rattle.rb_proto.proofs.Requests.{requests_are_of_the_grammar}
+use Rattle.rb_arguments.specs.declared.procedure.Procedure.{Procedure}
+use Rattle.rb_arguments.specs.declared.request.ArgumentFault.TheVariants as faults
+use Rattle.rb_arguments.specs.declared.request.Request.{Request}
+use Rattle.rb_arguments.specs.Arguments.{procedures, procedure_at, is_known, request, or_garbage, read_request}
+use Rattle.rb_arguments.specs.Grammar.{Asks, procedure_of}
+use Rattle.rb_arguments.proofs.Requests.{requests_are_of_the_grammar}
 use Rattle.rb_model.specs.declared.message.Message.{Message}
 use Rattle.rb_model.specs.declared.message.Message.TheVariants.{NoCall, Refused, Garbage, Asked}
 use Rattle.rb_model.specs.Calls.{is_served, refusal, request_of, call_of, message_with, message_of}

@@ -10,8 +10,8 @@ use Rattle.rb_rpc.specs.declared.peer.Caller.TheVariants.{Tcp, Udp}
 use Rattle.rb_rpc.specs.declared.reply.ReplyStatus.{ReplyStatus}
 use Rattle.rb_rpc.specs.declared.reply.ReplyStatus.TheVariants as replies
 use Rattle.rb_rpc.specs.Records.{first_record, data_of}
-use Rattle.rb_forward.specs.declared.types.Kind.{Kind}
-use Rattle.rb_forward.specs.declared.types.Kind.TheVariants.{Callit2, Callit3, Bcast, Indirect}
+use Rattle.rb_rpc.specs.declared.peer.Kind.{Kind}
+use Rattle.rb_rpc.specs.declared.peer.Kind.TheVariants.{Callit2, Callit3, Bcast, Indirect}
 use Rattle.rb_forward.specs.declared.types.Outcome as target
 use Rattle.rb_forward.specs.declared.types.Outcome.TheVariants.{Passed, Failed, Dropped}
 use Rattle.rb_forward.specs.declared.types.Outcome.TheVariants as ends

@@ -11,11 +11,11 @@ use Rattle.rb_rpc.specs.declared.peer.Caller.{Caller}
 use Rattle.rb_rpc.specs.declared.peer.Caller.TheVariants.{Tcp, Udp}
 use Rattle.rb_feed.specs.Feeds.{arguments_of}
 use Rattle.rb_registry.specs.Rows.{rpcb_prog}
-use Rattle.rb_proto.specs.declared.request.ArgumentFault.{ArgumentFault}
-use Rattle.rb_proto.specs.declared.request.ArgumentFault.TheVariants as faults
-use Rattle.rb_proto.specs.declared.request.Request.{Request}
+use Rattle.rb_arguments.specs.declared.request.ArgumentFault.{ArgumentFault}
+use Rattle.rb_arguments.specs.declared.request.ArgumentFault.TheVariants as faults
+use Rattle.rb_arguments.specs.declared.request.Request.{Request}
 use Rattle.rb_proto.specs.declared.context.Context.{Context}
-use Rattle.rb_proto.specs.Arguments.{read_request}
+use Rattle.rb_arguments.specs.Arguments.{read_request}
 use Rattle.rb_proto.specs.Ledger.{Ledger, with_call_noted}
 use Rattle.rb_proto.specs.declared.answers.Answer.{Answer}
 use Rattle.rb_proto.specs.declared.answers.Results.{Results}

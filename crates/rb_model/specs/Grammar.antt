@@ -7,10 +7,10 @@ use Rattle.rb_rpc.specs.declared.reply.ReplyStatus.TheVariants.{RpcMismatch, Aut
 use Rattle.rb_rpc.specs.Grammar.{BeginsWithCall, BeginsWithOtherVersion, HasBadAuth, IsNoCall}
 use Rattle.rb_registry.specs.Rows.{rpcb_prog}
 use Rattle.rb_proto.specs.declared.call.Call.{Call}
-use Rattle.rb_proto.specs.declared.procedure.Procedure.{Procedure}
-use Rattle.rb_proto.specs.declared.request.Request.{Request}
-use Rattle.rb_proto.specs.Arguments.{procedure_at, HasArgs}
-use Rattle.rb_proto.specs.Grammar.{Asks}
+use Rattle.rb_arguments.specs.declared.procedure.Procedure.{Procedure}
+use Rattle.rb_arguments.specs.declared.request.Request.{Request}
+use Rattle.rb_arguments.specs.Arguments.{procedure_at, HasArgs}
+use Rattle.rb_arguments.specs.Grammar.{Asks}
 use Rattle.rb_model.specs.declared.message.Message.TheVariants.{NoCall, Garbage, Asked}
 use Rattle.rb_model.specs.Calls.{refusal, message_of}
 use Rattle.rb_model.specs.declared.message.Message.{Message}

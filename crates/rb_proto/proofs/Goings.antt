@@ -15,14 +15,14 @@ use Rattle.rb_registry.specs.declared.row.Netid.TheVariants.{Tcp, Udp, Tcp6, Udp
 use Rattle.rb_registry.specs.declared.row.Row.{Row}
 use Rattle.rb_registry.specs.Rows.{rpcb_prog, is_netid, is_on, is_row, find_exact}
 use Rattle.rb_forward.specs.declared.types.Forward.{Forward}
-use Rattle.rb_forward.specs.declared.types.Kind.{Kind}
-use Rattle.rb_forward.specs.declared.types.Kind.TheVariants.{Callit2, Callit3, Bcast, Indirect}
+use Rattle.rb_rpc.specs.declared.peer.Kind.{Kind}
+use Rattle.rb_rpc.specs.declared.peer.Kind.TheVariants.{Callit2, Callit3, Bcast, Indirect}
 use Rattle.rb_forward.specs.Forwards.{can_start, with_next_entry}
 use Rattle.rb_proto.specs.declared.answers.Answer.{Answer}
 use Rattle.rb_proto.specs.declared.answers.Answer.TheVariants as answers
 use Rattle.rb_proto.specs.declared.context.Context.{Context}
-use Rattle.rb_proto.specs.declared.remote.RemoteCall.{RemoteCall}
-use Rattle.rb_proto.specs.Remote.{args_of}
+use Rattle.rb_arguments.specs.declared.remote.RemoteCall.{RemoteCall}
+use Rattle.rb_arguments.specs.Remote.{args_of}
 use Rattle.rb_proto.specs.Ledger.{Ledger, rows_in}
 use Rattle.rb_proto.specs.Netids.{address_in}
 use Rattle.rb_proto.specs.Forwarding.{peer_at, peer_of_row, refusal, refuse, peer_to_forward, forward_of, forward_to, forward_call}

@@ -1,7 +1,5 @@
 pub mod Addresses
-pub mod Readings
-pub mod Remotes
-pub mod Requests
+pub mod Fronts
 pub mod RowChanges
 pub mod Lists
 pub mod ListReplies

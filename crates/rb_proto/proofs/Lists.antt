@@ -16,7 +16,7 @@ use Rattle.rb_proto.specs.declared.answers.Results.{Results}
 use Rattle.rb_proto.specs.declared.answers.Results.TheVariants.{Rows}
 use Rattle.rb_proto.specs.declared.answers.Listing.{Listing}
 use Rattle.rb_proto.specs.declared.answers.Listing.TheVariants.{Mappings, Rpcbs, Entries}
-use Rattle.rb_proto.specs.Types.{mapping_spelling, rpcb_spelling, entry_spelling}
+use Rattle.rb_arguments.specs.Types.{mapping_spelling, rpcb_spelling, entry_spelling}
 use Rattle.rb_proto.specs.Results.{is_inet, is_version, mapping_of, rpcb_of, entry_of, list_bytes, row_bytes, rows_bytes, Shown, result_bytes}
 
 -- ---- a list is what its rows add

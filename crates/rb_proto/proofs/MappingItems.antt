@@ -6,8 +6,8 @@ use Rattle.rb_xdr.specs.Xdr.{number, boolean}
 use Rattle.rb_xdr.specs.Puts.{Leaves}
 use Rattle.rb_xdr.proofs.Words.{length-number}
 use Rattle.rb_xdr.proofs.Types.{length-boolean}
-use Rattle.rb_proto.specs.declared.mapping.Mapping.{Mapping}
-use Rattle.rb_proto.specs.Types.{mapping_spelling}
+use Rattle.rb_arguments.specs.declared.mapping.Mapping.{Mapping}
+use Rattle.rb_arguments.specs.Types.{mapping_spelling}
 
 pub mapping_item_length : (m : Mapping) → length (boolean true ++ mapping_spelling m) ≡ 20
 mapping_item_length m =

@@ -10,7 +10,7 @@ use Rattle.rb_rpc.specs.declared.peer.Peer.{Peer}
 use Rattle.rb_stats.specs.Statistics.{Note}
 use Rattle.rb_stats.proofs.Items.{count_by-push}
 use Rattle.rb_forward.specs.declared.types.Forward.{Forward}
-use Rattle.rb_forward.specs.declared.types.Kind.{Kind}
+use Rattle.rb_rpc.specs.declared.peer.Kind.{Kind}
 use Rattle.rb_forward.specs.declared.types.Outcome.{Outcome}
 use Rattle.rb_forward.specs.declared.types.Outcome.TheVariants.{Failed, Dropped}
 use Rattle.rb_forward.specs.Forwards.{Entry, without_first, change_first, as_sent, is_unsent, ended_by, with_end, can_start, next_entry, with_next_entry, sent, counts_for, outcome_of, reply, is_due, due, is_of_connection, drop_caller}
@@ -18,8 +18,8 @@ use Rattle.rb_forward.proofs.Tables.{all_stay}
 use Rattle.rb_proto.specs.declared.answers.Answer.{Answer}
 use Rattle.rb_proto.specs.declared.answers.Answer.TheVariants as answers
 use Rattle.rb_proto.specs.declared.context.Context.{Context}
-use Rattle.rb_proto.specs.declared.remote.RemoteCall.{RemoteCall}
-use Rattle.rb_proto.specs.Remote.{args_of}
+use Rattle.rb_arguments.specs.declared.remote.RemoteCall.{RemoteCall}
+use Rattle.rb_arguments.specs.Remote.{args_of}
 use Rattle.rb_proto.specs.Ledger.{Ledger, rows_in}
 use Rattle.rb_proto.specs.Forwarding.{outcome_note, end_note, end_notes, noted_end, peer_to_forward, forward_of, refuse, forward_to, forward_call, target_replied, fell_due, caller_dropped, call_sent}
 use Rattle.rb_proto.specs.ForwardLaws.{is_outcome, asked_so_far, ForwardsAreNotedOnce}

@@ -3,11 +3,11 @@ use Rattle.std.proofs.Common.{◌≡◌, ℕ, Bool, true, false, List, Some, ref
 use Rattle.std.specs.Prelude.{IsTrue}
 use Rattle.rb_rpc.specs.declared.reply.ReplyStatus.TheVariants as replies
 use Rattle.rb_rpc.specs.declared.peer.Peer.{Peer}
-use Rattle.rb_forward.specs.declared.types.Kind.{Kind}
+use Rattle.rb_rpc.specs.declared.peer.Kind.{Kind}
 use Rattle.rb_forward.specs.Forwards.{can_start}
 use Rattle.rb_proto.specs.declared.answers.Answer.{Answer}
 use Rattle.rb_proto.specs.declared.context.Context.{Context}
-use Rattle.rb_proto.specs.declared.remote.RemoteCall.{RemoteCall}
+use Rattle.rb_arguments.specs.declared.remote.RemoteCall.{RemoteCall}
 use Rattle.rb_proto.specs.Ledger.{Books, Ledger, StandsForLedger, rows_in}
 use Rattle.rb_proto.specs.Books.{ActsAs}
 use Rattle.rb_proto.specs.Forwarding.{peer_to_forward, refuse, forward_call}

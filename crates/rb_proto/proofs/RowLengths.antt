@@ -6,11 +6,11 @@ use Rattle.rb_xdr.proofs.Types.{length-boolean}
 use Rattle.rb_registry.specs.declared.row.Netid.{Netid}
 use Rattle.rb_registry.specs.declared.row.Netid.TheVariants.{Tcp, Udp, Tcp6, Udp6, Local}
 use Rattle.rb_registry.specs.Rows.{netid_text}
-use Rattle.rb_proto.specs.declared.rpcb.Rpcb.{Rpcb}
-use Rattle.rb_proto.specs.declared.entry.Entry.{Entry}
-use Rattle.rb_proto.specs.Types.{IsRpcb, rpcb_spelling, IsEntry, entry_spelling}
+use Rattle.rb_arguments.specs.declared.rpcb.Rpcb.{Rpcb}
+use Rattle.rb_arguments.specs.declared.entry.Entry.{Entry}
+use Rattle.rb_arguments.specs.Types.{IsRpcb, rpcb_spelling, IsEntry, entry_spelling}
 use Rattle.rb_proto.specs.ListParts.{IsShort}
-use Rattle.rb_proto.proofs.Readings.{rpcb_bounded, entry_bounded}
+use Rattle.rb_arguments.proofs.Readings.{rpcb_bounded, entry_bounded}
 
 pub rpcb_is_short : (r : Rpcb) → IsRpcb r → IsShort (boolean true ++ rpcb_spelling r)
 rpcb_is_short r is = omega (arith, length-append (boolean true) (rpcb_spelling r), length-boolean true, rpcb_bounded r is)

@@ -16,19 +16,19 @@ use Rattle.rb_registry.specs.Rows.Change.{Added, Removed}
 use Rattle.rb_stats.specs.declared.key.Target.{Target}
 use Rattle.rb_stats.specs.Statistics.{Note}
 use Rattle.rb_stats.specs.Statistics.Note.{WasSet, WasUnset, LookedUp}
-use Rattle.rb_proto.specs.declared.mapping.Mapping.{Mapping}
-use Rattle.rb_proto.specs.declared.rpcb.Rpcb.{Rpcb}
-use Rattle.rb_proto.specs.declared.procedure.MappingProcedure.TheVariants as mappings
-use Rattle.rb_proto.specs.declared.procedure.RpcbProcedure.TheVariants as rpcbs
-use Rattle.rb_proto.specs.declared.request.Request.TheVariants as requests
-use Rattle.rb_proto.specs.declared.request.Request.{Request}
-use Rattle.rb_proto.specs.declared.netbuf.Netbuf.{Netbuf}
+use Rattle.rb_arguments.specs.declared.mapping.Mapping.{Mapping}
+use Rattle.rb_arguments.specs.declared.rpcb.Rpcb.{Rpcb}
+use Rattle.rb_arguments.specs.declared.procedure.MappingProcedure.TheVariants as mappings
+use Rattle.rb_arguments.specs.declared.procedure.RpcbProcedure.TheVariants as rpcbs
+use Rattle.rb_arguments.specs.declared.request.Request.TheVariants as requests
+use Rattle.rb_arguments.specs.declared.request.Request.{Request}
+use Rattle.rb_arguments.specs.declared.netbuf.Netbuf.{Netbuf}
 use Rattle.rb_proto.specs.declared.answers.Answer.TheVariants as answers
 use Rattle.rb_proto.specs.declared.answers.Results.TheVariants as results
 use Rattle.rb_proto.specs.declared.answers.Value.{Value}
 use Rattle.rb_proto.specs.declared.answers.Listing.{Listing}
-use Rattle.rb_proto.specs.declared.procedure.VoidProcedure.{VoidProcedure}
-use Rattle.rb_proto.specs.declared.procedure.VoidProcedure.TheVariants as voids
+use Rattle.rb_arguments.specs.declared.procedure.VoidProcedure.{VoidProcedure}
+use Rattle.rb_arguments.specs.declared.procedure.VoidProcedure.TheVariants as voids
 use Rattle.rb_proto.specs.declared.answers.Listing.TheVariants.{Mappings, Rpcbs, Entries}
 use Rattle.rb_proto.specs.declared.answers.Value.TheVariants as values
 use Rattle.rb_proto.specs.Callers.{is_local, peer_of, transport_of_caller, owner_of}

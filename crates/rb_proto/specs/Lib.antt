@@ -1,8 +1,3 @@
-pub mod Types
-pub mod Remote
-pub mod Arguments
-pub mod Numbers
-pub mod Grammar
 pub mod Netids
 pub mod Callers
 pub mod Ledger

@@ -6,7 +6,7 @@ use Rattle.rb_rpc.specs.Replies.{reply_head}
 use Rattle.rb_registry.specs.declared.row.Row.{Row}
 use Rattle.rb_registry.specs.Registry.{Registry, rows_at, rows_passed}
 use Rattle.rb_proto.specs.declared.list_reply.ListReply.{ListReply}
-use Rattle.rb_proto.specs.Types.{max_rpcb}
+use Rattle.rb_arguments.specs.Types.{max_rpcb}
 use Rattle.rb_proto.specs.Results.{rows_bytes}
 
 -- no part has more bytes

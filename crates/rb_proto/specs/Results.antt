@@ -10,15 +10,15 @@ use Rattle.rb_registry.specs.Rows.{netid_text, is_among}
 use Rattle.rb_stats.specs.Statistics.{statistics}
 use Rattle.rb_stats.specs.Counting.{spelling}
 use Rattle.rb_proto.specs.declared.listener.Listener.{Listener}
-use Rattle.rb_proto.specs.declared.mapping.Mapping.{Mapping}
-use Rattle.rb_proto.specs.declared.rpcb.Rpcb.{Rpcb}
-use Rattle.rb_proto.specs.declared.entry.Entry.{Entry}
+use Rattle.rb_arguments.specs.declared.mapping.Mapping.{Mapping}
+use Rattle.rb_arguments.specs.declared.rpcb.Rpcb.{Rpcb}
+use Rattle.rb_arguments.specs.declared.entry.Entry.{Entry}
 use Rattle.rb_proto.specs.declared.answers.Results.TheVariants as results
 use Rattle.rb_proto.specs.declared.answers.Listing.{Listing}
 use Rattle.rb_proto.specs.declared.answers.Listing.TheVariants.{Mappings, Rpcbs, Entries}
 use Rattle.rb_proto.specs.declared.answers.Value.{Value}
 use Rattle.rb_proto.specs.declared.answers.Value.TheVariants as values
-use Rattle.rb_proto.specs.Types.{mapping_spelling, rpcb_spelling, netbuf_spelling, entry_spelling}
+use Rattle.rb_arguments.specs.Types.{mapping_spelling, rpcb_spelling, netbuf_spelling, entry_spelling}
 use Rattle.rb_proto.specs.Callers.{owner_text}
 use Rattle.rb_proto.specs.Netids.{prot_on, semantics_of, family_text, proto_text}
 use Rattle.rb_proto.specs.Ledger.{Ledger, rows_in, Books}

@@ -11,11 +11,12 @@ use Rattle.rb_registry.specs.declared.row.Owner.TheVariants as owners
 use Rattle.rb_registry.specs.declared.row.Row.{Row}
 use Rattle.rb_registry.specs.Rows.{rpcb_prog}
 use Rattle.rb_proto.specs.declared.listener.Listener.{Listener}
-use Rattle.rb_proto.specs.declared.request.ArgumentFault.{ArgumentFault}
-use Rattle.rb_proto.specs.declared.request.ArgumentFault.TheVariants.{ProcUnavail, GarbageArgs}
+use Rattle.rb_arguments.specs.declared.request.ArgumentFault.{ArgumentFault}
+use Rattle.rb_arguments.specs.declared.request.ArgumentFault.TheVariants.{ProcUnavail, GarbageArgs}
 use Rattle.rb_proto.specs.declared.answers.Answer.TheVariants as answers
 use Rattle.rb_proto.specs.declared.answers.Listing.TheVariants.{Mappings}
-use Rattle.rb_proto.specs.Arguments.{Request, read_request}
+use Rattle.rb_arguments.specs.declared.request.Request.{Request}
+use Rattle.rb_arguments.specs.Arguments.{read_request}
 use Rattle.rb_proto.specs.Callers.{own_rows}
 use Rattle.rb_proto.specs.Ledger.{Ledger, fresh_ledger, with_call_noted}
 use Rattle.rb_proto.specs.Answers.{Answer, Call, Context, answer}

@@ -1,5 +1,5 @@
 -- Worked examples of forwarded calls. The listener, the callers and the calls are those of the other worked examples.
-use Rattle.std.specs.Prelude.{◌≡◌, ℕ, true, false, List, [], ◌∷◌, ◌++◌, length, map, filter, replicate, Option, Some, None, Result, Ok, Err, codes}
+use Rattle.std.specs.Prelude.{◌≡◌, ℕ, true, false, List, [], ◌∷◌, ◌++◌, length, replicate, Option, Some, None, Result, Ok, Err, codes}
 use Rattle.rb_xdr.specs.Xdr.{words, opaque}
 use Rattle.rb_rpc.specs.declared.peer.Peer.{Peer}
 use Rattle.rb_rpc.specs.declared.peer.Caller.{Caller}
@@ -12,20 +12,17 @@ use Rattle.rb_stats.specs.declared.key.Version.TheVariants as versions
 use Rattle.rb_stats.specs.Statistics.{Note}
 use Rattle.rb_stats.specs.Statistics.Note.{Forwarded}
 use Rattle.rb_forward.specs.declared.types.Forward.{Forward}
-use Rattle.rb_forward.specs.declared.types.Kind.{Kind}
-use Rattle.rb_forward.specs.declared.types.Kind.TheVariants.{Callit2, Callit3, Bcast, Indirect}
+use Rattle.rb_rpc.specs.declared.peer.Kind.{Kind}
+use Rattle.rb_rpc.specs.declared.peer.Kind.TheVariants.{Callit2, Callit3, Bcast, Indirect}
 use Rattle.rb_forward.specs.declared.types.Ended.{Ended}
 use Rattle.rb_forward.specs.declared.types.Outcome.{Outcome}
 use Rattle.rb_forward.specs.declared.types.Outcome.TheVariants as outcomes
 use Rattle.rb_forward.specs.Forwards.{no_forwards, with_next_entry}
 use Rattle.rb_proto.specs.declared.answers.Answer.TheVariants as answers
-use Rattle.rb_proto.specs.declared.request.ArgumentFault.{ArgumentFault}
-use Rattle.rb_proto.specs.declared.request.ArgumentFault.TheVariants.{GarbageArgs}
-use Rattle.rb_proto.specs.declared.request.Request.TheVariants as requests
-use Rattle.rb_proto.specs.declared.remote.RemoteCall.{RemoteCall}
-use Rattle.rb_proto.specs.Arguments.{Request, is_known, read_request}
+use Rattle.rb_arguments.specs.declared.request.ArgumentFault.{ArgumentFault}
+use Rattle.rb_arguments.specs.declared.request.Request.{Request}
+use Rattle.rb_arguments.specs.Arguments.{read_request}
 use Rattle.rb_proto.specs.Callers.{own_rows}
-use Rattle.rb_proto.specs.Remote.{args_of}
 use Rattle.rb_proto.specs.Ledger.{Ledger, fresh_ledger, with_note}
 use Rattle.rb_proto.specs.Answers.{Answer, answer}
 use Rattle.rb_proto.specs.Forwarding.{loopback, target_replied, fell_due, caller_dropped, call_sent, forwarded_bytes}
@@ -72,25 +69,6 @@ abbrev pub IsRefused : ℕ → ℕ → ℕ → Answer → Ledger → Type 0
 IsRefused places prog vers refused l =
     (answer_to places (indirect prog vers) l ≡ Some (refused, with_note (indirect_failed prog vers) l))
     × (answer_to places (callit prog vers) l ≡ Some (answers.Silent, with_note (callit_failed prog vers) l))
-
--- ---- the table of procedures
-
--- how many procedures below 16 the version has
-abbrev pub known_in : ℕ → ℕ
-known_in vers =
-    length (filter (is_known vers) (0 ∷ 1 ∷ 2 ∷ 3 ∷ 4 ∷ 5 ∷ 6 ∷ 7 ∷ 8 ∷ 9 ∷ 10 ∷ 11 ∷ 12 ∷ 13 ∷ 14 ∷ 15 ∷ []))
-
-abbrev pub ProceduresAreKnown : Type 0
-ProceduresAreKnown = map known_in (1 ∷ 2 ∷ 3 ∷ 4 ∷ 5 ∷ []) ≡ 0 ∷ 6 ∷ 9 ∷ 13 ∷ 0 ∷ []
-
--- the content of args may have 8,800 bytes, and no more
-abbrev pub GreatestArguments : Type 0
-GreatestArguments =
-    let remote : RemoteCall = record { prog = 200001; vers = 1; proc = 0; count = 8800 } in
-    let bytes : List ℕ = words (200001 ∷ 1 ∷ 0 ∷ 8800 ∷ []) ++ replicate 8800 7 in
-    (read_request 2 5 bytes ≡ Ok (requests.Forward Callit2 remote))
-    × (args_of remote bytes ≡ replicate 8800 7)
-    × (read_request 2 5 (words (200001 ∷ 1 ∷ 0 ∷ 8801 ∷ []) ++ replicate 8801 7 ++ replicate 3 0) ≡ Err GarbageArgs)
 
 -- ---- what is refused
 

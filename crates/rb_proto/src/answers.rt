@@ -1,5 +1,5 @@
 //! What is answered.
-use crate::netbuf::AddressBuf;
+use crate::address_buf::AddressBuf;
 use rb_rpc::ReplyStatus;
 use rb_uaddr::MAX_TEXT;
 use rb_xdr::Text;

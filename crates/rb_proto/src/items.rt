@@ -4,12 +4,10 @@ ghost use Rattle.rb_xdr.specs.Xdr.{IsContent};
 ghost use Rattle.rb_proto.specs.Callers.{owner_text};
 ghost use Rattle.rb_proto.specs.Results.{mapping_of, rpcb_of, entry_of};
 
-use crate::entry::Entry;
 use crate::lookups::{shown_port, shown_text};
-use crate::mapping::Mapping;
 use crate::netids::{family_text, prot_on, proto_text, semantics_of};
-use crate::rpcb::Rpcb;
 use itoa::Buffer;
+use rb_arguments::{Entry, Mapping, Rpcb};
 use rb_registry::{Owner, Row};
 use rb_xdr::Text;
 

@@ -1,12 +1,6 @@
-//! What holds of every request, and of every forwarded call.
+//! What holds of every forwarded call, and of every list.
 ghost use Rattle.rb_proto.specs.ForwardLaws.{ForwardsGoToRows, ForwardsAreNotedOnce};
-ghost use Rattle.rb_proto.specs.Grammar.{RequestsAreOfTheGrammar};
 ghost use Rattle.rb_proto.specs.ListParts.{ListRepliesGoOn};
-
-/// Arguments are read exactly where the bytes begin with a spelling of them.
-pub fn requests_are_of_the_grammar()
-    ensures { RequestsAreOfTheGrammar }
-{}
 
 /// Where a call is forwarded, it goes to a live row on udp of exactly its program and version, and never to the portmapper.
 pub fn forwards_go_to_rows()

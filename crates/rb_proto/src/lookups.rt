@@ -9,12 +9,11 @@ ghost use Rattle.rb_proto.specs.Answers.{shown_address, shown_text, shown_port, 
 ghost use Rattle.rb_proto.specs.Costs.{note_cost};
 ghost use Rattle.rb_proto.specs.Puts.{lookup_cost};
 
+use crate::address_buf::AddressBuf;
 use crate::books::{Books, version_of};
 use crate::context::Context;
-use crate::lent::{LentNetbuf, LentRpcb, LentText};
-use crate::mapping::Mapping;
-use crate::netbuf::AddressBuf;
 use crate::netids::{address_in, transport_of_prot};
+use rb_arguments::{LentNetbuf, LentRpcb, LentText, Mapping};
 use rb_registry::Row;
 use rb_rpc::CallHead;
 use rb_stats::{Stats, Target};

@@ -7,7 +7,7 @@ ghost use Rattle.rb_xdr.specs.Puts.{Appends, HasRoom, Leaves};
 ghost use Rattle.rb_proto.specs.ListParts.{IsShort, FitsIfShort};
 ghost use Rattle.rb_proto.specs.Puts.{write_cost};
 ghost use Rattle.rb_proto.specs.Callers.{owner_text};
-ghost use Rattle.rb_proto.specs.Types.{IsRpcb};
+ghost use Rattle.rb_arguments.specs.Types.{IsRpcb};
 ghost use Rattle.rb_proto.specs.Results.{mapping_item, netid_front, netid_rest, rpcb_head, rpcb_item, entry_item, is_shown, row_bytes, rows_bytes, rpcb_of};
 
 use crate::answers::Listing;

@@ -9,11 +9,8 @@ ghost use Rattle.rb_proto.specs.Answers.{row_of_mapping, row_of_rpcb, can_be_set
 use crate::books::{Books, owner_of, version_of};
 use crate::call::Call;
 use crate::context::Context;
-use crate::lent::LentRpcb;
-use crate::mapping::Mapping;
 use crate::netids::{is_address, netid_named, transport_of_prot};
-use crate::procedure::{MappingProcedure, RpcbProcedure};
-use crate::request::Request;
+use rb_arguments::{LentRpcb, Mapping, MappingProcedure, Request, RpcbProcedure};
 use rb_registry::{Owner, RPCB_PROG, Registry, Row, Which};
 use rb_rpc::CallHead;
 use rb_uaddr::{AddressText, Uaddr};

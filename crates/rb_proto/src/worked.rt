@@ -1,6 +1,6 @@
 //! Worked examples of the definitions.
 ghost use Rattle.rb_proto.specs.Worked.{DumpOwnRows, SetGetportSetAgain, GetportGreatestVersion, SetAtRowLimit, VersionTwoRefuses, OwnersRemove, UnsetByOwner, OtherAddressesRefused, GetaddrByTransport, Getaddrlist, AddressTransportForm, LocalityAndGettime, RefusalsOfAcceptedCalls, GetstatFirstCall, GetstatAfterCalls, GetstatOfOtherCalls, GetstatFirstKeys, LongDump, LongPmapDump};
-ghost use Rattle.rb_proto.specs.WorkedForwards.{ProceduresAreKnown, GreatestArguments, WithoutRow, WithOtherRows, PortmapperIsNotCalled, TableIsFull, FailuresAreCounted, AnyHostIsThisMachine, OtherHostsStay, EndsAreNoted, OthersAreNotNoted, PlacesAreShown};
+ghost use Rattle.rb_proto.specs.WorkedForwards.{WithoutRow, WithOtherRows, PortmapperIsNotCalled, TableIsFull, FailuresAreCounted, AnyHostIsThisMachine, OtherHostsStay, EndsAreNoted, OthersAreNotNoted, PlacesAreShown};
 ghost use Rattle.rb_proto.specs.WorkedNetids.{AddressesGoByNetid, TextsStay, OthersAreNotSeen, VersionTwoListsNone, Ipv6TransportForm};
 ghost use Rattle.rb_proto.specs.WorkedLists.{SetsWantRoom, FullTableWantsNone, PartsCrossRows, ListsAreAsOfTheirCall};
 
@@ -29,8 +29,6 @@ pub fn worked_examples()
 
 /// So they do of calls that are forwarded.
 pub fn worked_forwards()
-    ensures procedures_are_known { ProceduresAreKnown }
-    ensures greatest_arguments { GreatestArguments }
     ensures without_row { WithoutRow }
     ensures with_other_rows { WithOtherRows }
     ensures portmapper_is_not_called { PortmapperIsNotCalled }

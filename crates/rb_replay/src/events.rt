@@ -144,7 +144,7 @@ fn datagram(
 }
 
 /// Looks for the forwarded call that is to be sent.
-#[tactic(auto, unfolding(rb_model::specs::Step::step, rb_forward::specs::Forwards::longest_forwarded))]
+#[tactic(auto, unfolding(rb_model::specs::Step::step, rb_rpc::specs::Forwarded::longest_forwarded))]
 fn unsent(alloc: Global, core: &mut Core, meter: &mut Meter) -> Result<Output, NoMemory>
     requires { meter.old.tie ≡ core.old.tie }
     ensures ok { MayHappen Unsent core.old core.new meter.old meter.new result }

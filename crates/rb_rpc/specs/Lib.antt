@@ -8,5 +8,6 @@ pub mod RecordLaws
 pub mod Grammar
 pub mod Worked
 pub mod Peers
+pub mod Forwarded
 pub mod Marks
 pub mod Streams

@@ -22,7 +22,7 @@ pub use laws::{
 };
 pub use marks::{FRAGMENT_HEADER, Marks, Part, fragment_header, one_fragment};
 pub use opaque_auth::{AUTH_NONE, AUTH_SYS, MAX_AUTH_BODY};
-pub use peer::{Caller, Peer};
+pub use peer::{Caller, Kind, LONGEST_FORWARDED, Peer};
 pub use reply::{BadReply, ReplyHead, ReplyStatus, put_reply, read_reply};
 pub use sys::{MAX_GIDS, MAX_MACHINE};
 pub use worked::{worked_calls, worked_records, worked_replies};

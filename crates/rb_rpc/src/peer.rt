@@ -1,5 +1,8 @@
-//! Who sends a call.
+//! Who sends a call, and how one asks that another is made for it.
 use std::fmt;
+
+/// The most bytes of arguments of a call that is forwarded: `args` of RFC 1833 sections 2.1 and 3.1.
+pub const LONGEST_FORWARDED: usize = 8_800;
 
 /// An IPv4 host and a port.
 #[derive(Clone, Copy, PartialEq, Eq, Debug)]
@@ -34,6 +37,19 @@ pub enum Caller {
     Tcp(u64, Peer),
     /// A datagram, by its sender.
     Udp(Peer),
+}
+
+/// By which procedure a caller has another call made for it. It says what is answered, and when.
+#[derive(Clone, Copy, PartialEq, Eq, Debug)]
+pub enum Kind {
+    /// PMAPPROC_CALLIT of version 2 (RFC 1833 section 3.2).
+    Callit2,
+    /// RPCBPROC_CALLIT of version 3 (section 2.2.1).
+    Callit3,
+    /// RPCBPROC_BCAST of version 4 (section 2.2.1).
+    Bcast,
+    /// RPCBPROC_INDIRECT of version 4 (section 2.2.1).
+    Indirect,
 }
 
 /// Names each field, so that a further one does not compile until it stands here. It belongs in the table of

@@ -1,17 +1,17 @@
--- Questions are requests of rb_proto.
+-- Questions are requests of rb_arguments.
 use Rattle.std.proofs.Common.{ℕ, zero, suc, ◌<◌, lit<, [], ◌∷◌, List, get_or, ◌++◌, append_assoc, Option, Some, None, refl, sym, append-nil, arith}
 use Rattle.rb_xdr.specs.Xdr.{number, opaque, IsNumber, IsContent}
-use Rattle.rb_proto.specs.Arguments.{procedure_at}
-use Rattle.rb_proto.specs.Numbers.{is_void, is_mapping, is_rpcb, is_procedure, number_of}
-use Rattle.rb_proto.specs.Types.{IsMapping, mapping_spelling, IsRpcb, rpcb_spelling}
-use Rattle.rb_proto.specs.Grammar.{BeginsWith}
+use Rattle.rb_arguments.specs.Arguments.{procedure_at}
+use Rattle.rb_arguments.specs.Numbers.{is_void, is_mapping, is_rpcb, is_procedure, number_of}
+use Rattle.rb_arguments.specs.Types.{IsMapping, mapping_spelling, IsRpcb, rpcb_spelling}
+use Rattle.rb_arguments.specs.Grammar.{BeginsWith}
 use Rattle.rb_show.specs.declared.ask.Question.TheVariants.{Rows, Short, OldRows, OldShort, Summary, OldSummary, Pmap, Entries, Stats, Port, Address, Null, Probe, Callit, Unset}
 use Rattle.std.specs.List.{AllByRecursion}
 use Rattle.rb_names.specs.Netids.{netid_text}
 use Rattle.rb_names.specs.declared.netid.Netid.{Netid}
 use Rattle.rb_names.specs.declared.netid.Netid.TheVariants.{Tcp, Udp, Tcp6, Udp6, Local}
-use Rattle.rb_forward.specs.Forwards.{longest_forwarded}
-use Rattle.rb_proto.specs.Remote.{SpellsRemote}
+use Rattle.rb_rpc.specs.Forwarded.{longest_forwarded}
+use Rattle.rb_arguments.specs.Remote.{SpellsRemote}
 use Rattle.rb_show.specs.Asks.{netid_text_of, rpcb_of, mapping_of, callit_arguments}
 use Rattle.rb_show.specs.AskLaws.{remote_of, QuestionsAreRequests}
 

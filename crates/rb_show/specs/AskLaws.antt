@@ -2,14 +2,14 @@
 use Rattle.std.specs.Prelude.{⊤, Option, Some, None}
 use Rattle.rb_xdr.specs.Xdr.{IsNumber}
 use Rattle.std.specs.Prelude.{ℕ}
-use Rattle.rb_forward.specs.declared.types.Kind.TheVariants as kinds
-use Rattle.rb_proto.specs.declared.remote.RemoteCall.{RemoteCall}
-use Rattle.rb_proto.specs.declared.request.Request.{Request}
-use Rattle.rb_proto.specs.Grammar.{Asks}
-use Rattle.rb_proto.specs.declared.request.Request.TheVariants.{Void, Mapping, Rpcb, Forward}
-use Rattle.rb_proto.specs.declared.procedure.VoidProcedure.TheVariants as voids
-use Rattle.rb_proto.specs.declared.procedure.MappingProcedure.TheVariants as mappings
-use Rattle.rb_proto.specs.declared.procedure.RpcbProcedure.TheVariants as rpcbs
+use Rattle.rb_rpc.specs.declared.peer.Kind.TheVariants as kinds
+use Rattle.rb_arguments.specs.declared.remote.RemoteCall.{RemoteCall}
+use Rattle.rb_arguments.specs.declared.request.Request.{Request}
+use Rattle.rb_arguments.specs.Grammar.{Asks}
+use Rattle.rb_arguments.specs.declared.request.Request.TheVariants.{Void, Mapping, Rpcb, Forward}
+use Rattle.rb_arguments.specs.declared.procedure.VoidProcedure.TheVariants as voids
+use Rattle.rb_arguments.specs.declared.procedure.MappingProcedure.TheVariants as mappings
+use Rattle.rb_arguments.specs.declared.procedure.RpcbProcedure.TheVariants as rpcbs
 use Rattle.rb_show.specs.declared.ask.Question.{Question}
 use Rattle.rb_show.specs.declared.ask.Question.TheVariants.{Rows, Short, OldRows, OldShort, Summary, OldSummary, Pmap, Entries, Stats, Port, Address, Null, Probe, Callit, Unset}
 use Rattle.rb_show.specs.Asks.{procedure_of, rpcb_of, mapping_of, arguments_of}

@@ -7,15 +7,15 @@ use Rattle.rb_rpc.specs.declared.call.CallHead.{CallHead}
 use Rattle.rb_rpc.specs.declared.call.Credential.{Credential}
 use Rattle.rb_rpc.specs.declared.call.Credential.TheVariants as credentials
 use Rattle.rb_rpc.specs.Records.{fragment_header}
-use Rattle.rb_proto.specs.declared.procedure.Procedure.{Procedure}
-use Rattle.rb_proto.specs.declared.procedure.Procedure.TheVariants.{Void, Mapping as MappingOf, Rpcb as RpcbOf}
-use Rattle.rb_proto.specs.declared.procedure.VoidProcedure.TheVariants as voids
-use Rattle.rb_proto.specs.declared.procedure.MappingProcedure.TheVariants as mappings
-use Rattle.rb_proto.specs.declared.procedure.RpcbProcedure.TheVariants as rpcbs
-use Rattle.rb_proto.specs.declared.mapping.Mapping.{Mapping}
-use Rattle.rb_proto.specs.declared.rpcb.Rpcb.{Rpcb}
-use Rattle.rb_proto.specs.Numbers.{number_of}
-use Rattle.rb_proto.specs.Types.{mapping_spelling, rpcb_spelling}
+use Rattle.rb_arguments.specs.declared.procedure.Procedure.{Procedure}
+use Rattle.rb_arguments.specs.declared.procedure.Procedure.TheVariants.{Void, Mapping as MappingOf, Rpcb as RpcbOf}
+use Rattle.rb_arguments.specs.declared.procedure.VoidProcedure.TheVariants as voids
+use Rattle.rb_arguments.specs.declared.procedure.MappingProcedure.TheVariants as mappings
+use Rattle.rb_arguments.specs.declared.procedure.RpcbProcedure.TheVariants as rpcbs
+use Rattle.rb_arguments.specs.declared.mapping.Mapping.{Mapping}
+use Rattle.rb_arguments.specs.declared.rpcb.Rpcb.{Rpcb}
+use Rattle.rb_arguments.specs.Numbers.{number_of}
+use Rattle.rb_arguments.specs.Types.{mapping_spelling, rpcb_spelling}
 use Rattle.rb_names.specs.declared.netid.Netid.{Netid}
 use Rattle.rb_names.specs.Netids.{netid_text}
 use Rattle.rb_show.specs.declared.ask.Ask.{Ask}

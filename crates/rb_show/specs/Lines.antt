@@ -2,9 +2,9 @@
 use Rattle.std.specs.Prelude.{ℕ, ◌/◌, ◌%◌, Bool, true, false, if◌then◌else◌, List, [], ◌++◌, codes, Option, Some, None}
 use Rattle.std.specs.Fmt.{decimal}
 use Rattle.rb_names.specs.Services.{name_of}
-use Rattle.rb_proto.specs.declared.mapping.Mapping.{Mapping}
-use Rattle.rb_proto.specs.declared.rpcb.Rpcb.{Rpcb}
-use Rattle.rb_proto.specs.declared.entry.Entry.{Entry}
+use Rattle.rb_arguments.specs.declared.mapping.Mapping.{Mapping}
+use Rattle.rb_arguments.specs.declared.rpcb.Rpcb.{Rpcb}
+use Rattle.rb_arguments.specs.declared.entry.Entry.{Entry}
 use Rattle.rb_show.specs.declared.form.Form.{Form}
 use Rattle.rb_show.specs.declared.form.Form.TheVariants.{Plain, Named, Json}
 use Rattle.rb_show.specs.Texts.{shown_text, at_left, at_right, prot_text}

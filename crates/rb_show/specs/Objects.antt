@@ -1,9 +1,9 @@
 -- Objects of JSON (RFC 8259), one on each line.
 use Rattle.std.specs.Prelude.{ℕ, ◌/◌, ◌%◌, ℤ, List, ◌++◌, codes}
 use Rattle.std.specs.Fmt.{decimal, signed_decimal}
-use Rattle.rb_proto.specs.declared.mapping.Mapping.{Mapping}
-use Rattle.rb_proto.specs.declared.rpcb.Rpcb.{Rpcb}
-use Rattle.rb_proto.specs.declared.entry.Entry.{Entry}
+use Rattle.rb_arguments.specs.declared.mapping.Mapping.{Mapping}
+use Rattle.rb_arguments.specs.declared.rpcb.Rpcb.{Rpcb}
+use Rattle.rb_arguments.specs.declared.entry.Entry.{Entry}
 use Rattle.rb_show.specs.Statistics.{Four, Numbers, LookUps, Forwards}
 use Rattle.rb_show.specs.Json.{json_text}
 use Rattle.rb_show.specs.Texts.{prot_text}

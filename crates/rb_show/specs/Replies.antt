@@ -7,7 +7,7 @@ use Rattle.rb_uaddr.specs.Uaddr.{parse}
 use Rattle.rb_rpc.specs.declared.reply.ReplyHead.{ReplyHead}
 use Rattle.rb_rpc.specs.declared.reply.ReplyStatus.{ReplyStatus}
 use Rattle.rb_rpc.specs.declared.reply.ReplyStatus.TheVariants as statuses
-use Rattle.rb_proto.specs.Types.{read_mapping, read_rpcb, read_entry}
+use Rattle.rb_arguments.specs.Types.{read_mapping, read_rpcb, read_entry}
 use Rattle.rb_rpc.specs.Records.{data_of}
 use Rattle.rb_ask.specs.declared.record.Record.{Record}
 use Rattle.rb_ask.specs.declared.fault.InfoFault.{InfoFault}

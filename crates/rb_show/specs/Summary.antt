@@ -6,8 +6,8 @@ use Rattle.std.specs.Borrow.{Bor}
 use Rattle.std.specs.Str.{bytes_eq}
 use Rattle.std.specs.String.{string_bytes}
 use Rattle.rb_names.specs.Services.{name_of}
-use Rattle.rb_proto.specs.declared.mapping.Mapping.{Mapping}
-use Rattle.rb_proto.specs.declared.rpcb.Rpcb.{Rpcb}
+use Rattle.rb_arguments.specs.declared.mapping.Mapping.{Mapping}
+use Rattle.rb_arguments.specs.declared.rpcb.Rpcb.{Rpcb}
 use Rattle.rb_show.specs.declared.form.Form.{Form}
 use Rattle.rb_show.specs.declared.form.Form.TheVariants.{Plain, Named, Json}
 use Rattle.rb_show.specs.declared.summary.Row.{Row}

@@ -1,9 +1,9 @@
-//! What the calls have to do with rb_proto's side of them, and what texts of JSON are.
+//! What the calls have to do with rb_arguments' side of them, and what texts of JSON are.
 ghost use Rattle.rb_show.specs.AskLaws.{QuestionsAreRequests};
 ghost use Rattle.rb_show.specs.JsonLaws.{EachByteIsACharacter, AllBytesArePrintable};
 
-/// The number of a question in its version is that of its procedure in rb_proto's table, and its arguments are spelled
-/// as a portmapper reads them.
+/// The number of a question in its version is that of its procedure in rb_arguments' table, and its arguments are
+/// spelled as a portmapper reads them.
 pub fn questions_are_requests()
     ensures { QuestionsAreRequests }
 {}

@@ -6,8 +6,8 @@ ghost use Rattle.rb_show.specs.Lines.{mapping_columns, mapping_line, row_columns
 use crate::form::{Form, line_end};
 use crate::objects::{entry_object, mapping_object, old_row_object, row_object};
 use crate::texts::{prot_text, shown_text};
+use rb_arguments::{Entry, Mapping, Rpcb};
 use rb_ask::Style;
-use rb_proto::{Entry, Mapping, Rpcb};
 use std::alloc::{AllocError, Global};
 
 /// The columns of a mapping.

@@ -6,7 +6,7 @@ ghost use Rattle.rb_show.specs.Objects.{program_members, place_members, row_memb
 use crate::json::json_text;
 use crate::statistics::{Forwards, Four, LookUps, Numbers};
 use crate::texts::prot_text;
-use rb_proto::{Entry, Mapping, Rpcb};
+use rb_arguments::{Entry, Mapping, Rpcb};
 use std::alloc::{AllocError, Global};
 
 fn program_members(alloc: Global, prog: u32, vers: u32) -> Result<String, AllocError>

@@ -9,7 +9,7 @@ ghost use Rattle.rb_show.specs.Summary.{ShownRow, shown_row, shown_rows, row_of,
 
 use crate::form::{Form, program_name};
 use crate::texts::{prot_text, shown_text};
-use rb_proto::{Mapping, Rpcb};
+use rb_arguments::{Mapping, Rpcb};
 use std::alloc::{AllocError, Global};
 
 const HEADING: &str = "   program version(s) netid(s)                         service     owner\n";

@@ -2,8 +2,8 @@ ghost use Rattle.std.specs.Prelude.{List};
 ghost use Rattle.rb_forward.specs.declared.entries.Slot.{Slot};
 ghost use Rattle.rb_forward.specs.Table.{IsNew};
 
-use rb_forward::{Forward, Forwards, Kind};
-use rb_rpc::{Caller, Peer};
+use rb_forward::{Forward, Forwards};
+use rb_rpc::{Caller, Kind, Peer};
 use rb_xdr::Meter;
 use std::test::Fail;
 

@@ -5,16 +5,16 @@ ghost use Rattle.rb_proto.specs.Books.{AreTied};
 ghost use Rattle.rb_proto.specs.ListParts.{CanBeContinued};
 ghost use Rattle.rb_tests.specs.Ready.{AreReady};
 
-use rb_forward::{Forward, FwdId, Kind};
+use rb_arguments::{ArgumentFault, read_args};
+use rb_forward::{Forward, FwdId};
 use rb_proto::{
-    Answer, ArgumentFault, Books, Call, Context, Entry, ListReply, Listener, Listing, Mapping,
-    Netbuf, Procedure, RemoteCall, Rpcb, VoidProcedure, answer, forwards_are_noted_once,
-    forwards_go_to_rows, list_replies_go_on, put_forwarded, put_results, read_args, refusal,
-    requests_are_of_the_grammar, worked_examples, worked_forwards, worked_lists,
+    Answer, Books, Call, Context, ListReply, Listener, Listing, answer, forwards_are_noted_once,
+    forwards_go_to_rows, list_replies_go_on, put_forwarded, put_results, refusal, worked_examples,
+    worked_forwards, worked_lists,
 };
 use rb_registry::RegistryFault;
-use rb_rpc::{CallHead, Caller, Credential, Peer, ReplyStatus};
-use rb_xdr::{Kept, Meter, Xdr};
+use rb_rpc::{CallHead, Caller, Credential, Kind, Peer, ReplyStatus};
+use rb_xdr::{Kept, Meter};
 use std::alloc::Global;
 use std::process::Abort;
 use std::test::Fail;
@@ -25,14 +25,7 @@ const LISTENER: Listener = Listener {
 };
 
 // (200001, 1) on udp at `0.0.0.0.8.1`, with no owner
-const UDP_ROW: &[u8] = b"\x00\x03\x0d\x41\0\0\0\x01\0\0\0\x03udp\0\0\0\0\x0b0.0.0.0.8.1\0\0\0\0\0";
-
-// (200001, 1), its texts empty
-const NO_TEXTS: &[u8] = b"\x00\x03\x0d\x41\0\0\0\x01\0\0\0\0\0\0\0\0\0\0\0\0";
-
-// that row as the one entry of GETADDRLIST
-const ENTRIES: &[u8] =
-    b"\0\0\0\x01\0\0\0\x0d192.0.2.1.8.1\0\0\0\0\0\0\x03udp\0\0\0\0\x01\0\0\0\x04inet\0\0\0\x03udp\0\0\0\0\0";
+pub(crate) const UDP_ROW: &[u8] = b"\x00\x03\x0d\x41\0\0\0\x01\0\0\0\x03udp\0\0\0\0\x0b0.0.0.0.8.1\0\0\0\0\0";
 
 // the own rows as version 2's DUMP shows them
 const OWN_ROWS: &[u8] =
@@ -42,9 +35,9 @@ const OWN_ROWS: &[u8] =
 \0\0\0\0";
 
 // a call of procedure 0 of (200001, 1), and what its args have
-const REMOTE: &[u8] = b"\x00\x03\x0d\x41\0\0\0\x01\0\0\0\0\0\0\0\x04\0\0\0\x07";
+pub(crate) const REMOTE: &[u8] = b"\x00\x03\x0d\x41\0\0\0\x01\0\0\0\0\0\0\0\x04\0\0\0\x07";
 
-const ARGS: &[u8] = b"\0\0\0\x07";
+pub(crate) const ARGS: &[u8] = b"\0\0\0\x07";
 
 // where that row is on this machine
 const TARGET: Peer = Peer {
@@ -111,7 +104,7 @@ fn new_books(alloc: Global, meter: &mut Meter) -> Result<Books, RegistryFault>
 }
 
 // All that was put into the buffer.
-fn all_bytes<'a>(out: &'a Kept, meter: &mut Meter) -> &'a [u8]
+pub(crate) fn all_bytes<'a>(out: &'a Kept, meter: &mut Meter) -> &'a [u8]
     requires { meter.old.tie ≡ out.now.tie }
     ensures { meter.new.tie ≡ meter.old.tie }
 {
@@ -250,7 +243,6 @@ fn sets_want_room(rt: HostRuntime) -> Result<(), Fail> {
 
 #[test]
 fn laws_hold(_rt: HostRuntime) {
-    requests_are_of_the_grammar();
     forwards_go_to_rows();
     forwards_are_noted_once();
     list_replies_go_on();
@@ -260,30 +252,7 @@ fn laws_hold(_rt: HostRuntime) {
 }
 
 #[test]
-fn arguments_are_refused(rt: HostRuntime) {
-    assert_eq!(rt;
-        read_args(2, 6, b"").err(),
-        Some(ArgumentFault::ProcUnavail)
-    );
-    assert_eq!(rt;
-        read_args(2, 1, &[0; 12]).err(),
-        Some(ArgumentFault::GarbageArgs)
-    );
-}
-
-#[test]
-fn procedures_are_found(rt: HostRuntime) {
-    let getstat = Procedure::Void(VoidProcedure::Getstat);
-    assert_eq!(rt; Procedure::at(4, 12), Some(getstat));
-    assert_eq!(rt; Procedure::at(3, 12), None);
-}
-
-#[test]
-fn remote_calls_are_read(rt: HostRuntime) {
-    if let Some(remote) = RemoteCall::read(REMOTE) {
-        assert_eq!(rt; (remote.prog, remote.count), (200_001, 4));
-        assert_eq!(rt; remote.args(REMOTE), ARGS);
-    }
+fn failed_indirect_is_answered(rt: HostRuntime) {
     let refused = refusal(Kind::Indirect, ReplyStatus::SystemErr);
     assert_eq!(rt; refused, Answer::Refused(ReplyStatus::SystemErr));
 }
@@ -335,41 +304,4 @@ fn forwarded_results_are_put(rt: HostRuntime) -> Result<(), Fail> {
     let results = b"\0\0\x08\x01\0\0\0\x04\0\0\0\x07";
     assert_eq!(rt; all_bytes(&out, &mut meter), results.as_slice());
     Ok(())
-}
-
-// Takes a value from the front of the bytes, and puts it into the empty buffer.
-fn again<T: Xdr>(bytes: &[u8], out: &mut Kept, meter: &mut Meter) -> Result<(), Fail>
-    requires { meter.old.tie ≡ out.old.tie }
-    ensures out { out.new.tie ≡ out.old.tie }
-    ensures meter { meter.new.tie ≡ meter.old.tie }
-{
-    let (value, _) = T::take(bytes)?;
-    out.clear(meter);
-    value.put(out, meter)?;
-    Ok(())
-}
-
-// A value of each type, through one buffer.
-fn types_come_back(rt: &impl Abort, out: &mut Kept, meter: &mut Meter) -> Result<(), Fail>
-    requires { meter.old.tie ≡ out.old.tie }
-{
-    again::<Rpcb>(UDP_ROW, out, meter)?;
-    assert_eq!(rt; all_bytes(out, meter), UDP_ROW);
-    again::<Mapping>(NO_TEXTS, out, meter)?;
-    let (mapping, _) = NO_TEXTS.split_at(16);
-    assert_eq!(rt; all_bytes(out, meter), mapping);
-    let (entry, _) = ENTRIES[4..].split_at(48);
-    again::<Entry>(entry, out, meter)?;
-    assert_eq!(rt; all_bytes(out, meter), entry);
-    let buf = b"\0\0\0\x10\0\0\0\x03abc\0";
-    again::<Netbuf>(buf.as_slice(), out, meter)?;
-    assert_eq!(rt; all_bytes(out, meter), buf.as_slice());
-    Ok(())
-}
-
-#[test]
-fn types_go_both_ways(rt: HostRuntime) -> Result<(), Fail> {
-    let mut meter = Meter::new();
-    let mut out = Kept::new(rt.alloc(), 100, &mut meter)?;
-    types_come_back(&rt, &mut out, &mut meter)
 }

@@ -1,5 +1,5 @@
 use Rattle.std.proofs.Common.{refl}
-use Rattle.rb_forward.specs.Forwards.{longest_forwarded}
+use Rattle.rb_rpc.specs.Forwarded.{longest_forwarded}
 use Rattle.rb_model.specs.Calls.{longest_reply}
 use Rattle.rb_model.specs.Connections.{longest_fragment}
 use Rattle.rb_model.proofs.worked.worked_bounds.Goals as goal

@@ -12,14 +12,15 @@ use Rattle.rb_rpc.specs.Verdict.{body_length, auth_end, is_over_long, is_broken,
 use Rattle.rb_feed.specs.Feeds.{arguments_of}
 use Rattle.rb_uaddr.specs.Uaddr.{port_of, port_bytes, text_of, octet, ipv4_of_parts, ipv6_of_parts, parts_of, parse_ipv4, parse_ipv6, parse, is_local_text, merged_host, merged_address, transport_of, from_transport}
 use Rattle.rb_registry.specs.Rows.{is_netid, is_among, may_remove, covers, is_on, is_row, is_change_left, has_place, removes_some, find_exact, versions, greatest, find_row}
-use Rattle.rb_forward.specs.Forwards.{longest_forwarded, xid_of, question, longest_results, outcome_of, is_same_peer, is_answered, reply, due, drop_caller, later, can_start, next_entry, with_next_entry, unsent, can_be_sent, sent}
+use Rattle.rb_rpc.specs.Forwarded.{longest_forwarded}
+use Rattle.rb_forward.specs.Forwards.{xid_of, question, longest_results, outcome_of, is_same_peer, is_answered, reply, due, drop_caller, later, can_start, next_entry, with_next_entry, unsent, can_be_sent, sent}
 use Rattle.rb_proto.specs.Answers.{comes_from_here, row_of_mapping, row_of_rpcb, can_be_set, accepts_row, set_row, accepts_removal, unset_rows, shown_address, shown_text, shown_port, getport, getaddr, getversaddr, seconds, taddr_of, uaddr_of, answer, row_to_set, adds_row}
-use Rattle.rb_proto.specs.Arguments.{procedure_at, is_known, arguments, request}
+use Rattle.rb_arguments.specs.Arguments.{procedure_at, is_known, arguments, request}
 use Rattle.rb_proto.specs.Callers.{own_rows, is_local, owner_text}
 use Rattle.rb_proto.specs.Netids.{netid_named, which_of, transport_of_prot, address_in, is_address}
 use Rattle.rb_proto.specs.Results.{result_bytes, row_bytes}
-use Rattle.rb_proto.specs.Types.{read_mapping, read_rpcb, read_netbuf, read_entry}
-use Rattle.rb_proto.specs.Remote.{read_remote}
+use Rattle.rb_arguments.specs.Types.{read_mapping, read_rpcb, read_netbuf, read_entry}
+use Rattle.rb_arguments.specs.Remote.{read_remote}
 use Rattle.rb_proto.specs.Forwarding.{outcome_note, peer_to_forward, forward_of, forward_call, end_note, target_replied, fell_due, caller_dropped, call_sent, forwarded_bytes}
 use Rattle.rb_model.specs.Losses.{list_stamps, needed_removals, removals_in_the_way, evict_early}
 use Rattle.rb_model.specs.Ending.{forward_reply, expire}

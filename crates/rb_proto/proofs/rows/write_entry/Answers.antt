@@ -1,7 +1,7 @@
 use Rattle.std.proofs.Common.{true, arith}
 use Rattle.std.proofs.lemmas.List.{length-append}
 use Rattle.rb_xdr.specs.Xdr.{boolean}
-use Rattle.rb_proto.specs.Types.{entry_spelling}
+use Rattle.rb_arguments.specs.Types.{entry_spelling}
 use Rattle.rb_proto.specs.Results.{entry_of}
 use Rattle.rb_proto.proofs.RowLengths.{entry_is_short}
 use Rattle.rb_proto.proofs.rows.write_entry.Goals as goal

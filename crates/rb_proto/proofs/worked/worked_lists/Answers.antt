@@ -5,8 +5,8 @@ use Rattle.rb_rpc.specs.Replies.{reply_head}
 use Rattle.rb_uaddr.specs.Uaddr.{port_of, port_bytes, text_of, octet, ipv4_of_parts, ipv6_of_parts, parts_of, parse_ipv4, parse_ipv6, parse, is_local_text, merged_host, merged_address}
 use Rattle.rb_registry.specs.Rows.{is_netid, is_among, may_remove, covers, is_on, is_row, is_change_left, has_place}
 use Rattle.rb_registry.specs.Slots.{is_live_at, is_dropped}
-use Rattle.rb_proto.specs.Types.{read_mapping, read_rpcb}
-use Rattle.rb_proto.specs.Arguments.{procedure_at, is_known, arguments, request}
+use Rattle.rb_arguments.specs.Types.{read_mapping, read_rpcb}
+use Rattle.rb_arguments.specs.Arguments.{procedure_at, is_known, arguments, request}
 use Rattle.rb_proto.specs.Netids.{netid_named, transport_of_prot, address_in, is_address}
 use Rattle.rb_proto.specs.Callers.{own_rows, is_local, owner_text}
 use Rattle.rb_proto.specs.Answers.{comes_from_here, row_of_mapping, row_of_rpcb, can_be_set, row_to_set, adds_row, shown_address, shown_text, shown_port}

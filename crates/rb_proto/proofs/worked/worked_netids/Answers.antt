@@ -7,10 +7,10 @@ use Rattle.rb_uaddr.specs.Uaddr.{port_of, port_bytes, text_of, octet, ipv4_of_pa
 use Rattle.rb_registry.specs.Rows.{is_netid, is_among, may_remove, covers, is_on, is_row, is_change_left, has_place, removes_some, find_exact, versions, greatest, find_row}
 use Rattle.rb_stats.specs.Statistics.{number_of, is_key, is_in, keys_of, items_of, stat, item_spelling, stat_spelling, statistics}
 use Rattle.rb_proto.specs.Ledger.{version_of, with_call_noted}
-use Rattle.rb_proto.specs.Remote.{read_remote}
-use Rattle.rb_forward.specs.Forwards.{longest_forwarded}
-use Rattle.rb_proto.specs.Types.{read_mapping, read_rpcb, read_netbuf}
-use Rattle.rb_proto.specs.Arguments.{procedure_at, is_known, arguments, request}
+use Rattle.rb_arguments.specs.Remote.{read_remote}
+use Rattle.rb_rpc.specs.Forwarded.{longest_forwarded}
+use Rattle.rb_arguments.specs.Types.{read_mapping, read_rpcb, read_netbuf}
+use Rattle.rb_arguments.specs.Arguments.{procedure_at, is_known, arguments, request}
 use Rattle.rb_proto.specs.Netids.{netid_named, which_of, transport_of_prot, address_in, is_address}
 use Rattle.rb_proto.specs.Callers.{own_rows, is_local, owner_text}
 use Rattle.rb_proto.specs.Answers.{comes_from_here, row_of_mapping, row_of_rpcb, can_be_set, accepts_row, set_row, accepts_removal, unset_rows, shown_address, shown_text, shown_port, getport, getaddr, getversaddr, seconds, taddr_of, uaddr_of, answer}

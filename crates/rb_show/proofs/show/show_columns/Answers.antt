@@ -1,6 +1,6 @@
 use Rattle.std.proofs.Common.{[], ◌∷◌}
 use Rattle.std.proofs.lemmas.Result.{err_from_is_err_and}
-use Rattle.rb_proto.specs.Types.{read_mapping}
+use Rattle.rb_arguments.specs.Types.{read_mapping}
 use Rattle.rb_ask.specs.Telling.{tell}
 use Rattle.rb_show.specs.Lines.{mapping_line}
 use Rattle.rb_show.specs.Replies.{tell_list, tell_columns}

@@ -4,8 +4,8 @@ use Rattle.rb_xdr.specs.Xdr.{number, number_at, opaque, read_number, read_bool, 
 use Rattle.rb_xdr.specs.XdrTypes.{read_pair, read_optional}
 use Rattle.rb_rpc.specs.CallBytes.{call_bytes}
 use Rattle.rb_rpc.specs.Records.{fragment_header}
-use Rattle.rb_proto.specs.Numbers.{is_void, is_procedure, number_of}
-use Rattle.rb_proto.specs.Types.{read_rpcb}
+use Rattle.rb_arguments.specs.Numbers.{is_void, is_procedure, number_of}
+use Rattle.rb_arguments.specs.Types.{read_rpcb}
 use Rattle.rb_ask.specs.Telling.{◌>>=◌, take_one}
 use Rattle.rb_ask.specs.Heads.{take_accepted, take_head}
 use Rattle.rb_ask.specs.Lists.{tell_items}

@@ -1,0 +1,6 @@
+pub mod Types
+pub mod Remote
+pub mod Arguments
+pub mod Numbers
+pub mod Grammar
+pub mod Worked
