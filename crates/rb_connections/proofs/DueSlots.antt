@@ -6,7 +6,8 @@ use Rattle.rb_model.specs.Losses.{time_in, is_due}
 use Rattle.rb_connections.specs.declared.slot.Slot.{Slot}
 use Rattle.rb_connections.specs.declared.slot.Stage.{Stage}
 use Rattle.rb_connections.specs.Slots.{is_due_slot, phase_like}
-use Rattle.rb_connections.specs.StandsFor.{Source, StandsForConnection, StandsForPhase}
+use Rattle.rb_model.specs.Served.{Source}
+use Rattle.rb_connections.specs.StandsFor.{StandsForConnection, StandsForPhase}
 use Rattle.rb_connections.proofs.Phases.{by_phase}
 
 pub time_as_stage : (source : Source) (stage : Stage) (buffer window : Kept) (phase : Phase) → StandsForPhase source stage buffer window phase

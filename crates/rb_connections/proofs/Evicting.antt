@@ -15,7 +15,8 @@ use Rattle.rb_connections.specs.declared.slot.Slot.{Slot}
 use Rattle.rb_connections.specs.declared.slot.Buffers.{Buffers}
 use Rattle.rb_connections.specs.declared.slot.Stage.{Stage}
 use Rattle.rb_connections.specs.declared.slot.Stage.TheVariants as stages
-use Rattle.rb_connections.specs.StandsFor.{Source, Table, StandsForPhase, StandsForConnection, StandsForConnections, charge, held_in, IsWithin, stamp_of_rest}
+use Rattle.rb_model.specs.Served.{Source}
+use Rattle.rb_connections.specs.StandsFor.{Table, StandsForPhase, StandsForConnection, StandsForConnections, charge, held_in, IsWithin, stamp_of_rest}
 use Rattle.rb_connections.specs.Slots.{IsTable, StaysTable, HasBuffers, AreNumbered, is_numbered, is_idle_stage}
 use Rattle.rb_connections.specs.Awaits.{is_free_slot, is_free, is_idle_slot, has_idle, NoneIsFreed}
 use Rattle.rb_connections.specs.Listings.{stamp_of_stage, stamp_of_slot, CanContinueSlot, IsOldest, earlier_of, IsEarliest, began_before_earliest, evicted_slot, with_evicted}

@@ -14,7 +14,8 @@ use Rattle.rb_connections.specs.declared.slot.Stage.{Stage}
 use Rattle.rb_connections.specs.declared.slot.Stage.TheVariants as stages
 use Rattle.rb_connections.specs.declared.slot.Wanted.TheVariants as wanted
 use Rattle.rb_connections.specs.Slots.{phase_like, is_due_slot, Acts, AreNumbered, is_wanted_slot, is_wanted, wanted_slot}
-use Rattle.rb_connections.specs.StandsFor.{Source, StandsForConnection, StandsForConnections, Table}
+use Rattle.rb_model.specs.Served.{Source}
+use Rattle.rb_connections.specs.StandsFor.{StandsForConnection, StandsForConnections, Table}
 use Rattle.rb_connections.specs.Awaits.{is_awaiting_stage}
 use Rattle.rb_connections.proofs.Slots.{locate, no_slot, wanted_alike, any_alike}
 

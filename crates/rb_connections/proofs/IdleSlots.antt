@@ -10,7 +10,8 @@ use Rattle.rb_model.specs.Connections.{give, is_lost, is_live}
 use Rattle.rb_connections.specs.declared.slot.Slot.{Slot}
 use Rattle.rb_connections.specs.declared.slot.Stage.{Stage}
 use Rattle.rb_connections.specs.declared.slot.Stage.TheVariants as stages
-use Rattle.rb_connections.specs.StandsFor.{Source, StandsForPhase, StandsForConnection, StandsForConnections, Table}
+use Rattle.rb_model.specs.Served.{Source}
+use Rattle.rb_connections.specs.StandsFor.{StandsForPhase, StandsForConnection, StandsForConnections, Table}
 use Rattle.rb_connections.specs.Slots.{is_idle_stage}
 use Rattle.rb_connections.specs.Awaits.{is_idle_slot, has_idle}
 

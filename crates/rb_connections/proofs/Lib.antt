@@ -1,4 +1,4 @@
-pub mod ReplyHeads
+pub mod FreshLists
 pub mod KeptArguments
 pub mod Feeding
 pub mod Phases

@@ -6,7 +6,8 @@ use Rattle.std.proofs.lemmas.List.Elements.{All-push}
 use Rattle.rb_xdr.specs.Pool.{value_at, with_value, without}
 use Rattle.rb_xdr.proofs.PoolLemmas.{All-value_at, All-with_value, All-without}
 use Rattle.rb_connections.specs.declared.slot.Slot.{Slot}
-use Rattle.rb_connections.specs.StandsFor.{Source, Table}
+use Rattle.rb_model.specs.Served.{Source}
+use Rattle.rb_connections.specs.StandsFor.{Table}
 use Rattle.rb_connections.specs.Listings.{CanContinueSlot, SlotKeepsListing, CanContinueAll, KeepsListing}
 
 module _ (view now : Table) (is : view ≡ now) where

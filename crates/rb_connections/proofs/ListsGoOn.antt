@@ -18,7 +18,8 @@ use Rattle.rb_connections.specs.declared.giving.Giving.{Giving}
 use Rattle.rb_connections.specs.declared.giving.Rest.{Rest}
 use Rattle.rb_connections.specs.declared.giving.Rest.TheVariants as rests
 use Rattle.rb_connections.specs.Giving.{CanMake}
-use Rattle.rb_connections.specs.StandsFor.{IsGiving, rest_in, stamp_of_rest, Source, Table, StandsForPhase, StandsForConnection, StandsForConnections, source_for}
+use Rattle.rb_connections.specs.StandsFor.{IsGiving, rest_in, stamp_of_rest, Table, StandsForPhase, StandsForConnection, StandsForConnections}
+use Rattle.rb_model.specs.Served.{Source, source_for}
 use Rattle.rb_connections.specs.Listings.{stamp_of_stage, stamp_of_slot, CanContinueStage, CanContinueSlot, CanContinueAll, stamps_of, IsOldest}
 use Rattle.rb_connections.proofs.Evicting.{began_alike}
 use Rattle.rb_connections.proofs.Phases.{by_phase}

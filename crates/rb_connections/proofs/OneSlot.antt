@@ -16,7 +16,8 @@ use Rattle.rb_connections.specs.declared.slot.Slot.{Slot}
 use Rattle.rb_connections.specs.declared.slot.Stage.{Stage}
 use Rattle.rb_connections.specs.declared.slot.Stage.TheVariants as stages
 use Rattle.rb_connections.specs.declared.slot.Received.{Received}
-use Rattle.rb_connections.specs.StandsFor.{IsGiving, IsReading, Source, StandsForPhase, StandsForConnection}
+use Rattle.rb_connections.specs.StandsFor.{IsGiving, IsReading, StandsForPhase, StandsForConnection}
+use Rattle.rb_model.specs.Served.{Source}
 use Rattle.rb_connections.specs.Reading.{Fed, Reader, fed_until}
 use Rattle.rb_connections.specs.declared.giving.Giving.{Giving}
 use Rattle.rb_connections.specs.Slots.{Acts, received_of, connection_after, take_piece, arguments_after, arguments_taken}

@@ -7,7 +7,8 @@ use Rattle.rb_connections.specs.Reading.{Reader}
 use Rattle.rb_connections.specs.declared.giving.Giving.{Giving}
 use Rattle.rb_connections.specs.declared.slot.Stage.{Stage}
 use Rattle.rb_connections.specs.declared.slot.Stage.TheVariants as stages
-use Rattle.rb_connections.specs.StandsFor.{Source, StandsForPhase, IsGiving}
+use Rattle.rb_model.specs.Served.{Source}
+use Rattle.rb_connections.specs.StandsFor.{StandsForPhase, IsGiving}
 
 -- What holds where both are alike holds of each stage and the phase that it stands for.
 module _ (source : Source) (buffer window : Kept) (P : Stage → Phase → Type 0)

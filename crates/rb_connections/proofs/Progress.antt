@@ -14,7 +14,8 @@ use Rattle.rb_connections.specs.declared.giving.Rest.{Rest}
 use Rattle.rb_connections.specs.declared.slot.Slot.{Slot}
 use Rattle.rb_connections.specs.Listings.{CanContinueSlot}
 use Rattle.rb_connections.specs.Giving.{SlotShowsNext, CanContinueReply, ShowsNext}
-use Rattle.rb_connections.specs.StandsFor.{Source, IsGiving, StandsForConnection, rest_in, stamp_of_rest}
+use Rattle.rb_model.specs.Served.{Source}
+use Rattle.rb_connections.specs.StandsFor.{IsGiving, StandsForConnection, rest_in, stamp_of_rest}
 use Rattle.rb_connections.proofs.Fragments.{pending_shown, pending_count, giving_begins, giving_stays, giving_moves, giving_ends, fragment_few, fragment_full}
 
 shifted : (l left a b : ℕ) → left ≡ l - a → b ≡ a + 1024 → a < l → nat_le left 1024 ≡ nat_le l b

@@ -18,7 +18,8 @@ use Rattle.rb_connections.specs.declared.slot.Buffers.{Buffers}
 use Rattle.rb_connections.specs.declared.slot.Stage.{Stage}
 use Rattle.rb_connections.specs.declared.slot.Stage.TheVariants as stages
 use Rattle.rb_connections.specs.declared.slot.Wanted.TheVariants as wanted
-use Rattle.rb_connections.specs.StandsFor.{IsWithin, Source, Table, StandsForConnection, StandsForConnections, stamp_of_rest}
+use Rattle.rb_connections.specs.StandsFor.{IsWithin, Table, StandsForConnection, StandsForConnections, stamp_of_rest}
+use Rattle.rb_model.specs.Served.{Source}
 use Rattle.rb_connections.specs.Slots.{Acts, Shows, AreNumbered, HasBuffers, IsTable, take_piece, arguments_taken, arguments_on, received_whole, is_idle_stage, is_wanted_slot, wanted_slot}
 use Rattle.rb_connections.specs.Awaits.{GoOn, is_awaiting_stage, is_not_idle_since, IsIdleIfThere, EndedOn}
 use Rattle.rb_connections.specs.Listings.{CanContinueSlot, began_before_earliest, evicted_slot}

@@ -22,7 +22,8 @@ use Rattle.rb_model.specs.State.Phase.{Idle}
 use Rattle.rb_model.specs.Connections.{change_first, changed_at, is_lost, is_live, live_connection, on_live, has_number, number_for, open_in_table, is_there, without_number, close_in_table}
 use Rattle.rb_model.proofs.Found.{all_kept, none_any, none_some, some_any}
 use Rattle.rb_connections.specs.Reading.{Reader}
-use Rattle.rb_connections.specs.StandsFor.{buffer_size, IsReading, Source, StandsForConnection, StandsForPhase, StandsForConnections, Table, charge, IsWithin}
+use Rattle.rb_connections.specs.StandsFor.{buffer_size, IsReading, StandsForConnection, StandsForPhase, StandsForConnections, Table, charge, IsWithin}
+use Rattle.rb_model.specs.Served.{Source}
 use Rattle.rb_connections.specs.declared.slot.Buffers.{Buffers}
 use Rattle.rb_connections.specs.declared.slot.Slot.{Slot}
 use Rattle.rb_connections.specs.declared.slot.Wanted.{Wanted}

@@ -9,8 +9,8 @@ use Rattle.rb_connections.specs.declared.slot.Slot.{Slot}
 use Rattle.rb_connections.specs.declared.slot.Stage.{Stage}
 use Rattle.rb_connections.specs.declared.slot.Stage.TheVariants as stages
 use Rattle.rb_connections.specs.declared.slot.Received.{Received}
-use Rattle.rb_connections.specs.declared.served.Outcome.{Outcome}
-use Rattle.rb_connections.specs.declared.served.Outcome.TheVariants as outcomes
+use Rattle.rb_model.specs.declared.served.Outcome.{Outcome}
+use Rattle.rb_model.specs.declared.served.Outcome.TheVariants as outcomes
 use Rattle.rb_connections.specs.StandsFor.{Table}
 use Rattle.rb_connections.specs.Slots.{is_idle_stage, StaysTable}
 use Rattle.rb_connections.specs.Listings.{KeepsListing}

@@ -5,8 +5,8 @@ use Rattle.rb_model.specs.declared.types.CoreFault.{CoreFault}
 use Rattle.rb_model.specs.Costs.{show_cost, listed_cost, recount_cost, find_cost, take_cost, swap_cost}
 use Rattle.rb_connections.specs.declared.giving.Rest.{Rest}
 use Rattle.rb_connections.specs.declared.giving.Rest.TheVariants as rests
-use Rattle.rb_connections.specs.declared.served.Served.{Served}
-use Rattle.rb_connections.specs.declared.served.Served.TheVariants.{Answered, Listed}
+use Rattle.rb_model.specs.declared.served.Served.{Served}
+use Rattle.rb_model.specs.declared.served.Served.TheVariants.{Answered, Listed}
 use Rattle.rb_connections.specs.declared.slot.EndedRecord.{EndedRecord}
 use Rattle.rb_connections.specs.declared.slot.Received.{Received}
 use Rattle.rb_connections.specs.StandsFor.{Table}

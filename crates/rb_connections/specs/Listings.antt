@@ -6,7 +6,8 @@ use Rattle.rb_model.specs.Losses.{evict}
 use Rattle.rb_connections.specs.declared.slot.Stage.{Stage}
 use Rattle.rb_connections.specs.declared.slot.Stage.TheVariants as stages
 use Rattle.rb_connections.specs.declared.slot.Slot.{Slot}
-use Rattle.rb_connections.specs.StandsFor.{Source, stamp_of_rest, Table}
+use Rattle.rb_model.specs.Served.{Source}
+use Rattle.rb_connections.specs.StandsFor.{stamp_of_rest, Table}
 use Rattle.rb_connections.specs.Giving.{CanContinueReply}
 use Rattle.rb_connections.specs.Slots.{TableBecomes}
 

@@ -1,34 +1,11 @@
--- What a connection is settled with: a reply that is written, or a list that is given in fragments.
-use Rattle.std.specs.Prelude.{◌≡◌, ◌<◌, ℕ, Bool, List, [], length, Some, None}
-use Rattle.rb_registry.specs.Registry.{rows_of}
-use Rattle.rb_proto.specs.declared.answers.Listing.{Listing}
-use Rattle.rb_proto.specs.ListParts.{list_reply}
-use Rattle.rb_model.specs.Calls.{Outcome, Outcome as said, is_no_call}
+-- That a connection is settled with what its record is answered with.
+use Rattle.std.specs.Prelude.{ℕ, List}
+use Rattle.rb_model.specs.declared.served.Served.{Served}
+use Rattle.rb_model.specs.Served.{Source, served_in}
 use Rattle.rb_model.specs.Connections.{settle, changed_at}
-use Rattle.rb_connections.specs.declared.served.Served.{Served}
-use Rattle.rb_connections.specs.declared.served.Served.TheVariants.{Answered, Listed}
-use Rattle.rb_connections.specs.declared.served.Outcome.{Outcome as Written}
-use Rattle.rb_connections.specs.declared.served.Outcome.TheVariants as outcomes
-use Rattle.rb_connections.specs.StandsFor.{Source, Table}
+use Rattle.rb_connections.specs.StandsFor.{Table}
 use Rattle.rb_connections.specs.Slots.{SlotBecomesFrom, BecomesFrom}
 use Rattle.rb_connections.specs.declared.slot.Slot.{Slot}
-
--- the outcome of the model for this outcome of the code, with the reply that it wrote
-abbrev pub outcome_with : Written → List ℕ → Outcome
-outcome_with outcomes.NoCall reply = said.NoCall
-outcome_with outcomes.Reply reply = said.Reply reply None
-outcome_with outcomes.Forwarded reply = said.Forwarded
-outcome_with outcomes.Silent reply = said.Silent
-
--- a list under this xid of the rows that are live now
-abbrev pub listing_outcome : Source → ℕ → Listing → Outcome
-listing_outcome source xid listing =
-    said.Reply (list_reply source.host xid (rows_of source.registry) listing) (Some source.registry.stamp)
-
--- the outcome of the model for what the code answers a message with, where `reply` is what it wrote
-abbrev pub served_in : Source → Served → List ℕ → Outcome
-served_in source (Answered given) reply = outcome_with given reply
-served_in source (Listed xid listing) reply = listing_outcome source xid listing
 
 -- The connection that a slot stands for is settled with what its record is answered with, where `written` is the reply.
 abbrev pub SlotSettles : Source → ℕ → Served → List ℕ → Slot → Slot → Type 0
@@ -38,18 +15,3 @@ SlotSettles source clock served written old new = SlotBecomesFrom source (settle
 abbrev pub Settles : Source → ℕ → ℕ → Served → List ℕ → Table → Table → Type 0
 Settles source id clock served written old new =
     BecomesFrom source (changed_at id (settle clock (served_in source served written))) old new
-
-abbrev pub is_lost_by : Source → Served → List ℕ → Bool
-is_lost_by source served reply = is_no_call (served_in source served reply)
-
-abbrev pub kind_in : Served → Written
-kind_in (Answered given) = given
-kind_in (Listed xid listing) = outcomes.Reply
-
--- Where the answer is a reply that is no streamed list, some bytes are written, and else none.
-abbrev pub IsWritten : Served → List ℕ → Type 0
-IsWritten (Answered outcomes.Reply) reply = 0 < length reply
-IsWritten (Answered outcomes.NoCall) reply = reply ≡ []
-IsWritten (Answered outcomes.Forwarded) reply = reply ≡ []
-IsWritten (Answered outcomes.Silent) reply = reply ≡ []
-IsWritten (Listed xid listing) reply = reply ≡ []

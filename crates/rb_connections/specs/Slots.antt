@@ -25,7 +25,8 @@ use Rattle.rb_connections.specs.declared.slot.Wanted.{Wanted}
 use Rattle.rb_connections.specs.declared.slot.WholeRecord.{WholeRecord}
 use Rattle.rb_connections.specs.declared.slot.Wanted.TheVariants as wanted
 use Rattle.rb_connections.specs.declared.slot.Buffers.{Buffers}
-use Rattle.rb_connections.specs.StandsFor.{buffer_size, IsReading, Source, StandsForConnection, Table, StandsForConnections, held_in, AreWithin}
+use Rattle.rb_connections.specs.StandsFor.{buffer_size, IsReading, StandsForConnection, Table, StandsForConnections, held_in, AreWithin}
+use Rattle.rb_model.specs.Served.{Source}
 
 -- A call does an act of the model: whatever plain value `x` the old value stood for, the result is that of `act x`,
 -- and the new value stands for what `act x` leaves.

@@ -7,9 +7,9 @@ use Rattle.rb_rpc.specs.Marks.{StandsForFed}
 use Rattle.rb_rpc.specs.Records.{data_of, marked_reply}
 use Rattle.rb_feed.specs.declared.feed.CallFeed.{CallFeed}
 use Rattle.rb_feed.specs.Feeds.{StandsForCall}
-use Rattle.rb_registry.specs.Registry.{Registry}
 use Rattle.rb_proto.specs.ListReplies.{longest_part, rest_of}
 use Rattle.rb_model.specs.Calls.{longest_reply, kept_of, longest_kept}
+use Rattle.rb_model.specs.Served.{Source}
 use Rattle.rb_model.specs.State.{Owed, Phase, Connection, Connections}
 use Rattle.rb_model.specs.Connections.{longest_fragment}
 use Rattle.rb_model.specs.State.Phase.{Idle, Reading, Owing, Awaiting, Lost}
@@ -48,14 +48,6 @@ pub record IsShown (reply : List ℕ) (shown : Kept) (o : Owed) : Type 0 where
   pub owes : o.given < length o.marked
   pub shown_is : shown.bytes ≡ window o
   pub cap : shown.cap ≡ longest_fragment
-
--- what lists are made from: the host that they show, and the rows
-pub record Source : Type 0 where
-  pub host : List ℕ
-  pub registry : Registry
-
-abbrev pub source_for : List ℕ → Registry → Source
-source_for host registry = record { host = host; registry = registry }
 
 -- the bytes that are not shown yet: those of the buffer from a place on, or those of a list, as its source makes them
 abbrev pub rest_in : Source → List ℕ → Rest → List ℕ

@@ -13,10 +13,8 @@ ghost use Rattle.rb_model.specs.Costs.{oldest_cost, evict_cost};
 
 use crate::giving::LONGEST_FRAGMENT;
 use crate::hints::Hints;
-use crate::reading::LONGEST_KEPT;
-use crate::served::{LONGEST_REPLY, Served};
 use crate::slot::{Buffers, CHARGE, Received, Slot, Stage, Wanted, WholeRecord};
-use rb_model::CoreFault;
+use rb_model::{CoreFault, LONGEST_KEPT, LONGEST_REPLY, Served};
 use rb_registry::Registry;
 use rb_rpc::{Peer, one_fragment};
 use rb_xdr::{Kept, Meter, NoMemory, Pool};
@@ -256,7 +254,8 @@ impl Connections {
     ghost use Rattle.std.specs.Prelude.{◌≡◌, ◌≤◌, ◌<◌, ◌+◌, ◌*◌, [], true, false, ℕ, length, Some, OnErr, IfOk, IfSome, IfNone, All};
     ghost use Rattle.rb_model.specs.Connections.{on_live, open_in_table, close_in_table, next_lost_in_table, longest_fragment};
     ghost use Rattle.rb_connections.specs.Giving.{pending_count};
-    ghost use Rattle.rb_connections.specs.Settling.{Settles, kind_in, IsWritten};
+    ghost use Rattle.rb_connections.specs.Settling.{Settles};
+    ghost use Rattle.rb_model.specs.Served.{kind_in, IsWritten, source_for};
     ghost use Rattle.rb_connections.specs.Listings.{CanContinueAll, KeepsListing, EvictsBefore, stamps_of, IsOldest};
     ghost use Rattle.rb_model.specs.Losses.{expire_first};
     ghost use Rattle.rb_connections.specs.Slots.{Finds, TableActs, TableGives, TableHasArguments, TableLends, TableShows, TakesWhole, KeepsWhole, StaysTable, IsDraft, IsEmptyDraft, empty_table, take_piece, HasBuffers};
@@ -264,7 +263,7 @@ impl Connections {
     ghost use Rattle.rb_connections.specs.Costs.{slot_count, look_cost, received_cost, taken_cost, settling_cost, row_count};
     ghost use Rattle.rb_model.specs.Costs.{given_cost, recount_cost, pending_cost, oldest_cost, evict_cost};
     ghost use Rattle.rb_connections.specs.Awaits.{AwaitsIfForwarded, NoneIsFreed, OnlyIsFreed, EndedOn, EndsOnFree, GoOn, StayOpen};
-    ghost use Rattle.rb_connections.specs.StandsFor.{held_in, most_charge, source_for};
+    ghost use Rattle.rb_connections.specs.StandsFor.{held_in, most_charge};
     ghost use Rattle.std.specs.Map.{values_of};
 
     /// An empty table of at most `conns` connections, whose memory is all allocated here.

@@ -6,7 +6,8 @@ ghost use Rattle.std.specs.Prelude.{◌≡◌, ◌+◌, ◌<◌, ◌≤◌, ◌+
 ghost use Rattle.rb_xdr.specs.Meter.{PaysAtMost};
 ghost use Rattle.rb_xdr.specs.Puts.{Appends, HasRoom};
 ghost use Rattle.rb_model.specs.Connections.{longest_fragment};
-ghost use Rattle.rb_connections.specs.StandsFor.{Source, rest_in, source_for};
+ghost use Rattle.rb_model.specs.Served.{Source, source_for};
+ghost use Rattle.rb_connections.specs.StandsFor.{rest_in};
 ghost use Rattle.rb_connections.specs.Giving.{CanMake, ShowsNext};
 ghost use Rattle.rb_rpc.specs.Records.{fragment_header};
 ghost use Rattle.rb_proto.specs.ListReplies.{longest_part};

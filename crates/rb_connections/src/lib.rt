@@ -7,11 +7,8 @@ mod deadlines;
 mod giving;
 mod hints;
 mod reading;
-mod served;
 mod slot;
 
 pub use connections::{BUFFER_SIZE, Connections};
 pub use giving::{LONGEST_FRAGMENT, give_whole};
-pub use reading::LONGEST_KEPT;
-pub use served::{LONGEST_REPLY, Outcome, Served};
 pub use slot::{EndedRecord, Received, WholeRecord};

@@ -8,11 +8,9 @@ ghost use Rattle.rb_connections.specs.StandsFor.{IsHeld};
 ghost use Rattle.rb_connections.specs.Reading.{HasData, HasMore, KeepsMore, TakesData, CountsPiece, ReadsPiece};
 
 use rb_feed::CallFeed;
+use rb_model::LONGEST_KEPT;
 use rb_rpc::{Marks, Part, Verdict};
 use rb_xdr::{Kept, Meter};
-
-/// The greatest length of arguments that are served.
-pub const LONGEST_KEPT: usize = 8_816;
 
 /// A record that is being read. The arguments of its call are not here, but in a buffer.
 #[derive(Clone, Copy, Debug, PartialEq, Eq)]

@@ -17,8 +17,8 @@ use Rattle.rb_connections.specs.Listings.{CanContinueAll, stamps_of}
 use Rattle.rb_connections.proofs.ListsGoOn.{lists_on, stands_on, stamps_low}
 use Rattle.rb_core.specs.StandsFor.{Held, source_of}
 use Rattle.rb_core.specs.Core.{context_of}
-use Rattle.rb_core.specs.Eviction.{Evicts, source_in}
-use Rattle.rb_core.specs.Serving.{ServesInRoom}
+use Rattle.rb_core.specs.Eviction.{Evicts, ServesInRoom}
+use Rattle.rb_serving.specs.Serving.{source_in}
 use Rattle.rb_core.proofs.Steps.{Served, same_source}
 
 -- what a call sees, of what is held by its other name

@@ -22,18 +22,18 @@ use Rattle.rb_model.specs.Laws.{is_owing}
 use Rattle.rb_model.specs.Sessions.{pending_bytes}
 use Rattle.rb_model.proofs.Fragments.{length-short, length-long, some-marked}
 use Rattle.rb_laws.proofs.Cuts.{IsFeeding, find-changed, changed-twice}
-use Rattle.rb_connections.specs.declared.served.Served.{Served as CodeServed}
-use Rattle.rb_connections.specs.declared.served.Served.TheVariants.{Answered, Listed}
-use Rattle.rb_connections.specs.declared.served.Outcome.TheVariants as outcomes
+use Rattle.rb_model.specs.declared.served.Served.{Served as CodeServed}
+use Rattle.rb_model.specs.declared.served.Served.TheVariants.{Answered, Listed}
+use Rattle.rb_model.specs.declared.served.Outcome.TheVariants as outcomes
 use Rattle.rb_connections.specs.declared.slot.EndedRecord.{EndedRecord}
-use Rattle.rb_connections.specs.StandsFor.{Source, StandsForConnections, Table}
+use Rattle.rb_model.specs.Served.{Source, served_in}
+use Rattle.rb_connections.specs.StandsFor.{StandsForConnections, Table}
 use Rattle.rb_connections.specs.Slots.{Acts, Shows, StaysTable, take_piece, arguments_on}
 use Rattle.rb_connections.specs.Awaits.{has_idle}
-use Rattle.rb_connections.specs.Settling.{served_in}
 use Rattle.rb_connections.specs.Giving.{whole_length, whole_cost}
 use Rattle.rb_connections.proofs.IdleSlots.{Lives, idle_is_live}
 use Rattle.rb_core.specs.StandsFor.{Held, StandsFor, source_of}
-use Rattle.rb_core.specs.Eviction.{source_in}
+use Rattle.rb_serving.specs.Serving.{source_in}
 use Rattle.rb_core.specs.Core.{context_of, serve_ended}
 use Rattle.rb_model.specs.Exchanges.{at_once_in, at_once_on, at_once, pending_front, without_front, then_gave, exchange}
 use Rattle.rb_core.specs.AtOnce.{count_at_once, count_when_answered, answer_and_give, IsGivenAtOnce}

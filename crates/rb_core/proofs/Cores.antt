@@ -9,7 +9,7 @@ use Rattle.rb_connections.specs.StandsFor.{Table}
 use Rattle.rb_connections.specs.Slots.{StaysTable, IsDraft}
 use Rattle.rb_connections.specs.Listings.{CanContinueAll}
 use Rattle.rb_core.specs.Awaits.{AreAwaited}
-use Rattle.rb_core.specs.Eviction.{source_in}
+use Rattle.rb_serving.specs.Serving.{source_in}
 use Rattle.rb_core.specs.Core.{IsCore}
 
 -- with other connections, books and buffers

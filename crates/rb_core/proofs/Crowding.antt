@@ -20,10 +20,11 @@ use Rattle.rb_model.specs.declared.message.Message.{Message}
 use Rattle.rb_model.specs.declared.message.Message.TheVariants as says
 use Rattle.rb_model.specs.State.{Connections}
 use Rattle.rb_model.specs.Losses.{list_stamps, is_needed_for, removals_by, needed_removals}
-use Rattle.rb_connections.specs.StandsFor.{Source, Table, StandsForConnections}
+use Rattle.rb_model.specs.Served.{Source}
+use Rattle.rb_connections.specs.StandsFor.{Table, StandsForConnections}
 use Rattle.rb_connections.specs.Listings.{CanContinueAll, stamps_of, IsOldest, IsEarliest}
 use Rattle.rb_connections.proofs.ListsGoOn.{stamps_reach, stamps_low, begins_alike}
-use Rattle.rb_core.specs.Eviction.{HasRoom}
+use Rattle.rb_serving.specs.Serving.{HasRoom}
 
 -- ---- the rows that are kept
 

@@ -38,7 +38,8 @@ use Rattle.rb_laws.proofs.Room.{reached-room}
 use Rattle.rb_connections.specs.declared.slot.Slot.{Slot}
 use Rattle.rb_connections.specs.declared.slot.Stage.{Stage}
 use Rattle.rb_connections.specs.declared.slot.Stage.TheVariants as stages
-use Rattle.rb_connections.specs.StandsFor.{buffer_size, StandsForPhase, StandsForConnection, charge, held_in, IsWithin, Source}
+use Rattle.rb_connections.specs.StandsFor.{buffer_size, StandsForPhase, StandsForConnection, charge, held_in, IsWithin}
+use Rattle.rb_model.specs.Served.{Source}
 use Rattle.rb_core.specs.StandsFor.{Held, source_of}
 use Rattle.rb_core.specs.HeldBytes.{takes_bytes, HoldsArguments, unheld_share, HeldBytesAreBounded, NeverPasses}
 

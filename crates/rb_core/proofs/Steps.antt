@@ -35,14 +35,15 @@ use Rattle.rb_model.specs.Ending.{outcome_at_end, tell, tell_end, at_fresh_momen
 use Rattle.rb_laws.proofs.Crowds.{begins_changed, evicted_changed, crowding_alike}
 use Rattle.rb_connections.specs.declared.slot.EndedRecord.{EndedRecord}
 use Rattle.rb_connections.specs.declared.slot.Received.{Received}
-use Rattle.rb_connections.specs.StandsFor.{Table, StandsForConnections, Source, source_for}
+use Rattle.rb_connections.specs.StandsFor.{Table, StandsForConnections}
+use Rattle.rb_model.specs.Served.{Source, source_for}
 use Rattle.rb_connections.specs.Slots.{Acts, Shows, StaysTable, received_of, connection_after, take_piece, arguments_after, arguments_taken, arguments_on}
 use Rattle.rb_core.specs.StandsFor.{Held, StandsFor, source_of}
 use Rattle.rb_core.specs.Core.{context_of, serve_ended}
 use Rattle.rb_model.specs.Exchanges.{at_once, at_once_in}
-use Rattle.rb_core.specs.Eviction.{source_in}
-use Rattle.rb_core.specs.Serving.{ServesInRoom}
-use Rattle.rb_core.proofs.MessageFronts.{kept_says}
+use Rattle.rb_serving.specs.Serving.{source_in}
+use Rattle.rb_core.specs.Eviction.{ServesInRoom}
+use Rattle.rb_serving.proofs.MessageFronts.{kept_says}
 
 -- the same of a registry by its other name
 pub same_source : (host : List ℕ) (old new : Registry) (table : Table) (c : Connections) → new ≡ old → StandsForConnections (source_for host old) table c → StandsForConnections (source_for host new) table c

@@ -7,10 +7,10 @@ use Rattle.rb_model.specs.declared.types.Exchanged.{Exchanged}
 use Rattle.rb_model.specs.State.{State}
 use Rattle.rb_model.specs.Connections.{with_given, live_connection, on_connection}
 use Rattle.rb_model.specs.Exchanges.{pending_front, at_once_on, count_now, exchange, taken_in, count_given}
-use Rattle.rb_connections.specs.declared.served.Served.{Served}
-use Rattle.rb_connections.specs.declared.served.Served.TheVariants.{Answered, Listed}
+use Rattle.rb_model.specs.declared.served.Served.{Served}
+use Rattle.rb_model.specs.declared.served.Served.TheVariants.{Answered, Listed}
 use Rattle.rb_connections.specs.declared.slot.EndedRecord.{EndedRecord}
-use Rattle.rb_connections.specs.declared.served.Outcome.TheVariants as outcomes
+use Rattle.rb_model.specs.declared.served.Outcome.TheVariants as outcomes
 use Rattle.rb_connections.specs.Slots.{Acts, Shows}
 use Rattle.rb_connections.specs.Giving.{IsGivenWhole, whole_length}
 use Rattle.rb_core.specs.StandsFor.{Held, StandsFor}

@@ -6,12 +6,13 @@ use Rattle.rb_xdr.specs.Meter.{Meter, PaysAtMost}
 use Rattle.rb_forward.specs.Costs.{unsent_cost}
 use Rattle.rb_proto.specs.declared.books.Books.{Books}
 use Rattle.rb_model.specs.declared.types.CoreFault.{CoreFault}
-use Rattle.rb_model.specs.Costs.{Sizes, results_cost, serve_cost, message_cost, answer_cost, datagram_cost, bytes_cost}
+use Rattle.rb_model.specs.Costs.{Sizes, message_cost, answer_cost, datagram_cost, bytes_cost}
 use Rattle.rb_model.specs.Connections.{live_connection}
 use Rattle.rb_model.specs.State.{State}
 use Rattle.rb_connections.specs.StandsFor.{Table}
 use Rattle.rb_connections.specs.Giving.{whole_cost}
-use Rattle.rb_connections.specs.Costs.{look_cost, row_count, slot_count, taken_cost}
+use Rattle.rb_connections.specs.Costs.{look_cost, slot_count, taken_cost}
+use Rattle.rb_serving.specs.Costs.{row_count_of}
 use Rattle.rb_core.specs.StandsFor.{Held, StandsFor}
 use Rattle.rb_core.specs.declared.calls.Piece.{Piece}
 use Rattle.rb_model.specs.declared.types.Exchanged.{Exchanged}
@@ -19,10 +20,6 @@ use Rattle.rb_core.specs.Core.{arguments_in, received_in}
 use Rattle.rb_model.specs.Exchanges.{count_given}
 
 -- ---- by what is kept
-
--- how many rows the books keep
-abbrev pub row_count_of : Books → ℕ
-row_count_of books = row_count books.registry
 
 -- what the costs of a call depend on; `old` and `new` are the books before and after it
 abbrev pub sizes : Table → Books → Books → Sizes
@@ -42,16 +39,7 @@ sizes_of old new = sizes old.connections old.books new.books
 abbrev pub PaysForPiece : Table → Result Piece CoreFault → Meter → Meter → Type 0
 PaysForPiece table result before now = PaysAtMost before now (look_cost table + taken_cost (received_in result))
 
--- to put results into this buffer
-abbrev pub PaysForResults : Books → Kept → Meter → Meter → Type 0
-PaysForResults books out before now = PaysAtMost before now (results_cost (row_count_of books) (length out.bytes))
-
--- to serve a message with these arguments, whose reply is in this buffer
-abbrev pub PaysToServe : Books → Books → List ℕ → Kept → Meter → Meter → Type 0
-PaysToServe old new args out before now =
-    PaysAtMost before now (serve_cost (row_count_of old) (row_count_of new) (length args) (length out.bytes))
-
--- the same once there is room for its row
+-- to serve a message with these arguments, whose reply is in this buffer, once there is room for its row
 abbrev pub PaysInRoom : Table → Books → Books → List ℕ → Kept → Meter → Meter → Type 0
 PaysInRoom table old new args out before now =
     PaysAtMost before now (message_cost (sizes table old new) (length args) (length out.bytes))

@@ -15,17 +15,17 @@ use Rattle.rb_model.specs.Connections.{on_live}
 use Rattle.rb_model.specs.declared.types.Told.{Told}
 use Rattle.rb_model.specs.Ending.{outcome_at_end, tell}
 use Rattle.rb_model.specs.Step.{serve_message, settle_on}
-use Rattle.rb_connections.specs.declared.served.Outcome as outcome
+use Rattle.rb_model.specs.declared.served.Outcome as outcome
 use Rattle.rb_connections.specs.declared.slot.EndedRecord.{EndedRecord}
 use Rattle.rb_connections.specs.declared.slot.Received.{Received}
 use Rattle.rb_connections.specs.StandsFor.{Table}
 use Rattle.rb_connections.specs.Slots.{Acts, TableActs, TableShows, take_piece, arguments_on, IsDraft}
 use Rattle.rb_connections.specs.Listings.{CanContinueAll}
-use Rattle.rb_connections.specs.Settling.{outcome_with}
+use Rattle.rb_model.specs.Served.{outcome_with}
 use Rattle.rb_core.specs.declared.calls.Piece.{Piece}
 use Rattle.rb_core.specs.StandsFor.{Held, StandsFor}
 use Rattle.rb_core.specs.Awaits.{AreAwaited}
-use Rattle.rb_core.specs.Eviction.{source_in}
+use Rattle.rb_serving.specs.Serving.{source_in}
 
 -- What is true of all that a core holds: it has one meter, its draft is empty between two events, each connection for
 -- which a call is forwarded awaits it, the registry can make the rest of each list that is being given, and the reply
@@ -50,10 +50,6 @@ pub record IsCore (setting : Setting) (connections : Table) (books : Books) (rep
   pub has_arguments : IsDraft reply.tie arguments
 
 -- ---- what calls answer
-
--- the outcome of the model for this outcome of the code, with the reply in this buffer
-abbrev pub outcome_in : outcome.Outcome → Kept → Outcome
-outcome_in given kept = outcome_with given kept.bytes
 
 -- what a call from a caller sees
 abbrev pub context_of : Held → Caller → Context
@@ -80,10 +76,13 @@ arguments_in (Some lent) held = lent.now
 arguments_in None held = held
 
 -- These are the arguments that the core has after a piece for the connection of the number; `before` and `after` are
--- the buffer that was handed in for them.
+-- the buffer that was handed in for them. None lie in the piece where no record ended.
+pub record AreArguments (id : ℕ) (piece : List ℕ) (table : Table) (before after : Kept) (got : Piece) : Type 0 where
+  pub shows : TableShows (arguments_on id before.bytes piece) table (arguments_in got.arguments after.bytes)
+  pub none : got.received.ended ≡ None → got.arguments ≡ None
+
 abbrev pub HasArguments : ℕ → List ℕ → Table → Kept → Kept → Result Piece CoreFault → Type 0
-HasArguments id piece table before after result =
-    IfOk result (λ got. TableShows (arguments_on id before.bytes piece) table (arguments_in got.arguments after.bytes))
+HasArguments id piece table before after result = IfOk result (λ got. AreArguments id piece table before after got)
 
 -- a record with this verdict and these arguments is answered, and its connection goes on
 abbrev pub serve_ended : ℕ → EndedRecord → List ℕ → State → Bool × State

@@ -2,10 +2,8 @@ pub mod StandsFor
 pub mod HeldBytes
 pub mod AtOnce
 pub mod Awaits
-pub mod Messages
 pub mod Eviction
 pub mod Core
-pub mod Serving
 pub mod CallCosts
 pub mod Events
 pub mod WorkedHeld

@@ -4,7 +4,8 @@ use Rattle.rb_proto.specs.declared.books.Books.{Books}
 use Rattle.rb_proto.specs.Ledger.{StandsForLedger}
 use Rattle.rb_model.specs.Calls.{longest_reply}
 use Rattle.rb_model.specs.State.{Setting, State}
-use Rattle.rb_connections.specs.StandsFor.{Source, source_for, Table, StandsForConnections, AreWithin}
+use Rattle.rb_model.specs.Served.{Source, source_for}
+use Rattle.rb_connections.specs.StandsFor.{Table, StandsForConnections, AreWithin}
 
 -- `steps_before` is what the meter showed as the last event began, and `tie` is the number of that meter
 pub record Held : Type 0 where

@@ -1,21 +1,23 @@
 //! What comes of a piece of bytes on a connection, and how a record or a datagram is served.
-ghost use Rattle.std.specs.Prelude.{◌≡◌, ◌≤◌, ◌+◌, None, length, IfOk, OnErr};
+ghost use Rattle.std.specs.Prelude.{◌≡◌, ◌<◌, ◌≤◌, ◌+◌, length, take, IfOk, OnErr};
 ghost use Rattle.rb_xdr.specs.Meter.{PaysAtMost};
+ghost use Rattle.rb_model.specs.Served.{IsWritten};
 ghost use Rattle.rb_connections.specs.Awaits.{GoOn, EndsOnFree, StayOpen};
+ghost use Rattle.rb_connections.specs.Giving.{whole_cost};
+ghost use Rattle.rb_core.specs.AtOnce.{IsGivenAtOnce, count_at_once};
 ghost use Rattle.rb_core.specs.CallCosts.{PaysForPiece, PaysInRoom};
 ghost use Rattle.rb_core.specs.Core.{arguments_in, received_in, HasArguments, TakesPiece};
-ghost use Rattle.rb_core.specs.Serving.{CanServe, IsEmptyReply, LeavesBooks, ServesVerdict};
+ghost use Rattle.rb_serving.specs.Serving.{CanServe, IsEmptyReply, LeavesBooks, source_in};
+ghost use Rattle.rb_core.specs.Eviction.{ServesVerdict};
 ghost use Rattle.rb_connections.specs.Listings.{CanContinueAll};
-ghost use Rattle.rb_core.specs.Eviction.{source_in};
 ghost use Rattle.rb_connections.specs.Slots.{IsDraft};
 
 use crate::eviction::make_room;
-use crate::message::{kept_arguments, procedure_of};
-use crate::replies::{serve, serve_null};
-use rb_connections::{Connections, EndedRecord, Received, Served};
-use rb_model::CoreFault;
+use rb_connections::{Connections, EndedRecord, Received, give_whole};
+use rb_model::{CoreFault, Outcome, Served};
 use rb_proto::{Books, Context};
 use rb_rpc::{FRAGMENT_HEADER, Verdict, read_call};
+use rb_serving::{kept_arguments, procedure_of, serve, serve_null};
 use rb_xdr::{Kept, Meter};
 
 /// What came of a piece of bytes. The arguments of the record that ended with it lie in the piece where that came
@@ -41,7 +43,6 @@ pub fn take_piece<'a>(
     requires arguments { IsDraft meter.old.tie arguments.old }
     ensures acts { TakesPiece id clock piece.now connections.old connections.new result }
     ensures arguments { HasArguments id piece.now connections.old arguments.old arguments.new result }
-    ensures none { IfOk result (λ got. got.received.ended ≡ None → got.arguments ≡ None) }
     ensures goes_on { GoOn connections.old connections.new }
     ensures ends { EndsOnFree id clock connections.old connections.new (received_in result) }
     ensures within { IfOk result (λ got. got.received.count ≤ length piece.now) }
@@ -121,4 +122,22 @@ pub fn serve_verdict(
     let message = &called.message(arguments);
     make_room(connections, books, context, message, meter);
     serve(books, context, message, arguments, out, meter)
+}
+
+/// Writes the reply into `room`, with its header, where it is one fragment and `room` has place for the longest, and
+/// then empties its buffer. Returns the number of bytes written, 0 where nothing was.
+pub fn give_at_once(served: Served, draft: &mut Kept, room: &mut [u8], meter: &mut Meter) -> usize
+    requires draft { IsDraft meter.old.tie draft.old }
+    requires written { IsWritten served draft.old.bytes }
+    ensures count { result ≡ count_at_once (length room.old) served draft.old.bytes }
+    ensures none { result ≡ 0 → draft.new ≡ draft.old }
+    ensures some { 0 < result → IsGivenAtOnce served draft.old draft.new (take result room.new) }
+    ensures draft { IsDraft meter.old.tie draft.new }
+    ensures within { result ≤ length room.new }
+    ensures cost { PaysAtMost meter.old meter.new (whole_cost (length room.old) result) }
+{
+    match served {
+        Served::Answered(Outcome::Reply) => give_whole(draft, room, meter),
+        Served::Answered(_) | Served::Listed(_, _) => 0,
+    }
 }

@@ -3,17 +3,15 @@ ghost use Rattle.std.specs.Prelude.{◌≡◌, ◌≤◌, IsTrue};
 ghost use Rattle.rb_model.specs.State.{are_good};
 ghost use Rattle.rb_model.specs.Bounds.{bytes_bound};
 
-use crate::calls::{Piece, lend_arguments, serve_verdict, take_piece};
-use crate::message::arguments_behind;
-use crate::replies::{give_at_once, put_end};
-use rb_connections::{
-    BUFFER_SIZE, Connections, EndedRecord, LONGEST_FRAGMENT, LONGEST_REPLY, Outcome, Received,
-    Served,
-};
+use crate::calls::{Piece, give_at_once, lend_arguments, serve_verdict, take_piece};
+use rb_connections::{BUFFER_SIZE, Connections, EndedRecord, LONGEST_FRAGMENT, Received};
 use rb_forward::{Ended, FwdId, LONGEST_FORWARDED_CALL, Unsent};
-use rb_model::{CoreFault, Exchanged, Expired, Limits, Taken, Told};
+use rb_model::{
+    CoreFault, Exchanged, Expired, LONGEST_REPLY, Limits, Outcome, Served, Taken, Told,
+};
 use rb_proto::{Books, Context, Listener};
 use rb_rpc::{Caller, Peer, read_call};
+use rb_serving::{arguments_behind, put_end};
 use rb_xdr::{Kept, Meter};
 use std::alloc::Global;
 use std::marker::Model;

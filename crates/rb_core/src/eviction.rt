@@ -5,8 +5,10 @@ ghost use Rattle.rb_xdr.specs.Meter.{PaysAtMost};
 ghost use Rattle.rb_proto.specs.Books.{AreTied, HasPlaceLeft, SameFrame};
 ghost use Rattle.rb_connections.specs.Awaits.{StayOpen};
 ghost use Rattle.rb_connections.specs.Listings.{CanContinueAll};
-ghost use Rattle.rb_core.specs.Eviction.{HasRoom, Evicts, source_in};
-ghost use Rattle.rb_core.specs.CallCosts.{row_count_of, sizes};
+ghost use Rattle.rb_serving.specs.Serving.{HasRoom, source_in};
+ghost use Rattle.rb_core.specs.Eviction.{Evicts};
+ghost use Rattle.rb_serving.specs.Costs.{row_count_of};
+ghost use Rattle.rb_core.specs.CallCosts.{sizes};
 ghost use Rattle.rb_model.specs.Costs.{room_cost};
 
 use rb_connections::Connections;

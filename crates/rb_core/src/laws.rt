@@ -1,6 +1,5 @@
 //! What holds of what a core holds.
 ghost use Rattle.rb_core.specs.HeldBytes.{HeldBytesAreBounded};
-ghost use Rattle.rb_core.specs.Messages.{KeptSaysTheRecord};
 ghost use Rattle.rb_core.specs.WorkedHeld.{FreshCoreHolds};
 
 /// In each state that a run reaches, what the core holds is at most the bound, less 1,868 bytes for each connection that is
@@ -12,9 +11,4 @@ pub fn held_bytes_are_bounded()
 /// The definition of held bytes gives what the worked example says.
 pub fn worked_held()
     ensures { FreshCoreHolds }
-{}
-
-/// The verdict on a record and the first 8,816 bytes behind the head of its call decide what it says.
-pub fn kept_bytes_say_the_record()
-    ensures { KeptSaysTheRecord }
 {}

@@ -7,14 +7,11 @@ mod calls;
 mod events;
 mod eviction;
 mod laws;
-mod message;
-mod replies;
 
 pub use events::{Core, MOST_KEYS};
-pub use laws::{held_bytes_are_bounded, kept_bytes_say_the_record, worked_held};
-pub use rb_connections::Outcome;
+pub use laws::{held_bytes_are_bounded, worked_held};
 pub use rb_forward::{FwdId, Unsent};
-pub use rb_model::{CoreFault, Exchanged, Expired, Limits, Taken, Told};
+pub use rb_model::{CoreFault, Exchanged, Expired, Limits, Outcome, Taken, Told};
 pub use rb_proto::Listener;
 pub use rb_rpc::Peer;
 pub use rb_xdr::NoMemory;

@@ -22,9 +22,9 @@ use Rattle.rb_record.specs.Entries.{entry_text, run_entries, options_text}
 use Rattle.rb_record.specs.Tapes.{Tape, Records, IsRecordOf, empty_tape}
 use Rattle.rb_record.proofs.RunTexts.{run_entries-append, one_recorded}
 use Rattle.rb_record.proofs.Tapes.{records_more, new_record, record_goes_on, record_stays}
-use Rattle.rb_connections.specs.declared.served.Outcome as outcome
-use Rattle.rb_connections.specs.declared.served.Outcome.TheVariants as outcome_kinds
-use Rattle.rb_connections.specs.Settling.{outcome_with}
+use Rattle.rb_model.specs.declared.served.Outcome as outcome
+use Rattle.rb_model.specs.declared.served.Outcome.TheVariants as outcome_kinds
+use Rattle.rb_model.specs.Served.{outcome_with}
 use Rattle.rb_connections.specs.Slots.{Acts, Shows}
 use Rattle.rb_core.specs.Core.{ActsWithReply}
 use Rattle.rb_core.specs.StandsFor.{Held, StandsFor}

@@ -47,7 +47,7 @@ use Rattle.rb_model.specs.Ending.{outcome_at_end, tell, tell_end, at_fresh_momen
 use Rattle.rb_model.specs.Step.{Event, Output, context_in, serve, serve_record, unless_refused, when_taken, bytes_to, bytes, pending, gave, is_too_much, open_connection, dropped_with, close_connection, with_reply, datagram, sent_call, output_or, show_taken, show_done, show_outcome, show_end, show_expired, step, after, IsReached}
 use Rattle.rb_model.specs.Step.Event.{Open, Bytes, Pending, Gave, Closed, NextLost, Datagram, Unsent, Sent, Forward as ForwardCame, Expire}
 use Rattle.rb_model.specs.Step.Output.{Opened, TooMuch, IsPending}
-use Rattle.rb_laws.proofs.AskedArgs.{message_has}
+use Rattle.rb_model.proofs.AskedArgs.{message_has}
 
 -- ---- what a call leaves of them
 

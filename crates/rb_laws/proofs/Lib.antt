@@ -1,4 +1,3 @@
-pub mod AskedArgs
 pub mod Crowding
 pub mod Crowds
 pub mod EntriesKept

@@ -1,3 +1,5 @@
 pub mod Found
 pub mod Fragments
 pub mod Expiring
+pub mod ReplyHeads
+pub mod AskedArgs

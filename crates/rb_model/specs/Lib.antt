@@ -1,5 +1,6 @@
 pub mod State
 pub mod Calls
+pub mod Served
 pub mod Connections
 pub mod Losses
 pub mod Ending

@@ -1,16 +1,18 @@
 //! What the portmapper is to do, in definitions over plain data: what a message says and is answered with, what the
 //! daemon knows between two events, what each event does to that, what it costs, and what is promised of all runs.
 //!
-//! No definition speaks of memory. rb_laws proves that the promises hold.
+//! No definition speaks of memory but those of `Served`. rb_laws proves that the promises hold.
 #![tactic(auto)]
 
 mod events;
 mod message;
+mod served;
 mod types;
 mod worked;
 
 pub use events::{Event, Output, UnsentCall};
-pub use message::Message;
+pub use message::{LONGEST_KEPT, Message};
+pub use served::{LONGEST_REPLY, Outcome, Served};
 pub use types::{CoreFault, Exchanged, Expired, Limits, Taken, Told};
 pub use worked::{
     worked_bounds, worked_connections, worked_deadlines, worked_examples, worked_forwards,

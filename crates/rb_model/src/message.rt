@@ -2,6 +2,9 @@
 use rb_proto::Call;
 use rb_rpc::{CallHead, ReplyHead};
 
+/// The greatest length of arguments that are served.
+pub const LONGEST_KEPT: usize = 8_816;
+
 /// What the data of a record, or a datagram, says.
 #[derive(Drop)]
 pub enum Message<'a> {

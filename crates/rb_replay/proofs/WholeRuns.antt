@@ -15,7 +15,8 @@ use Rattle.rb_laws.proofs.WholeRuns.{whole_runs_are_bounded}
 use Rattle.rb_connections.specs.declared.slot.Slot.{Slot}
 use Rattle.rb_connections.specs.declared.slot.Stage.{Stage}
 use Rattle.rb_connections.specs.declared.slot.Stage.TheVariants as stages
-use Rattle.rb_connections.specs.StandsFor.{Source, StandsForPhase, StandsForConnection}
+use Rattle.rb_model.specs.Served.{Source}
+use Rattle.rb_connections.specs.StandsFor.{StandsForPhase, StandsForConnection}
 use Rattle.rb_core.specs.StandsFor.{Held, StandsFor, source_of}
 use Rattle.rb_core.specs.Events.{count_shown, greatest_count}
 use Rattle.rb_replay.specs.Runs.{buffer_bytes}

@@ -1,4 +1,4 @@
-use Rattle.rb_connections.specs.StandsFor.{source_for}
+use Rattle.rb_model.specs.Served.{source_for}
 use Rattle.rb_connections.proofs.giving.show_next.Goals as goal
 
 pub returns-in-Held-clause-shows : goal.returns-in-Held-clause-shows

@@ -5,9 +5,9 @@ use Rattle.rb_proto.specs.Answers.{adds_row, row_to_set}
 use Rattle.rb_proto.specs.Ledger.{Ledger}
 use Rattle.rb_model.specs.Calls.{message_with}
 use Rattle.rb_model.specs.Losses.{asks_room}
-use Rattle.rb_core.specs.Messages.{null_message}
+use Rattle.rb_serving.specs.Messages.{null_message}
 use Rattle.rb_core.proofs.Answering.{serves_in_room, nothing_evicts, serves_without_room, lists_then}
-use Rattle.rb_core.proofs.Procedures.{null_asked, nothing_asks}
+use Rattle.rb_serving.proofs.Procedures.{null_asked, nothing_asks}
 use Rattle.rb_core.proofs.calls.serve_verdict.Goals as goal
 
 null_asks_none : (context : Context) (head : CallHead) (l : Ledger) → asks_room context (null_message head) l ≡ false

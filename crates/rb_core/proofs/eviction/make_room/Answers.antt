@@ -6,7 +6,7 @@ use Rattle.rb_model.specs.Losses.{asks_room, needed_removals, evict}
 use Rattle.rb_laws.proofs.Crowding.{none_evicted, not_asked, not_crowded, crowded, no_call_asks, row_within}
 use Rattle.rb_connections.specs.Listings.{CanContinueAll, stamps_of, IsEarliest}
 use Rattle.rb_connections.proofs.ListsGoOn.{lists_on, stands_on, trimmed_low}
-use Rattle.rb_core.specs.Eviction.{source_in}
+use Rattle.rb_serving.specs.Serving.{source_in}
 use Rattle.rb_core.proofs.Crowding.{kept_are, kept_few, no_call_has_room, room_is_made, earliest_of}
 use Rattle.rb_core.proofs.eviction.make_room.Goals as goal
 

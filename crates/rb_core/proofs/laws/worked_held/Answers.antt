@@ -11,7 +11,8 @@ use Rattle.rb_forward.specs.Forwards.{no_forwards}
 use Rattle.rb_forward.proofs.Stands.{held_alike}
 use Rattle.rb_proto.specs.Callers.{own_rows}
 use Rattle.rb_connections.specs.declared.slot.Slot.{Slot}
-use Rattle.rb_connections.specs.StandsFor.{StandsForConnection, held_in, Source}
+use Rattle.rb_connections.specs.StandsFor.{StandsForConnection, held_in}
+use Rattle.rb_model.specs.Served.{Source}
 use Rattle.rb_core.specs.StandsFor.{source_of}
 use Rattle.rb_core.proofs.laws.worked_held.Goals as goal
 

@@ -5,9 +5,9 @@ use Rattle.rb_model.specs.Step.Event.{Datagram}
 use Rattle.rb_model.specs.Step.Output.{Silent, Replied}
 use Rattle.rb_model.specs.Costs.{datagram_cost}
 use Rattle.rb_laws.proofs.EntriesKept.{step-follows}
-use Rattle.rb_connections.specs.declared.served.Outcome.{Outcome as Written}
-use Rattle.rb_connections.specs.declared.served.Outcome.TheVariants as outcomes
-use Rattle.rb_connections.specs.Settling.{outcome_with}
+use Rattle.rb_model.specs.declared.served.Outcome.{Outcome as Written}
+use Rattle.rb_model.specs.declared.served.Outcome.TheVariants as outcomes
+use Rattle.rb_model.specs.Served.{outcome_with}
 use Rattle.rb_core.specs.CallCosts.{sizes_of}
 use Rattle.rb_core.proofs.Outputs.{datagram_shown, shown_of}
 use Rattle.rb_core.proofs.Begun.{stands_begun, same_tie}

@@ -4,7 +4,7 @@ use Rattle.rb_xdr.proofs.PoolLemmas.{All-value_at}
 use Rattle.rb_model.specs.Connections.{on_live, give}
 use Rattle.rb_connections.specs.contracts.connections.Connections.{the_view}
 use Rattle.rb_connections.specs.Slots.{HasBuffers}
-use Rattle.rb_connections.specs.StandsFor.{source_for}
+use Rattle.rb_model.specs.Served.{source_for}
 use Rattle.rb_connections.specs.Listings.{CanContinueSlot, CanContinueAll}
 use Rattle.rb_connections.specs.Awaits.{is_free}
 use Rattle.rb_connections.proofs.Holding.{stays_changed}

@@ -2,8 +2,8 @@ use Rattle.std.specs.Map.{values_of}
 use Rattle.std.proofs.Common.{ap, sym, subst, ◌∙◌, arith, ◌≡◌, true, false, refl}
 use Rattle.rb_model.specs.Connections.{settle}
 use Rattle.rb_connections.specs.contracts.connections.Connections.{the_view}
-use Rattle.rb_connections.specs.Settling.{served_in}
-use Rattle.rb_connections.specs.StandsFor.{StandsForConnections, source_for}
+use Rattle.rb_model.specs.Served.{served_in, source_for}
+use Rattle.rb_connections.specs.StandsFor.{StandsForConnections}
 use Rattle.rb_connections.specs.Slots.{HasBuffers}
 use Rattle.rb_connections.specs.Awaits.{has_idle, is_free}
 use Rattle.rb_connections.proofs.Holding.{stays_changed}

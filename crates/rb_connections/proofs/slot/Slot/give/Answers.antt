@@ -4,7 +4,8 @@ use Rattle.rb_xdr.specs.Kept.{Kept}
 use Rattle.rb_model.specs.State.Phase.{Owing}
 use Rattle.rb_model.specs.Connections.{phase_when_given}
 use Rattle.rb_connections.specs.declared.slot.Slot.{Slot}
-use Rattle.rb_connections.specs.StandsFor.{source_for, StandsForPhase}
+use Rattle.rb_model.specs.Served.{source_for}
+use Rattle.rb_connections.specs.StandsFor.{StandsForPhase}
 use Rattle.rb_connections.proofs.OneSlot.{none_given, some_given, goes_on_giving, is_given, nothing_pending, giving_phase}
 use Rattle.rb_connections.proofs.Progress.{pending_few, stays, moves, ends, slot_lists_on}
 use Rattle.rb_connections.proofs.slot.Slot.give.Goals as goal

@@ -2,7 +2,7 @@ use Rattle.std.proofs.Common.{ℕ, Some, None, refl, ap}
 use Rattle.rb_xdr.specs.Kept.{Kept}
 use Rattle.rb_model.specs.Connections.{settle}
 use Rattle.rb_connections.proofs.Progress.{slot_lists_on, slot_begins}
-use Rattle.rb_connections.proofs.ReplyHeads.{fresh_is_some}
+use Rattle.rb_connections.proofs.FreshLists.{fresh_is_some}
 use Rattle.rb_connections.proofs.slot.Slot.settle.Goals as goal
 
 pub returns-in-Answered-NoCall-clause-stands : goal.returns-in-Answered-NoCall-clause-stands

@@ -7,7 +7,8 @@ use Rattle.rb_model.specs.Connections.Taking.{TakesNone}
 use Rattle.rb_connections.specs.declared.slot.Stage.{Stage}
 use Rattle.rb_connections.specs.declared.slot.Stage.TheVariants as stages
 use Rattle.rb_connections.specs.declared.giving.Giving.{Giving}
-use Rattle.rb_connections.specs.StandsFor.{Source, StandsForPhase}
+use Rattle.rb_model.specs.Served.{Source}
+use Rattle.rb_connections.specs.StandsFor.{StandsForPhase}
 use Rattle.rb_connections.specs.Slots.{IsBeforePiece}
 use Rattle.rb_connections.proofs.Slots.{reads_nothing}
 use Rattle.rb_connections.proofs.OneSlot.{idle_phase, reading_phase, giving_phase, awaiting_phase, lost_phase, feeding_acts, taken_arguments, nothing_of_nothing, nothing_where_owing, nothing_where_awaiting, nothing_where_lost, some_where_fed, since_of_idle, since_of_reading}

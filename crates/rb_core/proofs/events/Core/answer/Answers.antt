@@ -15,16 +15,17 @@ use Rattle.rb_model.specs.Calls.Outcome.{Silent}
 use Rattle.rb_model.specs.State.{State, Connections}
 use Rattle.rb_model.specs.Step.{settle_on, serve_message}
 use Rattle.rb_connections.specs.declared.slot.EndedRecord.{EndedRecord}
-use Rattle.rb_connections.specs.StandsFor.{StandsForConnections, Source, Table}
+use Rattle.rb_connections.specs.StandsFor.{StandsForConnections, Table}
+use Rattle.rb_model.specs.Served.{Source, served_in}
 use Rattle.rb_connections.specs.Slots.{Acts, BecomesFrom, StaysTable}
 use Rattle.rb_connections.specs.Awaits.{has_idle, IsIdleSince}
-use Rattle.rb_connections.specs.Settling.{Settles, served_in}
+use Rattle.rb_connections.specs.Settling.{Settles}
 use Rattle.rb_connections.proofs.Settled.{settled_stays}
 use Rattle.rb_core.specs.contracts.events.Core.{the_view}
 use Rattle.rb_core.specs.StandsFor.{Held, StandsFor}
 use Rattle.rb_core.specs.Core.{arguments_in, serve_ended, context_of, without_arguments}
-use Rattle.rb_core.specs.Eviction.{source_in}
-use Rattle.rb_core.specs.Serving.{ServesInRoom, ServesVerdict}
+use Rattle.rb_serving.specs.Serving.{source_in}
+use Rattle.rb_core.specs.Eviction.{ServesInRoom, ServesVerdict}
 use Rattle.rb_core.specs.AtOnce.{AnswersGiving, GivesAtOnce, IsGivenAtOnce, answer_and_give, count_when_answered}
 use Rattle.rb_core.proofs.Answering.{sees}
 use Rattle.rb_core.proofs.AtOnce.{Leaves, leaves_none, leaves_all, answer_giving, answer_counts, counts_served, count_of}

@@ -9,15 +9,15 @@ use Rattle.rb_proto.specs.declared.books.Books.{Books}
 use Rattle.rb_proto.specs.declared.context.Context.{Context}
 use Rattle.rb_model.specs.declared.message.Message.{Message}
 use Rattle.rb_model.specs.Calls.{Outcome, message_with, message_of, reply_in}
-use Rattle.rb_connections.specs.Settling.{outcome_with, IsWritten}
+use Rattle.rb_model.specs.Served.{outcome_with, IsWritten}
 use Rattle.rb_connections.specs.StandsFor.{Table}
-use Rattle.rb_connections.specs.declared.served.Served.TheVariants.{Answered}
-use Rattle.rb_connections.specs.declared.served.Outcome.{Outcome as Written}
-use Rattle.rb_connections.specs.declared.served.Outcome.TheVariants as outcomes
+use Rattle.rb_model.specs.declared.served.Served.TheVariants.{Answered}
+use Rattle.rb_model.specs.declared.served.Outcome.{Outcome as Written}
+use Rattle.rb_model.specs.declared.served.Outcome.TheVariants as outcomes
 use Rattle.rb_core.specs.Awaits.{AreAwaited}
 use Rattle.rb_core.specs.contracts.events.Core.{the_view}
 use Rattle.rb_core.specs.StandsFor.{Held}
-use Rattle.rb_core.specs.Serving.{ServesInRoom}
+use Rattle.rb_core.specs.Eviction.{ServesInRoom}
 use Rattle.rb_core.proofs.Awaited.{awaited_by_udp}
 use Rattle.rb_core.proofs.Answering.{lists_for_room, lists_for_view, served_by}
 use Rattle.rb_core.proofs.Steps.{datagram_acts}

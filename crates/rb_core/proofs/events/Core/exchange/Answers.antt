@@ -67,7 +67,7 @@ returns-in_default-clause-acts c =
     let view = with_steps_before (the_view c.self.inside) c.count-self-inside.result in
     let got = c.in_ok-got.got.received in
     let taken = with_ended (source_of view) c.args.id c.max-clock.result c.args.piece.now view.connections c.take_piece.new.connections got None c.in_default.is (c.in_ok-got.ensures.acts (source_of view)) in
-    let holds = in_buffer view c.args.id c.args.piece.now c.take_piece.new.arguments.bytes c.in_ok-got.got.arguments (c.in_ok-got.ensures.none c.in_default.is) (c.in_ok-got.ensures.arguments (source_of view)) in
+    let holds = in_buffer view c.args.id c.args.piece.now c.take_piece.new.arguments.bytes c.in_ok-got.got.arguments (c.in_ok-got.ensures.arguments.none c.in_default.is) (c.in_ok-got.ensures.arguments.shows (source_of view)) in
     acts_begun _ (the_view c.self.inside) c.args.self.now _ c.count-self-inside.result _ c.self.view_is
     (counted c.args.now c.args.id 0 c.args.piece.now _ view _ _
     (plainly c.args.now c.args.id c.args.piece.now view _ _ (quiet_acts view c.args.now c.max-clock.result c.args.id c.args.piece.now c.max-clock.ensures c.take_piece.new.connections c.in_ok-got.ensures.goes_on.stays c.take_piece.new.arguments.bytes holds got.count taken))
@@ -78,7 +78,7 @@ returns-in_default-clause-count c =
     let view = with_steps_before (the_view c.self.inside) c.count-self-inside.result in
     let got = c.in_ok-got.got.received in
     let taken = with_ended (source_of view) c.args.id c.max-clock.result c.args.piece.now view.connections c.take_piece.new.connections got None c.in_default.is (c.in_ok-got.ensures.acts (source_of view)) in
-    let holds = in_buffer view c.args.id c.args.piece.now c.take_piece.new.arguments.bytes c.in_ok-got.got.arguments (c.in_ok-got.ensures.none c.in_default.is) (c.in_ok-got.ensures.arguments (source_of view)) in
+    let holds = in_buffer view c.args.id c.args.piece.now c.take_piece.new.arguments.bytes c.in_ok-got.got.arguments (c.in_ok-got.ensures.arguments.none c.in_default.is) (c.in_ok-got.ensures.arguments.shows (source_of view)) in
     shows_begun _ (the_view c.self.inside) c.args.self.now c.count-self-inside.result 0 c.self.view_is
     (quiet_gives_none view c.args.now c.max-clock.result c.args.id c.args.piece.now c.max-clock.ensures c.take_piece.new.connections c.in_ok-got.ensures.goes_on.stays c.take_piece.new.arguments.bytes holds _ got.count taken)
 
@@ -87,7 +87,7 @@ returns-in_default-clause-cost c = λ s h.
     let view = with_steps_before (the_view c.self.inside) c.count-self-inside.result in
     let z = still_stands (the_view c.self.inside) c.count-self-inside.result s (subst (λ (held : Held). StandsFor held s) (sym c.self.view_is) h) in
     let f =
-    fed_by view c.args.now c.max-clock.result c.args.id c.args.piece.now c.max-clock.ensures c.take_piece.new.connections c.in_ok-got.ensures.goes_on.stays (arguments_in c.in_ok-got.got.arguments c.take_piece.new.arguments.bytes) (c.in_ok-got.ensures.arguments (source_of view))
+    fed_by view c.args.now c.max-clock.result c.args.id c.args.piece.now c.max-clock.ensures c.take_piece.new.connections c.in_ok-got.ensures.goes_on.stays (arguments_in c.in_ok-got.got.arguments c.take_piece.new.arguments.bytes) (c.in_ok-got.ensures.arguments.shows (source_of view))
     c.in_ok-got.got.received (c.in_ok-got.ensures.acts (source_of view)) s z in
     by_view (the_view c.self.inside) c.args.self.now (the_view c.self.inside) c.args.id c.args.piece.now s (whole_cost (length c.args.room.now) 0) c.args.meter.now c.take_piece.new.meter c.self.view_is
     (rw f.there (received_paid (sizes_of (the_view c.self.inside) (the_view c.self.inside)) c.args.piece.now _ _ (whole_cost (length c.args.room.now) 0) f.connection c.in_ok-got.got.received f.gives c.in_ok-got.ensures.cost))
@@ -106,7 +106,7 @@ returns-clause-acts c =
     let room : List ℕ = c.answer-closed.new.room in
     let view = with_steps_before (the_view c.self.inside) c.count-self-inside.result in
     let arguments = arguments_in c.in_ok-got.got.arguments c.take_piece.new.arguments.bytes in
-    let holds = c.in_ok-got.ensures.arguments (source_of view) in
+    let holds = c.in_ok-got.ensures.arguments.shows (source_of view) in
     let n : ℕ = c.answer-closed.result.1 in
     acts_begun _ (the_view c.self.inside) c.args.self.now _ c.count-self-inside.result _ c.self.view_is
     (counted c.args.now c.args.id n c.args.piece.now (length room) view _ _
@@ -120,7 +120,7 @@ pub returns-clause-count : goal.returns-clause-count
 returns-clause-count c =
     let view = with_steps_before (the_view c.self.inside) c.count-self-inside.result in
     shows_begun _ (the_view c.self.inside) c.args.self.now c.count-self-inside.result c.answer-closed.result.1 c.self.view_is
-    (counted_ended view c.args.now c.max-clock.result c.args.id c.args.piece.now c.max-clock.ensures c.take_piece.new.connections c.in_ok-got.ensures.goes_on.stays (arguments_in c.in_ok-got.got.arguments c.take_piece.new.arguments.bytes) (c.in_ok-got.ensures.arguments (source_of view)) c.in_ok-got.got.received.count (length c.args.room.now) c.answer-closed.result.1 c.in-Some.ended
+    (counted_ended view c.args.now c.max-clock.result c.args.id c.args.piece.now c.max-clock.ensures c.take_piece.new.connections c.in_ok-got.ensures.goes_on.stays (arguments_in c.in_ok-got.got.arguments c.take_piece.new.arguments.bytes) (c.in_ok-got.ensures.arguments.shows (source_of view)) c.in_ok-got.got.received.count (length c.args.room.now) c.answer-closed.result.1 c.in-Some.ended
     (ended c) c.answer-closed.ensures.count)
 
 pub returns-clause-cost : goal.returns-clause-cost
@@ -128,7 +128,7 @@ returns-clause-cost c = λ s h.
     let view = with_steps_before (the_view c.self.inside) c.count-self-inside.result in
     let z = still_stands (the_view c.self.inside) c.count-self-inside.result s (subst (λ (held : Held). StandsFor held s) (sym c.self.view_is) h) in
     let arguments = arguments_in c.in_ok-got.got.arguments c.take_piece.new.arguments.bytes in
-    let holds = c.in_ok-got.ensures.arguments (source_of view) in
+    let holds = c.in_ok-got.ensures.arguments.shows (source_of view) in
     let got = c.in_ok-got.got.received in
     let f = fed_by view c.args.now c.max-clock.result c.args.id c.args.piece.now c.max-clock.ensures c.take_piece.new.connections c.in_ok-got.ensures.goes_on.stays arguments holds got (c.in_ok-got.ensures.acts (source_of view)) s z in
     let kept = held_after view c.args.now c.max-clock.result c.args.id c.args.piece.now c.max-clock.ensures c.take_piece.new.connections c.in_ok-got.ensures.goes_on.stays arguments holds s f.connection _ z f.there refl in

@@ -1,5 +1,5 @@
 //! Serves a message: what it is answered with, and what is remembered of it.
-ghost use Rattle.std.specs.Prelude.{◌≡◌, ◌<◌, ◌≤◌, length, take};
+ghost use Rattle.std.specs.Prelude.{◌≡◌, ◌<◌, ◌≤◌, length};
 ghost use Rattle.rb_rpc.specs.Replies.{reply_head};
 ghost use Rattle.rb_xdr.specs.Meter.{PaysAtMost};
 ghost use Rattle.rb_registry.specs.Cursors.{GoesOn};
@@ -9,25 +9,18 @@ ghost use Rattle.rb_proto.specs.Results.{results_at, shown_in, shown_of};
 ghost use Rattle.rb_forward.specs.Forwards.{longest_results};
 ghost use Rattle.rb_forward.specs.Outcomes.{PassesWithin};
 ghost use Rattle.rb_proto.specs.Forwarding.{forwarded_bytes};
-ghost use Rattle.rb_connections.specs.declared.served.Served.TheVariants.{Answered};
-ghost use Rattle.rb_connections.specs.declared.served.Outcome.TheVariants.{Reply};
+ghost use Rattle.rb_model.specs.declared.served.Served.TheVariants.{Answered};
+ghost use Rattle.rb_model.specs.declared.served.Outcome.TheVariants.{Reply};
 ghost use Rattle.rb_model.specs.Calls.{reply_in, success, longest_reply};
 ghost use Rattle.rb_model.specs.Ending.{outcome_of_failure, outcome_at_end};
 ghost use Rattle.rb_model.specs.Grammar.{HasArgsIn};
-ghost use Rattle.rb_core.specs.Awaits.{kind_of};
-ghost use Rattle.rb_core.specs.Eviction.{HasRoom};
-ghost use Rattle.rb_core.specs.Core.{outcome_in};
-ghost use Rattle.rb_core.specs.Serving.{TellsAnswer, ServesMessage, ServesNull, CanServe, IsEmptyReply, LeavesBooks, WritesReply, IsStreamedTo, list_streamed};
-ghost use Rattle.rb_connections.specs.Settling.{kind_in, IsWritten};
-ghost use Rattle.rb_core.specs.AtOnce.{IsGivenAtOnce, count_at_once};
-ghost use Rattle.rb_connections.specs.Giving.{whole_cost};
-ghost use Rattle.rb_core.specs.CallCosts.{PaysForResults, PaysToServe};
-ghost use Rattle.rb_connections.specs.Slots.{IsDraft};
+ghost use Rattle.rb_serving.specs.Serving.{kind_of, HasRoom, outcome_in, TellsAnswer, ServesMessage, ServesNull, CanServe, IsEmptyReply, LeavesBooks, WritesReply, IsStreamedTo, list_streamed};
+ghost use Rattle.rb_model.specs.Served.{kind_in, IsWritten};
+ghost use Rattle.rb_serving.specs.Costs.{PaysForResults, PaysToServe};
 ghost use Rattle.rb_model.specs.Costs.{put_end_cost};
 
-use rb_connections::{LONGEST_REPLY, Outcome, Served, give_whole};
 use rb_forward::{Ended, Forward, Outcome as End};
-use rb_model::Message;
+use rb_model::{LONGEST_REPLY, Message, Outcome, Served};
 use rb_proto::{
     Answer, Books, Context, Listener, Listing, Results, answer, put_forwarded, put_results, refusal,
 };
@@ -35,7 +28,7 @@ use rb_rpc::{CallHead, Caller, ReplyHead, ReplyStatus, put_reply};
 use rb_xdr::{Kept, Meter};
 
 /// Writes the head of a reply into an empty buffer.
-#[tactic(auto, using(rb_connections::proofs::ReplyHeads::short_head, rb_connections::proofs::ReplyHeads::some_head), unfolding(rb_model::specs::Calls::longest_reply))]
+#[tactic(auto, using(rb_model::proofs::ReplyHeads::short_head, rb_model::proofs::ReplyHeads::some_head), unfolding(rb_model::specs::Calls::longest_reply))]
 fn put_head(out: &mut Kept, head: ReplyHead, meter: &mut Meter)
     requires out { IsEmptyReply meter.old.tie out.old }
     ensures written { out.new ≡ record out.old { bytes = reply_head head.xid head.status } }
@@ -75,7 +68,7 @@ fn put_system_err(xid: u32, out: &mut Kept, meter: &mut Meter)
 }
 
 /// Writes a whole reply into an empty buffer, or SYSTEM_ERR where it does not fit.
-#[tactic(auto, using(rb_connections::proofs::ReplyHeads::some_fitting), unfolding(rb_model::specs::Calls::fitting_reply, rb_model::specs::Calls::longest_reply))]
+#[tactic(auto, using(rb_model::proofs::ReplyHeads::some_fitting), unfolding(rb_model::specs::Calls::fitting_reply, rb_model::specs::Calls::longest_reply))]
 fn put_reply_with(
     results: &Results,
     xid: u32,
@@ -212,26 +205,8 @@ pub fn serve_null(books: &mut Books, head: &CallHead, out: &mut Kept, meter: &mu
     Served::Answered(Outcome::Reply)
 }
 
-/// Writes the reply into `room`, with its header, where it is one fragment and `room` has place for the longest, and
-/// then empties its buffer. Returns the number of bytes written, 0 where nothing was.
-pub fn give_at_once(served: Served, draft: &mut Kept, room: &mut [u8], meter: &mut Meter) -> usize
-    requires draft { IsDraft meter.old.tie draft.old }
-    requires written { IsWritten served draft.old.bytes }
-    ensures count { result ≡ count_at_once (length room.old) served draft.old.bytes }
-    ensures none { result ≡ 0 → draft.new ≡ draft.old }
-    ensures some { 0 < result → IsGivenAtOnce served draft.old draft.new (take result room.new) }
-    ensures draft { IsDraft meter.old.tie draft.new }
-    ensures within { result ≤ length room.new }
-    ensures cost { PaysAtMost meter.old meter.new (whole_cost (length room.old) result) }
-{
-    match served {
-        Served::Answered(Outcome::Reply) => give_whole(draft, room, meter),
-        Served::Answered(_) | Served::Listed(_, _) => 0,
-    }
-}
-
 /// Writes the results that a target gave into an empty buffer, or SYSTEM_ERR where they do not fit.
-#[tactic(auto, using(rb_connections::proofs::ReplyHeads::some_fitting), unfolding(rb_model::specs::Calls::fitting_reply, rb_model::specs::Calls::longest_reply, rb_rpc::specs::Forwarded::longest_forwarded, rb_forward::specs::Forwards::longest_results))]
+#[tactic(auto, using(rb_model::proofs::ReplyHeads::some_fitting), unfolding(rb_model::specs::Calls::fitting_reply, rb_model::specs::Calls::longest_reply, rb_rpc::specs::Forwarded::longest_forwarded, rb_forward::specs::Forwards::longest_results))]
 fn put_passed(forward: &Forward, results: &[u8], out: &mut Kept, meter: &mut Meter)
     requires results { length results.now ≤ longest_results }
     requires out { IsEmptyReply meter.old.tie out.old }

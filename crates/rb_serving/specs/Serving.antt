@@ -1,32 +1,40 @@
--- What the code answers a message with: a reply that is written, or a list that is streamed.
+-- What the code answers a message with: a reply that is written, or a list that is streamed; and what it needs and leaves.
 use Rattle.std.specs.Prelude.{◌≡◌, ◌≤◌, ⊤, ℕ, List, [], length, Option, Some, None}
 use Rattle.rb_xdr.specs.Kept.{Kept}
 use Rattle.rb_rpc.specs.declared.call.CallHead.{CallHead}
-use Rattle.rb_rpc.specs.declared.call.Verdict.{Verdict}
 use Rattle.rb_rpc.specs.declared.peer.Caller.{Caller}
 use Rattle.rb_rpc.specs.declared.peer.Caller.TheVariants.{Tcp, Udp}
-use Rattle.rb_forward.specs.StandsFor.{slots_of}
+use Rattle.rb_forward.specs.StandsFor.{Table as Entries, slots_of}
 use Rattle.rb_forward.specs.Table.{IsNew}
 use Rattle.rb_proto.specs.declared.answers.Listing.{Listing}
 use Rattle.rb_proto.specs.declared.answers.Results.{Results}
 use Rattle.rb_proto.specs.declared.answers.Results.TheVariants as results
 use Rattle.rb_proto.specs.declared.answers.Answer.{Answer}
+use Rattle.rb_proto.specs.declared.answers.Answer.TheVariants as answers
 use Rattle.rb_proto.specs.declared.books.Books.{Books}
 use Rattle.rb_proto.specs.declared.context.Context.{Context}
 use Rattle.rb_proto.specs.Ledger.{Ledger, StandsForLedger}
-use Rattle.rb_proto.specs.Books.{ActsAs, AreTied, OnlyCallerWaits, SameFrame}
+use Rattle.rb_proto.specs.Books.{ActsAs, AreTied, HasRowRoom, OnlyCallerWaits, SameFrame}
 use Rattle.rb_proto.specs.Results.{shown_of, result_bytes}
-use Rattle.rb_model.specs.State.{Connections}
-use Rattle.rb_model.specs.Losses.{removals_in_the_way, evict}
-use Rattle.rb_model.specs.Calls.{Outcome, answer_outcome, outcome, message_with, longest_reply}
+use Rattle.rb_model.specs.Calls.{Outcome, answer_outcome, outcome, longest_reply}
 use Rattle.rb_model.specs.declared.message.Message.{Message}
-use Rattle.rb_connections.specs.declared.served.Served.{Served}
-use Rattle.rb_connections.specs.declared.served.Served.TheVariants.{Answered, Listed}
-use Rattle.rb_connections.specs.StandsFor.{Table, StandsForConnections}
-use Rattle.rb_connections.specs.Settling.{IsWritten, kind_in, served_in}
-use Rattle.rb_core.specs.Messages.{null_message}
-use Rattle.rb_core.specs.Eviction.{source_in}
-use Rattle.rb_core.specs.Awaits.{StayUnlessForwarded}
+use Rattle.rb_model.specs.declared.message.Message.TheVariants as says
+use Rattle.rb_model.specs.declared.served.Served.{Served}
+use Rattle.rb_model.specs.declared.served.Served.TheVariants.{Answered, Listed}
+use Rattle.rb_model.specs.declared.served.Outcome.{Outcome as Written}
+use Rattle.rb_model.specs.declared.served.Outcome.TheVariants as outcomes
+use Rattle.rb_model.specs.Served.{Source, source_for, outcome_with, IsWritten, kind_in, served_in}
+use Rattle.rb_serving.specs.Messages.{null_message}
+
+-- what lists are made from: the host that they show, and the registry of the books
+abbrev pub source_in : List ℕ → Books → Source
+source_in host books = source_for host books.registry
+
+-- the outcome of the model for this outcome of the code, with the reply in this buffer
+abbrev pub outcome_in : Written → Kept → Outcome
+outcome_in given kept = outcome_with given kept.bytes
+
+-- ---- what is answered
 
 -- For each ledger that the books stand for, what is served is the outcome of the answer.
 abbrev pub TellsAnswer : Books → Context → ℕ → Answer → Served → List ℕ → Type 0
@@ -40,26 +48,17 @@ abbrev pub ServesMessage : Context → Message → List ℕ → Books → Books 
 ServesMessage context message arguments old new served out =
     ActsAs (outcome context message arguments) old new (served_in (source_in context.listener.host new) served out.bytes)
 
--- A message is served as the model's `outcome` says, once there is room for its row, for all connections and each
--- ledger that were stood for before.
-pub record ServesInRoom (context : Context) (message : Message) (arguments : List ℕ) (table : Table) (old : Books) (left : Table) (new : Books) (given : Outcome) : Type 0 where
-  pub gives : (c : Connections) (l : Ledger) → StandsForConnections (source_in context.listener.host old) table c
-      → StandsForLedger old l → given ≡ (outcome context message arguments l).0
-  pub ledger : (c : Connections) (l : Ledger) → StandsForConnections (source_in context.listener.host old) table c
-      → StandsForLedger old l → StandsForLedger new (outcome context message arguments l).1
-  pub connections : (c : Connections) (l : Ledger) → StandsForConnections (source_in context.listener.host old) table c
-      → StandsForLedger old l → StandsForConnections (source_in context.listener.host new) left (evict (removals_in_the_way context message c.all l) c)
-
--- The same of the message on which this is the verdict; `arguments` are the bytes behind its head.
-abbrev pub ServesVerdict : Context → Verdict → List ℕ → Table → Books → Table → Books → Served → Kept → Type 0
-ServesVerdict context verdict arguments table old left new served out =
-    ServesInRoom context (message_with verdict arguments) arguments table old left new
-    (served_in (source_in context.listener.host new) served out.bytes)
-
 -- A call of NULL with this head is served so in every context.
 abbrev pub ServesNull : CallHead → Books → Books → Served → Kept → Type 0
 ServesNull head old new served out =
     (context : Context) (arguments : List ℕ) → ServesMessage context (null_message head) arguments old new served out
+
+-- the outcome of the code for an answer
+abbrev pub kind_of : Answer → Written
+kind_of (answers.Results results) = outcomes.Reply
+kind_of (answers.Refused status) = outcomes.Reply
+kind_of answers.Forwarded = outcomes.Forwarded
+kind_of answers.Silent = outcomes.Silent
 
 abbrev pub IsNoListIn : Served → Type 0
 IsNoListIn (Answered given) = ⊤
@@ -90,6 +89,20 @@ pub record CanServe (tie : ℕ) (context : Context) (books : Books) : Type 0 whe
   pub limit : books.registry.limit ≡ context.limit
   pub forwards : books.forwards.cap ≡ context.forwards
   pub caller : IsNew context.caller (slots_of books.forwards)
+
+-- where the message is a SET that is accepted, its row has a place beside the live and the retained rows
+abbrev pub HasRoom : Context → Message → Books → Type 0
+HasRoom context (says.Asked call) books = HasRowRoom context call books.registry
+HasRoom context says.NoCall books = ⊤
+HasRoom context (says.Refused head) books = ⊤
+HasRoom context (says.Garbage head) books = ⊤
+
+-- the forwarded calls stay as they were, unless the outcome is that one more is forwarded
+abbrev pub StayUnlessForwarded : Written → Entries → Entries → Type 0
+StayUnlessForwarded outcomes.NoCall old new = new ≡ old
+StayUnlessForwarded outcomes.Reply old new = new ≡ old
+StayUnlessForwarded outcomes.Forwarded old new = ⊤
+StayUnlessForwarded outcomes.Silent old new = new ≡ old
 
 -- What is written by serving it, and what stays of the books: no forwarded call is new but one of the caller's own.
 pub record LeavesBooks (context : Context) (old new : Books) (served : Served) (before after : Kept) : Type 0 where

@@ -3,11 +3,10 @@ ghost use Rattle.std.specs.Prelude.{◌≡◌, ◌≤◌, List, ℕ, length, min
 ghost use Rattle.rb_rpc.specs.Verdict.{verdict as verdict_of, EndsWithin};
 ghost use Rattle.rb_feed.specs.Feeds.{arguments_of};
 ghost use Rattle.rb_model.specs.Calls.{is_served, call_of, kept_of, message_with};
-ghost use Rattle.rb_core.specs.Messages.{AsksNothing, CallsProcedure};
+ghost use Rattle.rb_serving.specs.Messages.{AsksNothing, CallsProcedure};
 
 use rb_arguments::{Procedure, VoidProcedure};
-use rb_connections::LONGEST_KEPT;
-use rb_model::Message;
+use rb_model::{LONGEST_KEPT, Message};
 use rb_proto::Call;
 use rb_registry::RPCB_PROG;
 use rb_rpc::{CallHead, ReplyHead, ReplyStatus, Verdict};
@@ -36,7 +35,7 @@ impl Called<'_> {
     ghost use Rattle.std.specs.Prelude.{◌≡◌, ◌↔◌, IsTrue};
     ghost use Rattle.rb_arguments.specs.Arguments.{arguments as arguments_in};
     ghost use Rattle.rb_model.specs.Grammar.{HasArgsIn};
-    ghost use Rattle.rb_core.specs.Messages.{asked_of};
+    ghost use Rattle.rb_serving.specs.Messages.{asked_of};
 
     /// Whether it is a call of NULL, which has neither arguments nor results (RFC 1833 sections 2.2 and 3.2).
     pub fn is_null(&self) -> bool

@@ -1,15 +1,9 @@
 -- Heads of replies are short, and replies are not empty.
-use Rattle.std.proofs.Common.{◌≤◌, ◌<◌, ℕ, List, ◌++◌, length, cond, true, false, nat_lt, ap, arith, length-append}
+use Rattle.std.proofs.Common.{◌≤◌, ◌<◌, ℕ, List, ◌++◌, length, cond, true, false, nat_lt, arith, length-append}
 use Rattle.rb_xdr.specs.Xdr.{number, opaque}
 use Rattle.rb_rpc.specs.declared.reply.ReplyStatus.{ReplyStatus}
 use Rattle.rb_rpc.specs.Replies.{reply_head}
 use Rattle.rb_rpc.specs.declared.reply.ReplyStatus.TheVariants.{Success, ProgUnavail, ProgMismatch, ProcUnavail, GarbageArgs, SystemErr, RpcMismatch, AuthError}
-use Rattle.rb_registry.specs.Registry.{Registry, rows_of}
-use Rattle.rb_proto.specs.Results.{list_bytes}
-use Rattle.rb_proto.specs.declared.answers.Listing.{Listing}
-use Rattle.rb_proto.specs.declared.list_reply.ListReply.{ListReply}
-use Rattle.rb_proto.specs.ListParts.{ListsRows}
-use Rattle.rb_proto.specs.ListReplies.{rest_of}
 use Rattle.rb_model.specs.Calls.{fitting_reply, longest_reply}
 
 pub short_head : (xid : ℕ) (status : ReplyStatus) → length (reply_head xid status) ≤ 32
@@ -41,11 +35,3 @@ some_fitting xid status results =
     let some = some_head xid status in
     elim (nat_lt longest_reply (length (reply_head xid status ++ results))) as (λ b. 0 < length (cond b (reply_head xid SystemErr) (reply_head xid status ++ results)))
     [ true ↦ some_head xid SystemErr | false ↦ omega (arith, long, some) ]
-
--- A list of which nothing was given is not empty.
-module _ (host : List ℕ) (registry : Registry) (xid : ℕ) (listing : Listing) (list : ListReply) (rest : ListsRows xid listing registry list) where
-  pub fresh_is_some : 0 < length (rest_of host registry list)
-  fresh_is_some =
-      let some = some_head xid Success in
-      let whole = length-append (reply_head xid Success) (list_bytes host (rows_of registry) listing) in
-      omega (arith, some, whole, ap (λ (xs : List ℕ). length xs) (rest host))

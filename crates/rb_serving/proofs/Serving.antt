@@ -27,12 +27,11 @@ use Rattle.rb_proto.specs.ListParts.{list_reply}
 use Rattle.rb_model.specs.declared.message.Message.TheVariants as says
 use Rattle.rb_model.specs.Calls.{Outcome, answer_outcome, results_outcome, reply_with, outcome, fitting_reply, success, longest_reply}
 use Rattle.rb_model.specs.Calls.Outcome.{Reply}
-use Rattle.rb_connections.specs.declared.served.Served.TheVariants.{Listed}
-use Rattle.rb_connections.specs.Settling.{listing_outcome}
-use Rattle.rb_connections.proofs.ReplyHeads.{short_head}
-use Rattle.rb_core.specs.Eviction.{source_in}
-use Rattle.rb_core.specs.Serving.{IsStreamedTo, list_streamed}
-use Rattle.rb_core.specs.Messages.{null_message}
+use Rattle.rb_model.specs.declared.served.Served.TheVariants.{Listed}
+use Rattle.rb_model.specs.Served.{listing_outcome}
+use Rattle.rb_model.proofs.ReplyHeads.{short_head}
+use Rattle.rb_serving.specs.Serving.{source_in, IsStreamedTo, list_streamed}
+use Rattle.rb_serving.specs.Messages.{null_message}
 
 -- the books stand for the ledger in which the call is noted, with the registry as it was
 pub record Notes (head : CallHead) (old new : Books) : Type 0 where

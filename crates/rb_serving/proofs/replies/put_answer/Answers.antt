@@ -1,5 +1,5 @@
-use Rattle.rb_core.proofs.Serving.{listed, streamed_to}
-use Rattle.rb_core.proofs.replies.put_answer.Goals as goal
+use Rattle.rb_serving.proofs.Serving.{listed, streamed_to}
+use Rattle.rb_serving.proofs.replies.put_answer.Goals as goal
 
 pub returns-in-Some-clause-given : goal.returns-in-Some-clause-given
 returns-in-Some-clause-given c = λ l h.

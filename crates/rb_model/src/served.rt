@@ -28,8 +28,7 @@ pub enum Served {
 
 impl Served {
     ghost use Rattle.std.specs.Prelude.{◌≡◌, ℕ, List};
-    ghost use Rattle.rb_connections.specs.StandsFor.{Source};
-    ghost use Rattle.rb_connections.specs.Settling.{is_lost_by};
+    ghost use Rattle.rb_model.specs.Served.{Source, is_lost_by};
 
     /// Whether the message is no call: then the connection on which it came is Lost.
     pub fn is_no_call(self) -> bool

@@ -23,9 +23,9 @@ use Rattle.rb_model.specs.declared.message.Message.{Message}
 use Rattle.rb_model.specs.declared.message.Message.TheVariants as says
 use Rattle.rb_model.specs.Calls.{call_of, message_with, message_of, reply_with, outcome, longest_kept, kept_of}
 use Rattle.rb_model.specs.Grammar.{HasArgsIn}
-use Rattle.rb_laws.proofs.AskedArgs.{message_has}
-use Rattle.rb_core.specs.Messages.{KeptSaysTheRecord}
-use Rattle.rb_core.proofs.ReaderFronts.{LooksAt, give_looks, bind_looks, number_looks, opaque_looks}
+use Rattle.rb_model.proofs.AskedArgs.{message_has}
+use Rattle.rb_serving.specs.Messages.{KeptSaysTheRecord}
+use Rattle.rb_serving.proofs.ReaderFronts.{LooksAt, give_looks, bind_looks, number_looks, opaque_looks}
 
 -- ---- the types of arguments
 

@@ -16,7 +16,7 @@ use Rattle.rb_model.specs.declared.message.Message.{Message}
 use Rattle.rb_model.specs.declared.message.Message.TheVariants as says
 use Rattle.rb_model.specs.Calls.{is_served, refusal, request_of, call_of, message_with}
 use Rattle.rb_model.specs.Losses.{asks_room}
-use Rattle.rb_core.specs.Messages.{AsksNothing, CallsProcedure, asked_of, null_message}
+use Rattle.rb_serving.specs.Messages.{AsksNothing, CallsProcedure, asked_of, null_message}
 
 module _ (head : CallHead) (bytes : List ℕ) (prog : not (head.prog == rpcb_prog) ≡ false) (served : not (is_served head.vers) ≡ false) where
   pub calls : (procedure : Procedure) → procedure_at head.vers head.proc ≡ Some procedure → call_of head bytes ≡ asked_of head (arguments procedure bytes)

@@ -1,7 +1,7 @@
 use Rattle.std.proofs.Common.{List, ℕ, take, ap, ◌∙◌}
 use Rattle.std.proofs.lemmas.List.{take_min}
 use Rattle.rb_model.specs.Calls.{longest_kept}
-use Rattle.rb_core.proofs.message.kept_arguments.Goals as goal
+use Rattle.rb_serving.proofs.message.kept_arguments.Goals as goal
 
 pub returns : goal.returns
 unfolding longest_kept

@@ -1,5 +1,5 @@
-use Rattle.rb_core.proofs.Serving.{null_served}
-use Rattle.rb_core.proofs.replies.serve_null.Goals as goal
+use Rattle.rb_serving.proofs.Serving.{null_served}
+use Rattle.rb_serving.proofs.replies.serve_null.Goals as goal
 
 pub returns-clause-acts : goal.returns-clause-acts
 returns-clause-acts c = λ context arguments.

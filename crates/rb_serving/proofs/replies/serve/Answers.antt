@@ -1,5 +1,5 @@
-use Rattle.rb_core.proofs.Serving.{asked_acts}
-use Rattle.rb_core.proofs.replies.serve.Goals as goal
+use Rattle.rb_serving.proofs.Serving.{asked_acts}
+use Rattle.rb_serving.proofs.replies.serve.Goals as goal
 
 pub returns-in-Asked-clause-acts : goal.returns-in-Asked-clause-acts
 returns-in-Asked-clause-acts c =

@@ -1,0 +1,18 @@
+-- A list that is about to be given is not empty.
+use Rattle.std.proofs.Common.{◌<◌, ℕ, List, length, ap, arith, length-append}
+use Rattle.rb_rpc.specs.Replies.{reply_head}
+use Rattle.rb_rpc.specs.declared.reply.ReplyStatus.TheVariants.{Success}
+use Rattle.rb_registry.specs.Registry.{Registry, rows_of}
+use Rattle.rb_proto.specs.Results.{list_bytes}
+use Rattle.rb_proto.specs.declared.answers.Listing.{Listing}
+use Rattle.rb_proto.specs.declared.list_reply.ListReply.{ListReply}
+use Rattle.rb_proto.specs.ListParts.{ListsRows}
+use Rattle.rb_proto.specs.ListReplies.{rest_of}
+use Rattle.rb_model.proofs.ReplyHeads.{some_head}
+
+module _ (host : List ℕ) (registry : Registry) (xid : ℕ) (listing : Listing) (list : ListReply) (rest : ListsRows xid listing registry list) where
+  pub fresh_is_some : 0 < length (rest_of host registry list)
+  fresh_is_some =
+      let some = some_head xid Success in
+      let whole = length-append (reply_head xid Success) (list_bytes host (rows_of registry) listing) in
+      omega (arith, some, whole, ap (λ (xs : List ℕ). length xs) (rest host))

@@ -1,5 +1,0 @@
-use Rattle.rb_core.proofs.MessageFronts.{kept_says}
-use Rattle.rb_core.proofs.laws.kept_bytes_say_the_record.Goals as goal
-
-pub returns : goal.returns
-returns c = kept_says

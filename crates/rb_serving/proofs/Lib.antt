@@ -1,0 +1,4 @@
+pub mod Serving
+pub mod ReaderFronts
+pub mod MessageFronts
+pub mod Procedures
