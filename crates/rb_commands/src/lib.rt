@@ -1,7 +1,12 @@
-//! The words of `rpcbind`'s command line: its commands and their options, and what they ask for.
+//! The words of `rpcbind`'s command line: its commands and their options, and what they ask for; and what `serve` says of
+//! its start and of its end.
 #![tactic(auto)]
 
 mod arguments;
 mod options;
+mod service;
+mod words;
 
 pub use arguments::{Words, read_words};
+pub use service::{explain_fault, make_record, say_start, settings_of};
+pub use words::command_words;

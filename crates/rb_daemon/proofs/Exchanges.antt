@@ -18,9 +18,9 @@ use Rattle.rb_record.specs.Tapes.{Tape, Records}
 use Rattle.rb_connections.specs.Slots.{Acts, Shows}
 use Rattle.rb_model.specs.Exchanges.{count_now, without_front, exchange, fits_at_once, at_once_in, at_once_on, at_once}
 use Rattle.rb_core.specs.StandsFor.{Held, StandsFor}
-use Rattle.rb_daemon.specs.Recording.{gift_events, exchange_events, output_or_refusal, gift_entries, exchange_entries}
+use Rattle.rb_daemon.specs.Recording.{given_events, exchange_events, output_or_refusal, given_entries, exchange_entries}
 use Rattle.rb_daemon.specs.Served.{IsServed}
-use Rattle.rb_daemon.proofs.Reached.{output_state, output_given, look_state, look_output, gave_output, gift_state, served_on}
+use Rattle.rb_daemon.proofs.Reached.{output_state, output_given, look_state, look_output, gave_output, given_state, served_on}
 
 -- ---- what is given at once is all that is pending
 
@@ -68,7 +68,7 @@ gave_done s now id n owed is = by_found (live_connection id s.connections.all) r
 -- ---- both
 
 -- What is given of what is pending after the bytes: none, or all of it.
-pub record Gifts (s : State) (now id n : ℕ) (given : List ℕ) : Type 0 where
+pub record GivenAtOnce (s : State) (now id n : ℕ) (given : List ℕ) : Type 0 where
   pub some : (n ≡ 0) ⊎ (0 < n)
   pub count : length given ≡ n
   pub all : 0 < n → pending s id ≡ Ok given
@@ -77,8 +77,8 @@ none_or_more : (n : ℕ) → (n ≡ 0) ⊎ (0 < n)
 none_or_more zero = inl refl
 none_or_more (suc n) = inr (omega arith)
 
-gifts : (s : State) (now id piece_room n : ℕ) (piece given : List ℕ) → length given ≡ n → n ≡ count_now now id piece piece_room s → given ≡ take n (pending_bytes (pending (bytes s now id piece).1 id)) → Gifts (bytes s now id piece).1 now id n given
-gifts s now id room n piece given count is front = record {
+given_at_once : (s : State) (now id piece_room n : ℕ) (piece given : List ℕ) → length given ≡ n → n ≡ count_now now id piece piece_room s → given ≡ take n (pending_bytes (pending (bytes s now id piece).1 id)) → GivenAtOnce (bytes s now id piece).1 now id n given
+given_at_once s now id room n piece given count is front = record {
   some = none_or_more n;
   count = count;
   all = λ some. by_owed some (pending (bytes s now id piece).1 id) refl front;
@@ -90,9 +90,9 @@ gifts s now id room n piece given count is front = record {
         let few : length owed ≤ n = rw is (whole room id (live_connection id s.connections.all) (bytes s now id piece) owed shows (rw (← is) some)) in
         shows ∙ ap Ok (sym (front ∙ take_all n owed few))
 
-gift_is : (s : State) (now id : ℕ) (given : List ℕ) → pending s id ≡ Ok given → run_entries s (gift_events now id (length given)) ≡ gift_entries now id given
+given_is : (s : State) (now id : ℕ) (given : List ℕ) → pending s id ≡ Ok given → run_entries s (given_events now id (length given)) ≡ given_entries now id given
 unfolding run_entries
-gift_is s now id given is =
+given_is s now id given is =
     let look : (step s (Pending id)).0 ≡ IsPending given = sym (look_output s id (Ok given) is) in
     let done : (step (step s (Pending id)).1 (Gave now id (length given))).0 ≡ Done =
     ap (λ (t : State). (step t (Gave now id (length given))).0) (look_state s id) ∙ sym (gave_output s now id (length given) given is (omega arith) (gave_done s now id (length given) given is)) in
@@ -110,31 +110,31 @@ bytes_output s now id piece = output_given show_taken (bytes s now id piece)
 nonzero : (n : ℕ) → 0 < n → eqb n 0 ≡ false
 nonzero n some = ne_eqb n 0 (λ e. omega (arith, e, some))
 
-gifts_are : (s t : State) (now id n : ℕ) (given : List ℕ) → t ≡ s → Gifts s now id n given → cond (eqb (length given) 0) [] (gift_entries now id given) ≡ run_entries t (cond (eqb n 0) [] (gift_events now id n))
+given_are : (s t : State) (now id n : ℕ) (given : List ℕ) → t ≡ s → GivenAtOnce s now id n given → cond (eqb (length given) 0) [] (given_entries now id given) ≡ run_entries t (cond (eqb n 0) [] (given_events now id n))
 unfolding run_entries
-gifts_are s t now id n given same g = elim g.some [
+given_are s t now id n given same g = elim g.some [
   | inl none ↦ rw (g.count, none) refl
   | inr some ↦
       cond-false _ _ _ (nonzero (length given) (omega (arith, g.count, some)))
-      ∙ sym (gift_is s now id given (g.all some))
-      ∙ ap (λ (k : ℕ). run_entries s (gift_events now id k)) g.count
-      ∙ ap (λ (x : State). run_entries x (gift_events now id n)) (sym same)
+      ∙ sym (given_is s now id given (g.all some))
+      ∙ ap (λ (k : ℕ). run_entries s (given_events now id k)) g.count
+      ∙ ap (λ (x : State). run_entries x (given_events now id n)) (sym same)
       ∙ ap (λ (events : List Event). run_entries t events) (sym (cond-false _ _ _ (nonzero n some)))
 ]
 
-exchange_is : (s : State) (now id n : ℕ) (piece given : List ℕ) (taken : Result Taken CoreFault) → taken ≡ (bytes s now id piece).0 → Gifts (bytes s now id piece).1 now id n given → exchange_entries now id piece (output_or_refusal show_taken taken) given ≡ run_entries s (exchange_events now id piece n)
+exchange_is : (s : State) (now id n : ℕ) (piece given : List ℕ) (taken : Result Taken CoreFault) → taken ≡ (bytes s now id piece).0 → GivenAtOnce (bytes s now id piece).1 now id n given → exchange_entries now id piece (output_or_refusal show_taken taken) given ≡ run_entries s (exchange_events now id piece n)
 unfolding run_entries
 exchange_is s now id n piece given taken is g =
-    ap (λ (x : Output). entry_text (Bytes now id piece) x ∷ cond (eqb (length given) 0) [] (gift_entries now id given)) (ap (output_or_refusal show_taken) is ∙ bytes_output s now id piece)
-    ∙ ap (λ (entries : List (List ℕ)). entry_text (Bytes now id piece) (step s (Bytes now id piece)).0 ∷ entries) (gifts_are (bytes s now id piece).1 (step s (Bytes now id piece)).1 now id n given (bytes_state s now id piece) g)
+    ap (λ (x : Output). entry_text (Bytes now id piece) x ∷ cond (eqb (length given) 0) [] (given_entries now id given)) (ap (output_or_refusal show_taken) is ∙ bytes_output s now id piece)
+    ∙ ap (λ (entries : List (List ℕ)). entry_text (Bytes now id piece) (step s (Bytes now id piece)).0 ∷ entries) (given_are (bytes s now id piece).1 (step s (Bytes now id piece)).1 now id n given (bytes_state s now id piece) g)
 
-exchange_state : (s : State) (now id n : ℕ) (piece given : List ℕ) → Gifts (bytes s now id piece).1 now id n given → without_front now n id (bytes s now id piece).1 ≡ after s (exchange_events now id piece n)
+exchange_state : (s : State) (now id n : ℕ) (piece given : List ℕ) → GivenAtOnce (bytes s now id piece).1 now id n given → without_front now n id (bytes s now id piece).1 ≡ after s (exchange_events now id piece n)
 exchange_state s now id n piece given g = elim g.some [
   | inl none ↦ rw none (sym (bytes_state s now id piece))
   | inr some ↦
       cond-false _ _ _ (nonzero n some)
-      ∙ sym (gift_state (bytes s now id piece).1 now id n given (g.all some) (omega (arith, g.count)))
-      ∙ ap (λ (t : State). after t (gift_events now id n)) (sym (bytes_state s now id piece))
+      ∙ sym (given_state (bytes s now id piece).1 now id n given (g.all some) (omega (arith, g.count)))
+      ∙ ap (λ (t : State). after t (given_events now id n)) (sym (bytes_state s now id piece))
       ∙ ap (λ (events : List Event). after (step s (Bytes now id piece)).1 events) (sym (cond-false _ _ _ (nonzero n some)))
 ]
 
@@ -145,18 +145,18 @@ pub record Exchanged (now id room n : ℕ) (piece given : List ℕ) (r : Result 
   pub acts : Acts StandsFor (exchange now id piece room) old new (r, given)
 
 module _ (now id room n : ℕ) (piece given : List ℕ) (r : Result Taken CoreFault) (old new : Held) (h : Exchanged now id room n piece given r old new) where
-  gifts_of : (s : State) → StandsFor old s → Gifts (bytes s now id piece).1 now id n given
-  gifts_of s stands =
+  given_of : (s : State) → StandsFor old s → GivenAtOnce (bytes s now id piece).1 now id n given
+  given_of s stands =
       let count = h.at_once s stands in
-      gifts s now id room n piece given h.count count
+      given_at_once s now id room n piece given h.count count
       (ap (λ (x : Result Taken CoreFault × List ℕ). x.1) (h.acts.gives s stands) ∙ ap (λ (k : ℕ). take k (pending_bytes (pending (bytes s now id piece).1 id))) (sym count))
 
   pub exchange_records : (before later : Tape) → Records (exchange_entries now id piece (output_or_refusal show_taken r) given) before later → (s : State) → StandsFor old s → Records (run_entries s (exchange_events now id piece n)) before later
   exchange_records before later records s stands =
-      subst (λ (entries : List (List ℕ)). Records entries before later) (exchange_is s now id n piece given r (ap (λ (x : Result Taken CoreFault × List ℕ). x.0) (h.acts.gives s stands)) (gifts_of s stands)) records
+      subst (λ (entries : List (List ℕ)). Records entries before later) (exchange_is s now id n piece given r (ap (λ (x : Result Taken CoreFault × List ℕ). x.0) (h.acts.gives s stands)) (given_of s stands)) records
 
   pub exchange_served : (before later : Tape) → Records (exchange_entries now id piece (output_or_refusal show_taken r) given) before later → ∥ IsServed old before ∥₁ → ∥ IsServed new later ∥₁
   exchange_served before later records =
       served_on old new before later (λ s. exchange_events now id piece n)
-      (λ s stands. subst (StandsFor new) (ap (λ (k : ℕ). without_front now k id (bytes s now id piece).1) (sym (h.at_once s stands)) ∙ exchange_state s now id n piece given (gifts_of s stands)) (h.acts.stands s stands))
+      (λ s stands. subst (StandsFor new) (ap (λ (k : ℕ). without_front now k id (bytes s now id piece).1) (sym (h.at_once s stands)) ∙ exchange_state s now id n piece given (given_of s stands)) (h.acts.stands s stands))
       (exchange_records before later records)

@@ -1,3 +1,2 @@
 pub mod Reached
 pub mod Exchanges
-pub mod Outboxes

@@ -29,7 +29,7 @@ use Rattle.rb_connections.specs.Slots.{Acts, Shows}
 use Rattle.rb_core.specs.Core.{ActsWithReply}
 use Rattle.rb_core.specs.StandsFor.{Held, StandsFor}
 use Rattle.rb_core.proofs.Begun.{with_steps_before, stands_begun}
-use Rattle.rb_daemon.specs.Recording.{gift_events, send_events_of, send_events, output_or_refusal}
+use Rattle.rb_daemon.specs.Recording.{given_events, send_events_of, send_events, output_or_refusal}
 use Rattle.rb_daemon.specs.Served.{IsServed}
 use mathlib.Core.Bool.{true≢false}
 
@@ -271,19 +271,19 @@ gave_output s now id n owed is few done =
     let plain : is_too_much n (pending s id) ≡ false = rw is (le-ltb (length owed) n few) in
     ap (output_or_refusal show_done) done ∙ output_given show_done (gave s now id n) ∙ sym (ap (λ (b : Bool). (cond b (TooMuch, s) (output_or show_done (gave s now id n))).0) plain)
 
-pub gift_state : (s : State) (now id n : ℕ) (owed : List ℕ) → pending s id ≡ Ok owed → n ≤ length owed → after s (gift_events now id n) ≡ (gave s now id n).1
-gift_state s now id n owed is few = ap (λ (t : State). (step t (Gave now id n)).1) (look_state s id) ∙ gave_state s now id n owed is few
+pub given_state : (s : State) (now id n : ℕ) (owed : List ℕ) → pending s id ≡ Ok owed → n ≤ length owed → after s (given_events now id n) ≡ (gave s now id n).1
+given_state s now id n owed is few = ap (λ (t : State). (step t (Gave now id n)).1) (look_state s id) ∙ gave_state s now id n owed is few
 
-pub gift_records : (old mid new : Held) (count now id n : ℕ) (owed : List ℕ) (before between later : Tape) → mid ≡ with_steps_before old count → Acts StandsFor (λ s. gave s now id n) mid new (Ok tt) → ((s : State) → StandsFor old s → pending s id ≡ Ok owed) → n ≤ length owed → Records (entry_text (Pending id) (IsPending owed) ∷ []) before between → Records (entry_text (Gave now id n) Done ∷ []) between later → (s : State) → StandsFor old s → Records (run_entries s (gift_events now id n)) before later
-gift_records old mid new count now id n owed before between later is acts shows few one two s h =
+pub given_records : (old mid new : Held) (count now id n : ℕ) (owed : List ℕ) (before between later : Tape) → mid ≡ with_steps_before old count → Acts StandsFor (λ s. gave s now id n) mid new (Ok tt) → ((s : State) → StandsFor old s → pending s id ≡ Ok owed) → n ≤ length owed → Records (entry_text (Pending id) (IsPending owed) ∷ []) before between → Records (entry_text (Gave now id n) Done ∷ []) between later → (s : State) → StandsFor old s → Records (run_entries s (given_events now id n)) before later
+given_records old mid new count now id n owed before between later is acts shows few one two s h =
     two_recorded s (Pending id) (Gave now id n) (IsPending owed) Done before between later (look_output s id (Ok owed) (shows s h))
     (gave_output s now id n owed (shows s h) few (acts.gives s (stands_begun old mid count is s h)) ∙ ap (λ (t : State). (step t (Gave now id n)).0) (sym (look_state s id))) one two
 
-pub gift_served : (old mid new : Held) (count now id n : ℕ) (owed : List ℕ) (before between later : Tape) → mid ≡ with_steps_before old count → Acts StandsFor (λ s. gave s now id n) mid new (Ok tt) → ((s : State) → StandsFor old s → pending s id ≡ Ok owed) → n ≤ length owed → Records (entry_text (Pending id) (IsPending owed) ∷ []) before between → Records (entry_text (Gave now id n) Done ∷ []) between later → ∥ IsServed old before ∥₁ → ∥ IsServed new later ∥₁
-gift_served old mid new count now id n owed before between later is acts shows few one two =
-    served_on old new before later (λ s. gift_events now id n)
-    (λ s h. subst (StandsFor new) (sym (gift_state s now id n owed (shows s h) few)) (acts.stands s (stands_begun old mid count is s h)))
-    (gift_records old mid new count now id n owed before between later is acts shows few one two)
+pub given_served : (old mid new : Held) (count now id n : ℕ) (owed : List ℕ) (before between later : Tape) → mid ≡ with_steps_before old count → Acts StandsFor (λ s. gave s now id n) mid new (Ok tt) → ((s : State) → StandsFor old s → pending s id ≡ Ok owed) → n ≤ length owed → Records (entry_text (Pending id) (IsPending owed) ∷ []) before between → Records (entry_text (Gave now id n) Done ∷ []) between later → ∥ IsServed old before ∥₁ → ∥ IsServed new later ∥₁
+given_served old mid new count now id n owed before between later is acts shows few one two =
+    served_on old new before later (λ s. given_events now id n)
+    (λ s h. subst (StandsFor new) (sym (given_state s now id n owed (shows s h) few)) (acts.stands s (stands_begun old mid count is s h)))
+    (given_records old mid new count now id n owed before between later is acts shows few one two)
 
 -- ---- calls that are to be sent
 

@@ -17,8 +17,8 @@ use Rattle.rb_daemon.specs.Served.{WasGiven}
 
 -- Its core stands for the state before the first event; the xid of the first forwarded call is the low 32 bits of the
 -- moment.
-abbrev pub BeginsAt : ℕ → Limits → Listener → Engine → Type 0
-BeginsAt moment limits listener engine = StandsFor engine.core (opening limits listener (moment % 2 ^ 32) moment)
+abbrev pub IsNewEngine : ℕ → Limits → Listener → Engine → Type 0
+IsNewEngine moment limits listener engine = StandsFor engine.core (opening limits listener (moment % 2 ^ 32) moment)
 
 -- Whatever state its core stood for, it stands for the next one.
 abbrev pub Moves : (State → ℕ → State) → Engine → Engine → Type 0

@@ -19,16 +19,16 @@ use Rattle.rb_daemon.specs.declared.engine.Given.TheVariants as gives
 -- ---- the events of a call
 
 -- a look at what is pending, and that n bytes of it were given
-abbrev pub gift_events : ℕ → ℕ → ℕ → List Event
-gift_events now id n = Pending id ∷ Gave now id n ∷ []
+abbrev pub given_events : ℕ → ℕ → ℕ → List Event
+given_events now id n = Pending id ∷ Gave now id n ∷ []
 
 -- bytes that came on a connection, and n that were given at once
 abbrev pub exchange_events : ℕ → ℕ → List ℕ → ℕ → List Event
-exchange_events now id piece n = Bytes now id piece ∷ (if n == 0 then [] else gift_events now id n)
+exchange_events now id piece n = Bytes now id piece ∷ (if n == 0 then [] else given_events now id n)
 
 -- the look at what is pending, and what was given of it
 abbrev pub give_events : ℕ → ℕ → Given → List Event
-give_events now id (gives.Bytes n) = gift_events now id n
+give_events now id (gives.Bytes n) = given_events now id n
 give_events now id other = Pending id ∷ []
 
 -- the look for a call that is to be sent, and that it was sent
@@ -57,11 +57,11 @@ output_or_refusal show (Err fault) = Refused fault
 
 -- ---- as the code has them
 
-abbrev pub gift_entries : ℕ → ℕ → List ℕ → List (List ℕ)
-gift_entries now id bytes = entry_text (Pending id) (IsPending bytes) ∷ entry_text (Gave now id (length bytes)) Done ∷ []
+abbrev pub given_entries : ℕ → ℕ → List ℕ → List (List ℕ)
+given_entries now id bytes = entry_text (Pending id) (IsPending bytes) ∷ entry_text (Gave now id (length bytes)) Done ∷ []
 
 abbrev pub exchange_entries : ℕ → ℕ → List ℕ → Output → List ℕ → List (List ℕ)
-exchange_entries now id piece taken given = entry_text (Bytes now id piece) taken ∷ (if length given == 0 then [] else gift_entries now id given)
+exchange_entries now id piece taken given = entry_text (Bytes now id piece) taken ∷ (if length given == 0 then [] else given_entries now id given)
 
 -- what was taken of bytes that came
 abbrev pub taken_output : Result Exchanged CoreFault → Output

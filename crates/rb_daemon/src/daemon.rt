@@ -3,13 +3,11 @@ ghost use Rattle.std.specs.Prelude.{◌≡◌, ◌↔◌, IsTrue, IsErrOf, IfOk,
 ghost use Rattle.rb_model.specs.State.{are_good};
 
 use crate::engine::Engine;
-use crate::faults::DaemonFault;
 use crate::serving::Serving;
-use crate::settings::Settings;
 use mio::{Events, Poll};
 use rb_core::{CoreFault, Limits, Listener};
 use rb_policy::{Moments, wait_of};
-use rb_sockets::{BindFault, Sockets, Step};
+use rb_sockets::{BindFault, DaemonFault, Settings, Sockets, Step};
 use std::alloc::{AllocError, Global};
 use std::fs::Files;
 use std::io;
@@ -68,7 +66,7 @@ impl<'a, R: Clock> Daemon<'a, R> {
         };
         sockets.write_stack();
         let events = Events::with_capacity(alloc, EVENTS).map_err(DaemonFault::Memory)?;
-        let mut serving = Serving::new(alloc, engine, sockets, limits.conns, listener.host).map_err(
+        let mut serving = Serving::new(alloc, engine, sockets, limits, listener.host).map_err(
             DaemonFault::Memory,
         )?;
         if let Err(error) = serving.register(poll.registry()) {

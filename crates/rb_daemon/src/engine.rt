@@ -97,7 +97,7 @@ impl Engine {
     ghost use Rattle.rb_model.specs.Exchanges.{count_given};
     ghost use Rattle.rb_core.specs.AtOnce.{Exchanges};
     ghost use Rattle.rb_daemon.specs.Served.{after_giving, answer_datagram, ready_of, take_forward_reply, expire_due, send_forward};
-    ghost use Rattle.rb_daemon.specs.Moves.{BeginsAt, Moves, ActsNow, GivesPending, RecordsEvents, CountsGiven};
+    ghost use Rattle.rb_daemon.specs.Moves.{IsNewEngine, Moves, ActsNow, GivesPending, RecordsEvents, CountsGiven};
 
     /// A new core at this moment, which is the first. The xid of the first forwarded call is the low 32 bits of it.
     /// Up to `record_limit` bytes of its events are recorded. `BadLimits` where a limit is out of its range, else
@@ -109,7 +109,7 @@ impl Engine {
         moment: u64,
         record_limit: usize,
     ) -> Result<Engine, CoreFault>
-        ensures made { IfOk result (BeginsAt moment limits listener) }
+        ensures made { IfOk result (IsNewEngine moment limits listener) }
         ensures record { IfOk result (λ engine. engine.tape.limit ≡ record_limit) }
         ensures bad { IsErrOf result CoreFault.BadLimits ↔ IsTrue (not (are_good limits)) }
     {

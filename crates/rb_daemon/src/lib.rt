@@ -3,15 +3,11 @@
 
 mod daemon;
 mod engine;
-mod faults;
-mod link;
 mod outbox;
 mod serving;
-mod settings;
 mod showing;
+mod steps;
 
 pub use daemon::Daemon;
-pub use faults::DaemonFault;
 pub use rb_model::Limits;
-pub use rb_sockets::{LocalSocket, SocketFault, Step};
-pub use settings::Settings;
+pub use rb_sockets::{DaemonFault, LocalSocket, Settings, SocketFault, Step};

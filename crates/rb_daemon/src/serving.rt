@@ -1,18 +1,18 @@
 //! The core with its sockets and connections, and what a turn does with them.
-ghost use Rattle.std.specs.Prelude.{◌≡◌, ◌≤◌, length, vec_len, IfOk};
+ghost use Rattle.std.specs.Prelude.{◌≤◌, length};
 
 use crate::engine::{Due, Engine};
-use crate::faults::DaemonFault;
-use crate::link::{Link, Progress, Turn};
-use crate::outbox::{LONG_ROOM, Outbox};
+use crate::steps::{Progress, serve};
+use mio::Registry;
 use mio::event::Event;
-use mio::{Registry, Token};
+use rb_links::{Places, Turn};
+use rb_model::Limits;
 use rb_policy::{
-    Admission, Again, Holder, Next, Origin, Round, SOCKET_CALLS, accept_count, admit, after_accept,
-    after_all_receives, after_receive, asks_for_deadlines, origin_of, outcome_of, serves_another,
+    Admission, Again, Next, Round, SOCKET_CALLS, after_accept, after_all_receives, after_receive,
+    asks_for_deadlines, origin_of, outcome_of, serves_another,
 };
 use rb_rpc::Peer;
-use rb_sockets::{Shown, Sockets, Step, Stream};
+use rb_sockets::{DaemonFault, Shown, Sockets, Step, Stream};
 use std::alloc::{AllocError, Global};
 use std::io;
 use std::io::Write;
@@ -23,9 +23,6 @@ const LONGEST_DATAGRAM: usize = 65_536;
 /// The most datagrams of one socket in a turn: each is a socket call, and a reply to it is another.
 const DATAGRAMS: usize = SOCKET_CALLS / 2;
 
-/// The most that can be due at one moment: forwarded calls, at most 64, and connections, at most 256.
-const THINGS_DUE: usize = 64 + 256;
-
 /// A forwarded call ends so many milliseconds after it came, or before.
 const FORWARDED: u64 = 5_000;
 
@@ -34,60 +31,36 @@ const FORWARDED: u64 = 5_000;
 pub(crate) struct Serving {
     engine: Engine,
     sockets: Sockets,
-    /// The places of connections, by the keys that their events show.
-    links: Vec<Link>,
-    /// What decides who is let in knows of each place, as of the last newcomer.
-    holders: Vec<Option<Holder>>,
-    /// How many places have connections.
-    taken: usize,
+    places: Places,
+    /// As many things can be due at one moment: connections and forwarded calls.
+    most_due: usize,
     /// The host that is announced: who comes from it is of this host.
     announced: [u8; 4],
-    /// The long outbox, or that of the connection which has it.
-    long_outbox: Outbox,
     datagram: Vec<u8>,
     turn: Turn,
     /// The moment at which the core was last asked for all that was due.
     expired_at: Option<u64>,
     /// The moment by which each call that came over UDP and was forwarded has ended.
     awaited_until: u64,
-    /// Whether connections are to be served though no event shows them.
-    are_links_left: bool,
-    /// The key at which the last round of the next turn begins.
-    first_left: usize,
-}
-
-/// So many free places. Each is written, so that its memory is the process's from here on.
-fn free_places(alloc: Global, count: usize) -> Result<Vec<Link>, AllocError>
-    ensures { IfOk result (λ places. vec_len places ≡ count) }
-{
-    let mut places = Vec::with_capacity(alloc, count)?;
-    'places: for _i in 0..count {
-        places.push_reserved(Link::new(alloc)?);
-    }
-    Ok(places)
 }
 
 impl Serving {
-    /// With places for so many connections. An error where an allocation is refused.
+    /// With places for as many connections as the limits say. An error where an allocation is refused.
     pub(crate) fn new(
         alloc: Global,
         engine: Engine,
         sockets: Sockets,
-        conns: usize,
+        limits: Limits,
         announced: [u8; 4],
     ) -> Result<Serving, AllocError> {
-        let mut holders = Vec::with_capacity(alloc, conns)?;
-        holders.resize(conns, None)?;
         let mut datagram = Vec::with_capacity(alloc, LONGEST_DATAGRAM)?;
         datagram.resize(LONGEST_DATAGRAM, 0)?;
         Ok(Serving {
             engine,
             sockets,
-            links: free_places(alloc, conns)?,
-            holders,
-            taken: 0,
+            places: Places::new(alloc, limits.conns)?,
+            most_due: limits.conns.saturating_add(limits.forwards),
             announced,
-            long_outbox: Outbox::new(alloc, LONG_ROOM)?,
             datagram,
             turn: Turn {
                 number: 0,
@@ -95,8 +68,6 @@ impl Serving {
             },
             expired_at: None,
             awaited_until: 0,
-            are_links_left: false,
-            first_left: 0,
         })
     }
 
@@ -112,12 +83,12 @@ impl Serving {
 
     /// Whether the next turn has something to serve at once.
     pub(crate) fn is_something_left(&self) -> bool {
-        self.are_links_left || self.sockets.is_something_left()
+        self.places.are_left() || self.sockets.is_something_left()
     }
 
     /// Whether something has a deadline: a connection, or a call that is forwarded.
     pub(crate) fn is_somebody_there(&self) -> bool {
-        self.taken > 0 || self.turn.moment < self.awaited_until
+        self.places.is_somebody_there() || self.turn.moment < self.awaited_until
     }
 
     /// A turn at this moment, in milliseconds since the start of 1970.
@@ -139,79 +110,61 @@ impl Serving {
         let Shown::Connection(key) = Sockets::shown_by(event.token()) else {
             return;
         };
-        let Some(link) = self.links.get_mut(key) else {
-            return;
-        };
-        match link.round() {
-            Round::First => self.serve_link(key, event.is_read_closed()),
-            Round::Last => {
-                link.leave();
-                self.are_links_left = true;
-            }
+        match self.places.round(key) {
+            Some(Round::First) => self.serve_at(key, event.is_read_closed()),
+            Some(Round::Last) => self.places.leave(key),
+            None => {}
         }
     }
 
     /// The last round: serves connections that were left, by events of this turn or by the last turn, and those whose
     /// forwarded calls have ended. Those that are too many for it are the first of the next turn's.
     pub(crate) fn serve_left(&mut self) {
-        if !self.are_links_left {
+        let Some(first) = self.places.begin_last_round() else {
             return;
-        }
-        self.are_links_left = false;
-        let first = self.first_left;
+        };
         let mut served = 0usize;
-        for key in (first..self.links.len()).chain(0..first) {
-            if !self.links.get(key).is_some_and(|link| link.is_waiting()) {
+        for key in (first..self.places.count()).chain(0..first) {
+            if !self.places.is_waiting(key) {
                 continue;
             }
             if !serves_another(served) {
-                self.first_left = key;
-                self.are_links_left = true;
+                self.places.leave_from(key);
                 return;
             }
-            self.serve_link(key, true);
+            self.serve_at(key, true);
             served = served.saturating_add(1);
         }
     }
 
-    /// Serves a connection, at most once in a turn. `may_end` is whether its peer may have ended what it sends.
-    fn serve_link(&mut self, key: usize, may_end: bool) {
-        let Some(link) = self.links.get_mut(key) else {
+    /// Serves the connection at a place, at most once in a turn. `may_end` is whether its peer may have ended what it
+    /// sends.
+    fn serve_at(&mut self, key: usize, may_end: bool) {
+        if !self.places.is_served_by(self.turn, key) {
+            return;
+        }
+        let Some(link) = self.places.links.get_mut(key) else {
             return;
         };
-        if link.is_free() {
-            return;
-        }
-        if link.was_served_in(self.turn) {
-            self.are_links_left |= link.is_waiting();
-            return;
-        }
-        match link.serve(
+        match serve(
+            link,
             &mut self.engine,
             &self.sockets.forwards.socket,
-            &mut self.long_outbox,
+            &mut self.places.long_outbox,
             self.turn,
             may_end,
         ) {
             Progress::Blocked => {}
-            Progress::CutOff => self.are_links_left = true,
+            Progress::CutOff => self.places.leave(key),
             Progress::Over => self.close(key),
         }
     }
 
-    /// Closes the connection that has a place, if one has.
+    /// Closes the connection at a place, if there is one.
     fn close(&mut self, key: usize) {
-        let Some(link) = self.links.get_mut(key) else {
-            return;
-        };
-        if let Some(id) = link.close(&mut self.long_outbox) {
+        if let Some(id) = self.places.close(key) {
             self.engine.closed(id);
-            self.taken = self.taken.saturating_sub(1);
         }
-    }
-
-    fn key_of(&self, id: u64) -> Option<usize> {
-        self.links.iter().position(|link| link.is_of(id))
     }
 
     /// Answers datagrams on each socket where calls come in.
@@ -306,18 +259,7 @@ impl Serving {
         let content = &self.datagram[..len];
         let calls = &self.sockets.calls;
         if let Some(id) = self.engine.take_forward_reply(peer, content, calls) {
-            self.wake(id);
-        }
-    }
-
-    /// The connection of the number goes on, though no event shows it.
-    fn wake(&mut self, id: u64) {
-        let Some(key) = self.key_of(id) else {
-            return;
-        };
-        if let Some(link) = self.links.get_mut(key) {
-            link.wake();
-            self.are_links_left = true;
+            self.places.wake(id);
         }
     }
 
@@ -328,11 +270,11 @@ impl Serving {
         }
         self.expired_at = Some(self.turn.moment);
         self.close_stuck();
-        for _ in 0..THINGS_DUE {
+        for _ in 0..=self.most_due {
             match self.engine.expire(&self.sockets.calls) {
                 Due::Nothing => return,
                 Due::Done => {}
-                Due::Ready(id) => self.wake(id),
+                Due::Ready(id) => self.places.wake(id),
             }
         }
     }
@@ -340,8 +282,8 @@ impl Serving {
     /// Closes the connections whose sockets take nothing of what waits for them.
     fn close_stuck(&mut self) {
         let now = self.turn.moment;
-        for key in 0..self.links.len() {
-            if self.links.get(key).is_some_and(|link| link.is_stuck(now)) {
+        for key in 0..self.places.count() {
+            if self.places.is_stuck(key, now) {
                 self.close(key);
             }
         }
@@ -349,25 +291,21 @@ impl Serving {
 
     /// Closes the connections that the core has given up.
     pub(crate) fn close_lost(&mut self) {
-        for _ in 0..self.links.len() {
+        for _ in 0..self.places.count() {
             let Some(id) = self.engine.next_lost() else {
                 return;
             };
-            match self.key_of(id) {
+            match self.places.key_of(id) {
                 Some(key) => self.close(key),
                 None => self.engine.closed(id),
             }
         }
     }
 
-    fn free(&self) -> usize {
-        self.links.len().saturating_sub(self.taken)
-    }
-
     /// Accepts connections on each listener, beginning with another one in each turn, until they are as many as a
     /// turn accepts.
     pub(crate) fn accept_all(&mut self, registry: &Registry) -> Result<(), DaemonFault> {
-        let mut left = accept_count(self.free(), self.links.len());
+        let mut left = self.places.accept_count();
         for i in 0..self.sockets.listeners.len() {
             let which = self.sockets.nth_listener(self.turn.number, i);
             let is_ready = self
@@ -418,7 +356,7 @@ impl Serving {
             return;
         };
         let origin = origin_of(peer, self.announced);
-        let key = match self.admit(&origin) {
+        let key = match self.places.admit(&origin, self.turn.moment) {
             Admission::Take(key) => key,
             Admission::GiveUp(key) => {
                 self.close(key);
@@ -429,37 +367,9 @@ impl Serving {
         let Ok(id) = self.engine.open(peer) else {
             return;
         };
-        if !self.give_place(registry, key, id, stream, origin) {
+        let moment = self.turn.moment;
+        if !self.places.give(registry, key, id, stream, origin, moment) {
             self.engine.closed(id);
         }
-    }
-
-    /// What is done with a newcomer, as the connections stand now.
-    fn admit(&mut self, newcomer: &Origin) -> Admission {
-        for key in 0..self.links.len() {
-            if let (Some(holder), Some(link)) = (self.holders.get_mut(key), self.links.get(key)) {
-                *holder = link.holder();
-            }
-        }
-        admit(self.holders.as_slice(), newcomer, self.turn.moment)
-    }
-
-    /// Gives a connection a place, under whose key its events are shown. Returns whether it has it.
-    fn give_place(
-        &mut self,
-        registry: &Registry,
-        key: usize,
-        id: u64,
-        mut stream: Stream,
-        origin: Origin,
-    ) -> bool {
-        let is_ready = stream.send_at_once().is_ok()
-            && stream.register(registry, Token(key)).is_ok();
-        match self.links.get_mut(key) {
-            Some(link) if is_ready => link.open(id, stream, origin, self.turn.moment),
-            Some(_) | None => return false,
-        }
-        self.taken = self.taken.saturating_add(1);
-        true
     }
 }

@@ -5,7 +5,7 @@ ghost use Rattle.rb_model.specs.Step.{show_done};
 ghost use Rattle.rb_model.specs.Exchanges.{count_given};
 ghost use Rattle.rb_record.specs.Printing.{shown_output};
 ghost use Rattle.rb_record.specs.Tapes.{Records};
-ghost use Rattle.rb_daemon.specs.Recording.{output_or_refusal, gift_entries, exchange_entries, taken_output, unsent_entry};
+ghost use Rattle.rb_daemon.specs.Recording.{output_or_refusal, given_entries, exchange_entries, taken_output, unsent_entry};
 
 use rb_core::{CoreFault, Exchanged, Peer};
 use rb_record::{Happening, Shown, ShownCall, Tape};
@@ -65,13 +65,13 @@ pub(crate) fn record_exchange(
 {
     tape.record(&Happening::Bytes(now, id, piece), &show_taken(done));
     if !given.is_empty() {
-        record_gift(tape, now, id, given);
+        record_given(tape, now, id, given);
     }
 }
 
 /// Records the look at bytes, and that all of them were given.
-fn record_gift(tape: &mut Tape, now: u64, id: u64, given: &[u8])
-    ensures { Records (gift_entries now id given.now) tape.old tape.new }
+fn record_given(tape: &mut Tape, now: u64, id: u64, given: &[u8])
+    ensures { Records (given_entries now id given.now) tape.old tape.new }
 {
     tape.record(&Happening::Pending(id), &Shown::Pending(given));
     tape.record(&Happening::Gave(now, id, given.len()), &Shown::Done);

@@ -33,20 +33,6 @@ impl Stream {
             Stream::Local(stream) => stream.read(room),
         }
     }
-
-    fn write_all(&mut self, bytes: &[u8]) -> io::Result<()> {
-        match self {
-            Stream::Tcp(stream) => stream.write_all(bytes),
-            Stream::Local(stream) => stream.write_all(bytes),
-        }
-    }
-
-    fn shutdown(&self) -> io::Result<()> {
-        match self {
-            Stream::Tcp(stream) => stream.shutdown(Shutdown::Write),
-            Stream::Local(stream) => stream.shutdown(Shutdown::Write),
-        }
-    }
 }
 
 /// A connection, and what came on it.
@@ -89,12 +75,18 @@ impl Client {
 
     /// Ends what it sends, and goes on to read. Whether that was done.
     pub(crate) fn end(&self) -> bool {
-        self.stream.shutdown().is_ok()
+        match &self.stream {
+            Stream::Tcp(stream) => stream.shutdown(Shutdown::Write).is_ok(),
+            Stream::Local(stream) => stream.shutdown(Shutdown::Write).is_ok(),
+        }
     }
 
     /// Whether all of the bytes went out.
     pub(crate) fn send(&mut self, bytes: &[u8]) -> bool {
-        self.stream.write_all(bytes).is_ok()
+        match &mut self.stream {
+            Stream::Tcp(stream) => stream.write_all(bytes).is_ok(),
+            Stream::Local(stream) => stream.write_all(bytes).is_ok(),
+        }
     }
 
     /// Takes turns until so many bytes came, or the daemon closed the connection.
@@ -108,15 +100,18 @@ impl Client {
         }
     }
 
-    /// Takes turns until the daemon closed the connection. What comes before counts for nothing.
-    pub(crate) fn await_end(&mut self, host: &mut Host<'_>) {
+    /// Takes turns until so many bytes came, or the daemon closed the connection, and says how many came. It keeps none
+    /// of them.
+    pub(crate) fn read_through(&mut self, host: &mut Host<'_>, want: usize) -> usize {
+        let mut count = 0usize;
         for _ in 0..TURNS {
             host.turn();
-            let _ = self.discard();
-            if self.is_closed {
+            count = count.saturating_add(self.discard());
+            if count >= want || self.is_closed {
                 break;
             }
         }
+        count
     }
 
     /// Reads what has come, and says how many bytes that is.
@@ -158,18 +153,9 @@ impl Client {
         self.len == bytes.len() && self.got.starts_with(bytes)
     }
 
-    /// Whether the first bytes that came are these.
-    pub(crate) fn got_first(&self, bytes: &[u8]) -> bool {
-        self.got[..self.len].starts_with(bytes)
-    }
-
-    /// Whether the last bytes that came are these.
-    pub(crate) fn got_last(&self, bytes: &[u8]) -> bool {
-        self.got[..self.len].ends_with(bytes)
-    }
-
-    pub(crate) fn len(&self) -> usize {
-        self.len
+    /// The bytes that came.
+    pub(crate) fn got(&self) -> &[u8] {
+        &self.got[..self.len]
     }
 
     pub(crate) fn is_closed(&self) -> bool {

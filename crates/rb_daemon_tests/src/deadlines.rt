@@ -22,7 +22,7 @@ fn is_closed_after(client: &mut Client, host: &mut Host<'_>, clock: &Stopped, mi
     let stays = client.receive_nothing(host);
     clock.advance(1);
     client.receive(host, 1);
-    stays && client.is_closed() && client.len() == 0 && host.is_well()
+    stays && client.is_closed() && client.got().is_empty() && host.is_well()
 }
 
 /// Where no other connection may be open, the next one is served.

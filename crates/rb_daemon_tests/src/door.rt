@@ -119,7 +119,7 @@ fn gives_up_who_never_reads(
     }
     clock.advance(OWED);
     host.turn();
-    reader.await_end(host);
+    reader.read_through(host, usize::MAX);
     Some(are_set && are_sent && reader.is_closed() && host.is_well())
 }
 

@@ -2,7 +2,7 @@
 use crate::client::{Caller, Client};
 use crate::datagrams::answers;
 use crate::messages::{MARK_24, bytes_of, null_call, null_reply};
-use crate::turns::{Host, PORT, Stopped, plain, second};
+use crate::turns::{Host, PORT, Stopped, address, plain};
 use std::net::{Ipv4Addr, SocketAddr};
 use std::test::Fail;
 
@@ -29,17 +29,23 @@ fn target_answers(rt: &HostRuntime, host: &mut Host<'_>, target: &mut Caller) ->
     Some(target.answer(&bytes_of(rt.alloc(), &null_reply(xid)).ok()?))
 }
 
-/// An INDIRECT reaches its target, and what the target answers reaches the caller.
-fn forwards_a_call(rt: &HostRuntime, host: &mut Host<'_>) -> Option<bool> {
+/// An INDIRECT reaches its target, and what the target answers reaches the caller, from the address that was asked, as
+/// the reply to each other call.
+fn forwards_a_call(rt: &HostRuntime, host: &mut Host<'_>, asked: SocketAddr) -> Option<bool> {
     let mut caller = Caller::new(rt, 0)?;
     let mut target = Caller::new(rt, TARGET)?;
     let indirect = [15, 0, 2, 100_000, 4, 10, 0, 0, 0, 0, 200_001, 1, 0, 0];
     let is_set = sets_target(rt, host, &mut caller)?;
-    let is_sent = caller.send(&bytes_of(rt.alloc(), &indirect).ok()?);
+    let is_sent = caller.send_to(&bytes_of(rt.alloc(), &indirect).ok()?, asked);
     let is_answered = target_answers(rt, host, &mut target)?;
     caller.receive(host);
-    let reply = bytes_of(rt.alloc(), &passed_reply()).ok()?;
-    Some(is_set && is_sent && is_answered && caller.got_just(&reply) && host.is_well())
+    let is_passed = caller.got_just(&bytes_of(rt.alloc(), &passed_reply()).ok()?);
+    let is_right = is_passed && caller.came_from(asked);
+    let is_asked = caller.send_to(&bytes_of(rt.alloc(), &null_call(17)).ok()?, asked);
+    caller.receive(host);
+    let is_null = caller.got_just(&bytes_of(rt.alloc(), &null_reply(17)).ok()?);
+    let is_there = is_asked && is_null && caller.came_from(asked);
+    Some(is_set && is_sent && is_answered && is_right && is_there && host.is_well())
 }
 
 fn passed_reply() -> [u32; 12] {
@@ -54,31 +60,19 @@ fn passed_reply() -> [u32; 12] {
 fn indirect_is_passed_back(rt: HostRuntime) -> Result<(), Fail> {
     let clock = Stopped::new(&rt);
     let mut host = Host::new(&clock, 1).ok_or("no daemon")?;
-    assert_eq!(rt; forwards_a_call(&rt, &mut host), Some(true));
+    assert_eq!(rt; forwards_a_call(&rt, &mut host, address()), Some(true));
     Ok(())
 }
 
-/// So does an INDIRECT over TCP, whose connection waits meanwhile, and goes on with the call that came behind it.
-fn forwards_over_tcp(rt: &HostRuntime, host: &mut Host<'_>) -> Option<bool> {
-    let mut caller = Caller::new(rt, 0)?;
-    let mut target = Caller::new(rt, TARGET)?;
-    let mut client = Client::new(rt)?;
-    let is_set = sets_target(rt, host, &mut caller)?;
-    let is_sent = client.send(&bytes_of(rt.alloc(), &TWO_CALLS).ok()?);
-    let is_answered = target_answers(rt, host, &mut target)?;
-    client.receive(host, 80);
-    let replies = two_replies(rt)?;
-    Some(is_set && is_sent && is_answered && client.got_just(&replies) && host.is_well())
-}
-
-/// The answer of the target in a record of 48 bytes, and behind it the NULL reply.
-fn two_replies(rt: &HostRuntime) -> Option<Vec<u8>> {
-    let mut words = Vec::new(rt.alloc());
-    words.push(0x8000_0030).ok()?;
-    words.extend_from_slice(&passed_reply()).ok()?;
-    words.push(MARK_24).ok()?;
-    words.extend_from_slice(&null_reply(16)).ok()?;
-    bytes_of(rt.alloc(), &words).ok()
+#[test]
+fn replies_come_from_the_asked_address(rt: HostRuntime) -> Result<(), Fail> {
+    let clock = Stopped::new(&rt);
+    let second = Ipv4Addr::new(127, 0, 0, 2);
+    let hosts = [Ipv4Addr::LOCALHOST, second];
+    let mut host = Host::with(&clock, &plain(&hosts, 1)).map_err(|_| "no daemon")?;
+    let asked = SocketAddr::from((second, PORT));
+    assert_eq!(rt; forwards_a_call(&rt, &mut host, asked), Some(true));
+    Ok(())
 }
 
 /// An INDIRECT in a record of 56 bytes, and a NULL call in one of 40.
@@ -111,60 +105,39 @@ pub(crate) const TWO_CALLS: [u32; 26] = [
     0,
 ];
 
-#[test]
-fn connection_waits_for_indirect(rt: HostRuntime) -> Result<(), Fail> {
-    let clock = Stopped::new(&rt);
-    let mut host = Host::new(&clock, 1).ok_or("no daemon")?;
-    assert_eq!(rt; forwards_over_tcp(&rt, &mut host), Some(true));
-    Ok(())
-}
-
-/// A client that ends what it sends behind an INDIRECT gets the answer, and is closed behind it.
-fn answers_a_client_that_ended(rt: &HostRuntime, host: &mut Host<'_>) -> Option<bool> {
+/// So does an INDIRECT over TCP, whose connection waits meanwhile, and goes on with the call that came behind it. A
+/// client that ends what it sends behind them gets the same, and is closed behind it.
+/// What comes is the answer of the target in a record of 48 bytes, and behind it the NULL reply.
+fn forwards_over_tcp(rt: &HostRuntime, host: &mut Host<'_>, ends: bool) -> Option<bool> {
+    let mut words = Vec::new(rt.alloc());
+    words.push(0x8000_0030).ok()?;
+    words.extend_from_slice(&passed_reply()).ok()?;
+    words.push(MARK_24).ok()?;
+    words.extend_from_slice(&null_reply(16)).ok()?;
+    let replies = bytes_of(rt.alloc(), &words).ok()?;
     let mut caller = Caller::new(rt, 0)?;
     let mut target = Caller::new(rt, TARGET)?;
     let mut client = Client::new(rt)?;
     let is_set = sets_target(rt, host, &mut caller)?;
-    let is_sent = client.send(&bytes_of(rt.alloc(), &TWO_CALLS).ok()?) && client.end();
+    let is_sent = client.send(&bytes_of(rt.alloc(), &TWO_CALLS).ok()?) && (!ends || client.end());
     let is_answered = target_answers(rt, host, &mut target)?;
-    client.receive(host, 81);
-    let replies = two_replies(rt)?;
-    let is_over = client.got_just(&replies) && client.is_closed();
-    Some(is_set && is_sent && is_answered && is_over && host.is_well())
+    client.receive(host, if ends { 81 } else { 80 });
+    let is_right = client.got_just(&replies) && (!ends || client.is_closed());
+    Some(is_set && is_sent && is_answered && is_right && host.is_well())
+}
+
+#[test]
+fn connection_waits_for_indirect(rt: HostRuntime) -> Result<(), Fail> {
+    let clock = Stopped::new(&rt);
+    let mut host = Host::new(&clock, 1).ok_or("no daemon")?;
+    assert_eq!(rt; forwards_over_tcp(&rt, &mut host, false), Some(true));
+    Ok(())
 }
 
 #[test]
 fn client_ends_behind_indirect(rt: HostRuntime) -> Result<(), Fail> {
     let clock = Stopped::new(&rt);
     let mut host = Host::new(&clock, 1).ok_or("no daemon")?;
-    assert_eq!(rt; answers_a_client_that_ended(&rt, &mut host), Some(true));
-    Ok(())
-}
-
-/// An INDIRECT that was asked on the second address is answered from there, as is each other call.
-fn answers_from_the_second(rt: &HostRuntime, host: &mut Host<'_>) -> Option<bool> {
-    let second = SocketAddr::from((second(), PORT));
-    let mut caller = Caller::new(rt, 0)?;
-    let mut target = Caller::new(rt, TARGET)?;
-    let indirect = [15, 0, 2, 100_000, 4, 10, 0, 0, 0, 0, 200_001, 1, 0, 0];
-    let is_set = sets_target(rt, host, &mut caller)?;
-    let is_sent = caller.send_to(&bytes_of(rt.alloc(), &indirect).ok()?, second);
-    let is_answered = target_answers(rt, host, &mut target)?;
-    caller.receive(host);
-    let is_passed = caller.got_just(&bytes_of(rt.alloc(), &passed_reply()).ok()?);
-    let is_right = is_passed && caller.came_from(second);
-    let is_asked = caller.send_to(&bytes_of(rt.alloc(), &null_call(17)).ok()?, second);
-    caller.receive(host);
-    let is_null = caller.got_just(&bytes_of(rt.alloc(), &null_reply(17)).ok()?);
-    let is_there = is_asked && is_null && caller.came_from(second);
-    Some(is_set && is_sent && is_answered && is_right && is_there && host.is_well())
-}
-
-#[test]
-fn replies_come_from_the_asked_address(rt: HostRuntime) -> Result<(), Fail> {
-    let clock = Stopped::new(&rt);
-    let hosts = [Ipv4Addr::LOCALHOST, second()];
-    let mut host = Host::with(&clock, &plain(&hosts, 1)).map_err(|_| "no daemon")?;
-    assert_eq!(rt; answers_from_the_second(&rt, &mut host), Some(true));
+    assert_eq!(rt; forwards_over_tcp(&rt, &mut host, true), Some(true));
     Ok(())
 }

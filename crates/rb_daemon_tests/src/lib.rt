@@ -11,8 +11,6 @@ mod deadlines;
 #[cfg(test)]
 mod door;
 #[cfg(test)]
-mod ends;
-#[cfg(test)]
 mod forwards;
 #[cfg(test)]
 mod leaving;

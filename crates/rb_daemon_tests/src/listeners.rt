@@ -95,27 +95,17 @@ fn listeners_share_the_places(rt: HostRuntime) -> Result<(), Fail> {
     Ok(())
 }
 
-/// Whether the local socket has the mode that was asked for.
-fn has_mode(rt: &HostRuntime) -> Option<bool> {
-    let found = fs::symlink_metadata(rt, LOCAL).ok()?;
-    let mode = found.permissions().mode();
-    Some(found.file_type().is_socket() && mode & 0o777 == 0o600)
-}
-
-/// A socket that nobody listens on any more.
-fn leave_a_stale_file(rt: &HostRuntime) -> Option<()> {
-    let _ = fs::remove_file(rt, LOCAL);
-    drop(UnixListener::bind(rt, LOCAL).ok()?);
-    Some(())
-}
-
+/// A socket that nobody listens on any more is replaced by one that has the mode that was asked for.
 #[test]
 fn stale_file_is_replaced(rt: HostRuntime) -> Result<(), Fail> {
+    let _ = fs::remove_file(&rt, LOCAL);
+    drop(UnixListener::bind(&rt, LOCAL)?);
     let clock = Stopped::new(&rt);
-    leave_a_stale_file(&rt).ok_or("no file")?;
     let mut host = Host::with(&clock, &everywhere(&HOSTS, 1)).map_err(|_| "no daemon")?;
     let mut client = Client::local(&rt).ok_or("no connection")?;
-    assert_eq!(rt; has_mode(&rt), Some(true));
+    let found = fs::symlink_metadata(&rt, LOCAL)?;
+    assert!(rt; found.file_type().is_socket());
+    assert_eq!(rt; found.permissions().mode() & 0o777, 0o600);
     assert_eq!(rt; registers(&rt, &mut host, &mut client), Some(true));
     Ok(())
 }

@@ -2,21 +2,17 @@
 use crate::client::{Caller, Client};
 use crate::datagrams::answers;
 use crate::leaving::dumps;
-use crate::messages::{MARK_40, bytes_of, null_call, null_reply_record};
+use crate::messages::{MARK_40, bytes_of, null_reply_record};
 use crate::records::answers_a_call;
 use crate::turns::{Host, PORT, Stopped};
 use std::test::Fail;
 
-/// A SET of version 2: the program, version 1, on TCP at port 2049.
-fn set_call(xid: u32, prog: u32) -> [u32; 14] {
-    [xid, 0, 2, 100_000, 2, 1, 0, 0, 0, 0, prog, 1, 6, 2049]
-}
-
-/// So many programs are set, from 300000 on.
+/// So many programs are set, from 300000 on: version 1 on TCP at port 2049.
 pub(crate) fn sets_rows(rt: &HostRuntime, host: &mut Host<'_>, count: u32) -> Option<bool> {
     let mut caller = Caller::new(rt, 0)?;
     for i in 0..count {
-        let set = set_call(i, 300_000u32.wrapping_add(i));
+        let prog = 300_000u32.wrapping_add(i);
+        let set = [i, 0, 2, 100_000, 2, 1, 0, 0, 0, 0, prog, 1, 6, 2049];
         if !answers(rt, host, &mut caller, &set, &[i, 1, 0, 0, 0, 0, 1])? {
             return Some(false);
         }
@@ -25,13 +21,9 @@ pub(crate) fn sets_rows(rt: &HostRuntime, host: &mut Host<'_>, count: u32) -> Op
 }
 
 /// A DUMP, and a NULL call behind it.
-fn list_and_null(rt: &HostRuntime) -> Option<Vec<u8>> {
-    let mut words = Vec::new(rt.alloc());
-    let list = [MARK_40, 1, 0, 2, 100_000, 2, 4, 0, 0, 0, 0, MARK_40];
-    words.extend_from_slice(&list).ok()?;
-    words.extend_from_slice(&null_call(2)).ok()?;
-    bytes_of(rt.alloc(), &words).ok()
-}
+const LIST_AND_NULL: [u32; 22] = [
+    MARK_40, 1, 0, 2, 100_000, 2, 4, 0, 0, 0, 0, MARK_40, 2, 0, 2, 100_000, 2, 0, 0, 0, 0, 0,
+];
 
 /// A fragment of 1,024 bytes that is not the last, the head of the reply, and the first own row: version 4 on TCP.
 const LIST_BEGINS: [u32; 12] = [1024, 1, 1, 0, 0, 0, 0, 1, 100_000, 4, 6, PORT as u32];
@@ -40,13 +32,14 @@ const LIST_BEGINS: [u32; 12] = [1024, 1, 1, 0, 0, 0, 0, 1, 100_000, 4, 6, PORT a
 /// 2,048, in two fragments of the greatest length. The call behind it is answered too.
 fn gives_full_fragments(rt: &HostRuntime, host: &mut Host<'_>) -> Option<bool> {
     let are_set = sets_rows(rt, host, 95)?;
-    let calls = list_and_null(rt)?;
+    let calls = bytes_of(rt.alloc(), &LIST_AND_NULL).ok()?;
     let list = bytes_of(rt.alloc(), &LIST_BEGINS).ok()?;
     let reply = null_reply_record(rt.alloc(), 2).ok()?;
     let mut client = Client::new(rt)?;
     let is_sent = client.send(&calls);
     client.receive(host, 2084);
-    let is_whole = client.len() == 2084 && client.got_first(&list) && client.got_last(&reply);
+    let got = client.got();
+    let is_whole = got.len() == 2084 && got.starts_with(&list) && got.ends_with(&reply);
     Some(are_set && is_sent && is_whole && host.is_well())
 }
 
@@ -87,9 +80,10 @@ fn greedy_client_is_left(rt: HostRuntime) -> Result<(), Fail> {
 /// In one turn the first program is removed, and another is set.
 fn replaces_a_row(rt: &HostRuntime, host: &mut Host<'_>) -> Option<bool> {
     let unset = [1, 0, 2, 100_000, 2, 2, 0, 0, 0, 0, 300_000, 1, 0, 0];
+    let set = [2, 0, 2, 100_000, 2, 1, 0, 0, 0, 0, 400_000, 1, 6, 2049];
     let mut caller = Caller::new(rt, 0)?;
     let is_sent = caller.send(&bytes_of(rt.alloc(), &unset).ok()?)
-        && caller.send(&bytes_of(rt.alloc(), &set_call(2, 400_000)).ok()?);
+        && caller.send(&bytes_of(rt.alloc(), &set).ok()?);
     caller.receive(host);
     let is_unset = caller.got_just(&bytes_of(rt.alloc(), &[1, 1, 0, 0, 0, 0, 1]).ok()?);
     caller.receive(host);
@@ -106,7 +100,7 @@ fn evicts_the_reader(rt: &HostRuntime, host: &mut Host<'_>) -> Option<bool> {
     let is_sent = reader.send(&dumps(rt.alloc(), 400)?);
     host.turn();
     let is_replaced = replaces_a_row(rt, host)?;
-    reader.await_end(host);
+    reader.read_through(host, usize::MAX);
     Some(are_set && is_sent && is_replaced && reader.is_closed() && answers_a_call(rt, host, 3)?)
 }
 

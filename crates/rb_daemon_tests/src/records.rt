@@ -2,7 +2,6 @@
 use crate::client::Client;
 use crate::messages::{null_record, null_reply_record};
 use crate::turns::{Host, Stopped};
-use std::alloc::Global;
 use std::test::Fail;
 
 /// The NULL call of a new connection is answered with the 28 bytes of its reply.
@@ -44,23 +43,18 @@ fn record_in_two_pieces(rt: HostRuntime) -> Result<(), Fail> {
     Ok(())
 }
 
-/// The records of the calls 1 to 40, and those of their replies.
-fn forty(alloc: Global) -> Option<(Vec<u8>, Vec<u8>)> {
-    let mut calls = Vec::new(alloc);
-    let mut replies = Vec::new(alloc);
+/// The records of the calls 1 to 40 are answered with those of their replies.
+fn answers_forty_calls(rt: &HostRuntime, host: &mut Host<'_>) -> Option<bool> {
+    let mut calls = Vec::new(rt.alloc());
+    let mut replies = Vec::new(rt.alloc());
     for xid in 1..41 {
         calls
-            .extend_from_slice(&null_record(alloc, xid).ok()?)
+            .extend_from_slice(&null_record(rt.alloc(), xid).ok()?)
             .ok()?;
         replies
-            .extend_from_slice(&null_reply_record(alloc, xid).ok()?)
+            .extend_from_slice(&null_reply_record(rt.alloc(), xid).ok()?)
             .ok()?;
     }
-    Some((calls, replies))
-}
-
-fn answers_forty_calls(rt: &HostRuntime, host: &mut Host<'_>) -> Option<bool> {
-    let (calls, replies) = forty(rt.alloc())?;
     let mut client = Client::new(rt)?;
     let is_sent = client.send(&calls);
     client.receive(host, replies.len());
@@ -80,7 +74,7 @@ fn closes_no_call(rt: &HostRuntime, host: &mut Host<'_>) -> Option<bool> {
     let mut client = Client::new(rt)?;
     let is_sent = client.send(&[0x80, 0, 0, 1, 0]);
     client.receive(host, 1);
-    let is_closed = is_sent && client.is_closed() && client.len() == 0;
+    let is_closed = is_sent && client.is_closed() && client.got().is_empty();
     Some(is_closed && answers_a_call(rt, host, 9)?)
 }
 

@@ -11,11 +11,6 @@ pub(crate) const PORT: u16 = 20_111;
 /// Where the local socket of a test is, in the folder that the test runs in.
 pub(crate) const LOCAL: &str = "rb_daemon_tests.sock";
 
-/// A second address of the loopback.
-pub(crate) fn second() -> Ipv4Addr {
-    Ipv4Addr::new(127, 0, 0, 2)
-}
-
 /// Milliseconds: what comes over the loopback is there long before.
 const WAIT: u64 = 20;
 
@@ -109,16 +104,6 @@ impl<'a> Host<'a> {
     /// A daemon with room for so many connections.
     pub(crate) fn new(clock: &'a Stopped, conns: usize) -> Option<Host<'a>> {
         Host::with(clock, &plain(&[Ipv4Addr::LOCALHOST], conns)).ok()
-    }
-
-    /// One on another port.
-    pub(crate) fn at(clock: &'a Stopped, conns: usize, port: u16) -> Option<Host<'a>> {
-        let hosts = [Ipv4Addr::LOCALHOST];
-        let settings = Settings {
-            port,
-            ..plain(&hosts, conns)
-        };
-        Host::with(clock, &settings).ok()
     }
 
     pub(crate) fn with(

@@ -1,4 +1,4 @@
-//! Steps with sockets that failed.
+//! Why the daemon ends: steps with sockets that failed, among others.
 use std::alloc::AllocError;
 use std::fmt::{Display, Formatter};
 use std::net::SocketAddr;
@@ -23,6 +23,20 @@ pub enum BindFault {
     Memory(#[from] AllocError),
     /// A step with a socket failed.
     #[error("{0}")]
+    Socket(SocketFault),
+}
+
+/// Why the daemon ends.
+#[derive(Debug, Drop, Error)]
+pub enum DaemonFault {
+    /// An allocation was refused.
+    #[error("no memory")]
+    Memory(#[from] AllocError),
+    /// A limit is out of its range.
+    #[error("bad limits")]
+    Limits,
+    /// A step with a socket, the wait for events or the clock failed.
+    #[error("socket failed")]
     Socket(SocketFault),
 }
 

@@ -5,32 +5,13 @@ ghost use Rattle.std.specs.Prelude.{◌≤◌, IfErr};
 
 mod service;
 
-use rb_commands::{Words, read_words};
+use rb_commands::{Words, command_words, read_words};
 use rb_lines::{Beginning, Fault, explain};
 use rb_replay::{run_check, run_replay};
 use service::run_service;
-use std::io::{BufWriter, ErrorKind};
+use std::io;
+use std::io::BufWriter;
 use std::process::ExitCode;
-use std::{env, io};
-
-/// The words of the command line, where each is text.
-fn command_words(rt: &HostRuntime) -> io::Result<Vec<String>> {
-    let words = env::args(rt)?.collect(rt.alloc())?;
-    Ok(words)
-}
-
-/// The words of the command line, or the exit status. Words that are no text can't be read.
-fn words_or_status(rt: &HostRuntime) -> Result<Vec<String>, u8>
-    ensures { IfErr result (λ status. status ≤ 2) }
-{
-    match command_words(rt) {
-        Ok(words) => Ok(words),
-        Err(error) if error.kind() == ErrorKind::OutOfMemory => {
-            Err(explain(Fault::NoMemory, &mut rt.stderr()).status)
-        }
-        Err(_) => Err(explain(Fault::NotText, &mut rt.stderr()).status),
-    }
-}
 
 /// Runs the command `replay` over standard input and output. The answer is the exit status.
 fn replay(rt: &HostRuntime, beginning: &Beginning) -> u8
@@ -76,7 +57,7 @@ fn asked<'a>(rt: &HostRuntime, words: &'a [String]) -> Result<Words<'a>, u8>
 }
 
 fn main(rt: HostRuntime) -> ExitCode {
-    let words = match words_or_status(&rt) {
+    let words = match command_words(&rt, &mut rt.stderr()) {
         Ok(words) => words,
         Err(status) => return ExitCode::from(status),
     };

@@ -1,14 +1,12 @@
 //! The command `serve`.
-ghost use Rattle.std.specs.Prelude.{◌≡◌, ◌≤◌, IfErr};
-ghost use Rattle.rpcbind.specs.Faults.{TellsFault};
+ghost use Rattle.std.specs.Prelude.{◌≤◌};
 
-use rb_daemon::{Daemon, DaemonFault, LocalSocket, Settings, SocketFault, Step};
-use rb_lines::{Ending, Fault, Service, explain, explain_run};
-use rb_policy::{announced_address, is_no_address};
-use std::fs::{File, Files};
-use std::io;
+use rb_commands::{explain_fault, make_record, say_start, settings_of};
+use rb_daemon::{Daemon, DaemonFault, Settings};
+use rb_lines::Service;
+use std::fs::Files;
 use std::io::Write;
-use std::net::{Ipv4Addr, Net};
+use std::net::Net;
 use std::rt::Clock;
 use std::sync::Wait;
 
@@ -31,55 +29,6 @@ impl<F: Write + Drop> Recorder<F> {
             let _ = writeln!(faults, "rpcbind: write the record: {error}; it ends here");
             self.file = None;
         }
-    }
-}
-
-/// The recorder of a service. Where its file can't be made it is said why, and the status is answered.
-fn recorder_of<R: Files, E: Write>(
-    rt: &R,
-    service: &Service<'_>,
-    faults: &mut E,
-) -> Result<Recorder<R::File>, u8>
-    ensures { IfErr result (λ status. status ≡ 1) }
-{
-    let Some(record) = &service.recorded else {
-        return Ok(Recorder { file: None });
-    };
-    let path = record.path;
-    match File::create(rt, path) {
-        Ok(file) => Ok(Recorder { file: Some(file) }),
-        Err(error) => {
-            let _ = writeln!(faults, "rpcbind: make {path}: {error}");
-            Err(explain(Fault::WriteFailed, faults).status)
-        }
-    }
-}
-
-/// The settings of the daemon for a service.
-fn settings_of<'a>(service: &'a Service<'a>) -> Settings<'a> {
-    let first = service
-        .hosts
-        .first()
-        .copied()
-        .unwrap_or(Ipv4Addr::LOCALHOST);
-    let local = match service.local {
-        Some(path) => Some(LocalSocket {
-            path,
-            mode: service.local_mode,
-        }),
-        None => None,
-    };
-    Settings {
-        hosts: service.hosts.as_slice(),
-        loopback6: service.loopback6,
-        local,
-        announce: announced_address(service.announce, first),
-        port: service.port,
-        limits: service.limits,
-        record: match &service.recorded {
-            Some(record) => record.limit,
-            None => 0,
-        },
     }
 }
 
@@ -112,39 +61,17 @@ where
     E: Write,
     ensures { result ≤ 1 }
 {
-    if service.announce.is_none() && is_no_address(settings.announce) {
-        let _ = writeln!(
-            faults,
-            "rpcbind: no --announce: clients from elsewhere will be told 0.0.0.0"
-        );
+    if let Err(status) = say_start(rt, service, settings, faults) {
+        return status;
     }
-    if say_where(rt, settings).is_err() {
-        return explain(Fault::WriteFailed, faults).status;
-    }
-    let mut recorder = match recorder_of(rt, service, faults) {
-        Ok(recorder) => recorder,
+    let mut recorder = match make_record(rt, service, faults) {
+        Ok(file) => Recorder { file },
         Err(status) => return status,
     };
     match take_turns(rt, daemon, service.turns, &mut recorder, faults) {
         Ok(()) => 0,
         Err(fault) => explain_fault(&fault, settings, faults).status,
     }
-}
-
-/// A line for each address and for the local socket.
-fn say_where(rt: &impl Print, settings: &Settings<'_>) -> io::Result<()> {
-    let port = settings.port;
-    for host in settings.hosts {
-        println!(rt; "rpcbind: listening on {host} port {port}")?;
-    }
-    if settings.loopback6 {
-        println!(rt; "rpcbind: listening on ::1 port {port}")?;
-    }
-    if let Some(local) = &settings.local {
-        let path = local.path;
-        println!(rt; "rpcbind: listening on {path}")?;
-    }
-    Ok(())
 }
 
 /// A turn, and what was recorded of it.
@@ -175,41 +102,4 @@ fn take_turns<R: Clock + Wait, F: Write + Drop, E: Write>(
         take_turn(daemon, recorder, faults)?;
     }
     unreachable!()
-}
-
-/// Ends by a fault of the daemon: its lines are written, where they can be. Of a socket, the step that failed comes
-/// first.
-fn explain_fault<E: Write>(fault: &DaemonFault, settings: &Settings<'_>, faults: &mut E) -> Ending
-    ensures status { result.status ≡ 1 }
-    ensures told { TellsFault
-        settings.now.limits E.contents faults.old faults.new result fault.now }
-{
-    match fault {
-        DaemonFault::Memory(_) => explain(Fault::NoMemory, faults),
-        DaemonFault::Limits => explain_run(Fault::BadLimits, &settings.limits, faults),
-        DaemonFault::Socket(failed) => {
-            let is_step_told = write_step(failed, settings, faults).is_ok();
-            let ending = explain(Fault::SocketFailed, faults);
-            Ending {
-                status: ending.status,
-                is_told: is_step_told && ending.is_told,
-            }
-        }
-    }
-}
-
-/// Writes the step that failed, its address or path, and the system's word for it.
-fn write_step<E: Write>(
-    failed: &SocketFault,
-    settings: &Settings<'_>,
-    faults: &mut E,
-) -> io::Result<()> {
-    match (failed.step, &settings.local) {
-        (Step::BindLocal, Some(local)) => {
-            let path = local.path;
-            let error = &failed.error;
-            writeln!(faults, "rpcbind: bind {path}: {error}")
-        }
-        _ => writeln!(faults, "rpcbind: {failed}"),
-    }
 }

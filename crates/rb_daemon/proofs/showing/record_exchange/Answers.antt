@@ -4,12 +4,12 @@ use Rattle.rb_record.specs.Tapes.{Tape, Records}
 use Rattle.rb_record.proofs.Tapes.{records_more}
 use Rattle.rb_daemon.proofs.showing.record_exchange.Goals as goal
 
--- a gift behind the bytes that came, where there is one
-gift_behind : (first given : List ℕ) (gift : List (List ℕ)) (old mid new : Tape) → eqb (length given) 0 ≡ false → Records (first ∷ []) old mid → Records gift mid new → Records (first ∷ cond (eqb (length given) 0) [] gift) old new
-gift_behind first given gift old mid new some one two =
-    subst (λ (more : List (List ℕ)). Records (first ∷ more) old new) (sym (cond-false _ _ _ some)) (records_more (first ∷ []) gift old mid new one two)
+-- what is recorded of bytes that were given behind the bytes that came, where some were
+given_behind : (first given : List ℕ) (entries : List (List ℕ)) (old mid new : Tape) → eqb (length given) 0 ≡ false → Records (first ∷ []) old mid → Records entries mid new → Records (first ∷ cond (eqb (length given) 0) [] entries) old new
+given_behind first given entries old mid new some one two =
+    subst (λ (more : List (List ℕ)). Records (first ∷ more) old new) (sym (cond-false _ _ _ some)) (records_more (first ∷ []) entries old mid new one two)
 
 pub returns-then-not-is_empty : goal.returns-then-not-is_empty
 returns-then-not-is_empty c =
     let some : eqb (length c.args.given.now) 0 ≡ false = grind (arith, c.is_empty.ensures, c.if-not-is_empty.true, c.if-not-is_empty.ensures) in
-    gift_behind _ c.args.given.now _ _ _ _ some (rw c.show_taken.ensures at c.«record».ensures) c.record_gift.ensures
+    given_behind _ c.args.given.now _ _ _ _ some (rw c.show_taken.ensures at c.«record».ensures) c.record_given.ensures

@@ -1,7 +1,7 @@
 use Rattle.std.proofs.Common.{Ok, Err, sym, ap, ◌∙◌}
 use Rattle.rb_core.specs.StandsFor.{Held}
 use Rattle.rb_core.proofs.Begun.{with_steps_before, same_tie}
-use Rattle.rb_daemon.proofs.Reached.{look_records, look_served, gift_records, gift_served}
+use Rattle.rb_daemon.proofs.Reached.{look_records, look_served, given_records, given_served}
 use Rattle.rb_daemon.proofs.engine.Engine.give.Goals as goal
 
 pub invariant_of-self-clause-served : goal.invariant_of-self-clause-served
@@ -20,7 +20,7 @@ pub invariant_of-self-in-Ok-eq0-clause-served : goal.invariant_of-self-in-Ok-eq0
 invariant_of-self-in-Ok-eq0-clause-served g c = look_served c.args.self.now.core _ _ c.args.id (Ok c.in-Ok.owed.now) _ _ c.pending.follows.holds-at-none c.in-Ok.ensures.lent c.«record».ensures c.args.self.now.served
 
 pub invariant_of-self-in-Ok-gave-clause-served : goal.invariant_of-self-in-Ok-gave-clause-served
-invariant_of-self-in-Ok-gave-clause-served g c = gift_served c.args.self.now.core _ c.gave.new.self _ c.args.self.now.moment c.args.id c.in-Ok-written.n c.in-Ok.owed.now _ _ _ c.pending.follows.holds-at-none c.in-Ok-gave.ensures.acts c.in-Ok.ensures.lent c.in-Ok-written.ensures.bound c.«record».ensures c.record-in-Ok-gave.ensures c.args.self.now.served
+invariant_of-self-in-Ok-gave-clause-served g c = given_served c.args.self.now.core _ c.gave.new.self _ c.args.self.now.moment c.args.id c.in-Ok-written.n c.in-Ok.owed.now _ _ _ c.pending.follows.holds-at-none c.in-Ok-gave.ensures.acts c.in-Ok.ensures.lent c.in-Ok-written.ensures.bound c.«record».ensures c.record-in-Ok-gave.ensures c.args.self.now.served
 
 pub invariant_of-self-in-Err-gave-clause-served : goal.invariant_of-self-in-Err-gave-clause-served
 invariant_of-self-in-Err-gave-clause-served g c =
@@ -36,7 +36,7 @@ pub returns-in-Ok-eq0-clause-recorded : goal.returns-in-Ok-eq0-clause-recorded
 returns-in-Ok-eq0-clause-recorded g c = look_records c.args.self.now.core c.args.id (Ok c.in-Ok.owed.now) _ _ c.in-Ok.ensures.lent c.«record».ensures
 
 pub returns-in-Ok-gave-clause-recorded : goal.returns-in-Ok-gave-clause-recorded
-returns-in-Ok-gave-clause-recorded g c = gift_records c.args.self.now.core _ c.gave.new.self _ c.args.self.now.moment c.args.id c.in-Ok-written.n c.in-Ok.owed.now _ _ _ c.pending.follows.holds-at-none c.in-Ok-gave.ensures.acts c.in-Ok.ensures.lent c.in-Ok-written.ensures.bound c.«record».ensures c.record-in-Ok-gave.ensures
+returns-in-Ok-gave-clause-recorded g c = given_records c.args.self.now.core _ c.gave.new.self _ c.args.self.now.moment c.args.id c.in-Ok-written.n c.in-Ok.owed.now _ _ _ c.pending.follows.holds-at-none c.in-Ok-gave.ensures.acts c.in-Ok.ensures.lent c.in-Ok-written.ensures.bound c.«record».ensures c.record-in-Ok-gave.ensures
 
 pub returns-in-Err-gave-clause-recorded : goal.returns-in-Err-gave-clause-recorded
 returns-in-Err-gave-clause-recorded g c = look_records c.args.self.now.core c.args.id (Ok c.in-Ok.owed.now) _ _ c.in-Ok.ensures.lent c.«record».ensures

@@ -1,7 +1,7 @@
 use Rattle.std.proofs.Common.{ℕ, List, ◌≤◌, ◌+◌, ◌-◌, ◌++◌, take, drop, length, ap, ◌∙◌, arith}
 use Rattle.std.proofs.lemmas.List.{with_items_is, length-take, take-take}
-use Rattle.rb_daemon.proofs.Outboxes.{waits_more, room_stays}
-use Rattle.rb_daemon.proofs.outbox.OutboxWrite.write.Goals as goal
+use Rattle.rb_links.proofs.Outboxes.{waits_more, room_stays}
+use Rattle.rb_links.proofs.outbox.OutboxWrite.write.Goals as goal
 use borrow.Rule.Slice.PartMut.{post_of}
 
 pub returns-clause-bytes : goal.returns-clause-bytes

@@ -4,8 +4,8 @@ use Rattle.rb_model.specs.declared.types.Limits.{Limits}
 use Rattle.rb_lines.specs.declared.faults.Ending.{Ending}
 use Rattle.rb_lines.specs.declared.faults.Fault.TheVariants.{NoMemory, BadLimits, SocketFailed}
 use Rattle.rb_lines.specs.Faults.{Says, fault_line, fault_lines}
-use Rattle.rb_daemon.specs.declared.faults.DaemonFault.{DaemonFault}
-use Rattle.rb_daemon.specs.declared.faults.DaemonFault.TheVariants.{Memory, Limits as OfLimits, Socket}
+use Rattle.rb_sockets.specs.declared.faults.DaemonFault.{DaemonFault}
+use Rattle.rb_sockets.specs.declared.faults.DaemonFault.TheVariants.{Memory, Limits as OfLimits, Socket}
 
 -- Where all was written: the lines of the fault, and nothing else. Of a socket they stand behind the step that failed, whose
 -- line has the system's word for the error.

@@ -1,6 +1,6 @@
 use Rattle.std.specs.Prelude.{vec_len, vec_capacity}
 use Rattle.std.proofs.Common.{◌≡◌}
-use Rattle.rb_daemon.proofs.serving.free_places.Given as goal
+use Rattle.rb_links.proofs.places.free_places.Given as goal
 
 -- as many places as rounds, in memory for all
 abbrev pub invariant-places : goal.invariant-places

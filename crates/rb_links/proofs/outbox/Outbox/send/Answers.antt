@@ -1,5 +1,5 @@
-use Rattle.rb_daemon.proofs.Outboxes.{waits}
-use Rattle.rb_daemon.proofs.outbox.Outbox.send.Goals as goal
+use Rattle.rb_links.proofs.Outboxes.{waits}
+use Rattle.rb_links.proofs.outbox.Outbox.send.Goals as goal
 
 pub returns-then-self-clause-written : goal.returns-then-self-clause-written
 returns-then-self-clause-written g c =

@@ -1,6 +1,6 @@
 //! What a daemon is started with.
+use crate::addresses::{Addresses, LocalSocket};
 use rb_model::Limits;
-use rb_sockets::{Addresses, LocalSocket};
 use std::net::Ipv4Addr;
 
 /// What a daemon is started with.
@@ -25,7 +25,7 @@ pub struct Settings<'a> {
 
 impl<'a> Settings<'a> {
     /// Where it listens.
-    pub(crate) fn addresses(&self) -> Addresses<'a> {
+    pub fn addresses(&self) -> Addresses<'a> {
         Addresses {
             hosts: self.hosts,
             loopback6: self.loopback6,

@@ -1,0 +1,29 @@
+//! The words that the program was called with.
+ghost use Rattle.std.specs.Prelude.{◌≤◌, IfErr};
+
+use rb_lines::{Fault, explain};
+use std::env::Env;
+use std::io::{ErrorKind, Write};
+use std::{env, io};
+
+fn words_of<R: Env + AllocGlobal>(rt: &R) -> io::Result<Vec<String>> {
+    let words = env::args(rt)?.collect(rt.alloc())?;
+    Ok(words)
+}
+
+/// The words of the command line, where each is text. Where one is not, or memory is refused, that is said, and the
+/// error is the exit status.
+pub fn command_words<R: Env + AllocGlobal, E: Write>(
+    rt: &R,
+    faults: &mut E,
+) -> Result<Vec<String>, u8>
+    ensures { IfErr result (λ status. status ≤ 2) }
+{
+    match words_of(rt) {
+        Ok(words) => Ok(words),
+        Err(error) if error.kind() == ErrorKind::OutOfMemory => {
+            Err(explain(Fault::NoMemory, faults).status)
+        }
+        Err(_) => Err(explain(Fault::NotText, faults).status),
+    }
+}

@@ -1,0 +1,25 @@
+use Rattle.std.proofs.Common.{ℕ, List, ◌≤◌, ◌+◌, ◌-◌, ◌++◌, take, drop, length, ap, ◌∙◌, arith}
+use Rattle.std.proofs.lemmas.List.{with_items_is}
+use Rattle.rb_links.proofs.Outboxes.{waits_more, room_stays}
+use Rattle.rb_daemon.proofs.outbox.exchange.Goals as goal
+use borrow.Rule.Slice.PartMut.{post_of}
+
+pub returns-clause-acts : goal.returns-clause-acts
+returns-clause-acts c =
+    let given : List ℕ = take c.in_ok-done.done.given c.exchange.new.room in
+    let sent = c.outbox.inside.sent in
+    let end = c.outbox.inside.end in
+    let same = c.as_mut_slice.ensures.value in
+    let fits : end ≤ length c.as_mut_slice.result.now = omega (arith, c.outbox.invariant.1, ap (λ (xs : List ℕ). length xs) same) in
+    record {
+      room = length c.exchange.new.room;
+      given = given;
+      acts = c.in_ok-done.ensures.acts;
+      appended =
+          ap (λ (xs : List ℕ). drop sent (take (end + c.in_ok-done.done.given) xs))
+          (with_items_is c.outbox.inside.bytes _ (room_stays end (length c.as_mut_slice.result.now - end) c.as_mut_slice.result.now c.exchange.new.room fits c.exchange.auto.room ∙ c.as_mut_slice.ensures.len))
+          ∙ waits_more sent end c.in_ok-done.done.given c.as_mut_slice.result.now c.exchange.new.room (post_of end (length c.as_mut_slice.result.now - end) c.as_mut_slice.result.now) c.outbox.invariant.0 fits c.in_ok-done.ensures.fits
+          ∙ ap (λ (xs : List ℕ). drop sent (take end xs) ++ given) same
+          ∙ ap (λ (xs : List ℕ). xs ++ given) c.outbox.view_is;
+      moment = c.in_ok-done.ensures.moment;
+    }

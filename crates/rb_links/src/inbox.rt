@@ -1,0 +1,90 @@
+//! Bytes that were read from a socket and not yet taken by the core.
+ghost use Rattle.std.specs.Prelude.{◌≤◌, ℕ, List, length, take, drop};
+
+use std::io;
+use std::io::Read;
+use std::marker::Model;
+
+/// How many bytes of a connection are read ahead of the core.
+pub const READ_AHEAD: usize = 1024;
+
+/// Bytes that were read, from the first that was not taken.
+#[derive(Drop)]
+pub struct Inbox {
+    /// All of its room: the bytes of `bytes[start..end]` were read and not yet taken.
+    bytes: [u8; READ_AHEAD],
+    start: usize,
+    end: usize,
+}
+
+impl Model for Inbox {
+    ghost Value = { List ℕ };
+
+    ghost view = { λ inbox. drop inbox.start (take inbox.end inbox.bytes) };
+
+    ghost invariant = { λ inbox. (inbox.start ≤ inbox.end) × (inbox.end ≤ length inbox.bytes) };
+}
+
+impl Inbox {
+    ghost use Rattle.std.specs.Prelude.{◌≡◌, ◌≤◌, ◌==◌, [], length, drop, IfOk, OnErr};
+
+    /// An empty one.
+    pub(crate) fn new() -> Inbox
+        ensures { result ≡ [] }
+    {
+        Inbox {
+            bytes: [0; READ_AHEAD],
+            start: 0,
+            end: 0,
+        }
+    }
+
+    /// Whether all that was read was taken.
+    pub fn is_empty(&self) -> bool
+        ensures { result ≡ (length self.now == 0) }
+    {
+        self.start == self.end
+    }
+
+    /// How many bytes are left to be taken.
+    pub(crate) fn len(&self) -> usize
+        ensures { result ≡ length self.now }
+    {
+        self.end - self.start
+    }
+
+    /// The bytes that are left to be taken.
+    pub fn bytes(&self) -> &[u8]
+        ensures { result.now ≡ self.now }
+    {
+        &self.bytes[self.start..self.end]
+    }
+
+    /// The first so many of them were taken.
+    pub(crate) fn take(&mut self, count: usize)
+        requires { count ≤ length self.old }
+        ensures { self.new ≡ drop count self.old }
+    {
+        self.start += count;
+    }
+
+    /// Drops what is left.
+    pub(crate) fn clear(&mut self)
+        ensures { self.new ≡ [] }
+    {
+        self.start = 0;
+        self.end = 0;
+    }
+
+    /// Reads once, over what is left.
+    pub(crate) fn read<R: Read>(&mut self, reader: &mut R) -> io::Result<usize>
+        ensures read { IfOk result (λ n. length self.new ≡ n) }
+        ensures none { OnErr result (self.new ≡ []) }
+    {
+        self.start = 0;
+        self.end = 0;
+        let n = reader.read(&mut self.bytes)?;
+        self.end = n;
+        Ok(n)
+    }
+}

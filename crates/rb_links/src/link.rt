@@ -1,0 +1,267 @@
+//! The place of an accepted connection: what is known of it, and its socket calls.
+ghost use Rattle.std.specs.Prelude.{◌≤◌, length};
+
+use crate::inbox::{Inbox, READ_AHEAD};
+use crate::outbox::{OWN_ROOM, Outbox};
+use rb_policy::{
+    Holder, Next, Origin, Phase, Round, after_read, after_write, ends_record, is_cut_off, is_stuck,
+    outcome_of_count, phase_of, reads_on, round_of,
+};
+use rb_sockets::Stream;
+use std::alloc::{AllocError, Global};
+
+/// A turn of the daemon.
+#[derive(Clone, Copy, Debug, PartialEq, Eq)]
+pub struct Turn {
+    /// Its number.
+    pub number: u64,
+    /// Its moment, in milliseconds since the start of 1970.
+    pub moment: u64,
+}
+
+/// The place of an accepted connection. Its memory is taken before the first connection has it, and stays for the
+/// next.
+#[derive(Drop)]
+pub struct Link {
+    /// The core's number of the connection.
+    id: u64,
+    /// None where no connection has the place.
+    stream: Option<Stream>,
+    origin: Origin,
+    /// The moment of its last progress, or of its opening, in milliseconds. A record that ended is progress, and so
+    /// are bytes that the socket took.
+    since: u64,
+    /// Whether it made progress in the turn that serves it.
+    made_progress: bool,
+    /// Whether its first call, or the rest of a call, is yet to come.
+    is_reading: bool,
+    /// What was read and not yet taken.
+    pub inbox: Inbox,
+    /// Whether the core may owe a reply: from bytes that it took, until none is pending.
+    may_owe: bool,
+    /// Its own, or the long one.
+    pub outbox: Outbox,
+    /// How many bytes were written in the last turn that served it.
+    written: usize,
+    /// Whether the last read is not followed by another in this turn.
+    read_was_short: bool,
+    /// Whether its call is forwarded and has not ended.
+    is_awaiting: bool,
+    /// The last turn that served it.
+    served_in: u64,
+    /// Whether it is to be served though no event shows it.
+    is_waiting: bool,
+}
+
+impl Link {
+    /// A place that no connection has.
+    pub(crate) fn new(alloc: Global) -> Result<Link, AllocError> {
+        Ok(Link {
+            id: 0,
+            stream: None,
+            origin: Origin {
+                host: [0; 4],
+                is_local: false,
+            },
+            since: 0,
+            made_progress: false,
+            is_reading: false,
+            inbox: Inbox::new(),
+            may_owe: false,
+            outbox: Outbox::new(alloc, OWN_ROOM)?,
+            written: 0,
+            read_was_short: false,
+            is_awaiting: false,
+            served_in: 0,
+            is_waiting: false,
+        })
+    }
+
+    /// The core's number of the connection that has the place.
+    pub fn id(&self) -> u64 {
+        self.id
+    }
+
+    /// Whether no connection has the place.
+    pub(crate) fn is_free(&self) -> bool {
+        self.stream.is_none()
+    }
+
+    /// Whether the connection of the number has the place.
+    pub(crate) fn is_of(&self, id: u64) -> bool {
+        self.id == id && !self.is_free()
+    }
+
+    /// The connection gets the place at this moment, in milliseconds.
+    pub(crate) fn open(&mut self, id: u64, stream: Stream, origin: Origin, moment: u64) {
+        self.id = id;
+        self.stream = Some(stream);
+        self.origin = origin;
+        self.since = moment;
+        self.is_reading = true;
+        self.inbox.clear();
+        self.may_owe = false;
+        self.outbox.clear();
+        self.read_was_short = false;
+        self.is_awaiting = false;
+        self.served_in = 0;
+        self.is_waiting = false;
+    }
+
+    /// Closes the connection that has the place, and gives its number. The long outbox is for others from here on.
+    pub(crate) fn close(&mut self, long_outbox: &mut Outbox) -> Option<u64> {
+        let stream = self.stream.take()?;
+        drop(stream);
+        self.outbox.clear();
+        long_outbox.take_longer(&mut self.outbox);
+        self.is_waiting = false;
+        Some(self.id)
+    }
+
+    /// Whether it is to be served though no event shows it.
+    pub(crate) fn is_waiting(&self) -> bool {
+        self.is_waiting
+    }
+
+    /// It is to be served though no event shows it: its forwarded call has ended, and the core may owe the reply.
+    pub(crate) fn wake(&mut self) {
+        self.is_waiting = true;
+        self.is_awaiting = false;
+        self.may_owe = true;
+    }
+
+    /// Whether this turn has served it.
+    pub(crate) fn was_served_in(&self, turn: Turn) -> bool {
+        self.served_in == turn.number
+    }
+
+    fn phase(&self) -> Phase {
+        let is_owed = self.may_owe || !self.outbox.is_empty();
+        phase_of(self.is_awaiting, is_owed, self.is_reading)
+    }
+
+    /// The round of a turn in which it is served.
+    pub(crate) fn round(&self) -> Round {
+        round_of(self.is_waiting, self.phase())
+    }
+
+    /// It is to be served though no event shows it again, if a connection has the place.
+    pub(crate) fn leave(&mut self) {
+        self.is_waiting = !self.is_free();
+    }
+
+    /// What `admit` is decided by, of the connection that has the place.
+    pub(crate) fn holder(&self) -> Option<Holder> {
+        if self.is_free() {
+            return None;
+        }
+        Some(Holder {
+            origin: self.origin,
+            phase: self.phase(),
+            since: self.since,
+        })
+    }
+
+    /// Whether it is to be given up at this moment, in milliseconds, since its socket takes nothing of what waits for
+    /// it.
+    pub(crate) fn is_stuck(&self, moment: u64) -> bool {
+        !self.outbox.is_empty() && is_stuck(self.since, moment)
+    }
+
+    /// A turn serves it from here on. It has the long outbox meanwhile, where that is to spare.
+    pub fn begin(&mut self, turn: Turn, long_outbox: &mut Outbox) {
+        self.served_in = turn.number;
+        self.is_waiting = false;
+        self.read_was_short = false;
+        self.made_progress = false;
+        self.written = 0;
+        self.outbox.take_longer(long_outbox);
+    }
+
+    /// The turn has served it. The long outbox is for others, but where bytes are left in it.
+    pub fn end(&mut self, turn: Turn, long_outbox: &mut Outbox) {
+        long_outbox.take_longer(&mut self.outbox);
+        if self.made_progress {
+            self.since = turn.moment;
+        }
+    }
+
+    /// Whether it is left for the next turn, after so many socket calls for it in this one.
+    pub fn is_cut_off(&self, calls: usize) -> bool {
+        is_cut_off(calls, self.written)
+    }
+
+    /// Whether the core may owe a reply.
+    pub fn may_owe(&self) -> bool {
+        self.may_owe
+    }
+
+    /// The core took so many of the bytes that were read. It gave so many of a reply at once, and then owes none, or the
+    /// call is forwarded. Where a record ended is noted, as far as can be told; if it is answered later, `note_fragment`
+    /// notes that.
+    pub fn note_taken(&mut self, count: usize, given: usize, is_forwarded: bool)
+        requires { count ≤ length self.old.inbox }
+    {
+        let read = self.inbox.len();
+        self.inbox.take(count);
+        self.may_owe = given == 0;
+        if count > 0 {
+            self.is_awaiting = is_forwarded;
+        }
+        if ends_record(count, read, given, self.is_awaiting) {
+            self.made_progress = true;
+            self.is_reading = false;
+        } else if count > 0 {
+            self.is_reading = true;
+        }
+    }
+
+    /// A fragment went into the outbox. Behind the last one of a reply the core need not be asked for another.
+    pub fn note_fragment(&mut self) {
+        self.made_progress = true;
+        self.is_reading = false;
+        self.may_owe = !self.outbox.is_reply_over();
+    }
+
+    /// The core owes no reply.
+    pub fn note_paid(&mut self) {
+        self.may_owe = false;
+    }
+
+    /// Makes at most one socket call: a write where replies wait, else a read. Where bytes are left that the core does
+    /// not take while no reply is owed, it waits for the end of its forwarded call. A read that gets less than it has
+    /// room for is the last of the turn, unless the peer may have ended what it sends: of that no other event comes.
+    pub fn call_socket(&mut self, may_end: bool) -> Next {
+        if !self.outbox.is_empty() {
+            return self.write();
+        }
+        if !self.inbox.is_empty() || self.read_was_short {
+            return Next::AwaitEvent;
+        }
+        self.read(may_end)
+    }
+
+    /// Writes what waits, once.
+    pub fn write(&mut self) -> Next {
+        let Some(stream) = &mut self.stream else {
+            return Next::Close;
+        };
+        let came = self.outbox.send(&mut stream.outgoing());
+        if let Ok(n) = came {
+            self.written = self.written.saturating_add(n);
+            self.made_progress |= n > 0;
+        }
+        after_write(outcome_of_count(&came))
+    }
+
+    fn read(&mut self, may_end: bool) -> Next {
+        let Some(stream) = &mut self.stream else {
+            return Next::Close;
+        };
+        let came = self.inbox.read(&mut stream.incoming());
+        if let Ok(n) = came {
+            self.read_was_short = !reads_on(n, READ_AHEAD, may_end);
+        }
+        after_read(outcome_of_count(&came), self.is_awaiting)
+    }
+}

@@ -1,0 +1,131 @@
+//! Bytes of replies on their way from the core to a socket.
+ghost use Rattle.std.specs.Prelude.{◌≡◌, ◌≤◌, ℕ, List, length, take, drop};
+
+use rb_proto::LONGEST_PART;
+use rb_rpc::FRAGMENT_HEADER;
+use std::alloc::{AllocError, Global};
+use std::io::Write;
+use std::marker::Model;
+use std::{io, mem};
+
+/// The most bytes of a fragment of a reply: its header and its data.
+const FRAGMENT: usize = FRAGMENT_HEADER + LONGEST_PART;
+
+/// The room of a connection's own outbox: a whole reply of 9,000 bytes fits, with the headers of its nine fragments.
+pub(crate) const OWN_ROOM: usize = 9 * FRAGMENT;
+
+/// The room of the outbox that goes from one connection to another: a list of 1,000 rows with usual texts fits.
+pub const LONG_ROOM: usize = 64 * FRAGMENT;
+
+/// Bytes that the core counts as given, from the first that the socket has not taken. Its room is public, so that the
+/// core can be lent what is free of it; whoever changes it keeps its invariant.
+#[derive(Drop)]
+pub struct Outbox {
+    /// All of its room: the bytes of `bytes[sent..end]` are on their way.
+    pub bytes: Vec<u8>,
+    /// Where those begin.
+    pub sent: usize,
+    /// Where those end, and what is free begins.
+    pub end: usize,
+    /// Whether the last fragment that was taken over is the last of its reply.
+    is_reply_over: bool,
+}
+
+impl Model for Outbox {
+    ghost Value = { List ℕ };
+
+    ghost view = { λ outbox. drop outbox.sent (take outbox.end outbox.bytes.items) };
+
+    ghost invariant = { λ outbox. (outbox.sent ≤ outbox.end) × (outbox.end ≤ length outbox.bytes.items) };
+}
+
+impl Outbox {
+    ghost use Rattle.std.specs.Prelude.{◌≡◌, ◌==◌, [], IfOk, OnErr};
+    ghost use Rattle.std.specs.Io.KnownBytes.{WriteAppends};
+
+    /// An empty one with this room. It is written to, so that its memory is the process's from here on.
+    pub(crate) fn new(alloc: Global, room: usize) -> Result<Outbox, AllocError>
+        ensures { IfOk result (λ outbox. outbox ≡ []) }
+    {
+        let mut bytes = Vec::with_capacity(alloc, room)?;
+        bytes.resize(room, 0)?;
+        Ok(Outbox {
+            bytes,
+            sent: 0,
+            end: 0,
+            is_reply_over: true,
+        })
+    }
+
+    /// Whether the socket has taken all of it.
+    pub fn is_empty(&self) -> bool
+        ensures { result ≡ (length self.now == 0) }
+    {
+        self.sent == self.end
+    }
+
+    /// Whether any fragment fits. Where one may not, nothing more is taken over until the socket has taken all, so
+    /// that each fragment is taken over whole.
+    pub fn has_room(&self) -> bool {
+        self.bytes.len() - self.end >= FRAGMENT
+    }
+
+    /// Whether the last fragment that was taken over is the last of its reply.
+    pub fn is_reply_over(&self) -> bool {
+        self.is_reply_over
+    }
+
+    /// Drops what is on its way.
+    pub(crate) fn clear(&mut self)
+        ensures { self.new ≡ [] }
+    {
+        self.sent = 0;
+        self.end = 0;
+    }
+
+    /// Swaps the two where both are empty and the other one is longer.
+    pub(crate) fn take_longer(&mut self, other: &mut Outbox)
+        ensures stays { self.new ≡ self.old }
+        ensures other { other.new ≡ other.old }
+    {
+        if self.is_empty() && other.is_empty() && self.bytes.len() < other.bytes.len() {
+            mem::swap(self, other);
+        }
+    }
+
+    /// Writes what waits, once.
+    pub(crate) fn send<W: Write>(&mut self, writer: &mut W) -> io::Result<usize>
+        ensures written { WriteAppends (W.contents writer.old) (W.contents writer.new)
+            result self.old }
+        ensures left { IfOk result (λ n. self.new ≡ drop n self.old) }
+        ensures kept { OnErr result (self.new ≡ self.old) }
+    {
+        let n = writer.write(&self.bytes.as_slice()[self.sent..self.end])?;
+        self.sent += n;
+        if self.sent == self.end {
+            self.clear();
+        }
+        Ok(n)
+    }
+}
+
+/// `write` takes over as many bytes as there is room for: a fragment. The first bit of its header marks the last one
+/// of a reply (RFC 5531 section 11).
+impl Write for Outbox {
+    ghost use Rattle.std.specs.Prelude.{Some};
+
+    ghost contents = { λ outbox. Some outbox };
+
+    fn write(&mut self, bytes: &[u8]) -> io::Result<usize> {
+        self.is_reply_over = matches!(bytes, [0x80..=0xff, ..]);
+        let count = bytes.len().min(self.bytes.len() - self.end);
+        let behind = self.end + count;
+        self.bytes.as_mut_slice()[self.end..behind].copy_from_slice(&bytes[..count]);
+        self.end = behind;
+        Ok(count)
+    }
+
+    fn flush(&mut self) -> io::Result<()> {
+        Ok(())
+    }
+}

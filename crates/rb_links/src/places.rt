@@ -1,0 +1,189 @@
+//! All places of connections: which of them are left for later, and who gets one.
+ghost use Rattle.std.specs.Prelude.{◌≡◌, vec_len, IfOk};
+
+use crate::link::{Link, Turn};
+use crate::outbox::{LONG_ROOM, Outbox};
+use mio::{Registry, Token};
+use rb_policy::{Admission, Holder, Origin, Round, accept_count, admit};
+use rb_sockets::Stream;
+use std::alloc::{AllocError, Global};
+
+/// The places of connections, by the keys that their events show.
+#[derive(Drop)]
+pub struct Places {
+    /// Each place, under its key.
+    pub links: Vec<Link>,
+    /// The long outbox, or that of the connection which has it.
+    pub long_outbox: Outbox,
+    /// What decides who is let in knows of each place, as of the last newcomer.
+    holders: Vec<Option<Holder>>,
+    /// How many places have connections.
+    taken: usize,
+    /// Whether connections are to be served though no event shows them.
+    are_left: bool,
+    /// The key at which the last round of the next turn begins.
+    first_left: usize,
+}
+
+/// So many free places. Each is written, so that its memory is the process's from here on.
+fn free_places(alloc: Global, count: usize) -> Result<Vec<Link>, AllocError>
+    ensures { IfOk result (λ places. vec_len places ≡ count) }
+{
+    let mut places = Vec::with_capacity(alloc, count)?;
+    'places: for _i in 0..count {
+        places.push_reserved(Link::new(alloc)?);
+    }
+    Ok(places)
+}
+
+impl Places {
+    /// So many places, which no connections have. An error where an allocation is refused.
+    pub fn new(alloc: Global, count: usize) -> Result<Places, AllocError>
+        ensures { IfOk result (λ places. vec_len places.links ≡ count) }
+    {
+        let mut holders = Vec::with_capacity(alloc, count)?;
+        holders.resize(count, None)?;
+        Ok(Places {
+            links: free_places(alloc, count)?,
+            long_outbox: Outbox::new(alloc, LONG_ROOM)?,
+            holders,
+            taken: 0,
+            are_left: false,
+            first_left: 0,
+        })
+    }
+
+    /// How many places there are.
+    pub fn count(&self) -> usize {
+        self.links.len()
+    }
+
+    /// Whether a connection has a place.
+    pub fn is_somebody_there(&self) -> bool {
+        self.taken > 0
+    }
+
+    /// How many connections a turn accepts, as the places are now.
+    pub fn accept_count(&self) -> usize {
+        let count = self.links.len();
+        accept_count(count.saturating_sub(self.taken), count)
+    }
+
+    /// The key of the place that the connection of this number has.
+    pub fn key_of(&self, id: u64) -> Option<usize> {
+        self.links.iter().position(|link| link.is_of(id))
+    }
+
+    /// The round of a turn in which the connection at a place is served.
+    pub fn round(&self, key: usize) -> Option<Round> {
+        match self.links.get(key) {
+            Some(link) => Some(link.round()),
+            None => None,
+        }
+    }
+
+    /// Whether this turn is to serve the connection at a place. One that it has served is left for the next, if it is to
+    /// be served again.
+    pub fn is_served_by(&mut self, turn: Turn, key: usize) -> bool {
+        let Some(link) = self.links.get(key) else {
+            return false;
+        };
+        if link.was_served_in(turn) {
+            self.are_left |= link.is_waiting();
+            return false;
+        }
+        !link.is_free()
+    }
+
+    /// The connection at a place is to be served though no event shows it again, if there is one.
+    pub fn leave(&mut self, key: usize) {
+        if let Some(link) = self.links.get_mut(key) {
+            link.leave();
+            self.are_left = true;
+        }
+    }
+
+    /// The connection of the number goes on, though no event shows it: its forwarded call has ended.
+    pub fn wake(&mut self, id: u64) {
+        let Some(key) = self.key_of(id) else {
+            return;
+        };
+        if let Some(link) = self.links.get_mut(key) {
+            link.wake();
+            self.are_left = true;
+        }
+    }
+
+    /// Whether connections are to be served though no event shows them.
+    pub fn are_left(&self) -> bool {
+        self.are_left
+    }
+
+    /// Whether the connection at a place is to be served though no event shows it.
+    pub fn is_waiting(&self, key: usize) -> bool {
+        self.links.get(key).is_some_and(|link| link.is_waiting())
+    }
+
+    /// The key at which the last round of a turn begins, where connections are left for it. Who is left from here on is
+    /// left for the next turn.
+    pub fn begin_last_round(&mut self) -> Option<usize> {
+        if !self.are_left {
+            return None;
+        }
+        self.are_left = false;
+        Some(self.first_left)
+    }
+
+    /// Those that are left at this key and behind it are the first of the next turn's last round.
+    pub fn leave_from(&mut self, key: usize) {
+        self.first_left = key;
+        self.are_left = true;
+    }
+
+    /// Whether the connection at a place is to be given up at this moment, in milliseconds, since its socket takes
+    /// nothing of what waits for it.
+    pub fn is_stuck(&self, key: usize, moment: u64) -> bool {
+        self.links
+            .get(key)
+            .is_some_and(|link| link.is_stuck(moment))
+    }
+
+    /// Closes the connection at a place, if there is one, and gives its number.
+    pub fn close(&mut self, key: usize) -> Option<u64> {
+        let link = self.links.get_mut(key)?;
+        let id = link.close(&mut self.long_outbox)?;
+        self.taken = self.taken.saturating_sub(1);
+        Some(id)
+    }
+
+    /// What is done with a newcomer at this moment, in milliseconds, as the connections stand now.
+    pub fn admit(&mut self, newcomer: &Origin, moment: u64) -> Admission {
+        for key in 0..self.links.len() {
+            if let (Some(holder), Some(link)) = (self.holders.get_mut(key), self.links.get(key)) {
+                *holder = link.holder();
+            }
+        }
+        admit(self.holders.as_slice(), newcomer, moment)
+    }
+
+    /// Gives a connection a place, under whose key its events are shown, at this moment, in milliseconds. Returns whether
+    /// it has it.
+    pub fn give(
+        &mut self,
+        registry: &Registry,
+        key: usize,
+        id: u64,
+        mut stream: Stream,
+        origin: Origin,
+        moment: u64,
+    ) -> bool {
+        let is_ready = stream.send_at_once().is_ok()
+            && stream.register(registry, Token(key)).is_ok();
+        match self.links.get_mut(key) {
+            Some(link) if is_ready => link.open(id, stream, origin, moment),
+            Some(_) | None => return false,
+        }
+        self.taken = self.taken.saturating_add(1);
+        true
+    }
+}
