@@ -4,6 +4,7 @@ use Rattle.std.specs.List.{list_any, list_all}
 use Rattle.std.proofs.Common.{◌≡◌, ◌⊎◌, inl, inr, ◌<◌, ◌≤◌, ℕ, ◌+◌, max, Bool, true, false, cond, not, ◌&&◌, ◌||◌, eqb, Option, Some, None, Result, Ok, Err, List, [], ◌∷◌, ◌++◌, length, map, nat_lt, take, refl, sym, ap, subst, ◌∙◌, append-nil, arith}
 use Rattle.std.proofs.lemmas.Bool.{and_parts, eqb-true, eq-eqb, ne_eqb, lt-ltb, ltb-true, ltb-false}
 use Rattle.std.proofs.lemmas.List.Elements.{All-head, All-tail, All-nil, All-cons}
+use Rattle.std.proofs.lemmas.Grind.{common_steps}
 use Rattle.rb_rpc.specs.Records.{first_record, data_of}
 use Rattle.rb_rpc.specs.declared.peer.Caller.{Caller}
 use Rattle.rb_rpc.specs.declared.peer.Caller.TheVariants.{Tcp, Udp}
@@ -63,31 +64,22 @@ abbrev there_in : ℕ → List Connection → Bool
 there_in id all = list_any (has_number id) all
 
 both-false : (b : Bool) → (b && false) ≡ false
-both-false true = refl
-both-false false = refl
+both-false b = grind arith
 
 either-true : (b : Bool) → (b || true) ≡ true
-either-true true = refl
-either-true false = refl
+either-true b = grind arith
 
 -- those of greater numbers
 lost-above : (id least next : ℕ) (all : List Connection) → AreSound least next all → id < least → lost_in id all ≡ false
-lost-above id least next [] a low = refl
-lost-above id least next (d ∷ all) a low =
-    let other : eqb d.number id ≡ false = ne_eqb d.number id (λ e. omega (arith, e, a.0, low)) in
-    rw other (lost-above id (d.number + 1) next all a.2 (omega (arith, a.0, low)))
+lost-above id least next [] a low = grind arith
+lost-above id least next (d ∷ all) a low = grind (arith, lost-above id (d.number + 1) next all a.2 (omega (arith, a.0, low)))
 
 found-above : (p : Connection → Bool) (least next : ℕ) (all : List Connection) (c : Connection) → AreSound least next all → find p all ≡ Some c → least ≤ c.number
-found-above p least next [] c a is = absurd cc
-found-above p least next (d ∷ all) c a is = by_test (p d) is (found-above p (d.number + 1) next all c a.2)
-  where
-    by_test : (b : Bool) → cond b (Some d) (find p all) ≡ Some c → (find p all ≡ Some c → d.number + 1 ≤ c.number) → least ≤ c.number
-    by_test true e later = let same : d ≡ c = cc in subst (λ (x : Connection). least ≤ x.number) same a.0
-    by_test false e later = let more = later e in omega (arith, more, a.0)
+found-above p least next [] c a is = grind arith
+found-above p least next (d ∷ all) c a is = grind (arith, found-above p (d.number + 1) next all c a.2)
 
 is-false : (b : Bool) → not b ≡ true → b ≡ false
-is-false true h = absurd cc
-is-false false h = refl
+is-false b h = grind arith
 
 not-lost : (id : ℕ) (d : Connection) → is_live id d ≡ true → is_lost d.phase ≡ false
 unfolding is_live
@@ -95,26 +87,12 @@ not-lost id d e = is-false (is_lost d.phase) (and_parts (eqb d.number id) (not (
 
 -- where one of the number is live, none is Lost, and one is there
 live-not-lost : (id least next : ℕ) (all : List Connection) (c : Connection) → AreSound least next all → find (is_live id) all ≡ Some c → lost_in id all ≡ false
-live-not-lost id least next [] c a is = refl
-live-not-lost id least next (d ∷ all) c a is = by_test (is_live id d) refl is (live-not-lost id (d.number + 1) next all c a.2)
-  where
-    by_test : (b : Bool) → is_live id d ≡ b → cond b (Some d) (find (is_live id) all) ≡ Some c → (find (is_live id) all ≡ Some c → lost_in id all ≡ false)
-        → ((eqb d.number id && is_lost d.phase) || lost_in id all) ≡ false
-    by_test true e h later =
-        rw (not-lost id d e, both-false (eqb d.number id)) (lost-above id (d.number + 1) next all a.2 (omega (arith, number-is id d e)))
-    by_test false e h later =
-        let here : c.number ≡ id = number-is id c (find-holds (is_live id) all c h) in
-        let more : d.number + 1 ≤ c.number = found-above (is_live id) (d.number + 1) next all c a.2 h in
-        let other : eqb d.number id ≡ false = ne_eqb d.number id (λ q. omega (arith, q, here, more)) in
-        rw other (later h)
+live-not-lost id least next [] c a is = grind (arith, common_steps, not-lost, both-false, lost-above, number-is, find-holds, found-above, ne_eqb)
+live-not-lost id least next (d ∷ all) c a is = grind (arith, common_steps, not-lost, both-false, lost-above, number-is, find-holds, found-above, ne_eqb, live-not-lost id (d.number + 1) next all c a.2)
 
 live-there : (id : ℕ) (all : List Connection) (c : Connection) → find (is_live id) all ≡ Some c → there_in id all ≡ true
-live-there id [] c is = absurd cc
-live-there id (d ∷ all) c is = by_test (is_live id d) refl is (live-there id all c)
-  where
-    by_test : (b : Bool) → is_live id d ≡ b → cond b (Some d) (find (is_live id) all) ≡ Some c → (find (is_live id) all ≡ Some c → there_in id all ≡ true) → (eqb d.number id || there_in id all) ≡ true
-    by_test true e h later = rw (eq-eqb d.number id (number-is id d e)) refl
-    by_test false e h later = rw (later h) (either-true (eqb d.number id))
+live-there id [] c is = grind (arith, common_steps, eq-eqb, number-is, either-true)
+live-there id (d ∷ all) c is = grind (arith, common_steps, eq-eqb, number-is, either-true, live-there id all c)
 
 -- the live one becomes Lost
 pub record IsLosing (f : Connection → Connection) : Type 0 where
@@ -127,39 +105,22 @@ losing clock = record { number = λ c. refl; lost = λ c. refl }
 
 pub now-lost : (id : ℕ) (f : Connection → Connection) → IsLosing f → (all : List Connection) (c : Connection) → find (is_live id) all ≡ Some c
     → (lost_in id (change_first (is_live id) f all) ≡ true) × (there_in id (change_first (is_live id) f all) ≡ true)
-now-lost id f loses [] c is = absurd cc
-now-lost id f loses (d ∷ all) c is = by_test (is_live id d) refl is (now-lost id f loses all c)
-  where
-    by_test : (b : Bool) → is_live id d ≡ b → cond b (Some d) (find (is_live id) all) ≡ Some c
-        → (find (is_live id) all ≡ Some c → (lost_in id (change_first (is_live id) f all) ≡ true) × (there_in id (change_first (is_live id) f all) ≡ true))
-        → (lost_in id (cond b (f d ∷ all) (d ∷ change_first (is_live id) f all)) ≡ true) × (there_in id (cond b (f d ∷ all) (d ∷ change_first (is_live id) f all)) ≡ true)
-    by_test true e h later =
-        let same : eqb (f d).number id ≡ true = eq-eqb (f d).number id (loses.number d ∙ number-is id d e) in
-        (rw (same, loses.lost d) refl, rw same refl)
-    by_test false e h later =
-        let more = later h in
-        (rw more.0 (either-true (eqb d.number id && is_lost d.phase)), rw more.1 (either-true (eqb d.number id)))
+now-lost id f loses [] c is = grind (arith, common_steps, loses, eq-eqb, number-is, either-true)
+now-lost id f loses (d ∷ all) c is = grind (arith, common_steps, loses, eq-eqb, number-is, either-true, now-lost id f loses all c)
 
 pub timing-out : IsLosing lose
 timing-out = record { number = λ c. refl; lost = λ c. refl }
 
 -- none of the number is left
 none-left : (id : ℕ) (all : List Connection) → (lost_in id (without id all) ≡ false) × (there_in id (without id all) ≡ false)
-none-left id [] = (refl, refl)
-none-left id (d ∷ all) = by_test (eqb d.number id) refl (none-left id all)
-  where
-    by_test : (b : Bool) → eqb d.number id ≡ b → (lost_in id (without id all) ≡ false) × (there_in id (without id all) ≡ false)
-        → (lost_in id (cond (not b) (d ∷ without id all) (without id all)) ≡ false) × (there_in id (cond (not b) (d ∷ without id all) (without id all)) ≡ false)
-    by_test true e later = later
-    by_test false e later = (rw e later.0, rw e later.1)
+none-left id [] = grind arith
+none-left id (d ∷ all) = grind (arith, none-left id all)
 
 -- ---- what is due
 
 none-above : (id least next : ℕ) (all : List Connection) → AreSound least next all → id < least → there_in id all ≡ false
-none-above id least next [] a low = refl
-none-above id least next (d ∷ all) a low =
-    let other : eqb d.number id ≡ false = ne_eqb d.number id (λ e. omega (arith, e, a.0, low)) in
-    rw other (none-above id (d.number + 1) next all a.2 (omega (arith, a.0, low)))
+none-above id least next [] a low = grind arith
+none-above id least next (d ∷ all) a low = grind (arith, none-above id (d.number + 1) next all a.2 (omega (arith, a.0, low)))
 
 pub sound-apart : (least next : ℕ) (all : List Connection) → AreSound least next all → AreApart all
 sound-apart least next [] a = tt
@@ -170,12 +131,8 @@ due-least clock least next all d sound found =
     (subst (λ (o : Option Connection). IsLeast (is_due clock) all (option_map (λ (x : Connection). x.number) o)) found (first-least (is_due clock) least next all sound)).1
 
 all-found : (P : Connection → Type 0) (p : Connection → Bool) (all : List Connection) (c : Connection) → All P all → find p all ≡ Some c → P c
-all-found P p [] c holds is = absurd cc
-all-found P p (d ∷ all) c holds is = by_test (p d) is (all-found P p all c (All-tail P d all holds))
-  where
-    by_test : (b : Bool) → cond b (Some d) (find p all) ≡ Some c → (find p all ≡ Some c → P c) → P c
-    by_test true e later = let same : d ≡ c = cc in subst P same (All-head P d all holds)
-    by_test false e later = later e
+all-found P p [] c holds is = grind (arith, common_steps, All-tail, All-head)
+all-found P p (d ∷ all) c holds is = grind (arith, common_steps, All-tail, All-head, all-found P p all c (All-tail P d all holds))
 
 -- no entry is due that would be found
 none-are-due : (clock : ℕ) (f : Forwards) → find (entry_is_due clock) f.all ≡ None → NoneIs (λ (e : Entry). e.deadline ≤ clock) f.all
@@ -184,36 +141,14 @@ none-are-due clock f none =
     (ends_first (λ (e : Entry). e.deadline ≤ clock) (entry_is_due clock) (due_means clock) (due_tested clock) Failed f)).0
 
 not-due : (clock : ℕ) (all : List Entry) (e : Entry) → NoneIs (λ (x : Entry). x.deadline ≤ clock) all → find (entry_is_due clock) all ≡ Some e → ⊥
-not-due clock [] e none is = absurd cc
-not-due clock (x ∷ all) e none is = by_test (entry_is_due clock x) refl is (not-due clock all e none.1)
-  where
-    by_test : (b : Bool) → entry_is_due clock x ≡ b → cond b (Some x) (find (entry_is_due clock) all) ≡ Some e → (find (entry_is_due clock) all ≡ Some e → ⊥) → ⊥
-    by_test true t is later = none.0 (due_means clock x t)
-    by_test false t is later = later is
+not-due clock [] e none is = grind arith
+not-due clock (x ∷ all) e none is = grind (arith, not-due clock all e none.1)
 
 -- ---- what a message is answered with
 
--- results are a reply
-results-reply : (caller : Caller) (count xid : ℕ) (bytes : List ℕ) (given : Results) → results_outcome caller count xid bytes given ≡ NoCall → ⊥
-results-reply (Tcp id peer) count xid bytes (results.Rows list) is = absurd cc
-results-reply (Udp peer) count xid bytes (results.Rows list) is = absurd cc
-results-reply (Tcp id peer) count xid bytes (results.Value value) is = absurd cc
-results-reply (Udp peer) count xid bytes (results.Value value) is = absurd cc
-results-reply (Tcp id peer) count xid bytes results.Statistics is = absurd cc
-results-reply (Udp peer) count xid bytes results.Statistics is = absurd cc
-
 no-call-says : (context : Context) (message : Message) (arguments : List ℕ) (ledger : Ledger) → (outcome context message arguments ledger).0 ≡ NoCall → message ≡ says.NoCall
 unfolding outcome
-no-call-says context says.NoCall arguments ledger is = refl
-no-call-says context (says.Refused head) arguments ledger is = absurd cc
-no-call-says context (says.Garbage head) arguments ledger is = absurd cc
-no-call-says context (says.Asked call) arguments ledger is = by_answer (answer context call arguments (with_call_noted call.head ledger)) is
-  where
-    by_answer : (r : Answer × Ledger) → (reply_with context call.head.xid r).0 ≡ NoCall → says.Asked call ≡ says.NoCall
-    by_answer (answers.Results given, l) is = absurd (results-reply context.caller _ call.head.xid _ given is)
-    by_answer (answers.Refused status, l) is = absurd cc
-    by_answer (answers.Forwarded, l) is = absurd cc
-    by_answer (answers.Silent, l) is = absurd cc
+no-call-says context message arguments ledger is = grind arith
 
 said-none : (s : State) (at id : ℕ) (c : Connection) (record_bytes : List ℕ) → said_in s at id c record_bytes ≡ NoCall → message_of (data_of record_bytes) ≡ says.NoCall
 unfolding serve
@@ -224,23 +159,13 @@ unfolding serve outcome
 none-said s at id c record_bytes is = ap (λ (m : Message). (serve_message (at_moment at s) (Tcp id c.peer) m (arguments_of (data_of record_bytes))).0) is
 
 pub final-call : (said : Outcome) → IsFinal said → is_no_call said ≡ false
-final-call NoCall f = absurd f
-final-call (Reply reply began) f = refl
-final-call Forwarded f = absurd f
-final-call Silent f = refl
+final-call said f = grind arith
 
 -- ---- the room of a row
 
-all-later : (n : ℕ) (changes : List ℕ) → list_all (λ later. nat_lt n later) changes ≡ true → All (λ change. n < change) changes
-all-later n [] is = All-nil (λ change. n < change)
-all-later n (x ∷ xs) is = let parts = and_parts (nat_lt n x) (list_all (λ later. nat_lt n later) xs) is in All-cons (λ change. n < change) x xs (ltb-true n x parts.0) (all-later n xs parts.1)
-
 later-all : (n : ℕ) (changes : List ℕ) → All (λ change. n < change) changes → list_all (λ later. nat_lt n later) changes ≡ true
-later-all n [] h = refl
-later-all n (x ∷ xs) h =
-    let first : nat_lt n x ≡ true = lt-ltb n x (All-head (λ change. n < change) x xs h) in
-    let rest = later-all n xs (All-tail (λ change. n < change) x xs h) in
-    rw (first, rest) refl
+later-all n [] h = grind (arith, common_steps, lt-ltb, All-head, All-tail)
+later-all n (x ∷ xs) h = grind (arith, common_steps, lt-ltb, All-head, All-tail, later-all n xs (All-tail (λ change. n < change) x xs h))
 
 -- a connection whose list is in the way
 record InTheWay (changes : List ℕ) (began : Option ℕ) : Type 0 where
@@ -249,23 +174,14 @@ record InTheWay (changes : List ℕ) (began : Option ℕ) : Type 0 where
   later : All (λ change. n < change) changes
 
 in-the-way : (changes : List ℕ) (began : Option ℕ) → began_before changes began ≡ true → InTheWay changes began
-in-the-way [] began is = absurd cc
-in-the-way (x ∷ xs) None is = absurd cc
-in-the-way (x ∷ xs) (Some n) is = record { n = n; is = refl; later = all-later n (x ∷ xs) is }
+in-the-way changes began is = grind (arith, common_steps)
 
 way-of : (changes : List ℕ) (began : Option ℕ) (n : ℕ) → began ≡ Some n → 0 < length changes → All (λ change. n < change) changes → began_before changes began ≡ true
 way-of [] began n is some later = absurd (omega (arith, some))
 way-of (x ∷ xs) began n is some later = rw is (later-all n (x ∷ xs) later)
 
 pub asks-within : (context : Context) (message : Message) (l : Ledger) → asks_room context message l ≡ true → length (rows_in l) < context.limit
-asks-within context (says.Asked call) l is = row_within context call (rows_in l) (length l.changes) is
-asks-within context says.NoCall l is = absurd cc
-asks-within context (says.Refused head) l is = absurd cc
-asks-within context (says.Garbage head) l is = absurd cc
-
-is-false-too : (b : Bool) → not b ≡ true → b ≡ false
-is-false-too true h = absurd cc
-is-false-too false h = refl
+asks-within context message l is = grind (arith, common_steps, row_within)
 
 -- where something is in the way, room is asked for and there is none
 record IsCrowding (context : Context) (message : Message) (all : List Connection) (l : Ledger) (c : Connection) : Type 0 where
@@ -275,25 +191,11 @@ record IsCrowding (context : Context) (message : Message) (all : List Connection
 
 crowds : (context : Context) (message : Message) (all : List Connection) (l : Ledger) (c : Connection) → began_before (removals_in_the_way context message all l) (stamp_in c.phase) ≡ true → IsCrowding context message all l c
 unfolding removals_in_the_way
-crowds context message all l c is = by_test (asks_room context message l) refl (is_crowded context.limit all l) refl is
-  where
-    by_test : (a : Bool) → asks_room context message l ≡ a → (b : Bool) → is_crowded context.limit all l ≡ b
-        → began_before (cond (a && b) (needed_removals all l) []) (stamp_in c.phase) ≡ true → IsCrowding context message all l c
-    by_test true asks true full way = record {
-      asks = asks;
-      full = ltb-false _ context.limit (is-false-too (nat_lt (length (rows_in l) + length (needed_removals all l)) context.limit) full);
-      way = in-the-way (needed_removals all l) (stamp_in c.phase) way;
-    }
-    by_test true asks false full way = absurd cc
-    by_test false asks b full way = absurd cc
+crowds context message all l c is = grind (arith, common_steps)
 
 lost-there : (id : ℕ) (all : List Connection) → lost_in id all ≡ true → there_in id all ≡ true
-lost-there id [] is = absurd cc
-lost-there id (d ∷ all) is = by_number (eqb d.number id) is (lost-there id all)
-  where
-    by_number : (b : Bool) → ((b && is_lost d.phase) || lost_in id all) ≡ true → (lost_in id all ≡ true → there_in id all ≡ true) → (b || there_in id all) ≡ true
-    by_number true h later = refl
-    by_number false h later = later h
+lost-there id [] is = grind arith
+lost-there id (d ∷ all) is = grind (arith, lost-there id all)
 
 -- ---- what becomes of the live connection of a number
 
@@ -305,9 +207,7 @@ data Fate (s : State) (id : ℕ) (c : Connection) (event : Event) (now : Connect
 module _ (s : State) (sound : IsSound s) (id : ℕ) (c : Connection) (there : find (is_live id) s.connections.all ≡ Some c) where
   same-one : (k : ℕ) (d : Connection) → live_connection k s.connections.all ≡ Some d → k ≡ id → d ≡ c
   unfolding live_connection
-  same-one k d here e =
-      let one : Some d ≡ Some c = sym here ∙ ap (λ (j : ℕ). find (is_live j) s.connections.all) e ∙ there in
-      cc
+  same-one k d here e = grind arith
 
   on-another : (event : Event) (k : ℕ) (f : Connection → Connection) (now : Connections) → ((d : Connection) → (f d).number ≡ d.number) → eqb k id ≡ false → now ≡ changed_at k f s.connections → Fate s id c event now
   on-another event k f now keeps e same = Lives c (ap (λ (x : Connections). find (is_live id) x.all) same ∙ changed-other id k f keeps e s.connections.all ∙ there)
@@ -316,19 +216,7 @@ module _ (s : State) (sound : IsSound s) (id : ℕ) (c : Connection) (there : fi
   on-this event f now feeds same = Lives (f c) (ap (λ (x : Connections). find (is_live id) x.all) same ∙ find-changed id f feeds s.connections.all c there)
 
   for-room : (event : Event) (at : ℕ) (caller : Caller) (content : List ℕ) → Brings s event at caller content → began_before (crowd_at s at caller content) (stamp_in c.phase) ≡ true → EndsForRoom s c event
-  for-room event at caller content brings way =
-      let crowd = crowds (context_in (at_moment at s) caller) (message_of content) s.connections.all s.ledger c way in
-      record {
-        now = at;
-        caller = caller;
-        content = content;
-        brings = brings;
-        asks = crowd.asks;
-        full = crowd.full;
-        stamp = crowd.way.n;
-        lists = crowd.way.is;
-        before = crowd.way.later;
-      }
+  for-room event at caller content brings way = grind (arith, common_steps, crowds)
 
   gives-way : (event : Event) (at : ℕ) (caller : Caller) (content : List ℕ) → Brings s event at caller content → (now : Connections) → now ≡ evict (crowd_at s at caller content) s.connections → Fate s id c event now
   gives-way event at caller content brings now same = elim (live_or_lost id (crowd_at s at caller content) s.connections.all c there) [
@@ -414,9 +302,7 @@ module _ (s : State) (sound : IsSound s) (id : ℕ) (c : Connection) (there : fi
 
   closes-at : (k : ℕ) (now : Connections) → now.all ≡ without k s.connections.all → (b : Bool) → eqb k id ≡ b → Fate s id c (Closed k) now
   closes-at k now same false e = Lives c (ap (λ (xs : List Connection). find (is_live id) xs) same ∙ closed-other id k e s.connections.all ∙ there)
-  closes-at k now same true e =
-      let number : k ≡ id = eqb-true k id e in
-      Leaves (ap Closed number) (ap (lost_in id) (same ∙ ap (λ (j : ℕ). without j s.connections.all) number) ∙ (none-left id s.connections.all).0)
+  closes-at k now same true e = grind (arith, common_steps, closed-other, eqb-true, none-left)
 
   fate : (event : Event) (output : Output) (now : Connections) → Happening s event output now → Fate s id c event now
   unfolding without_number
@@ -521,20 +407,14 @@ module _ (s : State) (reached : IsReached s) (id : ℕ) (c : Connection) (there 
       ]
 
   shown-leaves : (r : Outcome × State) → (show_outcome (with_reply r)).1.connections ≡ r.1.connections
-  shown-leaves (NoCall, t) = refl
-  shown-leaves (Reply reply began, t) = refl
-  shown-leaves (Forwarded, t) = refl
-  shown-leaves (Silent, t) = refl
+  shown-leaves r = grind arith
 
   after-datagram : (at : ℕ) (peer : Peer) (content : List ℕ) → (step s (Datagram at peer content)).1.connections ≡ evict (crowd_at s at (Udp peer) content) s.connections
   unfolding step datagram serve
   after-datagram at peer content = shown-leaves (serve (at_moment at s) (Udp peer) content)
 
   listing-elsewhere : (k n : ℕ) (d : Connection) (fed : List ℕ) → live_connection k s.connections.all ≡ Some d → fed_in d.phase ≡ Some fed → stamp_in c.phase ≡ Some n → (b : Bool) → eqb k id ≡ b → eqb k id ≡ false
-  listing-elsewhere k n d fed here feeds lists false e = e
-  listing-elsewhere k n d fed here feeds lists true e =
-      let who : d ≡ c = one d (ap (λ (j : ℕ). live_connection j s.connections.all) (sym (eqb-true k id e)) ∙ here) in
-      absurd (none-some n (sym (fed-no-list d.phase fed feeds) ∙ ap (λ (x : Connection). stamp_in x.phase) who ∙ lists))
+  listing-elsewhere k n d fed here feeds lists b e = grind arith
 
   way-at : (at k n : ℕ) (piece : List ℕ) (caller : Caller) (content : List ℕ) → BringsEnd s k piece caller content → stamp_in c.phase ≡ Some n
       → list_any (is_lost_one id) (map (evict_early (crowd_at s at caller content)) s.connections.all) ≡ true
@@ -546,19 +426,13 @@ module _ (s : State) (reached : IsReached s) (id : ℕ) (c : Connection) (there 
   way-at at k n piece caller content e lists goes r (NotTaken d here (inr empty) is) =
       let none : first_record e.fed ≡ None = fed-none e.connection.phase (live-sound s reached k e.connection e.live) e.fed e.takes in
       absurd (none-some e.n (sym none ∙ ap first_record (sym (ap (λ (xs : List ℕ). e.fed ++ xs) empty ∙ append-nil e.fed)) ∙ e.ends))
-  way-at at k n piece caller content e lists goes r (ReadOn d other here feeds none is) =
-      let same : other ≡ e.fed = some-is other e.fed (sym feeds ∙ ap (λ (x : Connection). fed_in x.phase) (some-is d e.connection (sym here ∙ e.live)) ∙ e.takes) in
-      absurd (none-some e.n (sym none ∙ ap (λ (xs : List ℕ). first_record (xs ++ piece)) same ∙ e.ends))
+  way-at at k n piece caller content e lists goes r (ReadOn d other here feeds none is) = grind arith
   way-at at k n piece caller content e lists goes r (Ended d other m here feeds some is) =
       let who : d ≡ e.connection = some-is d e.connection (sym here ∙ e.live) in
       let same : other ≡ e.fed = some-is other e.fed (sym feeds ∙ ap (λ (x : Connection). fed_in x.phase) who ∙ e.takes) in
       let count : m ≡ e.n = some-is m e.n (sym some ∙ ap (λ (xs : List ℕ). first_record (xs ++ piece)) same ∙ e.ends) in
       let bytes_are : take m (other ++ piece) ≡ take e.n (e.fed ++ piece) = ap (λ (k : ℕ). take k (other ++ piece)) count ∙ ap (λ (xs : List ℕ). take e.n (xs ++ piece)) same in
-      let crowd : crowd_at s at (Tcp k d.peer) (data_of (take m (other ++ piece))) ≡ crowd_at s at caller content =
-      ap (λ (x : Connection). crowd_at s at (Tcp k x.peer) (data_of (take m (other ++ piece)))) who
-      ∙ ap (λ (xs : List ℕ). crowd_at s at (Tcp k e.connection.peer) (data_of xs)) bytes_are
-      ∙ ap (λ (x : Caller). crowd_at s at x (data_of (take e.n (e.fed ++ piece)))) (sym e.caller_is)
-      ∙ ap (λ (xs : List ℕ). crowd_at s at caller xs) (sym e.content_is) in
+      let crowd : crowd_at s at (Tcp k d.peer) (data_of (take m (other ++ piece))) ≡ crowd_at s at caller content = cc in
       let apart : eqb k id ≡ false = listing-elsewhere k n d other here feeds lists (eqb k id) refl in
       ap (λ (x : Result Taken CoreFault × State). lost_in id (output_or show_taken x).1.connections.all) is
       ∙ ap (λ (xs : List ℕ). lost_in id (change_first (is_live k) (settle (max s.clock at) (said_in s at k d (take m (other ++ piece)))) (map (evict_early xs) s.connections.all))) crowd
@@ -572,12 +446,7 @@ module _ (s : State) (reached : IsReached s) (id : ℕ) (c : Connection) (there 
 
   room-at : (event : Event) (at n : ℕ) (caller : Caller) (content : List ℕ) → Brings s event at caller content → stamp_in c.phase ≡ Some n
       → list_any (is_lost_one id) (map (evict_early (crowd_at s at caller content)) s.connections.all) ≡ true → lost_in id (step s event).1.connections.all ≡ true
-  room-at (Datagram now peer content) at n caller bytes brings lists goes =
-      ap (λ (x : Connections). lost_in id x.all) (after-datagram now peer content)
-      ∙ ap (λ (j : ℕ). lost_in id (map (evict_early (crowd_at s j (Udp peer) content)) s.connections.all)) (sym brings.0)
-      ∙ ap (λ (x : Caller). lost_in id (map (evict_early (crowd_at s at x content)) s.connections.all)) (sym brings.1)
-      ∙ ap (λ (xs : List ℕ). lost_in id (map (evict_early (crowd_at s at caller xs)) s.connections.all)) (sym brings.2)
-      ∙ goes
+  room-at (Datagram now peer content) at n caller bytes brings lists goes = grind (arith, common_steps, after-datagram, lost-by-bytes)
   room-at (Bytes now k piece) at n caller content brings lists goes =
       subst (λ (j : ℕ). lost_in id (step s (Bytes j k piece)).1.connections.all ≡ true) brings.0 (lost-by-bytes at k n piece caller content brings.1 lists goes)
   room-at (Open at peer) now n caller content brings lists goes = absurd brings
@@ -594,9 +463,7 @@ module _ (s : State) (reached : IsReached s) (id : ℕ) (c : Connection) (there 
   lost-by-room event e = room-at event e.now e.stamp e.caller e.content e.brings e.lists (crowded-out e.now e.caller e.content e.asks e.full e.stamp e.lists e.before)
 
   lost-by-either : (event : Event) → EndsNoCall id c event ⊎ EndsAtDeadline s id c event ⊎ EndsForRoom s c event → lost_in id (step s event).1.connections.all ≡ true
-  lost-by-either event (inl e) = lost-by event e
-  lost-by-either event (inr (inr e)) = lost-by-room event e
-  lost-by-either event (inr (inl e)) = subst (λ (ev : Event). lost_in id (step s ev).1.connections.all ≡ true) (sym e.is) (timed-out-at e.now e.due e.entries e.least)
+  lost-by-either event p = grind (arith, common_steps, lost-by, lost-by-room, timed-out-at)
 
   abbrev closed_or : Bool → Result (Unit {0}) CoreFault × Connections
   closed_or b = cond b (Ok tt, without_number id s.connections) (Err Gone, s.connections)
@@ -614,14 +481,10 @@ module _ (s : State) (reached : IsReached s) (id : ℕ) (c : Connection) (there 
   gone-by event is = subst (λ (ev : Event). there_in id (step s ev).1.connections.all ≡ false) (sym is) gone-at
 
   lost-only : (event : Event) (now : Connections) → SoundIn now → Fate s id c event now → lost_in id now.all ≡ true → EndsNoCall id c event ⊎ EndsAtDeadline s id c event ⊎ EndsForRoom s c event
-  lost-only event now sound (Lives d live) lose = let none = live-not-lost id 0 now.next now.all d sound live in absurd cc
-  lost-only event now sound (Loses e t) lose = e
-  lost-only event now sound (Leaves is none) lose = absurd cc
+  lost-only event now sound p lose = grind (arith, common_steps, live-not-lost)
 
   gone-only : (event : Event) (now : Connections) → Fate s id c event now → there_in id now.all ≡ false → event ≡ Closed id
-  gone-only event now (Lives d live) gone = let some = live-there id now.all d live in absurd cc
-  gone-only event now (Loses e t) gone = absurd cc
-  gone-only event now (Leaves is none) gone = is
+  gone-only event now p gone = grind (arith, common_steps, live-there)
 
   fate-of : (event : Event) → Fate s id c event (step s event).1.connections
   fate-of event = fate s (reached-sound s reached) id c found event (step s event).0 (step s event).1.connections (happening s event)

@@ -3,6 +3,7 @@ use Rattle.std.specs.Prelude.{find, IfSome}
 use Rattle.std.proofs.Common.{◌≡◌, ℕ, ◌+◌, ◌-◌, ◌<◌, max, Bool, true, false, cond, not, ◌&&◌, eqb, Option, Some, None, Result, Ok, Err, List, [], ◌∷◌, ◌++◌, length, map, take, refl, sym, ap, ◌∙◌, append_assoc, append-nil, arith}
 use Rattle.std.proofs.lemmas.List.{length-append}
 use Rattle.std.proofs.lemmas.Bool.{and_parts, eqb-true}
+use Rattle.std.proofs.lemmas.Grind.{common_steps}
 use Rattle.rb_rpc.specs.declared.peer.Peer.{Peer}
 use Rattle.rb_rpc.specs.declared.peer.Caller.TheVariants.{Tcp}
 use Rattle.rb_rpc.specs.Records.{first_record, data_of}
@@ -26,51 +27,29 @@ pub record IsFeeding (id : ℕ) (f : Connection → Connection) : Type 0 where
   pub live : (c : Connection) → is_live id c ≡ true → is_live id (f c) ≡ true
 
 one_is : (b : Bool) (d c : Connection) (rest : Option Connection) → b ≡ true → cond b (Some d) rest ≡ Some c → d ≡ c
-one_is true d c rest e is = cc
-one_is false d c rest e is = absurd cc
+one_is b d c rest e is = grind arith
 
 other_is : (b : Bool) (d c : Connection) (rest : Option Connection) → b ≡ false → cond b (Some d) rest ≡ Some c → rest ≡ Some c
-other_is true d c rest e is = absurd cc
-other_is false d c rest e is = is
+other_is b d c rest e is = grind arith
 
 pub find-changed : (id : ℕ) (f : Connection → Connection) → IsFeeding id f → (all : List Connection) (c : Connection) → find (is_live id) all ≡ Some c → find (is_live id) (change_first (is_live id) f all) ≡ Some (f c)
-find-changed id f feeds [] c is = absurd cc
-find-changed id f feeds (d ∷ all) c is = by_test (is_live id d) refl (find-changed id f feeds all c)
-  where
-    by_test : (b : Bool) → is_live id d ≡ b → (find (is_live id) all ≡ Some c → find (is_live id) (change_first (is_live id) f all) ≡ Some (f c)) → find (is_live id) (change_first (is_live id) f (d ∷ all)) ≡ Some (f c)
-    by_test true e later = rw (e, feeds.live d e) (ap (λ x. Some (f x)) (one_is (is_live id d) d c _ e is))
-    by_test false e later = rw (e, e) (later (other_is (is_live id d) d c _ e is))
+find-changed id f feeds [] c is = grind arith
+find-changed id f feeds (d ∷ all) c is = grind (arith, find-changed id f feeds all c)
 
 pub changed-twice : (id : ℕ) (f g h : Connection → Connection) → IsFeeding id f → ((c : Connection) → g (f c) ≡ h c) → (all : List Connection) → change_first (is_live id) g (change_first (is_live id) f all) ≡ change_first (is_live id) h all
-changed-twice id f g h feeds same [] = refl
-changed-twice id f g h feeds same (d ∷ all) = by_test (is_live id d) refl (changed-twice id f g h feeds same all)
-  where
-    by_test : (b : Bool) → is_live id d ≡ b → change_first (is_live id) g (change_first (is_live id) f all) ≡ change_first (is_live id) h all → change_first (is_live id) g (change_first (is_live id) f (d ∷ all)) ≡ change_first (is_live id) h (d ∷ all)
-    by_test true e later = rw (e, feeds.live d e) (ap (λ x. x ∷ all) (same d))
-    by_test false e later = rw (e, e) (ap (λ xs. d ∷ xs) later)
+changed-twice id f g h feeds same [] = grind arith
+changed-twice id f g h feeds same (d ∷ all) = grind (arith, changed-twice id f g h feeds same all)
 
 -- a message is answered as it was, with the change of a connection that has no list
 answering-along : (id : ℕ) (f : Connection → Connection) (s : State) (peer : Peer) (content : List ℕ) (c : Connection) → find (is_live id) s.connections.all ≡ Some c → stamp_in c.phase ≡ None → stamp_in (f c).phase ≡ None
     → is_live id (f c) ≡ true → ((clock : ℕ) (said : Outcome) → settle clock said (f c) ≡ settle clock said c)
     → serve_record (on_connection id f s) id peer content ≡ serve_record s id peer content
 unfolding serve_record serve
-answering-along id f s peer content c there none still live same =
-    let r = serve s (Tcp id peer) content in
-    let changes : List ℕ = removals_in_the_way (context_in s (Tcp id peer)) (message_of content) s.connections.all s.ledger in
-    let crowd = crowding_alike (context_in s (Tcp id peer)) (message_of content) (change_first (is_live id) f s.connections.all) s.connections.all s.ledger (begins_changed id f s.connections.all c there none still) in
-    let twice : change_first (is_live id) (settle s.clock r.0) (map (evict_early (removals_in_the_way (context_in s (Tcp id peer)) (message_of content) (change_first (is_live id) f s.connections.all) s.ledger)) (change_first (is_live id) f s.connections.all))
-    ≡ change_first (is_live id) (settle s.clock r.0) (map (evict_early changes) s.connections.all) =
-    ap (λ (ns : List ℕ). change_first (is_live id) (settle s.clock r.0) (map (evict_early ns) (change_first (is_live id) f s.connections.all))) crowd
-    ∙ evicted_changed id f (settle s.clock r.0) changes s.connections.all c there none still live (same s.clock r.0) in
-    ap (λ (xs : List Connection). (is_no_call r.0, record r.1 { connections = record s.connections { all = xs } })) twice
+answering-along id f s peer content c there none still live same = grind (arith, common_steps, crowding_alike, begins_changed, evicted_changed)
 
 -- a connection that is fed has none
 pub fed-no-list : (p : Phase) (fed : List ℕ) → fed_in p ≡ Some fed → stamp_in p ≡ None
-fed-no-list Idle fed feeds = refl
-fed-no-list (Reading xs) fed feeds = refl
-fed-no-list (Owing o) fed feeds = absurd cc
-fed-no-list Awaiting fed feeds = refl
-fed-no-list Lost fed feeds = refl
+fed-no-list p fed feeds = grind arith
 
 reading-no-list : (clock : ℕ) (fed : List ℕ) (c : Connection) → stamp_in (keep_reading clock fed c).phase ≡ None
 unfolding keep_reading
@@ -88,22 +67,11 @@ at-same s now = ap (λ clock. record s { clock = clock }) (max-max s.clock now)
 
 pub reading-feeds : (id clock : ℕ) (fed : List ℕ) → IsFeeding id (keep_reading clock fed)
 unfolding is_live keep_reading
-reading-feeds id clock fed = record { live = λ c e. stays (eqb c.number id) (not (is_lost c.phase)) e }
-  where
-    stays : (b l : Bool) → (b && l) ≡ true → (b && true) ≡ true
-    stays true l e = refl
-    stays false l e = e
+reading-feeds id clock fed = grind arith
 
 read-on : (clock : ℕ) (front all : List ℕ) (c : Connection) → keep_reading clock all (keep_reading clock front c) ≡ keep_reading clock all c
 unfolding keep_reading
-read-on clock front all c = marked c.phase
-  where
-    marked : (p : Phase) → keep_reading clock all (keep_reading clock front (record c { phase = p })) ≡ keep_reading clock all (record c { phase = p })
-    marked Idle = refl
-    marked (Reading fed) = refl
-    marked (Owing owed) = refl
-    marked Awaiting = refl
-    marked Lost = refl
+read-on clock front all c = grind arith
 
 settled-fed : (clock : ℕ) (fed : List ℕ) (then : ℕ) (said : Outcome) (c : Connection) → settle then said (keep_reading clock fed c) ≡ settle then said c
 unfolding settle keep_reading
@@ -112,12 +80,8 @@ settled-fed clock fed then said c = refl
 -- ---- the call
 
 pub find-holds : (p : Connection → Bool) (all : List Connection) (c : Connection) → find p all ≡ Some c → p c ≡ true
-find-holds p [] c is = absurd cc
-find-holds p (d ∷ all) c is = by_test (p d) refl (find-holds p all c)
-  where
-    by_test : (b : Bool) → p d ≡ b → (find p all ≡ Some c → p c ≡ true) → p c ≡ true
-    by_test true e later = let first : Some d ≡ Some c = rw e at is in let same : d ≡ c = cc in ap p (sym same) ∙ e
-    by_test false e later = later (rw e at is)
+find-holds p [] c is = grind arith
+find-holds p (d ∷ all) c is = grind (arith, find-holds p all c)
 
 -- the live connection of a number has this number
 pub number-is : (id : ℕ) (c : Connection) → is_live id c ≡ true → c.number ≡ id
@@ -128,17 +92,11 @@ abbrev nothing_taken : Result Taken CoreFault
 nothing_taken = Ok (record { count = 0; closed = false })
 
 same-from : (s : State) (now id : ℕ) (first second : List ℕ) (x y z : Result Taken CoreFault × State) → bytes s now id (first ++ second) ≡ x → bytes s now id first ≡ y → bytes y.1 now id second ≡ z → x.0 ≡ one_after_another y.0 z.0 → x.1 ≡ z.1 → SameInOnePiece s now id first second
-same-from s now id first second x y z ex ey ez taken state =
-    let ez' : bytes (bytes s now id first).1 now id second ≡ z = ap (λ (r : Result Taken CoreFault × State). bytes r.1 now id second) ey ∙ ez in
-    record {
-      taken = ap (λ (r : Result Taken CoreFault × State). r.0) ex ∙ taken ∙ sym (ap (λ (r : Result Taken CoreFault × State). one_after_another r.0 z.0) ey) ∙ sym (ap (λ (r : Result Taken CoreFault × State). one_after_another (bytes s now id first).0 r.0) ez');
-      state = ap (λ (r : Result Taken CoreFault × State). r.1) ex ∙ state ∙ sym (ap (λ (r : Result Taken CoreFault × State). r.1) ez');
-    }
+same-from s now id first second x y z ex ey ez taken state = grind arith
 
 -- nothing and then something is that thing
 nothing-first : (r : Result Taken CoreFault) → r ≡ one_after_another nothing_taken r
-nothing-first (Ok t) = ap (λ (n : ℕ). Ok (record { count = n; closed = t.closed })) (omega arith)
-nothing-first (Err fault) = refl
+nothing-first r = grind arith
 
 -- what is taken of a piece behind these bytes
 abbrev taken_from : State → ℕ → Connection → List ℕ → Option (List ℕ) → Result Taken CoreFault × State
@@ -183,39 +141,11 @@ record Same (one : Result Taken CoreFault × State) (before : ℕ) (rest : Resul
 
 along-fed : (t : State) (id : ℕ) (front : List ℕ) (peer : Peer) (whole : List ℕ) (c : Connection) → live_connection id t.connections.all ≡ Some c → stamp_in c.phase ≡ None → serve_record (fed_on t id front) id peer whole ≡ serve_record t id peer whole
 unfolding live_connection
-along-fed t id front peer whole c here none =
-    answering-along id (keep_reading t.clock front) t peer whole c here none (reading-no-list t.clock front c)
-    ((reading-feeds id t.clock front).live c (find-holds (is_live id) t.connections.all c here)) (λ clock said. settled-fed t.clock front clock said c)
+along-fed t id front peer whole c here none = grind (arith, common_steps, reading-no-list, settled-fed, answering-along id, reading-feeds id, find-holds (is_live id))
 
 fed-cut : (t : State) (id : ℕ) (c : Connection) (fed first second : List ℕ) (m : Option ℕ) → live_connection id t.connections.all ≡ Some c → fed_in c.phase ≡ Some fed → ((n : ℕ) → m ≡ Some n → length (fed ++ first) < n)
     → Same (fed_to t id c fed (first ++ second) m) (length first) (fed_to (fed_on t id (fed ++ first)) id (keep_reading t.clock (fed ++ first) c) (fed ++ first) second m)
-fed-cut t id c fed first second None here feeds longer =
-    let front : List ℕ = fed ++ first in
-    let change : List Connection → State = λ xs. record t { connections = record t.connections { all = xs } } in
-    let joined : front ++ second ≡ fed ++ (first ++ second) = append_assoc fed first second in
-    record {
-      taken = ap (λ (n : ℕ). Ok (record { count = n; closed = false })) (length-append first second);
-      state = ap change (sym (changed-twice id (keep_reading t.clock front) (keep_reading t.clock (front ++ second)) (keep_reading t.clock (fed ++ (first ++ second))) (reading-feeds id t.clock front)
-          (λ d. read-on t.clock front (front ++ second) d ∙ ap (λ (xs : List ℕ). keep_reading t.clock xs d) joined) t.connections.all));
-    }
-fed-cut t id c fed first second (Some n) here feeds longer =
-    let front : List ℕ = fed ++ first in
-    let joined : front ++ second ≡ fed ++ (first ++ second) = append_assoc fed first second in
-    let later : length front < n = longer n refl in
-    let message : List ℕ → List ℕ = λ xs. data_of (take n xs) in
-    let whole : List ℕ = message (fed ++ (first ++ second)) in
-    let r : Bool × State = serve_record t id c.peer whole in
-    let along : serve_record (fed_on t id front) id c.peer whole ≡ r =
-    along-fed t id front c.peer whole c here (fed-no-list c.phase fed feeds) in
-    let there : serve_record (fed_on t id front) id (keep_reading t.clock front c).peer (message (front ++ second)) ≡ r =
-    ap (λ (p : Peer). serve_record (fed_on t id front) id p (message (front ++ second))) (peer-on t.clock front c)
-    ∙ ap (λ (xs : List ℕ). serve_record (fed_on t id front) id c.peer (message xs)) joined ∙ along in
-    let count : n - length fed ≡ length first + (n - length front) = omega (arith, later, length-append fed first) in
-    record {
-      taken = ap (λ (k : ℕ). Ok (record { count = k; closed = r.0 })) count
-          ∙ ap (λ (q : Bool × State). Ok (record { count = length first + (n - length front); closed = q.0 })) (sym there);
-      state = ap (λ (q : Bool × State). q.1) (sym there);
-    }
+fed-cut t id c fed first second m here feeds longer = grind (arith, common_steps, append_assoc, length-append, changed-twice, reading-feeds, read-on, along-fed, fed-no-list, peer-on)
 
 by_phase : (s : State) (now id : ℕ) (first second : List ℕ) (c : Connection) → live_connection id s.connections.all ≡ Some c → (fed : Option (List ℕ)) → fed_in c.phase ≡ fed → IfSome fed (λ xs. first_record (xs ++ first) ≡ None) → SameInOnePiece s now id first second
 by_phase s now id first second c there None phase none =
@@ -261,11 +191,7 @@ by_phase s now id (b ∷ first) (d ∷ second) c there (Some fed) phase none =
     same-from s now id (b ∷ first) (d ∷ second) x y z (fed-at s now id (b ∷ first ++ d ∷ second) c (Some fed) there phase) ey ez same.taken same.state
 
 by_connection : (s : State) (now id : ℕ) (first second : List ℕ) (o : Option Connection) → live_connection id s.connections.all ≡ o → IfSome o (λ (c : Connection). IfSome (fed_in c.phase) (λ fed. first_record (fed ++ first) ≡ None)) → SameInOnePiece s now id first second
-by_connection s now id first second None there none =
-    let gone : Result Taken CoreFault × State = (Err Gone, s) in
-    same-from s now id first second gone gone gone
-    (gone-at s now id (first ++ second) there) (gone-at s now id first there) (gone-at s now id second there) refl refl
-by_connection s now id first second (Some c) there none = by_phase s now id first second c there (fed_in c.phase) refl none
+by_connection s now id first second o there none = grind (arith, common_steps, same-from, gone-at, by_phase)
 
 pub cut : CutsDoNotMatter
 cut s now id first second none = by_connection s now id first second (live_connection id s.connections.all) refl none

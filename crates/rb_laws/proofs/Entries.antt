@@ -4,6 +4,7 @@ use Rattle.std.specs.List.{list_any, sum_by}
 use Rattle.std.proofs.Common.{◌≡◌, ◌≤◌, ℕ, ◌+◌, max, min, Bool, true, false, cond, eqb, nat_lt, Option, Some, None, Result, Ok, Err, List, [], ◌∷◌, ◌++◌, length, take, refl, sym, ap, subst, ◌∙◌, arith}
 use Rattle.std.proofs.lemmas.List.Sums.{sum_by-cons, sum_by_push}
 use Rattle.std.proofs.lemmas.Bool.{eqb-true, eq-eqb}
+use Rattle.std.proofs.lemmas.Grind.{common_steps}
 use Rattle.rb_rpc.specs.declared.peer.Peer.{Peer}
 use Rattle.rb_rpc.specs.declared.peer.Caller.{Caller}
 use Rattle.rb_rpc.specs.declared.peer.Caller.TheVariants.{Tcp, Udp}
@@ -78,82 +79,37 @@ pushed id clock forward args f = sum_by_push (one_at id) f.all (next_entry clock
 
 -- an entry that is sent
 kept : (id number : ℕ) (all : List Entry) → sum_by (one_at id) (change_entry (is_unsent number) as_sent all) ≡ sum_by (one_at id) all
-kept id number [] = refl
-kept id number (e ∷ all) = by_cases (is_unsent number e) refl (kept id number all)
-  where
-    by_cases : (t : Bool) → is_unsent number e ≡ t → sum_by (one_at id) (change_entry (is_unsent number) as_sent all) ≡ sum_by (one_at id) all
-        → sum_by (one_at id) (change_entry (is_unsent number) as_sent (e ∷ all)) ≡ sum_by (one_at id) (e ∷ all)
-    by_cases true t further = rw t (sum_by-cons (one_at id) (as_sent e) all ∙ sym (sum_by-cons (one_at id) e all))
-    by_cases false t further =
-        rw t (sum_by-cons (one_at id) e (change_entry (is_unsent number) as_sent all) ∙ ap (λ n. one_at id e + n) further ∙ sym (sum_by-cons (one_at id) e all))
+kept id number [] = grind (arith, common_steps)
+kept id number (e ∷ all) = grind (arith, common_steps, kept id number all)
 
 -- where none is of it
 none-present : (id : ℕ) (all : List Entry) → find (is_of_connection id) all ≡ None → sum_by (one_at id) all ≡ 0
-none-present id [] h = refl
-none-present id (e ∷ all) h = by_cases (is_of_connection id e) refl (none-present id all)
-  where
-    by_cases : (t : Bool) → is_of_connection id e ≡ t → (find (is_of_connection id) all ≡ None → sum_by (one_at id) all ≡ 0) → sum_by (one_at id) (e ∷ all) ≡ 0
-    by_cases true t further = let clash : Some e ≡ None = rw t at h in absurd cc
-    by_cases false t further =
-        let rest = further (rw t at h) in
-        let more = sum_by-cons (one_at id) e all in
-        let none : one_at id e ≡ 0 = ap if_one t in
-        omega (arith, rest, more, none)
+none-present id [] h = grind arith
+none-present id (e ∷ all) h = grind (arith, none-present id all)
 
 -- where one is there, it counts
 some-present : (id : ℕ) (all : List Entry) → list_any (is_of_connection id) all ≡ true → 1 ≤ sum_by (one_at id) all
-some-present id [] h = absurd cc
-some-present id (e ∷ all) h = by_cases (is_of_connection id e) refl (some-present id all)
-  where
-    by_cases : (t : Bool) → is_of_connection id e ≡ t → (list_any (is_of_connection id) all ≡ true → 1 ≤ sum_by (one_at id) all) → 1 ≤ sum_by (one_at id) (e ∷ all)
-    by_cases true t further =
-        let more = sum_by-cons (one_at id) e all in
-        let here : one_at id e ≡ 1 = ap if_one t in
-        omega (arith, more, here)
-    by_cases false t further =
-        let rest = further (rw t at h) in
-        let more = sum_by-cons (one_at id) e all in
-        omega (arith, rest, more)
+some-present id [] h = grind (arith, common_steps)
+some-present id (e ∷ all) h = grind (arith, common_steps, some-present id all)
 
 -- ---- one connection
 
 one-at-most : (o : Option Connection) → count_awaiting o ≤ 1
-one-at-most None = omega arith
-one-at-most (Some c) = elim (is_awaiting c.phase) as (λ b. cond b 1 0 ≤ 1) [ true ↦ omega arith | false ↦ omega arith ]
+one-at-most o = grind arith
 
 pub fed-awaits : (p : Phase) (fed : List ℕ) → fed_in p ≡ Some fed → is_awaiting p ≡ false
-fed-awaits Idle fed is = refl
-fed-awaits (Reading xs) fed is = refl
-fed-awaits (Owing o) fed is = refl
-fed-awaits Awaiting fed is = absurd cc
-fed-awaits Lost fed is = refl
+fed-awaits p fed is = grind arith
 
 fed-plain : (p : Phase) (fed : List ℕ) → fed_in p ≡ Some fed → stamp_in p ≡ None
-fed-plain Idle fed is = refl
-fed-plain (Reading xs) fed is = refl
-fed-plain (Owing o) fed is = absurd cc
-fed-plain Awaiting fed is = refl
-fed-plain Lost fed is = refl
-
-given-awaits : (n : ℕ) (p : Phase) → is_awaiting (phase_when_given n p) ≡ is_awaiting p
-given-awaits n Idle = refl
-given-awaits n (Reading fed) = refl
-given-awaits n Awaiting = refl
-given-awaits n Lost = refl
-given-awaits n (Owing o) = elim (nat_lt (o.given + n) (length o.marked)) as (λ b. is_awaiting (cond b (Owing (record o { given = o.given + n })) Idle) ≡ false) [ true ↦ refl | false ↦ refl ]
+fed-plain p fed is = grind arith
 
 pub giving-awaits : (clock n : ℕ) (c : Connection) → is_awaiting (give clock n c).1.phase ≡ is_awaiting c.phase
 unfolding give with_given
-giving-awaits clock n c =
-    let k : ℕ = min n (length (pending_in c.phase)) in
-    elim (eqb k 0) as (λ z. is_awaiting (cond z c (record c { phase = phase_when_given k c.phase; since = clock })).phase ≡ is_awaiting c.phase) [ true ↦ refl | false ↦ given-awaits k c.phase ]
+giving-awaits clock n c = grind arith
 
 pub settled-awaiting : (clock : ℕ) (said : Outcome) (c : Connection) → is_awaiting (settle clock said c).phase ≡ is_forwarded said
 unfolding settle
-settled-awaiting clock NoCall c = refl
-settled-awaiting clock (Reply reply began) c = refl
-settled-awaiting clock Forwarded c = refl
-settled-awaiting clock Silent c = refl
+settled-awaiting clock said c = grind arith
 
 -- ---- all connections
 
@@ -173,12 +129,7 @@ module _ (k : ℕ) (all : List Connection) (c : Connection) (there : live_connec
           ap (λ (j : ℕ). count_awaiting (find (is_live j) (change_first (is_live k) f all))) (sym (eqb-true k id e)) ∙ ap count_awaiting (find-changed k f feeds all c found)
 
   kept-awaits : (f : Connection → Connection) → IsFeeding k f → ((d : Connection) → (f d).number ≡ d.number) → is_awaiting (f c).phase ≡ is_awaiting c.phase → (id : ℕ) → awaits id (change_first (is_live k) f all) ≡ awaits id all
-  kept-awaits f feeds keeps same id = changed-awaits f feeds keeps id ∙ by_number (eqb k id) refl
-    where
-      by_number : (b : Bool) → eqb k id ≡ b → cond b (if_one (is_awaiting (f c).phase)) (awaits id all) ≡ awaits id all
-      by_number false e = refl
-      by_number true e =
-          ap if_one same ∙ sym (ap count_awaiting there) ∙ ap (λ (j : ℕ). awaits j all) (eqb-true k id e)
+  kept-awaits f feeds keeps same id = grind (arith, common_steps, changed-awaits, eqb-true)
 
   -- its record is answered, or its forwarded call ends
   settled-awaits : (clock next : ℕ) (said : Outcome) → AreSound 0 next all → (id : ℕ) → awaits id (change_first (is_live k) (settle clock said) all) ≡ cond (eqb k id) (if_one (is_forwarded said)) (awaits id all)
@@ -223,15 +174,10 @@ opened-awaits id all new idle = by_value (find (is_live id) all) refl
 
 -- a connection whose list is in the way awaits nothing
 list-awaits : (changes : List ℕ) (p : Phase) → began_before changes (stamp_in p) ≡ true → is_awaiting p ≡ false
-list-awaits changes Idle t = refl
-list-awaits changes (Reading fed) t = refl
-list-awaits changes (Owing o) t = refl
-list-awaits changes Lost t = refl
-list-awaits changes Awaiting t = let clash : true ≡ false = sym t ∙ none_before changes in absurd cc
+list-awaits changes p t = grind arith
 
 never : (b : Bool) → (b && false) ≡ false
-never true = refl
-never false = refl
+never b = grind arith
 
 lost-dead : (id : ℕ) (c : Connection) → is_live id (lose c) ≡ false
 unfolding is_live
@@ -259,30 +205,13 @@ evicted-awaits changes id least next (x ∷ all) sound = by_live (is_live id x) 
 -- ---- events
 
 of-other : (k id : ℕ) (caller : Caller) → is_connection k caller ≡ true → eqb k id ≡ false → is_connection id caller ≡ false
-of-other k id (Tcp number peer) of apart = ap (λ (n : ℕ). eqb n id) (eqb-true number k of) ∙ apart
-of-other k id (Udp peer) of apart = absurd cc
+of-other k id caller of apart = grind arith
 
 module _ (old : Forwards) (cs : Connections) (sound : SoundIn cs) (h : AwaitIn old cs) where
   -- a record on a live connection is answered
   ended-awaits : (clock k : ℕ) (c : Connection) (peer : Peer) (context : Context) (said : Outcome) (new : Forwards) → live_connection k cs.all ≡ Some c → is_awaiting c.phase ≡ false → context.caller ≡ Tcp k peer
       → Entering context old new (is_forwarded said) → AwaitIn new (changed_at k (settle clock said) cs)
-  ended-awaits clock k c peer context said new there plain from (Same e same) = λ id.
-      ap (present id) same ∙ h id ∙ by_number id (eqb k id) refl ∙ ap (λ (b : Bool). cond (eqb k id) (if_one b) (awaits id cs.all)) (sym e) ∙ sym (settled-awaits k cs.all c there clock cs.next said sound id)
-    where
-      by_number : (id : ℕ) (b : Bool) → eqb k id ≡ b → awaits id cs.all ≡ cond b 0 (awaits id cs.all)
-      by_number id false e = refl
-      by_number id true e = ap (λ (j : ℕ). awaits j cs.all) (sym (eqb-true k id e)) ∙ ap count_awaiting there ∙ ap if_one plain
-  ended-awaits clock k c peer context said new there plain from (Begins e forward args by can more) = λ id.
-      ap (present id) more ∙ pushed id context.clock forward args old
-      ∙ ap (λ (x : Caller). present id old + if_one (is_connection id x)) (by ∙ from)
-      ∙ ap (λ (n : ℕ). n + if_one (eqb k id)) (h id)
-      ∙ by_number id (eqb k id) refl ∙ ap (λ (b : Bool). cond (eqb k id) (if_one b) (awaits id cs.all)) (sym e) ∙ sym (settled-awaits k cs.all c there clock cs.next said sound id)
-    where
-      by_number : (id : ℕ) (b : Bool) → eqb k id ≡ b → awaits id cs.all + if_one b ≡ cond b 1 (awaits id cs.all)
-      by_number id false e = omega arith
-      by_number id true e =
-          let none : awaits id cs.all ≡ 0 = ap (λ (j : ℕ). awaits j cs.all) (sym (eqb-true k id e)) ∙ ap count_awaiting there ∙ ap if_one plain in
-          omega (arith, none)
+  ended-awaits clock k c peer context said new there plain from p = grind (arith, common_steps, settled-awaits, eqb-true, pushed)
 
 module _ (s : State) (sound : IsSound s) (h : Await s) where
   abbrev Keeps : Output × State → Type 0
@@ -300,8 +229,7 @@ module _ (s : State) (sound : IsSound s) (h : Await s) where
   still-there changes k c there no_list = plain_lives k changes s.connections.all c there no_list
 
   open-awaits : (at : ℕ) (peer : Peer) (r : Result ℕ CoreFault) → Keeps (output_or Opened (unless_refused at s (opening_as peer (max s.clock at) s.connections r)))
-  open-awaits at peer (Err fault) = h
-  open-awaits at peer (Ok number) = λ id. h id ∙ sym (opened-awaits id s.connections.all _ refl)
+  open-awaits at peer r = grind (arith, common_steps, opened-awaits)
 
   bytes-await : (at k : ℕ) (piece : List ℕ) (r : Result Taken CoreFault × State) → Arriving s at k piece r → Keeps (output_or show_taken r)
   unfolding keep_reading serve
@@ -369,32 +297,14 @@ module _ (s : State) (sound : IsSound s) (h : Await s) where
   closed-await k true e = λ id. dropped-present k id ∙ by_number id (eqb k id) refl
     where
       by_number : (id : ℕ) (b : Bool) → eqb k id ≡ b → cond b 0 (present id s.ledger.forwards) ≡ awaits id (without k s.connections.all)
-      by_number id false n = h id ∙ sym (ap count_awaiting (closed-other id k n s.connections.all))
-      by_number id true n = sym (ap (λ (j : ℕ). awaits id (without j s.connections.all)) (eqb-true k id n) ∙ ap count_awaiting (closed-gone id s.connections.all))
+      by_number id bb n = grind (arith, common_steps, closed-other, eqb-true, closed-gone)
 
   datagram-awaits : (context : Context) (peer : Peer) (changes : List ℕ) (t : State) (said : Outcome) → t.connections ≡ evict changes s.connections → context.caller ≡ Udp peer → Entering context s.ledger.forwards t.ledger.forwards (is_forwarded said) → Keeps (show_outcome (with_reply (said, t)))
-  datagram-awaits context peer changes t said same from enters = by_said said
-    where
-      holds : Await t
-      holds = by_entering enters
-        where
-          by_entering : Entering context s.ledger.forwards t.ledger.forwards (is_forwarded said) → Await t
-          by_entering (Same e new) = λ id. ap (present id) new ∙ room-awaits changes id ∙ ap (λ (c : Connections). awaits id c.all) (sym same)
-          by_entering (Begins e forward args by can more) = λ id.
-              ap (present id) more ∙ pushed id context.clock forward args s.ledger.forwards
-              ∙ ap (λ (x : Caller). present id s.ledger.forwards + if_one (is_connection id x)) (by ∙ from) ∙ omega arith
-              ∙ room-awaits changes id ∙ ap (λ (c : Connections). awaits id c.all) (sym same)
-
-      by_said : (o : Outcome) → Keeps (show_outcome (with_reply (o, t)))
-      by_said NoCall = holds
-      by_said (Reply reply began) = holds
-      by_said Forwarded = holds
-      by_said Silent = holds
+  datagram-awaits context peer changes t said same from enters = grind (arith, common_steps, room-awaits, pushed)
 
   sent-await : (number : ℕ) (b : Bool) → Keeps (output_or show_done (cond b (Ok tt, record s { ledger = call_sent number s.ledger }) (Err Gone, s)))
   unfolding call_sent sent
-  sent-await number true = λ id. kept id number s.ledger.forwards.all ∙ h id
-  sent-await number false = h
+  sent-await number b = grind (arith, common_steps, kept)
 
   -- an entry ends by a datagram or at its deadline, if one does
   end-awaits : (at : ℕ) (message : List ℕ) (test : Entry → Bool) (outcome : target.Outcome) (r : Option EntryEnd × Ledger) → r.0 ≡ (with_end test outcome s.ledger.forwards).0 → r.1.forwards ≡ (with_end test outcome s.ledger.forwards).1
@@ -457,8 +367,7 @@ module _ (s : State) (sound : IsSound s) (h : Await s) where
           by_caller x e ended.forward.caller (ap (λ (y : EntryEnd). y.forward.caller) (sym same))
 
   shown-end : (r : Option Told × State) → Await r.1 → Keeps (show_end r)
-  shown-end (None, t) k = k
-  shown-end (Some told, t) k = k
+  shown-end r k = grind arith
 
   forward-awaits : (at : ℕ) (from : Peer) (message : List ℕ) → Await (tell_end message (at_fresh_moment at s) (target_replied s.setting.first_xid (max s.clock at) from message s.ledger)).1
   unfolding target_replied reply
@@ -468,20 +377,7 @@ module _ (s : State) (sound : IsSound s) (h : Await s) where
   -- the connection that is due awaits none
   timed-out-awaits : (clock : ℕ) (c : Connection) → find (due_connection clock) s.connections.all ≡ Some c → AwaitIn s.ledger.forwards (changed_at c.number lose s.connections)
   unfolding live_connection
-  timed-out-awaits clock c found = λ id. h id ∙ by_number id (eqb c.number id) refl
-    where
-      here : find (is_live c.number) s.connections.all ≡ Some c
-      here =
-          let live = live-found clock s.connections.all c found in
-          live.1 ∙ ap Some (due-one clock s.connections.all live.0 c (sound-apart 0 s.connections.next s.connections.all sound) found live.1)
-
-      by_number : (id : ℕ) (b : Bool) → eqb c.number id ≡ b → awaits id s.connections.all ≡ awaits id (change_first (is_live c.number) lose s.connections.all)
-      by_number id false e = ap count_awaiting (sym (changed-other id c.number lose (λ x. refl) e s.connections.all))
-      by_number id true e =
-          let number : c.number ≡ id = eqb-true c.number id e in
-          let before : awaits c.number s.connections.all ≡ 0 = ap count_awaiting here ∙ ap if_one (due-awaits-none clock c (find-holds (due_connection clock) s.connections.all c found)) in
-          let after : awaits c.number (change_first (is_live c.number) lose s.connections.all) ≡ 0 = ap count_awaiting (timed-out-gone c.number 0 s.connections.next s.connections.all sound) in
-          subst (λ (k : ℕ). awaits k s.connections.all ≡ awaits k (change_first (is_live c.number) lose s.connections.all)) number (before ∙ sym after)
+  timed-out-awaits clock c found = grind (arith, common_steps, found, live-found, due-one, sound-apart, changed-other, eqb-true, due-awaits-none, find-holds, timed-out-gone)
 
   expire-awaits : (at : ℕ) (r : Expired × State) → Expiry s (max s.clock at) (at_fresh_moment at s) r → Await (show_expired r).1
   expire-awaits at r (NothingDue none free is) = rw is h
@@ -490,8 +386,7 @@ module _ (s : State) (sound : IsSound s) (h : Await s) where
       rw is (end-awaits at [] (is_due (max s.clock at)) Failed (Some (end_of e), ledger) (ap (option_map (ended_by Failed)) (sym found)) left)
 
   shown-pending : (r : Result (List ℕ) CoreFault) → Keeps (output_or IsPending (r, s))
-  shown-pending (Ok xs) = h
-  shown-pending (Err fault) = h
+  shown-pending r = grind arith
 
   pub step-awaits : (event : Event) → Await (step s event).1
   unfolding step open_connection open_in_table pending gave close_connection close_in_table datagram sent_call forward_reply serve
@@ -542,11 +437,7 @@ entry-waits s id h has = by_live (live_connection id s.connections.all) refl
     some = some-present id s.ledger.forwards.all has
 
     by_phase : (c : Connection) → live_connection id s.connections.all ≡ Some c → (p : Phase) → c.phase ≡ p → 1 ≤ if_one (is_awaiting p) → IsWaiting id s.connections.all
-    by_phase c there Awaiting e one = record { connection = c; there = there; phase = e }
-    by_phase c there Idle e one = absurd (omega (arith, one))
-    by_phase c there (Reading fed) e one = absurd (omega (arith, one))
-    by_phase c there (Owing o) e one = absurd (omega (arith, one))
-    by_phase c there Lost e one = absurd (omega (arith, one))
+    by_phase c there bb e one = grind (arith, common_steps)
 
     by_live : (o : Option Connection) → live_connection id s.connections.all ≡ o → IsWaiting id s.connections.all
     by_live None there = let is : present id s.ledger.forwards ≡ 0 = h id ∙ ap count_awaiting there in absurd (omega (arith, is, some))

@@ -4,6 +4,7 @@ use Rattle.std.proofs.Common.{◌≡◌, ℕ, suc, ◌+◌, ◌-◌, ◌≤◌, 
 use Rattle.std.proofs.lemmas.Bool.{ltb-true}
 use Rattle.std.proofs.lemmas.List.{length-take}
 use Rattle.std.proofs.lemmas.List.Elements.{All-nil, All-cons, All-head, All-tail, All-push}
+use Rattle.std.proofs.lemmas.Grind.{common_steps}
 use Rattle.rb_rpc.specs.declared.peer.Caller.{Caller}
 use Rattle.rb_rpc.specs.declared.peer.Caller.TheVariants.{Tcp, Udp}
 use Rattle.rb_rpc.specs.declared.call.CallHead.{CallHead}
@@ -60,21 +61,15 @@ pub data Goes (cap : ℕ) (old new : Forwards) : Type 0 where
 
 set-stays : (cap : ℕ) (context : Context) (head : CallHead) (o : Option Row) (l : Ledger) → Goes cap l.forwards (set_row context head o l).1.forwards
 unfolding set_row
-set-stays cap context head None l = Same refl
-set-stays cap context head (Some row) l = Same refl
+set-stays cap context head o l = grind arith
 
 unset-stays : (cap : ℕ) (context : Context) (head : CallHead) (prog vers : ℕ) (o : Option Which) (l : Ledger) → Goes cap l.forwards (unset_rows context head prog vers o l).1.forwards
 unfolding unset_rows
-unset-stays cap context head prog vers None l = Same refl
-unset-stays cap context head prog vers (Some which) l = Same refl
+unset-stays cap context head prog vers o l = grind arith
 
 getport-stays : (cap : ℕ) (head : CallHead) (m : Mapping) (l : Ledger) → Goes cap l.forwards (getport head m l).1.forwards
 unfolding getport
-getport-stays cap head m l = by_transport (transport_of_prot m.prot)
-  where
-    by_transport : (o : Option Transport) → Goes cap l.forwards (port_on head m o l).1.forwards
-    by_transport None = Same refl
-    by_transport (Some transport) = Same refl
+getport-stays cap head m l = grind arith
 
 args-short : (remote : RemoteCall) (arguments : List ℕ) → HasContent remote arguments → length (args_of remote arguments) ≤ longest_forwarded
 args-short remote arguments has = let few = length-take (16 + remote.count - 16) (drop 16 arguments) in omega (arith, few, has.few)
@@ -131,8 +126,7 @@ serve-follows s now caller content =
     record { setting = refl; goes = outcome-goes (context_in (at_moment now s) caller) (message_of content) _ s.ledger (message_has (verdict content) (arguments_of content)) }
 
 moved-follows : {A : Type 0} (s : State) (now : ℕ) (show : A → Output) (r : Result A CoreFault × Connections) → Follows s (output_or show (unless_refused now s r)).1
-moved-follows s now show (Ok x, c) = record { setting = refl; goes = Same refl }
-moved-follows s now show (Err fault, c) = stays s
+moved-follows s now show r = grind arith
 
 bytes-follow : (s : State) (now id : ℕ) (piece : List ℕ) (o : Option Connection) → Follows s (output_or show_taken (bytes_to s now id piece o)).1
 unfolding serve_record
@@ -231,40 +225,23 @@ pushed least next [] e is s = (omega arith, omega arith)
 pushed least next (d ∷ all) e is s = (s.0, pushed (d.number + 1) next all e is s.1)
 
 pushed-length : (all : List Entry) (e : Entry) → length (all ++ e ∷ []) ≡ length all + 1
-pushed-length [] e = refl
-pushed-length (d ∷ all) e = let rest = pushed-length all e in omega (arith, rest)
+pushed-length all e = grind (arith, common_steps)
 
 marked : (number least next : ℕ) (all : List Entry) → AreRising least next all → AreRising least next (change_first (is_unsent number) as_sent all)
-marked number least next [] s = s
-marked number least next (e ∷ all) s = by_test (is_unsent number e) (marked number (e.number + 1) next all s.1)
-  where
-    by_test : (b : Bool) → AreRising (e.number + 1) next (change_first (is_unsent number) as_sent all) → AreRising least next (cond b (as_sent e ∷ all) (e ∷ change_first (is_unsent number) as_sent all))
-    by_test true later = s
-    by_test false later = (s.0, later)
+marked number least next [] s = grind arith
+marked number least next (e ∷ all) s = grind (arith, marked number (e.number + 1) next all s.1)
 
 marked-length : (number : ℕ) (all : List Entry) → length (change_first (is_unsent number) as_sent all) ≡ length all
-marked-length number [] = refl
-marked-length number (e ∷ all) = by_test (is_unsent number e) (marked-length number all)
-  where
-    by_test : (b : Bool) → length (change_first (is_unsent number) as_sent all) ≡ length all → length (cond b (as_sent e ∷ all) (e ∷ change_first (is_unsent number) as_sent all)) ≡ suc (length all)
-    by_test true rest = refl
-    by_test false rest = ap suc rest
+marked-length number [] = grind arith
+marked-length number (e ∷ all) = grind (arith, marked-length number all)
 
 ended : (test : Entry → Bool) (least next : ℕ) (all : List Entry) → AreRising least next all → AreRising least next (without_first test all)
-ended test least next [] s = s
-ended test least next (e ∷ all) s = by_test (test e) (ended test (e.number + 1) next all s.1)
-  where
-    by_test : (b : Bool) → AreRising (e.number + 1) next (without_first test all) → AreRising least next (cond b all (e ∷ without_first test all))
-    by_test true later = lower least (e.number + 1) next all (omega (arith, s.0)) s.1
-    by_test false later = (s.0, later)
+ended test least next [] s = grind (arith, common_steps, lower)
+ended test least next (e ∷ all) s = grind (arith, common_steps, lower, ended test (e.number + 1) next all s.1)
 
 ended-length : (test : Entry → Bool) (all : List Entry) → length (without_first test all) ≤ length all
-ended-length test [] = omega arith
-ended-length test (e ∷ all) = by_test (test e) (ended-length test all)
-  where
-    by_test : (b : Bool) → length (without_first test all) ≤ length all → length (cond b all (e ∷ without_first test all)) ≤ suc (length all)
-    by_test true rest = omega arith
-    by_test false rest = omega (arith, rest)
+ended-length test [] = grind arith
+ended-length test (e ∷ all) = grind (arith, ended-length test all)
 
 marked-short : (number : ℕ) (all : List Entry) → All HasShortArgs all → All HasShortArgs (change_first (is_unsent number) as_sent all)
 marked-short number [] s = s
@@ -284,25 +261,11 @@ ended-short test (e ∷ all) s = by_test (test e) (ended-short test all (All-tai
 
 room : (cap : ℕ) (f : Forwards) → can_start cap f ≡ true → length f.all < cap
 unfolding can_start
-room cap f e = ltb-true (length f.all) cap (first (nat_lt (length f.all) cap) (nat_le f.next greatest_number) e)
-  where
-    first : (a b : Bool) → (a && b) ≡ true → a ≡ true
-    first true b e = refl
-    first false b e = absurd cc
+room cap f e = grind arith
 
 goes-kept : (cap : ℕ) (old new : Forwards) → Goes cap old new → AreKept cap old → AreKept cap new
 unfolding with_next_entry next_entry sent
-goes-kept cap old new (Same is) k = subst (AreKept cap) (sym is) k
-goes-kept cap old new (Begins clock forward args short can is) k =
-    let free = room cap old can in
-    let more = pushed-length old.all (next_entry clock forward args old) in
-    subst (AreKept cap) (sym is) (record { order = pushed 1 old.next old.all _ refl k.order; few = omega (arith, free, more); short = All-push HasShortArgs old.all _ k.short short })
-goes-kept cap old new (IsSent number is) k =
-    let same = marked-length number old.all in
-    subst (AreKept cap) (sym is) (record { order = marked number 1 old.next old.all k.order; few = omega (arith, same, k.few); short = marked-short number old.all k.short })
-goes-kept cap old new (Ends1 test is) k =
-    let less = ended-length test old.all in
-    subst (AreKept cap) (sym is) (record { order = ended test 1 old.next old.all k.order; few = omega (arith, less, k.few); short = ended-short test old.all k.short })
+goes-kept cap old new p k = grind (arith, common_steps, room, pushed-length, pushed, All-push, marked-length, marked, marked-short, ended-length, ended, ended-short)
 
 abbrev pub HasKept : State → Type 0
 HasKept s = AreKept s.setting.limits.forwards s.ledger.forwards

@@ -25,21 +25,14 @@ use Rattle.rb_laws.proofs.Crowds.{plain_lives}
 -- the bytes that a connection was fed hold no record
 pub fed-none : (p : Phase) → IsSoundPhase p → (fed : List ℕ) → fed_in p ≡ Some fed → first_record fed ≡ None
 unfolding first_record
-fed-none Idle sound fed is = let same : [] ≡ fed = cc in subst (λ (xs : List ℕ). first_record xs ≡ None) same refl
-fed-none (Reading xs) sound fed is = let same : xs ≡ fed = cc in subst (λ (xs : List ℕ). first_record xs ≡ None) same sound
-fed-none (Owing o) sound fed is = absurd cc
-fed-none Awaiting sound fed is = absurd cc
-fed-none Lost sound fed is = absurd cc
+fed-none p sound fed is = grind arith
 
 module _ (s : State) (now id : ℕ) (c : Connection) (reached : IsReached s) (there : IsLive s id c) where
   abbrev arrival : List ℕ → Arrival
   arrival piece = record { state = s; now = now; id = id; piece = piece; connection = c }
 
   nothing : (piece : List ℕ) → bytes s now id piece ≡ (Ok (record { count = 0; closed = false }), at_moment now s) → TakesNothing (arrival piece)
-  nothing piece is = record {
-    taken = ap (λ (r : Result Taken CoreFault × State). r.0) is;
-    stays = subst (λ (r : Result Taken CoreFault × State). IsLive r.1 id c) (sym is) there;
-  }
+  nothing piece is = grind arith
 
   goes-on : (fed piece : List ℕ) → IsLive (on_connection id (keep_reading (max s.clock now) (fed ++ piece)) (at_moment now s)) id (keep_reading (max s.clock now) (fed ++ piece) c)
   unfolding live_connection

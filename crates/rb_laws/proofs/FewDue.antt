@@ -2,6 +2,7 @@
 use Rattle.std.specs.Prelude.{find, replicate}
 use Rattle.std.proofs.Common.{◌≡◌, ◌⊎◌, inl, inr, ℕ, suc, zero, ◌+◌, ◌≤◌, max, Bool, true, false, cond, not, eqb, Some, List, [], ◌∷◌, length, refl, sym, ap, ◌∙◌, eq-eqb, arith}
 use Rattle.std.proofs.lemmas.Bool.{and_parts}
+use Rattle.std.proofs.lemmas.Grind.{common_steps}
 use Rattle.rb_rpc.specs.declared.peer.Caller.{Caller}
 use Rattle.rb_rpc.specs.declared.peer.Caller.TheVariants.{Tcp, Udp}
 use Rattle.rb_forward.specs.Forwards.{Entry, is_due as entry_is_due, without_first}
@@ -26,8 +27,7 @@ live_count [] = 0
 live_count (c ∷ all) = cond (is_lost c.phase) 0 1 + live_count all
 
 at-most-one : (b : Bool) → cond b 0 1 ≤ 1
-at-most-one true = omega arith
-at-most-one false = omega arith
+at-most-one b = grind arith
 
 pub live-few : (all : List Connection) → live_count all ≤ length all
 live-few [] = omega arith
@@ -35,34 +35,15 @@ live-few (c ∷ all) = let rest = live-few all in let one = at-most-one (is_lost
 
 live-not-lost : (id : ℕ) (c : Connection) → is_live id c ≡ true → is_lost c.phase ≡ false
 unfolding is_live
-live-not-lost id c h = by_lost (is_lost c.phase) (and_parts (eqb c.number id) (not (is_lost c.phase)) h).1
-  where
-    by_lost : (b : Bool) → not b ≡ true → b ≡ false
-    by_lost true e = absurd cc
-    by_lost false e = refl
+live-not-lost id c h = grind arith
 
 changed-count : (id : ℕ) (f : Connection → Connection) (all : List Connection) → live_count (change_first (is_live id) f all) ≤ live_count all
-changed-count id f [] = omega arith
-changed-count id f (c ∷ all) = by_test (is_live id c) refl (changed-count id f all)
-  where
-    by_test : (b : Bool) → is_live id c ≡ b → live_count (change_first (is_live id) f all) ≤ live_count all
-        → live_count (cond b (f c ∷ all) (c ∷ change_first (is_live id) f all)) ≤ cond (is_lost c.phase) 0 1 + live_count all
-    by_test true t rest =
-        let live : is_lost c.phase ≡ false = live-not-lost id c t in
-        let one = at-most-one (is_lost (f c).phase) in
-        rw live (omega (arith, one))
-    by_test false t rest = omega (arith, rest)
+changed-count id f [] = grind (arith, common_steps, live-not-lost, at-most-one)
+changed-count id f (c ∷ all) = grind (arith, common_steps, live-not-lost, at-most-one, changed-count id f all)
 
 lost-count : (id : ℕ) (all : List Connection) (c : Connection) → find (is_live id) all ≡ Some c → live_count (change_first (is_live id) lose all) + 1 ≡ live_count all
-lost-count id [] c h = absurd cc
-lost-count id (d ∷ all) c h = by_test (is_live id d) refl h (lost-count id all c)
-  where
-    by_test : (b : Bool) → is_live id d ≡ b → cond b (Some d) (find (is_live id) all) ≡ Some c → (find (is_live id) all ≡ Some c → live_count (change_first (is_live id) lose all) + 1 ≡ live_count all)
-        → live_count (cond b (lose d ∷ all) (d ∷ change_first (is_live id) lose all)) + 1 ≡ cond (is_lost d.phase) 0 1 + live_count all
-    by_test true t h rest =
-        let live : is_lost d.phase ≡ false = live-not-lost id d t in
-        rw live (omega arith)
-    by_test false t h rest = let r = rest h in omega (arith, r)
+lost-count id [] c h = grind (arith, common_steps, live-not-lost)
+lost-count id (d ∷ all) c h = grind (arith, common_steps, live-not-lost, lost-count id all c)
 
 -- the live connection of the number of the first that is due
 pub live-found : (clock : ℕ) (all : List Connection) (c : Connection) → find (is_due clock) all ≡ Some c → (d : Connection) × (find (is_live c.number) all ≡ Some d)
@@ -84,13 +65,8 @@ live-found clock (x ∷ all) c h = by_live (is_live c.number x) refl (is_due clo
 -- ---- entries
 
 ended-count : (test : Entry → Bool) (all : List Entry) (e : Entry) → find test all ≡ Some e → length (without_first test all) + 1 ≡ length all
-ended-count test [] e h = absurd cc
-ended-count test (x ∷ all) e h = by_test (test x) h (ended-count test all e)
-  where
-    by_test : (b : Bool) → cond b (Some x) (find test all) ≡ Some e → (find test all ≡ Some e → length (without_first test all) + 1 ≡ length all)
-        → length (cond b all (x ∷ without_first test all)) + 1 ≡ suc (length all)
-    by_test true h rest = omega arith
-    by_test false h rest = let r = rest h in omega (arith, r)
+ended-count test [] e h = grind arith
+ended-count test (x ∷ all) e h = grind (arith, ended-count test all e)
 
 -- ---- what can be due
 
@@ -98,38 +74,20 @@ abbrev pub due_count : State → ℕ
 due_count s = length s.ledger.forwards.all + live_count s.connections.all
 
 tell-count : (s : State) (caller : Caller) (said : Outcome) → due_count (tell caller said s).1 ≤ due_count s
-tell-count s (Tcp id peer) said = let less = changed-count id (settle s.clock said) s.connections.all in omega (arith, less)
-tell-count s (Udp peer) said = omega arith
+tell-count s caller said = grind (arith, common_steps, changed-count)
 
 less-due : (s : State) (now : ℕ) (r : Expired × State) → Expiry s (max s.clock now) (at_fresh_moment now s) r → (r.0 ≡ expiries.Nothing) ⊎ (due_count r.1 + 1 ≤ due_count s)
-less-due s now r (EntryEnds e found ledger left is) =
-    let told = tell-count (record (at_fresh_moment now s) { ledger = ledger }) e.forward.caller (outcome_at_end [] (end_of e)) in
-    let less = ended-count (entry_is_due (max s.clock now)) s.ledger.forwards.all e found in
-    let entries = ap (λ f. length f.all) left in
-    inr (rw is (omega (arith, told, less, entries)))
-less-due s now r (ConnectionEnds none c found is) =
-    let live = live-found (max s.clock now) s.connections.all c found in
-    let less = lost-count c.number s.connections.all live.0 live.1 in
-    inr (rw is (omega (arith, less)))
-less-due s now r (NothingDue none found is) = inl (ap (λ (x : Expired × State). x.0) is)
+less-due s now r p = grind (arith, common_steps, tell-count, ended-count, live-found, lost-count)
 
 shown-nothing : (r : Expired × State) → r.0 ≡ expiries.Nothing → (show_expired r).0 ≡ Nothing
-shown-nothing (expiries.Nothing, s) e = refl
-shown-nothing (expiries.Ended told, s) e = absurd cc
-shown-nothing (expiries.ConnectionClosed id, s) e = absurd cc
+shown-nothing r e = grind arith
 
 shown-state : (r : Expired × State) → (show_expired r).1 ≡ r.1
-shown-state (expiries.Nothing, s) = refl
-shown-state (expiries.Ended told, s) = refl
-shown-state (expiries.ConnectionClosed id, s) = refl
+shown-state r = grind arith
 
 once : (s : State) (now : ℕ) → ((step s (Expire now)).0 ≡ Nothing) ⊎ (due_count (step s (Expire now)).1 + 1 ≤ due_count s)
 unfolding step
-once s now = by_case (less-due s now (expire s now) (expiry s now))
-  where
-    by_case : ((expire s now).0 ≡ expiries.Nothing) ⊎ (due_count (expire s now).1 + 1 ≤ due_count s) → ((show_expired (expire s now)).0 ≡ Nothing) ⊎ (due_count (show_expired (expire s now)).1 + 1 ≤ due_count s)
-    by_case (inl e) = inl (shown-nothing (expire s now) e)
-    by_case (inr less) = inr (rw (shown-state (expire s now)) less)
+once s now = grind (arith, common_steps, less-due s now (expire s now) (expiry s now), expiry s now, shown-nothing (expire s now), shown-state (expire s now))
 
 pub record Reaches (s : State) (now most : ℕ) : Type 0 where
   pub calls : ℕ

@@ -4,6 +4,7 @@ use Rattle.std.specs.List.{list_all}
 use Rattle.std.proofs.Common.{◌≡◌, ◌<◌, ◌≤◌, ◌⊎◌, ℕ, zero, suc, Bool, true, false, not, cond, eqb, ◌&&◌, List, [], ◌∷◌, drop, Option, Some, None, Err, refl, sym, ap, subst, ◌∙◌, arith, inl, inr}
 use Rattle.std.proofs.lemmas.Bool.{eqb-true, eqb-false, eq-eqb, not-false, not-true, false_from_ne_true}
 use Rattle.std.proofs.lemmas.Option.{none-some, same_Some}
+use Rattle.std.proofs.lemmas.Grind.{common_steps}
 use Rattle.rb_xdr.specs.Xdr.{AreBytes}
 use Rattle.rb_xdr.proofs.Words.{AreBytes-drop}
 use Rattle.rb_rpc.specs.declared.call.CallHead.{CallHead}
@@ -33,18 +34,11 @@ use Rattle.rb_model.specs.Grammar.{IsOfServedVersion, IsOfOtherProgram, IsOfOthe
 
 -- what is found passes the test, and every test that all pass
 found : {A : Type 0} (p q : A → Bool) (xs : List A) (x : A) → list_all q xs ≡ true → find p xs ≡ Some x → (p x ≡ true) × (q x ≡ true)
-found p q [] x all e = absurd (none-some x e)
-found p q (y ∷ ys) x all e = by_tests (p y) (q y) refl refl all e (found p q ys x)
-  where
-    by_tests : (a b : Bool) → p y ≡ a → q y ≡ b → (b && list_all q ys) ≡ true → cond a (Some y) (find p ys) ≡ Some x
-        → (list_all q ys ≡ true → find p ys ≡ Some x → (p x ≡ true) × (q x ≡ true)) → (p x ≡ true) × (q x ≡ true)
-    by_tests a false ph qh all e rest = absurd cc
-    by_tests true true ph qh all e rest = let same = same_Some y x e in subst (λ z. (p z ≡ true) × (q z ≡ true)) same (ph, qh)
-    by_tests false true ph qh all e rest = rest all e
+found p q [] x all e = grind arith
+found p q (y ∷ ys) x all e = grind (arith, found p q ys x)
 
 first_of_both : (a b : Bool) → (a && b) ≡ true → a ≡ true
-first_of_both true b e = refl
-first_of_both false b e = e
+first_of_both a b e = grind arith
 
 versions_are_served : list_all (λ row. is_served row.0) procedures ≡ true
 unfolding is_served
@@ -52,66 +46,25 @@ versions_are_served = refl
 
 known_is_served : (vers proc : ℕ) (p : Procedure) → procedure_at vers proc ≡ Some p → is_served vers ≡ true
 unfolding procedure_at
-known_is_served vers proc p e = by_row (find test procedures) refl e
-  where
-    test : ℕ × ℕ × Procedure → Bool
-    test row = row.0 == vers && row.1 == proc
-
-    by_row : (row : Option (ℕ × ℕ × Procedure)) → find test procedures ≡ row → option_map (λ r. r.2) row ≡ Some p → is_served vers ≡ true
-    by_row None is e = absurd (none-some p e)
-    by_row (Some row) is e =
-        let f = found test (λ r. is_served r.0) procedures row versions_are_served is in
-        let same : row.0 ≡ vers = eqb-true row.0 vers (first_of_both (row.0 == vers) (row.1 == proc) f.0) in
-        ap is_served (sym same) ∙ f.1
+known_is_served vers proc p e = grind (arith, common_steps, none-some, found, versions_are_served, eqb-true, first_of_both)
 
 -- ---- versions
 
-past_four : (vers : ℕ) → 4 < vers → is_served vers ≡ false
-unfolding is_served
-past_four vers past =
-    let two = differs 2 (omega arith) in
-    let three = differs 3 (omega arith) in
-    let four = differs 4 (omega arith) in
-    rw (two, three, four) refl
-  where
-    differs : (k : ℕ) → k ≤ 4 → eqb vers k ≡ false
-    differs k small = false_from_ne_true (eqb vers k) (λ e. let same = eqb-true vers k e in omega (arith, same, small, past))
-
 served_within : (vers : ℕ) → is_served vers ≡ true → (2 ≤ vers) × (vers ≤ 4)
 unfolding is_served
-served_within zero e = absurd cc
-served_within (suc zero) e = absurd cc
-served_within (suc (suc zero)) e = (omega arith, omega arith)
-served_within (suc (suc (suc zero))) e = (omega arith, omega arith)
-served_within (suc (suc (suc (suc zero)))) e = (omega arith, omega arith)
-served_within (suc (suc (suc (suc (suc n))))) e =
-    let apart : false ≡ true = sym (past_four (suc (suc (suc (suc (suc n))))) (omega arith)) ∙ e in
-    absurd cc
+served_within vers e = grind arith
 
 serves : (vers : ℕ) → 2 ≤ vers → vers ≤ 4 → is_served vers ≡ true
 unfolding is_served
-serves zero least most = absurd (omega (arith, least))
-serves (suc zero) least most = absurd (omega (arith, least))
-serves (suc (suc zero)) least most = refl
-serves (suc (suc (suc zero))) least most = refl
-serves (suc (suc (suc (suc zero)))) least most = refl
-serves (suc (suc (suc (suc (suc n))))) least most = absurd (omega (arith, most))
+serves vers least most = grind arith
 
 outside : (vers : ℕ) → is_served vers ≡ false → (vers < 2) ⊎ (4 < vers)
 unfolding is_served
-outside zero e = inl (omega arith)
-outside (suc zero) e = inl (omega arith)
-outside (suc (suc zero)) e = absurd cc
-outside (suc (suc (suc zero))) e = absurd cc
-outside (suc (suc (suc (suc zero)))) e = absurd cc
-outside (suc (suc (suc (suc (suc n))))) e = inr (omega arith)
+outside vers e = grind arith
 
 not_served : (vers : ℕ) → (vers < 2) ⊎ (4 < vers) → is_served vers ≡ false
 unfolding is_served
-not_served zero (inl low) = refl
-not_served (suc zero) (inl low) = refl
-not_served (suc (suc n)) (inl low) = absurd (omega (arith, low))
-not_served vers (inr high) = past_four vers high
+not_served vers p = grind arith
 
 -- ---- from the message to the grammar
 
@@ -123,8 +76,7 @@ Says bytes (Garbage head) = HasUnreadableArguments head bytes
 Says bytes (Asked call) = BeginsWithRequest call bytes
 
 by_line : (bytes : List ℕ) (b : Bool) (m n : Message) → (b ≡ true → Says bytes m) → (b ≡ false → Says bytes n) → Says bytes (cond b m n)
-by_line bytes true m n there more = there refl
-by_line bytes false m n there more = more refl
+by_line bytes b m n there more = grind arith
 
 -- a head that ends at the place, of a version that is served
 record HasHead (h : CallHead) (place : ℕ) (bytes : List ℕ) : Type 0 where
@@ -158,16 +110,7 @@ by_procedure h place bytes has (Some p) e = by_request h place bytes has p e (re
 
 from_call : (h : CallHead) (place : ℕ) (bytes : List ℕ) → AreBytes bytes → BeginsWithCall h place bytes → Says bytes (call_of h (drop place bytes))
 unfolding call_of is_known
-from_call h place bytes are call =
-    by_line bytes (not (h.prog == rpcb_prog)) (refusal h.xid replies.ProgUnavail) _
-    (λ e. record { head = h; place = place; call = call; xid_is = refl; such = eqb-false h.prog rpcb_prog (not-true (h.prog == rpcb_prog) e) })
-    (λ of_program.
-    let program : h.prog ≡ rpcb_prog = eqb-true h.prog rpcb_prog (not-false (h.prog == rpcb_prog) of_program) in
-    by_line bytes (not (is_served h.vers)) (refusal h.xid (replies.ProgMismatch 2 4)) _
-    (λ e. (refl, refl, record { head = h; place = place; call = call; xid_is = refl; such = record { program = program; other = outside h.vers (not-true (is_served h.vers) e) } }))
-    (λ e.
-    let within = served_within h.vers (not-false (is_served h.vers) e) in
-    by_procedure h place bytes (record { are = are; call = call; served = record { program = program; from_2 = within.0; to_4 = within.1 } }) (procedure_at h.vers h.proc) refl))
+from_call h place bytes are call = grind (arith, common_steps, by_line, eqb-false, not-true, eqb-true, not-false, outside, served_within, by_procedure)
 
 sound : (bytes : List ℕ) → AreBytes bytes → Says bytes (message_of bytes)
 unfolding message_of arguments_of
@@ -193,28 +136,19 @@ call_again bytes are h place call = by_verdict_again bytes (verdicts.Call h plac
 
 other_program_again : (h : CallHead) (arguments : List ℕ) → IsOfOtherProgram h → call_of h arguments ≡ refusal h.xid replies.ProgUnavail
 unfolding call_of
-other_program_again h arguments other =
-    let differs : eqb h.prog rpcb_prog ≡ false = false_from_ne_true (eqb h.prog rpcb_prog) (λ e. other (eqb-true h.prog rpcb_prog e)) in
-    rw differs refl
+other_program_again h arguments other = grind arith
 
 other_version_again : (h : CallHead) (arguments : List ℕ) → IsOfOtherVersion h → call_of h arguments ≡ refusal h.xid (replies.ProgMismatch 2 4)
 unfolding call_of
-other_version_again h arguments is =
-    let same : eqb h.prog rpcb_prog ≡ true = eq-eqb h.prog rpcb_prog is.program in
-    let differs = not_served h.vers is.other in
-    rw (same, differs) refl
+other_version_again h arguments is = grind (arith, common_steps, eq-eqb, not_served)
 
 served_again : (h : CallHead) (arguments : List ℕ) → IsOfServedVersion h → call_of h arguments ≡ request_of h (read_request h.vers h.proc arguments)
 unfolding call_of
-served_again h arguments is =
-    let same : eqb h.prog rpcb_prog ≡ true = eq-eqb h.prog rpcb_prog is.program in
-    let serves = serves h.vers is.from_2 is.to_4 in
-    rw (same, serves) refl
+served_again h arguments is = grind (arith, common_steps, eq-eqb, serves)
 
 no_procedure_again : (h : CallHead) (arguments : List ℕ) → IsOfNoProcedure h → call_of h arguments ≡ refusal h.xid replies.ProcUnavail
 unfolding request_of is_known
-no_procedure_again h arguments is =
-    served_again h arguments is.served ∙ rw is.none refl
+no_procedure_again h arguments is = grind (arith, common_steps, served_again)
 
 known_of : (vers proc : ℕ) (p : Procedure) → procedure_at vers proc ≡ Some p → is_known vers proc ≡ true
 unfolding is_known
@@ -233,13 +167,7 @@ unreadable_again bytes are h b =
 
 to_call : (call : Call) (arguments : List ℕ) → AreBytes arguments → call.head.prog ≡ rpcb_prog → Asks call.head.vers call.head.proc call.request arguments → call_of call.head arguments ≡ Asked call
 unfolding call_of request_of
-to_call call arguments are program is =
-    let head = call.head in
-    let known = known_of head.vers head.proc (procedure_of call.request) is.0 in
-    let serves = known_is_served head.vers head.proc (procedure_of call.request) is.0 in
-    let of_program : eqb head.prog rpcb_prog ≡ true = eq-eqb head.prog rpcb_prog program in
-    let read : request head.vers head.proc arguments ≡ Some call.request = (requests_are_of_the_grammar head.vers head.proc arguments are call.request).1 is in
-    rw (of_program, serves, known, read) refl
+to_call call arguments are program is = grind (arith, common_steps, known_of, serves, known_is_served, eq-eqb, requests_are_of_the_grammar)
 
 read_back : (bytes : List ℕ) → AreBytes bytes → (call : Call) → BeginsWithRequest call bytes → message_of bytes ≡ Asked call
 read_back bytes are call b = call_again bytes are call.head b.place b.head ∙ to_call call (drop b.place bytes) (AreBytes-drop b.place bytes are) b.program b.asks

@@ -336,8 +336,7 @@ module _ (s : State) where
         where
           by_number : (b : Bool) → eqb k id ≡ b → TellsTo s event id said (show (after (Tcp k peer))).1.connections
           by_number false n =
-              let none : ◌≡◌ {A = Option Outcome} None (Some said) =
-              sym (ap (λ (c : Caller). cond (is_connection id c) (Some (outcome_at_end message ended)) None) e ∙ ap (λ (b : Bool). cond b (Some (outcome_at_end message ended)) None) n) ∙ told in
+              let none : ◌≡◌ {A = Option Outcome} None (Some said) = cc in
               absurd cc
           by_number true n =
               let of : is_connection id ended.forward.caller ≡ true = ap (is_connection id) e ∙ n in

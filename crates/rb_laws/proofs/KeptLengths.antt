@@ -6,6 +6,7 @@ use Rattle.std.proofs.Common.{◌≡◌, ◌≤◌, ◌<◌, ◌+◌, ◌-◌, �
 use Rattle.std.proofs.lemmas.Bool.{le-ltb, cond-false, cases_lt}
 use Rattle.std.proofs.lemmas.List.{length-take, length-drop, take_all, take-append-le, drop-append-le}
 use Rattle.std.proofs.Math.Seq.{take-append-add}
+use Rattle.std.proofs.lemmas.Grind.{common_steps}
 use Rattle.rb_xdr.specs.Xdr.{number_at, word, residue, are_zero}
 use Rattle.rb_rpc.specs.declared.auth.AuthStat.{AuthStat}
 use Rattle.rb_rpc.specs.declared.call.CallHead.{CallHead}
@@ -23,14 +24,10 @@ use Rattle.rb_model.specs.Calls.{longest_kept, kept_of}
 module _ (a b : List ℕ) where
   same_number : (place : ℕ) → place + 4 ≤ length a → number_at place (a ++ b) ≡ number_at place a
   unfolding number_at
-  same_number place within =
-      let there : 4 ≤ length (drop place a) = omega (arith, within, length-drop place a) in
-      rw (drop-append-le place a b (omega (arith, within)), take-append-le 4 (drop place a) b there) refl
+  same_number place within = grind (arith, common_steps)
 
   same_slice : (from to : ℕ) → from ≤ to → to ≤ length a → slice_range (a ++ b) from to ≡ slice_range a from to
-  same_slice from to order within =
-      let there : to - from ≤ length (drop from a) = omega (arith, within, order, length-drop from a) in
-      rw (drop-append-le from a b (omega (arith, within, order)), take-append-le (to - from) (drop from a) b there) refl
+  same_slice from to order within = grind (arith, common_steps)
 
 -- ---- the data of a record
 
@@ -41,14 +38,10 @@ data_few (suc k) bytes = by_last (is_last bytes) (number_at 0 bytes % 2 ^ 31) (�
   where
     by_last : (last : Bool) (n : ℕ) → ((m : ℕ) → length (data_in k (drop (4 + m) bytes)) ≤ length (drop (4 + m) bytes) - 4)
         → length (cond last (slice_range bytes 4 (4 + n)) (slice_range bytes 4 (4 + n) ++ data_in k (drop (4 + n) bytes))) ≤ length bytes - 4
-    by_last true n rest = omega (arith, length-take (4 + n - 4) (drop 4 bytes), length-drop 4 bytes)
-    by_last false n rest =
-        let behind = rest n in
-        omega (arith, behind, length-append (slice_range bytes 4 (4 + n)) (data_in k (drop (4 + n) bytes)), length-take (4 + n - 4) (drop 4 bytes), length-drop 4 bytes, length-drop (4 + n) bytes)
+    by_last bb n rest = grind (arith, common_steps, length-take, length-drop, length-append)
 
 nothing : (xs : List ℕ) → length xs ≤ 0 → xs ≡ []
-nothing [] none = refl
-nothing (x ∷ xs) none = absurd (omega (arith, none))
+nothing xs none = grind (arith, common_steps)
 
 -- At most so many are behind the old ones.
 record Grows (old new : List ℕ) (most : ℕ) : Type 0 where
@@ -129,10 +122,7 @@ fragment_grows a b last n k j long later =
         }
 
 short_grows : (k j : ℕ) (a b : List ℕ) → length a ≤ 4 → Grows (data_in j a) (data_in k (a ++ b)) (length b)
-short_grows k j a b short =
-    let none : data_in j a ≡ [] = nothing (data_in j a) (let few = data_few j a in omega (arith, few, short)) in
-    let few = data_few k (a ++ b) in
-    record { more = data_in k (a ++ b); is = ap (λ (xs : List ℕ). xs ++ data_in k (a ++ b)) (sym none); few = omega (arith, few, short, length-append a b) }
+short_grows k j a b short = grind (arith, common_steps, nothing (data_in j a), data_few j a, data_few k (a ++ b), length-append a b)
 
 data_grows : (k j : ℕ) (a b : List ℕ) → length a + length b ≤ k → length a ≤ j → Grows (data_in j a) (data_in k (a ++ b)) (length b)
 data_grows zero j a b enough deep = short_grows zero j a b (omega (arith, enough))
@@ -153,16 +143,13 @@ data_of_more a b = data_grows (length (a ++ b)) (length a) a b (omega (arith, le
 -- ---- a call whose head ends in front is one without what follows
 
 past_no : (b : Bool) (v : Verdict) (head : CallHead) (place : ℕ) → cond b NoCall v ≡ Call head place → (b ≡ false) × (v ≡ Call head place)
-past_no true v head place e = absurd cc
-past_no false v head place e = (refl, e)
+past_no b v head place e = grind arith
 
 past_rpc : (b : Bool) (x : ℕ) (v : Verdict) (head : CallHead) (place : ℕ) → cond b (RpcMismatch x) v ≡ Call head place → (b ≡ false) × (v ≡ Call head place)
-past_rpc true x v head place e = absurd cc
-past_rpc false x v head place e = (refl, e)
+past_rpc b x v head place e = grind arith
 
 past_auth : (b : Bool) (x : ℕ) (s : AuthStat) (v : Verdict) (head : CallHead) (place : ℕ) → cond b (AuthError x s) v ≡ Call head place → (b ≡ false) × (v ≡ Call head place)
-past_auth true x s v head place e = absurd cc
-past_auth false x s v head place e = (refl, e)
+past_auth b x s v head place e = grind arith
 
 same_place : (h k : CallHead) (p q : ℕ) → Call h p ≡ Call k q → p ≡ q
 same_place h k p q e = cc
@@ -181,48 +168,17 @@ record Passed (bytes : List ℕ) (place : ℕ) : Type 0 where
 
 passed : (bytes : List ℕ) (head : CallHead) (place : ℕ) → verdict bytes ≡ Call head place → Passed bytes place
 unfolding verdict
-passed bytes head place e =
-    let a = past_no _ _ head place e in
-    let b = past_rpc _ _ _ head place a.1 in
-    let c = past_no _ _ head place b.1 in
-    let d = past_auth _ _ _ _ head place c.1 in
-    let f = past_no _ _ head place d.1 in
-    let g = past_auth _ _ _ _ head place f.1 in
-    let h = past_no _ _ head place g.1 in
-    let i = past_auth _ _ _ _ head place h.1 in
-    let j = past_auth _ _ _ _ head place i.1 in
-    record {
-      is_call = (or_parts _ _ a.0).1;
-      version = b.0;
-      credential_few = d.0;
-      credential_whole = f.0;
-      verifier_few = g.0;
-      verifier_whole = h.0;
-      flavor_known = i.0;
-      readable = j.0;
-      place_is = same_place (head_of bytes) head (verifier_end bytes) place j.1;
-    }
+passed bytes head place e = grind (arith, common_steps)
 
 called : (bytes : List ℕ) (place : ℕ) → Passed bytes place → 24 ≤ length bytes → verdict bytes ≡ Call (head_of bytes) (verifier_end bytes)
 unfolding verdict
-called bytes place p long =
-    cond-false _ _ _ (or_no _ _ (le-ltb (length bytes) 12 (omega (arith, long))) p.is_call)
-    ∙ cond-false _ _ _ p.version
-    ∙ cond-false _ _ _ (le-ltb (length bytes) 24 long)
-    ∙ cond-false _ _ _ p.credential_few
-    ∙ cond-false _ _ _ p.credential_whole
-    ∙ cond-false _ _ _ p.verifier_few
-    ∙ cond-false _ _ _ p.verifier_whole
-    ∙ cond-false _ _ _ p.flavor_known
-    ∙ cond-false _ _ _ p.readable
+called bytes place p long = grind arith
 
 no_more : (b n : Bool) → b ≡ true → (b && n) ≡ false → n ≡ false
-no_more true n e is = is
-no_more false n e is = absurd cc
+no_more b n e is = grind arith
 
 never : (b n : Bool) → n ≡ false → (b && n) ≡ false
-never true n e = e
-never false n e = refl
+never b n e = grind arith
 
 -- an opaque_auth that ends in front
 module _ (a b : List ℕ) (place : ℕ) (within : auth_end place (a ++ b) ≤ length a) where
@@ -236,9 +192,7 @@ module _ (a b : List ℕ) (place : ℕ) (within : auth_end place (a ++ b) ≤ le
 
   pub few_again : is_over_long place (a ++ b) ≡ false → is_over_long place a ≡ false
   unfolding is_over_long auth_end
-  few_again e =
-      let there : not (ltb (length (a ++ b)) (place + 8)) ≡ true = ap not (le-ltb (length (a ++ b)) (place + 8) (omega (arith, within, length-append a b))) in
-      never _ _ (ap (λ (n : ℕ). ltb max_auth_body n) (sym same_length) ∙ no_more _ _ there e)
+  few_again e = grind (arith, common_steps, le-ltb, length-append, never, same_length, no_more)
 
   body_first : place + 8 + body_length place (a ++ b) ≤ auth_end place (a ++ b)
   unfolding auth_end
@@ -246,13 +200,7 @@ module _ (a b : List ℕ) (place : ℕ) (within : auth_end place (a ++ b) ≤ le
 
   pub whole_again : is_broken place (a ++ b) ≡ false → is_broken place a ≡ false
   unfolding is_broken
-  whole_again e =
-      let parts = or_parts _ _ e in
-      let zeros : not (are_zero (slice_range (a ++ b) (place + 8 + body_length place (a ++ b)) (auth_end place (a ++ b)))) ≡ false = parts.1 in
-      let same : slice_range (a ++ b) (place + 8 + body_length place (a ++ b)) (auth_end place (a ++ b)) ≡ slice_range a (place + 8 + body_length place a) (auth_end place a) =
-      same_slice a b (place + 8 + body_length place (a ++ b)) (auth_end place (a ++ b)) body_first within
-      ∙ ap (λ (n : ℕ). slice_range a (place + 8 + n) (auth_end place (a ++ b))) same_length ∙ ap (λ (n : ℕ). slice_range a (place + 8 + body_length place a) n) same_auth_end in
-      or_no _ _ (le-ltb (length a) (auth_end place a) (omega (arith, within, same_auth_end))) (ap (λ (xs : List ℕ). not (are_zero xs)) (sym same) ∙ zeros)
+  whole_again e = grind (arith, common_steps, or_parts, same_slice, body_first, same_length, same_auth_end, or_no, le-ltb)
 
 auth_last : (place : ℕ) (bytes : List ℕ) → place + 8 ≤ auth_end place bytes
 unfolding auth_end
@@ -264,11 +212,7 @@ body_within a b within = omega (arith, within)
 
 -- a credential's body
 same_body : (a b : List ℕ) → auth_end 24 (a ++ b) ≤ length a → credential_body (a ++ b) ≡ credential_body a
-same_body a b within =
-    let n : ℕ = body_length 24 (a ++ b) in
-    let some : 32 + n ≤ length a = body_within a b within in
-    let there : n ≤ length (drop 32 a) = omega (arith, some, length-drop 32 a) in
-    ap (λ (xs : List ℕ). take n xs) (drop-append-le 32 a b (omega (arith, some))) ∙ take-append-le n (drop 32 a) b there ∙ ap (λ (m : ℕ). take m (drop 32 a)) (same_length a b 24 within)
+same_body a b within = grind (arith, common_steps, take-append-le, body_within a b within, length-drop 32 a, drop-append-le 32 a b, same_length a b 24 within)
 
 abbrev said : List ℕ → Option ℕ
 said body = uid_of (body_of_sys body)
@@ -278,24 +222,7 @@ pair x y s t e f = rw (e, f) refl
 
 call_in_front : (a b : List ℕ) (place : ℕ) → Passed (a ++ b) place → place ≤ length a → Passed a place
 unfolding credential_end verifier_end sys_uid
-call_in_front a b place p front =
-    let ce : ℕ = auth_end 24 (a ++ b) in
-    let second : auth_end ce (a ++ b) ≤ length a = omega (arith, p.place_is, front) in
-    let first : ce ≤ length a = let last = auth_last ce (a ++ b) in omega (arith, last, second) in
-    let long : 32 ≤ length a = let last = auth_last 24 (a ++ b) in omega (arith, last, first) in
-    let end_is : ce ≡ auth_end 24 a = same_auth_end a b 24 first in
-    let flavor : word 6 (a ++ b) ≡ word 6 a = same_number a b 24 (omega (arith, long)) in
-    record {
-      is_call = ap (λ (n : ℕ). not (eqb n 0)) (sym (same_number a b 4 (omega (arith, long)))) ∙ p.is_call;
-      version = ap (λ (n : ℕ). not (eqb n 2)) (sym (same_number a b 8 (omega (arith, long)))) ∙ p.version;
-      credential_few = few_again a b 24 first p.credential_few;
-      credential_whole = whole_again a b 24 first p.credential_whole;
-      verifier_few = ap (λ (n : ℕ). is_over_long n a) (sym end_is) ∙ few_again a b ce second p.verifier_few;
-      verifier_whole = ap (λ (n : ℕ). is_broken n a) (sym end_is) ∙ whole_again a b ce second p.verifier_whole;
-      flavor_known = ap (λ (n : ℕ). ltb 1 n) (sym flavor) ∙ p.flavor_known;
-      readable = ap (λ (x : ℕ × List ℕ). eqb x.0 1 && not (is_some (said x.1))) (pair _ _ _ _ (sym flavor) (sym (same_body a b first))) ∙ p.readable;
-      place_is = ap (λ (n : ℕ). auth_end n a) (sym end_is) ∙ sym (same_auth_end a b ce second) ∙ p.place_is;
-    }
+call_in_front a b place p front = grind (arith, common_steps, auth_last, same_auth_end, same_number, few_again, whole_again, pair, same_body)
 
 -- ---- the arguments
 
@@ -311,24 +238,12 @@ behind_front a b head place is front =
 
 arguments_few : (a b : List ℕ) → length (arguments_of (a ++ b)) ≤ length (arguments_of a) + length b
 unfolding arguments_of
-arguments_few a b = by_verdict (verdict (a ++ b)) refl
-  where
-    by_verdict : (v : Verdict) → verdict (a ++ b) ≡ v → length (arguments_of (a ++ b)) ≤ length (arguments_of a) + length b
-    by_verdict NoCall is = rw is (omega arith)
-    by_verdict (RpcMismatch xid) is = rw is (omega arith)
-    by_verdict (AuthError xid stat) is = rw is (omega arith)
-    by_verdict (Call head place) is =
-        let size : length (arguments_of (a ++ b)) ≡ length a + length b - place = ap (λ (v : Verdict). length (behind_head v (a ++ b))) is ∙ length-drop place (a ++ b) ∙ ap (λ (n : ℕ). n - place) (length-append a b) in
-        elim (cases_lt (length a) place) [
-          | inl behind ↦ omega (arith, size, behind)
-          | inr front ↦ omega (arith, size, behind_front a b head place is front)
-        ]
+arguments_few a b = grind (arith, common_steps, length-drop, length-append, cases_lt, behind_front)
 
 -- ---- what is kept of them
 
 pub kept_few : (fed more : List ℕ) → length (kept_of (data_of (fed ++ more))) ≤ length (kept_of (data_of fed)) + length more
 kept_few fed more =
     let grows = data_of_more fed more in
-    let few : length (arguments_of (data_of (fed ++ more))) ≤ length (arguments_of (data_of fed)) + length grows.more =
-    subst (λ (xs : List ℕ). length (arguments_of xs) ≤ length (arguments_of (data_of fed)) + length grows.more) (sym grows.is) (arguments_few (data_of fed) grows.more) in
+    let few : length (arguments_of (data_of (fed ++ more))) ≤ length (arguments_of (data_of fed)) + length grows.more = grind (arith, common_steps, arguments_few) in
     omega (arith, few, grows.few, length-take longest_kept (arguments_of (data_of (fed ++ more))), length-take longest_kept (arguments_of (data_of fed)))

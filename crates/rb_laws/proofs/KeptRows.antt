@@ -5,6 +5,7 @@ use Rattle.std.proofs.Common.{◌≡◌, ◌≤◌, ◌<◌, ℕ, suc, ◌+◌, 
 use Rattle.std.proofs.lemmas.Bool.{and_parts, lt-ltb, ltb-true, leb-true, le-leb, eqb-true, eq-eqb}
 use Rattle.std.proofs.lemmas.Bool.Decides.{nat_tests}
 use Rattle.std.proofs.lemmas.List.Elements.{filter-append}
+use Rattle.std.proofs.lemmas.Grind.{common_steps}
 use Rattle.rb_registry.specs.declared.row.Row.{Row}
 use Rattle.rb_registry.specs.declared.slot.Slot.{Slot}
 use Rattle.rb_registry.specs.Rows.{Change, covers, left_by}
@@ -28,17 +29,11 @@ keeps change c = is_before change (stamp_in c.phase)
 
 pub retained_by : (change : ℕ) (all : List Connection) → is_needed_for (list_stamps all) change ≡ list_any (keeps change) all
 unfolding list_stamps
-retained_by change [] = refl
-retained_by change (c ∷ all) = by_began (stamp_in c.phase) refl (retained_by change all)
-  where
-    by_began : (o : Option ℕ) → stamp_in c.phase ≡ o → is_needed_for (list_stamps all) change ≡ list_any (keeps change) all → is_needed_for (list_stamps (c ∷ all)) change ≡ list_any (keeps change) (c ∷ all)
-    by_began None e rest = rw e rest
-    by_began (Some n) e rest = rw e (ap (λ (b : Bool). nat_lt n change || b) rest)
+retained_by change [] = grind arith
+retained_by change (c ∷ all) = grind (arith, retained_by change all)
 
 either : (a b c d : Bool) → (a ≡ true → c ≡ true) → (b ≡ true → d ≡ true) → (a || b) ≡ true → (c || d) ≡ true
-either true b c d first further e = rw (first refl) refl
-either false b true d first further e = refl
-either false b false d first further e = further e
+either a b c d first further e = grind arith
 
 -- Of the first so many changes, these connections keep no row that those didn't.
 abbrev pub KeepsLess : ℕ → List Connection → List Connection → Type 0
@@ -51,32 +46,16 @@ pub same-kept : (most : ℕ) (all : List Connection) → KeepsLess most all all
 same-kept most all change few is = is
 
 pub changed-kept : (most : ℕ) (test : Connection → Bool) (f : Connection → Connection) → KeepsNoMore most f → (all : List Connection) → KeepsLess most (change_first test f all) all
-changed-kept most test f less [] change few is = is
-changed-kept most test f less (c ∷ all) change few is = by_test (test c) is (changed-kept most test f less all change few)
-  where
-    by_test : (b : Bool) → list_any (keeps change) (cond b (f c ∷ all) (c ∷ change_first test f all)) ≡ true
-        → (list_any (keeps change) (change_first test f all) ≡ true → list_any (keeps change) all ≡ true) → (keeps change c || list_any (keeps change) all) ≡ true
-    by_test true e further = either (keeps change (f c)) (list_any (keeps change) all) (keeps change c) (list_any (keeps change) all) (less change few c) (λ x. x) e
-    by_test false e further = either (keeps change c) (list_any (keeps change) (change_first test f all)) (keeps change c) (list_any (keeps change) all) (λ x. x) further e
+changed-kept most test f less [] change few is = grind arith
+changed-kept most test f less (c ∷ all) change few is = grind (arith, changed-kept most test f less all change few)
 
 pub mapped-kept : (most : ℕ) (f : Connection → Connection) → KeepsNoMore most f → (all : List Connection) → KeepsLess most (map f all) all
-mapped-kept most f less [] change few is = is
-mapped-kept most f less (c ∷ all) change few is =
-    either (keeps change (f c)) (list_any (keeps change) (map f all)) (keeps change c) (list_any (keeps change) all) (less change few c) (mapped-kept most f less all change few) is
+mapped-kept most f less [] change few is = grind arith
+mapped-kept most f less (c ∷ all) change few is = grind (arith, mapped-kept most f less all change few)
 
 pub filtered-kept : (most : ℕ) (test : Connection → Bool) (all : List Connection) → KeepsLess most (filter test all) all
-filtered-kept most test [] change few is = is
-filtered-kept most test (c ∷ all) change few is = by_test (test c) is (filtered-kept most test all change few)
-  where
-    by_test : (b : Bool) → list_any (keeps change) (cond b (c ∷ filter test all) (filter test all)) ≡ true
-        → (list_any (keeps change) (filter test all) ≡ true → list_any (keeps change) all ≡ true) → (keeps change c || list_any (keeps change) all) ≡ true
-    by_test true e further = either (keeps change c) (list_any (keeps change) (filter test all)) (keeps change c) (list_any (keeps change) all) (λ x. x) further e
-    by_test false e further = elim (keeps change c) as (λ b. (b || list_any (keeps change) all) ≡ true) [ true ↦ refl | false ↦ further e ]
-
-pub one-more-kept : (most : ℕ) (all : List Connection) (c : Connection) → stamp_in c.phase ≡ None → KeepsLess most (all ++ c ∷ []) all
-one-more-kept most [] c none change few is = let clash : false ≡ true = rw none at is in absurd cc
-one-more-kept most (d ∷ all) c none change few is =
-    either (keeps change d) (list_any (keeps change) (all ++ c ∷ [])) (keeps change d) (list_any (keeps change) all) (λ x. x) (one-more-kept most all c none change few) is
+filtered-kept most test [] change few is = grind arith
+filtered-kept most test (c ∷ all) change few is = grind (arith, filtered-kept most test all change few)
 
 -- ---- how many rows are live or kept
 
@@ -95,37 +74,17 @@ abbrev removals : List Slot → List ℕ
 removals slots = filter_map (λ (slot : Slot). slot.removed) slots
 
 parted : (all : List Connection) (slots : List Slot) → length (filter (counts all) slots) ≡ length (filter is_there slots) + length (filter (is_needed_for (list_stamps all)) (removals slots))
-parted all [] = refl
-parted all (slot ∷ slots) = by_removed slot.removed refl (parted all slots)
-  where
-    by_removed : (o : Option ℕ) → slot.removed ≡ o → length (filter (counts all) slots) ≡ length (filter is_there slots) + length (filter (is_needed_for (list_stamps all)) (removals slots))
-        → length (filter (counts all) (slot ∷ slots)) ≡ length (filter is_there (slot ∷ slots)) + length (filter (is_needed_for (list_stamps all)) (removals (slot ∷ slots)))
-    by_removed None e rest = rw e (omega (arith, rest))
-    by_removed (Some change) e rest = by_test (list_any (keeps change) all) refl
-      where
-        by_test : (b : Bool) → list_any (keeps change) all ≡ b → length (filter (counts all) (slot ∷ slots)) ≡ length (filter is_there (slot ∷ slots)) + length (filter (is_needed_for (list_stamps all)) (removals (slot ∷ slots)))
-        by_test true t = let kept : is_needed_for (list_stamps all) change ≡ true = retained_by change all ∙ t in rw e (rw (t, kept) (omega (arith, rest)))
-        by_test false t = let kept : is_needed_for (list_stamps all) change ≡ false = retained_by change all ∙ t in rw e (rw (t, kept) rest)
+parted all [] = grind (arith, common_steps, retained_by)
+parted all (slot ∷ slots) = grind (arith, common_steps, retained_by, parted all slots)
 
 none-removes : (count : ℕ) (row : Row) (later : List Change) → is_none (removal_of count row later) ≡ not (list_any (covers row) later)
-none-removes count row [] = refl
-none-removes count row (change ∷ later) = by_test (covers row change) (none-removes (count + 1) row later)
-  where
-    by_test : (b : Bool) → is_none (removal_of (count + 1) row later) ≡ not (list_any (covers row) later)
-        → is_none (cond b (Some (count + 1)) (removal_of (count + 1) row later)) ≡ not (b || list_any (covers row) later)
-    by_test true rest = refl
-    by_test false rest = rest
+none-removes count row [] = grind arith
+none-removes count row (change ∷ later) = grind (arith, none-removes (count + 1) row later)
 
 left-there : (count : ℕ) (changes : List Change) → length (filter is_there (slots_by count changes)) ≡ length (left_by changes)
-left-there count [] = refl
-left-there count (Removed prog vers which owner ∷ later) = left-there (count + 1) later
-left-there count (Added row ∷ later) = rw (none-removes (count + 1) row later) (by_test (list_any (covers row) later) (left-there (count + 1) later))
-  where
-    by_test : (b : Bool) → length (filter is_there (slots_by (count + 1) later)) ≡ length (left_by later)
-        → length (cond (not b) (record { row = row; added = count + 1; removed = removal_of (count + 1) row later } ∷ filter is_there (slots_by (count + 1) later)) (filter is_there (slots_by (count + 1) later)))
-        ≡ length (cond b (left_by later) (row ∷ left_by later))
-    by_test true rest = rest
-    by_test false rest = ap suc rest
+left-there count [] = grind (arith, common_steps, none-removes)
+left-there count (Removed prog vers which owner ∷ later) = grind (arith, common_steps, none-removes, left-there (count + 1) later)
+left-there count (Added row ∷ later) = grind (arith, common_steps, none-removes, left-there (count + 1) later)
 
 own-there : (test : Slot → Bool) → ((row : Row) → test (slot_of 0 row) ≡ true) → (own : List Row) → length (filter test (map (slot_of 0) own)) ≡ length own
 own-there test all_pass [] = refl
@@ -136,20 +95,11 @@ abbrev pub total : List Connection → List Row → List Change → ℕ
 total all own changes = length (filter (counts all) (all_slots own changes))
 
 total-parts : (all : List Connection) (own : List Row) (changes : List Change) → total all own changes ≡ length own + length (filter (counts all) (slots_by 0 changes))
-total-parts all own changes =
-    ap (λ (xs : List Slot). length xs) (filter-append (counts all) (map (slot_of 0) own) (slots_by 0 changes))
-    ∙ length-append (filter (counts all) (map (slot_of 0) own)) (filter (counts all) (slots_by 0 changes))
-    ∙ ap (λ (n : ℕ). n + length (filter (counts all) (slots_by 0 changes))) (own-there (counts all) (λ row. refl) own)
+total-parts all own changes = grind (arith, common_steps, filter-append, length-append, own-there)
 
 pub total-is : (all : List Connection) (l : Ledger) → total all l.own l.changes ≡ length (rows_in l) + length (needed_removals all l)
 unfolding needed_removals
-total-is all l =
-    let slots : List Slot = all_slots l.own l.changes in
-    let there : length (filter is_there slots) ≡ length l.own + length (left_by l.changes) =
-    ap (λ (xs : List Slot). length xs) (filter-append is_there (map (slot_of 0) l.own) (slots_by 0 l.changes))
-    ∙ length-append (filter is_there (map (slot_of 0) l.own)) (filter is_there (slots_by 0 l.changes))
-    ∙ rw (own-there is_there (λ row. refl) l.own, left-there 0 l.changes) refl in
-    omega (arith, parted all slots, there, length-append l.own (left_by l.changes))
+total-is all l = grind (arith, common_steps, filter-append, length-append, own-there, left-there, parted)
 
 -- ---- changes more
 
@@ -160,57 +110,24 @@ added_by (Added row ∷ changes) = suc (added_by changes)
 added_by (Removed prog vers which owner ∷ changes) = added_by changes
 
 few-added : (test : Slot → Bool) (count : ℕ) (changes : List Change) → length (filter test (slots_by count changes)) ≤ added_by changes
-few-added test count [] = omega arith
-few-added test count (Removed prog vers which owner ∷ later) = few-added test (count + 1) later
-few-added test count (Added row ∷ later) = by_test (test slot) (few-added test (count + 1) later)
-  where
-    slot : Slot
-    slot = record { row = row; added = count + 1; removed = removal_of (count + 1) row later }
-
-    by_test : (b : Bool) → length (filter test (slots_by (count + 1) later)) ≤ added_by later
-        → length (cond b (slot ∷ filter test (slots_by (count + 1) later)) (filter test (slots_by (count + 1) later))) ≤ suc (added_by later)
-    by_test true rest = omega (arith, rest)
-    by_test false rest = omega (arith, rest)
+few-added test count [] = grind arith
+few-added test count (Removed prog vers which owner ∷ later) = grind (arith, few-added test (count + 1) later)
+few-added test count (Added row ∷ later) = grind (arith, few-added test (count + 1) later)
 
 module _ (most : ℕ) (new old : List Connection) (less : KeepsLess most new old) (extra : List Change) where
   removal-more : (count : ℕ) (row : Row) (later : List Change) → count + length later ≤ most
       → counts_for new (removal_of count row (later ++ extra)) ≡ true → counts_for old (removal_of count row later) ≡ true
-  removal-more count row [] few is = refl
-  removal-more count row (change ∷ later) few is = by_test (covers row change) is (removal-more (count + 1) row later (omega (arith, few)))
-    where
-      by_test : (b : Bool) → counts_for new (cond b (Some (count + 1)) (removal_of (count + 1) row (later ++ extra))) ≡ true
-          → (counts_for new (removal_of (count + 1) row (later ++ extra)) ≡ true → counts_for old (removal_of (count + 1) row later) ≡ true)
-          → counts_for old (cond b (Some (count + 1)) (removal_of (count + 1) row later)) ≡ true
-      by_test true e further = less (count + 1) (omega (arith, few)) e
-      by_test false e further = further e
+  removal-more count row [] few is = grind arith
+  removal-more count row (change ∷ later) few is = grind (arith, removal-more (count + 1) row later (omega (arith, few)))
 
   slots-more : (count : ℕ) (changes : List Change) → count + length changes ≤ most
       → length (filter (counts new) (slots_by count (changes ++ extra))) ≤ length (filter (counts old) (slots_by count changes)) + added_by extra
-  slots-more count [] few = let some = few-added (counts new) count extra in omega (arith, some)
-  slots-more count (Removed prog vers which owner ∷ later) few = slots-more (count + 1) later (omega (arith, few))
-  slots-more count (Added row ∷ later) few =
-      by_tests (counts_for new (removal_of (count + 1) row (later ++ extra))) (counts_for old (removal_of (count + 1) row later))
-      (removal-more (count + 1) row later (omega (arith, few))) (slots-more (count + 1) later (omega (arith, few)))
-    where
-      more : List Slot
-      more = filter (counts new) (slots_by (count + 1) (later ++ extra))
-
-      rest : List Slot
-      rest = filter (counts old) (slots_by (count + 1) later)
-
-      by_tests : (a b : Bool) → (a ≡ true → b ≡ true) → length more ≤ length rest + added_by extra
-          → length (cond a (record { row = row; added = count + 1; removed = removal_of (count + 1) row (later ++ extra) } ∷ more) more)
-          ≤ length (cond b (record { row = row; added = count + 1; removed = removal_of (count + 1) row later } ∷ rest) rest) + added_by extra
-      by_tests true true also few_more = omega (arith, few_more)
-      by_tests true false also few_more = let clash : false ≡ true = also refl in absurd cc
-      by_tests false true also few_more = omega (arith, few_more)
-      by_tests false false also few_more = few_more
+  slots-more count [] few = grind (arith, common_steps, few-added, removal-more)
+  slots-more count (Removed prog vers which owner ∷ later) few = grind (arith, common_steps, few-added, removal-more, slots-more (count + 1) later (omega (arith, few)))
+  slots-more count (Added row ∷ later) few = grind (arith, common_steps, few-added, removal-more, slots-more (count + 1) later (omega (arith, few)))
 
   pub total-more : (own : List Row) (changes now : List Change) → length changes ≤ most → now ≡ changes ++ extra → total new own now ≤ total old own changes + added_by extra
-  total-more own changes now few is =
-      let more = slots-more 0 changes (omega (arith, few)) in
-      let same : length (filter (counts new) (slots_by 0 now)) ≡ length (filter (counts new) (slots_by 0 (changes ++ extra))) = ap (λ (cs : List Change). length (filter (counts new) (slots_by 0 cs))) is in
-      omega (arith, more, same, total-parts new own now, total-parts old own changes)
+  total-more own changes now few is = grind (arith, common_steps, slots-more, total-parts)
 
 -- ---- eviction makes room
 
@@ -260,15 +177,7 @@ module _ (change : ℕ) (changes : List ℕ) (m : ℕ) (low : list_all (λ n. na
   -- so no connection keeps the row of the least once those are evicted
   none-keeps : (c : Connection) → keeps m (evict_early (change ∷ changes) c) ≡ false
   unfolding evict_early
-  none-keeps c = by_began (stamp_in c.phase) refl
-    where
-      by_began : (o : Option ℕ) → stamp_in c.phase ≡ o → is_before m (stamp_in (cond (began_before (change ∷ changes) (stamp_in c.phase)) (lose c) c).phase) ≡ false
-      by_began None e = rw e (rw e refl)
-      by_began (Some n) e = rw e (by_early (nat_lt n m) refl)
-        where
-          by_early : (b : Bool) → nat_lt n m ≡ b → is_before m (stamp_in (cond (list_all (λ later. nat_lt n later) (change ∷ changes)) (lose c) c).phase) ≡ false
-          by_early true t = rw (before-all n m t (change ∷ changes) low) refl
-          by_early false t = elim (list_all (λ later. nat_lt n later) (change ∷ changes)) as (λ b. is_before m (stamp_in (cond b (lose c) c).phase) ≡ false) [ true ↦ refl | false ↦ rw e t ]
+  none-keeps c = grind (arith, common_steps, before-all)
 
   pub none-keep : (all : List Connection) → list_any (keeps m) (map (evict_early (change ∷ changes)) all) ≡ false
   none-keep [] = refl
@@ -277,29 +186,11 @@ module _ (change : ℕ) (changes : List ℕ) (m : ℕ) (low : list_all (λ n. na
 -- ---- fewer rows are kept
 
 fewer : (p q : ℕ → Bool) → ((n : ℕ) → p n ≡ true → q n ≡ true) → (xs : List ℕ) → length (filter p xs) ≤ length (filter q xs)
-fewer p q also [] = omega arith
-fewer p q also (x ∷ xs) = by_tests (p x) (q x) (also x) (fewer p q also xs)
-  where
-    by_tests : (a b : Bool) → (a ≡ true → b ≡ true) → length (filter p xs) ≤ length (filter q xs) → length (cond a (x ∷ filter p xs) (filter p xs)) ≤ length (cond b (x ∷ filter q xs) (filter q xs))
-    by_tests true true then rest = omega (arith, rest)
-    by_tests true false then rest = let clash : false ≡ true = then refl in absurd cc
-    by_tests false true then rest = omega (arith, rest)
-    by_tests false false then rest = rest
+fewer p q also [] = grind arith
+fewer p q also (x ∷ xs) = grind (arith, fewer p q also xs)
 
 -- one of them passes the second test alone
 pub one-fewer : (p q : ℕ → Bool) → ((n : ℕ) → p n ≡ true → q n ≡ true) → (m : ℕ) → p m ≡ false → (xs : List ℕ) → list_any (λ n. eqb n m) (filter q xs) ≡ true
     → length (filter p xs) < length (filter q xs)
-one-fewer p q also m out [] is = let clash : false ≡ true = is in absurd cc
-one-fewer p q also m out (x ∷ xs) is = by_tests (p x) refl (q x) refl (also x) is (one-fewer p q also m out xs)
-  where
-    by_tests : (a : Bool) → p x ≡ a → (b : Bool) → q x ≡ b → (a ≡ true → b ≡ true) → list_any (λ n. eqb n m) (cond b (x ∷ filter q xs) (filter q xs)) ≡ true
-        → (list_any (λ n. eqb n m) (filter q xs) ≡ true → length (filter p xs) < length (filter q xs))
-        → length (cond a (x ∷ filter p xs) (filter p xs)) < length (cond b (x ∷ filter q xs) (filter q xs))
-    by_tests true e false f then some further = let clash : false ≡ true = then refl in absurd cc
-    by_tests false e false f then some further = further some
-    by_tests false e true f then some further = let rest = fewer p q also xs in omega (arith, rest)
-    by_tests true e true f then some further = by_number (eqb x m) refl some
-      where
-        by_number : (b : Bool) → eqb x m ≡ b → (b || list_any (λ n. eqb n m) (filter q xs)) ≡ true → suc (length (filter p xs)) < suc (length (filter q xs))
-        by_number true same found = let clash : false ≡ true = sym out ∙ ap p (sym (eqb-true x m same)) ∙ e in absurd cc
-        by_number false other found = let rest = further found in omega (arith, rest)
+one-fewer p q also m out [] is = grind (arith, common_steps, fewer, eqb-true)
+one-fewer p q also m out (x ∷ xs) is = grind (arith, common_steps, fewer, eqb-true, one-fewer p q also m out xs)

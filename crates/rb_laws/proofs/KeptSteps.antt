@@ -3,6 +3,7 @@ use Rattle.std.specs.Prelude.{filter, take, ⊤}
 use Rattle.std.specs.List.{list_any}
 use Rattle.std.proofs.Common.{◌≡◌, ◌≤◌, ◌<◌, ℕ, ◌+◌, max, Bool, true, false, cond, nat_lt, eqb, not, min, Option, Some, None, Result, Ok, Err, List, [], ◌∷◌, ◌++◌, length, map, refl, sym, ap, subst, ◌∙◌, append-nil, arith}
 use Rattle.std.proofs.lemmas.Bool.{ltb-true, ltb-false}
+use Rattle.std.proofs.lemmas.Grind.{common_steps}
 use Rattle.rb_rpc.specs.declared.call.CallHead.{CallHead}
 use Rattle.rb_rpc.specs.declared.peer.Peer.{Peer}
 use Rattle.rb_rpc.specs.declared.peer.Caller.{Caller}
@@ -60,7 +61,7 @@ use Rattle.rb_laws.proofs.Crowding.{none_evicted, not_crowded, crowded}
 use Rattle.rb_laws.proofs.EntriesKept.{after-setting}
 use Rattle.rb_laws.proofs.Happenings.{Arriving, arriving}
 use Rattle.rb_laws.proofs.Happenings.Arriving.{NotThere, NotTaken, ReadOn, Ended}
-use Rattle.rb_laws.proofs.KeptRows.{keeps, is_before, retained_by, KeepsLess, KeepsNoMore, same-kept, changed-kept, mapped-kept, filtered-kept, one-more-kept, total, total-is, total-more, Least, least-of, none-keep, one-fewer}
+use Rattle.rb_laws.proofs.KeptRows.{keeps, is_before, retained_by, KeepsLess, KeepsNoMore, same-kept, changed-kept, mapped-kept, filtered-kept, total, total-is, total-more, Least, least-of, none-keep, one-fewer}
 
 -- ---- what a call leaves behind
 
@@ -90,24 +91,11 @@ unset-effect context head prog vers (Some which) l = by_test (accepts_removal co
 
 getport-effect : (head : CallHead) (m : Mapping) (l : Ledger) → Effect false l (getport head m l).1
 unfolding getport
-getport-effect head m l = by_transport (transport_of_prot m.prot)
-  where
-    by_transport : (o : Option Transport) → Effect false l (port_on head m o l).1
-    by_transport None = Same refl refl
-    by_transport (Some transport) = Same refl refl
+getport-effect head m l = grind arith
 
 forward-effect : (context : Context) (xid : ℕ) (kind : Kind) (remote : RemoteCall) (arguments : List ℕ) (l : Ledger) → Effect false l (forward_call context xid kind remote arguments l).1
 unfolding forward_call
-forward-effect context xid kind remote arguments l = by_peer (peer_to_forward remote.prog remote.vers (rows_in l))
-  where
-    by_room : (peer : Peer) (b : Bool) → Effect false l
-        (cond b (answers.Forwarded, record l { forwards = with_next_entry context.clock (forward_of context xid kind remote peer) (args_of remote arguments) l.forwards }) (refuse context kind remote replies.SystemErr l)).1
-    by_room peer true = Same refl refl
-    by_room peer false = Same refl refl
-
-    by_peer : (o : Option Peer) → Effect false l (forward_to context xid kind remote (args_of remote arguments) o l).1
-    by_peer None = Same refl refl
-    by_peer (Some peer) = by_room peer (can_start context.forwards l.forwards)
+forward-effect context xid kind remote arguments l = grind arith
 
 answer-effect : (context : Context) (head : CallHead) (request : Request) (arguments : List ℕ) (l : Ledger)
     → Effect (adds context (rows_in l) (length l.changes) (row_asked head request)) l (answer_to context head request arguments l).1
@@ -148,42 +136,13 @@ IsStamped n NoCall = ⊤
 IsStamped n Forwarded = ⊤
 IsStamped n Silent = ⊤
 
-results-stamped : (caller : Caller) (n xid : ℕ) (bytes : List ℕ) (r : Results) → IsStamped n (results_outcome caller n xid bytes r)
-results-stamped (Tcp id peer) n xid bytes (results.Rows list) = refl
-results-stamped (Udp peer) n xid bytes (results.Rows list) = tt
-results-stamped (Tcp id peer) n xid bytes (results.Value value) = tt
-results-stamped (Udp peer) n xid bytes (results.Value value) = tt
-results-stamped (Tcp id peer) n xid bytes results.Statistics = tt
-results-stamped (Udp peer) n xid bytes results.Statistics = tt
-
-answer-stamped : (caller : Caller) (n xid : ℕ) (bytes_of : Results → List ℕ) (given : Answer) → IsStamped n (answer_outcome caller n xid bytes_of given)
-answer-stamped caller n xid bytes_of (answers.Results r) = results-stamped caller n xid (bytes_of r) r
-answer-stamped caller n xid bytes_of (answers.Refused status) = tt
-answer-stamped caller n xid bytes_of answers.Forwarded = tt
-answer-stamped caller n xid bytes_of answers.Silent = tt
-
 outcome-stamped : (context : Context) (message : Message) (arguments : List ℕ) (l : Ledger)
     → IsStamped (length (outcome context message arguments l).1.changes) (outcome context message arguments l).0
 unfolding outcome
-outcome-stamped context says.NoCall arguments l = tt
-outcome-stamped context (says.Refused head) arguments l = tt
-outcome-stamped context (says.Garbage head) arguments l = tt
-outcome-stamped context (says.Asked call) arguments l = answer-stamped context.caller _ call.head.xid _ (answer context call arguments (with_call_noted call.head l)).0
-
-refused-stamped : (n xid : ℕ) (given : Answer) → IsStamped n (refused_by xid given)
-refused-stamped n xid (answers.Refused status) = tt
-refused-stamped n xid (answers.Results r) = tt
-refused-stamped n xid answers.Forwarded = tt
-refused-stamped n xid answers.Silent = tt
+outcome-stamped context message arguments l = grind arith
 
 ended-stamped : (n : ℕ) (message : List ℕ) (ended : EntryEnd) → IsStamped n (outcome_at_end message ended)
-ended-stamped n message ended = by_outcome ended.outcome
-  where
-    by_outcome : (o : target.Outcome) → IsStamped n (outcome_of_end ended.forward message o)
-    by_outcome (ends.Passed place) = tt
-    by_outcome (ends.Refused status) = refused-stamped n ended.forward.xid (refusal ended.forward.kind status)
-    by_outcome ends.Failed = refused-stamped n ended.forward.xid (refusal ended.forward.kind replies.SystemErr)
-    by_outcome ends.Dropped = tt
+ended-stamped n message ended = grind arith
 
 -- ---- what a connection keeps after it
 
@@ -196,38 +155,15 @@ lost-keeps most change few c is = absurd cc
 
 settled-keeps : (n clock : ℕ) (said : Outcome) → IsStamped n said → KeepsNoMore n (settle clock said)
 unfolding settle
-settled-keeps n clock NoCall stamped change few c is = absurd cc
-settled-keeps n clock (Reply reply None) stamped change few c is = absurd cc
-settled-keeps n clock (Reply reply (Some began)) stamped change few c is = absurd (omega (arith, ltb-true began change is, stamped, few))
-settled-keeps n clock Forwarded stamped change few c is = absurd cc
-settled-keeps n clock Silent stamped change few c is = absurd cc
-
-given-keeps : (n change : ℕ) (p : Phase) → is_before change (stamp_in (phase_when_given n p)) ≡ true → is_before change (stamp_in p) ≡ true
-given-keeps n change Idle is = is
-given-keeps n change (Reading fed) is = is
-given-keeps n change Awaiting is = is
-given-keeps n change Lost is = is
-given-keeps n change (Owing o) is = by_test (nat_lt (o.given + n) (length o.marked)) is
-  where
-    by_test : (b : Bool) → is_before change (stamp_in (cond b (Owing (record o { given = o.given + n })) Idle)) ≡ true → is_before change o.stamp ≡ true
-    by_test true e = e
-    by_test false e = absurd cc
+settled-keeps n clock said stamped change few c is = grind arith
 
 giving-keeps : (most clock n : ℕ) → KeepsNoMore most (λ c. (give clock n c).1)
 unfolding give with_given
-giving-keeps most clock n change few c is = by_test (eqb (min n (length (pending_in c.phase))) 0) is
-  where
-    by_test : (b : Bool) → keeps change (cond b c (record c { phase = phase_when_given (min n (length (pending_in c.phase))) c.phase; since = clock })) ≡ true → keeps change c ≡ true
-    by_test true e = e
-    by_test false e = given-keeps (min n (length (pending_in c.phase))) change c.phase e
+giving-keeps most clock n change few c is = grind arith
 
 evicted-keeps : (most : ℕ) (changes : List ℕ) → KeepsNoMore most (evict_early changes)
 unfolding evict_early
-evicted-keeps most changes change few c is = by_test (began_before changes (stamp_in c.phase)) is
-  where
-    by_test : (b : Bool) → keeps change (cond b (lose c) c) ≡ true → keeps change c ≡ true
-    by_test true e = absurd cc
-    by_test false e = e
+evicted-keeps most changes change few c is = grind arith
 
 -- ---- a call is answered, once there is room for what it adds
 
@@ -241,8 +177,7 @@ module _ (context : Context) (message : Message) (all : List Connection) (l : Le
   evicted-fits change changes is =
       let now : List Connection = map (evict_early (change ∷ changes)) all in
       let least : Least (change ∷ changes) = least-of change changes in
-      let also : (n : ℕ) → is_needed_for (list_stamps now) n ≡ true → is_needed_for (list_stamps all) n ≡ true =
-      λ n kept. retained_by n all ∙ mapped-kept n (evict_early (change ∷ changes)) (evicted-keeps n (change ∷ changes)) all n (omega arith) (sym (retained_by n now) ∙ kept) in
+      let also : (n : ℕ) → is_needed_for (list_stamps now) n ≡ true → is_needed_for (list_stamps all) n ≡ true = grind (arith, common_steps, retained_by, mapped-kept, evicted-keeps) in
       let out : is_needed_for (list_stamps now) least.value ≡ false = retained_by least.value now ∙ none-keep change changes least.value least.low all in
       let there : list_any (λ n. eqb n least.value) (needed_removals all l) ≡ true = ap (λ (xs : List ℕ). list_any (λ n. eqb n least.value) xs) is ∙ least.there in
       let fewer = one-fewer (is_needed_for (list_stamps now)) (is_needed_for (list_stamps all)) also least.value out (removals_by l) there in
@@ -312,8 +247,7 @@ module _ (s : State) (fits : Fits s) where
   serve-stamped now caller content = outcome-stamped (context_in (at_moment now s) caller) (message_of content) (arguments_of content) s.ledger
 
   output-fits : {A : Type 0} (show : A → Output) (r : Result A CoreFault) (u : State) → Fits u → Fits (output_or show (r, u)).1
-  output-fits show (Ok x) u f = f
-  output-fits show (Err fault) u f = f
+  output-fits show r u f = grind arith
 
   bytes-fit : (now id : ℕ) (piece : List ℕ) (r : Result Taken CoreFault × State) → Arriving s now id piece r → Fits (output_or show_taken r).1
   bytes-fit now id piece r (NotThere none is) = rw is fits
@@ -326,61 +260,35 @@ module _ (s : State) (fits : Fits s) where
       rw is (one-fits u.1 (serve-fits now (Tcp id c.peer) content) id (settle (max s.clock now) u.0) (settled-keeps (length u.1.ledger.changes) (max s.clock now) u.0 (serve-stamped now (Tcp id c.peer) content)))
 
   gave-fits : (now id n : ℕ) (o : Option Connection) → Fits (output_or show_done (unless_refused now s (on_found id (give (max s.clock now) n) s.connections o))).1
-  gave-fits now id n None = fits
-  gave-fits now id n (Some c) = one-fits s fits id (λ x. (give (max s.clock now) n x).1) (giving-keeps (length s.ledger.changes) (max s.clock now) n)
+  gave-fits now id n o = grind (arith, common_steps, one-fits, giving-keeps)
 
   opened-fits : (now : ℕ) (peer : Peer) (r : Result ℕ CoreFault) → Fits (output_or Opened (unless_refused now s (opening_as peer (max s.clock now) s.connections r))).1
-  opened-fits now peer (Err fault) = fits
-  opened-fits now peer (Ok number) =
-      let new : Connection = record { number = s.connections.next; peer = peer; phase = Idle; since = max s.clock now } in
-      kept-fits s fits (s.connections.all ++ new ∷ []) (one-more-kept (length s.ledger.changes) s.connections.all new refl)
+  opened-fits now peer r = grind (arith, common_steps)
 
   closed-fits : (id : ℕ) (b : Bool) → Fits (output_or show_done (dropped_with s id (cond b (Ok tt, without_number id s.connections) (Err Gone, s.connections)))).1
   unfolding without_number caller_dropped
-  closed-fits id true =
-      let others : Connection → Bool = λ x. not (eqb x.number id) in
-      kept-fits s fits (filter others s.connections.all) (filtered-kept (length s.ledger.changes) others s.connections.all)
-  closed-fits id false = fits
+  closed-fits id b = grind (arith, common_steps, kept-fits, filtered-kept)
 
   sent-fits : (number : ℕ) (b : Bool) → Fits (output_or show_done (cond b (Ok tt, record s { ledger = call_sent number s.ledger }) (Err Gone, s))).1
   unfolding call_sent
-  sent-fits number true = fits
-  sent-fits number false = fits
+  sent-fits number b = grind arith
 
   outcome-fits : (r : Outcome × State) → Fits r.1 → Fits (show_outcome (with_reply r)).1
-  outcome-fits (outcomes.NoCall, u) f = f
-  outcome-fits (outcomes.Reply reply began, u) f = f
-  outcome-fits (outcomes.Forwarded, u) f = f
-  outcome-fits (outcomes.Silent, u) f = f
+  outcome-fits r f = grind arith
 
   either-fits : (b : Bool) (x y : Output × State) → Fits x.1 → Fits y.1 → Fits (cond b x y).1
-  either-fits true x y one other = one
-  either-fits false x y one other = other
+  either-fits b x y one other = grind arith
 
   -- an end of an entry leaves a note alone
   told-fits : (now : ℕ) (message : List ℕ) (r : Option EntryEnd × Ledger) → r.1.own ≡ s.ledger.own → r.1.changes ≡ s.ledger.changes → Fits (tell_end message (at_fresh_moment now s) r).1
-  told-fits now message (None, l) own changes = omega (arith, fits, same-rows s.connections.all l s.ledger own changes)
-  told-fits now message (Some ended, l) own changes = by_caller ended.forward.caller
-    where
-      by_caller : (caller : Caller) → Fits (tell caller (outcome_at_end message ended) (record (at_fresh_moment now s) { ledger = l })).1
-      by_caller (Tcp id peer) =
-          let goes_on : Connection → Connection = settle (max s.clock now) (outcome_at_end message ended) in
-          let one = one-fits s fits id goes_on (settled-keeps (length s.ledger.changes) (max s.clock now) (outcome_at_end message ended) (ended-stamped (length s.ledger.changes) message ended)) in
-          omega (arith, one, same-rows (change_first (is_live id) goes_on s.connections.all) l s.ledger own changes)
-      by_caller (Udp peer) = omega (arith, fits, same-rows s.connections.all l s.ledger own changes)
+  told-fits now message r own changes = grind (arith, common_steps, same-rows, one-fits, settled-keeps, ended-stamped)
 
   end-fits : (r : Option Told × State) → Fits r.1 → Fits (show_end r).1
-  end-fits (None, u) f = f
-  end-fits (Some told, u) f = f
+  end-fits r f = grind arith
 
   expired-fits : (r : Option Told × State) → Fits r.1 → Fits (show_expired (expired_as r)).1
   unfolding expire_connection expire_first
-  expired-fits (Some told, u) f = f
-  expired-fits (None, u) f = by_due (first_due u.clock u.connections)
-    where
-      by_due : (o : Option ℕ) → Fits (show_expired (lost_as o, record u { connections = with_lost o u.connections })).1
-      by_due None = f
-      by_due (Some id) = one-fits u f id lose (lost-keeps (length u.ledger.changes))
+  expired-fits r f = grind (arith, common_steps, one-fits, lost-keeps)
 
   step-fits : (event : Event) → Fits (step s event).1
   unfolding step open_connection open_in_table gave close_connection close_in_table datagram sent_call forward_reply expire target_replied fell_due
@@ -403,9 +311,4 @@ after-fits s (event ∷ events) fits = after-fits (step s event).1 events (step-
 -- The own rows are six.
 pub reached-fits : (s : State) → IsReached s → 6 ≤ s.setting.limits.rows → Fits s
 unfolding own_rows
-reached-fits s r few =
-    let start : State = opening r.limits r.listener r.first_xid r.now in
-    let setting : s.setting ≡ start.setting = ap (λ (t : State). t.setting) r.is ∙ after-setting start r.events in
-    let rows : s.setting.limits.rows ≡ r.limits.rows = ap (λ (x : Setting). x.limits.rows) setting in
-    let six : Fits start = omega (arith, few, rows) in
-    subst Fits (sym r.is) (after-fits start r.events six)
+reached-fits s r few = grind (arith, common_steps, after-setting, after-fits)

@@ -2,6 +2,7 @@
 use Rattle.std.specs.Prelude.{All, Any, find, option_map}
 use Rattle.std.proofs.Common.{◌≡◌, ◌≤◌, ℕ, suc, ◌+◌, Bool, true, false, cond, Option, Some, None, List, [], ◌∷◌, refl, arith}
 use Rattle.std.proofs.lemmas.List.Elements.{All-nil, All-cons, All-weaker}
+use Rattle.std.proofs.lemmas.Grind.{common_steps}
 use Rattle.rb_model.specs.State.{Connection}
 use Rattle.rb_model.specs.Connections.{is_lost, next_lost_in_table}
 use Rattle.rb_model.specs.Step.{next_lost}
@@ -10,11 +11,8 @@ use Rattle.rb_laws.proofs.Reached.{AreSound, reached-sound}
 
 -- they are all numbered from the least on
 from-least : (least next : ℕ) (all : List Connection) → AreSound least next all → All (λ (c : Connection). least ≤ c.number) all
-from-least least next [] s = All-nil (λ (c : Connection). least ≤ c.number)
-from-least least next (c ∷ all) s =
-    let P : Connection → Type 0 = λ d. least ≤ d.number in
-    All-cons P c all s.0
-    (All-weaker (λ (d : Connection). c.number + 1 ≤ d.number) P (λ d above. omega (arith, above, s.0)) all (from-least (c.number + 1) next all s.2))
+from-least least next [] s = grind arith
+from-least least next (c ∷ all) s = grind (arith, from-least (c.number + 1) next all s.2)
 
 any-later : (P : Connection → Type 0) (c : Connection) (all : List Connection) → Any P all → Any P (c ∷ all)
 any-later P c all (k, d, within, at, holds) = (suc k, d, omega arith, at, holds)
@@ -29,20 +27,8 @@ module _ (test : Connection → Bool) where
   )
 
   pub first-least : (least next : ℕ) (all : List Connection) → AreSound least next all → IsLeast test all (option_map (λ (d : Connection). d.number) (find test all))
-  first-least least next [] s = All-nil (λ (c : Connection). test c ≡ false)
-  first-least least next (c ∷ all) s = by_test (test c) refl (first-least (c.number + 1) next all s.2)
-    where
-      number_of : Option Connection → Option ℕ
-      number_of o = option_map (λ (d : Connection). d.number) o
-
-      by_test : (b : Bool) → test c ≡ b → IsLeast test all (number_of (find test all))
-          → IsLeast test (c ∷ all) (number_of (cond b (Some c) (find test all)))
-      by_test true passes later = (
-        (0, c, omega arith, refl, (passes, refl)),
-        All-cons (λ (d : Connection). test d ≡ true → c.number ≤ d.number) c all (λ is. omega arith)
-            (All-weaker (λ (d : Connection). c.number + 1 ≤ d.number) (λ (d : Connection). test d ≡ true → c.number ≤ d.number) (λ d above is. omega (arith, above)) all (from-least (c.number + 1) next all s.2)),
-      )
-      by_test false not later = found-later c all _ not later
+  first-least least next [] s = grind (arith, common_steps, All-nil, All-cons, All-weaker, from-least, found-later)
+  first-least least next (c ∷ all) s = grind (arith, common_steps, All-nil, All-cons, All-weaker, from-least, found-later, first-least (c.number + 1) next all s.2)
 
 pub next_lost_is_least : NextLostIsLeast
 unfolding next_lost next_lost_in_table

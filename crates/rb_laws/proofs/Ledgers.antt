@@ -3,6 +3,7 @@ use Rattle.std.specs.Prelude.{All, ⊤}
 use Rattle.std.proofs.Common.{◌≡◌, ℕ, ◌≤◌, max, Bool, true, false, cond, ◌&&◌, nat_le, Option, Some, None, Result, Ok, Err, List, [], ◌∷◌, ◌++◌, length, refl, sym, subst, ◌∙◌, arith}
 use Rattle.std.proofs.lemmas.Bool.{leb-true}
 use Rattle.std.proofs.lemmas.List.Elements.{All-nil, All-push}
+use Rattle.std.proofs.lemmas.Grind.{common_steps}
 use Rattle.rb_rpc.specs.declared.peer.Caller.{Caller}
 use Rattle.rb_rpc.specs.declared.peer.Caller.TheVariants.{Tcp, Udp}
 use Rattle.rb_rpc.specs.declared.peer.Peer.{Peer}
@@ -60,9 +61,7 @@ use Rattle.rb_laws.proofs.Happenings.{Arriving, arriving}
 use Rattle.rb_laws.proofs.Happenings.Arriving.{NotThere, NotTaken, ReadOn, Ended}
 
 both : (a b : Bool) → (a && b) ≡ true → (a ≡ true) × (b ≡ true)
-both true true e = (refl, refl)
-both true false e = absurd cc
-both false b e = absurd cc
+both a b e = grind arith
 
 -- ---- what a call leaves behind
 
@@ -111,24 +110,11 @@ unset-grows context head prog vers (Some which) l =
 
 getport-grows : (limit : ℕ) (head : CallHead) (m : Mapping) (l : Ledger) → Grows limit l (getport head m l).1
 unfolding getport
-getport-grows limit head m l = by_transport (transport_of_prot m.prot)
-  where
-    by_transport : (o : Option Transport) → Grows limit l (port_on head m o l).1
-    by_transport None = Same refl refl
-    by_transport (Some transport) = Same refl refl
+getport-grows limit head m l = grind arith
 
 forward-grows : (context : Context) (xid : ℕ) (kind : Kind) (remote : RemoteCall) (arguments : List ℕ) (l : Ledger) → Grows context.limit l (forward_call context xid kind remote arguments l).1
 unfolding forward_call
-forward-grows context xid kind remote arguments l = by_peer (peer_to_forward remote.prog remote.vers (rows_in l))
-  where
-    by_room : (peer : Peer) (b : Bool) → Grows context.limit l
-        (cond b (answers.Forwarded, record l { forwards = with_next_entry context.clock (forward_of context xid kind remote peer) (args_of remote arguments) l.forwards }) (refuse context kind remote replies.SystemErr l)).1
-    by_room peer true = Same refl refl
-    by_room peer false = Same refl refl
-
-    by_peer : (o : Option Peer) → Grows context.limit l (forward_to context xid kind remote (args_of remote arguments) o l).1
-    by_peer None = Same refl refl
-    by_peer (Some peer) = by_room peer (can_start context.forwards l.forwards)
+forward-grows context xid kind remote arguments l = grind arith
 
 answer-grows : (context : Context) (head : CallHead) (request : Request) (arguments : List ℕ) (l : Ledger) → Grows context.limit l (answer_to context head request arguments l).1
 unfolding getaddr getversaddr
@@ -170,8 +156,7 @@ unfolding serve
 serve-follows s now caller content = record { setting = refl; grows = outcome-grows (context_in (at_moment now s) caller) (message_of content) (arguments_of content) s.ledger }
 
 moved-follows : {A : Type 0} (s : State) (now : ℕ) (show : A → Output) (r : Result A CoreFault × Connections) → Follows s (output_or show (unless_refused now s r)).1
-moved-follows s now show (Ok x, c) = record { setting = refl; grows = Same refl refl }
-moved-follows s now show (Err fault, c) = stays s
+moved-follows s now show r = grind arith
 
 bytes-follow : (s : State) (now id : ℕ) (piece : List ℕ) (r : Result Taken CoreFault × State) → Arriving s now id piece r → Follows s (output_or show_taken r).1
 unfolding serve
@@ -192,13 +177,11 @@ outcome-follows s (outcomes.Silent, u) f = record { setting = f.setting; grows =
 
 closed-follows : (s : State) (id : ℕ) (r : Result (Unit {0}) CoreFault × Connections) → Follows s (output_or show_done (dropped_with s id r)).1
 unfolding caller_dropped
-closed-follows s id (Ok u, c) = record { setting = refl; grows = Same refl refl }
-closed-follows s id (Err fault, c) = stays s
+closed-follows s id r = grind arith
 
 sent-follows : (s : State) (number : ℕ) (b : Bool) → Follows s (output_or show_done (cond b (Ok tt, record s { ledger = call_sent number s.ledger }) (Err Gone, s))).1
 unfolding call_sent
-sent-follows s number true = record { setting = refl; grows = Same refl refl }
-sent-follows s number false = stays s
+sent-follows s number b = grind arith
 
 -- an end of an entry leaves a note alone
 record Ends (l : Ledger) (r : Option EntryEnd × Ledger) : Type 0 where
@@ -206,12 +189,7 @@ record Ends (l : Ledger) (r : Option EntryEnd × Ledger) : Type 0 where
   changes : r.1.changes ≡ l.changes
 
 tell-follows : (s : State) (at : ℕ) (message : List ℕ) (r : Option EntryEnd × Ledger) → Ends s.ledger r → Follows s (tell_end message (at_fresh_moment at s) r).1
-tell-follows s at message (None, l) e = record { setting = refl; grows = Same e.own e.changes }
-tell-follows s at message (Some ended, l) e = by_caller ended.forward.caller
-  where
-    by_caller : (caller : Caller) → Follows s (tell caller (outcome_at_end message ended) (record (at_fresh_moment at s) { ledger = l })).1
-    by_caller (Tcp id peer) = record { setting = refl; grows = Same e.own e.changes }
-    by_caller (Udp peer) = record { setting = refl; grows = Same e.own e.changes }
+tell-follows s at message r e = grind arith
 
 end-follows : (s : State) (r : Option Told × State) → Follows s r.1 → Follows s (show_end r).1
 end-follows s (None, t) f = f
@@ -283,16 +261,7 @@ record KeepsLedger (limit : ℕ) (listener : Listener) (l : Ledger) : Type 0 whe
   short : All IsShortChange l.changes
 
 grown : (limit : ℕ) (listener : Listener) (old new : Ledger) → Grows limit old new → KeepsLedger limit listener old → KeepsLedger limit listener new
-grown limit listener old new (Same own same) k = record {
-  own = own ∙ k.own;
-  accepted = rw (own, same) k.accepted;
-  short = rw same k.short;
-}
-grown limit listener old new (More change accepted short own same) k = record {
-  own = own ∙ k.own;
-  accepted = rw (own, same) (accepted_more limit old.own [] old.changes change k.accepted accepted);
-  short = rw same (All-push IsShortChange old.changes change k.short short);
-}
+grown limit listener old new p k = grind (arith, common_steps, accepted_more, All-push)
 
 abbrev KeepsIn : State → Type 0
 KeepsIn s = KeepsLedger s.setting.limits.rows s.setting.listener s.ledger
@@ -307,24 +276,13 @@ after-keeps s [] k = k
 after-keeps s (event ∷ events) k = after-keeps (step s event).1 events (step-keeps s event k)
 
 opening-keeps : (limits : Limits) (listener : Listener) (first_xid now : ℕ) → KeepsIn (opening limits listener first_xid now)
-opening-keeps limits listener first_xid now = record {
-  own = refl;
-  accepted = refl;
-  short = All-nil IsShortChange;
-}
+opening-keeps limits listener first_xid now = grind arith
 
 eight : (limits : Limits) → are_good limits ≡ true → 6 ≤ limits.rows
-eight limits good =
-    let a = both _ (nat_le limits.forwards 64) good in
-    let b = both _ (nat_le limits.rows 4096) a.0 in
-    let c = both _ (nat_le 8 limits.rows) b.0 in
-    let more : 8 ≤ limits.rows = leb-true 8 limits.rows c.1 in
-    omega (arith, more)
+eight limits good = grind arith
 
 reached-keeps : (s : State) → IsReached s → KeepsIn s
-reached-keeps s r =
-    let start : State = opening r.limits r.listener r.first_xid r.now in
-    subst KeepsIn (sym r.is) (after-keeps start r.events (opening-keeps r.limits r.listener r.first_xid r.now))
+reached-keeps s r = grind (arith, common_steps, after-keeps, opening-keeps)
 
 -- the own rows are the listener's, and each change is short
 pub reached-short : (s : State) → IsReached s → (s.ledger.own ≡ own_rows s.setting.listener) × All IsShortChange s.ledger.changes

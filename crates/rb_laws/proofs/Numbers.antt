@@ -16,34 +16,18 @@ abbrev pub GivesNext : Option ℕ → ℕ → ℕ → Type 0
 GivesNext None old new = new ≡ old
 GivesNext (Some id) old new = (id ≡ old) × (new ≡ old + 1)
 
-taken-plain : (t : Taken) → number_given (show_taken t) ≡ None
-taken-plain t = elim (t.closed) as (λ b. number_given (cond b (TookAndClosed t.count) (Took t.count)) ≡ None) [ true ↦ refl | false ↦ refl ]
-
 none_given : (output : Output) (old : ℕ) (now : Connections) → number_given output ≡ None → now.next ≡ old → GivesNext (number_given output) old now.next
 none_given output old now none same = subst (λ (o : Option ℕ). GivesNext o old now.next) (sym none) same
 
 pub happening-next : (s : State) (event : Event) (output : Output) (now : Connections) → Happening s event output now → GivesNext (number_given output) s.connections.next now.next
 unfolding without_number
-happening-next s event output now (Stays q same) = none_given output s.connections.next now q.no_number (ap (λ (c : Connections). c.next) same)
-happening-next s event output now (Evicts at peer content is q same) = none_given output s.connections.next now q.no_number (ap (λ (c : Connections). c.next) same)
-happening-next s event output now (Opens at peer is out same) =
-    subst (λ (o : Option ℕ). GivesNext o s.connections.next now.next) (sym (ap number_given out)) (refl, ap (λ (c : Connections). c.next) same)
-happening-next s event output now (Reads at id piece c fed is there feeds none out same) = none_given output s.connections.next now (ap number_given out) (ap (λ (c : Connections). c.next) same)
-happening-next s event output now (Ends at id piece c fed n is there feeds some out same) =
-    none_given output s.connections.next now (ap number_given out ∙ taken-plain _) (ap (λ (c : Connections). c.next) same)
-happening-next s event output now (Gives at id n c is there few out same) = none_given output s.connections.next now (ap number_given out) (ap (λ (c : Connections). c.next) same)
-happening-next s event output now (Tells at id said is q final told there same) = none_given output s.connections.next now q.no_number (ap (λ (c : Connections). c.next) same)
-happening-next s event output now (TimesOut at c is q none found same) = none_given output s.connections.next now q.no_number (ap (λ (c : Connections). c.next) same)
-happening-next s event output now (Closes id is out there same) = none_given output s.connections.next now (ap number_given out) (ap (λ (c : Connections). c.next) same)
+happening-next s event output now p = grind arith
 
 pub step-next : (s : State) (event : Event) → GivesNext (number_given (step s event).0) s.connections.next (step s event).1.connections.next
 step-next s event = happening-next s event (step s event).0 (step s event).1.connections (happening s event)
 
 rising : (o : Option ℕ) (old new : ℕ) (rest : List ℕ) → GivesNext o old new → AreRisingFrom new rest → AreRisingFrom old (cons_option o rest)
-rising None old new rest e later = subst (λ n. AreRisingFrom n rest) e later
-rising (Some id) old new rest (is, e) later =
-    let up : new ≡ id + 1 = omega arith in
-    (omega arith, subst (λ n. AreRisingFrom n rest) up later)
+rising o old new rest e later = grind arith
 
 pub numbers_rise : (s : State) (events : List Event) → AreRisingFrom s.connections.next (filter_map number_given (run s events))
 numbers_rise s [] = tt

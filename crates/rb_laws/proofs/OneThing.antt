@@ -2,6 +2,7 @@
 use Rattle.std.specs.Prelude.{All, find, option_map}
 use Rattle.std.proofs.Common.{◌≡◌, ℕ, ◌+◌, ◌≤◌, max, Option, Some, None, List, [], ◌∷◌, ◌++◌, refl, sym, ap, subst, ◌∙◌, arith}
 use Rattle.std.proofs.lemmas.List.Elements.{All-nil, All-cons, All-weaker}
+use Rattle.std.proofs.lemmas.Grind.{common_steps}
 use Rattle.rb_rpc.specs.declared.peer.Caller.{Caller}
 use Rattle.rb_rpc.specs.declared.peer.Caller.TheVariants.{Tcp, Udp}
 use Rattle.rb_rpc.specs.declared.reply.ReplyStatus.TheVariants.{SystemErr}
@@ -28,34 +29,23 @@ use Rattle.rb_laws.proofs.DueThings.Expiry.{EntryEnds, ConnectionEnds, NothingDu
 -- ---- entries
 
 from-least : (least next : ℕ) (all : List Entry) → AreRising least next all → All (λ (e : Entry). least ≤ e.number) all
-from-least least next [] s = All-nil (λ (e : Entry). least ≤ e.number)
-from-least least next (e ∷ all) s =
-    let P : Entry → Type 0 = λ d. least ≤ d.number in
-    All-cons P e all s.0
-    (All-weaker (λ (d : Entry). e.number + 1 ≤ d.number) P (λ d above. omega (arith, above, s.0)) all (from-least (e.number + 1) next all s.1))
+from-least least next [] s = grind arith
+from-least least next (e ∷ all) s = grind (arith, from-least (e.number + 1) next all s.1)
 
 -- those before the first are none
 split-least : (Is : Entry → Type 0) (least next : ℕ) (before behind : List Entry) (e : Entry) → AreRising least next (before ++ e ∷ behind) → NoneIs Is before
     → All (λ (d : Entry). Is d → e.number ≤ d.number) (before ++ e ∷ behind)
-split-least Is least next [] behind e s none =
-    All-cons (λ (d : Entry). Is d → e.number ≤ d.number) e behind (λ is. omega arith)
-    (All-weaker (λ (d : Entry). e.number + 1 ≤ d.number) (λ (d : Entry). Is d → e.number ≤ d.number) (λ d above is. omega (arith, above)) behind (from-least (e.number + 1) next behind s.1))
-split-least Is least next (x ∷ before) behind e s none =
-    All-cons (λ (d : Entry). Is d → e.number ≤ d.number) x (before ++ e ∷ behind) (λ is. absurd (none.0 is))
-    (split-least Is (x.number + 1) next before behind e s.1 none.1)
+split-least Is least next [] behind e s none = grind (arith, common_steps, All-cons, All-weaker, from-least)
+split-least Is least next (x ∷ before) behind e s none = grind (arith, common_steps, All-cons, All-weaker, from-least, split-least Is (x.number + 1) next before behind e s.1 none.1)
 
 first-is-least : (Is : Entry → Type 0) (next : ℕ) (all rest : List Entry) (e : Entry) → AreRising 1 next all → IsFirst Is all e rest → All (λ (d : Entry). Is d → e.number ≤ d.number) all
-first-is-least Is next all rest e rising first =
-    subst (λ (xs : List Entry). All (λ (d : Entry). Is d → e.number ≤ d.number) xs) (sym first.all_are)
-    (split-least Is 1 next first.before first.behind e (subst (AreRising 1 next) first.all_are rising) first.is_first)
+first-is-least Is next all rest e rising first = grind (arith, common_steps, split-least)
 
 tell-told : (s u : State) (caller : Caller) (said : Outcome) → (tell caller said u).0 ≡ (tell caller said s).0
-tell-told s u (Tcp id peer) said = refl
-tell-told s u (Udp peer) said = refl
+tell-told s u caller said = grind arith
 
 tell-ledger : (u : State) (caller : Caller) (said : Outcome) → (tell caller said u).1.ledger ≡ u.ledger
-tell-ledger u (Tcp id peer) said = refl
-tell-ledger u (Udp peer) said = refl
+tell-ledger u caller said = grind arith
 
 -- ---- one thing
 
@@ -65,14 +55,10 @@ module _ (s : State) (reached : IsReached s) (now : ℕ) where
 
   ending : (o : Option Entry) → find (entry_is_due clock) s.ledger.forwards.all ≡ o
       → EndsFirst (EntryIsDue (clock_at now s)) Failed s.ledger.forwards (option_map (ended_by Failed) o) (record s.ledger.forwards { all = without_first (entry_is_due clock) s.ledger.forwards.all })
-  ending o is =
-      subst (λ (x : Option Entry). EndsFirst (EntryIsDue (clock_at now s)) Failed s.ledger.forwards (option_map (ended_by Failed) x) (record s.ledger.forwards { all = without_first (entry_is_due clock) s.ledger.forwards.all })) is
-      (ends_first (EntryIsDue (clock_at now s)) (entry_is_due clock) (due_means clock) (due_tested clock) Failed s.ledger.forwards)
+  ending o is = grind (arith, common_steps, ends_first, due_means, due_tested)
 
   least-found : (o : Option Connection) → find (is_due clock) s.connections.all ≡ o → IsLeast (is_due clock) s.connections.all (option_map (λ (c : Connection). c.number) o)
-  least-found o is =
-      subst (λ (x : Option Connection). IsLeast (is_due clock) s.connections.all (option_map (λ (c : Connection). c.number) x)) is
-      (first-least (is_due clock) 0 s.connections.next s.connections.all (reached-sound s reached))
+  least-found o is = grind (arith, common_steps, first-least, reached-sound s reached)
 
   by_case : (r : Expired × State) → Expiry s clock (at_fresh_moment now s) r → DoesOneThing now s r
   by_case r (EntryEnds e found ledger left is) =
@@ -87,8 +73,7 @@ module _ (s : State) (reached : IsReached s) (now : ℕ) where
         least = first-is-least (EntryIsDue (clock_at now s)) s.ledger.forwards.next s.ledger.forwards.all _ ends.0 (reached-kept s reached).order ends.1;
         tells = tell-told s mid e.forward.caller said ∙ ap (λ (f : Forward). (tell f.caller (outcome_of_failure f SystemErr) s).0) same;
       })
-  by_case r (ConnectionEnds none c found is) =
-      subst (DoesOneThing now s) (sym is) (record { entries = (ending None none).0; least = least-found (Some c) found; loses = refl })
+  by_case r (ConnectionEnds none c found is) = grind (arith, common_steps, ending None none, least-found (Some c) found)
   by_case r (NothingDue none found is) =
       subst (DoesOneThing now s) (sym is) (record { entries = (ending None none).0; connections = least-found None found; same = refl })
 

@@ -64,17 +64,7 @@ one-more-reply calls call =
 
 -- the bytes up to the end of the first record are a first record themselves
 pub first-alone : (bytes : List ℕ) (n : ℕ) → first_record bytes ≡ Some n → first_record (take n bytes) ≡ Some n
-first-alone bytes n is = by_value (first_record (take n bytes)) refl
-  where
-    whole : first_record (take n bytes ++ drop n bytes) ≡ Some n
-    whole = ap first_record (take-append-drop n bytes) ∙ is
-
-    by_value : (m : Option ℕ) → first_record (take n bytes) ≡ m → first_record (take n bytes) ≡ Some n
-    by_value None e =
-        let later : length (take n bytes) < n = ends_later (take n bytes) (drop n bytes) n e whole in
-        let all : take n bytes ≡ bytes = take_all n bytes (omega (arith, later, length-take n bytes)) in
-        ap first_record all ∙ is
-    by_value (Some m) e = e ∙ (sym (stays (take n bytes) (drop n bytes) m e) ∙ whole)
+first-alone bytes n is = grind (arith, take-append-drop n bytes, ends_later (take n bytes) (drop n bytes) n, take_all n bytes, length-take n bytes, stays (take n bytes) (drop n bytes))
 
 -- ---- the records in what was taken
 

@@ -2,6 +2,7 @@
 use Rattle.std.specs.Prelude.{find, filter}
 use Rattle.std.proofs.Common.{◌≡◌, ◌<◌, ◌≤◌, ℕ, ◌+◌, max, Bool, true, false, cond, not, eqb, nat_lt, min, Some, None, List, [], ◌∷◌, ◌++◌, length, map, take, refl, sym, subst, arith}
 use Rattle.std.proofs.lemmas.Bool.{ltb-true}
+use Rattle.std.proofs.lemmas.Grind.{common_steps}
 use Rattle.rb_rpc.specs.Records.{first_record, data_of}
 use Rattle.rb_rpc.specs.declared.peer.Caller.TheVariants.{Tcp, Udp}
 use Rattle.rb_model.specs.Calls.{Outcome}
@@ -44,32 +45,20 @@ pub record Keeps (f : Connection → Connection) : Type 0 where
   pub phase : (c : Connection) → IsSoundPhase c.phase → IsSoundPhase (f c).phase
 
 pub changed : (id : ℕ) (f : Connection → Connection) → Keeps f → (least next : ℕ) (all : List Connection) → AreSound least next all → AreSound least next (change_first (is_live id) f all)
-changed id f k least next [] s = s
-changed id f k least next (c ∷ all) s = by_test (is_live id c) (changed id f k (c.number + 1) next all s.2)
-  where
-    by_test : (b : Bool) → AreSound (c.number + 1) next (change_first (is_live id) f all) → AreSound least next (cond b (f c ∷ all) (c ∷ change_first (is_live id) f all))
-    by_test true later = (omega (arith, k.number c, s.0), k.phase c s.1, subst (λ (n : ℕ). AreSound (n + 1) next all) (sym (k.number c)) s.2)
-    by_test false later = (s.0, s.1, later)
+changed id f k least next [] s = grind arith
+changed id f k least next (c ∷ all) s = grind (arith, changed id f k (c.number + 1) next all s.2)
 
 filtered : (p : Connection → Bool) (least next : ℕ) (all : List Connection) → AreSound least next all → AreSound least next (filter p all)
-filtered p least next [] s = s
-filtered p least next (c ∷ all) s = by_test (p c) (filtered p (c.number + 1) next all s.2)
-  where
-    by_test : (b : Bool) → AreSound (c.number + 1) next (filter p all) → AreSound least next (cond b (c ∷ filter p all) (filter p all))
-    by_test true later = (s.0, s.1, later)
-    by_test false later = lower least (c.number + 1) next (filter p all) (omega (arith, s.0)) later
+filtered p least next [] s = grind (arith, common_steps, lower)
+filtered p least next (c ∷ all) s = grind (arith, common_steps, lower, filtered p (c.number + 1) next all s.2)
 
 one_more : (least next : ℕ) (all : List Connection) (c : Connection) → c.number ≡ next → IsSoundPhase c.phase → AreSound least next all → AreSound least (next + 1) (all ++ c ∷ [])
 one_more least next [] c is phase s = (omega arith, phase, omega arith)
 one_more least next (d ∷ all) c is phase s = (s.0, s.1, one_more (d.number + 1) next all c is phase s.2)
 
 pub found-sound : (p : Connection → Bool) (least next : ℕ) (all : List Connection) (c : Connection) → AreSound least next all → find p all ≡ Some c → IsSoundPhase c.phase
-found-sound p least next [] c s is = absurd cc
-found-sound p least next (d ∷ all) c s is = by_test (p d) is (found-sound p (d.number + 1) next all c s.2)
-  where
-    by_test : (b : Bool) → cond b (Some d) (find p all) ≡ Some c → (find p all ≡ Some c → IsSoundPhase c.phase) → IsSoundPhase c.phase
-    by_test true e later = let same : d ≡ c = cc in subst (λ (x : Connection). IsSoundPhase x.phase) same s.1
-    by_test false e later = later e
+found-sound p least next [] c s is = grind arith
+found-sound p least next (d ∷ all) c s is = grind (arith, found-sound p (d.number + 1) next all c s.2)
 
 -- ---- one connection
 
@@ -79,56 +68,26 @@ reading-keeps clock fed none = record { number = λ c. refl; phase = λ c s. non
 
 pub settled-keeps : (clock : ℕ) (said : Outcome) → Keeps (settle clock said)
 unfolding settle
-settled-keeps clock said = record { number = λ c. refl; phase = λ c s. by_outcome said }
-  where
-    by_outcome : (o : Outcome) → IsSoundPhase (phase_after o)
-    by_outcome NoCall = tt
-    by_outcome (Reply reply began) = omega (arith, some-marked reply)
-    by_outcome Forwarded = tt
-    by_outcome Silent = tt
-
-given-sound : (n : ℕ) (p : Phase) → IsSoundPhase p → IsSoundPhase (phase_when_given n p)
-given-sound n Idle s = tt
-given-sound n (Reading fed) s = s
-given-sound n Awaiting s = tt
-given-sound n Lost s = tt
-given-sound n (Owing o) s = by_test (nat_lt (o.given + n) (length o.marked)) refl
-  where
-    by_test : (b : Bool) → nat_lt (o.given + n) (length o.marked) ≡ b → IsSoundPhase (cond b (Owing (record o { given = o.given + n })) Idle)
-    by_test true e = ltb-true (o.given + n) (length o.marked) e
-    by_test false e = tt
+settled-keeps clock said = grind (arith, common_steps, some-marked)
 
 when_given-keeps : (clock n : ℕ) → Keeps (with_given clock n)
 unfolding with_given
-when_given-keeps clock n = record {
-  number = λ c. elim (eqb n 0) as (λ b. (cond b c (given c)).number ≡ c.number) [ true ↦ refl | false ↦ refl ];
-  phase = λ c s. elim (eqb n 0) as (λ b. IsSoundPhase (cond b c (given c)).phase) [ true ↦ s | false ↦ given-sound n c.phase s ];
-}
-  where
-    given : Connection → Connection
-    given c = record c { phase = phase_when_given n c.phase; since = clock }
+when_given-keeps clock n = grind arith
 
 pub giving-keeps : (clock n : ℕ) → Keeps (λ c. (give clock n c).1)
 unfolding give
-giving-keeps clock n = record {
-  number = λ c. (when_given-keeps clock (min n (length (pending_in c.phase)))).number c;
-  phase = λ c s. (when_given-keeps clock (min n (length (pending_in c.phase)))).phase c s;
-}
+giving-keeps clock n = grind (arith, common_steps, when_given-keeps clock)
 
 pub lost-keeps : Keeps lose
 lost-keeps = record { number = λ c. refl; phase = λ c s. tt }
 
 pub evicted-keeps : (changes : List ℕ) → Keeps (evict_early changes)
 unfolding evict_early
-evicted-keeps changes = record {
-  number = λ c. elim (began_before changes (stamp_in c.phase)) as (λ b. (cond b (lose c) c).number ≡ c.number) [ true ↦ refl | false ↦ refl ];
-  phase = λ c s. elim (began_before changes (stamp_in c.phase)) as (λ b. IsSoundPhase (cond b (lose c) c).phase) [ true ↦ tt | false ↦ s ];
-}
+evicted-keeps changes = grind arith
 
 pub mapped : (f : Connection → Connection) → Keeps f → (least next : ℕ) (all : List Connection) → AreSound least next all → AreSound least next (map f all)
-mapped f k least next [] s = s
-mapped f k least next (c ∷ all) s =
-    (omega (arith, k.number c, s.0), k.phase c s.1, subst (λ (n : ℕ). AreSound (n + 1) next (map f all)) (sym (k.number c)) (mapped f k (c.number + 1) next all s.2))
+mapped f k least next [] s = grind arith
+mapped f k least next (c ∷ all) s = grind (arith, mapped f k (c.number + 1) next all s.2)
 
 -- ---- steps and runs
 
@@ -144,10 +103,7 @@ happening-sound s event output now sound (Opens at peer is out same) =
     subst SoundIn (sym same) (one_more 0 s.connections.next s.connections.all (record { number = s.connections.next; peer = peer; phase = Idle; since = max s.clock at }) refl tt sound)
 happening-sound s event output now sound (Reads at id piece c fed is there feeds none out same) =
     subst SoundIn (sym same) (changed id _ (reading-keeps (max s.clock at) (fed ++ piece) none) 0 s.connections.next s.connections.all sound)
-happening-sound s event output now sound (Ends at id piece c fed n is there feeds some out same) =
-    let changes : List ℕ = crowd_at s at (Tcp id c.peer) (data_of (take n (fed ++ piece))) in
-    subst SoundIn (sym same) (changed id _ (settled-keeps (max s.clock at) _) 0 s.connections.next (map (evict_early changes) s.connections.all)
-    (mapped (evict_early changes) (evicted-keeps changes) 0 s.connections.next s.connections.all sound))
+happening-sound s event output now sound (Ends at id piece c fed n is there feeds some out same) = grind (arith, common_steps, settled-keeps, mapped, evicted-keeps, changed id)
 happening-sound s event output now sound (Gives at id n c is there few out same) =
     subst SoundIn (sym same) (changed id _ (giving-keeps (max s.clock at) n) 0 s.connections.next s.connections.all sound)
 happening-sound s event output now sound (Tells at id said is q final told there same) =
@@ -165,9 +121,7 @@ after-sound s [] sound = sound
 after-sound s (event ∷ events) sound = after-sound (step s event).1 events (step-sound s event sound)
 
 pub reached-sound : (s : State) → IsReached s → IsSound s
-reached-sound s r =
-    let start : State = opening r.limits r.listener r.first_xid r.now in
-    subst (λ (t : State). IsSound t) (sym r.is) (after-sound start r.events (omega arith))
+reached-sound s r = grind (arith, common_steps, after-sound)
 
 pub live-sound : (s : State) → IsReached s → (id : ℕ) (c : Connection) → IsLive s id c → IsSoundPhase c.phase
 unfolding live_connection

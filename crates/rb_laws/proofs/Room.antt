@@ -3,6 +3,7 @@ use Rattle.std.specs.Prelude.{filter}
 use Rattle.std.proofs.Common.{◌≡◌, ℕ, suc, ◌+◌, ◌≤◌, max, Bool, true, false, cond, not, nat_lt, eqb, Option, Some, None, Result, Ok, Err, List, [], ◌∷◌, ◌++◌, length, refl, sym, ap, subst, arith}
 use Rattle.std.proofs.lemmas.List.{length-map}
 use Rattle.std.proofs.lemmas.Bool.{ltb-true}
+use Rattle.std.proofs.lemmas.Grind.{common_steps}
 use Rattle.rb_rpc.specs.declared.peer.Peer.{Peer}
 use Rattle.rb_rpc.specs.declared.peer.Caller.{Caller}
 use Rattle.rb_rpc.specs.declared.peer.Caller.TheVariants.{Tcp, Udp}
@@ -30,24 +31,15 @@ use Rattle.rb_laws.proofs.DueThings.{end_of, Expiry, expiry}
 use Rattle.rb_laws.proofs.DueThings.Expiry.{EntryEnds, ConnectionEnds, NothingDue}
 
 changed-length : (test : Connection → Bool) (f : Connection → Connection) (all : List Connection) → length (change_first test f all) ≡ length all
-changed-length test f [] = refl
-changed-length test f (c ∷ all) = by_test (test c) (changed-length test f all)
-  where
-    by_test : (b : Bool) → length (change_first test f all) ≡ length all → length (cond b (f c ∷ all) (c ∷ change_first test f all)) ≡ suc (length all)
-    by_test true rest = refl
-    by_test false rest = ap suc rest
+changed-length test f [] = grind arith
+changed-length test f (c ∷ all) = grind (arith, changed-length test f all)
 
 filtered-length : (p : Connection → Bool) (all : List Connection) → length (filter p all) ≤ length all
-filtered-length p [] = omega arith
-filtered-length p (c ∷ all) = by_test (p c) (filtered-length p all)
-  where
-    by_test : (b : Bool) → length (filter p all) ≤ length all → length (cond b (c ∷ filter p all) (filter p all)) ≤ suc (length all)
-    by_test true rest = omega (arith, rest)
-    by_test false rest = omega (arith, rest)
+filtered-length p [] = grind arith
+filtered-length p (c ∷ all) = grind (arith, filtered-length p all)
 
 pushed-length : (all : List Connection) (c : Connection) → length (all ++ c ∷ []) ≡ length all + 1
-pushed-length [] c = refl
-pushed-length (d ∷ all) c = let rest = pushed-length all c in omega (arith, rest)
+pushed-length all c = grind (arith, common_steps)
 
 abbrev count : State → ℕ
 count s = length s.connections.all
@@ -55,8 +47,7 @@ count s = length s.connections.all
 -- no more than before
 module _ (s : State) where
   output-few : {A : Type 0} (show : A → Output) (r : Result A CoreFault) (u : State) → count u ≤ count s → count (output_or show (r, u)).1 ≤ count s
-  output-few show (Ok x) u few = few
-  output-few show (Err fault) u few = few
+  output-few show r u few = grind arith
 
   serve-few : (now : ℕ) (caller : Caller) (content : List ℕ) → count (serve (at_moment now s) caller content).1 ≤ count s
   unfolding serve
@@ -64,62 +55,38 @@ module _ (s : State) where
 
   bytes-few : (now id : ℕ) (piece : List ℕ) (o : Option Connection) → count (output_or show_taken (bytes_to s now id piece o)).1 ≤ count s
   unfolding serve_record
-  bytes-few now id piece None = omega arith
-  bytes-few now id piece (Some c) = by_taking (taking_of c.phase piece)
-    where
-      by_taking : (t : Taking) → count (when_taken (at_moment now s) id piece c t).1 ≤ count s
-      by_taking TakesNone = omega arith
-      by_taking (GoesOn fed) = let same = changed-length (is_live id) (keep_reading (max s.clock now) fed) s.connections.all in omega (arith, same)
-      by_taking (Ends n content) =
-          let few = serve-few now (Tcp id c.peer) content in
-          let after : Outcome × State = serve (at_moment now s) (Tcp id c.peer) content in
-          let same = changed-length (is_live id) (settle after.1.clock after.0) after.1.connections.all in
-          omega (arith, same, few)
+  bytes-few now id piece o = grind (arith, common_steps, changed-length, serve-few)
 
   gave-few : (now id n : ℕ) (o : Option Connection) → count (output_or show_done (unless_refused now s (on_found id (give (max s.clock now) n) s.connections o))).1 ≤ count s
-  gave-few now id n None = omega arith
-  gave-few now id n (Some c) = let same = changed-length (is_live id) (λ x. (give (max s.clock now) n x).1) s.connections.all in omega (arith, same)
+  gave-few now id n o = grind (arith, common_steps, changed-length)
 
   closed-few : (id : ℕ) (b : Bool) → count (output_or show_done (dropped_with s id (cond b (Ok tt, without_number id s.connections) (Err Gone, s.connections)))).1 ≤ count s
   unfolding without_number
-  closed-few id true = filtered-length (λ (x : Connection). not (eqb x.number id)) s.connections.all
-  closed-few id false = omega arith
+  closed-few id b = grind (arith, common_steps, filtered-length)
 
   tell-few : (u : State) (caller : Caller) (said : Outcome) → count u ≤ count s → count (tell caller said u).1 ≤ count s
-  tell-few u (Tcp id peer) said few = let same = changed-length (is_live id) (settle u.clock said) u.connections.all in omega (arith, same, few)
-  tell-few u (Udp peer) said few = few
+  tell-few u caller said few = grind (arith, common_steps, changed-length)
 
   told-few : (message : List ℕ) (u : State) (r : Option Ended × Ledger) → count u ≤ count s → count (tell_end message u r).1 ≤ count s
-  told-few message u (None, ledger) few = few
-  told-few message u (Some ended, ledger) few = tell-few (record u { ledger = ledger }) ended.forward.caller (outcome_at_end message ended) few
+  told-few message u r few = grind (arith, common_steps, tell-few)
 
   end-few : (r : Option Told × State) → count r.1 ≤ count s → count (show_end r).1 ≤ count s
-  end-few (None, u) few = few
-  end-few (Some told, u) few = few
+  end-few r few = grind arith
 
   expired-few : (r : Expired × State) → count r.1 ≤ count s → count (show_expired r).1 ≤ count s
-  expired-few (expiries.Nothing, u) few = few
-  expired-few (expiries.Ended told, u) few = few
-  expired-few (expiries.ConnectionClosed id, u) few = few
+  expired-few r few = grind arith
 
   expire-few : (now : ℕ) (r : Expired × State) → Expiry s (max s.clock now) (at_fresh_moment now s) r → count r.1 ≤ count s
-  expire-few now r (EntryEnds e found ledger left is) = rw is (tell-few (record (at_fresh_moment now s) { ledger = ledger }) e.forward.caller (outcome_at_end [] (end_of e)) (omega arith))
-  expire-few now r (ConnectionEnds none c found is) = rw is (let same = changed-length (is_live c.number) lose s.connections.all in omega (arith, same))
-  expire-few now r (NothingDue none found is) = rw is (omega arith)
+  expire-few now r p = grind (arith, common_steps, tell-few, changed-length)
 
   outcome-few : (r : Outcome × State) → count r.1 ≤ count s → count (show_outcome (with_reply r)).1 ≤ count s
-  outcome-few (outcomes.NoCall, u) few = few
-  outcome-few (outcomes.Reply reply began, u) few = few
-  outcome-few (outcomes.Forwarded, u) few = few
-  outcome-few (outcomes.Silent, u) few = few
+  outcome-few r few = grind arith
 
   sent-few : (number : ℕ) (b : Bool) → count (output_or show_done (cond b (Ok tt, record s { ledger = call_sent number s.ledger }) (Err Gone, s))).1 ≤ count s
-  sent-few number true = omega arith
-  sent-few number false = omega arith
+  sent-few number b = grind arith
 
   either : (b : Bool) (x y : Output × State) → count x.1 ≤ count s → count y.1 ≤ count s → count (cond b x y).1 ≤ count s
-  either true x y left right = left
-  either false x y left right = right
+  either b x y left right = grind arith
 
 -- ---- there is room for one more where it is opened
 
@@ -128,16 +95,7 @@ HasRoom s = count s ≤ s.setting.limits.conns
 
 opened-room : (s : State) (now : ℕ) (peer : Peer) → HasRoom s → count (step s (Open now peer)).1 ≤ s.setting.limits.conns
 unfolding step open_connection open_in_table number_for
-opened-room s now peer few = by_room (nat_lt (count s) s.setting.limits.conns) refl (nat_lt greatest_number s.connections.next)
-  where
-    by_room : (b : Bool) → nat_lt (count s) s.setting.limits.conns ≡ b → (spent : Bool)
-        → count (output_or Opened (unless_refused now s (opening_as peer (max s.clock now) s.connections (cond (not b) (Err Full) (cond spent (Err Spent) (Ok s.connections.next)))))).1 ≤ s.setting.limits.conns
-    by_room false e spent = few
-    by_room true e true = few
-    by_room true e false =
-        let free = ltb-true (count s) s.setting.limits.conns e in
-        let more = pushed-length s.connections.all (record { number = s.connections.next; peer = peer; phase = Idle; since = max s.clock now }) in
-        omega (arith, free, more)
+opened-room s now peer few = grind (arith, common_steps)
 
 within : (s : State) (n : ℕ) → HasRoom s → n ≤ count s → n ≤ s.setting.limits.conns
 within s n few less = omega (arith, few, less)
@@ -154,8 +112,7 @@ step-few s NextLost few = few
 step-few s (Datagram now peer content) few = within s _ few (outcome-few s (serve (at_moment now s) (Udp peer) content) (serve-few s now (Udp peer) content))
 step-few s Unsent few = few
 step-few s (Sent number) few = within s _ few (sent-few s number (can_be_sent number s.ledger.forwards))
-step-few s (ForwardCame now from message) few =
-    within s _ few (end-few s (forward_reply s now from message) (told-few s message (at_fresh_moment now s) (target_replied s.setting.first_xid (max s.clock now) from message s.ledger) (omega arith)))
+step-few s (ForwardCame now from message) few = grind (arith, common_steps, within s, end-few s (forward_reply s now from message), told-few s message (at_fresh_moment now s))
 step-few s (Expire now) few = within s _ few (expired-few s (expire s now) (expire-few s now (expire s now) (expiry s now)))
 
 step-room : (s : State) (event : Event) → HasRoom s → HasRoom (step s event).1
@@ -166,6 +123,4 @@ after-room s [] few = few
 after-room s (event ∷ events) few = after-room (step s event).1 events (step-room s event few)
 
 pub reached-room : (s : State) → IsReached s → length s.connections.all ≤ s.setting.limits.conns
-reached-room s r =
-    let start : State = opening r.limits r.listener r.first_xid r.now in
-    subst HasRoom (sym r.is) (after-room start r.events (omega arith))
+reached-room s r = grind (arith, common_steps, after-room)

@@ -5,6 +5,7 @@ use Rattle.std.proofs.Math.Seq.{take-nil, take-append-add}
 use Rattle.std.proofs.lemmas.List.{take_all, take-append-drop, drop-append-le, length-take, map-append}
 use Rattle.std.proofs.lemmas.List.Elements.{All-nil, All-append, All-cons}
 use Rattle.std.proofs.lemmas.Bool.{eqb-true, eq-eqb}
+use Rattle.std.proofs.lemmas.Grind.{common_steps}
 use Rattle.rb_xdr.specs.Xdr.{AreBytes}
 use Rattle.rb_rpc.specs.Records.{first_record, data_of}
 use Rattle.rb_rpc.specs.RecordLaws.{Records}
@@ -68,25 +69,16 @@ pub record Holds (id : ℕ) (now : Connections) (t : Session) : Type 0 where
   pub live : FitsIn id now.all t
 
 grows : (o : Option ℕ) (old new : ℕ) → GivesNext o old new → old ≤ new
-grows None old new is = omega arith
-grows (Some id) old new is = omega arith
+grows o old new is = grind arith
 
 -- ---- one connection
 
 -- a connection that is fed
 unfinished-is : (p : Phase) (fed : List ℕ) → fed_in p ≡ Some fed → unfinished_in p ≡ fed
-unfinished-is Idle fed is = cc
-unfinished-is (Reading xs) fed is = cc
-unfinished-is (Owing o) fed is = absurd cc
-unfinished-is Awaiting fed is = absurd cc
-unfinished-is Lost fed is = absurd cc
+unfinished-is p fed is = grind arith
 
 owes-none : (p : Phase) (fed : List ℕ) → fed_in p ≡ Some fed → owed_in p ≡ []
-owes-none Idle fed is = refl
-owes-none (Reading xs) fed is = refl
-owes-none (Owing o) fed is = absurd cc
-owes-none Awaiting fed is = absurd cc
-owes-none Lost fed is = absurd cc
+owes-none p fed is = grind arith
 
 -- all replies were given
 pub all-given : (p : Phase) (fed : List ℕ) (t : Session) → fed_in p ≡ Some fed → Fits p t → t.given ≡ replies_to t.calls
@@ -99,11 +91,7 @@ all-answered p fed t is fits = subst (λ (b : Bool). AreAnswered b t.calls) (fed
 -- the changed connection is the one that is found
 changed-fits : (id : ℕ) (f : Connection → Connection) (all : List Connection) (c : Connection) (t : Session)
     → IsFeeding id f → find (is_live id) all ≡ Some c → Fits (f c).phase t → FitsIn id (change_first (is_live id) f all) t
-changed-fits id f all c t feeds there fits = λ d is.
-    let e : find (is_live id) (change_first (is_live id) f all) ≡ Some (f c) = find-changed id f feeds all c there in
-    let one : Some (f c) ≡ Some d = sym e ∙ is in
-    let it : f c ≡ d = cc in
-    subst (λ (x : Connection). Fits x.phase t) it fits
+changed-fits id f all c t feeds there fits = grind (arith, common_steps, find-changed)
 
 reading-fits : (clock : ℕ) (all : List ℕ) (c : Connection) (t : Session) → t.unfinished ≡ all → t.given ≡ replies_to t.calls → All is_answered t.calls → Fits (keep_reading clock all c).phase t
 unfolding keep_reading
@@ -111,18 +99,10 @@ reading-fits clock all c t is given answered = record { unfinished = is; rest = 
 
 settled-fits : (clock : ℕ) (said : Outcome) (c : Connection) (t : Session) → t.unfinished ≡ [] → t.given ++ marked_reply_in said ≡ replies_to t.calls → AreAnswered (is_forwarded said) t.calls → Fits (settle clock said c).phase t
 unfolding settle owed_bytes
-settled-fits clock NoCall c t is rest answered = record { unfinished = is; rest = rest; answered = answered }
-settled-fits clock (Reply reply began) c t is rest answered = record { unfinished = is; rest = rest; answered = answered }
-settled-fits clock Forwarded c t is rest answered = record { unfinished = is; rest = rest; answered = answered }
-settled-fits clock Silent c t is rest answered = record { unfinished = is; rest = rest; answered = answered }
+settled-fits clock said c t is rest answered = grind arith
 
 more-answered : (said : Outcome) (calls : List Exchange) (call : Exchange) → is_no_call said ≡ false → call.said ≡ said → All is_answered calls → AreAnswered (is_forwarded said) (calls ++ call ∷ [])
-more-answered NoCall calls call plain says answered = absurd cc
-more-answered (Reply reply began) calls call plain says answered =
-    All-append is_answered calls (call ∷ []) answered (All-cons is_answered call [] (subst (λ (o : Outcome). IsFinal o) (sym says) tt) (All-nil is_answered))
-more-answered Silent calls call plain says answered =
-    All-append is_answered calls (call ∷ []) answered (All-cons is_answered call [] (subst (λ (o : Outcome). IsFinal o) (sym says) tt) (All-nil is_answered))
-more-answered Forwarded calls call plain says answered = record { before = calls; last = call; whole = refl; answered = answered; forwarded = says }
+more-answered said calls call plain says answered = grind (arith, common_steps)
 
 -- the last call is told how it ended
 told-last : (said : Outcome) (before : List Exchange) (last : Exchange) → with_last_outcome said (before ++ last ∷ []) ≡ before ++ record last { said = said } ∷ []
@@ -146,24 +126,10 @@ given-on p n given all sound few is =
     ∙ ap (λ (xs : List ℕ). given ++ xs) (sym (append_assoc (take n front) (drop n front) (behind p)) ∙ ap (λ (xs : List ℕ). xs ++ behind p) (take-append-drop n front) ∙ sym whole)
     ∙ is
 
--- nothing is taken or ended by it
-given-unfinished : (n : ℕ) (p : Phase) → unfinished_in (phase_when_given n p) ≡ unfinished_in p
-given-unfinished n Idle = refl
-given-unfinished n (Reading fed) = refl
-given-unfinished n Awaiting = refl
-given-unfinished n Lost = refl
-given-unfinished n (Owing o) = by_test (nat_lt (o.given + n) (length o.marked))
-  where
-    by_test : (b : Bool) → unfinished_in (cond b (Owing (record o { given = o.given + n })) Idle) ≡ []
-    by_test true = refl
-    by_test false = refl
-
--- nor by a call
+-- nothing is taken or ended where bytes are given
 giving-unfinished : (clock n : ℕ) (c : Connection) → unfinished_in (give clock n c).1.phase ≡ unfinished_in c.phase
 unfolding give with_given
-giving-unfinished clock n c =
-    let k : ℕ = min n (length (pending_in c.phase)) in
-    elim (eqb k 0) as (λ z. unfinished_in (cond z c (record c { phase = phase_when_given k c.phase; since = clock })).phase ≡ unfinished_in c.phase) [ true ↦ refl | false ↦ given-unfinished k c.phase ]
+giving-unfinished clock n c = grind arith
 
 no-first : first_record [] ≡ None
 unfolding first_record
@@ -181,8 +147,7 @@ count-shown t = elim (t.closed) as (λ b. count_in (cond b (TookAndClosed t.coun
 -- ---- events that pass nothing
 
 none-gave : (s : State) (id : ℕ) (event : Event) (output : Output) → gave_to id event ≡ 0 → given_by s id event output ≡ []
-none-gave s id event Done is = ap (λ (n : ℕ). take n (pending_bytes (pending s id))) is
-none-gave s id event other is = refl
+none-gave s id event other is = grind arith
 
 not-none : (c : Connection) → ◌≡◌ {A = Option Connection} (Some c) None → ⊥
 not-none c e = cc
@@ -195,53 +160,22 @@ fits-same : (id : ℕ) (old new : List Connection) (t : Session) → find (is_li
 fits-same id old new t same fits = λ c is. fits c (sym same ∙ is)
 
 opened-fits : (id : ℕ) (old : Connections) (c : Connection) (t : Session) → Holds id old t → c.number ≡ old.next → c.phase ≡ Idle → FitsIn id (old.all ++ c ∷ []) t
-opened-fits id old c t h number idle = λ d is. by_place d (find-after (is_live id) old.all c d is)
-  where
-    by_place : (d : Connection) → (find (is_live id) old.all ≡ Some d) ⊎ ((c ≡ d) × (is_live id c ≡ true)) → Fits d.phase t
-    by_place d (inl before) = h.live d before
-    by_place d (inr (same, live)) =
-        let number_is : c.number ≡ id = number-is id c live in
-        let none : t ≡ empty_session = h.new (omega (arith, number_is, number)) in
-        subst (λ (x : Connection). Fits x.phase t) same (subst (λ (x : Session). Fits c.phase x) (sym none) (subst (λ (p : Phase). Fits p empty_session) (sym idle) opens-fit))
+opened-fits id old c t h number idle = grind (arith, common_steps, find-after, number-is, opens-fit)
 
 without-fits : (id k : ℕ) (all : List Connection) (t : Session) → FitsIn id all t → FitsIn id (without k all) t
-without-fits id k all t fits = by_number (eqb k id) refl
-  where
-    by_number : (b : Bool) → eqb k id ≡ b → FitsIn id (without k all) t
-    by_number false e = fits-same id all (without k all) t (closed-other id k e all) fits
-    by_number true e = λ c is.
-        let none : find (is_live id) (without k all) ≡ None = ap (λ (j : ℕ). find (is_live id) (without j all)) (eqb-true k id e) ∙ closed-gone id all in
-        absurd (not-none c (sym is ∙ none))
+without-fits id k all t fits = grind (arith, common_steps, fits-same, closed-other, eqb-true, closed-gone, not-none)
 
 -- where numbers rise, a live connection that is left was live before
 found_above : (id least next : ℕ) (all : List Connection) (d : Connection) → AreSound least next all → find (is_live id) all ≡ Some d → least ≤ d.number
-found_above id least next [] d a is = absurd cc
-found_above id least next (x ∷ all) d a is = by_live (is_live id x) refl (found_above id (x.number + 1) next all d a.2)
-  where
-    by_live : (b : Bool) → is_live id x ≡ b → (find (is_live id) all ≡ Some d → x.number + 1 ≤ d.number) → least ≤ d.number
-    by_live true e later =
-        let one : Some x ≡ Some d = rw e at is in
-        let same : x ≡ d = cc in
-        let number : x.number ≡ d.number = ap (λ (y : Connection). y.number) same in
-        omega (arith, a.0, number)
-    by_live false e later = let low : x.number + 1 ≤ d.number = later (rw e at is) in omega (arith, a.0, low)
+found_above id least next [] d a is = grind arith
+found_above id least next (x ∷ all) d a is = grind (arith, found_above id (x.number + 1) next all d a.2)
 
 left_before : (id : ℕ) (changes : List ℕ) (least next : ℕ) (all : List Connection) (d : Connection) → AreSound least next all → find (is_live id) (map (evict_early changes) all) ≡ Some d → find (is_live id) all ≡ Some d
 left_before id changes least next [] d a is = is
 left_before id changes least next (x ∷ all) d a is = by_live (is_live id x) refl (left_before id changes (x.number + 1) next all d a.2)
   where
     by_live : (b : Bool) → is_live id x ≡ b → (find (is_live id) (map (evict_early changes) all) ≡ Some d → find (is_live id) all ≡ Some d) → find (is_live id) (x ∷ all) ≡ Some d
-    by_live false e later = rw e (later (rw (stays_dead id changes x e) at is))
-    by_live true e later = by_new (is_live id (evict_early changes x)) refl
-      where
-        by_new : (b : Bool) → is_live id (evict_early changes x) ≡ b → find (is_live id) (x ∷ all) ≡ Some d
-        by_new true n = rw e (ap (λ (y : Connection). Some y) (sym (still_is id changes x n)) ∙ (rw n at is))
-        by_new false n =
-            let rest : find (is_live id) (map (evict_early changes) all) ≡ Some d = rw n at is in
-            let low : x.number + 1 ≤ d.number = found_above id (x.number + 1) next (map (evict_early changes) all) d (mapped (evict_early changes) (evicted-keeps changes) (x.number + 1) next all a.2) rest in
-            let mine : x.number ≡ id = number-is id x e in
-            let yours : d.number ≡ id = number-is id d (find-holds (is_live id) (map (evict_early changes) all) d rest) in
-            absurd (omega (arith, low, mine, yours))
+    by_live bb e later = grind (arith, common_steps, stays_dead, still_is, found_above, mapped, evicted-keeps, number-is, find-holds)
 
 evicted-fits : (id : ℕ) (changes : List ℕ) (next : ℕ) (all : List Connection) (t : Session) → AreSound 0 next all → FitsIn id all t → FitsIn id (map (evict_early changes) all) t
 evicted-fits id changes next all t sound fits = λ d is. fits d (left_before id changes 0 next all d sound is)
@@ -259,19 +193,7 @@ module _ (id : ℕ) (s : State) (t : Session) (h : Holds id s.connections t) whe
     later : s.connections.next ≤ now.next
 
   quiet : (event : Event) (output : Output) (now : Connections) → Goes now → taken_by id event output ≡ [] → given_by s id event output ≡ [] → FitsIn id now.all t → Holds id now (with_event event output)
-  quiet event output now goes taken given fits =
-      let same : with_event event output ≡ t =
-      ap (λ (xs : List ℕ). session_with (at_event event s) id xs (given_by s id event output) t) taken
-      ∙ ap (λ (xs : List ℕ). session_with (at_event event s) id [] xs t) given
-      ∙ none-passed (at_event event s) id t h.none in
-      subst (λ (x : Session). Holds id now x) (sym same) (record {
-        sound = goes.sound;
-        none = h.none;
-        records = h.records;
-        front = h.front;
-        new = λ le. h.new (omega (arith, le, goes.later));
-        live = fits;
-      })
+  quiet event output now goes taken given fits = grind (arith, common_steps)
 
   no-piece : (event : Event) (output : Output) → piece_to id event ≡ [] → taken_by id event output ≡ []
   no-piece event output is = ap (λ (xs : List ℕ). take (count_in output) xs) is ∙ take-nil (count_in output)
@@ -282,10 +204,7 @@ module _ (id : ℕ) (s : State) (t : Session) (h : Holds id s.connections t) whe
 
   -- the same once some became Lost for room
   evicted-by : (changes : List ℕ) (k : ℕ) (f : Connection → Connection) (now : Connections) → ((d : Connection) → (f d).number ≡ d.number) → eqb k id ≡ false → now ≡ changed_at k f (evict changes s.connections) → FitsIn id now.all t
-  evicted-by changes k f now keeps e same =
-      let all : List Connection = map (evict_early changes) s.connections.all in
-      subst (λ (x : Connections). FitsIn id x.all t) (sym same)
-      (fits-same id all (change_first (is_live k) f all) t (changed-other id k f keeps e all) (evicted-fits id changes s.connections.next s.connections.all t h.sound h.live))
+  evicted-by changes k f now keeps e same = grind (arith, common_steps, fits-same, changed-other, evicted-fits)
 
   -- the live connection of the number
   module _ (c : Connection) (there : live_connection id s.connections.all ≡ Some c) where
@@ -333,10 +252,7 @@ module _ (id : ℕ) (s : State) (t : Session) (h : Holds id s.connections t) whe
     answered-fits clock said new call says left given calls answered all sound here = by_call (is_no_call said) refl
       where
         lost : (o : Outcome) → is_no_call o ≡ true → o ≡ NoCall
-        lost NoCall e = refl
-        lost (Reply reply began) e = absurd cc
-        lost Forwarded e = absurd cc
-        lost Silent e = absurd cc
+        lost bb e = grind (arith, common_steps)
 
         by_call : (b : Bool) → is_no_call said ≡ b → FitsIn id (change_first (is_live id) (settle clock said) all) new
         by_call true e = λ d is.
@@ -350,10 +266,7 @@ module _ (id : ℕ) (s : State) (t : Session) (h : Holds id s.connections t) whe
             (subst (λ (xs : List Exchange). AreAnswered (is_forwarded said) xs) (sym calls) (more-answered said t.calls call e says answered)))
 
     pub ends-whole : (piece fed : List ℕ) (n : ℕ) → fed_in c.phase ≡ Some fed → first_record (fed ++ piece) ≡ Some n → t.unfinished ++ take (n - length fed) piece ≡ take n (fed ++ piece)
-    ends-whole piece fed n feeds some =
-        let none : first_record fed ≡ None = ap first_record (sym (unfinished-here fed feeds)) ∙ h.none in
-        let longer : length fed < n = ends_later fed piece n none some in
-        ap (λ (xs : List ℕ). xs ++ take (n - length fed) piece) (unfinished-here fed feeds) ∙ up-to fed piece n (omega (arith, longer))
+    ends-whole piece fed n feeds some = grind (arith, common_steps, unfinished-here, ends_later, up-to)
 
     -- a record ends
     record-ends : (changes : List ℕ) (at : ℕ) (piece fed : List ℕ) (n : ℕ) (now : Connections) → Goes now → fed_in c.phase ≡ Some fed → first_record (fed ++ piece) ≡ Some n
@@ -389,11 +302,7 @@ module _ (id : ℕ) (s : State) (t : Session) (h : Holds id s.connections t) whe
         let f : Connection → Connection = λ x. (give (max s.clock at) n x).1 in
         let is : IsGiven n c.phase (f c).phase = one-given (max s.clock at) n c sound-live few in
         let rest : (t.given ++ gave) ++ drop n (owed_in c.phase) ≡ replies_to t.calls = given-on c.phase n t.given (replies_to t.calls) sound-live few fits-live.rest in
-        let fits : Fits (f c).phase new = record {
-          unfinished = fits-live.unfinished ∙ sym (giving-unfinished (max s.clock at) n c);
-          rest = ap (λ (xs : List ℕ). (t.given ++ gave) ++ xs) is.left ∙ rest;
-          answered = subst (λ (b : Bool). AreAnswered b t.calls) (sym (giving-awaits (max s.clock at) n c)) fits-live.answered;
-        } in
+        let fits : Fits (f c).phase new = grind (arith, common_steps, fits-live, giving-unfinished, giving-awaits) in
         let under : id < s.connections.next = below in
         subst (λ (y : Session). Holds id now y) (sym (none-taken s id gave t h.none)) (record {
           sound = goes.sound;
@@ -409,9 +318,7 @@ module _ (id : ℕ) (s : State) (t : Session) (h : Holds id s.connections t) whe
 
     given-is : (at n : ℕ) → given_by s id (Gave at id n) Done ≡ take n (pending_in c.phase)
     unfolding pending
-    given-is at n =
-        ap (λ (b : Bool). take (cond b n 0) (pending_bytes (pending s id))) (eq-eqb id id refl)
-        ∙ ap (λ (o : Option Connection). take n (pending_bytes (pending_on o))) there
+    given-is at n = grind arith
 
   -- the three events that pass bytes, on the connection of the number or on another
   reads-at : (at k : ℕ) (piece : List ℕ) (c : Connection) (fed : List ℕ) (now : Connections) → Goes now → live_connection k s.connections.all ≡ Some c → fed_in c.phase ≡ Some fed → first_record (fed ++ piece) ≡ None

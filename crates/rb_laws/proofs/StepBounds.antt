@@ -1,6 +1,7 @@
 -- What an event costs is within the bound on its steps.
 use Rattle.std.proofs.Common.{◌≡◌, ℕ, Bool, List, length, refl, ◌≤◌, ◌+◌, true, false, cond, Option, Some, None, [], ◌∷◌, ◌++◌, sym, ap, ◌∙◌, arith}
 use Rattle.std.proofs.lemmas.List.{length-take}
+use Rattle.std.proofs.lemmas.Grind.{common_steps}
 use Rattle.rb_feed.specs.Feeds.{arguments_of}
 use Rattle.rb_rpc.specs.Forwarded.{longest_forwarded as longest_args}
 use Rattle.rb_model.specs.State.{State, Connection, at_moment, opening, are_good}
@@ -20,14 +21,9 @@ use Rattle.rb_laws.proofs.RepliesShown.{unsent-shown, datagram-shown, forward-sh
 
 -- ---- a piece of bytes
 
-with_count-counts : (n : ℕ) (r : Bool × State) → (with_count n r).0.count ≡ n
-with_count-counts n (closed, s) = refl
-
 -- so many of its bytes are taken
 pub taken-counts : (s : State) (id : ℕ) (piece : List ℕ) (c : Connection) (t : Taking) → (when_taken s id piece c t).0.count ≡ count_taken piece t
-taken-counts s id piece c TakesNone = refl
-taken-counts s id piece c (GoesOn fed) = refl
-taken-counts s id piece c (Ends n content) = with_count-counts n (serve_record s id c.peer content)
+taken-counts s id piece c t = grind arith
 
 -- an event more
 pub reached-step : (s : State) → IsReached s → (event : Event) → IsReached (step s event).1
@@ -62,17 +58,7 @@ module _ (s : State) (reached : IsReached s) (good : are_good s.setting.limits �
 
   event_within : (event : Event) → event_cost s event ≤ bound_at s event
   unfolding longest_reply longest_kept longest_args step bytes
-  event_within (Open now peer) = omega arith
-  event_within (Bytes now id piece) = let few = piece_within now id piece (live_connection id s.connections.all) refl in omega (arith, few)
-  event_within (Pending id) = omega (arith, conns_few)
-  event_within (Gave now id n) = omega (arith, conns_few)
-  event_within (Closed id) = omega (arith, conns_few)
-  event_within NextLost = omega (arith, conns_few)
-  event_within (Datagram now peer content) = let shown = datagram-shown s now peer content in omega (arith, conns_few, shown)
-  event_within Unsent = let lent = unsent-shown s in omega (arith, lent)
-  event_within (Sent number) = omega arith
-  event_within (Forward now from message) = let shown = forward-shown s now from message in omega (arith, conns_few, shown)
-  event_within (Expire now) = let shown = expiry-shown s now in omega (arith, conns_few, shown)
+  event_within event = grind (arith, common_steps, piece_within, conns_few, datagram-shown, unsent-shown, forward-shown, expiry-shown)
 
 pub steps_are_bounded : StepsAreBounded
 steps_are_bounded s reached good event = event_within s reached good event

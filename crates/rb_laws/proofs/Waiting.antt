@@ -3,6 +3,7 @@
 use Rattle.std.specs.Prelude.{find, filter, min}
 use Rattle.std.proofs.Common.{◌≡◌, ℕ, ◌+◌, ◌≤◌, max, Bool, true, false, cond, not, nat_lt, eqb, Option, Some, None, Result, Ok, Err, List, [], ◌∷◌, length, map, refl, ap, arith}
 use Rattle.std.proofs.lemmas.List.Sums.{sum_by-cons, sum_by-append}
+use Rattle.std.proofs.lemmas.Grind.{common_steps}
 use Rattle.rb_rpc.specs.declared.peer.Peer.{Peer}
 use Rattle.rb_rpc.specs.declared.peer.Caller.{Caller}
 use Rattle.rb_rpc.specs.declared.peer.Caller.TheVariants.{Tcp, Udp}
@@ -37,12 +38,8 @@ args_of c = args_in c.phase
 -- one is changed to one with no more
 changed-waiting : (test : Connection → Bool) (f : Connection → Connection) → ((c : Connection) → args_of (f c) ≤ args_of c) → (all : List Connection)
     → args_waiting (change_first test f all) ≤ args_waiting all
-changed-waiting test f less [] = omega arith
-changed-waiting test f less (c ∷ all) = by_test (test c) (changed-waiting test f less all)
-  where
-    by_test : (b : Bool) → args_waiting (change_first test f all) ≤ args_waiting all → args_waiting (cond b (f c ∷ all) (c ∷ change_first test f all)) ≤ args_waiting (c ∷ all)
-    by_test true rest = let one = less c in omega (arith, one, sum_by-cons args_of (f c) all, sum_by-cons args_of c all)
-    by_test false rest = omega (arith, rest, sum_by-cons args_of c (change_first test f all), sum_by-cons args_of c all)
+changed-waiting test f less [] = grind (arith, common_steps)
+changed-waiting test f less (c ∷ all) = grind (arith, common_steps, changed-waiting test f less all)
 
 some_is : (x y : Connection) → Some x ≡ Some y → x ≡ y
 some_is x y e = cc
@@ -50,50 +47,25 @@ some_is x y e = cc
 -- the one that is found is changed
 pub found-waiting : (test : Connection → Bool) (f : Connection → Connection) (all : List Connection) (c : Connection) → find test all ≡ Some c
     → args_waiting (change_first test f all) + args_of c ≡ args_waiting all + args_of (f c)
-found-waiting test f [] c there = absurd cc
-found-waiting test f (d ∷ all) c there = by_test (test d) refl (found-waiting test f all c)
-  where
-    by_test : (b : Bool) → test d ≡ b → (find test all ≡ Some c → args_waiting (change_first test f all) + args_of c ≡ args_waiting all + args_of (f c))
-        → args_waiting (change_first test f (d ∷ all)) + args_of c ≡ args_waiting (d ∷ all) + args_of (f c)
-    by_test true e further =
-        let is : d ≡ c = some_is d c (rw e at there) in
-        let same : args_of d ≡ args_of c = ap args_of is in
-        let alike : args_of (f d) ≡ args_of (f c) = ap (λ (x : Connection). args_of (f x)) is in
-        rw e (omega (arith, same, alike, sum_by-cons args_of (f d) all, sum_by-cons args_of d all))
-    by_test false e further =
-        let later = further (rw e at there) in
-        rw e (omega (arith, later, sum_by-cons args_of d (change_first test f all), sum_by-cons args_of d all))
+found-waiting test f [] c there = grind (arith, common_steps)
+found-waiting test f (d ∷ all) c there = grind (arith, common_steps, found-waiting test f all c)
 
 evicted-few : (changes : List ℕ) (c : Connection) → args_of (evict_early changes c) ≤ args_of c
 unfolding evict_early
-evicted-few changes c = by_test (began_before changes (stamp_in c.phase))
-  where
-    by_test : (b : Bool) → args_of (cond b (lose c) c) ≤ args_of c
-    by_test true = omega arith
-    by_test false = omega arith
+evicted-few changes c = grind arith
 
 pub evicted-waiting : (changes : List ℕ) (all : List Connection) → args_waiting (map (evict_early changes) all) ≤ args_waiting all
-evicted-waiting changes [] = omega arith
-evicted-waiting changes (c ∷ all) =
-    let rest = evicted-waiting changes all in
-    let one = evicted-few changes c in
-    omega (arith, one, rest, sum_by-cons args_of (evict_early changes c) (map (evict_early changes) all), sum_by-cons args_of c all)
+evicted-waiting changes [] = grind (arith, common_steps, evicted-few, sum_by-cons)
+evicted-waiting changes (c ∷ all) = grind (arith, common_steps, evicted-few, sum_by-cons, evicted-waiting changes all)
 
 filtered-waiting : (p : Connection → Bool) (all : List Connection) → args_waiting (filter p all) ≤ args_waiting all
-filtered-waiting p [] = omega arith
-filtered-waiting p (c ∷ all) = by_test (p c) (filtered-waiting p all)
-  where
-    by_test : (b : Bool) → args_waiting (filter p all) ≤ args_waiting all → args_waiting (cond b (c ∷ filter p all) (filter p all)) ≤ args_waiting (c ∷ all)
-    by_test true rest = omega (arith, rest, sum_by-cons args_of c (filter p all), sum_by-cons args_of c all)
-    by_test false rest = omega (arith, rest, sum_by-cons args_of c all)
+filtered-waiting p [] = grind (arith, common_steps)
+filtered-waiting p (c ∷ all) = grind (arith, common_steps, filtered-waiting p all)
 
 -- ---- what becomes of one connection
 
 after-none : (given : Outcome) → args_in (phase_after given) ≡ 0
-after-none outcomes.NoCall = refl
-after-none (outcomes.Reply bytes began) = refl
-after-none outcomes.Forwarded = refl
-after-none outcomes.Silent = refl
+after-none given = grind arith
 
 pub settled-none : (clock : ℕ) (given : Outcome) (c : Connection) → args_of (settle clock given c) ≡ 0
 unfolding settle
@@ -102,24 +74,9 @@ settled-none clock given c = after-none given
 settled-few : (clock : ℕ) (given : Outcome) (c : Connection) → args_of (settle clock given c) ≤ args_of c
 settled-few clock given c = let none = settled-none clock given c in omega (arith, none)
 
-given-few : (n : ℕ) (p : Phase) → args_in (phase_when_given n p) ≤ args_in p
-given-few n Idle = omega arith
-given-few n (Reading fed) = omega arith
-given-few n (Owing o) = by_end (nat_lt (o.given + n) (length o.marked))
-  where
-    by_end : (b : Bool) → args_in (cond b (Owing (record o { given = o.given + n })) Idle) ≤ 0
-    by_end true = omega arith
-    by_end false = omega arith
-given-few n Awaiting = omega arith
-given-few n Lost = omega arith
-
 giving-few : (clock n : ℕ) (c : Connection) → args_of (give clock n c).1 ≤ args_of c
 unfolding give with_given
-giving-few clock n c = by_none (eqb (min n (length (pending_in c.phase))) 0)
-  where
-    by_none : (b : Bool) → args_of (cond b c (record c { phase = phase_when_given (min n (length (pending_in c.phase))) c.phase; since = clock })) ≤ args_of c
-    by_none true = omega arith
-    by_none false = given-few (min n (length (pending_in c.phase))) c.phase
+giving-few clock n c = grind arith
 
 -- ---- events
 
@@ -136,73 +93,47 @@ module _ (s : State) where
   pub answering-waits : (now id : ℕ) (content : List ℕ) (c : Connection) → find (is_live id) s.connections.all ≡ Some c → stamp_in c.phase ≡ None
       → waiting (serve_record (at_moment now s) id c.peer content).1 + args_of c ≤ waiting s
   unfolding serve_record serve
-  answering-waits now id content c there plain =
-      let changes : List ℕ = removals_in_the_way (context_in (at_moment now s) (Tcp id c.peer)) (message_of content) s.connections.all s.ledger in
-      let after : Outcome × State = serve (at_moment now s) (Tcp id c.peer) content in
-      let few = evicted-waiting changes s.connections.all in
-      let still = plain_lives id changes s.connections.all c there plain in
-      let taken = found-waiting (is_live id) (settle after.1.clock after.0) (map (evict_early changes) s.connections.all) c still in
-      let none = settled-none after.1.clock after.0 c in
-      omega (arith, few, taken, none)
+  answering-waits now id content c there plain = grind (arith, common_steps, evicted-waiting, plain_lives, found-waiting, settled-none)
 
   opened-waits : (now : ℕ) (peer : Peer) (r : Result ℕ CoreFault) → waiting (output_or Opened (unless_refused now s (opening_as peer (max s.clock now) s.connections r))).1 ≤ waiting s
-  opened-waits now peer (Err fault) = omega arith
-  opened-waits now peer (Ok number) =
-      let new : Connection = record { number = s.connections.next; peer = peer; phase = Idle; since = max s.clock now } in
-      let more = sum_by-append args_of s.connections.all (new ∷ []) in
-      omega (arith, more, sum_by-cons args_of new [])
+  opened-waits now peer r = grind (arith, common_steps)
 
   output-waits : {A : Type 0} (show : A → Output) (r : Result A CoreFault) (u : State) → waiting u ≤ waiting s → waiting (output_or show (r, u)).1 ≤ waiting s
-  output-waits show (Ok x) u few = few
-  output-waits show (Err fault) u few = few
+  output-waits show r u few = grind arith
 
   gave-waits : (now id n : ℕ) (o : Option Connection) → waiting (output_or show_done (unless_refused now s (on_found id (give (max s.clock now) n) s.connections o))).1 ≤ waiting s
-  gave-waits now id n None = omega arith
-  gave-waits now id n (Some c) = changed-waiting (is_live id) (λ x. (give (max s.clock now) n x).1) (giving-few (max s.clock now) n) s.connections.all
+  gave-waits now id n o = grind (arith, common_steps, changed-waiting, giving-few)
 
   closed-waits : (id : ℕ) (b : Bool) → waiting (output_or show_done (dropped_with s id (cond b (Ok tt, without_number id s.connections) (Err Gone, s.connections)))).1 ≤ waiting s
   unfolding without_number
-  closed-waits id true = filtered-waiting (λ (x : Connection). not (eqb x.number id)) s.connections.all
-  closed-waits id false = omega arith
+  closed-waits id b = grind (arith, common_steps, filtered-waiting)
 
   tell-waits : (u : State) (caller : Caller) (said : Outcome) → waiting u ≤ waiting s → waiting (tell caller said u).1 ≤ waiting s
-  tell-waits u (Tcp id peer) said few = let same = changed-waiting (is_live id) (settle u.clock said) (settled-few u.clock said) u.connections.all in omega (arith, same, few)
-  tell-waits u (Udp peer) said few = few
+  tell-waits u caller said few = grind (arith, common_steps, changed-waiting, settled-few)
 
   told-waits : (message : List ℕ) (u : State) (r : Option Ended × Ledger) → waiting u ≤ waiting s → waiting (tell_end message u r).1 ≤ waiting s
-  told-waits message u (None, ledger) few = few
-  told-waits message u (Some ended, ledger) few = tell-waits (record u { ledger = ledger }) ended.forward.caller (outcome_at_end message ended) few
+  told-waits message u r few = grind (arith, common_steps, tell-waits)
 
   end-waits : (r : Option Told × State) → waiting r.1 ≤ waiting s → waiting (show_end r).1 ≤ waiting s
-  end-waits (None, u) few = few
-  end-waits (Some told, u) few = few
+  end-waits r few = grind arith
 
   expired-waits : (r : Expired × State) → waiting r.1 ≤ waiting s → waiting (show_expired r).1 ≤ waiting s
-  expired-waits (expiries.Nothing, u) few = few
-  expired-waits (expiries.Ended told, u) few = few
-  expired-waits (expiries.ConnectionClosed id, u) few = few
+  expired-waits r few = grind arith
 
   lost-few : (c : Connection) → args_of (lose c) ≤ args_of c
   lost-few c = omega arith
 
   expire-waits : (now : ℕ) (r : Expired × State) → Expiry s (max s.clock now) (at_fresh_moment now s) r → waiting r.1 ≤ waiting s
-  expire-waits now r (EntryEnds e found ledger left is) = rw is (tell-waits (record (at_fresh_moment now s) { ledger = ledger }) e.forward.caller (outcome_at_end [] (end_of e)) (omega arith))
-  expire-waits now r (ConnectionEnds none c found is) = rw is (changed-waiting (is_live c.number) lose lost-few s.connections.all)
-  expire-waits now r (NothingDue none found is) = rw is (omega arith)
+  expire-waits now r p = grind (arith, common_steps, tell-waits, changed-waiting, lost-few)
 
   outcome-waits : (r : Outcome × State) → waiting r.1 ≤ waiting s → waiting (show_outcome (with_reply r)).1 ≤ waiting s
-  outcome-waits (outcomes.NoCall, u) few = few
-  outcome-waits (outcomes.Reply reply began, u) few = few
-  outcome-waits (outcomes.Forwarded, u) few = few
-  outcome-waits (outcomes.Silent, u) few = few
+  outcome-waits r few = grind arith
 
   sent-waits : (number : ℕ) (b : Bool) → waiting (output_or show_done (cond b (Ok tt, record s { ledger = call_sent number s.ledger }) (Err Gone, s))).1 ≤ waiting s
-  sent-waits number true = omega arith
-  sent-waits number false = omega arith
+  sent-waits number b = grind arith
 
   either : (b : Bool) (x y : Output × State) → waiting x.1 ≤ waiting s → waiting y.1 ≤ waiting s → waiting (cond b x y).1 ≤ waiting s
-  either true x y left right = left
-  either false x y left right = right
+  either b x y left right = grind arith
 
   pub open-waits : (now : ℕ) (peer : Peer) → waiting (step s (Open now peer)).1 ≤ waiting s
   unfolding step open_connection open_in_table
@@ -230,8 +161,7 @@ module _ (s : State) where
 
   pub forward-waits : (now : ℕ) (from : Peer) (message : List ℕ) → waiting (step s (ForwardCame now from message)).1 ≤ waiting s
   unfolding step forward_reply
-  forward-waits now from message =
-      end-waits (forward_reply s now from message) (told-waits message (at_fresh_moment now s) (target_replied s.setting.first_xid (max s.clock now) from message s.ledger) (omega arith))
+  forward-waits now from message = grind (arith, common_steps, end-waits, told-waits)
 
   pub expiry-waits : (now : ℕ) → waiting (step s (Expire now)).1 ≤ waiting s
   unfolding step

@@ -2,6 +2,7 @@
 use Rattle.std.proofs.Common.{◌≡◌, ◌<◌, ◌≤◌, ◌↔◌, ℕ, ◌+◌, ◌*◌, ◌/◌, max, min, Bool, true, false, cond, eqb, nat_lt, Option, List, [], ◌++◌, length, take, drop, refl, sym, ap, subst, ◌∙◌, arith}
 use Rattle.std.proofs.lemmas.List.{take-append-drop, drop-append-le, drop-drop, length-take, length-drop, nil_from_length}
 use Rattle.std.proofs.lemmas.Bool.{ltb-true, ltb-false, eqb-true}
+use Rattle.std.proofs.lemmas.Grind.{common_steps}
 use Rattle.rb_model.specs.State.{State, Phase, Connection, Owed}
 use Rattle.rb_model.specs.State.Phase.{Idle, Reading, Owing, Awaiting, Lost}
 use Rattle.rb_model.specs.Connections.{live_connection, on_found, give, pending_in, phase_when_given, with_given, longest_fragment, pending_of}
@@ -43,14 +44,7 @@ front-of (Owing o) sound =
 
 some-pending : (p : Phase) → IsSoundPhase p → is_owing p ≡ true → 0 < length (pending_in p)
 unfolding pending_of
-some-pending Idle sound is = absurd cc
-some-pending (Reading fed) sound is = absurd cc
-some-pending Awaiting sound is = absurd cc
-some-pending Lost sound is = absurd cc
-some-pending (Owing o) sound is =
-    let k : ℕ = fragment_end o in
-    let later : o.given < k = ends-later o in
-    omega (arith, later, sound, length-take k o.marked, length-drop o.given (take k o.marked))
+some-pending p sound is = grind (arith, common_steps, ends-later, length-take, length-drop)
 
 -- ---- what is given
 
@@ -63,11 +57,7 @@ still-owing : (o : Owed) → o.given < length o.marked → (Owing o ≡ Idle) �
 still-owing o more = (λ idle. absurd cc, λ none. absurd (omega (arith, more, is-left o none)))
 
 nothing-given : (p : Phase) → IsSoundPhase p → IsGiven 0 p p
-nothing-given Idle sound = record { left = refl; ended = λ is. absurd cc; kept = λ is. refl }
-nothing-given (Reading fed) sound = record { left = refl; ended = λ is. absurd cc; kept = λ is. refl }
-nothing-given Awaiting sound = record { left = refl; ended = λ is. absurd cc; kept = λ is. refl }
-nothing-given Lost sound = record { left = refl; ended = λ is. absurd cc; kept = λ is. refl }
-nothing-given (Owing o) sound = record { left = refl; ended = λ is. still-owing o sound; kept = λ is. absurd cc }
+nothing-given p sound = grind (arith, common_steps, still-owing)
 
 nil-left : (n : ℕ) → ◌≡◌ {A = List ℕ} [] (drop n [])
 nil-left n = sym (nil_from_length (drop n []) (omega (arith, length-drop {A = ℕ} n [])))
@@ -101,13 +91,7 @@ some-given n (Owing o) = by_test (nat_lt (o.given + n) (length o.marked)) refl
 -- n bytes are given on one connection
 pub one-given : (clock n : ℕ) (c : Connection) → IsSoundPhase c.phase → n ≤ length (pending_in c.phase) → IsGiven n c.phase (give clock n c).1.phase
 unfolding give with_given
-one-given clock n c sound few =
-    let all : min n (length (pending_in c.phase)) ≡ n = omega (arith, few) in
-    subst (λ (k : ℕ). IsGiven n c.phase (with_given clock k c).phase) (sym all) (by_zero (eqb n 0) refl)
-  where
-    by_zero : (z : Bool) → eqb n 0 ≡ z → IsGiven n c.phase (cond z c (record c { phase = phase_when_given n c.phase; since = clock })).phase
-    by_zero true e = subst (λ (k : ℕ). IsGiven k c.phase c.phase) (sym (eqb-true n 0 e)) (nothing-given c.phase sound)
-    by_zero false e = some-given n c.phase
+one-given clock n c sound few = grind (arith, common_steps, eqb-true, nothing-given, some-given)
 
 gave-at : (s : State) (now id n : ℕ) (c : Connection) → IsLive s id c → IsLive (gave s now id n).1 id (give (max s.clock now) n c).1
 unfolding gave live_connection

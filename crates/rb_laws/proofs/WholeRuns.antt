@@ -2,6 +2,7 @@
 use Rattle.std.proofs.Common.{◌≡◌, ◌≤◌, ◌<◌, ℕ, ◌+◌, ◌-◌, ◌*◌, Bool, Option, Some, None, List, [], ◌∷◌, ◌++◌, length, take, refl, ap, subst, ◌∙◌, arith, true}
 use Rattle.std.proofs.lemmas.List.{length-take}
 use Rattle.std.proofs.Math.Seq.{take-append-add}
+use Rattle.std.proofs.lemmas.Grind.{common_steps}
 use Rattle.rb_rpc.specs.Verdict.{verdict}
 use Rattle.rb_rpc.specs.Records.{first_record, data_of}
 use Rattle.rb_rpc.proofs.RecordCuts.{ends_later}
@@ -34,11 +35,7 @@ none_kept = omega (arith, length-take longest_kept (arguments_of (data_of [])))
 
 -- behind bytes that are fed
 fed_args : (p : Phase) (fed : List ℕ) → fed_in p ≡ Some fed → length (kept_of (data_of fed)) ≤ args_in p
-fed_args Idle fed is = let none : [] ≡ fed = cc in subst (λ (xs : List ℕ). length (kept_of (data_of xs)) ≤ 0) none none_kept
-fed_args (Reading xs) fed is = let same : xs ≡ fed = cc in subst (λ (ys : List ℕ). length (kept_of (data_of ys)) ≤ length (kept_of (data_of xs))) same (omega arith)
-fed_args (Owing o) fed is = absurd cc
-fed_args Awaiting fed is = absurd cc
-fed_args Lost fed is = absurd cc
+fed_args p fed is = grind (arith, common_steps, none_kept)
 
 -- What a connection has behind a piece, and what it read, is within what it had and what was taken.
 abbrev IsWithin : Phase → List ℕ → Taking → Type 0
@@ -70,11 +67,7 @@ taken_within p piece sound = by_fed (fed_in p) refl piece
 -- what takes bytes has no list
 no_list : (p : Phase) (piece : List ℕ) (n : ℕ) (content : List ℕ) → taking_of p piece ≡ Ends n content → stamp_in p ≡ None
 unfolding taking_of
-no_list Idle piece n content e = refl
-no_list (Reading fed) piece n content e = refl
-no_list (Owing o) piece n content e = absurd cc
-no_list Awaiting piece n content e = refl
-no_list Lost piece n content e = refl
+no_list p piece n content e = grind arith
 
 read_args : (clock : ℕ) (fed : List ℕ) (c : Connection) → args_in (keep_reading clock fed c).phase ≡ length (kept_of (data_of fed))
 unfolding keep_reading
@@ -104,13 +97,7 @@ module _ (s : State) (reached : IsReached s) (good : are_good s.setting.limits �
         by_taking : (t : Taking) → taking_of c.phase piece ≡ t → IsWithin c.phase piece t → count_in (show_taken (when_taken (at_moment now s) id piece c t).0) ≡ count_taken piece t
             → find_cost (length s.connections.all) + (count_taken piece t + 1) + 4 + record_cost (sizes_in s) t + 2 * waiting (when_taken (at_moment now s) id piece c t).1
             ≤ 2 * waiting s + 16 * count_in (show_taken (when_taken (at_moment now s) id piece c t).0) + event_allowance s.setting.limits
-        by_taking TakesNone is within k = omega (arith, few, k)
-        by_taking (GoesOn fed) is within k =
-            let grown = found-waiting (is_live id) (keep_reading (at_moment now s).clock fed) s.connections.all c e in
-            omega (arith, few, k, within, grown, read_args (at_moment now s).clock fed c)
-        by_taking (Ends n content) is within k =
-            let gone = answering-waits s now id content c e (no_list c.phase piece n content is) in
-            omega (arith, few, k, within, gone, counted n (serve_record (at_moment now s) id c.peer content))
+        by_taking bb is within k = grind (arith, common_steps, few, found-waiting, read_args, answering-waits, no_list, counted)
 
   -- ---- every event
 
@@ -131,17 +118,10 @@ module _ (s : State) (reached : IsReached s) (good : are_good s.setting.limits �
 
 -- what is told of a refused call counts besides
 out_told : (event : Event) (output : Output) → bytes_out event output ≤ bytes_reported event output
-out_told (Gave now id n) Done = omega arith
-out_told (Gave now id n) (Refused fault) = omega arith
-out_told event (UnsentIs None) = omega arith
-out_told event (UnsentIs (Some unsent)) = omega arith
-out_told event output = omega arith
+out_told event output = grind arith
 
 pub events_are_paid_ahead : EventsArePaidAhead
-events_are_paid_ahead s reached good event =
-    let paid = event_paid s reached good event in
-    let more = out_told event (step s event).0 in
-    omega (arith, paid, more)
+events_are_paid_ahead s reached good event = grind (arith, common_steps, event_paid, out_told)
 
 -- ---- runs
 

@@ -3,6 +3,7 @@ use Rattle.std.proofs.Common.{◌≡◌, ◌≢◌, inl, inr, ℕ, ◌-◌, Bool
 use Rattle.std.proofs.Math.Seq.{take-nil}
 use Rattle.std.proofs.lemmas.List.{take_all}
 use Rattle.std.proofs.lemmas.Bool.{and_parts, eqb-true}
+use Rattle.std.proofs.lemmas.Grind.{common_steps}
 use Rattle.rb_rpc.specs.Records.{first_record}
 use Rattle.rb_rpc.proofs.Streams.{are_unique}
 use Rattle.rb_proto.specs.declared.listener.Listener.{Listener}
@@ -104,20 +105,14 @@ module _ (id : ℕ) (s : State) (t : Session) (h : Holds id s.connections t) whe
 
     whole : (now : ℕ) (piece : List ℕ) → owed_in c.phase ≡ [] → is_awaiting c.phase ≡ false → (r : Result Taken CoreFault × State) → Arriving s now id piece r → IsWholeOrEnds t.unfinished piece (taken_by id (Bytes now id piece) (output_or show_taken r).0)
     whole now piece none waits r (NotThere gone is) = absurd (none-found c (sym gone ∙ there))
-    whole now piece none waits r (NotTaken d here (inl feeds) is) =
-        let f = feeds-or-owes none waits in
-        absurd (no_fed f.0 (sym feeds ∙ ap (λ (x : Connection). fed_in x.phase) (one d here) ∙ f.1))
-      where
-        no_fed : (fed : List ℕ) → ◌≡◌ {A = Option (List ℕ)} None (Some fed) → ⊥
-        no_fed fed e = cc
+    whole now piece none waits r (NotTaken d here (inl feeds) is) = grind (arith, common_steps, none-found, feeds-or-owes, one, taken-by, take_all, common_steps, count-shown, ends-whole, first-alone)
     whole now piece none waits r (NotTaken d here (inr empty) is) =
         inl (taken-by now piece r 0 (ap (λ (x : Result Taken CoreFault × State). count_in (output_or show_taken x).0) is) ∙ sym empty)
     whole now piece none waits r (ReadOn d fed here feeds ends is) =
         inl (taken-by now piece r (length piece) (ap (λ (x : Result Taken CoreFault × State). count_in (output_or show_taken x).0) is) ∙ take_all (length piece) piece (omega arith))
     whole now piece none waits r (Ended d fed n here feeds ends is) =
         let said = said_in s now id d (take n (fed ++ piece)) in
-        let part : taken_by id (Bytes now id piece) (output_or show_taken r).0 ≡ take (n - length fed) piece =
-        taken-by now piece r (n - length fed) (ap (λ (x : Result Taken CoreFault × State). count_in (output_or show_taken x).0) is ∙ count-shown (record { count = n - length fed; closed = is_no_call said })) in
+        let part : taken_by id (Bytes now id piece) (output_or show_taken r).0 ≡ take (n - length fed) piece = grind (arith, common_steps, taken-by, count-shown) in
         inr (n, ap (λ (xs : List ℕ). first_record (t.unfinished ++ xs)) part ∙ ap first_record (ends-whole id s t h d here piece fed n feeds ends) ∙ first-alone (fed ++ piece) n ends)
 
     takes-whole : owed_in c.phase ≡ [] → is_awaiting c.phase ≡ false → (now : ℕ) (piece : List ℕ) → IsWholeOrEnds t.unfinished piece (taken_by id (Bytes now id piece) (step s (Bytes now id piece)).0)
