@@ -4,8 +4,7 @@ use Rattle.std.proofs.lemmas.Bool.{leb-false, leb-true}
 use Rattle.std.proofs.lemmas.Bool.Decides.{nat_tests}
 use Rattle.std.proofs.lemmas.List.{length-drop, drop-drop}
 use Rattle.rb_xdr.specs.Kept.{Kept}
-use Rattle.rb_rpc.specs.Records.{marked_reply}
-use Rattle.rb_proto.specs.ListReplies.{longest_part}
+use Rattle.rb_rpc.specs.Records.{fragment_size, marked_reply}
 use Rattle.rb_model.specs.State.{Owed, Connection}
 use Rattle.rb_model.specs.State.Phase.{Owing}
 use Rattle.rb_model.specs.Connections.{longest_fragment, owed_of, pending_of}
@@ -43,8 +42,8 @@ module _ (source : Source) (giving : Giving) (buffer : List ℕ) (window : Kept)
           shows = giving_stays g.reply window more o g.shows small;
           stamp = g.stamp;
           place = omega (arith, is, g.place, small, few);
-          rest = g.rest ∙ ap (λ (k : ℕ). drop (longest_part * (k + 1)) g.reply) (sym same);
-          last = g.last ∙ ap (λ (k : ℕ). nat_le (length g.reply) (longest_part * (k + 1))) (sym same);
+          rest = g.rest ∙ ap (λ (k : ℕ). drop (fragment_size * (k + 1)) g.reply) (sym same);
+          last = g.last ∙ ap (λ (k : ℕ). nat_le (length g.reply) (fragment_size * (k + 1))) (sym same);
         }
 
     -- it moves to the next one
@@ -54,7 +53,7 @@ module _ (source : Source) (giving : Giving) (buffer : List ℕ) (window : Kept)
     unfolding longest_fragment
     moves next new full more_to_come cap shows =
         let k : ℕ = o.given / 1028 in
-        let more_is : longest_part * (k + 1) < length g.reply = leb-false (length g.reply) (longest_part * (k + 1)) (sym g.last ∙ more_to_come) in
+        let more_is : fragment_size * (k + 1) < length g.reply = leb-false (length g.reply) (fragment_size * (k + 1)) (sym g.last ∙ more_to_come) in
         let used : o.given % longest_fragment + more ≡ length window.bytes = omega (arith, full, g.place) in
         let moved = giving_moves g.reply window next more o g.shows used (omega (arith, more_is))
         (ap (λ (kept : Kept). kept.bytes) shows.fragment ∙ ap (λ (xs : List ℕ). take longest_fragment (marked_reply xs)) (g.rest ∙ ap (λ (n : ℕ). drop n g.reply) (omega arith)))
@@ -66,15 +65,15 @@ module _ (source : Source) (giving : Giving) (buffer : List ℕ) (window : Kept)
           shows = moved;
           stamp = g.stamp ∙ sym shows.stamp;
           place = shows.place ∙ omega (arith, used, whole);
-          rest = shows.rest_is ∙ ap (λ (xs : List ℕ). drop longest_part xs) g.rest ∙ drop-drop longest_part (longest_part * (k + 1)) g.reply ∙ ap (λ (n : ℕ). drop n g.reply) (omega (arith, next_is));
-          last = shows.last ∙ ap (λ (xs : List ℕ). nat_le (length xs) longest_part) g.rest ∙ shifted (length g.reply) _ (longest_part * (k + 1)) _ (length-drop (longest_part * (k + 1)) g.reply) (omega (arith, next_is)) more_is;
+          rest = shows.rest_is ∙ ap (λ (xs : List ℕ). drop fragment_size xs) g.rest ∙ drop-drop fragment_size (fragment_size * (k + 1)) g.reply ∙ ap (λ (n : ℕ). drop n g.reply) (omega (arith, next_is));
+          last = shows.last ∙ ap (λ (xs : List ℕ). nat_le (length xs) fragment_size) g.rest ∙ shifted (length g.reply) _ (fragment_size * (k + 1)) _ (length-drop (fragment_size * (k + 1)) g.reply) (omega (arith, next_is)) more_is;
         }
 
     -- it ends
     pub ends : giving.place + more ≡ length window.bytes → giving.last ≡ true → length o.marked ≤ o.given + more
     unfolding longest_fragment
     ends full no_more =
-        let none : length g.reply ≤ longest_part * (o.given / 1028 + 1) = leb-true (length g.reply) _ (sym g.last ∙ no_more) in
+        let none : length g.reply ≤ fragment_size * (o.given / 1028 + 1) = leb-true (length g.reply) _ (sym g.last ∙ no_more) in
         let same : length o.marked ≡ length (marked_reply g.reply) = ap (λ (xs : List ℕ). length xs) g.shows.marked in
         let all = giving_ends g.reply window more o g.shows (omega (arith, full, g.place)) (omega (arith, none)) in
         omega (arith, same, all)
@@ -85,8 +84,8 @@ module _ (source : Source) (buffer : List ℕ) (rest : Rest) (before next : Kept
   goes_on_shown = record {
     made = shows.made;
     some = λ more.
-        let long : longest_part < length (rest_in source buffer rest) = leb-false (length (rest_in source buffer rest)) longest_part (sym shows.last ∙ more) in
-        omega (arith, long, ap (λ (xs : List ℕ). length xs) shows.rest_is, length-drop longest_part (rest_in source buffer rest));
+        let long : fragment_size < length (rest_in source buffer rest) = leb-false (length (rest_in source buffer rest)) fragment_size (sym shows.last ∙ more) in
+        omega (arith, long, ap (λ (xs : List ℕ). length xs) shows.rest_is, length-drop fragment_size (rest_in source buffer rest));
   }
 
   -- a reply whose first fragment is shown
@@ -98,8 +97,8 @@ module _ (source : Source) (buffer : List ℕ) (rest : Rest) (before next : Kept
     shows = giving_begins reply next began (ap (λ (kept : Kept). kept.bytes) shows.fragment ∙ ap (λ (xs : List ℕ). take longest_fragment (marked_reply xs)) whole) (ap (λ (kept : Kept). kept.cap) shows.fragment ∙ cap);
     stamp = sym stamp ∙ sym shows.stamp;
     place = shows.place;
-    rest = shows.rest_is ∙ ap (λ (xs : List ℕ). drop longest_part xs) whole;
-    last = shows.last ∙ ap (λ (xs : List ℕ). nat_le (length xs) longest_part) whole;
+    rest = shows.rest_is ∙ ap (λ (xs : List ℕ). drop fragment_size xs) whole;
+    last = shows.last ∙ ap (λ (xs : List ℕ). nat_le (length xs) fragment_size) whole;
   }
 
 -- so it is on a slot

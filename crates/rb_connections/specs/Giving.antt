@@ -2,7 +2,6 @@
 use Rattle.std.specs.Prelude.{◌≡◌, ◌<◌, ◌≤◌, ⊤, ℕ, ◌+◌, ◌==◌, nat_le, nat_lt, false, not, ◌&&◌, if◌then◌else◌, List, [], length, take, drop, Result, Ok, Err}
 use Rattle.rb_xdr.specs.Kept.{Kept}
 use Rattle.rb_rpc.specs.Records.{fragment_size, marked_reply}
-use Rattle.rb_proto.specs.ListReplies.{longest_part}
 use Rattle.rb_proto.specs.ListParts.{CanBeContinued}
 use Rattle.rb_model.specs.declared.types.CoreFault.{CoreFault}
 use Rattle.rb_model.specs.Connections.{longest_fragment}
@@ -27,8 +26,8 @@ pub record CanContinueReply (source : Source) (buffer : List ℕ) (giving : Givi
 -- The next fragment of a reply is shown, where `rest` was not shown yet, and `giving` is how it goes on.
 pub record ShowsNext (source : Source) (buffer : List ℕ) (rest : Rest) (before shown : Kept) (giving : Giving) : Type 0 where
   pub fragment : shown ≡ record before { bytes = take longest_fragment (marked_reply (rest_in source buffer rest)) }
-  pub rest_is : rest_in source buffer giving.rest ≡ drop longest_part (rest_in source buffer rest)
-  pub last : giving.last ≡ nat_le (length (rest_in source buffer rest)) longest_part
+  pub rest_is : rest_in source buffer giving.rest ≡ drop fragment_size (rest_in source buffer rest)
+  pub last : giving.last ≡ nat_le (length (rest_in source buffer rest)) fragment_size
   pub place : giving.place ≡ 0
   pub stamp : stamp_of_rest giving.rest ≡ stamp_of_rest rest
   pub made : CanMake source giving.rest

@@ -4,10 +4,10 @@ use Rattle.std.specs.List.{AllZip, sum_by}
 use Rattle.std.specs.Map.{values_of}
 use Rattle.rb_xdr.specs.Kept.{Kept}
 use Rattle.rb_rpc.specs.Marks.{StandsForFed}
-use Rattle.rb_rpc.specs.Records.{data_of, marked_reply}
+use Rattle.rb_rpc.specs.Records.{fragment_size, data_of, marked_reply}
 use Rattle.rb_feed.specs.declared.feed.CallFeed.{CallFeed}
 use Rattle.rb_feed.specs.Feeds.{StandsForCall}
-use Rattle.rb_proto.specs.ListReplies.{longest_part, rest_of}
+use Rattle.rb_proto.specs.ListReplies.{rest_of}
 use Rattle.rb_model.specs.Calls.{longest_reply, kept_of, longest_kept}
 use Rattle.rb_model.specs.Served.{Source}
 use Rattle.rb_model.specs.State.{Owed, Phase, Connection, Connections}
@@ -65,8 +65,8 @@ pub record IsGiving (source : Source) (giving : Giving) (buffer : List ℕ) (sho
   pub shows : IsShown reply shown o
   pub stamp : o.stamp ≡ stamp_of_rest giving.rest
   pub place : giving.place ≡ o.given % longest_fragment
-  pub rest : rest_in source buffer giving.rest ≡ drop (longest_part * (o.given / longest_fragment + 1)) reply
-  pub last : giving.last ≡ nat_le (length reply) (longest_part * (o.given / longest_fragment + 1))
+  pub rest : rest_in source buffer giving.rest ≡ drop (fragment_size * (o.given / longest_fragment + 1)) reply
+  pub last : giving.last ≡ nat_le (length reply) (fragment_size * (o.given / longest_fragment + 1))
 
 -- ---- one connection
 

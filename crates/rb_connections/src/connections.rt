@@ -11,12 +11,11 @@ ghost use Rattle.rb_connections.specs.StandsFor.{held_in};
 ghost use Rattle.rb_connections.specs.Listings.{earlier_of, began_before_earliest, with_evicted, stamps_in, IsOldest};
 ghost use Rattle.rb_model.specs.Costs.{oldest_cost, evict_cost};
 
-use crate::giving::LONGEST_FRAGMENT;
 use crate::hints::Hints;
 use crate::slot::{Buffers, CHARGE, Received, Slot, Stage, Wanted, WholeRecord};
 use rb_model::{CoreFault, LONGEST_KEPT, LONGEST_REPLY, Served};
 use rb_registry::Registry;
-use rb_rpc::{Peer, one_fragment};
+use rb_rpc::{LONGEST_FRAGMENT, Peer, one_fragment};
 use rb_xdr::{Kept, Meter, NoMemory, Pool};
 use std::alloc::Global;
 use std::marker::Model;

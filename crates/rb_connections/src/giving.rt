@@ -9,22 +9,17 @@ ghost use Rattle.rb_model.specs.Connections.{longest_fragment};
 ghost use Rattle.rb_model.specs.Served.{Source, source_for};
 ghost use Rattle.rb_connections.specs.StandsFor.{rest_in};
 ghost use Rattle.rb_connections.specs.Giving.{CanMake, ShowsNext};
-ghost use Rattle.rb_rpc.specs.Records.{fragment_header};
-ghost use Rattle.rb_proto.specs.ListReplies.{longest_part};
+ghost use Rattle.rb_rpc.specs.Records.{fragment_size, fragment_header};
 ghost use Rattle.rb_connections.specs.Slots.{IsDraft, IsEmptyDraft};
 ghost use Rattle.rb_model.specs.Costs.{listed_cost, show_cost};
 ghost use Rattle.rb_connections.specs.Costs.{next_cost, row_count};
 ghost use Rattle.rb_connections.specs.Giving.{IsGivenWhole, whole_cost, whole_length};
 ghost use Rattle.rb_connections.specs.declared.giving.Rest.TheVariants.{Held, Listed};
 
-use rb_proto::{LONGEST_PART, ListReply};
+use rb_proto::ListReply;
 use rb_registry::Registry;
-use rb_rpc::{FRAGMENT_HEADER, fragment_header};
+use rb_rpc::{FRAGMENT_HEADER, FRAGMENT_SIZE, LONGEST_FRAGMENT, fragment_header};
 use rb_xdr::{Kept, Meter};
-
-/// The length of a full fragment of a reply, 1,028 bytes with its header. Each fragment is full but the last, which
-/// has 1 to 1,024 bytes of data.
-pub const LONGEST_FRAGMENT: usize = FRAGMENT_HEADER + LONGEST_PART;
 
 /// What of a reply was not yet put in the window.
 #[derive(Clone, Copy, Debug, PartialEq, Eq)]
@@ -93,7 +88,7 @@ fn put(window: &mut Kept, bytes: &[u8], meter: &mut Meter)
 fn show(part: &[u8], last: bool, window: &mut Kept, meter: &mut Meter)
     requires tie { meter.old.tie ≡ window.old.tie }
     requires some { 0 < length part.now }
-    requires few { length part.now ≤ longest_part }
+    requires few { length part.now ≤ fragment_size }
     requires cap { window.old.cap ≡ longest_fragment }
     ensures shown { window.new
         ≡ record window.old { bytes = fragment_header (length part.now) last ++ part.now } }
@@ -115,8 +110,8 @@ fn show_held(start: usize, buffer: &Kept, window: &mut Kept, meter: &mut Meter) 
     ensures cost { PaysAtMost meter.old meter.new show_cost }
 {
     let left = buffer.len(meter) - start;
-    let end = start + left.min(LONGEST_PART);
-    let last = left <= LONGEST_PART;
+    let end = start + left.min(FRAGMENT_SIZE);
+    let last = left <= FRAGMENT_SIZE;
     show(buffer.lend(start..end, meter), last, window, meter);
     Giving {
         rest: Rest::Held(end),
@@ -202,7 +197,7 @@ pub fn give_whole(reply: &mut Kept, room: &mut [u8], meter: &mut Meter) -> usize
         return 0;
     }
     let len = reply.len(meter);
-    if len > LONGEST_PART {
+    if len > FRAGMENT_SIZE {
         return 0;
     }
     room[..FRAGMENT_HEADER].copy_from_slice(&fragment_header(len, true));

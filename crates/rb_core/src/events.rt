@@ -4,13 +4,13 @@ ghost use Rattle.rb_model.specs.State.{are_good};
 ghost use Rattle.rb_model.specs.Bounds.{bytes_bound};
 
 use crate::calls::{Piece, give_at_once, lend_arguments, serve_verdict, take_piece};
-use rb_connections::{BUFFER_SIZE, Connections, EndedRecord, LONGEST_FRAGMENT, Received};
+use rb_connections::{BUFFER_SIZE, Connections, EndedRecord, Received};
 use rb_forward::{Ended, FwdId, LONGEST_FORWARDED_CALL, Unsent};
 use rb_model::{
     CoreFault, Exchanged, Expired, LONGEST_REPLY, Limits, Outcome, Served, Taken, Told,
 };
 use rb_proto::{Books, Context, Listener};
-use rb_rpc::{Caller, Peer, read_call};
+use rb_rpc::{Caller, LONGEST_FRAGMENT, Peer, read_call};
 use rb_serving::{arguments_behind, put_end};
 use rb_xdr::{Kept, Meter};
 use std::alloc::Global;

@@ -1,21 +1,17 @@
 //! Bytes of replies on their way from the core to a socket.
 ghost use Rattle.std.specs.Prelude.{◌≡◌, ◌≤◌, ℕ, List, length, take, drop};
 
-use rb_proto::LONGEST_PART;
-use rb_rpc::FRAGMENT_HEADER;
+use rb_rpc::LONGEST_FRAGMENT;
 use std::alloc::{AllocError, Global};
 use std::io::Write;
 use std::marker::Model;
 use std::{io, mem};
 
-/// The most bytes of a fragment of a reply: its header and its data.
-const FRAGMENT: usize = FRAGMENT_HEADER + LONGEST_PART;
-
 /// The room of a connection's own outbox: a whole reply of 9,000 bytes fits, with the headers of its nine fragments.
-pub(crate) const OWN_ROOM: usize = 9 * FRAGMENT;
+pub(crate) const OWN_ROOM: usize = 9 * LONGEST_FRAGMENT;
 
 /// The room of the outbox that goes from one connection to another: a list of 1,000 rows with usual texts fits.
-pub const LONG_ROOM: usize = 64 * FRAGMENT;
+pub const LONG_ROOM: usize = 64 * LONGEST_FRAGMENT;
 
 /// Bytes that the core counts as given, from the first that the socket has not taken. Its room is public, so that the
 /// core can be lent what is free of it; whoever changes it keeps its invariant.
@@ -67,7 +63,7 @@ impl Outbox {
     /// Whether any fragment fits. Where one may not, nothing more is taken over until the socket has taken all, so
     /// that each fragment is taken over whole.
     pub fn has_room(&self) -> bool {
-        self.bytes.len() - self.end >= FRAGMENT
+        self.bytes.len() - self.end >= LONGEST_FRAGMENT
     }
 
     /// Whether the last fragment that was taken over is the last of its reply.

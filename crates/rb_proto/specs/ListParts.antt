@@ -10,7 +10,8 @@ use Rattle.rb_registry.specs.Cursors.{StandsIn, GoesOn}
 use Rattle.rb_proto.specs.declared.answers.Listing.{Listing}
 use Rattle.rb_proto.specs.declared.list_reply.ListReply.{ListReply}
 use Rattle.rb_proto.specs.declared.list_reply.ListPart.{ListPart}
-use Rattle.rb_proto.specs.ListReplies.{longest_part, longest_row, rows_behind, bytes_behind, rest_of}
+use Rattle.rb_rpc.specs.Records.{fragment_size}
+use Rattle.rb_proto.specs.ListReplies.{longest_row, rows_behind, bytes_behind, rest_of}
 use Rattle.rb_proto.specs.Results.{list_bytes, rows_bytes}
 
 -- the bytes are no more than a row adds at most
@@ -43,11 +44,11 @@ ListsRows xid list kept r = (host : List ℕ) → rest_of host kept r ≡ list_r
 
 -- the part stands in what is shown: the next bytes that are yet to be given
 abbrev pub IsNextPart : List ℕ → Registry → ListReply → List ℕ → ListPart → Type 0
-IsNextPart host kept r shown part = slice_range shown part.start part.end ≡ take longest_part (rest_of host kept r)
+IsNextPart host kept r shown part = slice_range shown part.start part.end ≡ take fragment_size (rest_of host kept r)
 
 -- the new reply goes on behind the next part of the old one
 abbrev pub IsBehindPart : List ℕ → Registry → ListReply → ListReply → Type 0
-IsBehindPart host kept old new = rest_of host kept new ≡ drop longest_part (rest_of host kept old)
+IsBehindPart host kept old new = rest_of host kept new ≡ drop fragment_size (rest_of host kept old)
 
 -- The rows of the reply can be listed, and what was given of that at the cursor is no more than a row adds.
 pub record CanBeContinued (kept : Registry) (r : ListReply) : Type 0 where

@@ -2,6 +2,7 @@
 use Rattle.std.specs.Prelude.{ℕ, ◌+◌, ◌*◌, Bool, true, false, List, [], ◌++◌, drop, Option}
 use Rattle.rb_xdr.specs.Xdr.{max_number}
 use Rattle.rb_rpc.specs.declared.reply.ReplyStatus.TheVariants.{Success}
+use Rattle.rb_rpc.specs.Records.{fragment_size}
 use Rattle.rb_rpc.specs.Replies.{reply_head}
 use Rattle.rb_registry.specs.declared.row.Row.{Row}
 use Rattle.rb_registry.specs.Registry.{Registry, rows_at, rows_passed}
@@ -9,17 +10,14 @@ use Rattle.rb_proto.specs.declared.list_reply.ListReply.{ListReply}
 use Rattle.rb_arguments.specs.Types.{max_rpcb}
 use Rattle.rb_proto.specs.Results.{rows_bytes}
 
--- no part has more bytes
-abbrev pub longest_part : ℕ
-longest_part = 1024
-
 -- what a row adds to a list has at most the bytes of TRUE and an rpcb
 abbrev pub longest_row : ℕ
 longest_row = max_number + max_rpcb
 
--- a part is made in so much room: what was given of a row before it, the part, and the rest of a row behind it
+-- A part of a list has the data of a fragment. It is made in so much room: what was given of a row before it, the part,
+-- and the rest of a row behind it.
 abbrev pub part_room : ℕ
-part_room = longest_part + 2 * longest_row
+part_room = fragment_size + 2 * longest_row
 
 -- the head of a reply that has not begun
 abbrev pub head_unless : Bool → ℕ → List ℕ

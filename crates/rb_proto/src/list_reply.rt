@@ -4,18 +4,16 @@ ghost use Rattle.rb_xdr.specs.Meter.{PaysAtMost};
 ghost use Rattle.rb_xdr.specs.Puts.{Appends};
 ghost use Rattle.rb_registry.specs.Registry.{slots_of};
 ghost use Rattle.rb_registry.specs.Cursors.{StandsIn};
-ghost use Rattle.rb_proto.specs.ListReplies.{longest_part, longest_row, part_room, head_unless, rest_of};
+ghost use Rattle.rb_rpc.specs.Records.{fragment_size};
+ghost use Rattle.rb_proto.specs.ListReplies.{longest_row, part_room, head_unless, rest_of};
 ghost use Rattle.rb_proto.specs.ListParts.{ListsRows, IsNextPart, IsBehindPart, CanBeContinued, Fills};
 ghost use Rattle.rb_proto.specs.Puts.{fill_cost, part_cost};
 
 use crate::answers::Listing;
 use crate::rows::write_row;
 use rb_registry::{Cursor, Registry};
-use rb_rpc::{ReplyHead, ReplyStatus, put_reply};
+use rb_rpc::{FRAGMENT_SIZE, ReplyHead, ReplyStatus, put_reply};
 use rb_xdr::{Kept, Meter, Xdr};
-
-/// A part has as many bytes, but the last one, which may have fewer.
-pub const LONGEST_PART: usize = 1_024;
 
 /// A reply that lists the rows as they were at its call, and how much of it was given. It holds no rows: each part
 /// reads them from the registry again.
@@ -96,9 +94,9 @@ impl ListReply {
         ensures part { IsNextPart host registry.now self.old out.new.bytes result }
         ensures rest { IsBehindPart host registry.now self.old self.new }
         ensures last { result.last
-            ≡ nat_le (length (rest_of host registry.now self.old)) longest_part }
+            ≡ nat_le (length (rest_of host registry.now self.old)) fragment_size }
         ensures range { result.start ≤ result.end }
-        ensures few { result.end ≤ result.start + longest_part }
+        ensures few { result.end ≤ result.start + fragment_size }
         ensures within { result.end ≤ length out.new.bytes }
         ensures told { CanBeContinued registry.now self.new }
         ensures stamp { self.new.stamp ≡ self.old.stamp }
@@ -106,7 +104,7 @@ impl ListReply {
         ensures tie { out.new.tie ≡ out.old.tie }
         ensures cost { PaysAtMost meter.old meter.new (part_cost registry.now) }
     {
-        let target = self.given + LONGEST_PART;
+        let target = self.given + FRAGMENT_SIZE;
         let base = self.fill(registry, host, target, out, meter);
         let len = out.len(meter);
         let end = len.min(target);
@@ -126,7 +124,7 @@ impl ListReply {
     fn put_head(&self, out: &mut Kept, meter: &mut Meter)
         requires tie { meter.old.tie ≡ out.old.tie }
         requires empty { out.old.bytes ≡ [] }
-        requires room { longest_part ≤ out.old.cap }
+        requires room { fragment_size ≤ out.old.cap }
         ensures written { Appends (head_unless self.now.begun self.now.xid) out.old out.new }
         ensures short { length out.new.bytes ≤ 24 }
         ensures cost { PaysAtMost meter.old meter.new (1 + length out.new.bytes) }
@@ -154,7 +152,7 @@ impl ListReply {
     ) -> usize
         requires registry { meter.old.tie ≡ registry.now.tie }
         requires tie { meter.old.tie ≡ out.old.tie }
-        requires most { longest_part ≤ most }
+        requires most { fragment_size ≤ most }
         requires room { most + longest_row ≤ out.old.cap }
         requires place { StandsIn registry.now self.old.stamp self.old.cursor }
         ensures fills { Fills host registry.now self.old self.new most out.new.bytes result }

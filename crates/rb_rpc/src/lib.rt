@@ -20,7 +20,9 @@ pub use laws::{
     replies_are_of_the_grammar, verdict_is_of_the_grammar, written_calls_are_read,
     written_replies_are_read,
 };
-pub use marks::{FRAGMENT_HEADER, Marks, Part, fragment_header, one_fragment};
+pub use marks::{
+    FRAGMENT_HEADER, FRAGMENT_SIZE, LONGEST_FRAGMENT, Marks, Part, fragment_header, one_fragment,
+};
 pub use opaque_auth::{AUTH_NONE, AUTH_SYS, MAX_AUTH_BODY};
 pub use peer::{Caller, Kind, LONGEST_FORWARDED, Peer};
 pub use reply::{BadReply, ReplyHead, ReplyStatus, put_reply, read_reply};

@@ -30,6 +30,12 @@ const LAST: u32 = 1 << 31;
 /// How many bytes the header of a fragment has (RFC 5531 section 11).
 pub const FRAGMENT_HEADER: usize = 4;
 
+/// The most data of a fragment of a reply, in bytes.
+pub const FRAGMENT_SIZE: usize = 1_024;
+
+/// The longest fragment of a reply, with its header, in bytes.
+pub const LONGEST_FRAGMENT: usize = FRAGMENT_HEADER + FRAGMENT_SIZE;
+
 const START: Place = Place::Header { seen: 0, number: 0 };
 
 /// Reads marked records byte by byte (RFC 5531 section 11). It keeps the place in the record, and no bytes.
