@@ -5,6 +5,7 @@ use crate::engine::{Due, Engine};
 use crate::steps::{Progress, serve};
 use mio::Registry;
 use mio::event::Event;
+use rb_forward::PATIENCE;
 use rb_links::{Places, Turn};
 use rb_model::Limits;
 use rb_policy::{
@@ -22,9 +23,6 @@ const LONGEST_DATAGRAM: usize = 65_536;
 
 /// The most datagrams of one socket in a turn: each is a socket call, and a reply to it is another.
 const DATAGRAMS: usize = SOCKET_CALLS / 2;
-
-/// A forwarded call ends so many milliseconds after it came, or before.
-const FORWARDED: u64 = 5_000;
 
 /// The core with its sockets, the places of connections, and what is left for the next turn.
 #[derive(Drop)]
@@ -217,7 +215,7 @@ impl Serving {
         };
         let content = &self.datagram[..len];
         if self.engine.answer(peer, content, &calls.socket) {
-            self.awaited_until = self.turn.moment.saturating_add(FORWARDED);
+            self.awaited_until = self.turn.moment.saturating_add(PATIENCE);
             self.sockets.calls.note(peer, i);
             self.engine.send_forward(&self.sockets.forwards.socket);
         }

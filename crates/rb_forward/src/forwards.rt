@@ -16,7 +16,7 @@ use std::marker::Model;
 const CHARGE: u64 = 128;
 
 /// A target's time to answer, in milliseconds.
-const PATIENCE: u64 = 5000;
+pub const PATIENCE: u64 = 5000;
 
 /// The calls that are forwarded, in the order in which they came, and the buffers that no call is in.
 #[derive(Drop)]

@@ -11,7 +11,7 @@ mod types;
 mod worked;
 
 pub use buffers::LONGEST_FORWARDED_CALL;
-pub use forwards::Forwards;
+pub use forwards::{Forwards, PATIENCE};
 pub use laws::{calls_end_the_first, each_entry_ends_once};
 pub use outcome::LONGEST_RESULTS;
 pub use types::{Ended, Forward, FwdId, Gone, Outcome, Unsent};
