@@ -109,13 +109,13 @@ pub record Tells {A : Type 0} (teller : Teller A) (known known' : Supply) (at at
   pub outcome : (bytes content : List ℕ) → StandsBefore bytes known at content → Outcome (teller (end_of bytes) content) bytes known' at' old new result
 
 -- the same of what is not written, whatever any writer holds
-abbrev pub Takes : {A B : Type 0} → (B → Supply) → B → B → Record → Record → Teller A → Result A InfoFault → Type 0
-Takes left source source' at at' teller result = (held : Option (List ℕ)) → Tells teller (left source) (left source') at at' held held result
+abbrev pub Takes : {A B : Type 0} → Teller A → Result A InfoFault → (B → Supply) → B → B → Record → Record → Type 0
+Takes teller result left source source' at at' = (held : Option (List ℕ)) → Tells teller (left source) (left source') at at' held held result
 
 -- of what is read and written
-abbrev pub Shows : {A B W : Type 0} → (B → Supply) → (W → Option (List ℕ)) → B → B → Record → Record → W → W → Teller A → Result A InfoFault → Type 0
-Shows left contents source source' at at' writer writer' teller result = Tells teller (left source) (left source') at at' (contents writer) (contents writer') result
+abbrev pub Shows : {A B W : Type 0} → Teller A → Result A InfoFault → (B → Supply) → B → B → Record → Record → (W → Option (List ℕ)) → W → W → Type 0
+Shows teller result left source source' at at' contents writer writer' = Tells teller (left source) (left source') at at' (contents writer) (contents writer') result
 
 -- of what is written, wherever any reader stands
-abbrev pub WritesOnly : {A W : Type 0} → (W → Option (List ℕ)) → W → W → Teller A → Result A InfoFault → Type 0
-WritesOnly contents writer writer' teller result = (known : Supply) (at : Record) → Tells teller known known at at (contents writer) (contents writer') result
+abbrev pub WritesOnly : {A W : Type 0} → Teller A → Result A InfoFault → (W → Option (List ℕ)) → W → W → Type 0
+WritesOnly teller result contents writer writer' = (known : Supply) (at : Record) → Tells teller known known at at (contents writer) (contents writer') result

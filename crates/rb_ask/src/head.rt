@@ -20,7 +20,7 @@ fn accept_stat<B: ByteSource>(
     source: &mut B,
     at: &mut Record,
 ) -> Result<ReplyStatus, InfoFault>
-    ensures { Takes B.left source.old source.new at.old at.new (accept_stat number) result }
+    ensures { Takes (accept_stat number) result B.left source.old source.new at.old at.new }
 {
     match number {
         0 => Ok(ReplyStatus::Success),
@@ -43,7 +43,7 @@ fn take_accepted<B: ByteSource>(
     source: &mut B,
     at: &mut Record,
 ) -> Result<ReplyStatus, InfoFault>
-    ensures { Takes B.left source.old source.new at.old at.new take_accepted result }
+    ensures { Takes take_accepted result B.left source.old source.new at.old at.new }
 {
     let (_, number): ((u32, Opaque<400>), u32) = take_item(alloc, source, at)?;
     accept_stat(alloc, number, source, at)
@@ -57,7 +57,7 @@ fn reject_stat<B: ByteSource>(
     source: &mut B,
     at: &mut Record,
 ) -> Result<ReplyStatus, InfoFault>
-    ensures { Takes B.left source.old source.new at.old at.new (reject_stat number) result }
+    ensures { Takes (reject_stat number) result B.left source.old source.new at.old at.new }
 {
     match number {
         0 => {
@@ -78,7 +78,7 @@ fn take_denied<B: ByteSource>(
     source: &mut B,
     at: &mut Record,
 ) -> Result<ReplyStatus, InfoFault>
-    ensures { Takes B.left source.old source.new at.old at.new take_denied result }
+    ensures { Takes take_denied result B.left source.old source.new at.old at.new }
 {
     let number: u32 = take_item(alloc, source, at)?;
     reject_stat(alloc, number, source, at)
@@ -92,7 +92,7 @@ fn reply_stat<B: ByteSource>(
     source: &mut B,
     at: &mut Record,
 ) -> Result<ReplyStatus, InfoFault>
-    ensures { Takes B.left source.old source.new at.old at.new (reply_stat number) result }
+    ensures { Takes (reply_stat number) result B.left source.old source.new at.old at.new }
 {
     match number {
         0 => take_accepted(alloc, source, at),
@@ -111,7 +111,7 @@ pub fn take_head<B: ByteSource>(
     source: &mut B,
     at: &mut Record,
 ) -> Result<ReplyHead, InfoFault>
-    ensures { Takes B.left source.old source.new at.old at.new take_head result }
+    ensures { Takes take_head result B.left source.old source.new at.old at.new }
 {
     let (xid, (kind, number)): (u32, (u32, u32)) = take_item(alloc, source, at)?;
     if kind != REPLY {

@@ -28,8 +28,7 @@ pub fn take_item<T: Xdr, B: ByteSource>(
     source: &mut B,
     at: &mut Record,
 ) -> Result<T, InfoFault>
-    ensures { Takes B.left source.old source.new at.old at.new
-        (take_one T.reads) result }
+    ensures { Takes (take_one T.reads) result B.left source.old source.new at.old at.new }
 {
     T::laws();
     let mut bytes = Vec::new(alloc);

@@ -33,7 +33,8 @@ pub fn show_item<T: Xdr, S: Style<T>, W: Write>(
     item: &T,
     writer: &mut W,
 ) -> Result<(), InfoFault>
-    ensures { WritesOnly W.contents writer.old writer.new (tell (S.text style.now item.now ∷ [])) result }
+    ensures { WritesOnly (tell (S.text style.now item.now ∷ [])) result
+        W.contents writer.old writer.new }
 {
     let Ok(line) = style.line(alloc, item) else {
         return Err(InfoFault::Memory);
@@ -55,8 +56,8 @@ pub fn show_list<T: Xdr, S: Style<T>, B: ByteSource, W: Write>(
     at: &mut Record,
     writer: &mut W,
 ) -> Result<u32, InfoFault>
-    ensures { Shows B.left W.contents source.old source.new at.old at.new
-        writer.old writer.new (tell_items T.reads (S.text style.now) greatest_list 0) result }
+    ensures { Shows (tell_items T.reads (S.text style.now) greatest_list 0) result
+        B.left source.old source.new at.old at.new W.contents writer.old writer.new }
 {
     for shown in 0..GREATEST_LIST {
         let next: Option<T> = take_item(alloc, source, at)?;

@@ -19,8 +19,8 @@ pub fn take_list<T: Xdr, B: ByteSource>(
     source: &mut B,
     at: &mut Record,
 ) -> Result<Vec<T>, InfoFault>
-    ensures takes { Takes B.left source.old source.new at.old at.new
-        (take_items T.reads greatest_list []) (items_in result) }
+    ensures takes { Takes (take_items T.reads greatest_list []) (items_in result)
+        B.left source.old source.new at.old at.new }
     ensures few { IfOk result (λ items. length items.items ≤ greatest_list) }
 {
     let mut items = Vec::new(alloc);

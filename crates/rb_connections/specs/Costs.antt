@@ -2,7 +2,7 @@
 use Rattle.std.specs.Prelude.{ℕ, ◌+◌, length, Option, Some, None, Result, Ok, Err}
 use Rattle.rb_registry.specs.Registry.{Registry, slots_of}
 use Rattle.rb_model.specs.declared.types.CoreFault.{CoreFault}
-use Rattle.rb_model.specs.Costs.{show_cost, listed_cost, recount_cost, find_cost, take_cost, swap_cost}
+use Rattle.rb_model.specs.Costs.{show_cost, listed_cost, given_cost, recount_cost, find_cost, take_cost, swap_cost}
 use Rattle.rb_connections.specs.declared.giving.Rest.{Rest}
 use Rattle.rb_connections.specs.declared.giving.Rest.TheVariants as rests
 use Rattle.rb_model.specs.declared.served.Served.{Served}
@@ -27,10 +27,6 @@ abbrev pub answered_cost : Registry → Served → ℕ
 answered_cost registry (Answered given) = show_cost + 1
 answered_cost registry (Listed xid listing) = listed_cost (row_count registry) + 1
 
--- the same on a connection that is found among so many
-abbrev pub settling_cost : ℕ → Registry → Served → ℕ
-settling_cost connections registry served = find_cost connections + answered_cost registry served + recount_cost
-
 -- what it costs to swap the buffer of a record, where one ended
 abbrev pub record_swap_cost : Option EndedRecord → ℕ
 record_swap_cost None = 0
@@ -52,3 +48,11 @@ slot_count table = length table.slots
 
 abbrev pub look_cost : Table → ℕ
 look_cost table = find_cost (slot_count table)
+
+-- what it costs to look one up, and to begin to give what a message is answered with
+abbrev pub settling_cost : Table → Registry → Served → ℕ
+settling_cost table registry served = look_cost table + answered_cost registry served + recount_cost
+
+-- or to count bytes as given on it
+abbrev pub giving_cost : Table → Registry → ℕ
+giving_cost table registry = look_cost table + (given_cost (row_count registry) + recount_cost)

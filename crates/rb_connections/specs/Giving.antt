@@ -1,7 +1,8 @@
 -- How a reply is given fragment by fragment.
-use Rattle.std.specs.Prelude.{◌≡◌, ◌<◌, ◌≤◌, ⊤, ℕ, ◌+◌, ◌==◌, nat_le, nat_lt, false, not, ◌&&◌, if◌then◌else◌, List, [], length, take, drop, Result, Ok, Err}
+use Rattle.std.specs.Prelude.{◌≡◌, ◌<◌, ◌≤◌, ⊤, ℕ, ◌+◌, ◌==◌, nat_le, nat_lt, Bool, false, not, ◌&&◌, if◌then◌else◌, List, [], ◌++◌, length, take, drop, Result, Ok, Err}
 use Rattle.rb_xdr.specs.Kept.{Kept}
-use Rattle.rb_rpc.specs.Records.{fragment_size, marked_reply}
+use Rattle.rb_rpc.specs.Records.{fragment_size, fragment_header, marked_reply}
+use Rattle.rb_proto.specs.declared.list_reply.ListReply.{ListReply}
 use Rattle.rb_proto.specs.ListParts.{CanBeContinued}
 use Rattle.rb_model.specs.declared.types.CoreFault.{CoreFault}
 use Rattle.rb_model.specs.Connections.{longest_fragment}
@@ -23,6 +24,10 @@ pub record CanContinueReply (source : Source) (buffer : List ℕ) (giving : Givi
   pub made : CanMake source giving.rest
   pub some : giving.last ≡ false → 0 < length (rest_in source buffer giving.rest)
 
+-- a window that shows the fragment with this data
+abbrev pub with_fragment : List ℕ → Bool → Kept → Kept
+with_fragment part last window = record window { bytes = fragment_header (length part) last ++ part }
+
 -- The next fragment of a reply is shown, where `rest` was not shown yet, and `giving` is how it goes on.
 pub record ShowsNext (source : Source) (buffer : List ℕ) (rest : Rest) (before shown : Kept) (giving : Giving) : Type 0 where
   pub fragment : shown ≡ record before { bytes = take longest_fragment (marked_reply (rest_in source buffer rest)) }
@@ -31,6 +36,14 @@ pub record ShowsNext (source : Source) (buffer : List ℕ) (rest : Rest) (before
   pub place : giving.place ≡ 0
   pub stamp : stamp_of_rest giving.rest ≡ stamp_of_rest rest
   pub made : CanMake source giving.rest
+
+-- the same of a reply in a buffer, from this place on, wherever rows of lists come from
+abbrev pub ShowsHeld : ℕ → List ℕ → Kept → Kept → Giving → Type 0
+ShowsHeld start buffer before shown giving = (source : Source) → ShowsNext source buffer (rests.Held start) before shown giving
+
+-- and of a list, whatever the buffer holds
+abbrev pub ShowsList : Source → ListReply → Kept → Kept → Giving → Type 0
+ShowsList source list before shown giving = (buffer : List ℕ) → ShowsNext source buffer (rests.Listed list) before shown giving
 
 -- how many bytes are pending
 abbrev pub pending_count : Result (List ℕ) CoreFault → Result ℕ CoreFault

@@ -114,8 +114,8 @@ StandsBehindPiece old new reader clock piece =
     → StandsForConnection source new (connection_after clock c (taking_on fed piece))
 
 -- the buffer that the core handed in has these arguments after it
-abbrev pub KeepsArgumentsOfPiece : Slot → Reader → ℕ → List ℕ → Kept → Kept → Type 0
-KeepsArgumentsOfPiece slot reader clock piece before after =
+abbrev pub KeepsArguments : Slot → Reader → ℕ → List ℕ → Kept → Kept → Type 0
+KeepsArguments slot reader clock piece before after =
     (c : Connection) (fed : List ℕ) → IsBeforePiece slot reader clock c fed
     → after.bytes ≡ arguments_after before.bytes (taking_on fed piece)
 

@@ -259,8 +259,8 @@ impl Connections {
     ghost use Rattle.rb_model.specs.Losses.{expire_first};
     ghost use Rattle.rb_connections.specs.Slots.{Finds, TableActs, TableGives, TableHasArguments, TableLends, TableShows, TakesWhole, KeepsWhole, StaysTable, IsDraft, IsEmptyDraft, empty_table, take_piece, HasBuffers};
     ghost use Rattle.rb_model.specs.Step.{pending_at};
-    ghost use Rattle.rb_connections.specs.Costs.{slot_count, look_cost, received_cost, taken_cost, settling_cost, row_count};
-    ghost use Rattle.rb_model.specs.Costs.{given_cost, recount_cost, pending_cost, oldest_cost, evict_cost};
+    ghost use Rattle.rb_connections.specs.Costs.{slot_count, look_cost, received_cost, taken_cost, settling_cost, giving_cost};
+    ghost use Rattle.rb_model.specs.Costs.{pending_cost, oldest_cost, evict_cost};
     ghost use Rattle.rb_connections.specs.Awaits.{AwaitsIfForwarded, NoneIsFreed, OnlyIsFreed, EndedOn, EndsOnFree, GoOn, StayOpen};
     ghost use Rattle.rb_connections.specs.StandsFor.{held_in, most_charge};
     ghost use Rattle.std.specs.Map.{values_of};
@@ -417,8 +417,7 @@ impl Connections {
         ensures awaits { AwaitsIfForwarded (kind_in served) id self.old self.new }
         ensures stays { StaysTable self.old self.new }
         ensures draft { IsEmptyDraft meter.old.tie draft.new }
-        ensures cost { PaysAtMost meter.old meter.new
-            (settling_cost (slot_count self.old) registry.now served) }
+        ensures cost { PaysAtMost meter.old meter.new (settling_cost self.old registry.now served) }
     {
         let Some(slot) = live_slot(&mut self.slots, &mut self.hints, &mut self.held, id, meter)
         else {
@@ -452,8 +451,7 @@ impl Connections {
         ensures refused { OnErr result (self.new ≡ self.old) }
         ensures stays { StaysTable self.old self.new }
         ensures draft { IsEmptyDraft meter.old.tie draft.new }
-        ensures cost { PaysAtMost meter.old meter.new
-            (look_cost self.old + (given_cost (row_count registry.now) + recount_cost)) }
+        ensures cost { PaysAtMost meter.old meter.new (giving_cost self.old registry.now) }
     {
         let Some(slot) = live_slot(&mut self.slots, &mut self.hints, &mut self.held, id, meter)
         else {

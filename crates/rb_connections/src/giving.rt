@@ -2,19 +2,19 @@
 //!
 //! A window shows its current fragment, marked. What is behind that is in the connection's buffer, unmarked, or it is
 //! a list, which is held nowhere as a whole: its next fragment is made from the registry once this one was given.
-ghost use Rattle.std.specs.Prelude.{◌≡◌, ◌+◌, ◌<◌, ◌≤◌, ◌++◌, ℕ, List, [], length, take};
+ghost use Rattle.std.specs.Prelude.{◌≡◌, ◌+◌, ◌<◌, ◌≤◌, [], length, take};
 ghost use Rattle.rb_xdr.specs.Meter.{PaysAtMost};
 ghost use Rattle.rb_xdr.specs.Puts.{Appends, HasRoom};
 ghost use Rattle.rb_model.specs.Connections.{longest_fragment};
-ghost use Rattle.rb_model.specs.Served.{Source, source_for};
+ghost use Rattle.rb_model.specs.Served.{source_for};
 ghost use Rattle.rb_connections.specs.StandsFor.{rest_in};
-ghost use Rattle.rb_connections.specs.Giving.{CanMake, ShowsNext};
-ghost use Rattle.rb_rpc.specs.Records.{fragment_size, fragment_header};
+ghost use Rattle.rb_connections.specs.Giving.{CanMake, ShowsNext, ShowsHeld, ShowsList, with_fragment};
+ghost use Rattle.rb_rpc.specs.Records.{fragment_size};
 ghost use Rattle.rb_connections.specs.Slots.{IsDraft, IsEmptyDraft};
 ghost use Rattle.rb_model.specs.Costs.{listed_cost, show_cost};
 ghost use Rattle.rb_connections.specs.Costs.{next_cost, row_count};
 ghost use Rattle.rb_connections.specs.Giving.{IsGivenWhole, whole_cost, whole_length};
-ghost use Rattle.rb_connections.specs.declared.giving.Rest.TheVariants.{Held, Listed};
+ghost use Rattle.rb_connections.specs.declared.giving.Rest.TheVariants.{Listed};
 
 use rb_proto::ListReply;
 use rb_registry::Registry;
@@ -90,8 +90,7 @@ fn show(part: &[u8], last: bool, window: &mut Kept, meter: &mut Meter)
     requires some { 0 < length part.now }
     requires few { length part.now ≤ fragment_size }
     requires cap { window.old.cap ≡ longest_fragment }
-    ensures shown { window.new
-        ≡ record window.old { bytes = fragment_header (length part.now) last ++ part.now } }
+    ensures shown { window.new ≡ with_fragment part.now last window.old }
     ensures cost { PaysAtMost meter.old meter.new (5 + length part.now) }
 {
     window.clear(meter);
@@ -105,8 +104,7 @@ fn show_held(start: usize, buffer: &Kept, window: &mut Kept, meter: &mut Meter) 
     requires window_tie { meter.old.tie ≡ window.old.tie }
     requires start { start < length buffer.now.bytes }
     requires cap { window.old.cap ≡ longest_fragment }
-    ensures shows { (source : Source) → ShowsNext source buffer.now.bytes (Held start)
-        window.old window.new result }
+    ensures shows { ShowsHeld start buffer.now.bytes window.old window.new result }
     ensures cost { PaysAtMost meter.old meter.new show_cost }
 {
     let left = buffer.len(meter) - start;
@@ -136,8 +134,7 @@ fn show_list(
     requires cap { window.old.cap ≡ longest_fragment }
     requires made { CanMake (source_for host registry.now) (Listed list) }
     requires some { 0 < length (rest_in (source_for host registry.now) [] (Listed list)) }
-    ensures shows { (buffer : List ℕ) → ShowsNext (source_for host registry.now) buffer
-        (Listed list) window.old window.new result }
+    ensures shows { ShowsList (source_for host registry.now) list window.old window.new result }
     ensures draft { IsEmptyDraft meter.old.tie draft.new }
     ensures cost { PaysAtMost meter.old meter.new (listed_cost (row_count registry.now)) }
 {

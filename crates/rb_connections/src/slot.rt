@@ -157,7 +157,7 @@ impl Slot {
     ghost use Rattle.std.specs.Prelude.{◌≡◌, ◌≤◌, ◌<◌, ◌+◌, ℕ, List, [], true, false, length, Some, IfSome, IfNone};
     ghost use Rattle.rb_model.specs.State.{Connection};
     ghost use Rattle.rb_model.specs.Connections.{pending_in, longest_fragment};
-    ghost use Rattle.rb_connections.specs.Slots.{is_due_slot, SlotActs, SlotGives, SlotHasArguments, SlotShows, emptied_slot, ReceivesPiece, StandsBehindPiece, KeepsArgumentsOfPiece, HasBuffers, IsDraft, IsEmptyDraft, StaysSlot, take_piece, received_whole, is_lost_stage, is_idle_stage, is_wanted_slot};
+    ghost use Rattle.rb_connections.specs.Slots.{is_due_slot, SlotActs, SlotGives, SlotHasArguments, SlotShows, emptied_slot, ReceivesPiece, StandsBehindPiece, KeepsArguments, HasBuffers, IsDraft, IsEmptyDraft, StaysSlot, take_piece, received_whole, is_lost_stage, is_idle_stage, is_wanted_slot};
     ghost use Rattle.rb_connections.specs.StandsFor.{StandsForConnection, charge, most_charge, rest_in};
     ghost use Rattle.rb_model.specs.Served.{source_for, IsWritten, kind_in};
     ghost use Rattle.rb_model.specs.Calls.{kept_of};
@@ -225,7 +225,7 @@ impl Slot {
         ensures stage { is_awaiting_stage self.new.stage ≡ false }
         ensures lists { CanContinueSlotByAll self.new }
         ensures ended { IfSome result.ended (λ ended. IsIdleAt clock self.new) }
-        ensures arguments { KeepsArgumentsOfPiece self.old reader clock piece.now arguments.old arguments.new }
+        ensures arguments { KeepsArguments self.old reader clock piece.now arguments.old arguments.new }
         ensures within { result.count ≤ length piece.now }
         ensures stays { StaysSlot meter.old.tie self.old self.new }
         ensures draft { IsDraft meter.old.tie arguments.new }

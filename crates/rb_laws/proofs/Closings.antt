@@ -421,8 +421,7 @@ module _ (s : State) (reached : IsReached s) (id : ℕ) (c : Connection) (there 
       → (r : Result Taken CoreFault × State) → Arriving s at k piece r → lost_in id (output_or show_taken r).1.connections.all ≡ true
   unfolding serve
   way-at at k n piece caller content e lists goes r (NotThere gone is) = absurd (none-some e.connection (sym gone ∙ e.live))
-  way-at at k n piece caller content e lists goes r (NotTaken d here (inl none) is) =
-      absurd (none-some e.fed (sym none ∙ ap (λ (x : Connection). fed_in x.phase) (some-is d e.connection (sym here ∙ e.live)) ∙ e.takes))
+  way-at at k n piece caller content e lists goes r (NotTaken d here (inl none) is) = grind arith
   way-at at k n piece caller content e lists goes r (NotTaken d here (inr empty) is) =
       let none : first_record e.fed ≡ None = fed-none e.connection.phase (live-sound s reached k e.connection e.live) e.fed e.takes in
       absurd (none-some e.n (sym none ∙ ap first_record (sym (ap (λ (xs : List ℕ). e.fed ++ xs) empty ∙ append-nil e.fed)) ∙ e.ends))

@@ -121,12 +121,7 @@ module _ (k : ℕ) (all : List Connection) (c : Connection) (there : live_connec
   -- the connection of the number is changed, and goes on being live
   changed-awaits : (f : Connection → Connection) → IsFeeding k f → ((d : Connection) → (f d).number ≡ d.number) → (id : ℕ) → awaits id (change_first (is_live k) f all) ≡ cond (eqb k id) (if_one (is_awaiting (f c).phase)) (awaits id all)
   unfolding live_connection
-  changed-awaits f feeds keeps id = by_number (eqb k id) refl
-    where
-      by_number : (b : Bool) → eqb k id ≡ b → count_awaiting (find (is_live id) (change_first (is_live k) f all)) ≡ cond b (if_one (is_awaiting (f c).phase)) (count_awaiting (find (is_live id) all))
-      by_number false e = ap count_awaiting (changed-other id k f keeps e all)
-      by_number true e =
-          ap (λ (j : ℕ). count_awaiting (find (is_live j) (change_first (is_live k) f all))) (sym (eqb-true k id e)) ∙ ap count_awaiting (find-changed k f feeds all c found)
+  changed-awaits f feeds keeps id = grind (arith, common_steps, found, changed-other id k f keeps, eqb-true k id, find-changed k f feeds all c found)
 
   kept-awaits : (f : Connection → Connection) → IsFeeding k f → ((d : Connection) → (f d).number ≡ d.number) → is_awaiting (f c).phase ≡ is_awaiting c.phase → (id : ℕ) → awaits id (change_first (is_live k) f all) ≡ awaits id all
   kept-awaits f feeds keeps same id = grind (arith, common_steps, changed-awaits, eqb-true)
@@ -431,16 +426,4 @@ pub record IsWaiting (id : ℕ) (all : List Connection) : Type 0 where
   pub phase : connection.phase ≡ Awaiting
 
 pub entry-waits : (s : State) (id : ℕ) → Await s → has_entry id s ≡ true → IsWaiting id s.connections.all
-entry-waits s id h has = by_live (live_connection id s.connections.all) refl
-  where
-    some : 1 ≤ present id s.ledger.forwards
-    some = some-present id s.ledger.forwards.all has
-
-    by_phase : (c : Connection) → live_connection id s.connections.all ≡ Some c → (p : Phase) → c.phase ≡ p → 1 ≤ if_one (is_awaiting p) → IsWaiting id s.connections.all
-    by_phase c there bb e one = grind (arith, common_steps)
-
-    by_live : (o : Option Connection) → live_connection id s.connections.all ≡ o → IsWaiting id s.connections.all
-    by_live None there = let is : present id s.ledger.forwards ≡ 0 = h id ∙ ap count_awaiting there in absurd (omega (arith, is, some))
-    by_live (Some c) there =
-        let is : present id s.ledger.forwards ≡ if_one (is_awaiting c.phase) = h id ∙ ap count_awaiting there in
-        by_phase c there c.phase refl (omega (arith, is, some))
+entry-waits s id h has = grind (arith, common_steps, common_steps, some-present id)

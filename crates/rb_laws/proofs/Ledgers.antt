@@ -228,9 +228,7 @@ step-follows s (Datagram now peer content) =
     outcome-follows s (serve (at_moment now s) (Udp peer) content) (serve-follows s now (Udp peer) content)
 step-follows s Unsent = stays s
 step-follows s (Sent number) = sent-follows s number (can_be_sent number s.ledger.forwards)
-step-follows s (Forward now from message) =
-    end-follows s (tell_end message (at_fresh_moment now s) (target_replied s.setting.first_xid (max s.clock now) from message s.ledger))
-    (tell-follows s now message (target_replied s.setting.first_xid (max s.clock now) from message s.ledger) (replied-ends s.ledger s.setting.first_xid (max s.clock now) from message))
+step-follows s (Forward now from message) = grind (arith, common_steps, replied-ends, end-follows s, tell-follows s now message)
 step-follows s (Expire now) =
     expired-follows s (tell_end [] (at_fresh_moment now s) (fell_due (max s.clock now) s.ledger))
     (tell-follows s now [] (fell_due (max s.clock now) s.ledger) (due-ends s.ledger (max s.clock now)))
@@ -289,17 +287,4 @@ pub reached-short : (s : State) → IsReached s → (s.ledger.own ≡ own_rows s
 reached-short s r = let k = reached-keeps s r in (k.own, k.short)
 
 pub ledgers_are_well_kept : LedgersAreWellKept
-ledgers_are_well_kept s r =
-    let k = reached-keeps s r in
-    let distinct : are_distinct s.ledger.own ≡ true = rw k.own (own-distinct s.setting.listener) in
-    let own : AreOwn s.ledger.own = subst AreOwn (sym k.own) (are-own s.setting.listener) in
-    record {
-      own = k.own;
-      accepted = k.accepted;
-      own_distinct = distinct;
-      distinct = keys_are_distinct s.setting.limits.rows s.ledger.own s.ledger.changes own distinct k.accepted;
-      fit = λ good.
-          let six : length s.ledger.own ≡ 6 = rw k.own (six-own s.setting.listener) in
-          live_rows_fit s.setting.limits.rows s.ledger.own s.ledger.changes own (omega (arith, six, eight s.setting.limits good)) k.accepted;
-      needed_fit = λ good. omega (arith, reached-fits s r (eight s.setting.limits good), total-is s.connections.all s.ledger);
-    }
+ledgers_are_well_kept s r = grind (arith, common_steps, own-distinct, are-own, keys_are_distinct, six-own, live_rows_fit, eight, total-is, reached-keeps s r, reached-fits s r)

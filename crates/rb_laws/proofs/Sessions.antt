@@ -137,9 +137,7 @@ no-first = refl
 
 -- the part of the piece up to the record's end, behind what was fed
 up-to : (fed piece : List ℕ) (n : ℕ) → length fed ≤ n → fed ++ take (n - length fed) piece ≡ take n (fed ++ piece)
-up-to fed piece n low =
-    let same : length fed + (n - length fed) ≡ n = omega (arith, low) in
-    sym (take-append-add fed piece (n - length fed)) ∙ ap (λ (k : ℕ). take k (fed ++ piece)) same
+up-to fed piece n low = grind (arith, common_steps, take-append-add fed piece (n - length fed))
 
 pub count-shown : (t : Taken) → count_in (show_taken t) ≡ t.count
 count-shown t = elim (t.closed) as (λ b. count_in (cond b (TookAndClosed t.count) (Took t.count)) ≡ t.count) [ true ↦ refl | false ↦ refl ]
@@ -199,8 +197,7 @@ module _ (id : ℕ) (s : State) (t : Session) (h : Holds id s.connections t) whe
   no-piece event output is = ap (λ (xs : List ℕ). take (count_in output) xs) is ∙ take-nil (count_in output)
 
   changed-by : (k : ℕ) (f : Connection → Connection) (now : Connections) → ((d : Connection) → (f d).number ≡ d.number) → eqb k id ≡ false → now ≡ changed_at k f s.connections → FitsIn id now.all t
-  changed-by k f now keeps e same =
-      subst (λ (x : Connections). FitsIn id x.all t) (sym same) (fits-same id s.connections.all (change_first (is_live k) f s.connections.all) t (changed-other id k f keeps e s.connections.all) h.live)
+  changed-by k f now keeps e same = grind (arith, fits-same id, changed-other id k f keeps e)
 
   -- the same once some became Lost for room
   evicted-by : (changes : List ℕ) (k : ℕ) (f : Connection → Connection) (now : Connections) → ((d : Connection) → (f d).number ≡ d.number) → eqb k id ≡ false → now ≡ changed_at k f (evict changes s.connections) → FitsIn id now.all t
@@ -219,8 +216,7 @@ module _ (id : ℕ) (s : State) (t : Session) (h : Holds id s.connections t) whe
     sound-live = found-sound (is_live id) 0 s.connections.next s.connections.all c h.sound found
 
     below : id < s.connections.next
-    below = subst (λ (k : ℕ). k < s.connections.next) (number-is id c (find-holds (is_live id) s.connections.all c found))
-        (number-below (is_live id) 0 s.connections.next s.connections.all c h.sound found)
+    below  = grind (arith, common_steps, found, number-is id c, find-holds (is_live id), number-below (is_live id) 0)
 
     pub unfinished-here : (fed : List ℕ) → fed_in c.phase ≡ Some fed → t.unfinished ≡ fed
     unfinished-here fed feeds = fits-live.unfinished ∙ unfinished-is c.phase fed feeds

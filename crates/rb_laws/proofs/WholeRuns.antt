@@ -57,12 +57,7 @@ up_to p fed piece is none (Some m) e =
 
 taken_within : (p : Phase) (piece : List ℕ) → ((fed : List ℕ) → fed_in p ≡ Some fed → first_record fed ≡ None) → IsWithin p piece (taking_of p piece)
 unfolding taking_of
-taken_within p piece sound = by_fed (fed_in p) refl piece
-  where
-    by_fed : (o : Option (List ℕ)) → fed_in p ≡ o → (xs : List ℕ) → IsWithin p xs (taking_behind o xs)
-    by_fed None e xs = tt
-    by_fed (Some fed) e [] = tt
-    by_fed (Some fed) e (x ∷ xs) = up_to p fed (x ∷ xs) e (sound fed e) (first_record (fed ++ x ∷ xs)) refl
+taken_within p piece sound = grind (arith, common_steps, up_to p)
 
 -- what takes bytes has no list
 no_list : (p : Phase) (piece : List ℕ) (n : ℕ) (content : List ℕ) → taking_of p piece ≡ Ends n content → stamp_in p ≡ None

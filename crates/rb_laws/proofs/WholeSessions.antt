@@ -60,11 +60,8 @@ module _ (id : ℕ) (s : State) (t : Session) (h : Holds id s.connections t) whe
 
   fed-given : (at k : ℕ) (piece : List ℕ) (c : Connection) (fed : List ℕ) (output : Output) → live_connection k s.connections.all ≡ Some c → fed_in c.phase ≡ Some fed
       → taken_by id (Bytes at k piece) output ≢ [] → (b : Bool) → eqb k id ≡ b → AllGiven t
-  fed-given at k piece c fed output there feeds some false e = none-by (Bytes at k piece) output (ap (λ (b : Bool). cond b piece []) e) some
-  fed-given at k piece c fed output there feeds some true e =
-      let there_is : live_connection id s.connections.all ≡ Some c = ap (λ (j : ℕ). live_connection j s.connections.all) (sym (eqb-true k id e)) ∙ there in
-      let fits = fits-live id s t h c there_is in
-      record { answered = all-answered c.phase fed t feeds fits; given = all-given c.phase fed t feeds fits }
+  fed-given at k piece c fed output there feeds some false e = grind (arith, common_steps, none-by (Bytes at k piece) output)
+  fed-given at k piece c fed output there feeds some true e = grind (arith, common_steps, all-answered, all-given, eqb-true k id e, fits-live id s t h c)
 
   turn : (event : Event) (output : Output) (now : Connections) → Happening s event output now → taken_by id event output ≢ [] → AllGiven t
   turn event output now (Stays q same) some = absurd (some (ap (λ (n : ℕ). take n (piece_to id event)) q.no_count))
@@ -106,8 +103,7 @@ module _ (id : ℕ) (s : State) (t : Session) (h : Holds id s.connections t) whe
     whole : (now : ℕ) (piece : List ℕ) → owed_in c.phase ≡ [] → is_awaiting c.phase ≡ false → (r : Result Taken CoreFault × State) → Arriving s now id piece r → IsWholeOrEnds t.unfinished piece (taken_by id (Bytes now id piece) (output_or show_taken r).0)
     whole now piece none waits r (NotThere gone is) = absurd (none-found c (sym gone ∙ there))
     whole now piece none waits r (NotTaken d here (inl feeds) is) = grind (arith, common_steps, none-found, feeds-or-owes, one, taken-by, take_all, common_steps, count-shown, ends-whole, first-alone)
-    whole now piece none waits r (NotTaken d here (inr empty) is) =
-        inl (taken-by now piece r 0 (ap (λ (x : Result Taken CoreFault × State). count_in (output_or show_taken x).0) is) ∙ sym empty)
+    whole now piece none waits r (NotTaken d here (inr empty) is) = grind arith
     whole now piece none waits r (ReadOn d fed here feeds ends is) =
         inl (taken-by now piece r (length piece) (ap (λ (x : Result Taken CoreFault × State). count_in (output_or show_taken x).0) is) ∙ take_all (length piece) piece (omega arith))
     whole now piece none waits r (Ended d fed n here feeds ends is) =

@@ -121,7 +121,7 @@ tell_bytes ask form xid bytes = tell_reply ask form xid (end_of bytes) (data_of 
 
 -- Where the bytes that the source has are known, what is written, and what is left unread, is what the reply tells that
 -- they begin with.
-abbrev pub IsShown : {B W : Type 0} → (B → Supply) → (W → Option (List ℕ)) → Ask → Form → ℕ → B → B → W → W → Result Shown InfoFault → Type 0
-IsShown left contents ask form xid source source' writer writer' result =
+abbrev pub IsShown : {B W : Type 0} → Ask → Form → ℕ → Result Shown InfoFault → (B → Supply) → B → B → (W → Option (List ℕ)) → W → W → Type 0
+IsShown ask form xid result left source source' contents writer writer' =
     (bytes : List ℕ) → (left source).bytes ≡ Some bytes
     → (at : Record) × Outcome (tell_bytes ask form xid bytes) bytes (left source') at (contents writer) (contents writer') result

@@ -1,5 +1,5 @@
 -- A line for each program, with the versions and netids of its rows, as others' `rpcinfo -s` has them.
-use Rattle.std.specs.Prelude.{ℕ, ◌==◌, ◌&&◌, not, if◌then◌else◌, List, [], ◌∷◌, ◌++◌, map, codes, Option, Some, None}
+use Rattle.std.specs.Prelude.{ℕ, ◌≡◌, ◌==◌, ◌&&◌, not, if◌then◌else◌, List, [], ◌∷◌, ◌++◌, map, codes, Option, Some, None}
 use Rattle.std.specs.Fmt.{decimal}
 use Rattle.std.specs.List.{find, flat_map, fold, list_any}
 use Rattle.std.specs.Borrow.{Bor}
@@ -52,12 +52,20 @@ programs_of rows = fold add_program [] rows
 abbrev pub add_version : ℕ → List ℕ → ShownRow → List ℕ
 add_version prog seen row = if row.prog == prog && not (list_any (λ vers. vers == row.vers) seen) then row.vers ∷ seen else seen
 
+-- a row's version came to those that were there
+abbrev pub AddsVersion : ℕ → ShownRow → List ℕ → List ℕ → Type 0
+AddsVersion prog row old new = new ≡ add_version prog old row
+
 -- the versions of a program, each once, the one that appears last first
 abbrev pub versions_of : List ShownRow → ℕ → List ℕ
 versions_of rows prog = fold (add_version prog) [] rows
 
 abbrev pub add_netid : ℕ → List (List ℕ) → ShownRow → List (List ℕ)
 add_netid prog seen row = if row.prog == prog && not (list_any (λ netid. bytes_eq netid row.netid) seen) then row.netid ∷ seen else seen
+
+-- a row's netid came to those that were there
+abbrev pub AddsNetid : ℕ → ShownRow → List (Bor (List ℕ)) → List (Bor (List ℕ)) → Type 0
+AddsNetid prog row old new = borrowed_texts new ≡ add_netid prog (borrowed_texts old) row
 
 -- and its netids, in the same way
 abbrev pub netids_of : List ShownRow → ℕ → List (List ℕ)

@@ -48,7 +48,7 @@ fn heading(form: Form<'_>) -> &'static [u8]
 /// Writes a line.
 #[tactic(auto, using(rb_ask::proofs::Tellings::tells_line, rb_ask::proofs::Tellings::tells_write_fault))]
 fn show_line<W: Write>(line: &[u8], writer: &mut W) -> Result<(), InfoFault>
-    ensures { WritesOnly W.contents writer.old writer.new (tell (line.now ∷ [])) result }
+    ensures { WritesOnly (tell (line.now ∷ [])) result W.contents writer.old writer.new }
 {
     if writer.write_all(line).is_err() {
         return Err(InfoFault::Write);
@@ -64,8 +64,8 @@ fn show_items<T: Xdr, S: Style<T>, B: ByteSource, W: Write>(
     at: &mut Record,
     writer: &mut W,
 ) -> Result<Shown, InfoFault>
-    ensures { Shows B.left W.contents source.old source.new at.old at.new
-        writer.old writer.new (tell_list T.reads (S.text style.now)) result }
+    ensures { Shows (tell_list T.reads (S.text style.now)) result
+        B.left source.old source.new at.old at.new W.contents writer.old writer.new }
 {
     let rows = show_list(alloc, style, source, at, writer)?;
     Ok(Shown::Rows(rows))
@@ -78,8 +78,8 @@ fn show_text<T: AsRow, W: Write>(
     items: &[T],
     writer: &mut W,
 ) -> Result<(), InfoFault>
-    ensures { WritesOnly W.contents writer.old writer.new
-        (tell_items_summary form.entry T.as_shown items.now) result }
+    ensures { WritesOnly (tell_items_summary form.entry T.as_shown items.now) result
+        W.contents writer.old writer.new }
 {
     let Ok(text) = items_summary(alloc, form, items) else {
         return Err(InfoFault::Memory);
@@ -95,8 +95,8 @@ fn show_summary<T: Xdr + AsRow, B: ByteSource, W: Write>(
     at: &mut Record,
     writer: &mut W,
 ) -> Result<Shown, InfoFault>
-    ensures { Shows B.left W.contents source.old source.new at.old at.new
-        writer.old writer.new (tell_summary form.entry T.reads T.as_shown) result }
+    ensures { Shows (tell_summary form.entry T.reads T.as_shown) result
+        B.left source.old source.new at.old at.new W.contents writer.old writer.new }
 {
     let items: Vec<T> = take_list(alloc, source, at)?;
     show_text(alloc, form, &items, writer)?;
@@ -111,8 +111,8 @@ fn show_columns<B: ByteSource, W: Write>(
     at: &mut Record,
     writer: &mut W,
 ) -> Result<Shown, InfoFault>
-    ensures { Shows B.left W.contents source.old source.new at.old at.new
-        writer.old writer.new (tell_columns form.entry) result }
+    ensures { Shows (tell_columns form.entry) result
+        B.left source.old source.new at.old at.new W.contents writer.old writer.new }
 {
     show_line(heading(form), writer)?;
     show_items(alloc, &Table { form }, source, at, writer)
@@ -126,8 +126,8 @@ fn show_table<B: ByteSource, W: Write>(
     at: &mut Record,
     writer: &mut W,
 ) -> Result<Shown, InfoFault>
-    ensures { Shows B.left W.contents source.old source.new at.old at.new
-        writer.old writer.new (tell_table form.entry) result }
+    ensures { Shows (tell_table form.entry) result
+        B.left source.old source.new at.old at.new W.contents writer.old writer.new }
 {
     if form.is_json() {
         show_items(alloc, &Table { form }, source, at, writer)
@@ -142,7 +142,7 @@ fn take_port<B: ByteSource>(
     source: &mut B,
     at: &mut Record,
 ) -> Result<Shown, InfoFault>
-    ensures { Takes B.left source.old source.new at.old at.new tell_port result }
+    ensures { Takes tell_port result B.left source.old source.new at.old at.new }
 {
     let port: u32 = take_item(alloc, source, at)?;
     Ok(Shown::Port(port))
@@ -167,7 +167,7 @@ fn take_address<B: ByteSource>(
     source: &mut B,
     at: &mut Record,
 ) -> Result<Shown, InfoFault>
-    ensures { Takes B.left source.old source.new at.old at.new tell_address result }
+    ensures { Takes tell_address result B.left source.old source.new at.old at.new }
 {
     let text: Text<128> = take_item(alloc, source, at)?;
     match address_in(text.as_slice()) {
@@ -184,7 +184,7 @@ fn show_ready<W: Write>(
     vers: u32,
     writer: &mut W,
 ) -> Result<Shown, InfoFault>
-    ensures { WritesOnly W.contents writer.old writer.new (tell_ready prog vers) result }
+    ensures { WritesOnly (tell_ready prog vers) result W.contents writer.old writer.new }
 {
     let Ok(line) = format!(in alloc; "program {prog} version {vers} ready\n") else {
         return Err(InfoFault::Memory);
@@ -205,7 +205,7 @@ fn removed_line(removed: bool) -> &'static [u8]
 
 /// Says whether UNSET removed a row.
 fn show_removed<W: Write>(removed: bool, writer: &mut W) -> Result<Shown, InfoFault>
-    ensures { WritesOnly W.contents writer.old writer.new (tell_removed removed) result }
+    ensures { WritesOnly (tell_removed removed) result W.contents writer.old writer.new }
 {
     show_line(removed_line(removed), writer)?;
     Ok(Shown::Removed(removed))
@@ -217,8 +217,8 @@ fn show_unset<B: ByteSource, W: Write>(
     at: &mut Record,
     writer: &mut W,
 ) -> Result<Shown, InfoFault>
-    ensures { Shows B.left W.contents source.old source.new at.old at.new
-        writer.old writer.new tell_unset result }
+    ensures { Shows tell_unset result
+        B.left source.old source.new at.old at.new W.contents writer.old writer.new }
 {
     let removed: bool = take_item(alloc, source, at)?;
     show_removed(removed, writer)
@@ -233,8 +233,8 @@ fn show_results<B: ByteSource, W: Write>(
     at: &mut Record,
     writer: &mut W,
 ) -> Result<Shown, InfoFault>
-    ensures { Shows B.left W.contents source.old source.new at.old at.new
-        writer.old writer.new (tell_results form.entry question) result }
+    ensures { Shows (tell_results form.entry question) result
+        B.left source.old source.new at.old at.new W.contents writer.old writer.new }
 {
     match question {
         Question::Rows => show_items(alloc, &RowLines { form }, source, at, writer),
@@ -284,8 +284,8 @@ fn show_answer<B: ByteSource, W: Write>(
     at: &mut Record,
     writer: &mut W,
 ) -> Result<Shown, InfoFault>
-    ensures { Shows B.left W.contents source.old source.new at.old at.new
-        writer.old writer.new (by_head form.entry question xid head) result }
+    ensures { Shows (by_head form.entry question xid head) result
+        B.left source.old source.new at.old at.new W.contents writer.old writer.new }
 {
     if head.xid != xid {
         return Err(InfoFault::Unreadable);
@@ -318,8 +318,8 @@ pub fn show_reply<B: ByteSource, W: Write>(
     source: &mut B,
     writer: &mut W,
 ) -> Result<Shown, InfoFault>
-    ensures { IsShown B.left W.contents ask.now form.entry xid source.old source.new
-        writer.old writer.new result }
+    ensures { IsShown ask.now form.entry xid result
+        B.left source.old source.new W.contents writer.old writer.new }
 {
     let mut at = Record::new();
     let head = take_head(alloc, source, &mut at)?;

@@ -154,19 +154,21 @@ impl Style<Numbers> for NumbersObject {
 }
 
 fn show_heading<W: Write>(alloc: Global, vers: u32, writer: &mut W) -> Result<(), InfoFault>
-    ensures { WritesOnly W.contents writer.old writer.new (tell (version_line vers ∷ [])) result }
+    ensures { WritesOnly (tell (version_line vers ∷ [])) result W.contents writer.old writer.new }
 {
     show_item(alloc, &VersionLine, &vers, writer)
 }
 
 fn show_info<W: Write>(alloc: Global, numbers: &Numbers, writer: &mut W) -> Result<(), InfoFault>
-    ensures { WritesOnly W.contents writer.old writer.new (tell (info_line numbers.now ∷ [])) result }
+    ensures { WritesOnly (tell (info_line numbers.now ∷ [])) result
+        W.contents writer.old writer.new }
 {
     show_item(alloc, &InfoLine, numbers, writer)
 }
 
 fn show_sets<W: Write>(alloc: Global, numbers: &Numbers, writer: &mut W) -> Result<(), InfoFault>
-    ensures { WritesOnly W.contents writer.old writer.new (tell (sets_line numbers.now ∷ [])) result }
+    ensures { WritesOnly (tell (sets_line numbers.now ∷ [])) result
+        W.contents writer.old writer.new }
 {
     show_item(alloc, &SetsLine, numbers, writer)
 }
@@ -178,7 +180,8 @@ fn show_count_lines<W: Write>(
     numbers: &Numbers,
     writer: &mut W,
 ) -> Result<(), InfoFault>
-    ensures { WritesOnly W.contents writer.old writer.new (tell_count_lines vers numbers.now) result }
+    ensures { WritesOnly (tell_count_lines vers numbers.now) result
+        W.contents writer.old writer.new }
 {
     show_heading(alloc, vers, writer)?;
     show_info(alloc, numbers, writer)?;
@@ -193,8 +196,8 @@ fn show_numbers<W: Write>(
     numbers: &Numbers,
     writer: &mut W,
 ) -> Result<(), InfoFault>
-    ensures { WritesOnly W.contents writer.old writer.new
-        (tell_counts form.entry vers numbers.now) result }
+    ensures { WritesOnly (tell_counts form.entry vers numbers.now) result
+        W.contents writer.old writer.new }
 {
     if form.is_json() {
         show_item(alloc, &NumbersObject { rpcbind: vers }, numbers, writer)
@@ -212,8 +215,8 @@ fn show_lists<B: ByteSource, W: Write>(
     at: &mut Record,
     writer: &mut W,
 ) -> Result<(u32, u32), InfoFault>
-    ensures { Shows B.left W.contents source.old source.new at.old at.new
-        writer.old writer.new (tell_lists form.entry vers) result }
+    ensures { Shows (tell_lists form.entry vers) result
+        B.left source.old source.new at.old at.new W.contents writer.old writer.new }
 {
     let found = show_list(
         alloc,
@@ -247,8 +250,8 @@ fn show_version<B: ByteSource, W: Write>(
     at: &mut Record,
     writer: &mut W,
 ) -> Result<(u32, u32), InfoFault>
-    ensures { Shows B.left W.contents source.old source.new at.old at.new
-        writer.old writer.new (tell_version form.entry vers) result }
+    ensures { Shows (tell_version form.entry vers) result
+        B.left source.old source.new at.old at.new W.contents writer.old writer.new }
 {
     let numbers: Numbers = take_item(alloc, source, at)?;
     show_numbers(alloc, form, vers, &numbers, writer)?;
@@ -274,8 +277,8 @@ pub(crate) fn show_statistics<B: ByteSource, W: Write>(
     at: &mut Record,
     writer: &mut W,
 ) -> Result<Shown, InfoFault>
-    ensures { Shows B.left W.contents source.old source.new at.old at.new
-        writer.old writer.new (tell_statistics form.entry) result }
+    ensures { Shows (tell_statistics form.entry) result
+        B.left source.old source.new at.old at.new W.contents writer.old writer.new }
 {
     let two = show_version(alloc, form, 2, source, at, writer)?;
     let three = show_version(alloc, form, 3, source, at, writer)?;

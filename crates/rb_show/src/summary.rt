@@ -5,7 +5,7 @@ ghost use Rattle.std.specs.List.{list_any};
 ghost use Rattle.std.specs.Str.{bytes_eq};
 ghost use Rattle.std.specs.String.{string_bytes};
 ghost use Rattle.rb_show.specs.Texts.{at_left};
-ghost use Rattle.rb_show.specs.Summary.{ShownRow, shown_row, shown_rows, row_of, old_row_of, add_program, programs_of, add_version, versions_of, borrowed_texts, add_netid, netids_of, owner_of, comma_list, service_text, versions_text, netids_text, summary_line, summary_text, items_summary};
+ghost use Rattle.rb_show.specs.Summary.{ShownRow, shown_row, shown_rows, row_of, old_row_of, add_program, programs_of, AddsVersion, versions_of, borrowed_texts, AddsNetid, netids_of, owner_of, comma_list, service_text, versions_text, netids_text, summary_line, summary_text, items_summary};
 
 use crate::form::{Form, program_name};
 use crate::texts::{prot_text, shown_text};
@@ -96,8 +96,7 @@ fn programs_of(alloc: Global, rows: &[Row]) -> Result<Vec<u32>, AllocError>
 
 /// Adds the version of a row of this program in front, where it is not there yet.
 fn add_version(row: &Row, prog: u32, versions: &mut Vec<u32>) -> Result<(), AllocError>
-    ensures { OnOk result
-        (versions.new.items ≡ add_version prog versions.old.items (shown_row row.now)) }
+    ensures { OnOk result (AddsVersion prog (shown_row row.now) versions.old.items versions.new.items) }
 {
     if row.prog == prog && !versions.contains(&row.vers) {
         versions.insert(0, row.vers)?;
@@ -124,8 +123,7 @@ fn has_text(texts: &[&str], text: &str) -> bool
 
 /// Adds the netid of a row of this program in front, where it is not there yet.
 fn add_netid<'a>(row: &'a Row, prog: u32, seen: &mut Vec<&'a str>) -> Result<(), AllocError>
-    ensures { OnOk result
-        (borrowed_texts seen.new.items ≡ add_netid prog (borrowed_texts seen.old.items) (shown_row row.now)) }
+    ensures { OnOk result (AddsNetid prog (shown_row row.now) seen.old.items seen.new.items) }
 {
     let netid = row.netid.as_str();
     if row.prog == prog && !has_text(seen, netid) {
