@@ -25,7 +25,8 @@ const LISTENER: Listener = Listener {
 };
 
 // (200001, 1) on udp at `0.0.0.0.8.1`, with no owner
-pub(crate) const UDP_ROW: &[u8] = b"\x00\x03\x0d\x41\0\0\0\x01\0\0\0\x03udp\0\0\0\0\x0b0.0.0.0.8.1\0\0\0\0\0";
+pub(crate) const UDP_ROW: &[u8] =
+    b"\x00\x03\x0d\x41\0\0\0\x01\0\0\0\x03udp\0\0\0\0\x0b0.0.0.0.8.1\0\0\0\0\0";
 
 // the own rows as version 2's DUMP shows them
 const OWN_ROWS: &[u8] =
