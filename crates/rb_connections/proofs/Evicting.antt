@@ -2,22 +2,22 @@
 use Rattle.std.specs.Prelude.{All, Contains, filter_map}
 use Rattle.std.specs.List.{AllZip, list_any, list_all}
 use Rattle.std.specs.Map.{values_of}
-use Rattle.std.proofs.Common.{◌≡◌, ◌≤◌, ◌<◌, ℕ, Bool, true, false, cond, eqb, nat_lt, ◌&&◌, ◌||◌, zero, suc, List, [], ◌∷◌, length, map, min, slice_index_or, Option, Some, None, refl, sym, ap, subst, ◌∙◌, arith, inl, inr}
-use Rattle.std.proofs.lemmas.Bool.{lt-ltb, ltb-true, ltb-false, cases_lt}
+use Rattle.std.proofs.Common.{◌≡◌, ◌≤◌, ◌<◌, ℕ, Bool, true, false, nat_lt, zero, suc, List, [], ◌∷◌, length, map, min, slice_index_or, Option, Some, None, refl, sym, subst, ◌∙◌, arith, inl, inr}
+use Rattle.std.proofs.lemmas.Bool.{lt-ltb, ltb-true, cases_lt}
 use Rattle.std.proofs.lemmas.List.Elements.{All-head, All-tail, All-cons, All-nil, All-contains}
-use Rattle.std.proofs.lemmas.List.Sums.{AllPass-from_list_all, list_all-from_AllPass, sum_by-cons}
+use Rattle.std.proofs.lemmas.List.Sums.{AllPass-from_list_all, list_all-from_AllPass}
+use Rattle.std.proofs.lemmas.Grind.{common_steps}
 use Rattle.rb_xdr.specs.Kept.{Kept}
 use Rattle.rb_xdr.specs.Pool.{Pool, value_at, HasDistinctKeys}
 use Rattle.rb_model.specs.State.{Phase, Connection, Connections}
-use Rattle.rb_model.specs.State.Phase.{Lost}
 use Rattle.rb_model.specs.Losses.{stamp_in, began_before, evict_early, evict}
 use Rattle.rb_connections.specs.declared.slot.Slot.{Slot}
 use Rattle.rb_connections.specs.declared.slot.Buffers.{Buffers}
 use Rattle.rb_connections.specs.declared.slot.Stage.{Stage}
 use Rattle.rb_connections.specs.declared.slot.Stage.TheVariants as stages
 use Rattle.rb_model.specs.Served.{Source}
-use Rattle.rb_connections.specs.StandsFor.{Table, StandsForPhase, StandsForConnection, StandsForConnections, charge, held_in, IsWithin, stamp_of_rest}
-use Rattle.rb_connections.specs.Slots.{IsTable, StaysTable, HasBuffers, AreNumbered, is_numbered, is_idle_stage}
+use Rattle.rb_connections.specs.StandsFor.{Table, StandsForPhase, StandsForConnection, StandsForConnections, charge, held_in, IsWithin}
+use Rattle.rb_connections.specs.Slots.{IsTable, StaysTable, HasBuffers, AreNumbered, is_numbered}
 use Rattle.rb_connections.specs.Awaits.{is_free_slot, is_free, is_idle_slot, has_idle, NoneIsFreed}
 use Rattle.rb_connections.specs.Listings.{stamp_of_stage, stamp_of_slot, CanContinueSlot, IsOldest, earlier_of, IsEarliest, began_before_earliest, evicted_slot, with_evicted}
 use Rattle.rb_connections.proofs.Phases.{by_phase}
@@ -25,8 +25,7 @@ use Rattle.rb_connections.proofs.Phases.{by_phase}
 -- ---- one slot
 
 pub began_alike : (source : Source) (stage : Stage) (buffer window : Kept) (phase : Phase) → StandsForPhase source stage buffer window phase → stamp_of_stage stage ≡ stamp_in phase
-began_alike source stage buffer window phase h =
-    by_phase source buffer window (λ s p. stamp_of_stage s ≡ stamp_in p) (λ z. refl) (λ reader fed z. refl) (λ giving o z. sym z.stamp) (λ z. refl) refl stage phase h
+began_alike source stage buffer window phase h = grind (arith, common_steps, by_phase source buffer window)
 
 -- before the earliest change is before all of them
 before_all : (changes : List ℕ) (earliest n : ℕ) → IsEarliest changes earliest → list_all (λ later. nat_lt n later) changes ≡ nat_lt n earliest
@@ -39,11 +38,7 @@ before_all changes earliest n e = by_test (nat_lt n earliest) refl
     by_test false t = by_all (list_all (λ later. nat_lt n later) changes) refl
       where
         by_all : (a : Bool) → list_all (λ later. nat_lt n later) changes ≡ a → a ≡ false
-        by_all false p = refl
-        by_all true p =
-            let passes : nat_lt n earliest ≡ true = All-contains (λ later. nat_lt n later ≡ true) changes earliest (AllPass-from_list_all (λ later. nat_lt n later) changes p) e.one in
-            let clash : true ≡ false = sym passes ∙ t in
-            absurd cc
+        by_all bb p = grind (arith, common_steps, All-contains, AllPass-from_list_all)
 
 none_within : (earliest : ℕ) → Contains [] earliest → ⊥
 none_within earliest c = absurd (omega (arith, c.1))
@@ -56,14 +51,7 @@ before_earliest (change ∷ changes) earliest (Some n) e = before_all (change �
 pub evicted_stands : (source : Source) (changes : List ℕ) (earliest : ℕ) (slot : Slot) (c : Connection) → IsEarliest changes earliest → StandsForConnection source slot c
     → StandsForConnection source (evicted_slot earliest slot) (evict_early changes c)
 unfolding evict_early
-evicted_stands source changes earliest slot c e h =
-    let same : began_before changes (stamp_in c.phase) ≡ began_before_earliest earliest (stamp_of_slot slot) =
-    before_earliest changes earliest (stamp_in c.phase) e ∙ ap (began_before_earliest earliest) (sym (began_alike source slot.stage slot.buffer slot.window c.phase h.phase)) in
-    rw same (by_test (began_before_earliest earliest (stamp_of_slot slot)))
-  where
-    by_test : (b : Bool) → StandsForConnection source (cond b (record slot { stage = stages.Lost }) slot) (cond b (record c { phase = Lost }) c)
-    by_test true = record { number = h.number; peer = h.peer; since = h.since; phase = tt }
-    by_test false = h
+evicted_stands source changes earliest slot c e h = grind (arith, common_steps, before_earliest, began_alike)
 
 pub marked_is : (earliest : ℕ) (slot gone : Slot) → gone ≡ slot → began_before_earliest earliest (stamp_of_slot slot) ≡ true → record gone { stage = stages.Lost } ≡ evicted_slot earliest slot
 marked_is earliest slot gone same early = rw (same, early) refl
@@ -93,67 +81,40 @@ module _ (P : Slot → Type 0) (earliest : ℕ) (keeps : (slot : Slot) → P slo
   all_keep (e ∷ es) h = All-cons P _ _ (keeps e.1 (All-head P e.1 (values_of es) h)) (all_keep es (All-tail P e.1 (values_of es) h))
 
 pub lists_evicted : (source : Source) (earliest : ℕ) (slot : Slot) → CanContinueSlot source slot → CanContinueSlot source (evicted_slot earliest slot)
-lists_evicted source earliest slot told = by_test (began_before_earliest earliest (stamp_of_slot slot))
-  where
-    by_test : (b : Bool) → CanContinueSlot source (cond b (record slot { stage = stages.Lost }) slot)
-    by_test true = tt
-    by_test false = told
+lists_evicted source earliest slot told = grind arith
 
 buffers_evicted : (tie earliest : ℕ) (slot : Slot) → HasBuffers tie slot → HasBuffers tie (evicted_slot earliest slot)
-buffers_evicted tie earliest slot h = by_test (began_before_earliest earliest (stamp_of_slot slot))
-  where
-    by_test : (b : Bool) → HasBuffers tie (cond b (record slot { stage = stages.Lost }) slot)
-    by_test true = h
-    by_test false = h
+buffers_evicted tie earliest slot h = grind arith
 
 charge_evicted : (earliest : ℕ) (slot : Slot) → charge (evicted_slot earliest slot) ≡ charge slot
-charge_evicted earliest slot = by_test (began_before_earliest earliest (stamp_of_slot slot))
-  where
-    by_test : (b : Bool) → charge (cond b (record slot { stage = stages.Lost }) slot) ≡ charge slot
-    by_test true = refl
-    by_test false = refl
+charge_evicted earliest slot = grind arith
 
 within_evicted : (earliest : ℕ) (slot : Slot) → IsWithin slot → IsWithin (evicted_slot earliest slot)
 within_evicted earliest slot within = omega (arith, within, charge_evicted earliest slot)
 
 held_evicted : (earliest : ℕ) (es : List (ℕ × Slot)) → held_in (values_of (all_evicted earliest es)) ≡ held_in (values_of es)
-held_evicted earliest [] = refl
-held_evicted earliest (e ∷ es) =
-    let one = sum_by-cons charge (evicted_slot earliest e.1) (values_of (all_evicted earliest es)) in
-    let was = sum_by-cons charge e.1 (values_of es) in
-    omega (arith, one, was, charge_evicted earliest e.1, held_evicted earliest es)
+held_evicted earliest es = grind (arith, common_steps)
 
 pub stays_evicted : (earliest : ℕ) (view now : Table) → view ≡ now → StaysTable now (record view { slots = all_evicted earliest view.slots })
-stays_evicted earliest view now is =
-    rw (← is) (record { conns = refl; tie = refl; within = λ within. all_keep IsWithin earliest (within_evicted earliest) view.slots within })
+stays_evicted earliest view now is = grind (arith, common_steps, all_keep IsWithin earliest (within_evicted earliest), within_evicted earliest)
 
 number_evicted : (earliest : ℕ) (slot : Slot) → (evicted_slot earliest slot).number ≡ slot.number
-number_evicted earliest slot = by_test (began_before_earliest earliest (stamp_of_slot slot))
-  where
-    by_test : (b : Bool) → (cond b (record slot { stage = stages.Lost }) slot).number ≡ slot.number
-    by_test true = refl
-    by_test false = refl
+number_evicted earliest slot = grind arith
 
 any_numbered : (earliest number : ℕ) (es : List (ℕ × Slot)) → list_any (is_numbered number) (values_of (all_evicted earliest es)) ≡ list_any (is_numbered number) (values_of es)
 any_numbered earliest number [] = refl
 any_numbered earliest number (e ∷ es) = rw (number_evicted earliest e.1, any_numbered earliest number es) refl
 
 numbered_evicted : (given earliest : ℕ) (es : List (ℕ × Slot)) → AreNumbered given (values_of es) → AreNumbered given (values_of (all_evicted earliest es))
-numbered_evicted given earliest [] n = tt
-numbered_evicted given earliest (e ∷ es) n =
-    (rw (number_evicted earliest e.1) n.0, rw (number_evicted earliest e.1) (any_numbered earliest e.1.number es ∙ n.1), numbered_evicted given earliest es n.2)
+numbered_evicted given earliest [] n = grind (arith, common_steps, number_evicted, any_numbered)
+numbered_evicted given earliest (e ∷ es) n = grind (arith, common_steps, number_evicted, any_numbered, numbered_evicted given earliest es n.2)
 
 pub length_evicted : (earliest : ℕ) (es : List (ℕ × Slot)) → length (all_evicted earliest es) ≡ length es
-length_evicted earliest [] = refl
-length_evicted earliest (e ∷ es) = ap suc (length_evicted earliest es)
+length_evicted earliest es = grind (arith, common_steps)
 
 missing : (earliest key : ℕ) (es : List (ℕ × Slot)) → value_at es key ≡ None → value_at (all_evicted earliest es) key ≡ None
-missing earliest key [] h = refl
-missing earliest key (e ∷ es) h = by_key (eqb e.0 key) refl (missing earliest key es)
-  where
-    by_key : (b : Bool) → eqb e.0 key ≡ b → (value_at es key ≡ None → value_at (all_evicted earliest es) key ≡ None) → value_at (all_evicted earliest (e ∷ es)) key ≡ None
-    by_key true t further = let clash : Some e.1 ≡ None = rw t at h in absurd cc
-    by_key false t further = rw t (further (rw t at h))
+missing earliest key [] h = grind arith
+missing earliest key (e ∷ es) h = grind (arith, missing earliest key es)
 
 distinct_evicted : (earliest : ℕ) (es : List (ℕ × Slot)) → HasDistinctKeys es → HasDistinctKeys (all_evicted earliest es)
 distinct_evicted earliest [] d = tt
@@ -177,60 +138,21 @@ table_evicted slots spare given conns held earliest t = record {
 
 -- those that are left began later
 pub later_evicted : (earliest : ℕ) (slots : List (ℕ × Slot)) → All (λ stamp. earliest ≤ stamp) (filter_map stamp_of_slot (values_of (all_evicted earliest slots)))
-later_evicted earliest [] = All-nil (λ stamp. earliest ≤ stamp)
-later_evicted earliest (e ∷ es) = by_began (stamp_of_slot e.1) refl (later_evicted earliest es)
-  where
-    by_began : (began : Option ℕ) → stamp_of_slot e.1 ≡ began → All (λ stamp. earliest ≤ stamp) (filter_map stamp_of_slot (values_of (all_evicted earliest es)))
-        → All (λ stamp. earliest ≤ stamp) (filter_map stamp_of_slot (values_of (all_evicted earliest (e ∷ es))))
-    by_began None b later = rw (b, b) later
-    by_began (Some n) b later = by_test (nat_lt n earliest) refl
-      where
-        by_test : (t : Bool) → nat_lt n earliest ≡ t → All (λ stamp. earliest ≤ stamp) (filter_map stamp_of_slot (values_of (all_evicted earliest (e ∷ es))))
-        by_test true t = rw (b, t) later
-        by_test false t = rw (b, t, b) (All-cons (λ stamp. earliest ≤ stamp) n _ (ltb-false n earliest t) later)
+later_evicted earliest [] = grind arith
+later_evicted earliest (e ∷ es) = grind (arith, later_evicted earliest es)
 
 -- ---- the table as a whole
 
-idle_stays : (earliest id : ℕ) (slot : Slot) → is_idle_slot id slot ≡ true → is_idle_slot id (evicted_slot earliest slot) ≡ true
-idle_stays earliest id slot idle = by_stage slot.stage refl
-  where
-    and_true : (a b : Bool) → (a && b) ≡ true → b ≡ true
-    and_true true b e = e
-    and_true false b e = absurd cc
-
-    by_stage : (stage : Stage) → slot.stage ≡ stage → is_idle_slot id (evicted_slot earliest slot) ≡ true
-    by_stage stages.Idle is = rw is (rw is at idle)
-    by_stage (stages.Reading reader) is = let clash : false ≡ true = rw is at (and_true (eqb slot.number id) (is_idle_stage slot.stage) idle) in absurd cc
-    by_stage (stages.Owing giving) is = let clash : false ≡ true = rw is at (and_true (eqb slot.number id) (is_idle_stage slot.stage) idle) in absurd cc
-    by_stage stages.Awaiting is = let clash : false ≡ true = rw is at (and_true (eqb slot.number id) (is_idle_stage slot.stage) idle) in absurd cc
-    by_stage stages.Lost is = let clash : false ≡ true = rw is at (and_true (eqb slot.number id) (is_idle_stage slot.stage) idle) in absurd cc
-
 any_idle : (earliest id : ℕ) (es : List (ℕ × Slot)) → list_any (is_idle_slot id) (values_of es) ≡ true → list_any (is_idle_slot id) (values_of (all_evicted earliest es)) ≡ true
-any_idle earliest id [] h = h
-any_idle earliest id (e ∷ es) h = by_test (is_idle_slot id e.1) refl (any_idle earliest id es)
-  where
-    by_test : (b : Bool) → is_idle_slot id e.1 ≡ b → (list_any (is_idle_slot id) (values_of es) ≡ true → list_any (is_idle_slot id) (values_of (all_evicted earliest es)) ≡ true)
-        → list_any (is_idle_slot id) (values_of (all_evicted earliest (e ∷ es))) ≡ true
-    by_test true t further = rw (idle_stays earliest id e.1 t) refl
-    by_test false t further = elim (is_idle_slot id (evicted_slot earliest e.1)) as (λ b. (b || list_any (is_idle_slot id) (values_of (all_evicted earliest es))) ≡ true) [ true ↦ refl | false ↦ further (rw t at h) ]
+any_idle earliest id [] h = grind arith
+any_idle earliest id (e ∷ es) h = grind (arith, any_idle earliest id es)
 
 pub idle_evicted : (earliest id : ℕ) (table : Table) → has_idle id table ≡ true → has_idle id (record table { slots = all_evicted earliest table.slots }) ≡ true
 unfolding has_idle
 idle_evicted earliest id table h = any_idle earliest id table.slots h
 
 free_alike : (earliest id : ℕ) (slot : Slot) → is_free_slot id (evicted_slot earliest slot) ≡ is_free_slot id slot
-free_alike earliest id slot = by_stage slot.stage refl
-  where
-    by_stage : (stage : Stage) → slot.stage ≡ stage → is_free_slot id (evicted_slot earliest slot) ≡ is_free_slot id slot
-    by_stage stages.Idle is = rw is refl
-    by_stage (stages.Reading reader) is = rw is refl
-    by_stage (stages.Owing giving) is = by_test (began_before_earliest earliest (stamp_of_rest giving.rest)) refl
-      where
-        by_test : (b : Bool) → began_before_earliest earliest (stamp_of_rest giving.rest) ≡ b → is_free_slot id (evicted_slot earliest slot) ≡ is_free_slot id slot
-        by_test true t = rw (is, t) refl
-        by_test false t = rw (is, t) refl
-    by_stage stages.Awaiting is = rw is refl
-    by_stage stages.Lost is = rw is refl
+free_alike earliest id slot = grind arith
 
 any_free : (earliest id : ℕ) (es : List (ℕ × Slot)) → list_any (is_free_slot id) (values_of (all_evicted earliest es)) ≡ list_any (is_free_slot id) (values_of es)
 any_free earliest id [] = refl

@@ -2,6 +2,7 @@
 use Rattle.std.proofs.Common.{◌≡◌, ◌≤◌, ◌+◌, ◌-◌, ℕ, Bool, true, false, cond, List, [], ◌++◌, length, take, drop, Option, Some, None, refl, sym, ap, subst, ◌∙◌, append_assoc, arith, length-append}
 use Rattle.std.proofs.Math.Seq.{take-add}
 use Rattle.std.proofs.lemmas.List.{take_all, take-append-drop, length-take-le, length-drop, take_at}
+use Rattle.std.proofs.lemmas.Grind.{common_steps}
 use Rattle.rb_xdr.specs.Kept.{Kept}
 use Rattle.rb_rpc.specs.declared.marks.Marks.{Marks}
 use Rattle.rb_rpc.specs.declared.call.Verdict.{Verdict}
@@ -35,10 +36,7 @@ pub record IsTaken (result : Fed) (reader : Reader) (kept : Kept) (fed piece : L
 
 taken_until : (result : Fed) (reader : Reader) (kept : Kept) (fed piece : List ℕ) (r : Option ℕ) → first_record (fed ++ piece) ≡ r
     → result ≡ fed_until fed piece r → StandsBehind reader kept (fed ++ piece) r → IsTaken result reader kept fed piece
-taken_until result reader kept fed piece r is e stands = record {
-  taken = e ∙ ap (λ (x : Option ℕ). fed_until fed piece x) (sym is);
-  after = subst (λ (x : Option ℕ). StandsBehind reader kept (fed ++ piece) x) (sym is) stands;
-}
+taken_until result reader kept fed piece r is e stands = grind arith
 
 abbrev here : List ℕ → List ℕ → ℕ → List ℕ
 here fed piece i = fed ++ take i piece
@@ -57,9 +55,7 @@ abbrev run_at : List ℕ → ℕ → ℕ → List ℕ
 run_at piece i n = take n (rest_at piece i)
 
 more : (fed piece : List ℕ) (i n : ℕ) → here fed piece i ++ run_at piece i n ≡ here fed piece (i + n)
-more fed piece i n =
-    append_assoc fed (take i piece) (run_at piece i n)
-    ∙ ap (λ (xs : List ℕ). fed ++ xs) (ap (λ (xs : List ℕ). take i piece ++ take n xs) (rest_is piece i) ∙ sym (take-add i n piece))
+more fed piece i n = grind (arith, common_steps, append_assoc, rest_is, take-add)
 
 -- ---- no record ended
 
@@ -67,20 +63,11 @@ pub run_fed : (first_marks : Marks) (first : Intake) (was : Kept) (marks : Marks
     → RecordEnds first_marks run ended → StandsForMore first_marks run ended marks
     → HasMore first_marks first was run intake kept
     → IsBehindRun marks intake kept ended before run
-run_fed first_marks first was marks intake kept ended before run h ends stands goes_on = record {
-  ends = ends before h.marks_are;
-  stands = stands before h.marks_are;
-  data_is = goes_on before h;
-}
+run_fed first_marks first was marks intake kept ended before run h ends stands p = grind arith
 
 pub read_on : (marks : Marks) (intake : Intake) (kept : Kept) (fed piece : List ℕ) (i n : ℕ) (ended : Bool) → ended ≡ false
     → IsBehindRun marks intake kept ended (here fed piece i) (run_at piece i n) → IsInside marks intake kept (here fed piece (i + n))
-read_on marks intake kept fed piece i n ended e h =
-    subst (λ (xs : List ℕ). IsInside marks intake kept xs) (more fed piece i n)
-    (record {
-      marks_are = subst (λ (b : Bool). StandsForFed marks (cond b [] (here fed piece i ++ run_at piece i n))) e h.stands;
-      data_is = h.data_is;
-    })
+read_on marks intake kept fed piece i n ended e h = grind (arith, common_steps, more)
 
 -- all of the piece was taken
 pub none_in : (reader : Reader) (intake : Intake) (kept : Kept) (fed piece : List ℕ) (i : ℕ) → i ≡ length piece → IsInside reader.marks intake kept (here fed piece i)
@@ -88,15 +75,7 @@ pub none_in : (reader : Reader) (intake : Intake) (kept : Kept) (fed piece : Lis
     → IsTaken (record { count = i; verdict = None }) reader kept fed piece
 none_in reader intake kept fed piece i is h same_head =
     let all : IsInside reader.marks intake kept (fed ++ piece) = subst (λ (xs : List ℕ). IsInside reader.marks intake kept (fed ++ xs)) (take_all i piece (omega (arith, is))) h in
-    let reads : IsReading reader kept (fed ++ piece) =
-    record {
-      marks_are = all.marks_are;
-      data_is = record {
-        head_is = rw same_head all.data_is.head_is;
-        kept_is = all.data_is.kept_are.bytes_are;
-        cap = all.data_is.kept_are.cap;
-      };
-    } in
+    let reads : IsReading reader kept (fed ++ piece) = grind (arith, common_steps) in
     taken_until (record { count = i; verdict = None }) reader kept fed piece None (none_ended reader.marks (fed ++ piece) all.marks_are)
     (ap (λ (k : ℕ). record { count = k; verdict = None }) is) reads
 
@@ -113,8 +92,7 @@ ends_at : (fed piece : List ℕ) (i n : ℕ) → first_record (here fed piece i)
 ends_at fed piece i n e = ap first_record (sym (whole fed piece i)) ∙ stays (here fed piece i) (drop i piece) n e
 
 taken : (fed piece : List ℕ) (i : ℕ) → i ≤ length piece → take (length fed + i) (fed ++ piece) ≡ here fed piece i
-taken fed piece i within =
-    ap (λ (xs : List ℕ). take (length fed + i) xs) (sym (whole fed piece i)) ∙ take_at (here fed piece i) (drop i piece) (length fed + i) (length_here fed piece i within)
+taken fed piece i within = grind (arith, common_steps, take_at, whole fed piece i, length_here fed piece i within)
 
 same : (a b : ℕ) (v w : Verdict) → a ≡ b → v ≡ w → ◌≡◌ {A = Fed} (record { count = a; verdict = Some v }) (record { count = b; verdict = Some w })
 same a b v w e f = rw (e, f) refl

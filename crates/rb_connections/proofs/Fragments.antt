@@ -4,6 +4,7 @@ use Rattle.std.proofs.Common.{Option, ◌≡◌, ◌<◌, ◌≤◌, ◌+◌, �
 use Rattle.std.proofs.lemmas.Slice.{take-put_mid}
 use Rattle.std.proofs.lemmas.List.{length-take, length-drop, take_at, drop_at, take_all, take_min, drop-drop, drop_all, drop-take}
 use Rattle.std.proofs.lemmas.Bool.{cases_lt, le-leb, lt-leb}
+use Rattle.std.proofs.lemmas.Grind.{common_steps}
 use Rattle.rb_xdr.specs.Kept.{Kept}
 use Rattle.rb_rpc.specs.Records.{fragment_header, fragment_size, marked_reply}
 use Rattle.rb_rpc.proofs.Markings.{length-header}
@@ -18,10 +19,7 @@ use borrow.Rule.Slice.PartMut.{put_mid}
 -- behind k whole fragments stands what follows their data, marked
 behind : (k a b : ℕ) (reply : List ℕ) → a ≡ 1028 * k → b ≡ 1024 * k → a < length (marked_reply reply)
     → (drop a (marked_reply reply) ≡ marked_reply (drop b reply)) × (b ≤ length reply)
-behind zero a b reply is_a is_b within =
-    let none : a ≡ 0 = omega (arith, is_a) in
-    let no : b ≡ 0 = omega (arith, is_b) in
-    (rw (none, no) refl, omega (arith, no))
+behind zero a b reply is_a is_b within = grind arith
 behind (suc k) a b reply is_a is_b within =
     elim (cases_lt fragment_size (length reply)) [
       | inl long ↦
@@ -147,58 +145,22 @@ pending_shown reply shown o g =
 -- ---- the giving begins, stays in its fragment, moves to the next one, ends
 
 pub giving_begins : (reply : List ℕ) (shown : Kept) (began : Option ℕ) → shown.bytes ≡ take longest_fragment (marked_reply (drop 0 reply)) → shown.cap ≡ longest_fragment → IsShown reply shown (owed_of reply began 0)
-giving_begins reply shown began is cap = record {
-  marked = refl;
-  owes = omega (arith, some-marked reply);
-  shown_is = is ∙ sym (window_at reply (owed_of reply began 0) refl (omega (arith, some-marked reply)));
-  cap = cap;
-}
+giving_begins reply shown began is cap = grind (arith, common_steps, some-marked reply, window_at reply (owed_of reply began 0) refl)
 
 pub giving_stays : (reply : List ℕ) (shown : Kept) (n : ℕ) (o : Owed) → IsShown reply shown o → o.given % longest_fragment + n < length shown.bytes
     → IsShown reply shown (record o { given = o.given + n })
-giving_stays reply shown n o g less =
-    let p = place_of reply shown o g in
-    let same : length o.marked ≡ length (marked_reply reply) = ap (λ (xs : List ℕ). length xs) g.marked in
-    let small : o.given % 1028 + n < length shown.bytes = omega (arith, less, ap (λ (m : ℕ). o.given % m) longest_is) in
-    let stays : o.given / 1028 ≡ (o.given + n) / 1028 = omega (arith, small, p.few) in
-    let within : o.given + n < length o.marked =
-    elim p.ends [ inl more ↦ omega (arith, small, same, more.1, more.2) | inr none ↦ omega (arith, small, same, none.1) ] in
-    record {
-      marked = g.marked;
-      owes = within;
-      shown_is = g.shown_is ∙ window_at reply o g.marked g.owes ∙ ap (λ (k : ℕ). take longest_fragment (marked_reply (drop (1024 * k) reply))) stays
-          ∙ sym (window_at reply (record o { given = o.given + n }) g.marked within);
-      cap = g.cap;
-    }
+giving_stays reply shown n o g less = grind (arith, common_steps, longest_is, place_of reply shown o g, window_at reply o, window_at reply)
 
 pub giving_moves : (reply : List ℕ) (shown next : Kept) (n : ℕ) (o : Owed) → IsShown reply shown o → o.given % longest_fragment + n ≡ length shown.bytes
     → (o.given / longest_fragment + 1) * 1024 < length reply
     → next.bytes ≡ take longest_fragment (marked_reply (drop ((o.given / longest_fragment + 1) * 1024) reply)) → next.cap ≡ longest_fragment
     → IsShown reply next (record o { given = o.given + n })
-giving_moves reply shown next n o g full more is cap =
-    let p = place_of reply shown o g in
-    let same : length o.marked ≡ length (marked_reply reply) = ap (λ (xs : List ℕ). length xs) g.marked in
-    let k_is : o.given / longest_fragment ≡ o.given / 1028 = ap (λ (m : ℕ). o.given / m) longest_is in
-    let used : o.given % 1028 + n ≡ length shown.bytes = omega (arith, full, ap (λ (m : ℕ). o.given % m) longest_is) in
-    let whole : (length shown.bytes ≡ 1028) × (1028 * (o.given / 1028) + 1028 < length (marked_reply reply)) =
-    elim p.ends [ inl there ↦ (there.1, there.2) | inr none ↦ absurd (omega (arith, none.0, more, k_is)) ] in
-    let within : o.given + n < length o.marked = omega (arith, used, whole.0, whole.1, same) in
-    let start : (o.given / longest_fragment + 1) * 1024 ≡ 1024 * ((o.given + n) / 1028) = omega (arith, used, whole.0, k_is) in
-    record {
-      marked = g.marked;
-      owes = within;
-      shown_is = is ∙ ap (λ (m : ℕ). take longest_fragment (marked_reply (drop m reply))) start ∙ sym (window_at reply (record o { given = o.given + n }) g.marked within);
-      cap = cap;
-    }
+giving_moves reply shown next n o g full more is cap = grind (arith, common_steps, longest_is, place_of reply shown o g, window_at reply)
 
 pub giving_ends : (reply : List ℕ) (shown : Kept) (n : ℕ) (o : Owed) → IsShown reply shown o → o.given % longest_fragment + n ≡ length shown.bytes
     → length reply ≤ (o.given / longest_fragment + 1) * 1024
     → o.given + n ≡ length (marked_reply reply)
-giving_ends reply shown n o g full none =
-    let p = place_of reply shown o g in
-    let k_is : o.given / longest_fragment ≡ o.given / 1028 = ap (λ (m : ℕ). o.given / m) longest_is in
-    let used : o.given % 1028 + n ≡ length shown.bytes = omega (arith, full, ap (λ (m : ℕ). o.given % m) longest_is) in
-    elim p.ends [ inl more ↦ absurd (omega (arith, more.0, none, k_is)) | inr there ↦ omega (arith, used, there.1) ]
+giving_ends reply shown n o g full none = grind (arith, common_steps, place_of, longest_is)
 
 -- ---- for the callers
 
@@ -206,16 +168,14 @@ pub place_inside : (reply : List ℕ) (shown : Kept) (o : Owed) → IsShown repl
 place_inside reply shown o g = omega (arith, (place_of reply shown o g).inside, ap (λ (m : ℕ). o.given % m) longest_is)
 
 pub pending_count : (reply : List ℕ) (shown : Kept) (o : Owed) → IsShown reply shown o → o.given % longest_fragment + length (pending_of o) ≡ length shown.bytes
-pending_count reply shown o g =
-    omega (arith, place_inside reply shown o g, ap (λ (xs : List ℕ). length xs) (pending_shown reply shown o g), length-drop (o.given % longest_fragment) shown.bytes)
+pending_count reply shown o g = grind (arith, common_steps, length-drop, place_inside reply shown o g, pending_shown reply shown o g)
 
 -- the fragment is no longer than a whole one, and it is whole where more follows
 pub fragment_few : (reply : List ℕ) (shown : Kept) (o : Owed) → IsShown reply shown o → length shown.bytes ≤ longest_fragment
 fragment_few reply shown o g = omega (arith, (place_of reply shown o g).few, longest_is)
 
 pub fragment_full : (reply : List ℕ) (shown : Kept) (o : Owed) → IsShown reply shown o → 1024 * (o.given / 1028) + 1024 < length reply → length shown.bytes ≡ 1028
-fragment_full reply shown o g more =
-    elim (place_of reply shown o g).ends [ inl there ↦ there.1 | inr none ↦ absurd (omega (arith, none.0, more)) ]
+fragment_full reply shown o g more = grind (arith, common_steps, place_of reply shown o g)
 
 -- the header and the bytes of a reply that are written one behind the other
 pub written_whole : (reply header lent room : List ℕ) (n : ℕ) → length reply ≤ fragment_size → n ≡ length reply → header ≡ fragment_header n true → lent ≡ slice_range reply 0 n → 4 ≤ length room

@@ -1,11 +1,12 @@
 -- How many bytes are held of connections.
-use Rattle.std.specs.Prelude.{All, unwrap_or, option_map}
+use Rattle.std.specs.Prelude.{All}
 use Rattle.std.specs.Map.{values_of}
-use Rattle.std.proofs.Common.{◌≡◌, ℕ, ◌+◌, ◌*◌, ◌^◌, ◌≤◌, ◌<◌, eqb, Some, List, [], ◌∷◌, ◌++◌, refl, ap, length, arith}
+use Rattle.std.proofs.Common.{◌≡◌, ℕ, ◌+◌, ◌*◌, ◌^◌, ◌≤◌, ◌<◌, Some, List, [], ◌∷◌, ◌++◌, refl, length, arith}
 use Rattle.std.proofs.Math.Nat.{mul-le-mul_right}
 use Rattle.std.proofs.lemmas.List.Sums.{sum_by-le, sum_by_push}
 use Rattle.std.proofs.lemmas.List.Elements.{All-push}
 use Rattle.std.proofs.lemmas.Map.Entries.{length-values_of, sum_by-remove_entry}
+use Rattle.std.proofs.lemmas.Grind.{common_steps}
 use Rattle.rb_xdr.specs.Meter.{Meter}
 use Rattle.rb_xdr.specs.Pool.{Pool, value_at, without, with_value}
 use Rattle.rb_xdr.proofs.PoolLemmas.{All-value_at, All-with_value}
@@ -29,10 +30,7 @@ module _ (slots : Pool Slot) (spare : Pool Buffers) (given conns held : ℕ) (t 
       omega (arith, few, more, turned most_charge conns)
 
   pub held_few : held ≤ 256 * most_charge
-  held_few =
-      let within = held_within in
-      let more = mul-le-mul_right most_charge t.few in
-      omega (arith, within, more, turned most_charge conns)
+  held_few = grind (arith, common_steps, held_within, mul-le-mul_right, turned)
 
   pub room_for_one : held + 128 < 2 ^ 64
   unfolding longest_reply longest_kept buffer_size longest_fragment
@@ -40,10 +38,7 @@ module _ (slots : Pool Slot) (spare : Pool Buffers) (given conns held : ℕ) (t 
 
   module _ (k : ℕ) (slot : Slot) (found : value_at slots.entries k ≡ Some slot) where
     pub held_without : held_in (values_of (without slots.entries k)) + charge slot ≡ held
-    held_without =
-        let sum = sum_by-remove_entry charge (λ n. eqb n k) slots.entries in
-        let its = ap (λ m. unwrap_or (option_map charge m) 0) found in
-        omega (arith, sum, its, t.is_held)
+    held_without = grind (arith, common_steps, sum_by-remove_entry)
 
     pub charge_fits : charge slot ≤ held
     charge_fits = let sum = held_without in omega (arith, sum)

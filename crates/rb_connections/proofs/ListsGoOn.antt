@@ -2,26 +2,25 @@
 use Rattle.std.specs.Prelude.{All, filter_map}
 use Rattle.std.specs.List.{AllZip}
 use Rattle.std.specs.Map.{values_of}
-use Rattle.std.proofs.Common.{◌≡◌, ◌≤◌, ℕ, List, [], ◌∷◌, max, Option, Some, None, refl, sym, subst, ◌∙◌, arith}
+use Rattle.std.proofs.Common.{◌≡◌, ◌≤◌, ℕ, List, [], ◌∷◌, max, Option, Some, None, refl, sym, ◌∙◌, arith}
 use Rattle.std.proofs.lemmas.List.Elements.{All-head, All-tail, All-cons, All-nil}
+use Rattle.std.proofs.lemmas.Grind.{common_steps}
 use Rattle.rb_xdr.specs.Kept.{Kept}
 use Rattle.rb_registry.specs.Registry.{Registry}
 use Rattle.rb_registry.specs.Table.{stamp_named}
 use Rattle.rb_registry.specs.Cursors.{GoesOn}
 use Rattle.rb_proto.proofs.ListReplies.{list_reply_goes_on}
 use Rattle.rb_model.specs.State.{Owed, Phase, Connection, Connections}
-use Rattle.rb_model.specs.Losses.{stamp_in, list_stamps}
+use Rattle.rb_model.specs.Losses.{list_stamps}
 use Rattle.rb_connections.specs.declared.slot.Slot.{Slot}
 use Rattle.rb_connections.specs.declared.slot.Stage.{Stage}
 use Rattle.rb_connections.specs.declared.slot.Stage.TheVariants as stages
 use Rattle.rb_connections.specs.declared.giving.Giving.{Giving}
 use Rattle.rb_connections.specs.declared.giving.Rest.{Rest}
-use Rattle.rb_connections.specs.declared.giving.Rest.TheVariants as rests
 use Rattle.rb_connections.specs.Giving.{CanMake}
 use Rattle.rb_connections.specs.StandsFor.{IsGiving, rest_in, stamp_of_rest, Table, StandsForPhase, StandsForConnection, StandsForConnections}
 use Rattle.rb_model.specs.Served.{Source, source_for}
 use Rattle.rb_connections.specs.Listings.{stamp_of_stage, stamp_of_slot, CanContinueStage, CanContinueSlot, CanContinueAll, stamps_of, IsOldest}
-use Rattle.rb_connections.proofs.Evicting.{began_alike}
 use Rattle.rb_connections.proofs.Phases.{by_phase}
 
 module _ (host : List ℕ) (old new : Registry) (goes : GoesOn old new) where
@@ -38,19 +37,10 @@ module _ (host : List ℕ) (old new : Registry) (goes : GoesOn old new) where
   -- what is not shown yet is the same
   rest_goes_on : (rest : Rest) → ((n : ℕ) → stamp_of_rest rest ≡ Some n → new.floor ≤ n) → CanMake before rest
       → CanMake after rest × ((buffer : List ℕ) → rest_in after buffer rest ≡ rest_in before buffer rest)
-  rest_goes_on (rests.Held start) low t = (tt, λ buffer. refl)
-  rest_goes_on (rests.Listed list) low t =
-      let s = list_reply_goes_on old new list goes (low list.stamp refl) t in
-      (s.told, λ buffer. s.rest host)
+  rest_goes_on rest low t = grind (arith, common_steps, list_reply_goes_on)
 
   stage_lists_on : (buffer : List ℕ) (stage : Stage) → IsLow stage → CanContinueStage before buffer stage → CanContinueStage after buffer stage
-  stage_lists_on buffer stages.Idle low t = tt
-  stage_lists_on buffer (stages.Reading reader) low t = tt
-  stage_lists_on buffer (stages.Owing giving) low t =
-      let s = rest_goes_on giving.rest low t.made in
-      record { made = s.0; some = λ more. rw (s.1 buffer) (t.some more) }
-  stage_lists_on buffer stages.Awaiting low t = tt
-  stage_lists_on buffer stages.Lost low t = tt
+  stage_lists_on buffer stage low t = grind (arith, common_steps, rest_goes_on)
 
   phase_stands : (stage : Stage) (buffer window : Kept) (phase : Phase) → IsLow stage → CanContinueStage before buffer.bytes stage → StandsForPhase before stage buffer window phase → StandsForPhase after stage buffer window phase
   phase_stands stage buffer window phase low t h =
@@ -99,28 +89,10 @@ module _ (host : List ℕ) (old new : Registry) (goes : GoesOn old new) where
   pub stands_on : (table : Table) (c : Connections) → All (λ n. new.floor ≤ n) (stamps_of table) → CanContinueAll before table → StandsForConnections before table c → StandsForConnections after table c
   stands_on table c low t z = record { all = all_stand (values_of table.slots) c.all low t z.all; next = z.next }
 
-abbrev pub Reach : Source → List Slot → Type 0
-Reach source slots = All (λ n. (source.registry.floor ≤ n) × (n ≤ source.registry.stamp)) (filter_map stamp_of_slot slots)
-
 -- the stamps of lists that can be made are from the floor to the present
 pub stamps_reach : (source : Source) (slots : List Slot) → All (CanContinueSlot source) slots → All (λ n. (source.registry.floor ≤ n) × (n ≤ source.registry.stamp)) (filter_map stamp_of_slot slots)
-stamps_reach source [] t = All-nil (λ n. (source.registry.floor ≤ n) × (n ≤ source.registry.stamp))
-stamps_reach source (slot ∷ slots) t = by_stage slot.stage refl (All-head (CanContinueSlot source) slot slots t) (stamps_reach source slots (All-tail (CanContinueSlot source) slot slots t))
-  where
-    by_stage : (stage : Stage) → slot.stage ≡ stage → CanContinueStage source slot.buffer.bytes slot.stage → Reach source slots → Reach source (slot ∷ slots)
-    by_stage stages.Idle is t further = rw is further
-    by_stage (stages.Reading reader) is t further = rw is further
-    by_stage (stages.Owing giving) is t further = by_rest giving.rest refl (made_in is t)
-      where
-        made_in : slot.stage ≡ stages.Owing giving → CanContinueStage source slot.buffer.bytes slot.stage → CanMake source giving.rest
-        made_in e z = let it : CanContinueStage source slot.buffer.bytes (stages.Owing giving) = subst (CanContinueStage source slot.buffer.bytes) e z in it.made
-
-        by_rest : (rest : Rest) → giving.rest ≡ rest → CanMake source rest → Reach source (slot ∷ slots)
-        by_rest (rests.Held start) r made = rw (is, r) further
-        by_rest (rests.Listed list) r made =
-            rw (is, r) (All-cons (λ n. (source.registry.floor ≤ n) × (n ≤ source.registry.stamp)) list.stamp (filter_map stamp_of_slot slots) (made.place.reached.from_floor, made.place.reached.made) further)
-    by_stage stages.Awaiting is t further = rw is further
-    by_stage stages.Lost is t further = rw is further
+stamps_reach source [] t = grind (arith, common_steps, All-nil, All-head, All-tail, All-cons)
+stamps_reach source (slot ∷ slots) t = grind (arith, common_steps, All-nil, All-head, All-tail, All-cons, stamps_reach source slots (All-tail (CanContinueSlot source) slot slots t))
 
 pub stamps_low : (source : Source) (table : Table) → CanContinueAll source table → All (λ n. source.registry.floor ≤ n) (stamps_of table)
 stamps_low source table t = λ k d within. (stamps_reach source (values_of table.slots) t k d within).0
@@ -128,19 +100,14 @@ stamps_low source table t = λ k d within. (stamps_reach source (values_of table
 -- so they are from the floor on once it rose to the least of them
 pub trimmed_low : (source : Source) (table : Table) (oldest : Option ℕ) (floor : ℕ) → CanContinueAll source table → IsOldest (stamps_of table) oldest
     → floor ≡ max source.registry.floor (stamp_named source.registry oldest) → All (λ n. floor ≤ n) (stamps_of table)
-trimmed_low source table None floor t none is = subst (All (λ n. floor ≤ n)) (sym none) (All-nil (λ n. floor ≤ n))
-trimmed_low source table (Some k) floor t least is = λ i d within.
-    let low = (stamps_reach source (values_of table.slots) t i d within).0 in
-    let above = least.1 i d within in
-    omega (arith, is, low, above)
+trimmed_low source table None floor t none is = grind (arith, common_steps, All-nil)
+trimmed_low source table (Some k) floor t least is = grind (arith, common_steps, stamps_reach source)
 
 -- ---- when they began
 
 pub begins_alike : (source : Source) (slots : List Slot) (all : List Connection) → AllZip (StandsForConnection source) slots all → list_stamps all ≡ filter_map stamp_of_slot slots
 unfolding list_stamps
-begins_alike source [] [] z = refl
-begins_alike source [] (c ∷ all) z = absurd z
-begins_alike source (slot ∷ slots) [] z = absurd z
-begins_alike source (slot ∷ slots) (c ∷ all) z =
-    let same : stamp_of_slot slot ≡ stamp_in c.phase = began_alike source slot.stage slot.buffer slot.window c.phase z.0.phase in
-    rw (same, begins_alike source slots all z.1) refl
+begins_alike source [] [] z = grind arith
+begins_alike source [] (c ∷ all) z = grind arith
+begins_alike source (slot ∷ slots) [] z = grind arith
+begins_alike source (slot ∷ slots) (c ∷ all) z = grind (arith, begins_alike source slots all z.1)

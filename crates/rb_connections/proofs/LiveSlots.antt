@@ -1,8 +1,7 @@
 -- The slot of the live connection of a number, which changes.
 use Rattle.std.specs.Prelude.{unwrap_or, option_map}
-use Rattle.std.specs.Option.{option_map_or}
 use Rattle.std.specs.Map.{values_of}
-use Rattle.std.proofs.Common.{◌≡◌, ℕ, ◌+◌, ◌^◌, ◌≤◌, ◌<◌, eqb, List, Option, Some, None, ap, arith}
+use Rattle.std.proofs.Common.{◌≡◌, ℕ, ◌+◌, ◌^◌, ◌≤◌, ◌<◌, eqb, List, Some, ap, arith}
 use Rattle.std.proofs.lemmas.Map.Entries.{sum_by-remove_entry}
 use Rattle.rb_xdr.specs.Pool.{Pool, value_at, with_value}
 use Rattle.rb_model.specs.Calls.{longest_kept, longest_reply}
@@ -19,11 +18,7 @@ use Rattle.rb_connections.proofs.Slots.{table_changed}
 -- ---- it is found
 
 pub key_is : (id : ℕ) (slots : List (ℕ × Slot)) (k : ℕ) → option_map (λ e. e.0) (wanted_slot (wanted.Live id) slots) ≡ Some k → live_key id slots ≡ k
-key_is id slots k h = by_found (wanted_slot (wanted.Live id) slots) h
-  where
-    by_found : (found : Option (ℕ × Slot)) → option_map (λ e. e.0) found ≡ Some k → option_map_or (λ e. e.0) found 0 ≡ k
-    by_found None e = absurd cc
-    by_found (Some entry) e = cc
+key_is id slots k h = grind arith
 
 pub is_live : (id : ℕ) (slots : List (ℕ × Slot)) (k : ℕ) (slot : Slot) → option_map (λ e. e.0) (wanted_slot (wanted.Live id) slots) ≡ Some k → value_at slots k ≡ Some slot → IsLiveSlot id slots slot
 is_live id slots k slot h v = let is = key_is id slots k h in record { key = rw is h; there = rw is v }

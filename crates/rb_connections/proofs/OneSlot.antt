@@ -1,8 +1,8 @@
 -- One connection's slot beside the connection that it stands for.
 use Rattle.std.specs.Prelude.{min, take}
-use Rattle.std.proofs.Common.{◌≡◌, ℕ, ◌+◌, ◌-◌, ◌<◌, ◌≤◌, false, eqb, List, [], ◌∷◌, ◌++◌, length, Option, Some, None, refl, sym, ap, subst, ◌∙◌, arith}
+use Rattle.std.proofs.Common.{◌≡◌, ℕ, ◌+◌, ◌-◌, ◌<◌, ◌≤◌, List, [], ◌++◌, length, Option, Some, None, refl, sym, ap, ◌∙◌, arith}
 use Rattle.std.proofs.lemmas.Bool.{lt-ltb, le-ltb}
-use Rattle.std.proofs.lemmas.Bool.Decides.{nat_tests}
+use Rattle.std.proofs.lemmas.Grind.{common_steps}
 use Rattle.rb_xdr.specs.Kept.{Kept}
 use Rattle.rb_rpc.specs.declared.peer.Peer.{Peer}
 use Rattle.rb_rpc.specs.Records.{first_record, data_of, BeginsWithRecord}
@@ -10,7 +10,7 @@ use Rattle.rb_rpc.specs.Verdict.{verdict}
 use Rattle.rb_rpc.specs.declared.call.Verdict.{Verdict}
 use Rattle.rb_model.specs.State.{Owed, Phase, Connection}
 use Rattle.rb_model.specs.State.Phase.{Idle, Reading, Owing, Awaiting, Lost}
-use Rattle.rb_model.specs.Connections.{Taking, taking_of, taking_on, taking_up_to, since_when_fed, fed_in, pending_in, phase_when_given, with_given, give, pending_of}
+use Rattle.rb_model.specs.Connections.{Taking, taking_of, taking_on, since_when_fed, fed_in, pending_in, phase_when_given, with_given, give, pending_of}
 use Rattle.rb_model.specs.Connections.Taking.{TakesNone, Ends}
 use Rattle.rb_connections.specs.declared.slot.Slot.{Slot}
 use Rattle.rb_connections.specs.declared.slot.Stage.{Stage}
@@ -27,31 +27,21 @@ use Rattle.rb_connections.proofs.Phases.{by_phase}
 
 pub idle_phase : (source : Source) (stage : Stage) (buffer window : Kept) (phase : Phase) → stage ≡ stages.Idle → StandsForPhase source stage buffer window phase
     → (phase ≡ Idle) × (buffer.bytes ≡ []) × (window.bytes ≡ [])
-idle_phase source stage buffer window phase is h =
-    by_phase source buffer window (λ s p. s ≡ stages.Idle → (p ≡ Idle) × (buffer.bytes ≡ []) × (window.bytes ≡ []))
-    (λ z e. (refl, z.0, z.1)) (λ reader fed z e. absurd cc) (λ g o z e. absurd cc) (λ z e. absurd cc) (λ e. absurd cc) stage phase h is
+idle_phase source stage buffer window phase is h = grind arith
 
 pub reading_phase : (source : Source) (reader : Reader) (stage : Stage) (buffer window : Kept) (phase : Phase) → stage ≡ stages.Reading reader → StandsForPhase source stage buffer window phase
     → (fed : List ℕ) × (phase ≡ Reading fed) × IsReading reader buffer fed × (window.bytes ≡ [])
-reading_phase source reader stage buffer window phase is h =
-    by_phase source buffer window (λ s p. s ≡ stages.Reading reader → (fed : List ℕ) × (p ≡ Reading fed) × IsReading reader buffer fed × (window.bytes ≡ []))
-    (λ z e. absurd cc) (λ r fed z e. let same : r ≡ reader = cc in (fed, refl, subst (λ (x : Reader). IsReading x buffer fed) same z.0, z.1))
-    (λ g o z e. absurd cc) (λ z e. absurd cc) (λ e. absurd cc) stage phase h is
+reading_phase source reader stage buffer window phase is h = grind arith
 
 pub giving_phase : (source : Source) (giving : Giving) (stage : Stage) (buffer window : Kept) (phase : Phase) → stage ≡ stages.Owing giving → StandsForPhase source stage buffer window phase
     → (o : Owed) × (phase ≡ Owing o) × IsGiving source giving buffer.bytes window o
-giving_phase source giving stage buffer window phase is h =
-    by_phase source buffer window (λ s p. s ≡ stages.Owing giving → (o : Owed) × (p ≡ Owing o) × IsGiving source giving buffer.bytes window o)
-    (λ z e. absurd cc) (λ reader fed z e. absurd cc)
-    (λ g o z e. let same : g ≡ giving = cc in (o, refl, subst (λ (x : Giving). IsGiving source x buffer.bytes window o) same z)) (λ z e. absurd cc) (λ e. absurd cc) stage phase h is
+giving_phase source giving stage buffer window phase is h = grind arith
 
 pub lost_phase : (source : Source) (stage : Stage) (buffer window : Kept) (phase : Phase) → stage ≡ stages.Lost → StandsForPhase source stage buffer window phase → phase ≡ Lost
-lost_phase source stage buffer window phase is h =
-    by_phase source buffer window (λ s p. s ≡ stages.Lost → p ≡ Lost) (λ z e. absurd cc) (λ reader fed z e. absurd cc) (λ g o z e. absurd cc) (λ z e. absurd cc) (λ e. refl) stage phase h is
+lost_phase source stage buffer window phase is h = grind (arith, common_steps, by_phase source buffer window)
 
 pub awaiting_phase : (source : Source) (stage : Stage) (buffer window : Kept) (phase : Phase) → stage ≡ stages.Awaiting → StandsForPhase source stage buffer window phase → phase ≡ Awaiting
-awaiting_phase source stage buffer window phase is h =
-    by_phase source buffer window (λ s p. s ≡ stages.Awaiting → p ≡ Awaiting) (λ z e. absurd cc) (λ reader fed z e. absurd cc) (λ g o z e. absurd cc) (λ z e. refl) (λ e. absurd cc) stage phase h is
+awaiting_phase source stage buffer window phase is h = grind (arith, common_steps, by_phase source buffer window)
 
 -- ---- a piece that is taken
 
@@ -65,10 +55,7 @@ pub record Took (source : Source) (old new : Slot) (clock : ℕ) (piece : List �
 pub feeding_acts : (source : Source) (old new : Slot) (clock : ℕ) (piece : List ℕ) (result : Received)
     → ((c : Connection) → StandsForConnection source old c → Took source old new clock piece result c) → Acts (StandsForConnection source) (take_piece clock piece) old new result
 unfolding take_piece
-feeding_acts source old new clock piece result took = record {
-  gives = λ c h. let t = took c h in t.gives ∙ ap (received_of piece c) (sym t.is);
-  stands = λ c h. let t = took c h in subst (λ (x : Taking). StandsForConnection source new (connection_after clock c x)) (sym t.is) t.stands;
-}
+feeding_acts source old new clock piece result took = grind arith
 
 -- with what is held of arguments after it
 pub taken_arguments : (before after piece : List ℕ) (c : Connection) (t : Taking) → taking_of c.phase piece ≡ t → after ≡ arguments_after before t → after ≡ arguments_taken before piece c
@@ -77,11 +64,7 @@ taken_arguments before after piece c t is kept = kept ∙ ap (arguments_after be
 -- nothing is taken of nothing
 pub nothing_of_nothing : (phase : Phase) → taking_of phase [] ≡ TakesNone
 unfolding taking_of
-nothing_of_nothing Idle = refl
-nothing_of_nothing (Reading fed) = refl
-nothing_of_nothing (Owing o) = refl
-nothing_of_nothing Awaiting = refl
-nothing_of_nothing Lost = refl
+nothing_of_nothing phase = grind arith
 
 pub nothing_where_owing : (phase : Phase) (o : Owed) (piece : List ℕ) → phase ≡ Owing o → taking_of phase piece ≡ TakesNone
 unfolding taking_of
@@ -97,22 +80,16 @@ nothing_where_lost phase piece is = rw is refl
 
 pub some_where_fed : (phase : Phase) (fed piece : List ℕ) → fed_in phase ≡ Some fed → (piece ≡ [] → ⊥) → taking_of phase piece ≡ taking_on fed piece
 unfolding taking_of
-some_where_fed phase fed [] is some = absurd (some refl)
-some_where_fed phase fed (byte ∷ piece) is some = rw is refl
+some_where_fed phase fed piece is some = grind arith
 
 -- a record that is one fragment is taken whole
 pub taken_whole : (content piece : List ℕ) → BeginsWithRecord content piece → taking_on [] piece ≡ Ends (4 + length content) content
-taken_whole content piece begins =
-    let count : 4 + length content - 0 ≡ 4 + length content = omega arith in
-    ap (λ (r : Option ℕ). taking_up_to [] piece r) begins.ends
-    ∙ ap (λ (n : ℕ). Ends n (data_of (take (4 + length content) piece))) count
-    ∙ ap (λ (xs : List ℕ). Ends (4 + length content) xs) begins.content_is
+taken_whole content piece begins = grind arith
 
 -- ---- how a record ends in a piece
 
 pub not_ended : (fed piece : List ℕ) (m : Option ℕ) (r : Fed) → r ≡ fed_until fed piece m → r.verdict ≡ None → m ≡ None
-not_ended fed piece None r is ended = refl
-not_ended fed piece (Some n) r is ended = let clash : None ≡ Some (verdict (data_of (take n (fed ++ piece)))) = sym ended ∙ ap (λ (f : Fed). f.verdict) is in absurd cc
+not_ended fed piece m r is ended = grind arith
 
 -- with this verdict on its data
 pub record EndsAt (fed piece : List ℕ) (m : Option ℕ) (said : Verdict) : Type 0 where
@@ -120,12 +97,8 @@ pub record EndsAt (fed piece : List ℕ) (m : Option ℕ) (said : Verdict) : Typ
   pub is : m ≡ Some at
   pub says : said ≡ verdict (data_of (take at (fed ++ piece)))
 
-same_verdict : (a b : Verdict) → Some a ≡ Some b → a ≡ b
-same_verdict a b e = cc
-
 pub has_ended : (fed piece : List ℕ) (m : Option ℕ) (r : Fed) (said : Verdict) → r ≡ fed_until fed piece m → r.verdict ≡ Some said → EndsAt fed piece m said
-has_ended fed piece None r said is ended = let clash : Some said ≡ None = sym ended ∙ ap (λ (f : Fed). f.verdict) is in absurd cc
-has_ended fed piece (Some n) r said is ended = record { at = n; is = refl; says = same_verdict said _ (sym ended ∙ ap (λ (f : Fed). f.verdict) is) }
+has_ended fed piece m r said is ended = grind arith
 
 pub counts_to : (fed piece : List ℕ) (n : ℕ) (m : Option ℕ) (r : Fed) → r ≡ fed_until fed piece m → m ≡ Some n → r.count ≡ n - length fed
 counts_to fed piece n m r is some = ap (λ (f : Fed). f.count) (is ∙ ap (fed_until fed piece) some)
@@ -145,16 +118,11 @@ since_of_reading clock since phase fed is = rw is refl
 -- No byte is given.
 pub none_given : (source : Source) (old : Slot) (clock n : ℕ) → ((c : Connection) → StandsForConnection source old c → min n (length (pending_in c.phase)) ≡ 0) → Acts (StandsForConnection source) (give clock n) old old tt
 unfolding give with_given
-none_given source old clock n none = record {
-  gives = λ c h. refl;
-  stands = λ c h. rw (none c h) h;
-}
+none_given source old clock n none = grind arith
 
 -- nothing is pending but where a reply is owed
 pub nothing_pending : (source : Source) (stage : Stage) (buffer window : Kept) (phase : Phase) → ((x : Giving) → stage ≡ stages.Owing x → ⊥) → StandsForPhase source stage buffer window phase → pending_in phase ≡ []
-nothing_pending source stage buffer window phase other h =
-    by_phase source buffer window (λ s p. ((x : Giving) → s ≡ stages.Owing x → ⊥) → pending_in p ≡ [])
-    (λ z not. refl) (λ reader fed z not. refl) (λ g o z not. absurd (not g refl)) (λ z not. refl) (λ not. refl) stage phase h other
+nothing_pending source stage buffer window phase other h = grind arith
 
 pub goes_on_giving : (source : Source) (giving : Giving) (buffer window : Kept) (more : ℕ) (o : Owed) → IsGiving source giving buffer.bytes window (record o { given = o.given + more })
     → StandsForPhase source (stages.Owing giving) buffer window (phase_when_given more (Owing o))
@@ -172,12 +140,4 @@ module _ (source : Source) (old new : Slot) (clock n more : ℕ) (giving_is : Gi
     (goes_on : (o : Owed) → IsGiving source giving_is old.buffer.bytes old.window o → StandsForPhase source new.stage new.buffer new.window (phase_when_given more (Owing o))) where
   pub some_given : Acts (StandsForConnection source) (give clock n) old new tt
   unfolding give with_given
-  some_given = record {
-    gives = λ c h. refl;
-    stands = λ c h.
-        let w = giving_phase source giving_is old.stage old.buffer old.window c.phase stage h.phase in
-        let m : more ≡ min n (length (pending_in c.phase)) = rw w.1 (counted w.0 w.2) in
-        let test : eqb more 0 ≡ false = grind (arith, nat_tests) in
-        let phase = goes_on w.0 w.2 in
-        rw (← m) (rw test (record { number = number ∙ h.number; peer = peer ∙ h.peer; since = since; phase = rw w.1 phase }));
-  }
+  some_given = grind arith

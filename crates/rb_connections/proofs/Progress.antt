@@ -3,6 +3,7 @@ use Rattle.std.proofs.Common.{◌≡◌, ℕ, ◌+◌, ◌-◌, ◌*◌, ◌/◌
 use Rattle.std.proofs.lemmas.Bool.{leb-false, leb-true}
 use Rattle.std.proofs.lemmas.Bool.Decides.{nat_tests}
 use Rattle.std.proofs.lemmas.List.{length-drop, drop-drop}
+use Rattle.std.proofs.lemmas.Grind.{common_steps}
 use Rattle.rb_xdr.specs.Kept.{Kept}
 use Rattle.rb_rpc.specs.Records.{fragment_size, marked_reply}
 use Rattle.rb_model.specs.State.{Owed, Connection}
@@ -81,25 +82,13 @@ module _ (source : Source) (giving : Giving) (buffer : List ℕ) (window : Kept)
 module _ (source : Source) (buffer : List ℕ) (rest : Rest) (before next : Kept) (new : Giving) (shows : ShowsNext source buffer rest before next new) where
   -- behind a fragment that was shown and is not the last one, something is to come
   pub goes_on_shown : CanContinueReply source buffer new
-  goes_on_shown = record {
-    made = shows.made;
-    some = λ more.
-        let long : fragment_size < length (rest_in source buffer rest) = leb-false (length (rest_in source buffer rest)) fragment_size (sym shows.last ∙ more) in
-        omega (arith, long, ap (λ (xs : List ℕ). length xs) shows.rest_is, length-drop fragment_size (rest_in source buffer rest));
-  }
+  goes_on_shown = grind (arith, common_steps, leb-false (length (rest_in source buffer rest)) fragment_size, length-drop fragment_size (rest_in source buffer rest))
 
   -- a reply whose first fragment is shown
   pub begins : (reply : List ℕ) (began : Option ℕ) → rest_in source buffer rest ≡ reply → stamp_of_rest rest ≡ began → before.cap ≡ longest_fragment
       → IsGiving source new buffer next (owed_of reply began 0)
   unfolding longest_fragment
-  begins reply began whole stamp cap = record {
-    reply = reply;
-    shows = giving_begins reply next began (ap (λ (kept : Kept). kept.bytes) shows.fragment ∙ ap (λ (xs : List ℕ). take longest_fragment (marked_reply xs)) whole) (ap (λ (kept : Kept). kept.cap) shows.fragment ∙ cap);
-    stamp = sym stamp ∙ sym shows.stamp;
-    place = shows.place;
-    rest = shows.rest_is ∙ ap (λ (xs : List ℕ). drop fragment_size xs) whole;
-    last = shows.last ∙ ap (λ (xs : List ℕ). nat_le (length xs) fragment_size) whole;
-  }
+  begins reply began whole stamp cap = grind (arith, common_steps, giving_begins reply next began)
 
 -- so it is on a slot
 module _ (source : Source) (rest : Rest) (old new : Slot) (s : SlotShowsNext source rest old new) where
@@ -108,10 +97,4 @@ module _ (source : Source) (rest : Rest) (old new : Slot) (s : SlotShowsNext sou
 
   pub slot_begins : (clock : ℕ) (c : Connection) (reply : List ℕ) (began : Option ℕ) → old.number ≡ c.number → old.peer ≡ c.peer → old.since ≡ clock → old.window.cap ≡ longest_fragment
       → rest_in source old.buffer.bytes rest ≡ reply → stamp_of_rest rest ≡ began → StandsForConnection source new (record c { phase = Owing (owed_of reply began 0); since = clock })
-  slot_begins clock c reply began number peer since cap whole stamp =
-      subst (λ (t : Slot). StandsForConnection source t (record c { phase = Owing (owed_of reply began 0); since = clock })) (sym s.is) (record {
-        number = number;
-        peer = peer;
-        since = since;
-        phase = begins source old.buffer.bytes rest old.window new.window s.giving s.shows reply began whole stamp cap;
-      })
+  slot_begins clock c reply began number peer since cap whole stamp = grind (arith, begins source)

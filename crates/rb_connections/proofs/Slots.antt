@@ -2,10 +2,11 @@
 use Rattle.std.specs.Prelude.{find, filter, option_map}
 use Rattle.std.specs.List.{AllZip, list_any}
 use Rattle.std.specs.Map.{values_of}
-use Rattle.std.proofs.Common.{◌≡◌, ℕ, suc, ◌+◌, ◌≤◌, Bool, true, false, not, cond, eqb, zero, ◌<◌, nat_lt, take, Ok, Err, List, [], ◌∷◌, ◌++◌, Some, None, refl, sym, ap, subst, ◌∙◌, length, eq-eqb, arith}
+use Rattle.std.proofs.Common.{◌≡◌, ℕ, suc, ◌+◌, ◌≤◌, Bool, true, false, not, eqb, ◌<◌, take, Ok, Err, List, [], ◌∷◌, ◌++◌, Some, None, refl, sym, ap, subst, ◌∙◌, length, eq-eqb, arith}
 use Rattle.std.proofs.lemmas.Bool.{eqb-true, le-ltb}
 use Rattle.std.proofs.lemmas.Bool.Decides.{nat_tests}
 use Rattle.std.proofs.lemmas.Map.Entries.{length-values_of, sum_by-set_value}
+use Rattle.std.proofs.lemmas.Grind.{common_steps}
 use Rattle.rb_xdr.specs.Kept.{Kept}
 use Rattle.rb_xdr.specs.Search.{key_of}
 use Rattle.rb_xdr.specs.Pool.{Pool, value_at, without, with_value, HasDistinctKeys}
@@ -38,19 +39,8 @@ some_is x y h = cc
 
 module _ {A : Type 0} (p : A → Bool) where
   pub has_key : (es : List (ℕ × A)) (k : ℕ) → key_of p es ≡ Some k → value_at es k ≡ None → ⊥
-  has_key [] k h n = none_some k h
-  has_key (e ∷ es) k h n = by_cases (p e.1) refl (has_key es k)
-    where
-      by_cases : (t : Bool) → p e.1 ≡ t → (key_of p es ≡ Some k → value_at es k ≡ None → ⊥) → ⊥
-      by_cases true t further =
-          let here : e.0 ≡ k = some_is e.0 k (rw t at h) in
-          let test : eqb e.0 k ≡ true = eq-eqb e.0 k here in
-          none_some e.1 (sym (rw test at n))
-      by_cases false t further = by_key (eqb e.0 k) refl
-        where
-          by_key : (b : Bool) → eqb e.0 k ≡ b → ⊥
-          by_key true b = none_some e.1 (sym (rw b at n))
-          by_key false b = further (rw t at h) (rw b at n)
+  has_key [] k h n = grind arith
+  has_key (e ∷ es) k h n = grind (arith, has_key es k)
 
 module _ {A B : Type 0} (R : A → B → Type 0) (p : A → Bool) (q : B → Bool) (same : (a : A) (b : B) → R a b → p a ≡ q b) where
   -- the value that was found, beside the one that was found in the other list
@@ -61,51 +51,15 @@ module _ {A B : Type 0} (R : A → B → Type 0) (p : A → Bool) (q : B → Boo
     pub changed : (b : A) (change : B → B) → R b (change value) → AllZip R (values_of (with_value es k b)) (change_first q change bs)
 
   pub locate : (es : List (ℕ × A)) (bs : List B) (k : ℕ) (a : A) → HasDistinctKeys es → AllZip R (values_of es) bs → key_of p es ≡ Some k → value_at es k ≡ Some a → Located es bs k a
-  locate [] bs k a d z h v = absurd (none_some k h)
-  locate (e ∷ es) [] k a d z h v = absurd z
-  locate (e ∷ es) (b ∷ bs) k a d z h v = by_cases (p e.1) refl (locate es bs k a d.1 z.1)
-    where
-      by_cases : (t : Bool) → p e.1 ≡ t → (key_of p es ≡ Some k → value_at es k ≡ Some a → Located es bs k a) → Located (e ∷ es) (b ∷ bs) k a
-      by_cases true t further =
-          let here : e.0 ≡ k = some_is e.0 k (rw t at h) in
-          let test : eqb e.0 k ≡ true = eq-eqb e.0 k here in
-          let is : e.1 ≡ a = some_is e.1 a (rw test at v) in
-          let other : q b ≡ true = sym (same e.1 b z.0) ∙ t in
-          record {
-            value = b;
-            found = rw other refl;
-            related = rw (← is) z.0;
-            changed = λ c change r. rw (test, other) (r, z.1);
-          }
-      by_cases false t further =
-          let other : q b ≡ false = sym (same e.1 b z.0) ∙ t in
-          let in_rest : key_of p es ≡ Some k = rw t at h in
-          by_key (eqb e.0 k) refl in_rest other
-        where
-          by_key : (same_key : Bool) → eqb e.0 k ≡ same_key → key_of p es ≡ Some k → q b ≡ false → Located (e ∷ es) (b ∷ bs) k a
-          by_key true y in_rest other =
-              let key : e.0 ≡ k = eqb-true e.0 k y in
-              absurd (has_key p es k in_rest (rw key at d.0))
-          by_key false y in_rest other =
-              let l = further in_rest (rw y at v) in
-              record {
-                value = l.value;
-                found = rw other l.found;
-                related = l.related;
-                changed = λ c change r. rw (y, other) (z.0, l.changed c change r);
-              }
+  locate [] bs k a d z h v = grind (arith, common_steps, none_some, some_is, eqb-true, has_key)
+  locate (e ∷ es) [] k a d z h v = grind (arith, common_steps, none_some, some_is, eqb-true, has_key)
+  locate (e ∷ es) (b ∷ bs) k a d z h v = grind (arith, common_steps, none_some, some_is, eqb-true, has_key, locate es bs k a d.1 z.1)
 
   pub not_located : (es : List (ℕ × A)) (bs : List B) → AllZip R (values_of es) bs → key_of p es ≡ None → find q bs ≡ None
-  not_located [] [] z h = refl
-  not_located [] (b ∷ bs) z h = absurd z
-  not_located (e ∷ es) [] z h = absurd z
-  not_located (e ∷ es) (b ∷ bs) z h = by_cases (p e.1) refl (not_located es bs z.1)
-    where
-      by_cases : (t : Bool) → p e.1 ≡ t → (key_of p es ≡ None → find q bs ≡ None) → find q (b ∷ bs) ≡ None
-      by_cases true t further = absurd (none_some e.0 (sym (rw t at h)))
-      by_cases false t further =
-          let other : q b ≡ false = sym (same e.1 b z.0) ∙ t in
-          rw other (further (rw t at h))
+  not_located [] [] z h = grind arith
+  not_located [] (b ∷ bs) z h = grind arith
+  not_located (e ∷ es) [] z h = grind arith
+  not_located (e ∷ es) (b ∷ bs) z h = grind (arith, not_located es bs z.1)
 
 module _ {A B : Type 0} (R : A → B → Type 0) where
   pub same_length_of : (xs : List A) (bs : List B) → AllZip R xs bs → length xs ≡ length bs
@@ -123,15 +77,11 @@ module _ {A B : Type 0} (R : A → B → Type 0) where
 -- ---- slots and connections
 
 lost_as_stage : (source : Source) (stage : Stage) (buffer window : Kept) (phase : Phase) → StandsForPhase source stage buffer window phase → is_lost_stage stage ≡ is_lost phase
-lost_as_stage source stage buffer window phase h =
-    by_phase source buffer window (λ s p. is_lost_stage s ≡ is_lost p) (λ z. refl) (λ reader fed z. refl) (λ giving o z. refl) (λ z. refl) refl stage phase h
+lost_as_stage source stage buffer window phase h = grind (arith, common_steps, by_phase source buffer window)
 
 pub wanted_alike : (source : Source) (sought : Wanted) (slot : Slot) (c : Connection) → StandsForConnection source slot c → is_wanted_slot sought slot ≡ is_wanted sought c
 unfolding is_wanted_slot is_wanted is_live
-wanted_alike source (wanted.Live id) slot c h = rw (h.number, lost_as_stage source slot.stage slot.buffer slot.window c.phase h.phase) refl
-wanted_alike source (wanted.Numbered id) slot c h = rw h.number refl
-wanted_alike source wanted.AnyLost slot c h = lost_as_stage source slot.stage slot.buffer slot.window c.phase h.phase
-wanted_alike source (wanted.Due clock) slot c h = due_alike source clock slot c h
+wanted_alike source sought slot c h = grind (arith, common_steps, lost_as_stage, due_alike)
 
 module _ (source : Source) (sought : Wanted) (entries : List (ℕ × Slot)) (all : List Connection) where
   pub found_slot : (k : ℕ) (slot : Slot) → HasDistinctKeys entries → AllZip (StandsForConnection source) (values_of entries) all
@@ -153,49 +103,23 @@ module _ (sought : Wanted) (entries : List (ℕ × Slot)) (all : List Connection
 -- ---- tables with one entry less
 
 pub any-without : (test : Slot → Bool) (es : List (ℕ × Slot)) (k : ℕ) → list_any test (values_of es) ≡ false → list_any test (values_of (without es k)) ≡ false
-any-without test [] k h = refl
-any-without test (e ∷ es) k h = by_cases (test e.1) refl (any-without test es k)
-  where
-    by_cases : (b : Bool) → test e.1 ≡ b → (list_any test (values_of es) ≡ false → list_any test (values_of (without es k)) ≡ false) → list_any test (values_of (without (e ∷ es) k)) ≡ false
-    by_cases true t further = let clash : true ≡ false = rw t at h in absurd cc
-    by_cases false t further =
-        elim (eqb e.0 k) as (λ b. list_any test (values_of (cond b es (e ∷ without es k))) ≡ false)
-        [ true ↦ rw t at h | false ↦ rw t (further (rw t at h)) ]
+any-without test [] k h = grind arith
+any-without test (e ∷ es) k h = grind (arith, any-without test es k)
 
 pub numbered-without : (given : ℕ) (es : List (ℕ × Slot)) (k : ℕ) → AreNumbered given (values_of es) → AreNumbered given (values_of (without es k))
-numbered-without given [] k n = tt
-numbered-without given (e ∷ es) k n =
-    elim (eqb e.0 k) as (λ b. AreNumbered given (values_of (cond b es (e ∷ without es k))))
-    [ true ↦ n.2 | false ↦ (n.0, any-without (is_numbered e.1.number) es k n.1, numbered-without given es k n.2) ]
+numbered-without given [] k n = grind (arith, common_steps, any-without)
+numbered-without given (e ∷ es) k n = grind (arith, common_steps, any-without, numbered-without given es k n.2)
 
 -- ---- a slot changed
 
 any-with : (number : ℕ) (es : List (ℕ × Slot)) (k : ℕ) (old new : Slot) → value_at es k ≡ Some old → new.number ≡ old.number
     → list_any (is_numbered number) (values_of (with_value es k new)) ≡ list_any (is_numbered number) (values_of es)
-any-with number [] k old new h same = refl
-any-with number (e ∷ es) k old new h same = by_cases (eqb e.0 k) refl (any-with number es k old new)
-  where
-    by_cases : (b : Bool) → eqb e.0 k ≡ b → (value_at es k ≡ Some old → new.number ≡ old.number → list_any (is_numbered number) (values_of (with_value es k new)) ≡ list_any (is_numbered number) (values_of es))
-        → list_any (is_numbered number) (values_of (with_value (e ∷ es) k new)) ≡ list_any (is_numbered number) (values_of (e ∷ es))
-    by_cases true t further =
-        let is : e.1 ≡ old = some_is e.1 old (rw t at h) in
-        let number_is : new.number ≡ e.1.number = same ∙ ap (λ (s : Slot). s.number) (sym is) in
-        rw (t, number_is) refl
-    by_cases false t further = rw (t, further (rw t at h) same) refl
+any-with number [] k old new h same = grind arith
+any-with number (e ∷ es) k old new h same = grind (arith, any-with number es k old new)
 
 pub numbered-with : (given : ℕ) (es : List (ℕ × Slot)) (k : ℕ) (old new : Slot) → value_at es k ≡ Some old → new.number ≡ old.number → AreNumbered given (values_of es) → AreNumbered given (values_of (with_value es k new))
-numbered-with given [] k old new h same n = tt
-numbered-with given (e ∷ es) k old new h same n = by_cases (eqb e.0 k) refl (numbered-with given es k old new)
-  where
-    by_cases : (b : Bool) → eqb e.0 k ≡ b → (value_at es k ≡ Some old → new.number ≡ old.number → AreNumbered given (values_of es) → AreNumbered given (values_of (with_value es k new)))
-        → AreNumbered given (values_of (with_value (e ∷ es) k new))
-    by_cases true t further =
-        let is : e.1 ≡ old = some_is e.1 old (rw t at h) in
-        let number_is : new.number ≡ e.1.number = same ∙ ap (λ (s : Slot). s.number) (sym is) in
-        rw t (rw number_is n.0, rw number_is n.1, n.2)
-    by_cases false t further =
-        let rest = rw t at h in
-        rw t (n.0, any-with e.1.number es k old new rest same ∙ n.1, further rest same n.2)
+numbered-with given [] k old new h same n = grind (arith, common_steps, some_is, any-with)
+numbered-with given (e ∷ es) k old new h same n = grind (arith, common_steps, some_is, any-with, numbered-with given es k old new)
 
 -- the live connection of a number, and its slot
 pub record IsLiveSlot (source : Source) (id : ℕ) (entries : List (ℕ × Slot)) (all : List Connection) (k : ℕ) (slot : Slot) : Type 0 where
@@ -236,10 +160,7 @@ module _ {A : Type 0} (source : Source) (id : ℕ) (act : Connection → A × Co
   }
 
   pub gone_acts : option_map (λ e. e.0) (wanted_slot (wanted.Live id) table.slots) ≡ None → Acts (StandsForConnections source) (on_live id act) table table (Err Gone)
-  gone_acts h = record {
-    gives = λ c z. rw (not_live source id table.slots c.all z.all h) refl;
-    stands = λ c z. rw (not_live source id table.slots c.all z.all h) z;
-  }
+  gone_acts h = grind (arith, common_steps, not_live)
 
 -- What is held of arguments after a piece is what the live connection took.
 module _ (source : Source) (id : ℕ) (before piece : List ℕ) (table : Table) where
@@ -264,12 +185,8 @@ module _ (source : Source) (id : ℕ) (change : Connection → Connection) (tabl
 
   none_changes : (all : List Connection) → live_connection id all ≡ None → change_first (is_live id) change all ≡ all
   unfolding live_connection
-  none_changes [] h = refl
-  none_changes (c ∷ all) h = by_cases (is_live id c) refl (none_changes all)
-    where
-      by_cases : (b : Bool) → is_live id c ≡ b → (find (is_live id) all ≡ None → change_first (is_live id) change all ≡ all) → change_first (is_live id) change (c ∷ all) ≡ c ∷ all
-      by_cases true t further = absurd (none_some c (sym (rw t at h)))
-      by_cases false t further = rw t (ap (λ (cs : List Connection). c ∷ cs) (further (rw t at h)))
+  none_changes [] h = grind arith
+  none_changes (c ∷ all) h = grind (arith, none_changes all)
 
   pub gone_stays : option_map (λ e. e.0) (wanted_slot (wanted.Live id) table.slots) ≡ None
       → (c : Connections) → StandsForConnections source table c → StandsForConnections source table (changed_at id change c)
@@ -278,22 +195,11 @@ module _ (source : Source) (id : ℕ) (change : Connection → Connection) (tabl
 -- ---- a slot more
 
 any-more : (number : ℕ) (slots : List Slot) (slot : Slot) → list_any (is_numbered number) slots ≡ false → eqb slot.number number ≡ false → list_any (is_numbered number) (slots ++ slot ∷ []) ≡ false
-any-more number [] slot h other = rw other refl
-any-more number (first ∷ slots) slot h other = by_cases (eqb first.number number) refl (any-more number slots slot)
-  where
-    by_cases : (b : Bool) → eqb first.number number ≡ b → (list_any (is_numbered number) slots ≡ false → eqb slot.number number ≡ false → list_any (is_numbered number) (slots ++ slot ∷ []) ≡ false)
-        → list_any (is_numbered number) ((first ∷ slots) ++ slot ∷ []) ≡ false
-    by_cases true t further = let clash : true ≡ false = rw t at h in absurd cc
-    by_cases false t further = rw t (further (rw t at h) other)
+any-more number slots slot h other = grind (arith, common_steps)
 
 pub numbered-more : (given : ℕ) (slots : List Slot) (slot : Slot) → AreNumbered given slots → slot.number ≡ given + 1 → AreNumbered (given + 1) (slots ++ slot ∷ [])
-numbered-more given [] slot n is = (omega arith, refl, tt)
-numbered-more given (first ∷ slots) slot n is =
-    let other : eqb slot.number first.number ≡ false = differ slot.number first.number is n.0 in
-    (omega (arith, n.0), any-more first.number slots slot n.1 other, numbered-more given slots slot n.2 is)
-  where
-    differ : (a b : ℕ) → a ≡ given + 1 → b ≤ given → eqb a b ≡ false
-    differ a b is le = grind (arith, nat_tests)
+numbered-more given [] slot n is = grind (arith, common_steps)
+numbered-more given (first ∷ slots) slot n is = grind (arith, common_steps, numbered-more given slots slot n.2 is)
 
 pub any_alike : (source : Source) (id : ℕ) (slots : List Slot) (all : List Connection) → AllZip (StandsForConnection source) slots all → list_any (is_numbered id) slots ≡ list_any (has_number id) all
 any_alike source id [] [] z = refl
@@ -331,10 +237,7 @@ removed source id given (e ∷ es) (c ∷ all) k slot d n z h = by_cases (eqb e.
 module _ (source : Source) (id : ℕ) (table : Table) where
   pub none_closed : option_map (λ e. e.0) (wanted_slot (wanted.Numbered id) table.slots) ≡ None → Acts (StandsForConnections source) (close_in_table id) table table (Err Gone)
   unfolding close_in_table is_there is_wanted
-  none_closed h = record {
-    gives = λ c z. rw (none_any (has_number id) c.all (no_slot source (wanted.Numbered id) table.slots c.all z.all h)) refl;
-    stands = λ c z. rw (none_any (has_number id) c.all (no_slot source (wanted.Numbered id) table.slots c.all z.all h)) z;
-  }
+  none_closed h = grind (arith, common_steps, none_any, no_slot)
 
   pub one_closed : (k : ℕ) (slot : Slot) → HasDistinctKeys table.slots → AreNumbered table.last_number (values_of table.slots)
       → option_map (λ e. e.0) (wanted_slot (wanted.Numbered id) table.slots) ≡ Some k → value_at table.slots k ≡ Some slot
@@ -353,8 +256,7 @@ module _ (source : Source) (id : ℕ) (table : Table) where
 -- ---- a new connection
 
 take_nothing : (n : ℕ) → take {A = ℕ} n [] ≡ []
-take_nothing zero = refl
-take_nothing (suc n) = refl
+take_nothing n = grind arith
 
 nothing_kept : kept_of (data_of []) ≡ []
 unfolding data_of arguments_of verdict
@@ -374,45 +276,18 @@ as_many source es all z = sym (same_length_of (StandsForConnection source) (valu
 module _ (source : Source) (conns : ℕ) (peer : Peer) (clock : ℕ) (table : Table) where
   pub full_acts : conns ≤ length table.slots → Acts (StandsForConnections source) (open_in_table conns peer clock) table table (Err Full)
   unfolding open_in_table number_for
-  full_acts full = record {
-    gives = λ c z. rw (no_room c z) refl;
-    stands = λ c z. rw (no_room c z) z;
-  }
-    where
-      no_room : (c : Connections) → StandsForConnections source table c → nat_lt (length c.all) conns ≡ false
-      no_room c z = let many = as_many source table.slots c.all z.all in grind (arith, nat_tests)
+  full_acts full = grind (arith, common_steps, as_many, nat_tests)
 
   pub spent_acts : length table.slots < conns → table.last_number ≡ greatest_number → Acts (StandsForConnections source) (open_in_table conns peer clock) table table (Err Spent)
   unfolding open_in_table number_for
-  spent_acts room spent = record {
-    gives = λ c z. rw (has_room c z, no_number c z) refl;
-    stands = λ c z. rw (has_room c z, no_number c z) z;
-  }
-    where
-      has_room : (c : Connections) → StandsForConnections source table c → nat_lt (length c.all) conns ≡ true
-      has_room c z = let many = as_many source table.slots c.all z.all in grind (arith, nat_tests)
-
-      no_number : (c : Connections) → StandsForConnections source table c → nat_lt greatest_number c.next ≡ true
-      no_number c z = let next = z.next in grind (arith, nat_tests)
+  spent_acts room spent = grind (arith, common_steps, as_many, nat_tests)
 
   pub opened_acts : (slot : Slot) (new : Table) → length table.slots < conns → table.last_number < greatest_number
       → values_of new.slots ≡ values_of table.slots ++ slot ∷ [] → new.last_number ≡ table.last_number + 1
       → StandsForConnection source slot (record { number = table.last_number + 1; peer = peer; phase = Idle; since = clock })
       → Acts (StandsForConnections source) (open_in_table conns peer clock) table new (Ok (table.last_number + 1))
   unfolding open_in_table number_for
-  opened_acts slot new room left more given stands = record {
-    gives = λ c z. rw (has_room c z, has_number_left c z) (ap Ok (sym z.next));
-    stands = λ c z. rw (has_room c z, has_number_left c z) (record {
-      all = rw more (one_more_each (StandsForConnection source) (values_of table.slots) c.all slot _ z.all (rw z.next stands));
-      next = rw (given, z.next) refl;
-    });
-  }
-    where
-      has_room : (c : Connections) → StandsForConnections source table c → nat_lt (length c.all) conns ≡ true
-      has_room c z = let many = as_many source table.slots c.all z.all in grind (arith, nat_tests)
-
-      has_number_left : (c : Connections) → StandsForConnections source table c → nat_lt greatest_number c.next ≡ false
-      has_number_left c z = let next = z.next in le-ltb greatest_number c.next (omega (arith, next, left))
+  opened_acts slot new room left more given stands = grind (arith, common_steps, one_more_each, as_many, nat_tests, le-ltb)
 
 -- ---- the table with a slot changed
 

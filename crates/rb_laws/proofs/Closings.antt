@@ -2,8 +2,8 @@
 use Rattle.std.specs.Prelude.{find, All, option_map}
 use Rattle.std.specs.List.{list_any, list_all}
 use Rattle.std.proofs.Common.{◌≡◌, ◌⊎◌, inl, inr, ◌<◌, ◌≤◌, ℕ, ◌+◌, max, Bool, true, false, cond, not, ◌&&◌, ◌||◌, eqb, Option, Some, None, Result, Ok, Err, List, [], ◌∷◌, ◌++◌, length, map, nat_lt, take, refl, sym, ap, subst, ◌∙◌, append-nil, arith}
-use Rattle.std.proofs.lemmas.Bool.{and_parts, eqb-true, eq-eqb, ne_eqb, lt-ltb, ltb-true, ltb-false}
-use Rattle.std.proofs.lemmas.List.Elements.{All-head, All-tail, All-nil, All-cons}
+use Rattle.std.proofs.lemmas.Bool.{and_parts, eqb-true, eq-eqb, ne_eqb, lt-ltb}
+use Rattle.std.proofs.lemmas.List.Elements.{All-head, All-tail}
 use Rattle.std.proofs.lemmas.Grind.{common_steps}
 use Rattle.rb_rpc.specs.Records.{first_record, data_of}
 use Rattle.rb_rpc.specs.declared.peer.Caller.{Caller}
@@ -15,17 +15,12 @@ use Rattle.rb_forward.specs.Forwards.{Entry, Forwards, is_due as entry_is_due, e
 use Rattle.rb_forward.specs.Ends.{NoneIs, EndsFirst}
 use Rattle.rb_forward.proofs.Ends.{ends_first, due_means, due_tested}
 use Rattle.rb_proto.specs.declared.context.Context.{Context}
-use Rattle.rb_proto.specs.Ledger.{Ledger, rows_in, with_call_noted}
-use Rattle.rb_proto.specs.declared.answers.Answer.{Answer}
-use Rattle.rb_proto.specs.declared.answers.Answer.TheVariants as answers
-use Rattle.rb_proto.specs.declared.answers.Results.{Results}
-use Rattle.rb_proto.specs.declared.answers.Results.TheVariants as results
-use Rattle.rb_proto.specs.Answers.{answer}
+use Rattle.rb_proto.specs.Ledger.{Ledger, rows_in}
 use Rattle.rb_model.specs.declared.message.Message.{Message}
 use Rattle.rb_model.specs.declared.message.Message.TheVariants as says
 use Rattle.rb_model.specs.declared.types.CoreFault.{CoreFault}
 use Rattle.rb_model.specs.declared.types.CoreFault.TheVariants.{Gone}
-use Rattle.rb_model.specs.Calls.{Outcome, is_no_call, message_of, results_outcome, reply_with, outcome}
+use Rattle.rb_model.specs.Calls.{Outcome, is_no_call, message_of, outcome}
 use Rattle.rb_model.specs.Calls.Outcome.{NoCall, Reply, Forwarded, Silent}
 use Rattle.rb_model.specs.Sessions.{IsFinal}
 use Rattle.rb_model.specs.State.{State, Connection, Connections, at_moment}
@@ -37,7 +32,7 @@ use Rattle.rb_model.specs.Step.Event.{Open, Bytes, Pending, Gave, Closed, NextLo
 use Rattle.rb_model.specs.Laws.{IsLive, IsLeast}
 use Rattle.rb_model.specs.DeadlineLaws.{NoEntryIsDue}
 use Rattle.rb_model.specs.declared.types.Expired.{Expired}
-use Rattle.rb_model.specs.Losses.{is_due, lose, stamp_in, needed_removals, asks_room, is_crowded, removals_in_the_way, began_before, evict_early, evict}
+use Rattle.rb_model.specs.Losses.{is_due, lose, stamp_in, needed_removals, asks_room, removals_in_the_way, began_before, evict_early, evict}
 use Rattle.rb_model.specs.Ending.{at_fresh_moment, expire}
 use Rattle.rb_model.specs.Closings.{EndsNoCall, EndsAtDeadline, BringsEnd, Brings, EndsForRoom, ClosesExactly, ConnectionsCloseExactly}
 use Rattle.rb_model.proofs.Found.{none_any}

@@ -1,22 +1,20 @@
 -- Bytes in two pieces.
 use Rattle.std.specs.Prelude.{find, IfSome}
-use Rattle.std.proofs.Common.{◌≡◌, ℕ, ◌+◌, ◌-◌, ◌<◌, max, Bool, true, false, cond, not, ◌&&◌, eqb, Option, Some, None, Result, Ok, Err, List, [], ◌∷◌, ◌++◌, length, map, take, refl, sym, ap, ◌∙◌, append_assoc, append-nil, arith}
+use Rattle.std.proofs.Common.{◌≡◌, ℕ, ◌<◌, max, Bool, true, false, cond, not, eqb, Option, Some, None, Result, Ok, Err, List, [], ◌∷◌, ◌++◌, length, refl, sym, ap, ◌∙◌, append_assoc, append-nil, arith}
 use Rattle.std.proofs.lemmas.List.{length-append}
 use Rattle.std.proofs.lemmas.Bool.{and_parts, eqb-true}
 use Rattle.std.proofs.lemmas.Grind.{common_steps}
 use Rattle.rb_rpc.specs.declared.peer.Peer.{Peer}
-use Rattle.rb_rpc.specs.declared.peer.Caller.TheVariants.{Tcp}
-use Rattle.rb_rpc.specs.Records.{first_record, data_of}
+use Rattle.rb_rpc.specs.Records.{first_record}
 use Rattle.rb_rpc.proofs.RecordCuts.{ends_later}
 use Rattle.rb_model.specs.declared.types.CoreFault.{CoreFault}
 use Rattle.rb_model.specs.declared.types.CoreFault.TheVariants.{Gone}
-use Rattle.rb_model.specs.Calls.{Outcome, is_no_call, message_of}
+use Rattle.rb_model.specs.Calls.{Outcome}
 use Rattle.rb_model.specs.State.{State, Connection, Phase, at_moment}
-use Rattle.rb_model.specs.State.Phase.{Idle, Reading, Owing, Awaiting, Lost}
 use Rattle.rb_model.specs.Connections.{is_live, is_lost, live_connection, change_first, keep_reading, settle, fed_in, taking_of, taking_up_to, taking_behind}
-use Rattle.rb_model.specs.Step.{serve, on_connection, serve_record, when_taken, bytes_to, bytes, context_in}
+use Rattle.rb_model.specs.Step.{serve, on_connection, serve_record, when_taken, bytes_to, bytes}
 use Rattle.rb_model.specs.declared.types.Taken.{Taken}
-use Rattle.rb_model.specs.Losses.{stamp_in, removals_in_the_way, evict_early}
+use Rattle.rb_model.specs.Losses.{stamp_in}
 use Rattle.rb_model.specs.Laws.{SameInOnePiece, CutsDoNotMatter, one_after_another}
 use Rattle.rb_laws.proofs.Crowds.{begins_changed, evicted_changed, crowding_alike}
 

@@ -1,8 +1,8 @@
 -- While a connection is Awaiting, one entry is of it, and no other connection has one.
 use Rattle.std.specs.Prelude.{find, map, option_map, ◌&&◌}
 use Rattle.std.specs.List.{list_any, sum_by}
-use Rattle.std.proofs.Common.{◌≡◌, ◌≤◌, ℕ, ◌+◌, max, min, Bool, true, false, cond, eqb, nat_lt, Option, Some, None, Result, Ok, Err, List, [], ◌∷◌, ◌++◌, length, take, refl, sym, ap, subst, ◌∙◌, arith}
-use Rattle.std.proofs.lemmas.List.Sums.{sum_by-cons, sum_by_push}
+use Rattle.std.proofs.Common.{◌≡◌, ◌≤◌, ℕ, ◌+◌, max, Bool, true, false, cond, eqb, Option, Some, None, Result, Ok, Err, List, [], ◌∷◌, ◌++◌, take, refl, sym, ap, subst, ◌∙◌, arith}
+use Rattle.std.proofs.lemmas.List.Sums.{sum_by_push}
 use Rattle.std.proofs.lemmas.Bool.{eqb-true, eq-eqb}
 use Rattle.std.proofs.lemmas.Grind.{common_steps}
 use Rattle.rb_rpc.specs.declared.peer.Peer.{Peer}
@@ -26,9 +26,9 @@ use Rattle.rb_model.specs.declared.types.Told.{Told}
 use Rattle.rb_model.specs.Calls.{Outcome, is_no_call}
 use Rattle.rb_model.specs.Calls.Outcome.{NoCall, Reply, Forwarded, Silent}
 use Rattle.rb_model.specs.State.{State, Phase, Connection, Connections, at_moment, opening}
-use Rattle.rb_model.specs.State.Phase.{Idle, Reading, Owing, Awaiting, Lost}
+use Rattle.rb_model.specs.State.Phase.{Awaiting}
 use Rattle.rb_model.specs.Laws.{is_awaiting}
-use Rattle.rb_model.specs.Connections.{is_live, live_connection, fed_in, pending_in, phase_when_given, with_given, give, keep_reading, settle, change_first, changed_at, on_found, is_there, without_number, close_in_table, opening_as, open_in_table, number_for, on_connection}
+use Rattle.rb_model.specs.Connections.{is_live, live_connection, fed_in, with_given, give, keep_reading, settle, change_first, changed_at, on_found, is_there, without_number, close_in_table, opening_as, open_in_table, number_for, on_connection}
 use Rattle.rb_model.specs.Ending.{outcome_at_end, tell, tell_end, at_fresh_moment, forward_reply, expire}
 use Rattle.rb_model.specs.Step.{Event, Output, context_in, serve, bytes, unless_refused, gave, is_too_much, pending, pending_on, open_connection, dropped_with, close_connection, sent_call, with_reply, datagram, output_or, show_taken, show_done, show_outcome, show_end, show_expired, step, after, IsReached}
 use Rattle.rb_model.specs.declared.types.Taken.{Taken}
@@ -43,10 +43,9 @@ use Rattle.rb_laws.proofs.FewDue.{live-found}
 use Rattle.rb_laws.proofs.DueThings.{end_of, Expiry, expiry}
 use Rattle.rb_laws.proofs.DueThings.Expiry.{EntryEnds, ConnectionEnds, NothingDue}
 use Rattle.rb_laws.proofs.Closings.{sound-apart}
-use Rattle.rb_laws.proofs.Crowds.{none_before, plain_lives, stays_dead}
+use Rattle.rb_laws.proofs.Crowds.{plain_lives, stays_dead}
 use Rattle.rb_laws.proofs.Cuts.{IsFeeding, number-is, find-changed, find-holds, reading-feeds}
 use Rattle.rb_laws.proofs.Entering.{is_forwarded, Entering, serve-enters}
-use Rattle.rb_laws.proofs.Entering.Entering.{Same, Begins}
 use Rattle.rb_laws.proofs.Happenings.{Arriving, arriving, said_in, answered_in, crowd_at, told-final, has_entry}
 use Rattle.rb_laws.proofs.Happenings.Arriving.{NotThere, NotTaken, ReadOn, Ended}
 use Rattle.rb_laws.proofs.Live.{without, changed-other, closed-other, find-before, none-above, closed-gone, lost-gone, timed-out-gone, answering-feeds, giving-feeds}

@@ -1,16 +1,15 @@
 -- Each entry that has begun ended with one event of the run, or is there.
 use Rattle.std.specs.Prelude.{map, filter}
-use Rattle.std.proofs.Common.{◌≡◌, ◌⊎◌, inl, inr, ℕ, ◌+◌, zero, suc, ◌≤◌, ◌==◌, Bool, true, false, cond, eqb, nat_le, nat_lt, ◌&&◌, List, [], ◌∷◌, ◌++◌, refl, sym, ap, ◌∙◌, arith}
-use Rattle.std.proofs.lemmas.Bool.{eqb-true, eq-eqb, le-leb, leb-true, lt-ltb, le-ltb, ltb-true, ltb-false}
+use Rattle.std.proofs.Common.{◌≡◌, ◌⊎◌, inl, inr, ℕ, ◌+◌, ◌≤◌, ◌==◌, Bool, true, false, cond, eqb, nat_le, nat_lt, ◌&&◌, List, [], ◌∷◌, ◌++◌, refl, ap, arith}
+use Rattle.std.proofs.lemmas.Bool.{leb-true, le-ltb}
 use Rattle.std.proofs.lemmas.List.{map-append}
-use Rattle.std.proofs.lemmas.List.Sums.{sum_by-cons, sum_by-append, sum_by_push}
+use Rattle.std.proofs.lemmas.List.Sums.{sum_by-append}
 use Rattle.std.proofs.lemmas.Grind.{common_steps}
-use Rattle.rb_forward.specs.Forwards.{Entry, Forwards, with_next_entry, next_entry, sent, without_first, change_first, as_sent, is_unsent}
+use Rattle.rb_forward.specs.Forwards.{Entry, with_next_entry, next_entry, sent, without_first, change_first, as_sent, is_unsent}
 use Rattle.rb_forward.specs.Laws.{number_of, times}
 use Rattle.rb_model.specs.State.{State, opening}
 use Rattle.rb_model.specs.Step.{Event, step, after}
 use Rattle.rb_model.specs.ForwardLaws.{numbers_in, next_in, OneIsGone, ChangesAtMostOne, EventsChangeAtMostOne, gone_with, ended_in, EntriesEndOnce}
-use Rattle.rb_model.specs.ForwardLaws.ChangesAtMostOne.{Same, OneEnds, OneBegins}
 use Rattle.rb_laws.proofs.EntriesKept.{Goes, Goes as goes, step-follows}
 
 -- ---- one event

@@ -1,7 +1,6 @@
 -- What an event does to the entries of forwarded calls, and what holds of them in each state that a run reaches.
 use Rattle.std.specs.Prelude.{All, drop}
-use Rattle.std.proofs.Common.{◌≡◌, ℕ, suc, ◌+◌, ◌-◌, ◌≤◌, ◌<◌, max, Bool, true, false, cond, ◌&&◌, nat_lt, nat_le, Option, Some, None, Result, Ok, Err, List, [], ◌∷◌, ◌++◌, length, refl, sym, ap, subst, ◌∙◌, arith}
-use Rattle.std.proofs.lemmas.Bool.{ltb-true}
+use Rattle.std.proofs.Common.{◌≡◌, ℕ, ◌+◌, ◌-◌, ◌≤◌, ◌<◌, max, Bool, true, false, cond, Option, Some, None, Result, Ok, Err, List, [], ◌∷◌, ◌++◌, length, refl, sym, subst, ◌∙◌, arith}
 use Rattle.std.proofs.lemmas.List.{length-take}
 use Rattle.std.proofs.lemmas.List.Elements.{All-nil, All-cons, All-head, All-tail, All-push}
 use Rattle.std.proofs.lemmas.Grind.{common_steps}
@@ -12,13 +11,12 @@ use Rattle.rb_rpc.specs.declared.peer.Peer.{Peer}
 use Rattle.rb_rpc.specs.Verdict.{verdict}
 use Rattle.rb_feed.specs.Feeds.{arguments_of}
 use Rattle.rb_registry.specs.declared.row.Row.{Row}
-use Rattle.rb_registry.specs.declared.row.Transport.{Transport}
 use Rattle.rb_registry.specs.declared.row.Which.{Which}
 use Rattle.rb_forward.specs.declared.types.Forward.{Forward}
 use Rattle.rb_rpc.specs.declared.peer.Kind.{Kind}
 use Rattle.rb_forward.specs.declared.types.Ended.{Ended}
 use Rattle.rb_rpc.specs.Forwarded.{longest_forwarded}
-use Rattle.rb_forward.specs.Forwards.{Entry, Forwards, greatest_number, can_start, with_next_entry, next_entry, sent, can_be_sent, without_first, change_first, as_sent, is_unsent, reply, due, drop_caller, counts_for, is_due, is_of_connection}
+use Rattle.rb_forward.specs.Forwards.{Entry, Forwards, can_start, with_next_entry, next_entry, sent, can_be_sent, without_first, change_first, as_sent, is_unsent, reply, due, drop_caller, counts_for, is_due, is_of_connection}
 use Rattle.rb_proto.specs.declared.context.Context.{Context}
 use Rattle.rb_arguments.specs.declared.mapping.Mapping.{Mapping}
 use Rattle.rb_arguments.specs.declared.remote.RemoteCall.{RemoteCall}
@@ -27,11 +25,10 @@ use Rattle.rb_arguments.specs.declared.procedure.RpcbProcedure.TheVariants as rp
 use Rattle.rb_arguments.specs.declared.request.Request.{Request}
 use Rattle.rb_arguments.specs.declared.request.Request.TheVariants as requests
 use Rattle.rb_proto.specs.Ledger.{Ledger, rows_in, with_call_noted}
-use Rattle.rb_proto.specs.Netids.{transport_of_prot}
 use Rattle.rb_arguments.specs.Remote.{args_of, HasContent}
 use Rattle.rb_arguments.specs.Arguments.{HasArgs}
 use Rattle.rb_proto.specs.Forwarding.{peer_to_forward, forward_of, forward_to, forward_call, target_replied, fell_due, caller_dropped, call_sent}
-use Rattle.rb_proto.specs.Answers.{set_row, unset_rows, port_on, getport, getaddr, getversaddr, answer_to, answer}
+use Rattle.rb_proto.specs.Answers.{set_row, unset_rows, getport, getaddr, getversaddr, answer_to, answer}
 use Rattle.rb_model.specs.Grammar.{HasArgsIn}
 use Rattle.rb_model.specs.declared.message.Message.{Message}
 use Rattle.rb_model.specs.declared.message.Message.TheVariants as says

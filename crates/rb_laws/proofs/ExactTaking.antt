@@ -10,7 +10,6 @@ use Rattle.rb_model.specs.declared.types.CoreFault.{CoreFault}
 use Rattle.rb_model.specs.Calls.{Outcome, is_no_call}
 use Rattle.rb_model.specs.Calls.Outcome.{NoCall, Reply, Forwarded, Silent}
 use Rattle.rb_model.specs.State.{State, Phase, Connection, Connections, at_moment}
-use Rattle.rb_model.specs.State.Phase.{Idle, Reading, Owing, Awaiting, Lost}
 use Rattle.rb_model.specs.Connections.{live_connection, changed_at, keep_reading, settle, fed_in}
 use Rattle.rb_model.specs.Step.{serve, serve_record, on_connection, bytes, IsReached}
 use Rattle.rb_model.specs.declared.types.Taken.{Taken}

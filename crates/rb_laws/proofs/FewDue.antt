@@ -1,24 +1,21 @@
 -- Each call of 'expire' that does something leaves less that can be due.
 use Rattle.std.specs.Prelude.{find, replicate}
-use Rattle.std.proofs.Common.{◌≡◌, ◌⊎◌, inl, inr, ℕ, suc, zero, ◌+◌, ◌≤◌, max, Bool, true, false, cond, not, eqb, Some, List, [], ◌∷◌, length, refl, sym, ap, ◌∙◌, eq-eqb, arith}
-use Rattle.std.proofs.lemmas.Bool.{and_parts}
+use Rattle.std.proofs.Common.{◌≡◌, ◌⊎◌, inl, inr, ℕ, suc, zero, ◌+◌, ◌≤◌, max, Bool, true, false, cond, eqb, Some, List, [], ◌∷◌, length, refl, sym, ap, ◌∙◌, eq-eqb, arith}
 use Rattle.std.proofs.lemmas.Grind.{common_steps}
 use Rattle.rb_rpc.specs.declared.peer.Caller.{Caller}
-use Rattle.rb_rpc.specs.declared.peer.Caller.TheVariants.{Tcp, Udp}
-use Rattle.rb_forward.specs.Forwards.{Entry, is_due as entry_is_due, without_first}
+use Rattle.rb_forward.specs.Forwards.{Entry, without_first}
 use Rattle.rb_model.specs.declared.types.Expired.{Expired}
 use Rattle.rb_model.specs.declared.types.Expired.TheVariants as expiries
 use Rattle.rb_model.specs.Calls.{Outcome}
 use Rattle.rb_model.specs.State.{State, Connection}
-use Rattle.rb_model.specs.Connections.{change_first, is_lost, is_live, settle}
+use Rattle.rb_model.specs.Connections.{change_first, is_lost, is_live}
 use Rattle.rb_model.specs.Losses.{is_due, lose}
-use Rattle.rb_model.specs.Ending.{outcome_at_end, tell, at_fresh_moment, expire}
+use Rattle.rb_model.specs.Ending.{tell, at_fresh_moment, expire}
 use Rattle.rb_model.specs.Step.{show_expired, step, after}
 use Rattle.rb_model.specs.Step.Event.{Expire}
 use Rattle.rb_model.specs.Step.Output.{Nothing}
 use Rattle.rb_model.proofs.Expiring.{due-live}
-use Rattle.rb_laws.proofs.DueThings.{end_of, Expiry, expiry}
-use Rattle.rb_laws.proofs.DueThings.Expiry.{EntryEnds, ConnectionEnds, NothingDue}
+use Rattle.rb_laws.proofs.DueThings.{Expiry, expiry}
 
 -- ---- connections that are not Lost
 

@@ -1,9 +1,9 @@
 -- What a message says, and what its bytes are spelled from, agree.
-use Rattle.std.specs.Prelude.{◌==◌, option_map, find, is_some}
+use Rattle.std.specs.Prelude.{find, is_some}
 use Rattle.std.specs.List.{list_all}
-use Rattle.std.proofs.Common.{◌≡◌, ◌<◌, ◌≤◌, ◌⊎◌, ℕ, zero, suc, Bool, true, false, not, cond, eqb, ◌&&◌, List, [], ◌∷◌, drop, Option, Some, None, Err, refl, sym, ap, subst, ◌∙◌, arith, inl, inr}
-use Rattle.std.proofs.lemmas.Bool.{eqb-true, eqb-false, eq-eqb, not-false, not-true, false_from_ne_true}
-use Rattle.std.proofs.lemmas.Option.{none-some, same_Some}
+use Rattle.std.proofs.Common.{◌≡◌, ◌<◌, ◌≤◌, ◌⊎◌, ℕ, Bool, true, false, cond, ◌&&◌, List, [], ◌∷◌, drop, Option, Some, None, Err, refl, sym, ap, subst, ◌∙◌, arith}
+use Rattle.std.proofs.lemmas.Bool.{eqb-true, eqb-false, eq-eqb, not-false, not-true}
+use Rattle.std.proofs.lemmas.Option.{none-some}
 use Rattle.std.proofs.lemmas.Grind.{common_steps}
 use Rattle.rb_xdr.specs.Xdr.{AreBytes}
 use Rattle.rb_xdr.proofs.Words.{AreBytes-drop}
@@ -23,7 +23,7 @@ use Rattle.rb_arguments.specs.declared.procedure.Procedure.{Procedure}
 use Rattle.rb_arguments.specs.declared.request.ArgumentFault.TheVariants as faults
 use Rattle.rb_arguments.specs.declared.request.Request.{Request}
 use Rattle.rb_arguments.specs.Arguments.{procedures, procedure_at, is_known, request, or_garbage, read_request}
-use Rattle.rb_arguments.specs.Grammar.{Asks, procedure_of}
+use Rattle.rb_arguments.specs.Grammar.{Asks}
 use Rattle.rb_arguments.proofs.Requests.{requests_are_of_the_grammar}
 use Rattle.rb_model.specs.declared.message.Message.{Message}
 use Rattle.rb_model.specs.declared.message.Message.TheVariants.{NoCall, Refused, Garbage, Asked}

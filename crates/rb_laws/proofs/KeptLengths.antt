@@ -2,16 +2,16 @@
 -- need not be bytes.
 use Rattle.std.specs.Prelude.{slice_range}
 use Rattle.std.specs.Option.{is_some}
-use Rattle.std.proofs.Common.{◌≡◌, ◌≤◌, ◌<◌, ◌+◌, ◌-◌, ◌%◌, ◌^◌, ◌&&◌, ℕ, zero, suc, Bool, true, false, cond, not, eqb, ltb, List, [], ◌∷◌, ◌++◌, length, take, drop, Option, refl, sym, ap, subst, ◌∙◌, append_assoc, append-nil, arith, inl, inr, length-append}
-use Rattle.std.proofs.lemmas.Bool.{le-ltb, cond-false, cases_lt}
+use Rattle.std.proofs.Common.{◌≡◌, ◌≤◌, ◌<◌, ◌+◌, ◌-◌, ◌%◌, ◌^◌, ◌&&◌, ℕ, zero, suc, Bool, true, false, cond, not, eqb, ltb, List, [], ◌++◌, length, take, drop, Option, refl, sym, ap, subst, ◌∙◌, append_assoc, append-nil, arith, inl, inr, length-append}
+use Rattle.std.proofs.lemmas.Bool.{le-ltb, cases_lt}
 use Rattle.std.proofs.lemmas.List.{length-take, length-drop, take_all, take-append-le, drop-append-le}
 use Rattle.std.proofs.Math.Seq.{take-append-add}
 use Rattle.std.proofs.lemmas.Grind.{common_steps}
-use Rattle.rb_xdr.specs.Xdr.{number_at, word, residue, are_zero}
+use Rattle.rb_xdr.specs.Xdr.{number_at, word, residue}
 use Rattle.rb_rpc.specs.declared.auth.AuthStat.{AuthStat}
 use Rattle.rb_rpc.specs.declared.call.CallHead.{CallHead}
 use Rattle.rb_rpc.specs.declared.call.Verdict.{Verdict}
-use Rattle.rb_rpc.specs.Messages.{max_auth_body, body_of_sys, uid_of}
+use Rattle.rb_rpc.specs.Messages.{body_of_sys, uid_of}
 use Rattle.rb_rpc.specs.Records.{is_last, data_in, data_of}
 use Rattle.rb_rpc.specs.Verdict.{body_length, auth_end, is_over_long, is_broken, credential_end, verifier_end, credential_body, sys_uid, head_of, verdict}
 use Rattle.rb_rpc.specs.declared.call.Verdict.TheVariants.{NoCall, RpcMismatch, AuthError, Call}

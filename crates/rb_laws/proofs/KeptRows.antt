@@ -1,7 +1,7 @@
 -- The live rows and the removed ones that are kept for lists are together never more than there may be.
 use Rattle.std.specs.Prelude.{filter_map}
 use Rattle.std.specs.List.{list_any, list_all}
-use Rattle.std.proofs.Common.{◌≡◌, ◌≤◌, ◌<◌, ℕ, suc, ◌+◌, Bool, true, false, cond, not, ◌||◌, eqb, nat_le, nat_lt, Option, Some, None, List, [], ◌∷◌, ◌++◌, length, map, filter, is_none, refl, sym, ap, ◌∙◌, length-append, arith}
+use Rattle.std.proofs.Common.{◌≡◌, ◌≤◌, ◌<◌, ℕ, suc, ◌+◌, Bool, true, false, not, ◌||◌, eqb, nat_le, nat_lt, Option, Some, None, List, [], ◌∷◌, ◌++◌, length, map, filter, is_none, refl, ap, length-append, arith}
 use Rattle.std.proofs.lemmas.Bool.{and_parts, lt-ltb, ltb-true, leb-true, le-leb, eqb-true, eq-eqb}
 use Rattle.std.proofs.lemmas.Bool.Decides.{nat_tests}
 use Rattle.std.proofs.lemmas.List.Elements.{filter-append}
@@ -14,7 +14,7 @@ use Rattle.rb_registry.specs.Slots.{slot_of, removal_of, slots_by, all_slots}
 use Rattle.rb_proto.specs.Ledger.{Ledger, rows_in}
 use Rattle.rb_model.specs.State.{Connection}
 use Rattle.rb_model.specs.Connections.{change_first}
-use Rattle.rb_model.specs.Losses.{stamp_in, list_stamps, is_needed_for, needed_removals, began_before, evict_early, lose}
+use Rattle.rb_model.specs.Losses.{stamp_in, list_stamps, is_needed_for, needed_removals, evict_early}
 
 -- ---- which rows connections keep
 

@@ -1,32 +1,24 @@
 -- In each state that a run reaches, the live rows and the kept ones are together no more than there may be.
-use Rattle.std.specs.Prelude.{filter, take, ⊤}
+use Rattle.std.specs.Prelude.{take, ⊤}
 use Rattle.std.specs.List.{list_any}
-use Rattle.std.proofs.Common.{◌≡◌, ◌≤◌, ◌<◌, ℕ, ◌+◌, max, Bool, true, false, cond, nat_lt, eqb, not, min, Option, Some, None, Result, Ok, Err, List, [], ◌∷◌, ◌++◌, length, map, refl, sym, ap, subst, ◌∙◌, append-nil, arith}
+use Rattle.std.proofs.Common.{◌≡◌, ◌≤◌, ◌<◌, ℕ, ◌+◌, max, Bool, true, false, cond, nat_lt, eqb, Option, Some, None, Result, Ok, Err, List, [], ◌∷◌, ◌++◌, length, map, refl, sym, ap, ◌∙◌, append-nil, arith}
 use Rattle.std.proofs.lemmas.Bool.{ltb-true, ltb-false}
 use Rattle.std.proofs.lemmas.Grind.{common_steps}
 use Rattle.rb_rpc.specs.declared.call.CallHead.{CallHead}
 use Rattle.rb_rpc.specs.declared.peer.Peer.{Peer}
 use Rattle.rb_rpc.specs.declared.peer.Caller.{Caller}
 use Rattle.rb_rpc.specs.declared.peer.Caller.TheVariants.{Tcp, Udp}
-use Rattle.rb_rpc.specs.declared.reply.ReplyStatus.TheVariants as replies
 use Rattle.rb_rpc.specs.Records.{data_of}
 use Rattle.rb_feed.specs.Feeds.{arguments_of}
 use Rattle.rb_registry.specs.declared.row.Row.{Row}
 use Rattle.rb_registry.specs.declared.row.Which.{Which}
 use Rattle.rb_registry.specs.declared.row.Owner.{Owner}
-use Rattle.rb_registry.specs.declared.row.Transport.{Transport}
 use Rattle.rb_registry.specs.Rows.Change.{Added, Removed}
 use Rattle.rb_registry.specs.Rows.{Change}
 use Rattle.rb_stats.specs.Statistics.Note.{WasSet, WasUnset}
 use Rattle.rb_rpc.specs.declared.peer.Kind.{Kind}
-use Rattle.rb_forward.specs.declared.types.Outcome as target
-use Rattle.rb_forward.specs.declared.types.Outcome.TheVariants as ends
 use Rattle.rb_forward.specs.declared.types.Ended.{Ended as EntryEnd}
-use Rattle.rb_forward.specs.Forwards.{can_start, with_next_entry, can_be_sent}
-use Rattle.rb_proto.specs.declared.answers.Answer.{Answer}
-use Rattle.rb_proto.specs.declared.answers.Answer.TheVariants as answers
-use Rattle.rb_proto.specs.declared.answers.Results.{Results}
-use Rattle.rb_proto.specs.declared.answers.Results.TheVariants as results
+use Rattle.rb_forward.specs.Forwards.{can_be_sent}
 use Rattle.rb_proto.specs.declared.context.Context.{Context}
 use Rattle.rb_arguments.specs.declared.mapping.Mapping.{Mapping}
 use Rattle.rb_arguments.specs.declared.procedure.MappingProcedure.TheVariants as mappings
@@ -34,24 +26,21 @@ use Rattle.rb_arguments.specs.declared.procedure.RpcbProcedure.TheVariants as rp
 use Rattle.rb_arguments.specs.declared.remote.RemoteCall.{RemoteCall}
 use Rattle.rb_arguments.specs.declared.request.Request.{Request}
 use Rattle.rb_arguments.specs.declared.request.Request.TheVariants as requests
-use Rattle.rb_proto.specs.Answers.{accepts, accepts_row, accepts_removal, adds, adds_row, row_asked, row_to_set, removal_of, change_if, set_row, unset_rows, port_on, getport, getaddr, getversaddr, answer_to, answer}
+use Rattle.rb_proto.specs.Answers.{accepts, accepts_row, accepts_removal, adds, adds_row, row_asked, row_to_set, removal_of, change_if, set_row, unset_rows, getport, getaddr, getversaddr, answer_to, answer}
 use Rattle.rb_proto.specs.Callers.{own_rows, owner_of}
-use Rattle.rb_proto.specs.Forwarding.{peer_to_forward, forward_of, forward_to, forward_call, refuse, refusal, target_replied, fell_due, caller_dropped, call_sent}
+use Rattle.rb_proto.specs.Forwarding.{forward_call, target_replied, fell_due, caller_dropped, call_sent}
 use Rattle.rb_proto.specs.Ledger.{Ledger, rows_in, version_of, with_call_noted}
-use Rattle.rb_proto.specs.Netids.{transport_of_prot}
-use Rattle.rb_arguments.specs.Remote.{args_of}
 use Rattle.rb_model.specs.declared.message.Message.{Message}
 use Rattle.rb_model.specs.declared.message.Message.TheVariants as says
 use Rattle.rb_model.specs.declared.types.CoreFault.{CoreFault}
 use Rattle.rb_model.specs.declared.types.CoreFault.TheVariants.{Gone}
 use Rattle.rb_model.specs.declared.types.Told.{Told}
-use Rattle.rb_model.specs.Calls.{Outcome, Outcome as outcomes, results_outcome, answer_outcome, message_of, outcome}
+use Rattle.rb_model.specs.Calls.{Outcome, message_of, outcome}
 use Rattle.rb_model.specs.Calls.Outcome.{NoCall, Reply, Forwarded, Silent}
-use Rattle.rb_model.specs.State.{Setting, State, Phase, Connection, Connections, at_moment, opening}
-use Rattle.rb_model.specs.State.Phase.{Idle, Reading, Owing, Awaiting, Lost}
-use Rattle.rb_model.specs.Connections.{change_first, is_live, live_connection, pending_in, phase_when_given, with_given, give, keep_reading, settle, on_found, number_for, opening_as, open_in_table, is_there, without_number, close_in_table}
-use Rattle.rb_model.specs.Losses.{asks_room, stamp_in, began_before, list_stamps, removals_in_the_way, evict_early, first_due, is_needed_for, needed_removals, lose, removals_by, with_lost, expire_first}
-use Rattle.rb_model.specs.Ending.{outcome_at_end, outcome_of_end, refused_by, tell, tell_end, at_fresh_moment, lost_as, expire_connection, expired_as, forward_reply, expire}
+use Rattle.rb_model.specs.State.{State, Connection, Connections, at_moment}
+use Rattle.rb_model.specs.Connections.{change_first, is_live, live_connection, with_given, give, keep_reading, settle, on_found, number_for, opening_as, open_in_table, is_there, without_number, close_in_table}
+use Rattle.rb_model.specs.Losses.{asks_room, list_stamps, removals_in_the_way, evict_early, is_needed_for, needed_removals, lose, removals_by, expire_first}
+use Rattle.rb_model.specs.Ending.{outcome_at_end, tell_end, at_fresh_moment, expire_connection, expired_as, forward_reply, expire}
 use Rattle.rb_model.specs.Step.{Event, Output, context_in, serve, bytes, pending, gave, is_too_much, unless_refused, open_connection, dropped_with, close_connection, with_reply, datagram, sent_call, output_or, show_taken, show_done, show_outcome, show_end, show_expired, step, after, IsReached}
 use Rattle.rb_model.specs.declared.types.Taken.{Taken}
 use Rattle.rb_model.specs.Step.Event.{Open, Bytes, Pending, Gave, Closed, NextLost, Datagram, Unsent, Sent, Forward, Expire}
@@ -61,7 +50,7 @@ use Rattle.rb_laws.proofs.Crowding.{none_evicted, not_crowded, crowded}
 use Rattle.rb_laws.proofs.EntriesKept.{after-setting}
 use Rattle.rb_laws.proofs.Happenings.{Arriving, arriving}
 use Rattle.rb_laws.proofs.Happenings.Arriving.{NotThere, NotTaken, ReadOn, Ended}
-use Rattle.rb_laws.proofs.KeptRows.{keeps, is_before, retained_by, KeepsLess, KeepsNoMore, same-kept, changed-kept, mapped-kept, filtered-kept, total, total-is, total-more, Least, least-of, none-keep, one-fewer}
+use Rattle.rb_laws.proofs.KeptRows.{retained_by, KeepsLess, KeepsNoMore, same-kept, changed-kept, mapped-kept, filtered-kept, total, total-is, total-more, Least, least-of, none-keep, one-fewer}
 
 -- ---- what a call leaves behind
 

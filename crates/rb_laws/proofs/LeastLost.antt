@@ -1,6 +1,6 @@
 -- The first connection that passes a test is that of the least number, as they are in the order of their numbers.
 use Rattle.std.specs.Prelude.{All, Any, find, option_map}
-use Rattle.std.proofs.Common.{◌≡◌, ◌≤◌, ℕ, suc, ◌+◌, Bool, true, false, cond, Option, Some, None, List, [], ◌∷◌, refl, arith}
+use Rattle.std.proofs.Common.{◌≡◌, ◌≤◌, ℕ, suc, ◌+◌, Bool, true, false, Option, Some, None, List, [], ◌∷◌, arith}
 use Rattle.std.proofs.lemmas.List.Elements.{All-nil, All-cons, All-weaker}
 use Rattle.std.proofs.lemmas.Grind.{common_steps}
 use Rattle.rb_model.specs.State.{Connection}

@@ -1,13 +1,11 @@
 -- What is remembered of the calls, in each state that a run reaches.
 use Rattle.std.specs.Prelude.{All, ⊤}
-use Rattle.std.proofs.Common.{◌≡◌, ℕ, ◌≤◌, max, Bool, true, false, cond, ◌&&◌, nat_le, Option, Some, None, Result, Ok, Err, List, [], ◌∷◌, ◌++◌, length, refl, sym, subst, ◌∙◌, arith}
-use Rattle.std.proofs.lemmas.Bool.{leb-true}
-use Rattle.std.proofs.lemmas.List.Elements.{All-nil, All-push}
+use Rattle.std.proofs.Common.{◌≡◌, ℕ, ◌≤◌, max, Bool, true, false, cond, ◌&&◌, Option, Some, None, Result, Ok, Err, List, [], ◌∷◌, ◌++◌, length, refl, arith}
+use Rattle.std.proofs.lemmas.List.Elements.{All-push}
 use Rattle.std.proofs.lemmas.Grind.{common_steps}
 use Rattle.rb_rpc.specs.declared.peer.Caller.{Caller}
-use Rattle.rb_rpc.specs.declared.peer.Caller.TheVariants.{Tcp, Udp}
+use Rattle.rb_rpc.specs.declared.peer.Caller.TheVariants.{Udp}
 use Rattle.rb_rpc.specs.declared.peer.Peer.{Peer}
-use Rattle.rb_rpc.specs.declared.reply.ReplyStatus.TheVariants as replies
 use Rattle.rb_rpc.specs.declared.call.CallHead.{CallHead}
 use Rattle.rb_feed.specs.Feeds.{arguments_of}
 use Rattle.rb_registry.specs.declared.row.Row.{Row}
@@ -16,17 +14,14 @@ use Rattle.rb_registry.specs.Rows.{Change, is_netid, is_on, is_row, are_distinct
 use Rattle.rb_registry.specs.Rows.Change.{Added, Removed}
 use Rattle.rb_registry.specs.Registry.{AreOwn}
 use Rattle.rb_registry.specs.Laws.{is_accepted, are_accepted}
-use Rattle.rb_registry.specs.declared.row.Transport.{Transport}
 use Rattle.rb_registry.proofs.RowLaws.{accepted_more, keys_are_distinct, live_rows_fit}
 use Rattle.rb_stats.specs.Statistics.{Note}
 use Rattle.rb_stats.specs.Statistics.Note.{WasSet, WasUnset}
 use Rattle.rb_rpc.specs.declared.peer.Kind.{Kind}
 use Rattle.rb_forward.specs.declared.types.Ended.{Ended as EntryEnd}
-use Rattle.rb_forward.specs.Forwards.{can_start, with_next_entry, can_be_sent}
-use Rattle.rb_proto.specs.declared.answers.Answer.TheVariants as answers
+use Rattle.rb_forward.specs.Forwards.{can_be_sent}
 use Rattle.rb_arguments.specs.declared.remote.RemoteCall.{RemoteCall}
-use Rattle.rb_arguments.specs.Remote.{args_of}
-use Rattle.rb_proto.specs.Forwarding.{peer_to_forward, forward_of, refuse, forward_to, forward_call, target_replied, fell_due, caller_dropped, call_sent}
+use Rattle.rb_proto.specs.Forwarding.{forward_call, target_replied, fell_due, caller_dropped, call_sent}
 use Rattle.rb_proto.specs.declared.listener.Listener.{Listener}
 use Rattle.rb_proto.specs.declared.context.Context.{Context}
 use Rattle.rb_arguments.specs.declared.procedure.MappingProcedure.TheVariants as mappings
@@ -36,13 +31,13 @@ use Rattle.rb_arguments.specs.declared.request.Request.TheVariants as requests
 use Rattle.rb_proto.specs.Callers.{own_rows}
 use Rattle.rb_proto.specs.Ledger.{Ledger, rows_in, version_of, with_call_noted}
 use Rattle.rb_arguments.specs.declared.mapping.Mapping.{Mapping}
-use Rattle.rb_proto.specs.Netids.{transport_of_prot, is_address}
-use Rattle.rb_proto.specs.Answers.{comes_from_here, can_be_set, accepts_row, set_row, accepts_removal, removal_of, unset_rows, change_if, port_on, getport, getaddr, getversaddr, answer_to, answer}
+use Rattle.rb_proto.specs.Netids.{is_address}
+use Rattle.rb_proto.specs.Answers.{comes_from_here, can_be_set, accepts_row, set_row, accepts_removal, removal_of, unset_rows, change_if, getport, getaddr, getversaddr, answer_to, answer}
 use Rattle.rb_proto.proofs.Addresses.{address_short}
 use Rattle.rb_model.specs.declared.types.Told.{Told}
 use Rattle.rb_model.specs.declared.types.CoreFault.TheVariants.{Gone}
 use Rattle.rb_model.specs.Losses.{first_due, with_lost, expire_first}
-use Rattle.rb_model.specs.Ending.{outcome_at_end, tell, tell_end, at_fresh_moment, forward_reply, lost_as, expire_connection, expired_as, expire}
+use Rattle.rb_model.specs.Ending.{tell_end, at_fresh_moment, forward_reply, lost_as, expire_connection, expired_as, expire}
 use Rattle.rb_model.specs.declared.message.Message.{Message}
 use Rattle.rb_model.specs.declared.message.Message.TheVariants as says
 use Rattle.rb_model.specs.declared.types.CoreFault.{CoreFault}

@@ -1,13 +1,12 @@
 -- What is live under a number after an event.
 use Rattle.std.specs.Prelude.{find, filter}
-use Rattle.std.proofs.Common.{◌≡◌, ◌⊎◌, inl, inr, ◌<◌, ◌≤◌, ℕ, ◌+◌, min, Bool, true, false, cond, not, ◌&&◌, eqb, nat_lt, Option, Some, None, List, [], ◌∷◌, ◌++◌, length, refl, ap, subst, ◌∙◌, arith}
-use Rattle.std.proofs.lemmas.Bool.{eqb-true, ne_eqb}
+use Rattle.std.proofs.Common.{◌≡◌, ◌⊎◌, ◌<◌, ◌≤◌, ℕ, ◌+◌, min, Bool, true, false, not, eqb, Option, Some, None, List, [], ◌∷◌, ◌++◌, length, refl, arith}
+use Rattle.std.proofs.lemmas.Bool.{eqb-true}
 use Rattle.std.proofs.lemmas.Grind.{common_steps}
 use Rattle.rb_model.specs.Calls.{Outcome, is_no_call}
-use Rattle.rb_model.specs.Calls.Outcome.{NoCall, Reply, Forwarded, Silent}
-use Rattle.rb_model.specs.State.{Phase, Connection}
-use Rattle.rb_model.specs.State.Phase.{Idle, Reading, Owing, Awaiting, Lost}
-use Rattle.rb_model.specs.Connections.{is_lost, is_live, change_first, settle, phase_when_given, with_given, give, pending_in}
+use Rattle.rb_model.specs.Calls.Outcome.{NoCall, Reply}
+use Rattle.rb_model.specs.State.{Connection}
+use Rattle.rb_model.specs.Connections.{is_live, change_first, settle, with_given, give, pending_in}
 use Rattle.rb_model.specs.Losses.{lose}
 use Rattle.rb_laws.proofs.Cuts.{IsFeeding, number-is}
 use Rattle.rb_laws.proofs.Reached.{AreSound}

@@ -1,15 +1,12 @@
 -- The numbers of connections only go up.
 use Rattle.std.specs.Prelude.{filter_map}
 use Rattle.std.specs.List.{cons_option}
-use Rattle.std.proofs.Common.{◌≡◌, ℕ, ◌+◌, true, false, cond, Option, Some, None, List, [], ◌∷◌, refl, sym, ap, subst, ◌∙◌, arith}
+use Rattle.std.proofs.Common.{◌≡◌, ℕ, ◌+◌, Option, Some, None, List, [], ◌∷◌, sym, subst, arith}
 use Rattle.rb_model.specs.State.{State, Connections}
 use Rattle.rb_model.specs.Connections.{without_number}
-use Rattle.rb_model.specs.Step.{Event, Output, show_taken, step, run}
-use Rattle.rb_model.specs.declared.types.Taken.{Taken}
-use Rattle.rb_model.specs.Step.Output.{Took, TookAndClosed}
+use Rattle.rb_model.specs.Step.{Event, Output, step, run}
 use Rattle.rb_model.specs.Laws.{number_given, AreRisingFrom}
 use Rattle.rb_laws.proofs.Happenings.{Happening, happening}
-use Rattle.rb_laws.proofs.Happenings.Happening.{Stays, Evicts, Opens, Reads, Ends, Gives, Closes, Tells, TimesOut}
 
 -- a number that is given is the next one, and no other event moves it
 abbrev pub GivesNext : Option ℕ → ℕ → ℕ → Type 0

@@ -1,16 +1,14 @@
 -- What holds of the connections in each state that a run reaches.
 use Rattle.std.specs.Prelude.{find, filter}
-use Rattle.std.proofs.Common.{◌≡◌, ◌<◌, ◌≤◌, ℕ, ◌+◌, max, Bool, true, false, cond, not, eqb, nat_lt, min, Some, None, List, [], ◌∷◌, ◌++◌, length, map, take, refl, sym, subst, arith}
-use Rattle.std.proofs.lemmas.Bool.{ltb-true}
+use Rattle.std.proofs.Common.{◌≡◌, ◌<◌, ◌≤◌, ℕ, ◌+◌, max, Bool, not, eqb, Some, None, List, [], ◌∷◌, ◌++◌, length, map, refl, sym, subst, arith}
 use Rattle.std.proofs.lemmas.Grind.{common_steps}
-use Rattle.rb_rpc.specs.Records.{first_record, data_of}
-use Rattle.rb_rpc.specs.declared.peer.Caller.TheVariants.{Tcp, Udp}
+use Rattle.rb_rpc.specs.Records.{first_record}
+use Rattle.rb_rpc.specs.declared.peer.Caller.TheVariants.{Udp}
 use Rattle.rb_model.specs.Calls.{Outcome}
-use Rattle.rb_model.specs.Calls.Outcome.{NoCall, Reply, Forwarded, Silent}
-use Rattle.rb_model.specs.State.{State, Phase, Connection, Connections, opening}
+use Rattle.rb_model.specs.State.{State, Phase, Connection, Connections}
 use Rattle.rb_model.specs.State.Phase.{Idle, Reading, Owing, Awaiting, Lost}
-use Rattle.rb_model.specs.Connections.{is_live, live_connection, change_first, without_number, keep_reading, settle, phase_after, phase_when_given, with_given, give, pending_in}
-use Rattle.rb_model.specs.Losses.{lose, stamp_in, began_before, evict_early}
+use Rattle.rb_model.specs.Connections.{is_live, live_connection, change_first, without_number, keep_reading, settle, with_given, give}
+use Rattle.rb_model.specs.Losses.{lose, evict_early}
 use Rattle.rb_model.specs.Step.{Event, Output, step, after, IsReached}
 use Rattle.rb_model.specs.Laws.{IsLive}
 use Rattle.rb_model.proofs.Fragments.{some-marked}

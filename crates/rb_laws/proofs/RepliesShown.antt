@@ -1,29 +1,19 @@
 -- The reply over UDP that is held after an event is what the event shows.
-use Rattle.std.proofs.Common.{◌≤◌, ℕ, max, Option, Some, None, List, [], length, arith}
+use Rattle.std.proofs.Common.{◌≤◌, ℕ, List, length, arith}
 use Rattle.std.proofs.lemmas.Grind.{common_steps}
 use Rattle.rb_rpc.specs.declared.peer.Peer.{Peer}
-use Rattle.rb_rpc.specs.declared.peer.Caller.{Caller}
-use Rattle.rb_rpc.specs.declared.peer.Caller.TheVariants.{Tcp, Udp}
-use Rattle.rb_forward.specs.declared.types.Ended.{Ended}
-use Rattle.rb_forward.specs.Forwards.{Unsent as UnsentCall}
 use Rattle.rb_proto.specs.Ledger.{Ledger}
-use Rattle.rb_proto.specs.Forwarding.{target_replied, fell_due}
-use Rattle.rb_model.specs.declared.types.Expired.{Expired}
-use Rattle.rb_model.specs.declared.types.Expired.TheVariants as expiries
-use Rattle.rb_model.specs.declared.types.Told.{Told}
-use Rattle.rb_model.specs.Calls.{Outcome, Outcome as outcomes}
-use Rattle.rb_model.specs.State.{State, at_moment}
-use Rattle.rb_model.specs.Ending.{outcome_at_end, tell, tell_end, at_fresh_moment, forward_reply, expired_as, expire_connection, expire}
-use Rattle.rb_model.specs.Step.{Output, serve, with_reply, datagram, unsent_call, show_outcome, show_end, show_expired, step}
+use Rattle.rb_model.specs.State.{State}
+use Rattle.rb_model.specs.Ending.{at_fresh_moment, forward_reply, expire_connection, expire}
+use Rattle.rb_model.specs.Step.{Output, datagram, unsent_call, step}
 use Rattle.rb_model.specs.Step.Event.{Unsent, Datagram, Forward, Expire}
-use Rattle.rb_model.specs.Step.Output.{UnsentIs}
 use Rattle.rb_model.specs.Bounds.{bytes_out}
 use Rattle.rb_model.specs.Costs.{unsent_count}
 
 module _ (s : State) where
   pub unsent-shown : unsent_count (unsent_call s) ≤ bytes_out Unsent (step s Unsent).0
   unfolding step
-  unsent-shown  = grind arith
+  unsent-shown = grind arith
 
   pub datagram-shown : (now : ℕ) (peer : Peer) (content : List ℕ) → let after : Output × State = step s (Datagram now peer content) in length after.1.reply ≤ bytes_out (Datagram now peer content) after.0
   unfolding step datagram

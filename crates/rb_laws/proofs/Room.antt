@@ -1,34 +1,29 @@
 -- There are no more connections than there may be.
 use Rattle.std.specs.Prelude.{filter}
-use Rattle.std.proofs.Common.{◌≡◌, ℕ, suc, ◌+◌, ◌≤◌, max, Bool, true, false, cond, not, nat_lt, eqb, Option, Some, None, Result, Ok, Err, List, [], ◌∷◌, ◌++◌, length, refl, sym, ap, subst, arith}
+use Rattle.std.proofs.Common.{◌≡◌, ℕ, ◌+◌, ◌≤◌, max, Bool, cond, Option, Result, Ok, Err, List, [], ◌∷◌, ◌++◌, length, arith}
 use Rattle.std.proofs.lemmas.List.{length-map}
-use Rattle.std.proofs.lemmas.Bool.{ltb-true}
 use Rattle.std.proofs.lemmas.Grind.{common_steps}
 use Rattle.rb_rpc.specs.declared.peer.Peer.{Peer}
 use Rattle.rb_rpc.specs.declared.peer.Caller.{Caller}
-use Rattle.rb_rpc.specs.declared.peer.Caller.TheVariants.{Tcp, Udp}
+use Rattle.rb_rpc.specs.declared.peer.Caller.TheVariants.{Udp}
 use Rattle.rb_forward.specs.declared.types.Ended.{Ended}
 use Rattle.rb_forward.specs.Forwards.{can_be_sent}
 use Rattle.rb_proto.specs.Ledger.{Ledger}
-use Rattle.rb_proto.specs.Forwarding.{target_replied, call_sent}
-use Rattle.rb_model.specs.Losses.{removals_in_the_way, evict_early, lose}
+use Rattle.rb_proto.specs.Forwarding.{call_sent}
+use Rattle.rb_model.specs.Losses.{removals_in_the_way, evict_early}
 use Rattle.rb_model.specs.declared.types.CoreFault.{CoreFault}
-use Rattle.rb_model.specs.declared.types.CoreFault.TheVariants.{Full, Spent, Gone}
+use Rattle.rb_model.specs.declared.types.CoreFault.TheVariants.{Gone}
 use Rattle.rb_model.specs.declared.types.Told.{Told}
 use Rattle.rb_model.specs.declared.types.Expired.{Expired}
-use Rattle.rb_model.specs.declared.types.Expired.TheVariants as expiries
-use Rattle.rb_model.specs.Calls.{Outcome, Outcome as outcomes, message_of}
-use Rattle.rb_model.specs.State.{State, Connection, at_moment, greatest_number, opening}
-use Rattle.rb_model.specs.Connections.{Taking, taking_of, keep_reading, settle, change_first, is_live, live_connection, give, on_found, number_for, opening_as, open_in_table, is_there, without_number, close_in_table}
-use Rattle.rb_model.specs.State.Phase.{Idle}
-use Rattle.rb_model.specs.Connections.Taking.{TakesNone, GoesOn, Ends}
-use Rattle.rb_model.specs.Ending.{outcome_at_end, tell, tell_end, at_fresh_moment, forward_reply, expire}
-use Rattle.rb_model.specs.Step.{Event, Output, context_in, serve, serve_record, unless_refused, when_taken, bytes_to, bytes, pending, gave, is_too_much, open_connection, dropped_with, close_connection, with_reply, datagram, sent_call, output_or, show_taken, show_done, show_outcome, show_end, show_expired, step, after, IsReached}
+use Rattle.rb_model.specs.Calls.{Outcome, message_of}
+use Rattle.rb_model.specs.State.{State, Connection, at_moment}
+use Rattle.rb_model.specs.Connections.{change_first, live_connection, give, on_found, number_for, open_in_table, is_there, without_number, close_in_table}
+use Rattle.rb_model.specs.Ending.{tell, tell_end, at_fresh_moment, forward_reply, expire}
+use Rattle.rb_model.specs.Step.{Event, Output, context_in, serve, serve_record, unless_refused, bytes_to, bytes, pending, gave, is_too_much, open_connection, dropped_with, close_connection, with_reply, datagram, sent_call, output_or, show_taken, show_done, show_outcome, show_end, show_expired, step, after, IsReached}
 use Rattle.rb_model.specs.Step.Event.{Open, Bytes, Pending, Gave, Closed, NextLost, Datagram, Unsent, Sent, Forward as ForwardCame, Expire}
-use Rattle.rb_model.specs.Step.Output.{Opened, TooMuch, IsPending}
+use Rattle.rb_model.specs.Step.Output.{TooMuch, IsPending}
 use Rattle.rb_laws.proofs.EntriesKept.{step-follows}
-use Rattle.rb_laws.proofs.DueThings.{end_of, Expiry, expiry}
-use Rattle.rb_laws.proofs.DueThings.Expiry.{EntryEnds, ConnectionEnds, NothingDue}
+use Rattle.rb_laws.proofs.DueThings.{Expiry, expiry}
 
 changed-length : (test : Connection → Bool) (f : Connection → Connection) (all : List Connection) → length (change_first test f all) ≡ length all
 changed-length test f [] = grind arith

@@ -1,9 +1,9 @@
 -- What passes on one connection in a whole run.
 use Rattle.std.specs.Prelude.{find, map, All}
-use Rattle.std.proofs.Common.{◌≡◌, ◌⊎◌, inl, inr, ◌<◌, ◌≤◌, ℕ, ◌+◌, ◌-◌, max, min, Bool, true, false, cond, eqb, nat_lt, Option, Some, None, List, [], ◌∷◌, ◌++◌, length, take, drop, refl, sym, ap, subst, ◌∙◌, append_assoc, append-nil, arith}
+use Rattle.std.proofs.Common.{◌≡◌, ◌<◌, ◌≤◌, ℕ, ◌+◌, ◌-◌, max, Bool, true, false, cond, eqb, Option, Some, None, List, [], ◌∷◌, ◌++◌, length, take, drop, refl, sym, ap, subst, ◌∙◌, append_assoc, append-nil, arith}
 use Rattle.std.proofs.Math.Seq.{take-nil, take-append-add}
 use Rattle.std.proofs.lemmas.List.{take_all, take-append-drop, drop-append-le, length-take, map-append}
-use Rattle.std.proofs.lemmas.List.Elements.{All-nil, All-append, All-cons}
+use Rattle.std.proofs.lemmas.List.Elements.{All-nil}
 use Rattle.std.proofs.lemmas.Bool.{eqb-true, eq-eqb}
 use Rattle.std.proofs.lemmas.Grind.{common_steps}
 use Rattle.rb_xdr.specs.Xdr.{AreBytes}
@@ -12,16 +12,16 @@ use Rattle.rb_rpc.specs.RecordLaws.{Records}
 use Rattle.rb_rpc.specs.declared.peer.Caller.TheVariants.{Tcp, Udp}
 use Rattle.rb_rpc.proofs.RecordCuts.{ends_later}
 use Rattle.rb_model.specs.Calls.{Outcome, is_no_call}
-use Rattle.rb_model.specs.Calls.Outcome.{NoCall, Reply, Forwarded, Silent}
+use Rattle.rb_model.specs.Calls.Outcome.{NoCall}
 use Rattle.rb_model.specs.State.{State, Phase, Connection, Connections, at_moment}
 use Rattle.rb_model.specs.State.Phase.{Idle, Reading, Owing, Awaiting, Lost}
-use Rattle.rb_model.specs.Connections.{is_live, live_connection, fed_in, change_first, changed_at, keep_reading, settle, give, with_given, phase_when_given, pending_in, without_number}
+use Rattle.rb_model.specs.Connections.{is_live, live_connection, fed_in, change_first, changed_at, keep_reading, settle, give, with_given, pending_in, without_number}
 use Rattle.rb_model.specs.Laws.{is_awaiting, owed_bytes, number_given, owed_in, IsGiven}
-use Rattle.rb_model.specs.Step.{Event, Output, pending, pending_on, show_taken, step}
+use Rattle.rb_model.specs.Step.{Event, Output, pending, show_taken, step}
 use Rattle.rb_model.specs.declared.types.Taken.{Taken}
 use Rattle.rb_model.specs.Step.Event.{Bytes, Gave}
 use Rattle.rb_model.specs.Step.Output.{Opened, Took, TookAndClosed, Done}
-use Rattle.rb_model.specs.Sessions.{Exchange, Session, at_event, piece_to, taken_by, gave_to, pending_bytes, given_by, empty_session, session_with, session_after, outcome_by, with_outcome, with_last_outcome, replies_to, marked_reply_in, IsFinal, is_answered, AwaitsLast, AreAnswered, IsFront}
+use Rattle.rb_model.specs.Sessions.{Exchange, Session, at_event, piece_to, taken_by, gave_to, given_by, empty_session, session_with, session_after, outcome_by, with_outcome, with_last_outcome, replies_to, marked_reply_in, is_answered, AwaitsLast, AreAnswered, IsFront}
 use Rattle.rb_model.specs.Bounds.{count_in}
 use Rattle.rb_model.specs.Losses.{lose as timed_out, evict_early, evict}
 use Rattle.rb_laws.proofs.Cuts.{IsFeeding, find-changed, find-holds, number-is, reading-feeds, fed-no-list}
@@ -216,7 +216,7 @@ module _ (id : ℕ) (s : State) (t : Session) (h : Holds id s.connections t) whe
     sound-live = found-sound (is_live id) 0 s.connections.next s.connections.all c h.sound found
 
     below : id < s.connections.next
-    below  = grind (arith, common_steps, found, number-is id c, find-holds (is_live id), number-below (is_live id) 0)
+    below = grind (arith, common_steps, found, number-is id c, find-holds (is_live id), number-below (is_live id) 0)
 
     pub unfinished-here : (fed : List ℕ) → fed_in c.phase ≡ Some fed → t.unfinished ≡ fed
     unfinished-here fed feeds = fits-live.unfinished ∙ unfinished-is c.phase fed feeds

@@ -1,5 +1,5 @@
 -- What an event costs is within the bound on its steps.
-use Rattle.std.proofs.Common.{◌≡◌, ℕ, Bool, List, length, refl, ◌≤◌, ◌+◌, true, false, cond, Option, Some, None, [], ◌∷◌, ◌++◌, sym, ap, ◌∙◌, arith}
+use Rattle.std.proofs.Common.{◌≡◌, ℕ, List, length, refl, ◌≤◌, ◌+◌, true, false, cond, Option, Some, None, [], ◌∷◌, ◌++◌, sym, ap, ◌∙◌, arith}
 use Rattle.std.proofs.lemmas.List.{length-take}
 use Rattle.std.proofs.lemmas.Grind.{common_steps}
 use Rattle.rb_feed.specs.Feeds.{arguments_of}
@@ -7,11 +7,10 @@ use Rattle.rb_rpc.specs.Forwarded.{longest_forwarded as longest_args}
 use Rattle.rb_model.specs.State.{State, Connection, at_moment, opening, are_good}
 use Rattle.rb_model.specs.Connections.{Taking, taking_of, live_connection}
 use Rattle.rb_model.specs.Connections.Taking.{TakesNone, GoesOn, Ends}
-use Rattle.rb_model.specs.Step.{serve_record, with_count, when_taken, Event, Output, bytes_to, bytes, output_or, show_taken, step, after, IsReached}
+use Rattle.rb_model.specs.Step.{when_taken, Event, Output, bytes_to, bytes, output_or, show_taken, step, after, IsReached}
 use Rattle.rb_model.specs.declared.types.Taken.{Taken}
 use Rattle.rb_model.specs.Costs.{sizes_in, count_taken, record_cost, bytes_cost, find_cost, event_cost}
 use Rattle.rb_model.specs.Calls.{longest_reply, longest_kept}
-use Rattle.rb_model.specs.Step.Event.{Open, Bytes, Pending, Gave, Closed, NextLost, Datagram, Unsent, Sent, Forward, Expire}
 use Rattle.rb_model.specs.Bounds.{count_in, steps_bound, bound_at}
 use Rattle.rb_model.specs.BoundLaws.{StepsAreBounded, RunsAreBounded}
 use Rattle.rb_laws.proofs.Ledgers.{step-setting}

@@ -1,34 +1,31 @@
 -- The bytes of arguments that wait in the connections: only bytes that arrive make them more, and the end of a record takes
 -- its own.
-use Rattle.std.specs.Prelude.{find, filter, min}
-use Rattle.std.proofs.Common.{◌≡◌, ℕ, ◌+◌, ◌≤◌, max, Bool, true, false, cond, not, nat_lt, eqb, Option, Some, None, Result, Ok, Err, List, [], ◌∷◌, length, map, refl, ap, arith}
-use Rattle.std.proofs.lemmas.List.Sums.{sum_by-cons, sum_by-append}
+use Rattle.std.specs.Prelude.{find, filter}
+use Rattle.std.proofs.Common.{◌≡◌, ℕ, ◌+◌, ◌≤◌, max, Bool, cond, Option, Some, None, Result, Ok, Err, List, [], ◌∷◌, map, arith}
+use Rattle.std.proofs.lemmas.List.Sums.{sum_by-cons}
 use Rattle.std.proofs.lemmas.Grind.{common_steps}
 use Rattle.rb_rpc.specs.declared.peer.Peer.{Peer}
 use Rattle.rb_rpc.specs.declared.peer.Caller.{Caller}
-use Rattle.rb_rpc.specs.declared.peer.Caller.TheVariants.{Tcp, Udp}
+use Rattle.rb_rpc.specs.declared.peer.Caller.TheVariants.{Udp}
 use Rattle.rb_forward.specs.declared.types.Ended.{Ended}
 use Rattle.rb_forward.specs.Forwards.{can_be_sent}
 use Rattle.rb_proto.specs.Ledger.{Ledger}
-use Rattle.rb_proto.specs.Forwarding.{target_replied, call_sent}
+use Rattle.rb_proto.specs.Forwarding.{call_sent}
 use Rattle.rb_model.specs.declared.types.CoreFault.{CoreFault}
 use Rattle.rb_model.specs.declared.types.CoreFault.TheVariants.{Gone}
 use Rattle.rb_model.specs.declared.types.Told.{Told}
 use Rattle.rb_model.specs.declared.types.Expired.{Expired}
-use Rattle.rb_model.specs.declared.types.Expired.TheVariants as expiries
-use Rattle.rb_model.specs.Calls.{Outcome, Outcome as outcomes, message_of}
-use Rattle.rb_model.specs.State.{Phase, State, Connection, at_moment}
-use Rattle.rb_model.specs.State.Phase.{Idle, Reading, Owing, Awaiting, Lost}
-use Rattle.rb_model.specs.Connections.{settle, change_first, is_live, with_given, give, on_found, number_for, opening_as, open_in_table, is_there, without_number, close_in_table, phase_after, phase_when_given, pending_in, live_connection}
-use Rattle.rb_model.specs.Losses.{stamp_in, began_before, removals_in_the_way, evict_early, lose}
-use Rattle.rb_model.specs.Ending.{outcome_at_end, tell, tell_end, at_fresh_moment, forward_reply, expire}
+use Rattle.rb_model.specs.Calls.{Outcome, message_of}
+use Rattle.rb_model.specs.State.{State, Connection, at_moment}
+use Rattle.rb_model.specs.Connections.{settle, change_first, is_live, with_given, give, on_found, number_for, opening_as, open_in_table, is_there, without_number, close_in_table, phase_after, live_connection}
+use Rattle.rb_model.specs.Losses.{stamp_in, removals_in_the_way, evict_early, lose}
+use Rattle.rb_model.specs.Ending.{tell, tell_end, at_fresh_moment, forward_reply, expire}
 use Rattle.rb_model.specs.Step.{Output, context_in, serve, serve_record, unless_refused, pending, gave, is_too_much, open_connection, dropped_with, close_connection, with_reply, datagram, sent_call, output_or, show_done, show_outcome, show_end, show_expired, step}
 use Rattle.rb_model.specs.Step.Event.{Open, Pending, Gave, Closed, Datagram, Sent, Forward as ForwardCame, Expire}
 use Rattle.rb_model.specs.Step.Output.{Opened, TooMuch, IsPending}
 use Rattle.rb_model.specs.WholeRuns.{args_in, args_waiting}
 use Rattle.rb_laws.proofs.Crowds.{plain_lives}
-use Rattle.rb_laws.proofs.DueThings.{end_of, Expiry, expiry}
-use Rattle.rb_laws.proofs.DueThings.Expiry.{EntryEnds, ConnectionEnds, NothingDue}
+use Rattle.rb_laws.proofs.DueThings.{Expiry, expiry}
 
 abbrev args_of : Connection → ℕ
 args_of c = args_in c.phase

@@ -9,12 +9,10 @@ use Rattle.rb_rpc.proofs.RecordCuts.{ends_later}
 use Rattle.rb_feed.specs.Feeds.{arguments_of}
 use Rattle.rb_model.specs.Calls.{longest_reply, longest_kept, kept_of}
 use Rattle.rb_model.specs.State.{Setting, State, Phase, Connection, at_moment, are_good}
-use Rattle.rb_model.specs.State.Phase.{Idle, Reading, Owing, Awaiting, Lost}
-use Rattle.rb_model.specs.Connections.{Taking, taking_of, fed_in, taking_behind, taking_up_to, is_live, live_connection, keep_reading}
+use Rattle.rb_model.specs.Connections.{Taking, taking_of, fed_in, taking_up_to, live_connection, keep_reading}
 use Rattle.rb_model.specs.Connections.Taking.{TakesNone, GoesOn, Ends}
-use Rattle.rb_model.specs.Step.{Event, Output, serve_record, with_count, when_taken, bytes_to, bytes, output_or, show_taken, step, run, after, IsReached}
+use Rattle.rb_model.specs.Step.{Event, Output, with_count, when_taken, bytes_to, bytes, output_or, show_taken, step, run, after, IsReached}
 use Rattle.rb_model.specs.Step.Event.{Open, Bytes, Pending, Gave, Closed, NextLost, Datagram, Unsent, Sent, Forward, Expire}
-use Rattle.rb_model.specs.Step.Output.{Refused, Done, UnsentIs}
 use Rattle.rb_model.specs.Bounds.{count_in, bytes_in, bytes_out}
 use Rattle.rb_model.specs.Costs.{sizes_in, count_taken, record_cost, bytes_cost, find_cost, event_cost, run_cost}
 use Rattle.rb_model.specs.WholeRuns.{args_in, args_waiting, total_in, total_out, bytes_reported, event_allowance, EventsArePaidAhead, WholeRunsAreBounded}
