@@ -1,9 +1,11 @@
 -- Endings without words that were read.
-use Rattle.std.proofs.Common.{◌≡◌, ℕ, List, Option, Err, arith, inl, inr}
+use Rattle.std.specs.Prelude.{IfErr}
+use Rattle.std.proofs.Common.{◌≡◌, ℕ, List, Option, Result, Ok, Err, arith, inl, inr}
 use Rattle.std.proofs.KnownBytes.{Appends-nil}
-use Rattle.rpcinfo.specs.declared.ending.Ending.{Ending}
-use Rattle.rpcinfo.specs.declared.fault.Fault.{Fault}
-use Rattle.rpcinfo.specs.Ending.{fault_lines, Says}
+use Rattle.rb_plans.specs.declared.ending.Ending.{Ending}
+use Rattle.rb_plans.specs.declared.fault.Fault.{Fault}
+use Rattle.rb_plans.specs.declared.words.Words.{Words}
+use Rattle.rb_plans.specs.Ending.{fault_lines, Says}
 use Rattle.rpcinfo.specs.Running.{no_notices, EndsSaying, EndsUnread, IsExplained, IsNoticed}
 
 -- a fault that was explained
@@ -32,3 +34,9 @@ unread_noticed contents faults faults' ending e = record {
 pub said_not_zero : {E : Type 0} (contents : E → Option (List ℕ)) (faults faults' : E) (ending : Ending) → EndsSaying contents faults faults' ending → ending.status ≡ 0 → ⊥
 said_not_zero contents faults faults' ending (inl said) zero = omega (arith, said.0, zero)
 said_not_zero contents faults faults' ending (inr two) zero = omega (arith, two, zero)
+
+-- words that can't be read are such an ending
+pub unread_says : {E : Type 0} (contents : E → Option (List ℕ)) (faults faults' : E) (result : Result Words Ending) → IfErr result (λ ending. ending.status ≡ 2)
+    → IfErr result (EndsSaying contents faults faults')
+unread_says contents faults faults' (Ok words) p = tt
+unread_says contents faults faults' (Err ending) p = inr p

@@ -1,5 +1,2 @@
-pub mod Inputs
 pub mod Flushes
 pub mod Endings
-pub mod HexTexts
-pub mod Written

@@ -1,16 +1,12 @@
 //! Questions over sockets. No contract can say what they are answered with: what is asked, where, and what follows of an
-//! answer is decided in `rb_course` and in `plans`.
+//! answer is decided in `rb_course` and `rb_plans`.
 ghost use Rattle.std.specs.Prelude.{◌≡◌};
 ghost use Rattle.rpcinfo.specs.Running.{no_notices};
 
-use crate::ending::Notices;
-use crate::fault::Fault;
 use crate::hosts::{addresses_of, at_place, here, is_of};
-use crate::input::FIRST_XID;
 use crate::net::{Peer, ask_datagram, ask_stream};
-use crate::plans::{aim_of, answer_of, course_end, way_of};
-use crate::words::Words;
 use rb_course::{Course, Place, Stage, asked, begin, fallback, next, show_lack};
+use rb_plans::{FIRST_XID, Fault, Notices, Words, aim_of, answer_of, course_end, way_of};
 use rb_show::{Ask, Form, InfoFault, Question, Shown};
 use rb_words::{Means, Transport};
 use std::alloc::Global;

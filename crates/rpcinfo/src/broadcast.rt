@@ -1,11 +1,8 @@
 //! Calls that the portmappers of networks are asked to make.
-use crate::fault::Fault;
-use crate::input::FIRST_XID;
-use crate::net::{HEADER, LONGEST_DATAGRAM, marked};
+use crate::net::{HEADER, LONGEST_DATAGRAM, call_of, marked};
 use crate::networks::networks_of;
-use crate::waits::{WAITS, wait_left};
-use crate::words::Words;
-use rb_show::{Form, HeldBytes, InfoFault, Question, Shown, show_reply, write_call};
+use rb_plans::{FIRST_XID, Fault, WAITS, Words, wait_left};
+use rb_show::{Form, HeldBytes, InfoFault, Question, Shown, show_reply};
 use std::alloc::Global;
 use std::io;
 use std::io::{ErrorKind, Write};
@@ -129,8 +126,7 @@ pub fn broadcast<N: Net + Clock + Files, O: Write>(
     output: &mut O,
 ) -> Result<Shown, Fault> {
     let question = Question::Callit(prog, vers);
-    let mut call = Vec::new(alloc);
-    write_call(alloc, &words.ask(question), FIRST_XID, &mut call).map_err(Fault::Info)?;
+    let call = call_of(alloc, &words.ask(question), FIRST_XID)?;
     let networks = networks_of(alloc, net, words.network).map_err(Fault::Info)?;
     let Ok(begun) = Instant::now(net) else {
         return Err(Fault::NoConnection);

@@ -1,7 +1,7 @@
 //! The addresses of hosts.
-use crate::fault::Fault;
 use rb_course::{Place, Way};
 use rb_names::Netid;
+use rb_plans::Fault;
 use rb_show::InfoFault;
 use rb_uaddr::Uaddr;
 use rb_words::Transport;

@@ -3,22 +3,16 @@
 
 mod asking;
 mod broadcast;
-mod ending;
-mod fault;
 mod files;
 mod hosts;
-mod input;
-mod laws;
 mod net;
 mod networks;
 mod patient;
-mod plans;
 mod programs;
 mod run;
-mod waits;
 mod words;
 
-use ending::{FAILED, UNREADABLE};
+use rb_plans::{FAILED, UNREADABLE};
 use run::run_info;
 use std::io::ErrorKind;
 use std::process::ExitCode;

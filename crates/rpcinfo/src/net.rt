@@ -1,11 +1,10 @@
 //! Calls over TCP, UDP and sockets of this machine.
-use crate::fault::Fault;
 use crate::patient::{Patient, Stream};
-use crate::waits::{WAITS, wait_left};
+use rb_plans::{Fault, WAITS, wait_left};
 use rb_show::{Ask, Form, HeldBytes, InfoFault, ReadBytes, Shown, show_reply, write_call};
 use std::alloc::{AllocError, Global};
 use std::io;
-use std::io::{BufReader, ErrorKind, Write};
+use std::io::{BufReader, ErrorKind, Read, Write};
 use std::net::{IpAddr, Ipv4Addr, Ipv6Addr, Net, SocketAddr, TcpStream, UdpSocket};
 use std::os::unix::net::UnixStream;
 use std::rt::Clock;
@@ -42,6 +41,53 @@ fn connect<N: Net>(net: &N, peer: Peer<'_>) -> io::Result<Stream<N::Stream>> {
     }
 }
 
+/// The marked call that asks.
+pub fn call_of(alloc: Global, ask: &Ask, xid: u32) -> Result<Vec<u8>, Fault> {
+    let mut call = Vec::new(alloc);
+    match write_call(alloc, ask, xid, &mut call) {
+        Ok(()) => Ok(call),
+        Err(fault) => Err(Fault::Info(fault)),
+    }
+}
+
+/// A connection whose call counts from now on.
+fn open<'a, N: Net + Clock>(
+    net: &'a N,
+    peer: Peer<'_>,
+) -> Result<Patient<'a, N, N::Stream>, Fault> {
+    let Ok(begun) = Instant::now(net) else {
+        return Err(Fault::NoConnection);
+    };
+    match connect(net, peer) {
+        Ok(stream) => Ok(Patient::new(net, stream, begun, WAITS)),
+        Err(_) => Err(Fault::NoConnection),
+    }
+}
+
+/// Writes a call.
+fn send<S: Write>(call: &[u8], stream: &mut S) -> Result<(), Fault> {
+    match stream.write_all(call) {
+        Ok(()) => Ok(()),
+        Err(_) => Err(Fault::Info(InfoFault::Write)),
+    }
+}
+
+/// Shows the reply that comes over a connection.
+fn show_stream<S: Read + Drop, W: Write>(
+    alloc: Global,
+    stream: S,
+    ask: &Ask,
+    form: Form<'_>,
+    xid: u32,
+    output: &mut W,
+) -> Result<Shown, Fault> {
+    let Ok(reader) = BufReader::new(alloc, stream) else {
+        return Err(Fault::Info(InfoFault::Memory));
+    };
+    let mut source = ReadBytes::new(reader);
+    show_reply(alloc, ask, form, xid, &mut source, output).map_err(Fault::Info)
+}
+
 /// Asks over a connection of its own, and shows the reply.
 pub fn ask_stream<N: Net + Clock, W: Write>(
     alloc: Global,
@@ -52,23 +98,10 @@ pub fn ask_stream<N: Net + Clock, W: Write>(
     xid: u32,
     output: &mut W,
 ) -> Result<Shown, Fault> {
-    let mut call = Vec::new(alloc);
-    write_call(alloc, ask, xid, &mut call).map_err(Fault::Info)?;
-    let Ok(begun) = Instant::now(net) else {
-        return Err(Fault::NoConnection);
-    };
-    let Ok(stream) = connect(net, peer) else {
-        return Err(Fault::NoConnection);
-    };
-    let mut stream = Patient::new(net, stream, begun, WAITS);
-    if stream.write_all(&call).is_err() {
-        return Err(Fault::Info(InfoFault::Write));
-    }
-    let Ok(reader) = BufReader::new(alloc, stream) else {
-        return Err(Fault::Info(InfoFault::Memory));
-    };
-    let mut source = ReadBytes::new(reader);
-    show_reply(alloc, ask, form, xid, &mut source, output).map_err(Fault::Info)
+    let call = call_of(alloc, ask, xid)?;
+    let mut stream = open(net, peer)?;
+    send(&call, &mut stream)?;
+    show_stream(alloc, stream, ask, form, xid, output)
 }
 
 /// The record that a datagram is, in one fragment.
@@ -142,6 +175,22 @@ fn exchange<C: Clock>(
     }
 }
 
+/// Shows the reply that a datagram is.
+fn show_datagram<W: Write>(
+    alloc: Global,
+    datagram: &[u8],
+    ask: &Ask,
+    form: Form<'_>,
+    xid: u32,
+    output: &mut W,
+) -> Result<Shown, Fault> {
+    let Ok(record) = marked(alloc, datagram) else {
+        return Err(Fault::Info(InfoFault::Memory));
+    };
+    let mut source = HeldBytes::new(&record);
+    show_reply(alloc, ask, form, xid, &mut source, output).map_err(Fault::Info)
+}
+
 /// Asks by one datagram, and shows the reply.
 pub fn ask_datagram<N: Net + Clock, W: Write>(
     alloc: Global,
@@ -152,8 +201,7 @@ pub fn ask_datagram<N: Net + Clock, W: Write>(
     xid: u32,
     output: &mut W,
 ) -> Result<Shown, Fault> {
-    let mut call = Vec::new(alloc);
-    write_call(alloc, ask, xid, &mut call).map_err(Fault::Info)?;
+    let call = call_of(alloc, ask, xid)?;
     let Ok(socket) = socket_to(net, address) else {
         return Err(Fault::NoConnection);
     };
@@ -161,9 +209,5 @@ pub fn ask_datagram<N: Net + Clock, W: Write>(
         return Err(Fault::NoConnection);
     };
     let datagram = exchange(alloc, net, &socket, message)?;
-    let Ok(record) = marked(alloc, &datagram) else {
-        return Err(Fault::Info(InfoFault::Memory));
-    };
-    let mut source = HeldBytes::new(&record);
-    show_reply(alloc, ask, form, xid, &mut source, output).map_err(Fault::Info)
+    show_datagram(alloc, &datagram, ask, form, xid, output)
 }

@@ -1,5 +1,7 @@
 //! A connection that waits no longer than it may.
-use crate::waits::{Waits, wait_left};
+ghost use Rattle.std.specs.Io.{ReadsAtMost, WritesAtMost};
+
+use rb_plans::{Waits, wait_left};
 use std::io;
 use std::io::{ErrorKind, Read, Write};
 use std::net::OpenStream;
@@ -25,6 +27,24 @@ impl<S: Read + Write + OpenStream + Drop> Stream<S> {
                 stream.set_read_timeout(Some(wait))?;
                 stream.set_write_timeout(Some(wait))
             }
+        }
+    }
+
+    fn receive(&mut self, buf: &mut [u8]) -> io::Result<usize>
+        ensures bound { ReadsAtMost result buf.new }
+    {
+        match self {
+            Stream::Host(stream) => stream.read(buf),
+            Stream::Here(stream) => stream.read(buf),
+        }
+    }
+
+    fn send(&mut self, buf: &[u8]) -> io::Result<usize>
+        ensures bound { WritesAtMost result buf.now }
+    {
+        match self {
+            Stream::Host(stream) => stream.write(buf),
+            Stream::Here(stream) => stream.write(buf),
         }
     }
 }
@@ -66,11 +86,7 @@ impl<C: Clock, S: Read + Write + OpenStream + Drop> Read for Patient<'_, C, S> {
     fn read(&mut self, buf: &mut [u8]) -> io::Result<usize> {
         for _ in 0..u64::MAX {
             self.wait_on()?;
-            let outcome = match &mut self.stream {
-                Stream::Host(stream) => stream.read(buf),
-                Stream::Here(stream) => stream.read(buf),
-            };
-            match outcome {
+            match self.stream.receive(buf) {
                 Err(error) if error.kind() == ErrorKind::Interrupted => {}
                 outcome => return outcome,
             }
@@ -82,10 +98,7 @@ impl<C: Clock, S: Read + Write + OpenStream + Drop> Read for Patient<'_, C, S> {
 impl<C: Clock, S: Read + Write + OpenStream + Drop> Write for Patient<'_, C, S> {
     fn write(&mut self, buf: &[u8]) -> io::Result<usize> {
         self.wait_on()?;
-        match &mut self.stream {
-            Stream::Host(stream) => stream.write(buf),
-            Stream::Here(stream) => stream.write(buf),
-        }
+        self.stream.send(buf)
     }
 
     fn flush(&mut self) -> io::Result<()> {

@@ -1,41 +1,21 @@
 //! The command.
 ghost use Rattle.std.specs.Prelude.{◌≡◌, ◌≤◌};
-ghost use Rattle.rpcinfo.specs.Ending.{EndsBy, IsNothing};
-ghost use Rattle.rpcinfo.specs.Running.{Answers, Asks, IsExplained, IsFlushed, IsNoticed, IsSilent};
+ghost use Rattle.rb_plans.specs.Ending.{EndsBy, IsNothing};
+ghost use Rattle.rpcinfo.specs.Running.{Answers, IsExplained, IsNoticed, IsSilent};
 
 use crate::asking::{Answered, ask_here, ask_named, ping, silently};
 use crate::broadcast::broadcast;
-use crate::ending::{Ending, conclude, explain};
-use crate::fault::Fault;
-use crate::input::show_input;
-use crate::plans::plan_question;
 use crate::programs::services_at;
-use crate::words::{Words, matches_of, programs_path, read_matches, show};
+use crate::words::{matches_of, programs_path, read_matches, show};
 use clap::ArgMatches;
 use rb_names::Service;
-use rb_show::{InfoFault, Question, Shown};
+use rb_plans::{Ending, Fault, Words, ask_input, conclude, explain, flushed, plan_question};
 use rb_words::{Plan, Source};
 use std::alloc::Global;
 use std::convert::AsStr;
 use std::io::{Read, Write};
 use std::net::Net;
 use std::rt::{Clock, Files};
-
-/// Shows the reply to a question that is on standard input.
-fn ask_input<I: Read, O: Write>(
-    alloc: Global,
-    words: &Words<'_, '_>,
-    question: Question,
-    input: &mut I,
-    output: &mut O,
-) -> Result<Shown, Fault>
-    ensures { Asks I.remaining O.contents words.now question input.old output.old output.new result }
-{
-    match show_input(alloc, &words.ask(question), words.form, input, output) {
-        Ok(shown) => Ok(shown),
-        Err(fault) => Err(Fault::Info(fault)),
-    }
-}
 
 /// Does what the words say.
 fn carry_out<N: Net + Clock + Files, I: Read, O: Write>(
@@ -71,17 +51,6 @@ fn carry_course<N: Net + Clock + Files, O: Write>(
             silently(broadcast(alloc, net, words, prog, vers, output))
         }
         Plan::Show(..) | Plan::Entries(..) | Plan::Delete(..) => silently(Err(Fault::NoConnection)),
-    }
-}
-
-/// The answer, once all that was written is out.
-fn flushed<O: Write>(answer: Result<Shown, Fault>, output: &mut O) -> Result<Shown, Fault>
-    ensures { IsFlushed O.contents output.old output.new answer result }
-{
-    match (output.flush(), answer) {
-        (Ok(()), answer) => answer,
-        (Err(_), Ok(_)) => Err(Fault::Info(InfoFault::Write)),
-        (Err(_), Err(fault)) => Err(fault),
     }
 }
 

@@ -1,24 +1,16 @@
 //! The words of the command line.
-ghost use Rattle.std.specs.Prelude.{◌≡◌, ◌≤◌, true, IfErr, IfOk, OnOk};
-ghost use Rattle.std.specs.Result.{result_ok};
-ghost use Rattle.rb_words.specs.Refusals.{refusal_lines};
-ghost use Rattle.rpcinfo.specs.Ending.{Says};
-ghost use Rattle.rpcinfo.specs.Running.{address_of, ask_of, form_of, IsNetworkOf, EndsSaying, EndsUnread, ReadsShape};
+ghost use Rattle.std.specs.Prelude.{◌≡◌, ◌≤◌, true, IfErr, OnOk};
+ghost use Rattle.rpcinfo.specs.Running.{EndsSaying, EndsUnread};
 
-use crate::ending::{Ending, UNREADABLE, explain};
-use crate::fault::Fault;
 use clap::error::ErrorKind;
 use clap::{Arg, ArgAction, ArgMatches, Command, Error};
 use rb_names::Service;
-use rb_show::{Ask, Form, InfoFault, Question};
-use rb_uaddr::Uaddr;
-use rb_words::{
-    Flag, Layout, Listing, Plan, Refusal, Request, Shape, Spot, Wanted, read_words, write_refusal,
-};
+use rb_plans::{Ending, Fault, UNREADABLE, Words, explain, words_of};
+use rb_show::InfoFault;
+use rb_words::{Flag, Layout, Shape};
 use std::alloc::{AllocError, Global};
 use std::convert::AsStr;
 use std::io::Write;
-use std::net::Ipv4Addr;
 
 /// The names of programs.
 const PROGRAMS: &str = "/etc/rpc";
@@ -84,34 +76,6 @@ const LAYOUTS: [(Layout, &str, &str); 2] = [
     ),
 ];
 
-/// The words of a command line, read.
-#[derive(Clone, Copy, Debug)]
-pub struct Words<'a, 'n> {
-    pub request: Request,
-    /// The first word that belongs to no option, or nothing.
-    pub host: &'a str,
-    /// The address of `-a`.
-    pub address: Option<Uaddr>,
-    /// The path of `--local`.
-    pub local: Option<&'a str>,
-    /// Where a broadcast goes, in place of the networks of this machine.
-    pub network: Option<Ipv4Addr>,
-    /// How a list is written.
-    pub form: Form<'n>,
-}
-
-impl Words<'_, '_> {
-    /// A question of the user that the words name.
-    pub fn ask(&self, question: Question) -> Ask
-        ensures { result ≡ ask_of self.now question }
-    {
-        Ask {
-            question,
-            uid: self.request.uid,
-        }
-    }
-}
-
 /// An option with a value. Values are read as texts: what a number is the reader of the words says.
 fn option<'a>(alloc: Global, name: &'a str, value: &'a str, help: &'a str) -> Arg<'a> {
     Arg::new(alloc, name)
@@ -138,30 +102,18 @@ fn with_flags<'a>(alloc: Global, command: Command<'a>) -> Result<Command<'a>, Al
 
 /// The options that say what is called, and where.
 fn with_places<'a>(alloc: Global, command: Command<'a>) -> Result<Command<'a>, AllocError> {
-    let netid = option(alloc, "netid", "NETID", "tcp, udp, tcp6, udp6 or local");
-    let address = option(
-        alloc,
-        "address",
-        "ADDRESS",
-        "the address that is called, with -T",
-    );
-    let network = option(
-        alloc,
-        "broadcast",
-        "ADDRESS",
-        "where -b goes [255.255.255.255]",
-    );
-    let target = option(
-        alloc,
-        "target",
-        "N",
-        "the port that is called, with -t and -u",
-    );
-    command
-        .arg(network.long("broadcast"))?
-        .arg(netid.short('T'))?
-        .arg(address.short('a'))?
-        .arg(target.short('n'))
+    let help = "where -b goes [255.255.255.255]";
+    let network = option(alloc, "broadcast", "ADDRESS", help);
+    let command = command.arg(network.long("broadcast"))?;
+    let help = "tcp, udp, tcp6, udp6 or local";
+    let netid = option(alloc, "netid", "NETID", help);
+    let command = command.arg(netid.short('T'))?;
+    let help = "the address that is called, with -T";
+    let address = option(alloc, "address", "ADDRESS", help);
+    let command = command.arg(address.short('a'))?;
+    let help = "the port that is called, with -t and -u";
+    let target = option(alloc, "target", "N", help);
+    command.arg(target.short('n'))
 }
 
 /// The options that say how a list is written.
@@ -185,23 +137,14 @@ fn with_layouts<'a>(alloc: Global, command: Command<'a>) -> Result<Command<'a>, 
 
 /// The options that say how a portmapper is asked.
 fn with_portmapper<'a>(alloc: Global, command: Command<'a>) -> Result<Command<'a>, AllocError> {
-    let port = option(
-        alloc,
-        "port",
-        "N",
-        "the portmapper's port, 1 to 65535 [111]",
-    );
+    let help = "the portmapper's port, 1 to 65535 [111]";
+    let port = option(alloc, "port", "N", help);
+    let command = command.arg(port.long("port"))?;
     let uid = option(alloc, "uid", "N", "asks as this user");
-    let local = option(
-        alloc,
-        "local",
-        "PATH",
-        "asks over this socket, without HOST",
-    );
-    command
-        .arg(port.long("port"))?
-        .arg(uid.long("uid"))?
-        .arg(local.long("local"))
+    let command = command.arg(uid.long("uid"))?;
+    let help = "asks over this socket, without HOST";
+    let local = option(alloc, "local", "PATH", help);
+    command.arg(local.long("local"))
 }
 
 fn command<'a>(alloc: Global) -> Result<Command<'a>, AllocError> {
@@ -278,89 +221,6 @@ fn layouts_of(alloc: Global, matches: &ArgMatches<'_>) -> Result<Vec<Layout>, Al
     Ok(layouts)
 }
 
-/// How a list is written, with these names of programs. A summary always has names.
-fn form_of<'a>(request: &Request, services: &'a [Service]) -> Form<'a>
-    ensures { result ≡ form_of request.now services.entry }
-{
-    match (request.plan, request.layout) {
-        (Plan::Show(Listing::Summary, _), _) | (_, Some(Layout::Names)) => Form::Named(services),
-        (_, Some(Layout::Json)) => Form::Json,
-        (_, None) => Form::Plain,
-    }
-}
-
-/// Says that the words can't be read, and why.
-fn refuse<E: Write>(shape: &Shape<'_, '_, '_>, refusal: Refusal, faults: &mut E) -> Ending
-    ensures status { result.status ≡ 2 }
-    ensures said { Says E.contents faults.old faults.new result (refusal_lines shape.now refusal) }
-{
-    let is_told = write_refusal(shape, refusal, faults).is_ok();
-    Ending {
-        status: UNREADABLE,
-        is_told,
-    }
-}
-
-/// What the words ask for by their shape. What can't be read is named.
-fn read_shape<E: Write>(shape: &Shape<'_, '_, '_>, faults: &mut E) -> Result<Request, Ending>
-    ensures read { OnOk result (faults.new ≡ faults.old) }
-    ensures exact { ReadsShape E.contents shape.now faults.old faults.new result }
-    ensures refused { IfErr result (λ ending. ending.status ≡ 2) }
-{
-    match read_words(shape) {
-        Ok(request) => Ok(request),
-        Err(refusal) => Err(refuse(shape, refusal, faults)),
-    }
-}
-
-/// The address of `-a`, where it is given.
-fn read_address<E: Write>(
-    shape: &Shape<'_, '_, '_>,
-    faults: &mut E,
-) -> Result<Option<Uaddr>, Ending>
-    ensures value { result_ok result ≡ address_of shape.now.address }
-    ensures read { OnOk result (faults.new ≡ faults.old) }
-    ensures refused { IfErr result (λ ending. ending.status ≡ 2) }
-{
-    let Some(text) = shape.address else {
-        return Ok(None);
-    };
-    match Uaddr::parse(text.as_bytes()) {
-        Ok(address) => Ok(Some(address)),
-        Err(_) => {
-            let refusal = Refusal {
-                at: Spot::Address,
-                wanted: Wanted::Address,
-            };
-            Err(refuse(shape, refusal, faults))
-        }
-    }
-}
-
-/// The address of `--broadcast`, where it is given.
-fn read_network<E: Write>(
-    shape: &Shape<'_, '_, '_>,
-    faults: &mut E,
-) -> Result<Option<Ipv4Addr>, Ending>
-    ensures value { IfOk result (IsNetworkOf shape.now.broadcast) }
-    ensures read { OnOk result (faults.new ≡ faults.old) }
-    ensures refused { IfErr result (λ ending. ending.status ≡ 2) }
-{
-    let Some(text) = shape.broadcast else {
-        return Ok(None);
-    };
-    match text.parse::<Ipv4Addr>() {
-        Ok(address) => Ok(Some(address)),
-        Err(_) => {
-            let refusal = Refusal {
-                at: Spot::Broadcast,
-                wanted: Wanted::Broadcast,
-            };
-            Err(refuse(shape, refusal, faults))
-        }
-    }
-}
-
 /// What the words ask for, where programs may be given by these names. Faults are written, and then the `Err` says how
 /// the command ended.
 pub fn read_matches<'a, 'n, E: Write>(
@@ -378,7 +238,6 @@ pub fn read_matches<'a, 'n, E: Write>(
     let Ok(layouts) = layouts_of(alloc, matches) else {
         return Err(explain(Fault::Info(InfoFault::Memory), faults));
     };
-    let words = matches.get_strs("words").unwrap_or(&[]);
     let shape = Shape {
         flags: &flags,
         port: matches.get_str("port"),
@@ -389,18 +248,8 @@ pub fn read_matches<'a, 'n, E: Write>(
         local: matches.get_str("local"),
         broadcast: matches.get_str("broadcast"),
         layouts: &layouts,
-        words,
+        words: matches.get_strs("words").unwrap_or(&[]),
         services,
     };
-    let request = read_shape(&shape, faults)?;
-    let address = read_address(&shape, faults)?;
-    let network = read_network(&shape, faults)?;
-    Ok(Words {
-        request,
-        host: words.first().copied().unwrap_or(""),
-        address,
-        local: matches.get_str("local"),
-        network,
-        form: form_of(&request, services),
-    })
+    words_of(&shape, faults)
 }

@@ -1,4 +1,4 @@
-use Rattle.rpcinfo.specs.declared.fault.Fault.TheVariants.{Info}
+use Rattle.rb_plans.specs.declared.fault.Fault.TheVariants.{Info}
 use Rattle.rpcinfo.proofs.Endings.{explained}
 use Rattle.rpcinfo.proofs.run.run_matches.Goals as goal
 

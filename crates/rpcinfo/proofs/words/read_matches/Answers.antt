@@ -1,7 +1,7 @@
 use Rattle.std.proofs.Common.{inl}
 use Rattle.rb_ask.specs.declared.fault.InfoFault.TheVariants.{Memory}
-use Rattle.rpcinfo.specs.declared.fault.Fault.TheVariants.{Info}
-use Rattle.rpcinfo.proofs.Endings.{explained}
+use Rattle.rb_plans.specs.declared.fault.Fault.TheVariants.{Info}
+use Rattle.rpcinfo.proofs.Endings.{explained, unread_says}
 use Rattle.rpcinfo.proofs.words.read_matches.Goals as goal
 
 pub returns-in_default-clause-refused : goal.returns-in_default-clause-refused
@@ -9,3 +9,6 @@ returns-in_default-clause-refused g c = inl (c.explain.ensures.status, explained
 
 pub returns-in_default-layouts_of-clause-refused : goal.returns-in_default-layouts_of-clause-refused
 returns-in_default-layouts_of-clause-refused g c = inl (c.explain-in_default-layouts_of.ensures.status, explained g.E.Write.contents _ _ _ (Info Memory) c.explain-in_default-layouts_of.ensures.status c.explain-in_default-layouts_of.ensures.said)
+
+pub returns-clause-refused : goal.returns-clause-refused
+returns-clause-refused g c = unread_says g.E.Write.contents _ _ c.words_of.result c.words_of.ensures.refused

@@ -1,5 +1,5 @@
 use Rattle.rb_ask.specs.declared.fault.InfoFault.TheVariants.{Write, Memory}
-use Rattle.rpcinfo.specs.declared.fault.Fault.TheVariants.{Info}
+use Rattle.rb_plans.specs.declared.fault.Fault.TheVariants.{Info}
 use Rattle.rpcinfo.proofs.Endings.{ends_explained}
 use Rattle.rpcinfo.proofs.words.show.Goals as goal
 

@@ -1,0 +1,4 @@
+mod Inputs
+mod HexTexts
+mod Written
+pub mod Flushes

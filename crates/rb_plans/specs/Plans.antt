@@ -1,0 +1,83 @@
+-- Plans as questions and courses.
+use Rattle.std.specs.Prelude.{ℕ, Option, Some, None, option_map, Result, Ok, Err}
+use Rattle.rb_uaddr.specs.declared.address.Uaddr.{Uaddr}
+use Rattle.rb_names.specs.declared.netid.Netid.{Netid}
+use Rattle.rb_words.specs.declared.plan.Listing.{Listing}
+use Rattle.rb_words.specs.declared.plan.Listing.TheVariants as listings
+use Rattle.rb_words.specs.declared.plan.Means.{Means}
+use Rattle.rb_words.specs.declared.plan.Means.TheVariants as means
+use Rattle.rb_words.specs.declared.plan.Plan.{Plan}
+use Rattle.rb_words.specs.declared.plan.Plan.TheVariants.{Show, Entries, Ping, Delete, Broadcast}
+use Rattle.rb_words.specs.declared.plan.Source.{Source}
+use Rattle.rb_words.specs.declared.plan.Source.TheVariants.{Here}
+use Rattle.rb_ask.specs.declared.fault.InfoFault.TheVariants.{Unreadable, Refused, TooMany}
+use Rattle.rb_show.specs.declared.ask.Question.{Question}
+use Rattle.rb_show.specs.declared.ask.Question.TheVariants as questions
+use Rattle.rb_show.specs.declared.show.Shown.{Shown}
+use Rattle.rb_show.specs.declared.show.Shown.TheVariants as shown
+use Rattle.rb_course.specs.declared.course.Aim.{Aim}
+use Rattle.rb_course.specs.declared.course.Aim.TheVariants as aims
+use Rattle.rb_course.specs.declared.course.Answer.{Answer}
+use Rattle.rb_course.specs.declared.course.Answer.TheVariants as answers
+use Rattle.rb_course.specs.declared.course.End.TheVariants as ends
+use Rattle.rb_course.specs.declared.course.Place.TheVariants as places
+use Rattle.rb_course.specs.declared.course.Stage.{Stage}
+use Rattle.rb_course.specs.declared.course.Stage.TheVariants.{Find, FindOld, Call, End}
+use Rattle.rb_course.specs.declared.course.Way.{Way}
+use Rattle.rb_course.specs.declared.course.Way.TheVariants as ways
+use Rattle.rb_course.specs.Next.{transport_of}
+use Rattle.rb_plans.specs.declared.fault.Fault.{Fault}
+use Rattle.rb_plans.specs.declared.fault.Fault.TheVariants.{Info, NotAvailable, NoProgram, SomeLack}
+
+abbrev pub question_of : Listing → Question
+question_of listings.Rows = questions.Rows
+question_of listings.Short = questions.Short
+question_of listings.Summary = questions.Summary
+question_of listings.Table = questions.Pmap
+question_of listings.Statistics = questions.Stats
+
+-- the one question of a plan, and where its reply comes from
+abbrev pub plan_question : Plan → Option (Source × Question)
+plan_question (Show listing source) = Some (source, question_of listing)
+plan_question (Entries source prog vers) = Some (source, questions.Entries prog vers)
+plan_question (Delete netid prog vers) = Some (Here, questions.Unset netid prog vers)
+plan_question (Ping means prog vers) = None
+plan_question (Broadcast prog vers) = None
+
+abbrev pub known_at : Netid → Uaddr → Way
+known_at netid address = ways.Known (places.Address (transport_of netid) address)
+
+-- how a program is found
+abbrev pub way_of : Means → Option Uaddr → Option Way
+way_of (means.Mapped transport) address = Some (ways.Port transport)
+way_of (means.Port transport port) address = Some (ways.Known (places.Port transport port))
+way_of (means.Netid netid) address = Some (ways.Address netid)
+way_of (means.Address netid) address = option_map (known_at netid) address
+
+abbrev pub aim_of : Option ℕ → Aim
+aim_of (Some vers) = aims.Only vers
+aim_of None = aims.Least
+
+-- a refusal is an answer, and every other fault ends a course
+abbrev pub answer_of : Result Shown Fault → Result Answer Fault
+answer_of (Ok (shown.Port port)) = Ok (answers.Port port)
+answer_of (Ok (shown.Address address)) = Ok (answers.Address address)
+answer_of (Ok shown.Null) = Ok answers.Ready
+answer_of (Ok (shown.Rows n)) = Err (Info Unreadable)
+answer_of (Ok (shown.Statistics n)) = Err (Info Unreadable)
+answer_of (Ok (shown.Removed removed)) = Err (Info Unreadable)
+answer_of (Err (Info (Refused head))) = Ok (answers.Refused head.status)
+answer_of (Err fault) = Err fault
+
+-- the end of a program's course
+abbrev pub course_end : ℕ → ℕ → Stage → Result Shown Fault
+course_end prog xid (End ends.Ready) = Ok shown.Null
+course_end prog xid (End ends.SomeLack) = Err SomeLack
+course_end prog xid (End (ends.NotAvailable vers why)) = Err (NotAvailable prog vers why)
+course_end prog xid (End (ends.NoProgram why)) = Err (NoProgram prog why)
+course_end prog xid (End (ends.Refused status)) = Err (Info (Refused (record { xid = xid; status = status })))
+course_end prog xid (End ends.Unreadable) = Err (Info Unreadable)
+course_end prog xid (End ends.TooMany) = Err (Info TooMany)
+course_end prog xid (Find aim) = Err (Info TooMany)
+course_end prog xid (FindOld aim transport) = Err (Info TooMany)
+course_end prog xid (Call aim place) = Err (Info TooMany)

@@ -1,0 +1,68 @@
+-- The words of a command line: what they name, and what their shape says.
+use Rattle.std.specs.Prelude.{◌≡◌, ℕ, List, Option, Some, None, option_map, Result, Ok, Err}
+use Rattle.std.specs.Borrow.{Bor}
+use Rattle.std.specs.declared.net.ipv4_addr.Ipv4Addr.{Ipv4Addr}
+use Rattle.std.specs.Net.Grammar.{IsIpv4Text}
+use Rattle.rb_uaddr.specs.declared.address.Uaddr.{Uaddr}
+use Rattle.rb_uaddr.specs.Uaddr.{parse}
+use Rattle.rb_names.specs.declared.services.Service.{Service}
+use Rattle.rb_words.specs.declared.plan.Layout.{Layout}
+use Rattle.rb_words.specs.declared.plan.Layout.TheVariants as layouts
+use Rattle.rb_words.specs.declared.plan.Listing.TheVariants as listings
+use Rattle.rb_words.specs.declared.plan.Plan.{Plan}
+use Rattle.rb_words.specs.declared.plan.Plan.TheVariants.{Show}
+use Rattle.rb_words.specs.declared.plan.Request.{Request}
+use Rattle.rb_words.specs.declared.shape.Shape.{Shape}
+use Rattle.rb_words.specs.declared.refusal.Refusal.{Refusal}
+use Rattle.rb_words.specs.Refusals.{refusal_lines}
+use Rattle.rb_words.specs.Words.{request_of}
+use Rattle.rb_show.specs.declared.ask.Ask.{Ask}
+use Rattle.rb_show.specs.declared.ask.Question.{Question}
+use Rattle.rb_show.specs.declared.form.Form.{Form}
+use Rattle.rb_show.specs.declared.form.Form.TheVariants.{Plain, Named, Json}
+use Rattle.rb_plans.specs.declared.ending.Ending.{Ending}
+use Rattle.rb_plans.specs.declared.words.Words.{Words}
+use Rattle.rb_plans.specs.Ending.{Says}
+
+-- a question of the user that the words name
+abbrev pub ask_of : Words → Question → Ask
+ask_of words question = record { question = question; uid = words.request.uid }
+
+abbrev pub layout_form : Option Layout → Bor (List Service) → Form
+layout_form None services = Plain
+layout_form (Some layouts.Names) services = Named services
+layout_form (Some layouts.Json) services = Json
+
+-- a summary always has names
+abbrev pub form_by : Plan → Option Layout → Bor (List Service) → Form
+form_by (Show listings.Summary source) layout services = Named services
+form_by plan layout services = layout_form layout services
+
+-- how the words ask for a list
+abbrev pub form_of : Request → Bor (List Service) → Form
+form_of request services = form_by request.plan request.layout services
+
+-- the address of `-a`, none where it is not given; nothing where its text is no address
+abbrev pub address_of : Option (Bor (List ℕ)) → Option (Option Uaddr)
+address_of None = Some None
+address_of (Some text) = option_map (λ address. Some address) (parse text.now)
+
+-- The network of `--broadcast` is the IPv4 address that its text writes, where it is given.
+abbrev pub IsNetworkOf : Option (Bor (List ℕ)) → Option Ipv4Addr → Type 0
+IsNetworkOf None network = network ≡ None
+IsNetworkOf (Some text) None = ⊥
+IsNetworkOf (Some text) (Some address) = IsIpv4Text text.now address
+
+-- The shape of the words is read as what they ask for, or what can't be read is named.
+abbrev pub ReadsShape : {E : Type 0} → (E → Option (List ℕ)) → Shape → E → E → Result Request Ending → Type 0
+ReadsShape contents shape faults faults' (Ok request) = request_of shape ≡ Ok request
+ReadsShape contents shape faults faults' (Err ending) =
+    (refusal : Refusal) × ((request_of shape ≡ Err refusal) × Says contents faults faults' ending (refusal_lines shape refusal))
+
+-- The words are what their shape says; of the host nothing is said.
+pub record AreOf (shape : Shape) (words : Words) : Type 0 where
+  pub request : request_of shape ≡ Ok words.request
+  pub address : address_of shape.address ≡ Some words.address
+  pub network : IsNetworkOf shape.broadcast words.network
+  pub local : words.local ≡ shape.local
+  pub form : words.form ≡ form_of words.request shape.services

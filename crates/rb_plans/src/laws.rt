@@ -1,0 +1,13 @@
+//! What holds of the definitions.
+ghost use Rattle.rb_plans.specs.InputLaws.{HexTextsGiveBytes, OnlyHexTextsDo, OthersAreUnreadable, DigitsGiveTheirBytes, LongTextsAreNotRead, TheRestIsRead};
+
+/// A text gives bytes exactly where it is an even number of hexadecimal digits with white space anywhere, and bytes'
+/// own digits give them; any other text is unreadable. One of more than 67,108,864 bytes is not read at all.
+pub fn texts_are_hexadecimal()
+    ensures accepted { HexTextsGiveBytes }
+    ensures only { OnlyHexTextsDo }
+    ensures others { OthersAreUnreadable }
+    ensures bytes { DigitsGiveTheirBytes }
+    ensures long { LongTextsAreNotRead }
+    ensures short { TheRestIsRead }
+{}

@@ -1,0 +1,20 @@
+//! What `rpcinfo` does with words that were read and with answers, beside its sockets.
+#![tactic(auto)]
+
+mod ending;
+mod fault;
+mod input;
+mod laws;
+mod plans;
+mod told;
+mod waits;
+mod words;
+
+pub use ending::{Ending, FAILED, Notices, UNREADABLE, conclude, explain};
+pub use fault::Fault;
+pub use input::{FIRST_XID, show_input};
+pub use laws::texts_are_hexadecimal;
+pub use plans::{aim_of, answer_of, course_end, plan_question, way_of};
+pub use told::{ask_input, flushed};
+pub use waits::{WAITS, Waits, wait_left};
+pub use words::{Words, words_of};

@@ -1,0 +1,95 @@
+//! Plans as questions and courses.
+ghost use Rattle.std.specs.Prelude.{◌≡◌};
+ghost use Rattle.rb_plans.specs.Plans.{question_of, plan_question, way_of, aim_of, answer_of, course_end};
+
+use crate::fault::Fault;
+use rb_course::{Aim, Answer, End, Place, Stage, Way, transport_of};
+use rb_rpc::ReplyHead;
+use rb_show::{InfoFault, Question, Shown};
+use rb_uaddr::Uaddr;
+use rb_words::{Listing, Means, Plan, Source};
+
+fn question_of(listing: Listing) -> Question
+    ensures { result ≡ question_of listing }
+{
+    match listing {
+        Listing::Rows => Question::Rows,
+        Listing::Short => Question::Short,
+        Listing::Summary => Question::Summary,
+        Listing::Table => Question::Pmap,
+        Listing::Statistics => Question::Stats,
+    }
+}
+
+/// The one question of a plan, and where its reply comes from. A plan to call procedure 0 has a course of them.
+pub fn plan_question(plan: Plan) -> Option<(Source, Question)>
+    ensures { result ≡ plan_question plan }
+{
+    match plan {
+        Plan::Show(listing, source) => Some((source, question_of(listing))),
+        Plan::Entries(source, prog, vers) => Some((source, Question::Entries(prog, vers))),
+        Plan::Delete(netid, prog, vers) => Some((Source::Here, Question::Unset(netid, prog, vers))),
+        Plan::Ping(..) | Plan::Broadcast(..) => None,
+    }
+}
+
+/// How a program is found; none where the address of `-a` is missing.
+pub fn way_of(means: Means, address: Option<Uaddr>) -> Option<Way>
+    ensures { result ≡ way_of means address }
+{
+    match means {
+        Means::Mapped(transport) => Some(Way::Port(transport)),
+        Means::Port(transport, port) => Some(Way::Known(Place::Port(transport, port))),
+        Means::Netid(netid) => Some(Way::Address(netid)),
+        Means::Address(netid) => match address {
+            Some(address) => Some(Way::Known(Place::Address(transport_of(netid), address))),
+            None => None,
+        },
+    }
+}
+
+/// The version that is named, or version 0, whose refusal tells which there are.
+pub fn aim_of(vers: Option<u32>) -> Aim
+    ensures { result ≡ aim_of vers }
+{
+    match vers {
+        Some(vers) => Aim::Only(vers),
+        None => Aim::Least,
+    }
+}
+
+/// What a reply answers in a course. A refusal is an answer too, and every other fault ends the course.
+pub fn answer_of(reply: Result<Shown, Fault>) -> Result<Answer, Fault>
+    ensures { result ≡ answer_of reply }
+{
+    match reply {
+        Ok(Shown::Port(port)) => Ok(Answer::Port(port)),
+        Ok(Shown::Address(address)) => Ok(Answer::Address(address)),
+        Ok(Shown::Null) => Ok(Answer::Ready),
+        Ok(Shown::Rows(_) | Shown::Statistics(_) | Shown::Removed(_)) => Err(Fault::Info(
+            InfoFault::Unreadable,
+        )),
+        Err(Fault::Info(InfoFault::Refused(head))) => Ok(Answer::Refused(head.status)),
+        Err(fault) => Err(fault),
+    }
+}
+
+/// The end of a program's course. Where it isn't over there are more versions than are called.
+pub fn course_end(prog: u32, xid: u32, stage: Stage) -> Result<Shown, Fault>
+    ensures { result ≡ course_end prog xid stage }
+{
+    match stage {
+        Stage::End(End::Ready) => Ok(Shown::Null),
+        Stage::End(End::SomeLack) => Err(Fault::SomeLack),
+        Stage::End(End::NotAvailable(vers, why)) => Err(Fault::NotAvailable(prog, vers, why)),
+        Stage::End(End::NoProgram(why)) => Err(Fault::NoProgram(prog, why)),
+        Stage::End(End::Refused(status)) => {
+            let head = ReplyHead { xid, status };
+            Err(Fault::Info(InfoFault::Refused(head)))
+        }
+        Stage::End(End::Unreadable) => Err(Fault::Info(InfoFault::Unreadable)),
+        Stage::End(End::TooMany) | Stage::Find(..) | Stage::FindOld(..) | Stage::Call(..) => Err(
+            Fault::Info(InfoFault::TooMany),
+        ),
+    }
+}

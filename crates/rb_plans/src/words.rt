@@ -1,0 +1,150 @@
+//! The words of a command line, read.
+ghost use Rattle.std.specs.Prelude.{◌≡◌, IfErr, IfOk, OnOk};
+ghost use Rattle.std.specs.Result.{result_ok};
+ghost use Rattle.rb_words.specs.Refusals.{refusal_lines};
+ghost use Rattle.rb_plans.specs.Ending.{Says};
+ghost use Rattle.rb_plans.specs.Words.{address_of, ask_of, form_of, AreOf, IsNetworkOf, ReadsShape};
+
+use crate::ending::{Ending, UNREADABLE};
+use rb_names::Service;
+use rb_show::{Ask, Form, Question};
+use rb_uaddr::Uaddr;
+use rb_words::{
+    Layout, Listing, Plan, Refusal, Request, Shape, Spot, Wanted, read_words, write_refusal,
+};
+use std::io::Write;
+use std::net::Ipv4Addr;
+
+/// The words of a command line, read.
+#[derive(Clone, Copy, Debug)]
+pub struct Words<'a, 'n> {
+    /// What they ask for.
+    pub request: Request,
+    /// The first word that belongs to no option, or nothing.
+    pub host: &'a str,
+    /// The address of `-a`.
+    pub address: Option<Uaddr>,
+    /// The path of `--local`.
+    pub local: Option<&'a str>,
+    /// Where a broadcast goes, in place of the networks of this machine.
+    pub network: Option<Ipv4Addr>,
+    /// How a list is written.
+    pub form: Form<'n>,
+}
+
+impl Words<'_, '_> {
+    /// A question of the user that the words name.
+    pub fn ask(&self, question: Question) -> Ask
+        ensures { result ≡ ask_of self.now question }
+    {
+        Ask {
+            question,
+            uid: self.request.uid,
+        }
+    }
+}
+
+/// How a list is written, with these names of programs. A summary always has names.
+fn form_of<'a>(request: &Request, services: &'a [Service]) -> Form<'a>
+    ensures { result ≡ form_of request.now services.entry }
+{
+    match (request.plan, request.layout) {
+        (Plan::Show(Listing::Summary, _), _) | (_, Some(Layout::Names)) => Form::Named(services),
+        (_, Some(Layout::Json)) => Form::Json,
+        (_, None) => Form::Plain,
+    }
+}
+
+/// Says that the words can't be read, and why.
+fn refuse<E: Write>(shape: &Shape<'_, '_, '_>, refusal: Refusal, faults: &mut E) -> Ending
+    ensures status { result.status ≡ 2 }
+    ensures said { Says E.contents faults.old faults.new result (refusal_lines shape.now refusal) }
+{
+    let is_told = write_refusal(shape, refusal, faults).is_ok();
+    Ending {
+        status: UNREADABLE,
+        is_told,
+    }
+}
+
+/// What the words ask for by their shape. What can't be read is named.
+fn read_shape<E: Write>(shape: &Shape<'_, '_, '_>, faults: &mut E) -> Result<Request, Ending>
+    ensures read { OnOk result (faults.new ≡ faults.old) }
+    ensures exact { ReadsShape E.contents shape.now faults.old faults.new result }
+    ensures refused { IfErr result (λ ending. ending.status ≡ 2) }
+{
+    match read_words(shape) {
+        Ok(request) => Ok(request),
+        Err(refusal) => Err(refuse(shape, refusal, faults)),
+    }
+}
+
+/// The address of `-a`, where it is given.
+fn read_address<E: Write>(
+    shape: &Shape<'_, '_, '_>,
+    faults: &mut E,
+) -> Result<Option<Uaddr>, Ending>
+    ensures value { result_ok result ≡ address_of shape.now.address }
+    ensures read { OnOk result (faults.new ≡ faults.old) }
+    ensures refused { IfErr result (λ ending. ending.status ≡ 2) }
+{
+    let Some(text) = shape.address else {
+        return Ok(None);
+    };
+    match Uaddr::parse(text.as_bytes()) {
+        Ok(address) => Ok(Some(address)),
+        Err(_) => {
+            let refusal = Refusal {
+                at: Spot::Address,
+                wanted: Wanted::Address,
+            };
+            Err(refuse(shape, refusal, faults))
+        }
+    }
+}
+
+/// The address of `--broadcast`, where it is given.
+fn read_network<E: Write>(
+    shape: &Shape<'_, '_, '_>,
+    faults: &mut E,
+) -> Result<Option<Ipv4Addr>, Ending>
+    ensures value { IfOk result (IsNetworkOf shape.now.broadcast) }
+    ensures read { OnOk result (faults.new ≡ faults.old) }
+    ensures refused { IfErr result (λ ending. ending.status ≡ 2) }
+{
+    let Some(text) = shape.broadcast else {
+        return Ok(None);
+    };
+    match text.parse::<Ipv4Addr>() {
+        Ok(address) => Ok(Some(address)),
+        Err(_) => {
+            let refusal = Refusal {
+                at: Spot::Broadcast,
+                wanted: Wanted::Broadcast,
+            };
+            Err(refuse(shape, refusal, faults))
+        }
+    }
+}
+
+/// The words of a command line by their shape. What can't be read is named, and then the `Err` says how the command ended.
+pub fn words_of<'a, 'n, E: Write>(
+    shape: &Shape<'_, 'a, 'n>,
+    faults: &mut E,
+) -> Result<Words<'a, 'n>, Ending>
+    ensures exact { IfOk result (AreOf shape.now) }
+    ensures read { OnOk result (faults.new ≡ faults.old) }
+    ensures refused { IfErr result (λ ending. ending.status ≡ 2) }
+{
+    let request = read_shape(shape, faults)?;
+    let address = read_address(shape, faults)?;
+    let network = read_network(shape, faults)?;
+    Ok(Words {
+        request,
+        host: shape.words.first().copied().unwrap_or(""),
+        address,
+        local: shape.local,
+        network,
+        form: form_of(&request, shape.services),
+    })
+}
