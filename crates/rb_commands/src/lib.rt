@@ -1,5 +1,5 @@
-//! The words of `rpcbind`'s command line: its commands and their options, and what they ask for; and what `serve` says of
-//! its start and of its end.
+//! The words of `rpcbind`'s command line: its commands and their options, and what they ask for; and what `serve` says
+//! of its start and of its end.
 #![tactic(auto)]
 
 mod arguments;
