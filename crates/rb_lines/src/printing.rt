@@ -16,7 +16,8 @@ pub struct WriteFailed;
 
 /// Writes the line of an output. `WriteFailed` where the writer fails; how much of the line it has then is not known.
 pub fn print_output<W: Write>(output: &Output, writer: &mut W) -> Result<(), WriteFailed>
-    ensures { OnOk result (Writes W.contents writer.old writer.new (output_text (output_of output.now))) }
+    ensures { OnOk result
+        (Writes W.contents writer.old writer.new (output_text (output_of output.now))) }
 {
     match write_output(&show(output), writer) {
         Ok(()) => Ok(()),

@@ -87,7 +87,8 @@ fn write_refusal<W: Write>(fault: CoreFault, writer: &mut W) -> io::Result<()>
 /// Writes the line of an output (docs/EVENTS.md). An error where the writer fails; how much of the line it has then
 /// is not known.
 pub fn write_output<W: Write>(output: &Shown<'_>, writer: &mut W) -> io::Result<()>
-    ensures { OnOk result (Writes W.contents writer.old writer.new (output_text (shown_output output.now))) }
+    ensures { OnOk result
+        (Writes W.contents writer.old writer.new (output_text (shown_output output.now))) }
 {
     match output {
         Shown::Replied(bytes) => write_bytes("reply ", bytes, writer),

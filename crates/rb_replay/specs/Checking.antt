@@ -1,10 +1,13 @@
 -- What `rpcbind replay --check` says: whether an input's own output lines are those of the run of its events.
-use Rattle.std.specs.Prelude.{◌≡◌, ◌≢◌, ◌≤◌, ◌<◌, ◌⊎◌, ℕ, ◌+◌, if◌then◌else◌, List, [], ◌∷◌, ◌++◌, length, take, drop, map, codes, Option, Some, None, IfSome, Result, Ok, Err}
+use Rattle.std.specs.Prelude.{◌≡◌, ◌≢◌, ◌≤◌, ◌<◌, ◌⊎◌, ℕ, ◌+◌, Bool, if◌then◌else◌, List, [], ◌∷◌, ◌++◌, length, take, drop, map, codes, Option, Some, None, IfSome, Result, Ok, Err}
+use Rattle.std.specs.Bool.{Decides}
 use Rattle.std.specs.List.{flat_map}
 use Rattle.std.specs.Str.{bytes_eq}
 use Rattle.std.specs.Fmt.{decimal}
 use Rattle.std.specs.Borrow.{Bor}
 use Rattle.std.specs.declared.io.buffered.BufWriter.{BufWriter}
+use Rattle.rb_model.specs.declared.events.Output as output
+use Rattle.rb_model.specs.Plain.{output_of}
 use Rattle.rb_model.specs.Step.{Event, Output, run}
 use Rattle.rb_record.specs.Printing.{output_text}
 use Rattle.rb_lines.specs.declared.lines.ReadFault.{ReadFault}
@@ -16,6 +19,10 @@ use Rattle.rb_lines.specs.Faults.{status_of}
 use Rattle.rb_lines.specs.Lines.{lines_of, read, Fails}
 use Rattle.rb_lines.specs.OutputLines.{output_line_in, output_lines_in, output_lines}
 use Rattle.rb_replay.specs.Running.{first_state, IsCoreFault, IsRead, IsRefused, BufWrites, EndsBy}
+
+-- the line of an output, with its line feed, is this one
+abbrev pub IsPrintedAs : output.Output → List ℕ → Bool → Type 0
+IsPrintedAs given line same = Decides same (output_text (output_of given) ≡ line ++ codes "\n")
 
 -- ---- how both compare
 

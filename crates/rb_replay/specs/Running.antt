@@ -83,6 +83,10 @@ pub record IsRunFrom (limits : Limits) (events : List Event) (s : State) (ran : 
   pub outputs : outputs_of ran.outputs.items ≡ run s events
   pub bound : ran.bound ≡ bound_shown limits events (run s events)
 
+-- the same from the state that a core begins in
+abbrev pub IsRunOf : Beginning → List Event → Ran → Type 0
+IsRunOf beginning events = IsRunFrom beginning.limits events (first_state beginning)
+
 -- what is printed of it, with its steps or without
 abbrev pub ran_text : Ran → Bool → List ℕ
 ran_text ran shows_steps = report ran.outputs.items ++ steps_line_if shows_steps ran.steps ran.bound

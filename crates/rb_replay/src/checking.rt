@@ -3,12 +3,11 @@ ghost use Rattle.std.specs.Prelude.{◌≡◌, ◌≤◌, ◌<◌, ◌++◌, [],
 ghost use Rattle.std.specs.Bool.{Decides};
 ghost use Rattle.std.specs.Io.Buffered.{writer_buffer};
 ghost use Rattle.rb_model.specs.State.{are_good};
-ghost use Rattle.rb_model.specs.Plain.{output_of, outputs_of};
+ghost use Rattle.rb_model.specs.Plain.{outputs_of};
 ghost use Rattle.rb_lines.specs.Lines.{read};
-ghost use Rattle.rb_record.specs.Printing.{output_text};
 ghost use Rattle.rb_replay.specs.Running.{BufWrites};
 ghost use Rattle.rb_lines.specs.OutputLines.{output_line_in, output_lines};
-ghost use Rattle.rb_replay.specs.Checking.{output_line_of, agreement, Agrees, AgreesWith, IsUnlike, OfRun, IsAgreed, FindsAgreed, CannotBeChecked, IsWrongWith, GoesOn, IsWrongAt, IsEnd, IsWhy, RefusesCheck, ExplainsCheck};
+ghost use Rattle.rb_replay.specs.Checking.{output_line_of, agreement, IsPrintedAs, Agrees, AgreesWith, IsUnlike, OfRun, IsAgreed, FindsAgreed, CannotBeChecked, IsWrongWith, GoesOn, IsWrongAt, IsEnd, IsWhy, RefusesCheck, ExplainsCheck};
 
 use crate::running::{read_input, run_from};
 use rb_lines::{
@@ -38,8 +37,7 @@ fn is_ended(text: &[u8], line: &[u8]) -> bool
 
 /// Whether the output is printed as this line, which is not ended by its line feed.
 fn is_printed_as(output: &Output, line: &[u8], shown: &mut Vec<u8>) -> Result<bool, Fault>
-    ensures same { IfOk result
-        (λ same. Decides same (output_text (output_of output.now) ≡ line.now ++ codes "\n")) }
+    ensures same { IfOk result (IsPrintedAs output.now line.now) }
     ensures err { IfErr result (λ fault. fault ≡ Fault.NoMemory) }
 {
     shown.clear();

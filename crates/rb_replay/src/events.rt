@@ -124,7 +124,8 @@ fn datagram(
     meter: &mut Meter,
 ) -> Result<Output, NoMemory>
     requires { meter.old.tie ≡ core.old.tie }
-    ensures ok { MayHappen (Datagram now peer content.now) core.old core.new meter.old meter.new result }
+    ensures ok { MayHappen (Datagram now peer content.now)
+        core.old core.new meter.old meter.new result }
     ensures err { OnErr result (core.new ≡ core.old) }
     ensures free { OnErr result (meter.new ≡ meter.old) }
 {

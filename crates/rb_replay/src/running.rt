@@ -7,7 +7,7 @@ ghost use Rattle.rb_core.specs.StandsFor.{StandsFor};
 ghost use Rattle.rb_core.specs.Events.{count_shown};
 ghost use Rattle.rb_lines.specs.Lines.{read};
 ghost use Rattle.rb_lines.specs.Faults.{status_of};
-ghost use Rattle.rb_replay.specs.Running.{first_state, IsFresh, IsRunFrom, KeepsBound, BufWrites, IsEnoughOf, IsReplayFault, IsCoreFault, IsRefused, PrintsRun, Reads, Replays, Refuses, RunsFrom, ran_text, Explains};
+ghost use Rattle.rb_replay.specs.Running.{first_state, IsFresh, IsRunOf, KeepsBound, BufWrites, IsEnoughOf, IsReplayFault, IsCoreFault, IsRefused, PrintsRun, Reads, Replays, Refuses, RunsFrom, ran_text, Explains};
 
 use crate::run::replay;
 use crate::run_bound::whole_bound;
@@ -98,8 +98,7 @@ fn run_on(
 
 /// Runs the events, from a new core.
 pub(crate) fn run_from(alloc: Global, beginning: &Beginning, events: &[Event]) -> Result<Ran, Fault>
-    ensures ok { IfOk result (IsRunFrom
-        beginning.now.limits (events_of events.now) (first_state beginning.now)) }
+    ensures ok { IfOk result (IsRunOf beginning.now (events_of events.now)) }
     ensures within { IfOk result KeepsBound }
     ensures good { OnOk result (IsTrue (are_good beginning.now.limits)) }
     ensures err { IfErr result (IsCoreFault beginning.now) }
