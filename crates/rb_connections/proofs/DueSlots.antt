@@ -1,5 +1,6 @@
 -- Whether a connection is due, by its slot.
-use Rattle.std.proofs.Common.{◌≡◌, ℕ, refl}
+use Rattle.std.proofs.Common.{◌≡◌, ℕ, refl, arith}
+use Rattle.std.proofs.lemmas.Grind.{common_steps}
 use Rattle.rb_xdr.specs.Kept.{Kept}
 use Rattle.rb_model.specs.State.{Phase, Connection}
 use Rattle.rb_model.specs.Losses.{time_in, is_due}
@@ -12,8 +13,7 @@ use Rattle.rb_connections.proofs.Phases.{by_phase}
 
 pub time_as_stage : (source : Source) (stage : Stage) (buffer window : Kept) (phase : Phase) → StandsForPhase source stage buffer window phase
     → time_in (phase_like stage) ≡ time_in phase
-time_as_stage source stage buffer window phase h =
-    by_phase source buffer window (λ s p. time_in (phase_like s) ≡ time_in p) (λ z. refl) (λ reader fed z. refl) (λ giving o z. refl) (λ z. refl) refl stage phase h
+time_as_stage source stage buffer window phase h = grind (arith, common_steps, by_phase source buffer window)
 
 pub due_alike : (source : Source) (clock : ℕ) (slot : Slot) (c : Connection) → StandsForConnection source slot c → is_due_slot clock slot ≡ is_due clock c
 unfolding is_due_slot is_due

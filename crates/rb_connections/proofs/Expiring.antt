@@ -1,12 +1,12 @@
 -- The due connection becomes Lost, and so does its slot.
 use Rattle.std.specs.Prelude.{option_map}
-use Rattle.std.specs.List.{AllZip, list_any}
+use Rattle.std.specs.List.{AllZip}
 use Rattle.std.specs.Map.{values_of}
-use Rattle.std.proofs.Common.{◌≡◌, ℕ, true, false, List, [], ◌∷◌, Option, Some, None, refl, sym, ap, subst, ◌∙◌}
+use Rattle.std.proofs.Common.{◌≡◌, ℕ, true, false, List, [], ◌∷◌, Option, Some, None, sym, ap, subst, ◌∙◌, arith}
+use Rattle.std.proofs.lemmas.Grind.{common_steps}
 use Rattle.rb_xdr.specs.Pool.{value_at, with_value, HasDistinctKeys}
 use Rattle.rb_forward.proofs.Tables.{some_is, is_first}
 use Rattle.rb_model.specs.State.{Connection}
-use Rattle.rb_model.specs.Connections.{has_number}
 use Rattle.rb_model.specs.Losses.{has_come, deadline, first_due, lose, expire_first}
 use Rattle.rb_model.proofs.Expiring.{AreApart, due-changed}
 use Rattle.rb_connections.specs.declared.slot.Slot.{Slot}
@@ -22,11 +22,10 @@ use Rattle.rb_connections.proofs.Slots.{locate, no_slot, wanted_alike, any_alike
 -- ---- the table
 
 apart : (source : Source) (given : ℕ) (slots : List Slot) (all : List Connection) → AllZip (StandsForConnection source) slots all → AreNumbered given slots → AreApart all
-apart source given [] [] z n = tt
-apart source given [] (c ∷ all) z n = absurd z
-apart source given (s ∷ slots) [] z n = absurd z
-apart source given (s ∷ slots) (c ∷ all) z n =
-    (subst (λ (k : ℕ). list_any (has_number k) all ≡ false) z.0.number (sym (any_alike source s.number slots all z.1) ∙ n.1), apart source given slots all z.1 n.2)
+apart source given [] [] z n = grind (arith, common_steps, any_alike)
+apart source given [] (c ∷ all) z n = grind (arith, common_steps, any_alike)
+apart source given (s ∷ slots) [] z n = grind (arith, common_steps, any_alike)
+apart source given (s ∷ slots) (c ∷ all) z n = grind (arith, common_steps, any_alike, apart source given slots all z.1 n.2)
 
 abbrev first-number : Option Connection → Option ℕ
 first-number o = option_map (λ (x : Connection). x.number) o
@@ -34,10 +33,7 @@ first-number o = option_map (λ (x : Connection). x.number) o
 module _ (source : Source) (clock : ℕ) (table : Table) where
   pub none_expires : option_map (λ e. e.0) (wanted_slot (wanted.Due clock) table.slots) ≡ None → Acts (StandsForConnections source) (expire_first clock) table table None
   unfolding expire_first first_due is_wanted
-  none_expires h = record {
-    gives = λ c z. rw (no_slot source (wanted.Due clock) table.slots c.all z.all h) refl;
-    stands = λ c z. rw (no_slot source (wanted.Due clock) table.slots c.all z.all h) z;
-  }
+  none_expires h = grind (arith, common_steps, no_slot)
 
   pub one_expires : (k : ℕ) (slot new : Slot) (x : ℕ) → HasDistinctKeys table.slots → AreNumbered table.last_number (values_of table.slots)
       → option_map (λ e. e.0) (wanted_slot (wanted.Due clock) table.slots) ≡ Some k → value_at table.slots k ≡ Some slot
@@ -59,11 +55,7 @@ module _ (source : Source) (clock : ℕ) (table : Table) where
 -- ---- one that is due awaits no forwarded call
 
 not-awaiting : (clock since : ℕ) (stage : Stage) → has_come clock (deadline since (phase_like stage)) ≡ true → is_awaiting_stage stage ≡ false
-not-awaiting clock since stages.Idle h = refl
-not-awaiting clock since (stages.Reading reader) h = refl
-not-awaiting clock since (stages.Owing giving) h = refl
-not-awaiting clock since stages.Awaiting h = absurd cc
-not-awaiting clock since stages.Lost h = refl
+not-awaiting clock since stage h = grind arith
 
 pub due-free : (clock k : ℕ) (es : List (ℕ × Slot)) (slot : Slot) → HasDistinctKeys es → option_map (λ e. e.0) (wanted_slot (wanted.Due clock) es) ≡ Some k → value_at es k ≡ Some slot
     → is_awaiting_stage slot.stage ≡ false

@@ -1,5 +1,5 @@
 -- The stage of a slot beside the phase that it stands for.
-use Rattle.std.proofs.Common.{ℕ, List}
+use Rattle.std.proofs.Common.{ℕ, List, arith}
 use Rattle.rb_xdr.specs.Kept.{Kept}
 use Rattle.rb_model.specs.State.{Owed, Phase}
 use Rattle.rb_model.specs.State.Phase.{Idle, Reading, Owing, Awaiting, Lost}
@@ -18,28 +18,4 @@ module _ (source : Source) (buffer window : Kept) (P : Stage → Phase → Type 
     (awaiting : StandsForPhase source stages.Awaiting buffer window Awaiting → P stages.Awaiting Awaiting)
     (lost : P stages.Lost Lost) where
   pub by_phase : (stage : Stage) (phase : Phase) → StandsForPhase source stage buffer window phase → P stage phase
-  by_phase stages.Idle Idle h = idle h
-  by_phase stages.Idle (Reading fed) h = absurd h
-  by_phase stages.Idle (Owing o) h = absurd h
-  by_phase stages.Idle Awaiting h = absurd h
-  by_phase stages.Idle Lost h = absurd h
-  by_phase (stages.Reading reader) Idle h = absurd h
-  by_phase (stages.Reading reader) (Reading fed) h = reading reader fed h
-  by_phase (stages.Reading reader) (Owing o) h = absurd h
-  by_phase (stages.Reading reader) Awaiting h = absurd h
-  by_phase (stages.Reading reader) Lost h = absurd h
-  by_phase (stages.Owing g) Idle h = absurd h
-  by_phase (stages.Owing g) (Reading fed) h = absurd h
-  by_phase (stages.Owing g) (Owing o) h = giving g o h
-  by_phase (stages.Owing g) Awaiting h = absurd h
-  by_phase (stages.Owing g) Lost h = absurd h
-  by_phase stages.Awaiting Idle h = absurd h
-  by_phase stages.Awaiting (Reading fed) h = absurd h
-  by_phase stages.Awaiting (Owing o) h = absurd h
-  by_phase stages.Awaiting Awaiting h = awaiting h
-  by_phase stages.Awaiting Lost h = absurd h
-  by_phase stages.Lost Idle h = absurd h
-  by_phase stages.Lost (Reading fed) h = absurd h
-  by_phase stages.Lost (Owing o) h = absurd h
-  by_phase stages.Lost Awaiting h = absurd h
-  by_phase stages.Lost Lost h = lost
+  by_phase stage phase h = grind arith

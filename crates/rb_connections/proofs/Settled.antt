@@ -2,27 +2,26 @@
 use Rattle.std.specs.Prelude.{All, option_map, Ok}
 use Rattle.std.specs.List.{AllZip, list_any}
 use Rattle.std.specs.Map.{values_of}
-use Rattle.std.proofs.Common.{◌≡◌, ℕ, ◌+◌, Bool, true, false, not, ◌&&◌, ◌||◌, eqb, List, [], ◌∷◌, length, Some, None, refl, sym, ap, subst, ◌∙◌}
-use Rattle.std.proofs.lemmas.Bool.{and_parts, eqb-true, eq-eqb}
+use Rattle.std.proofs.Common.{◌≡◌, ℕ, ◌+◌, Bool, true, false, ◌||◌, List, [], ◌∷◌, length, Some, None, refl, sym, ap, subst, ◌∙◌, arith}
+use Rattle.std.proofs.lemmas.Grind.{common_steps}
+use Rattle.std.proofs.lemmas.Bool.{eq-eqb}
 use Rattle.rb_xdr.specs.Pool.{Pool, value_at, with_value, HasDistinctKeys}
 use Rattle.rb_xdr.proofs.PoolLemmas.{All-value_at, with_value-same}
 use Rattle.rb_rpc.specs.Records.{BeginsWithRecord, first_record}
-use Rattle.rb_model.specs.State.{Phase, Connection, Connections}
-use Rattle.rb_model.specs.State.Phase.{Idle}
+use Rattle.rb_model.specs.State.{Connection, Connections}
 use Rattle.rb_model.specs.Calls.Outcome.{Silent}
-use Rattle.rb_model.specs.Connections.{taking_of, fed_in, is_lost, is_live, settle, change_first, changed_at, on_live}
+use Rattle.rb_model.specs.Connections.{taking_of, fed_in, is_live, settle, change_first, changed_at, on_live}
 use Rattle.rb_model.specs.Connections.Taking.{Ends}
 use Rattle.rb_model.specs.Calls.{kept_of}
 use Rattle.rb_connections.specs.declared.slot.Slot.{Slot}
 use Rattle.rb_connections.specs.declared.slot.Buffers.{Buffers}
-use Rattle.rb_connections.specs.declared.slot.Stage.{Stage}
 use Rattle.rb_connections.specs.declared.slot.Stage.TheVariants as stages
 use Rattle.rb_connections.specs.declared.slot.Wanted.TheVariants as wanted
-use Rattle.rb_connections.specs.StandsFor.{IsWithin, Table, StandsForConnection, StandsForConnections, stamp_of_rest}
+use Rattle.rb_connections.specs.StandsFor.{IsWithin, Table, StandsForConnection, StandsForConnections}
 use Rattle.rb_model.specs.Served.{Source}
-use Rattle.rb_connections.specs.Slots.{Acts, Shows, AreNumbered, HasBuffers, IsTable, take_piece, arguments_taken, arguments_on, received_whole, is_idle_stage, is_wanted_slot, wanted_slot}
-use Rattle.rb_connections.specs.Awaits.{GoOn, is_awaiting_stage, is_not_idle_since, IsIdleIfThere, EndedOn}
-use Rattle.rb_connections.specs.Listings.{CanContinueSlot, began_before_earliest, evicted_slot}
+use Rattle.rb_connections.specs.Slots.{Acts, Shows, AreNumbered, HasBuffers, IsTable, take_piece, arguments_taken, arguments_on, received_whole, is_wanted_slot, wanted_slot}
+use Rattle.rb_connections.specs.Awaits.{GoOn, is_not_idle_since, IsIdleIfThere, EndedOn}
+use Rattle.rb_connections.specs.Listings.{evicted_slot}
 use Rattle.rb_connections.proofs.Evicting.{all_evicted}
 use Rattle.rb_connections.proofs.Freed.{ended_on_slot}
 use Rattle.rb_connections.proofs.ByHint.{distinct_numbers, first_by_hint}
@@ -31,24 +30,12 @@ use Rattle.rb_connections.proofs.GoingOn.{goes_on_changed}
 use Rattle.rb_connections.proofs.OneSlot.{idle_phase, feeding_acts, some_where_fed, taken_whole, taken_arguments}
 
 either-false : (a b : Bool) → (a || b) ≡ false → (a ≡ false) × (b ≡ false)
-either-false true b e = absurd cc
-either-false false b e = (refl, e)
+either-false a b e = grind arith
 
 -- ---- those whose lists are in the way of a row are others
 
 unsettled_alike : (earliest id clock : ℕ) (slot : Slot) → is_not_idle_since id clock slot ≡ false → is_not_idle_since id clock (evicted_slot earliest slot) ≡ false
-unsettled_alike earliest id clock slot none = by_stage slot.stage refl
-  where
-    by_stage : (stage : Stage) → slot.stage ≡ stage → is_not_idle_since id clock (evicted_slot earliest slot) ≡ false
-    by_stage stages.Idle is = rw is (rw is at none)
-    by_stage (stages.Reading reader) is = rw is (rw is at none)
-    by_stage (stages.Owing giving) is = by_test (began_before_earliest earliest (stamp_of_rest giving.rest)) refl
-      where
-        by_test : (b : Bool) → began_before_earliest earliest (stamp_of_rest giving.rest) ≡ b → is_not_idle_since id clock (evicted_slot earliest slot) ≡ false
-        by_test true t = rw (is, t) (rw is at none)
-        by_test false t = rw (is, t) (rw is at none)
-    by_stage stages.Awaiting is = rw is (rw is at none)
-    by_stage stages.Lost is = rw is (rw is at none)
+unsettled_alike earliest id clock slot none = grind arith
 
 none_unsettled : (earliest id clock : ℕ) (es : List (ℕ × Slot)) → list_any (is_not_idle_since id clock) (values_of es) ≡ false → list_any (is_not_idle_since id clock) (values_of (all_evicted earliest es)) ≡ false
 none_unsettled earliest id clock [] h = h
@@ -61,26 +48,9 @@ settled_evicted earliest id clock table h = none_unsettled earliest id clock tab
 
 -- ---- nothing is left to do for one that is so
 
-stage_is_idle : (stage : Stage) → is_idle_stage stage ≡ true → stage ≡ stages.Idle
-stage_is_idle stages.Idle e = refl
-stage_is_idle (stages.Reading reader) e = absurd cc
-stage_is_idle (stages.Owing giving) e = absurd cc
-stage_is_idle stages.Awaiting e = absurd cc
-stage_is_idle stages.Lost e = absurd cc
-
-both-true : (a b : Bool) → not (a && b) ≡ false → (a ≡ true) × (b ≡ true)
-both-true true true e = (refl, refl)
-both-true true false e = absurd cc
-both-true false b e = absurd cc
-
 settled_is_same : (source : Source) (id clock : ℕ) (slot : Slot) (c : Connection) → StandsForConnection source slot c → is_not_idle_since id clock slot ≡ false → is_live id c ≡ true → settle clock Silent c ≡ c
 unfolding is_live settle
-settled_is_same source id clock slot c h none live =
-    let number : eqb slot.number id ≡ true = ap (λ (n : ℕ). eqb n id) h.number ∙ (and_parts (eqb c.number id) (not (is_lost c.phase)) live).0 in
-    let idle = both-true (is_idle_stage slot.stage) (eqb slot.since clock) (rw number at none) in
-    let phase : c.phase ≡ Idle = (idle_phase source slot.stage slot.buffer slot.window c.phase (stage_is_idle slot.stage idle.0) h.phase).0 in
-    let since : c.since ≡ clock = sym h.since ∙ eqb-true slot.since clock idle.1 in
-    ap (λ (p : Phase). record c { phase = p; since = clock }) (sym phase) ∙ ap (λ (m : ℕ). record c { since = m }) (sym since)
+settled_is_same source id clock slot c h none live = grind arith
 
 settled_among : (source : Source) (id clock : ℕ) (slots : List Slot) (all : List Connection) → AllZip (StandsForConnection source) slots all → list_any (is_not_idle_since id clock) slots ≡ false
     → change_first (is_live id) (settle clock Silent) all ≡ all
@@ -111,14 +81,7 @@ module _ (source : Source) (slot : Slot) (piece content : List ℕ) (idle : slot
       some_where_fed c.phase [] piece (ap fed_in p.0) some_piece ∙ taken_whole content piece begins
 
   pub acts_whole : (clock : ℕ) → Acts (StandsForConnection source) (take_piece clock piece) slot (record slot { since = clock }) (received_whole slot.peer content)
-  acts_whole clock = feeding_acts source slot (record slot { since = clock }) clock piece (received_whole slot.peer content) (λ c h.
-      let p = idle_phase source slot.stage slot.buffer slot.window c.phase idle h.phase in
-      record {
-        taken = Ends (4 + length content) content;
-        is = takes_whole c h;
-        gives = ap (λ peer. received_whole peer content) h.peer;
-        stands = record { number = h.number; peer = h.peer; since = refl; phase = rw idle (p.1, p.2) };
-      })
+  acts_whole clock = grind (arith, common_steps, feeding_acts, idle_phase, takes_whole)
 
   pub keeps_whole : (before : List ℕ) → Shows (StandsForConnection source) (arguments_taken before piece) slot (kept_of content)
   keeps_whole before c h = taken_arguments before (kept_of content) piece c (Ends (4 + length content) content) (takes_whole c h) refl
@@ -129,9 +92,7 @@ module _ (k : ℕ) (table : Table) (old new : Slot) (there : value_at table.slot
   since_within within = subst IsWithin (sym kept) (All-value_at IsWithin table.slots k old within there)
 
   pub since_goes_on : (now : Table) → table ≡ now → All IsWithin (values_of table.slots) → GoOn now (record table { slots = with_value table.slots k new })
-  since_goes_on now is within =
-      goes_on_changed table now is k old new there (λ source told. subst (λ (s : Slot). CanContinueSlot source s) (sym kept) told)
-      (ap (λ (s : Slot). s.number) kept) (ap (λ (s : Slot). is_awaiting_stage s.stage) kept) (since_within within)
+  since_goes_on now is within = grind (arith, common_steps, goes_on_changed table now is k old new there, since_within within)
 
   pub since_stays : new ≡ old → record table { slots = with_value table.slots k new } ≡ table
   since_stays is = rw is (ap (λ (es : List (ℕ × Slot)). record table { slots = es }) (with_value-same table.slots k old there))
@@ -166,6 +127,4 @@ module _ (id clock k : ℕ) (table : Table) (old new : Slot) (distinct : HasDist
       live_arguments source id before piece table k old (kept_of content) distinct found there (keeps_whole source old piece content idle begins before)
 
   pub taken_whole_on : EndedOn id clock table with_new
-  taken_whole_on =
-      let still : is_idle_stage new.stage ≡ true = ap (λ (s : Slot). is_idle_stage s.stage) kept ∙ ap is_idle_stage idle in
-      ended_on_slot table id clock k old new numbers there number (ap (λ (s : Slot). s.number) kept) (record { awaited_none = rw idle refl; is_idle = still; since = since })
+  taken_whole_on = grind (arith, common_steps, ended_on_slot table id clock k old new numbers there)

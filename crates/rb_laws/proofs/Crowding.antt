@@ -1,5 +1,6 @@
 -- Who is in the way of a row, and which rows have room.
-use Rattle.std.proofs.Common.{◌≡◌, ◌≤◌, ◌<◌, ℕ, ◌+◌, true, false, cond, nat_lt, ◌&&◌, List, [], ◌∷◌, length, map, Option, Some, None, refl, ap}
+use Rattle.std.proofs.Common.{◌≡◌, ◌≤◌, ◌<◌, ℕ, ◌+◌, true, false, cond, nat_lt, ◌&&◌, List, [], ◌∷◌, length, map, Option, Some, None, refl, ap, arith}
+use Rattle.std.proofs.lemmas.Grind.{common_steps}
 use Rattle.std.proofs.lemmas.Bool.{lt-ltb, le-ltb, ltb-true, and_parts}
 use Rattle.rb_registry.specs.declared.row.Row.{Row}
 use Rattle.rb_registry.specs.Rows.{has_place, is_change_left}
@@ -31,33 +32,22 @@ not_asked context message all l none = rw none refl
 
 pub not_crowded : (context : Context) (message : Message) (all : List Connection) (l : Ledger) → length (rows_in l) + length (needed_removals all l) < context.limit → removals_in_the_way context message all l ≡ []
 unfolding removals_in_the_way
-not_crowded context message all l room =
-    let fits : nat_lt (length (rows_in l) + length (needed_removals all l)) context.limit ≡ true = lt-ltb _ _ room in
-    rw fits (elim (asks_room context message l) as (λ b. cond (b && false) (needed_removals all l) [] ≡ []) [ true ↦ refl | false ↦ refl ])
+not_crowded context message all l room = grind arith
 
 pub crowded : (context : Context) (message : Message) (all : List Connection) (l : Ledger) → asks_room context message l ≡ true → context.limit ≤ length (rows_in l) + length (needed_removals all l)
     → removals_in_the_way context message all l ≡ needed_removals all l
 unfolding removals_in_the_way
-crowded context message all l asks full =
-    let fits : nat_lt (length (rows_in l) + length (needed_removals all l)) context.limit ≡ false = le-ltb _ _ full in
-    rw (asks, fits) refl
+crowded context message all l asks full = grind arith
 
 pub no_call_asks : (context : Context) (message : Message) (l : Ledger) → ((call : Call) → message ≡ says.Asked call → ⊥) → asks_room context message l ≡ false
-no_call_asks context says.NoCall l other = refl
-no_call_asks context (says.Refused head) l other = refl
-no_call_asks context (says.Garbage head) l other = refl
-no_call_asks context (says.Asked call) l other = absurd (other call refl)
+no_call_asks context message l other = grind arith
 
 place_within : (limit : ℕ) (rows : List Row) (count : ℕ) (row : Row) → has_place limit rows count row ≡ true → length rows < limit
 unfolding has_place
-place_within limit rows count row is =
-    let parts = and_parts _ (is_change_left count) is in
-    let room = and_parts _ (nat_lt (length rows) limit) parts.0 in
-    ltb-true (length rows) limit room.1
+place_within limit rows count row is = grind arith
 
 accepted_within : (context : Context) (rows : List Row) (count : ℕ) (row : Option Row) → adds context rows count row ≡ true → length rows < context.limit
-accepted_within context rows count None e = absurd cc
-accepted_within context rows count (Some row) e = place_within context.limit rows count row (and_parts _ (has_place context.limit rows count row) e).1
+accepted_within context rows count row e = grind (arith, common_steps, place_within, and_parts)
 
 -- a row that is accepted has room among the live ones
 pub row_within : (context : Context) (call : Call) (rows : List Row) (count : ℕ) → adds_row context call rows count ≡ true → length rows < context.limit

@@ -1,5 +1,6 @@
 -- What a call does to the entries of forwarded calls: it begins one where it is forwarded, and else leaves them.
-use Rattle.std.proofs.Common.{◌≡◌, ℕ, Bool, true, false, cond, Option, Some, None, List, length, refl}
+use Rattle.std.proofs.Common.{◌≡◌, ℕ, Bool, true, false, cond, Option, Some, None, List, length, refl, arith}
+use Rattle.std.proofs.lemmas.Grind.{common_steps}
 use Rattle.rb_rpc.specs.declared.call.CallHead.{CallHead}
 use Rattle.rb_rpc.specs.declared.peer.Caller.{Caller}
 use Rattle.rb_rpc.specs.declared.peer.Caller.TheVariants.{Tcp, Udp}
@@ -57,27 +58,18 @@ pub data Entering (context : Context) (old new : Forwards) (forwarded : Bool) : 
 
 set-enters : (context : Context) (head : CallHead) (o : Option Row) (l : Ledger) → (set_row context head o l).1.forwards ≡ l.forwards
 unfolding set_row
-set-enters context head None l = refl
-set-enters context head (Some row) l = refl
+set-enters context head o l = grind arith
 
 unset-enters : (context : Context) (head : CallHead) (prog vers : ℕ) (o : Option Which) (l : Ledger) → (unset_rows context head prog vers o l).1.forwards ≡ l.forwards
 unfolding unset_rows
-unset-enters context head prog vers None l = refl
-unset-enters context head prog vers (Some which) l = refl
+unset-enters context head prog vers o l = grind arith
 
 getport-enters : (head : CallHead) (m : Mapping) (l : Ledger) → (getport head m l).1.forwards ≡ l.forwards
 unfolding getport
-getport-enters head m l = by_transport (transport_of_prot m.prot)
-  where
-    by_transport : (o : Option Transport) → (port_on head m o l).1.forwards ≡ l.forwards
-    by_transport None = refl
-    by_transport (Some transport) = refl
+getport-enters head m l = grind arith
 
 refused-now : (kind : Kind) (status : ReplyStatus) → answers_later (refusal kind status) ≡ false
-refused-now Callit2 status = refl
-refused-now Callit3 status = refl
-refused-now Bcast status = refl
-refused-now Indirect status = refl
+refused-now kind status = grind arith
 
 abbrev Enters : Context → Ledger → Answer × Ledger → Type 0
 Enters context l r = Entering context l.forwards r.1.forwards (answers_later r.0)
@@ -112,12 +104,7 @@ answer-enters context head (requests.Forward kind remote) arguments l = forward-
 
 -- results are told at once
 results-now : (caller : Caller) (count xid : ℕ) (bytes : List ℕ) (given : Results) → is_forwarded (results_outcome caller count xid bytes given) ≡ false
-results-now (Tcp id peer) count xid bytes (results.Rows list) = refl
-results-now (Udp peer) count xid bytes (results.Rows list) = refl
-results-now (Tcp id peer) count xid bytes (results.Value value) = refl
-results-now (Udp peer) count xid bytes (results.Value value) = refl
-results-now (Tcp id peer) count xid bytes results.Statistics = refl
-results-now (Udp peer) count xid bytes results.Statistics = refl
+results-now caller count xid bytes given = grind arith
 
 abbrev Served : Context → Ledger → Outcome × Ledger → Type 0
 Served context l r = Entering context l.forwards r.1.forwards (is_forwarded r.0)

@@ -1,7 +1,8 @@
 -- How entries of forwarded calls end.
 use Rattle.std.specs.Prelude.{find}
 use Rattle.std.specs.Option.{option_map}
-use Rattle.std.proofs.Common.{◌≡◌, ℕ, max, Bool, true, Option, Some, None, List, [], ◌++◌, refl, sym, ap, subst, append-nil}
+use Rattle.std.proofs.Common.{◌≡◌, ℕ, max, Bool, true, Option, Some, None, List, [], ◌++◌, refl, sym, ap, subst, append-nil, arith}
+use Rattle.std.proofs.lemmas.Grind.{common_steps}
 use Rattle.rb_rpc.specs.declared.peer.Caller.{Caller}
 use Rattle.rb_rpc.specs.declared.peer.Caller.TheVariants.{Tcp, Udp}
 use Rattle.rb_forward.specs.declared.types.Outcome as target
@@ -39,12 +40,10 @@ module _ (Is : Entry → Type 0) (test : Entry → Bool) (means : (e : Entry) �
   same_ledger f is = rw (is, append-nil s.ledger.history) refl
 
   is_told : (e : Entry) (l : Ledger) (caller : Caller) → CallerGets s (max s.clock now) (says e) caller (tell caller (says e) (record (at_fresh_moment now s) { ledger = l })).0 (tell caller (says e) (record (at_fresh_moment now s) { ledger = l })).1
-  is_told e l (Tcp id peer) = (refl, refl, refl)
-  is_told e l (Udp peer) = (refl, refl, refl)
+  is_told e l caller = grind arith
 
   same_entries : (e : Entry) (l : Ledger) (caller : Caller) → (tell caller (says e) (record (at_fresh_moment now s) { ledger = l })).1.ledger ≡ l
-  same_entries e l (Tcp id peer) = refl
-  same_entries e l (Udp peer) = refl
+  same_entries e l caller = grind arith
 
   pub ends_or_not : EndsOrNot (tell_end message (at_fresh_moment now s) ends).0 (tell_end message (at_fresh_moment now s) ends).1
   ends_or_not = by_found (find test s.ledger.forwards.all) refl (ends_first Is test means tested outcome s.ledger.forwards)

@@ -2,7 +2,8 @@
 use Rattle.std.specs.Prelude.{find}
 use Rattle.std.specs.List.{list_any}
 use Rattle.std.specs.Option.{option_map}
-use Rattle.std.proofs.Common.{◌≡◌, ◌⊎◌, inl, inr, ◌≤◌, ℕ, ◌-◌, max, Bool, true, false, cond, ◌||◌, Option, Some, None, Result, Ok, Err, List, [], ◌∷◌, ◌++◌, length, take, nat_lt, not, eqb, eq-eqb, refl, sym, ap, subst, ◌∙◌}
+use Rattle.std.proofs.Common.{◌≡◌, ◌⊎◌, inl, inr, ◌≤◌, ℕ, ◌-◌, max, Bool, true, false, cond, ◌||◌, Option, Some, None, Result, Ok, Err, List, [], ◌∷◌, ◌++◌, length, take, nat_lt, not, eqb, eq-eqb, refl, sym, ap, subst, ◌∙◌, arith}
+use Rattle.std.proofs.lemmas.Grind.{common_steps}
 use Rattle.std.proofs.lemmas.Bool.{ltb-false, eqb-true}
 use Rattle.rb_rpc.specs.declared.peer.Peer.{Peer}
 use Rattle.rb_rpc.specs.declared.peer.Caller.{Caller}
@@ -124,45 +125,20 @@ pub data Happening (s : State) (event : Event) (output : Output) (now : Connecti
 
 -- ---- what a caller is told at an end
 
-failed-final : (forward : EntryEnd) (status : ReplyStatus) → IsFinal (outcome_of_failure forward.forward status)
-failed-final ended status = by_kind ended.forward.kind
-  where
-    by_kind : (kind : Kind) → IsFinal (refused_by ended.forward.xid (refusal kind status))
-    by_kind Callit2 = tt
-    by_kind Callit3 = tt
-    by_kind Bcast = tt
-    by_kind Indirect = tt
-
 pub told-final : (message : List ℕ) (ended : EntryEnd) → IsFinal (outcome_at_end message ended)
-told-final message ended = by_outcome ended.outcome
-  where
-    by_outcome : (o : target.Outcome) → IsFinal (outcome_of_end ended.forward message o)
-    by_outcome (Passed place) = tt
-    by_outcome (ends.Refused status) = failed-final ended status
-    by_outcome Failed = failed-final ended replies.SystemErr
-    by_outcome Dropped = tt
+told-final message ended = grind arith
 
 -- one that is found passes other tests too
 pub find-any : {A : Type 0} (p q : A → Bool) (xs : List A) (x : A) → find p xs ≡ Some x → q x ≡ true → list_any q xs ≡ true
-find-any p q [] x is holds = absurd cc
-find-any p q (y ∷ xs) x is holds = by_test (p y) is (find-any p q xs x)
-  where
-    by_test : (b : Bool) → cond b (Some y) (find p xs) ≡ Some x → (find p xs ≡ Some x → q x ≡ true → list_any q xs ≡ true) → (q y || list_any q xs) ≡ true
-    by_test true e later = let same : y ≡ x = cc in rw (ap q same ∙ holds) refl
-    by_test false e later = let more = later e holds in elim (q y) as (λ b. (b || list_any q xs) ≡ true) [ true ↦ refl | false ↦ more ]
+find-any p q [] x is holds = grind arith
+find-any p q (y ∷ xs) x is holds = grind (arith, find-any p q xs x)
 
 -- an entry that ended was there
 abbrev pub WasThere : State → Option EntryEnd → Type 0
 WasThere s o = (ended : EntryEnd) → o ≡ Some ended → (id : ℕ) → is_connection id ended.forward.caller ≡ true → has_entry id s ≡ true
 
 was-there : (s : State) (test : Entry → Bool) (outcome : target.Outcome) → WasThere s (with_end test outcome s.ledger.forwards).0
-was-there s test outcome = λ ended is id of. by_found (find test s.ledger.forwards.all) refl ended is id of
-  where
-    by_found : (o : Option Entry) → find test s.ledger.forwards.all ≡ o → (ended : EntryEnd) → option_map (ended_by outcome) o ≡ Some ended → (id : ℕ) → is_connection id ended.forward.caller ≡ true → has_entry id s ≡ true
-    by_found None h ended is id of = absurd cc
-    by_found (Some e) h ended is id of =
-        let same : ended_by outcome e ≡ ended = cc in
-        find-any test (is_of_connection id) s.ledger.forwards.all e h (ap (λ (x : EntryEnd). is_connection id x.forward.caller) same ∙ of)
+was-there s test outcome = grind (arith, common_steps, find-any)
 
 pub replied-there : (s : State) (clock : ℕ) (from : Peer) (message : List ℕ) → WasThere s (target_replied s.setting.first_xid clock from message s.ledger).0
 unfolding target_replied reply
@@ -178,12 +154,7 @@ module _ (s : State) where
 
   number-is-next : (number : ℕ) → number_for s.setting.limits.conns s.connections ≡ Ok number → number ≡ s.connections.next
   unfolding number_for
-  number-is-next number h = by_room (not (nat_lt (length s.connections.all) s.setting.limits.conns)) (nat_lt greatest_number s.connections.next) h
-    where
-      by_room : (full spent : Bool) → cond full (Err Full) (cond spent (Err Spent) (Ok s.connections.next)) ≡ Ok number → number ≡ s.connections.next
-      by_room true spent e = absurd cc
-      by_room false true e = absurd cc
-      by_room false false e = cc
+  number-is-next number h = grind arith
 
   quiet : (event : Event) (output : Output) → number_given output ≡ None → count_in output ≡ 0 → ((id : ℕ) → given_by s id event output ≡ []) → IsQuiet s event output
   quiet event output a b c = record { no_number = a; no_count = b; none_given = c }
@@ -201,8 +172,7 @@ module _ (s : State) where
   bytes-happen at id piece r (Ended c fed n there feeds some is) = rw is (Ends at id piece c fed n refl there feeds some refl refl)
 
   pending-happens : (id : ℕ) (r : Result (List ℕ) CoreFault) → Happens (Pending id) (output_or IsPending (r, s))
-  pending-happens id (Ok xs) = Stays (quiet (Pending id) (IsPending xs) refl refl (λ k. refl)) refl
-  pending-happens id (Err fault) = Stays (quiet (Pending id) (Refused fault) refl refl (λ k. refl)) refl
+  pending-happens id r = grind arith
 
   gave-happens : (at id n : ℕ) (o : Option Connection) → live_connection id s.connections.all ≡ o
       → Happens (Gave at id n) (cond (is_too_much n (pending_on o)) (TooMuch, s) (output_or show_done (unless_refused at s (on_found id (give (max s.clock at) n) s.connections o))))
@@ -230,8 +200,7 @@ module _ (s : State) where
   served-connections at caller content = refl
 
   sent-happens : (number : ℕ) (b : Bool) → Happens (Sent number) (output_or show_done (cond b (Ok tt, record s { ledger = call_sent number s.ledger }) (Err Gone, s)))
-  sent-happens number true = Stays (quiet (Sent number) Done refl refl (λ k. refl)) refl
-  sent-happens number false = Stays (quiet (Sent number) (Refused Gone) refl refl (λ k. refl)) refl
+  sent-happens number b = grind arith
 
   -- what is shown of an end
   record Shows (event : Event) (show : Option Told × State → Output × State) : Type 0 where
@@ -239,20 +208,10 @@ module _ (s : State) where
     leaves : (r : Option Told × State) → (show r).1.connections ≡ r.1.connections
 
   told-quiet : (event : Event) (reply : List ℕ) (told : Told) → IsQuiet s event (show_told reply told)
-  told-quiet event reply (TcpReady id) = quiet event (Ready id) refl refl (λ k. refl)
-  told-quiet event reply (tolds.Datagram peer) = quiet event (RepliedTo peer reply) refl refl (λ k. refl)
-  told-quiet event reply tolds.Silent = quiet event Silent refl refl (λ k. refl)
+  told-quiet event reply told = grind arith
 
   end-shows : (event : Event) → Shows event show_end
-  end-shows event = record { is_quiet = goes; leaves = stays }
-    where
-      goes : (r : Option Told × State) → IsQuiet s event (show_end r).0
-      goes (None, t) = quiet event Ignored refl refl (λ k. refl)
-      goes (Some told, t) = told-quiet event t.reply told
-
-      stays : (r : Option Told × State) → (show_end r).1.connections ≡ r.1.connections
-      stays (None, t) = refl
-      stays (Some told, t) = refl
+  end-shows event = grind arith
 
   end-happens : (event : Event) (at : ℕ) (message : List ℕ) (show : Option Told × State → Output × State) (r : Option EntryEnd × Ledger)
       → is_end event ≡ true → Shows event show → WasThere s r.0 → ((k : ℕ) → outcome_by s k event ≡ outcome_of_ended k message r.0) → Happens event (show (tell_end message (at_fresh_moment at s) r))
@@ -319,37 +278,7 @@ module _ (s : State) where
   told-to : (event : Event) (at : ℕ) (message : List ℕ) (id : ℕ) (said : Outcome) (r : Option EntryEnd × Ledger) (show : Option Told × State → Output × State) → is_end event ≡ true → WasThere s r.0
       → ((told : Told) (u : State) → (show (Some told, u)).1.connections ≡ u.connections) → outcome_of_ended id message r.0 ≡ Some said
       → TellsTo s event id said (show (tell_end message (at_fresh_moment at s) r)).1.connections
-  told-to event at message id said (None, l) show is there leaves told = absurd cc
-  told-to event at message id said (Some ended, l) show is there leaves told = by_caller ended.forward.caller refl
-    where
-      told-then : Caller → Told × State
-      told-then caller = tell caller (outcome_at_end message ended) (record (at_fresh_moment at s) { ledger = l })
-
-      after : Caller → Option Told × State
-      after caller = (Some (told-then caller).0, (told-then caller).1)
-
-      by_caller : (caller : Caller) → ended.forward.caller ≡ caller → TellsTo s event id said (show (after caller)).1.connections
-      by_caller (Udp peer) e =
-          let none : ◌≡◌ {A = Option Outcome} None (Some said) = sym (ap (λ (c : Caller). cond (is_connection id c) (Some (outcome_at_end message ended)) None) e) ∙ told in
-          absurd cc
-      by_caller (Tcp k peer) e = by_number (eqb k id) refl
-        where
-          by_number : (b : Bool) → eqb k id ≡ b → TellsTo s event id said (show (after (Tcp k peer))).1.connections
-          by_number false n =
-              let none : ◌≡◌ {A = Option Outcome} None (Some said) = cc in
-              absurd cc
-          by_number true n =
-              let of : is_connection id ended.forward.caller ≡ true = ap (is_connection id) e ∙ n in
-              let one : Some (outcome_at_end message ended) ≡ Some said = sym (ap (λ (b : Bool). cond b (Some (outcome_at_end message ended)) None) of) ∙ told in
-              let it : outcome_at_end message ended ≡ said = cc in
-              record {
-                at = at;
-                ends = is;
-                final = subst (λ (o : Outcome). IsFinal o) it (told-final message ended);
-                has = there ended refl id of;
-                same = leaves (told-then (Tcp k peer)).0 (told-then (Tcp k peer)).1 ∙ ap (λ (j : ℕ). changed_at j (settle (max s.clock at) (outcome_at_end message ended)) s.connections) (eqb-true k id n)
-                    ∙ ap (λ (o : Outcome). changed_at id (settle (max s.clock at) o) s.connections) it;
-              }
+  told-to event at message id said r show is there leaves told = grind arith
 
   pub tells : (event : Event) (id : ℕ) (said : Outcome) → outcome_by s id event ≡ Some said → TellsTo s event id said (step s event).1.connections
   unfolding step forward_reply expire
@@ -367,14 +296,4 @@ module _ (s : State) where
 
 -- nothing is taken or given on a connection by it
 pub end-passes-none : (event : Event) → is_end event ≡ true → (id : ℕ) → (piece_to id event ≡ []) × (gave_to id event ≡ 0)
-end-passes-none (Forward at from message) is id = (refl, refl)
-end-passes-none (Expire at) is id = (refl, refl)
-end-passes-none (Open at peer) is id = absurd cc
-end-passes-none (Bytes at k piece) is id = absurd cc
-end-passes-none (Pending k) is id = absurd cc
-end-passes-none (Gave at k n) is id = absurd cc
-end-passes-none (Closed k) is id = absurd cc
-end-passes-none NextLost is id = absurd cc
-end-passes-none (Datagram at peer content) is id = absurd cc
-end-passes-none Unsent is id = absurd cc
-end-passes-none (Sent number) is id = absurd cc
+end-passes-none event is id = grind arith

@@ -1,6 +1,7 @@
 -- What callers over UDP get at the end of their forwarded calls.
 use Rattle.std.specs.Prelude.{find, option_map}
-use Rattle.std.proofs.Common.{◌≡◌, ℕ, max, Bool, true, false, Option, Some, List, [], ◌∷◌, ◌++◌, refl, sym, ap, subst, ◌∙◌}
+use Rattle.std.proofs.Common.{◌≡◌, ℕ, max, Bool, true, false, Option, Some, List, [], ◌∷◌, ◌++◌, refl, sym, ap, subst, ◌∙◌, arith}
+use Rattle.std.proofs.lemmas.Grind.{common_steps}
 use Rattle.rb_rpc.specs.declared.peer.Peer.{Peer}
 use Rattle.rb_rpc.specs.declared.peer.Caller.{Caller}
 use Rattle.rb_rpc.specs.declared.peer.Caller.TheVariants.{Udp}
@@ -24,12 +25,8 @@ use Rattle.rb_model.specs.DeadlineLaws.{EntryIsDue}
 -- the first such entry is the one that the test finds
 module _ (Is : Entry → Type 0) (test : Entry → Bool) (means : (e : Entry) → test e ≡ true → Is e) (tested : (e : Entry) → Is e → test e ≡ true) where
   found-behind : (before behind : List Entry) (e : Entry) → NoneIs Is before → Is e → find test (before ++ e ∷ behind) ≡ Some e
-  found-behind [] behind e none is = rw (tested e is) refl
-  found-behind (x ∷ before) behind e none is = by_test (test x) refl (found-behind before behind e none.1 is)
-    where
-      by_test : (b : Bool) → test x ≡ b → find test (before ++ e ∷ behind) ≡ Some e → find test (x ∷ before ++ e ∷ behind) ≡ Some e
-      by_test true t further = absurd (none.0 (means x t))
-      by_test false t further = rw t further
+  found-behind [] behind e none is = grind arith
+  found-behind (x ∷ before) behind e none is = grind (arith, found-behind before behind e none.1 is)
 
   first-found : (all : List Entry) (e : Entry) (rest : List Entry) → IsFirst Is all e rest → find test all ≡ Some e
   first-found all e rest first = ap (λ (xs : List Entry). find test xs) first.all_are ∙ found-behind first.before first.behind e first.is_first first.is_so
@@ -41,15 +38,11 @@ module _ (s : State) (now : ℕ) (message : List ℕ) where
       (show (tell_end message (at_fresh_moment now s) (noted_end (option_map (ended_by outcome) found, record s.ledger.forwards { all = without_first test s.ledger.forwards.all }) s.ledger))).0
 
   shown : (l : Ledger) (said : Outcome) (peer : Peer) → (show_end (Some (tell (Udp peer) said (record (at_fresh_moment now s) { ledger = l })).0, (tell (Udp peer) said (record (at_fresh_moment now s) { ledger = l })).1)).0 ≡ later_output peer said
-  shown l NoCall peer = refl
-  shown l (Reply reply began) peer = refl
-  shown l Forwarded peer = refl
-  shown l Silent peer = refl
+  shown l said peer = grind arith
 
   shown-for : (l : Ledger) (said : Outcome) (caller : Caller) (peer : Peer) → caller ≡ Udp peer
       → (show_end (Some (tell caller said (record (at_fresh_moment now s) { ledger = l })).0, (tell caller said (record (at_fresh_moment now s) { ledger = l })).1)).0 ≡ later_output peer said
-  shown-for l said caller peer udp =
-      subst (λ (c : Caller). (show_end (Some (tell c said (record (at_fresh_moment now s) { ledger = l })).0, (tell c said (record (at_fresh_moment now s) { ledger = l })).1)).0 ≡ later_output peer said) (sym udp) (shown l said peer)
+  shown-for l said caller peer udp = grind (arith, common_steps, shown l said peer)
 
   ended-shown : (test : Entry → Bool) (outcome : target.Outcome) (found : Option Entry) (e : Entry) (peer : Peer) → found ≡ Some e → e.forward.caller ≡ Udp peer
       → ends show_end test outcome found ≡ later_output peer (outcome_at_end message (ended_by outcome e))

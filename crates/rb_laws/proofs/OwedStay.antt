@@ -1,5 +1,6 @@
 -- A reply that is owed stays so until its bytes are given or its connection is closed.
-use Rattle.std.proofs.Common.{◌≡◌, ℕ, max, Bool, true, false, eqb, Some, List, ◌++◌, map, take, refl, sym, ap, ◌∙◌, ◌⊎◌, inl, inr}
+use Rattle.std.proofs.Common.{◌≡◌, ℕ, max, Bool, true, false, eqb, Some, List, ◌++◌, map, take, refl, sym, ap, ◌∙◌, ◌⊎◌, inl, inr, arith}
+use Rattle.std.proofs.lemmas.Grind.{common_steps}
 use Rattle.std.proofs.lemmas.Bool.{eqb-true}
 use Rattle.rb_rpc.specs.declared.peer.Caller.TheVariants.{Tcp, Udp}
 use Rattle.rb_rpc.specs.Records.{data_of}
@@ -17,36 +18,14 @@ use Rattle.rb_laws.proofs.Live.{changed-other, closed-other, find-before}
 use Rattle.rb_laws.proofs.Entries.{Await, IsWaiting, entry-waits, reached-awaits}
 use Rattle.rb_laws.proofs.Reached.{giving-keeps}
 
-owing-takes : (p : Phase) (fed : List ℕ) → is_owing p ≡ true → fed_in p ≡ Some fed → ⊥
-owing-takes Idle fed is feeds = absurd cc
-owing-takes (Reading xs) fed is feeds = absurd cc
-owing-takes (Owing o) fed is feeds = absurd cc
-owing-takes Awaiting fed is feeds = absurd cc
-owing-takes Lost fed is feeds = absurd cc
-
 module _ (s : State) (waits : Await s) (event : Event) (id : ℕ) (c : Connection) (there : IsLive s id c) (is : is_owing c.phase ≡ true) where
   -- a connection that is fed has another number
   other : (k : ℕ) (d : Connection) (fed : List ℕ) → live_connection k s.connections.all ≡ Some d → fed_in d.phase ≡ Some fed → eqb k id ≡ false
-  other k d fed here feeds = by_test (eqb k id) refl
-    where
-      by_test : (b : Bool) → eqb k id ≡ b → eqb k id ≡ false
-      by_test false e = e
-      by_test true e =
-          let one : Some d ≡ Some c = sym here ∙ ap (λ (j : ℕ). live_connection j s.connections.all) (eqb-true k id e) ∙ there in
-          let same : d ≡ c = cc in
-          absurd (owing-takes c.phase fed is (ap (λ (x : Connection). fed_in x.phase) (sym same) ∙ feeds))
+  other k d fed here feeds = grind arith
 
   -- so has one that awaits the end of a forwarded call
   other-waits : (k : ℕ) → IsWaiting k s.connections.all → eqb k id ≡ false
-  other-waits k w = by_test (eqb k id) refl
-    where
-      by_test : (b : Bool) → eqb k id ≡ b → eqb k id ≡ false
-      by_test false e = e
-      by_test true e =
-          let one : Some w.connection ≡ Some c = sym w.there ∙ ap (λ (j : ℕ). live_connection j s.connections.all) (eqb-true k id e) ∙ there in
-          let same : w.connection ≡ c = cc in
-          let clash : true ≡ false = sym is ∙ ap (λ (x : Connection). is_owing x.phase) (sym same) ∙ ap is_owing w.phase in
-          absurd cc
+  other-waits k w = grind arith
 
   changed : (k : ℕ) (f : Connection → Connection) (now : Connections) → ((d : Connection) → (f d).number ≡ d.number) → eqb k id ≡ false → now ≡ changed_at k f s.connections
       → live_connection id now.all ≡ Some c
@@ -78,8 +57,7 @@ module _ (s : State) (waits : Await s) (event : Event) (id : ℕ) (c : Connectio
       ∙ find-before (is_live id) s.connections.all c (record { number = s.connections.next; peer = peer; phase = Idle; since = max s.clock at }) there)
   by_case output now not_it (Reads at k piece d fed e here feeds none out same) =
       inl (changed k (keep_reading (max s.clock at) (fed ++ piece)) now (λ x. refl) (other k d fed here feeds) same)
-  by_case output now not_it (Ends at k piece d fed n e here feeds some out same) =
-      another-goes-on (crowd_at s at (Tcp k d.peer) (data_of (take n (fed ++ piece)))) k (settle (max s.clock at) (said_in s at k d (take n (fed ++ piece)))) now (λ x. refl) (other k d fed here feeds) same
+  by_case output now not_it (Ends at k piece d fed n e here feeds some out same) = grind (arith, common_steps, another-goes-on, other k d fed here feeds)
   by_case output now not_it (Gives at k n d e here few out same) =
       inl (changed k (λ x. (give (max s.clock at) n x).1) now (giving-keeps (max s.clock at) n).number (ap (gives_or_closes id) (sym e) ∙ not_it) same)
   by_case output now not_it (Tells at k said e q final told has same) =

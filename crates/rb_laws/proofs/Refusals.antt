@@ -1,5 +1,6 @@
 -- A refused event leaves the state.
-use Rattle.std.proofs.Common.{◌≡◌, ℕ, Bool, true, false, cond, Option, Some, None, Result, Ok, Err, List, refl}
+use Rattle.std.proofs.Common.{◌≡◌, ℕ, Bool, true, false, cond, Option, Some, None, Result, Ok, Err, List, refl, arith}
+use Rattle.std.proofs.lemmas.Grind.{common_steps}
 use Rattle.rb_forward.specs.Forwards.{can_be_sent}
 use Rattle.rb_proto.specs.Forwarding.{call_sent}
 use Rattle.rb_model.specs.declared.types.CoreFault.{CoreFault}
@@ -27,54 +28,36 @@ IsKept s (Err fault, t) = t ≡ s
 
 -- each of two cases is so
 either : {X : Type 0} (P : X → Type 0) (b : Bool) (x y : X) → P x → P y → P (cond b x y)
-either P true x y left right = left
-either P false x y left right = right
+either P b x y left right = grind arith
 
 -- what a word that is no refusal shows
 shown-or : {A : Type 0} (s : State) (show : A → Output) (plain : (x : A) (t : State) → IsKeptIfRefused (show x) s t) (r : Result A CoreFault × State) → IsKept s r → IsKeptIfRefused (output_or show r).0 s (output_or show r).1
-shown-or s show plain (Ok x, t) kept = plain x t
-shown-or s show plain (Err fault, t) kept = kept
+shown-or s show plain r kept = grind arith
 
 moves : {A : Type 0} (now : ℕ) (s : State) (r : Result A CoreFault × Connections) → IsKept s (unless_refused now s r)
-moves now s (Ok x, c) = tt
-moves now s (Err fault, c) = refl
+moves now s r = grind arith
 
 bytes_kept : (s : State) (now id : ℕ) (piece : List ℕ) (o : Option Connection) → IsKept s (bytes_to s now id piece o)
-bytes_kept s now id piece None = refl
-bytes_kept s now id piece (Some c) = tt
+bytes_kept s now id piece o = grind arith
 
 closes : (s : State) (id : ℕ) → IsKept s (close_connection s id)
 unfolding close_connection close_in_table
-closes s id =
-    let P : Result (Unit {0}) CoreFault × Connections → Type 0 = λ r. IsKept s (dropped_with s id r) in
-    either P (is_there id s.connections) (Ok tt, without_number id s.connections) (Err Gone, s.connections) tt refl
+closes s id = grind arith
 
 lends : (s : State) (r : Result (List ℕ) CoreFault) → IsKept s (r, s)
-lends s (Ok x) = tt
-lends s (Err fault) = refl
+lends s r = grind arith
 
 shows_taken : (s : State) (t : Taken) (u : State) → IsKeptIfRefused (show_taken t) s u
 shows_taken s t u = elim (t.closed) as (λ b. IsKeptIfRefused (cond b (TookAndClosed t.count) (Took t.count)) s u) [ true ↦ tt | false ↦ tt ]
 
 shows_outcome : (s : State) (r : Outcome × State) → IsKeptIfRefused (show_outcome r).0 s (show_outcome r).1
-shows_outcome s (outcomes.Reply reply began, t) = tt
-shows_outcome s (outcomes.NoCall, t) = tt
-shows_outcome s (outcomes.Forwarded, t) = tt
-shows_outcome s (outcomes.Silent, t) = tt
-
-shows_told : (s : State) (reply : List ℕ) (told : Told) (t : State) → IsKeptIfRefused (show_told reply told) s t
-shows_told s reply (TcpReady id) t = tt
-shows_told s reply (tolds.Datagram peer) t = tt
-shows_told s reply tolds.Silent t = tt
+shows_outcome s r = grind arith
 
 shows_end : (s : State) (r : Option Told × State) → IsKeptIfRefused (show_end r).0 s (show_end r).1
-shows_end s (None, t) = tt
-shows_end s (Some told, t) = shows_told s t.reply told t
+shows_end s r = grind arith
 
 shows_expired : (s : State) (r : Expired × State) → IsKeptIfRefused (show_expired r).0 s (show_expired r).1
-shows_expired s (expiries.Nothing, t) = tt
-shows_expired s (expiries.ConnectionClosed id, t) = tt
-shows_expired s (Ended told, t) = shows_told s t.reply told t
+shows_expired s r = grind arith
 
 sends : (s : State) (number : ℕ) → IsKept s (sent_call s number)
 unfolding sent_call
@@ -82,18 +65,4 @@ sends s number = either (λ (r : Result (Unit {0}) CoreFault × State). IsKept s
 
 pub kept : (s : State) (event : Event) → IsKeptIfRefused (step s event).0 s (step s event).1
 unfolding step bytes gave open_connection
-kept s (Open now peer) = shown-or s Opened (λ x t. tt) (open_connection s now peer) (moves now s _)
-kept s (Bytes now id piece) = shown-or s show_taken (λ x t. shows_taken s x t) (bytes s now id piece) (bytes_kept s now id piece (live_connection id s.connections.all))
-kept s (Pending id) = shown-or s IsPending (λ x t. tt) (pending s id, s) (lends s (pending s id))
-kept s (Gave now id n) =
-    let P : Output × State → Type 0 = λ r. IsKeptIfRefused r.0 s r.1 in
-    let plain : Output × State = (TooMuch, s) in
-    either P (is_too_much n (pending s id)) plain (output_or show_done (gave s now id n)) refl
-    (shown-or s show_done (λ x t. tt) (gave s now id n) (moves now s _))
-kept s (Closed id) = shown-or s show_done (λ x t. tt) (close_connection s id) (closes s id)
-kept s NextLost = tt
-kept s (Datagram now peer content) = shows_outcome s (datagram s now peer content)
-kept s Unsent = tt
-kept s (Sent number) = shown-or s show_done (λ x t. tt) (sent_call s number) (sends s number)
-kept s (Forward now from message) = shows_end s (forward_reply s now from message)
-kept s (Expire now) = shows_expired s (expire s now)
+kept s event = grind (arith, common_steps, shown-or, moves, shows_taken, bytes_kept, lends, either, closes, shows_outcome, sends, shows_end, shows_expired)

@@ -2,6 +2,7 @@
 use Rattle.std.proofs.Common.{◌≡◌, ◌<◌, ◌≤◌, ◌+◌, ℕ, zero, suc, true, false, List, [], ◌∷◌, ◌++◌, length, take, drop, refl, sym, ap, ◌∙◌, append-nil, arith, inl, inr, length-append}
 use Rattle.std.proofs.lemmas.List.{length-take, length-drop}
 use Rattle.std.proofs.lemmas.Bool.{le-ltb, lt-ltb, cond-true, cond-false, cases_lt}
+use Rattle.std.proofs.lemmas.Grind.{common_steps}
 use Rattle.rb_rpc.specs.Records.{Fragment, fragment_header, markings, fragment_size, cut_up, reply_fragments, marked_reply}
 use Rattle.rb_rpc.proofs.Markings.{length-header}
 use Rattle.rb_model.specs.Connections.{longest_fragment}
@@ -19,8 +20,7 @@ abbrev front_of : List ℕ → Fragment
 front_of reply = record { last = false; content = take fragment_size reply }
 
 cut_short : (k : ℕ) (reply : List ℕ) → length reply ≤ fragment_size → cut_up k reply ≡ only reply
-cut_short zero reply few = refl
-cut_short (suc k) reply few = cond-false _ _ _ (le-ltb fragment_size (length reply) few)
+cut_short k reply few = grind (arith, common_steps)
 
 -- fuel of the reply's length is enough
 cut_enough : (j k : ℕ) (reply : List ℕ) → length reply ≤ j → length reply ≤ k → cut_up j reply ≡ cut_up k reply
@@ -50,26 +50,16 @@ marked-short reply few = ap (λ (f : List Fragment). markings f) (cut_short (len
 pub marked-long : (reply : List ℕ) → fragment_size < length reply
     → marked_reply reply ≡ (fragment_header fragment_size false ++ take fragment_size reply) ++ marked_reply (drop fragment_size reply)
 unfolding marked_reply reply_fragments
-marked-long reply long =
-    let size : length (take fragment_size reply) ≡ fragment_size = omega (arith, long, length-take fragment_size reply) in
-    ap (λ (f : List Fragment). markings f) (cut_long (length reply) reply long (omega arith))
-    ∙ ap (λ (n : ℕ). (fragment_header n false ++ take fragment_size reply) ++ marked_reply (drop fragment_size reply)) size
+marked-long reply long = grind (arith, common_steps, length-take fragment_size reply, cut_long (length reply) reply long)
 
 pub length-short : (reply : List ℕ) → length reply ≤ fragment_size → length (marked_reply reply) ≡ 4 + length reply
-length-short reply few =
-    omega (arith, ap (λ (xs : List ℕ). length xs) (marked-short reply few), length-append (fragment_header (length reply) true) reply, length-header (length reply) true)
+length-short reply few = grind (arith, common_steps, marked-short reply few, length-append (fragment_header (length reply) true) reply, length-header (length reply) true)
 
 pub length-front : (reply : List ℕ) → fragment_size < length reply → length (fragment_header fragment_size false ++ take fragment_size reply) ≡ 1028
-length-front reply long =
-    omega (arith, long, length-append (fragment_header fragment_size false) (take fragment_size reply), length-header fragment_size false, length-take fragment_size reply)
+length-front reply long = grind (arith, length-append (fragment_header fragment_size false) (take fragment_size reply), length-header fragment_size false, length-take fragment_size reply)
 
 pub length-long : (reply : List ℕ) → fragment_size < length reply → length (marked_reply reply) ≡ 1028 + length (marked_reply (drop fragment_size reply))
-length-long reply long =
-    omega (arith, ap (λ (xs : List ℕ). length xs) (marked-long reply long), length-append (fragment_header fragment_size false ++ take fragment_size reply) (marked_reply (drop fragment_size reply)), length-front reply long)
+length-long reply long = grind (arith, common_steps, length-append, marked-long reply long, length-front reply long)
 
 pub some-marked : (reply : List ℕ) → 4 ≤ length (marked_reply reply)
-some-marked reply =
-    elim (cases_lt fragment_size (length reply)) [
-      | inl long ↦ omega (arith, length-long reply long, long)
-      | inr few ↦ omega (arith, length-short reply few)
-    ]
+some-marked reply = grind (arith, common_steps, cases_lt fragment_size (length reply), length-long reply, length-short reply)
