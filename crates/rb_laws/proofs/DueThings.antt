@@ -1,8 +1,7 @@
 -- What is due, and what 'expire' does with it, by cases.
 use Rattle.std.specs.Prelude.{find}
 use Rattle.std.specs.Option.{option_map}
-use Rattle.std.proofs.Common.{◌≡◌, ℕ, max, Option, Some, None, [], ◌++◌, refl, ap, ◌∙◌, append-nil, arith}
-use Rattle.std.proofs.lemmas.Grind.{common_steps}
+use Rattle.std.proofs.Common.{◌≡◌, ℕ, max, Option, Some, None, [], ◌++◌, refl, ap, ◌∙◌, append-nil}
 use Rattle.rb_forward.specs.declared.types.Outcome.TheVariants.{Failed}
 use Rattle.rb_forward.specs.declared.types.Ended as entry
 use Rattle.rb_forward.specs.Forwards.{Entry, is_due as entry_is_due, ended_by, without_first, due}

@@ -1,24 +1,19 @@
 -- What a call does to the entries of forwarded calls: it begins one where it is forwarded, and else leaves them.
 use Rattle.std.proofs.Common.{◌≡◌, ℕ, Bool, true, false, cond, Option, Some, None, List, length, refl, arith}
-use Rattle.std.proofs.lemmas.Grind.{common_steps}
 use Rattle.rb_rpc.specs.declared.call.CallHead.{CallHead}
 use Rattle.rb_rpc.specs.declared.peer.Caller.{Caller}
-use Rattle.rb_rpc.specs.declared.peer.Caller.TheVariants.{Tcp, Udp}
 use Rattle.rb_rpc.specs.declared.reply.ReplyStatus.{ReplyStatus}
 use Rattle.rb_rpc.specs.declared.reply.ReplyStatus.TheVariants as replies
 use Rattle.rb_rpc.specs.declared.peer.Peer.{Peer}
 use Rattle.rb_feed.specs.Feeds.{arguments_of}
-use Rattle.rb_registry.specs.declared.row.Transport.{Transport}
 use Rattle.rb_registry.specs.declared.row.Row.{Row}
 use Rattle.rb_registry.specs.declared.row.Which.{Which}
 use Rattle.rb_forward.specs.declared.types.Forward.{Forward}
 use Rattle.rb_rpc.specs.declared.peer.Kind.{Kind}
-use Rattle.rb_rpc.specs.declared.peer.Kind.TheVariants.{Callit2, Callit3, Bcast, Indirect}
 use Rattle.rb_forward.specs.Forwards.{Forwards, can_start, with_next_entry}
 use Rattle.rb_proto.specs.declared.answers.Answer.{Answer}
 use Rattle.rb_proto.specs.declared.answers.Answer.TheVariants as answers
 use Rattle.rb_proto.specs.declared.answers.Results.{Results}
-use Rattle.rb_proto.specs.declared.answers.Results.TheVariants as results
 use Rattle.rb_proto.specs.declared.context.Context.{Context}
 use Rattle.rb_arguments.specs.declared.mapping.Mapping.{Mapping}
 use Rattle.rb_arguments.specs.declared.procedure.MappingProcedure.TheVariants as mappings
@@ -28,10 +23,9 @@ use Rattle.rb_arguments.specs.declared.request.Request.{Request}
 use Rattle.rb_arguments.specs.declared.request.Request.TheVariants as requests
 use Rattle.rb_proto.specs.Ledger.{Ledger, rows_in, with_call_noted}
 use Rattle.rb_proto.specs.Results.{result_bytes, shown_of}
-use Rattle.rb_proto.specs.Netids.{transport_of_prot}
 use Rattle.rb_arguments.specs.Remote.{args_of}
 use Rattle.rb_proto.specs.Forwarding.{refusal, peer_to_forward, forward_of, refuse, forward_to, forward_call}
-use Rattle.rb_proto.specs.Answers.{set_row, unset_rows, port_on, getport, getaddr, getversaddr, answer_to, answer}
+use Rattle.rb_proto.specs.Answers.{set_row, unset_rows, getport, getaddr, getversaddr, answer_to, answer}
 use Rattle.rb_model.specs.declared.message.Message.{Message}
 use Rattle.rb_model.specs.declared.message.Message.TheVariants as says
 use Rattle.rb_model.specs.Calls.{Outcome, message_of, results_outcome, reply_with, outcome}

@@ -1,39 +1,31 @@
 -- What an event does to the connections, and what it gives, by cases.
 use Rattle.std.specs.Prelude.{find}
 use Rattle.std.specs.List.{list_any}
-use Rattle.std.specs.Option.{option_map}
-use Rattle.std.proofs.Common.{◌≡◌, ◌⊎◌, inl, inr, ◌≤◌, ℕ, ◌-◌, max, Bool, true, false, cond, ◌||◌, Option, Some, None, Result, Ok, Err, List, [], ◌∷◌, ◌++◌, length, take, nat_lt, not, eqb, eq-eqb, refl, sym, ap, subst, ◌∙◌, arith}
+use Rattle.std.proofs.Common.{◌≡◌, ◌⊎◌, inl, inr, ◌≤◌, ℕ, ◌-◌, max, Bool, true, false, cond, Option, Some, None, Result, Ok, Err, List, [], ◌∷◌, ◌++◌, length, take, nat_lt, eq-eqb, refl, ap, ◌∙◌, arith}
 use Rattle.std.proofs.lemmas.Grind.{common_steps}
-use Rattle.std.proofs.lemmas.Bool.{ltb-false, eqb-true}
+use Rattle.std.proofs.lemmas.Bool.{ltb-false}
 use Rattle.rb_rpc.specs.declared.peer.Peer.{Peer}
 use Rattle.rb_rpc.specs.declared.peer.Caller.{Caller}
 use Rattle.rb_rpc.specs.declared.peer.Caller.TheVariants.{Tcp, Udp}
-use Rattle.rb_rpc.specs.declared.reply.ReplyStatus.{ReplyStatus}
-use Rattle.rb_rpc.specs.declared.reply.ReplyStatus.TheVariants as replies
 use Rattle.rb_rpc.specs.Records.{first_record, data_of}
-use Rattle.rb_rpc.specs.declared.peer.Kind.{Kind}
-use Rattle.rb_rpc.specs.declared.peer.Kind.TheVariants.{Callit2, Callit3, Bcast, Indirect}
 use Rattle.rb_forward.specs.declared.types.Outcome as target
-use Rattle.rb_forward.specs.declared.types.Outcome.TheVariants.{Passed, Failed, Dropped}
-use Rattle.rb_forward.specs.declared.types.Outcome.TheVariants as ends
+use Rattle.rb_forward.specs.declared.types.Outcome.TheVariants.{Failed}
 use Rattle.rb_forward.specs.declared.types.Ended.{Ended as EntryEnd}
-use Rattle.rb_forward.specs.Forwards.{Entry, is_connection, is_of_connection, counts_for, is_due, outcome_of, ended_by, with_end, reply, due, can_be_sent}
+use Rattle.rb_forward.specs.Forwards.{Entry, is_connection, is_of_connection, counts_for, is_due, outcome_of, with_end, reply, due, can_be_sent}
 use Rattle.rb_proto.specs.Ledger.{Ledger}
-use Rattle.rb_proto.specs.Forwarding.{refusal, target_replied, fell_due, call_sent}
+use Rattle.rb_proto.specs.Forwarding.{target_replied, fell_due, call_sent}
 use Rattle.rb_model.specs.declared.types.CoreFault.{CoreFault}
-use Rattle.rb_model.specs.declared.types.CoreFault.TheVariants.{Full, Spent, Gone}
+use Rattle.rb_model.specs.declared.types.CoreFault.TheVariants.{Gone}
 use Rattle.rb_model.specs.declared.types.Told.{Told}
-use Rattle.rb_model.specs.declared.types.Told.TheVariants.{TcpReady}
-use Rattle.rb_model.specs.declared.types.Told.TheVariants as tolds
 use Rattle.rb_model.specs.Calls.{Outcome, Outcome as outcomes, is_no_call, message_of}
-use Rattle.rb_model.specs.State.{State, Connection, Connections, at_moment, greatest_number}
+use Rattle.rb_model.specs.State.{State, Connection, Connections, at_moment}
 use Rattle.rb_model.specs.Connections.{fed_in, taking_of, taking_up_to, keep_reading, settle, give, pending_in, live_connection, changed_at, on_found, number_for, with_new, opening_as, open_in_table, is_there, without_number, close_in_table}
-use Rattle.rb_model.specs.Ending.{refused_by, outcome_of_failure, outcome_of_end, outcome_at_end, tell, tell_end, at_fresh_moment, forward_reply, expired_as, expire}
+use Rattle.rb_model.specs.Ending.{outcome_at_end, tell, tell_end, at_fresh_moment, forward_reply, expired_as, expire}
 use Rattle.rb_model.specs.Losses.{removals_in_the_way, evict, is_due as connection_is_due, lose}
 use Rattle.rb_model.specs.Step.{Event, Output, context_in, serve, serve_record, unless_refused, when_taken, bytes_to, bytes, pending, pending_on, gave, is_too_much, open_connection, dropped_with, close_connection, next_lost, with_reply, datagram, unsent_call, sent_call, output_or, show_taken, show_done, show_outcome, show_told, show_end, show_expired, on_connection, step}
 use Rattle.rb_model.specs.declared.types.Taken.{Taken}
 use Rattle.rb_model.specs.Step.Event.{Open, Bytes, Pending, Gave, Closed, NextLost, Datagram, Unsent, Sent, Forward, Expire}
-use Rattle.rb_model.specs.Step.Output.{Opened, Refused, TooMuch, Took, IsPending, Done, LostIs, Replied, Forwarded, Silent, UnsentIs, Ignored, Nothing, ConnectionClosed, Ready, RepliedTo}
+use Rattle.rb_model.specs.Step.Output.{Opened, Refused, TooMuch, Took, IsPending, Done, LostIs, Replied, Forwarded, Silent, UnsentIs, Nothing, ConnectionClosed}
 use Rattle.rb_model.specs.declared.types.Expired.{Expired}
 use Rattle.rb_model.specs.Laws.{number_given}
 use Rattle.rb_model.specs.Sessions.{piece_to, gave_to, given_by, IsFinal, outcome_of_ended, outcome_by}

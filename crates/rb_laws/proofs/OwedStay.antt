@@ -1,17 +1,16 @@
 -- A reply that is owed stays so until its bytes are given or its connection is closed.
-use Rattle.std.proofs.Common.{◌≡◌, ℕ, max, Bool, true, false, eqb, Some, List, ◌++◌, map, take, refl, sym, ap, ◌∙◌, ◌⊎◌, inl, inr, arith}
+use Rattle.std.proofs.Common.{◌≡◌, ℕ, max, Bool, true, false, eqb, Some, List, ◌++◌, map, refl, sym, ap, ◌∙◌, ◌⊎◌, inl, inr, arith}
 use Rattle.std.proofs.lemmas.Grind.{common_steps}
 use Rattle.std.proofs.lemmas.Bool.{eqb-true}
-use Rattle.rb_rpc.specs.declared.peer.Caller.TheVariants.{Tcp, Udp}
-use Rattle.rb_rpc.specs.Records.{data_of}
-use Rattle.rb_model.specs.State.{State, Phase, Connection, Connections}
-use Rattle.rb_model.specs.State.Phase.{Idle, Reading, Owing, Awaiting, Lost}
+use Rattle.rb_rpc.specs.declared.peer.Caller.TheVariants.{Udp}
+use Rattle.rb_model.specs.State.{State, Connection, Connections}
+use Rattle.rb_model.specs.State.Phase.{Idle}
 use Rattle.rb_model.specs.Connections.{is_live, live_connection, fed_in, change_first, changed_at, keep_reading, settle, give, without_number}
 use Rattle.rb_model.specs.Step.{Event, Output, step}
 use Rattle.rb_model.specs.Laws.{IsLive, is_owing, gives_or_closes, OwedRepliesStay}
 use Rattle.rb_model.specs.Losses.{evict_early, evict, lose}
 use Rattle.rb_laws.proofs.Crowds.{live_or_lost, lost_stays}
-use Rattle.rb_laws.proofs.Happenings.{Happening, happening, said_in, crowd_at}
+use Rattle.rb_laws.proofs.Happenings.{Happening, happening, crowd_at}
 use Rattle.rb_laws.proofs.Happenings.Happening.{Stays, Evicts, Opens, Reads, Ends, Gives, Closes, Tells, TimesOut}
 use Rattle.rb_laws.proofs.Closings.{lost_in, now-lost, timing-out}
 use Rattle.rb_laws.proofs.Live.{changed-other, closed-other, find-before}

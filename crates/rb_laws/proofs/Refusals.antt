@@ -1,24 +1,18 @@
 -- A refused event leaves the state.
-use Rattle.std.proofs.Common.{◌≡◌, ℕ, Bool, true, false, cond, Option, Some, None, Result, Ok, Err, List, refl, arith}
+use Rattle.std.proofs.Common.{◌≡◌, ℕ, Bool, true, false, cond, Option, Result, Ok, Err, List, refl, arith}
 use Rattle.std.proofs.lemmas.Grind.{common_steps}
 use Rattle.rb_forward.specs.Forwards.{can_be_sent}
 use Rattle.rb_proto.specs.Forwarding.{call_sent}
 use Rattle.rb_model.specs.declared.types.CoreFault.{CoreFault}
 use Rattle.rb_model.specs.declared.types.CoreFault.TheVariants.{Gone}
-use Rattle.rb_model.specs.Calls.{Outcome, Outcome as outcomes}
+use Rattle.rb_model.specs.Calls.{Outcome}
 use Rattle.rb_model.specs.State.{State, Connection, Connections}
-use Rattle.rb_model.specs.Connections.{live_connection, close_in_table, is_there, without_number}
+use Rattle.rb_model.specs.Connections.{close_in_table}
 use Rattle.rb_model.specs.declared.types.Told.{Told}
-use Rattle.rb_model.specs.declared.types.Told.TheVariants.{TcpReady}
-use Rattle.rb_model.specs.declared.types.Told.TheVariants as tolds
 use Rattle.rb_model.specs.declared.types.Expired.{Expired}
-use Rattle.rb_model.specs.declared.types.Expired.TheVariants.{Ended}
-use Rattle.rb_model.specs.declared.types.Expired.TheVariants as expiries
-use Rattle.rb_model.specs.Ending.{forward_reply, expire}
-use Rattle.rb_model.specs.Step.{Event, Output, dropped_with, sent_call, show_told, show_end, show_expired, unless_refused, bytes_to, bytes, pending, gave, is_too_much, open_connection, close_connection, datagram, output_or, show_taken, show_done, show_outcome, step}
+use Rattle.rb_model.specs.Step.{Event, Output, sent_call, show_end, show_expired, unless_refused, bytes_to, bytes, gave, open_connection, close_connection, output_or, show_taken, show_outcome, step}
 use Rattle.rb_model.specs.declared.types.Taken.{Taken}
-use Rattle.rb_model.specs.Step.Event.{Open, Bytes, Pending, Gave, Closed, NextLost, Datagram, Unsent, Sent, Forward, Expire}
-use Rattle.rb_model.specs.Step.Output.{Opened, TooMuch, Took, TookAndClosed, IsPending}
+use Rattle.rb_model.specs.Step.Output.{Took, TookAndClosed}
 use Rattle.rb_model.specs.Laws.{IsKeptIfRefused}
 
 -- a call that refuses leaves the state

@@ -1,24 +1,18 @@
 -- The bytes that a call was read from have its arguments.
-use Rattle.std.specs.Prelude.{IfOk, option_map, option_and_then, not, ◌==◌}
-use Rattle.std.proofs.Common.{◌≡◌, ℕ, Bool, true, false, cond, List, Option, Some, None, Result, Ok, Err, refl, subst, arith}
+use Rattle.std.specs.Prelude.{IfOk, option_map}
+use Rattle.std.proofs.Common.{◌≡◌, ℕ, List, Option, Some, Result, Ok, Err, refl, subst, arith}
 use Rattle.std.proofs.lemmas.Grind.{common_steps}
 use Rattle.rb_xdr.specs.Xdr.{Reading}
 use Rattle.rb_rpc.specs.declared.call.CallHead.{CallHead}
 use Rattle.rb_rpc.specs.declared.call.Verdict.{Verdict}
-use Rattle.rb_rpc.specs.declared.call.Verdict.TheVariants.{NoCall, RpcMismatch, AuthError, Call}
-use Rattle.rb_rpc.specs.declared.reply.ReplyStatus.TheVariants as replies
-use Rattle.rb_registry.specs.Rows.{rpcb_prog}
 use Rattle.rb_arguments.specs.declared.procedure.Procedure.{Procedure}
-use Rattle.rb_arguments.specs.declared.procedure.Procedure.TheVariants as procedures
 use Rattle.rb_arguments.specs.declared.remote.RemoteCall.{RemoteCall}
 use Rattle.rb_arguments.specs.declared.request.ArgumentFault.{ArgumentFault}
-use Rattle.rb_arguments.specs.declared.request.ArgumentFault.TheVariants as faults
 use Rattle.rb_arguments.specs.declared.request.Request.{Request}
-use Rattle.rb_arguments.specs.declared.request.Request.TheVariants.{Void, Mapping, Rpcb, Uaddr2taddr, Taddr2uaddr, Forward}
 use Rattle.rb_arguments.specs.Remote.{read_remote, HasContent}
-use Rattle.rb_arguments.specs.Arguments.{procedure_at, is_known, value_of, front, arguments, request, or_garbage, read_request, HasArgs}
+use Rattle.rb_arguments.specs.Arguments.{value_of, front, arguments, request, read_request, HasArgs}
 use Rattle.rb_arguments.proofs.Remotes.{content_is_there}
-use Rattle.rb_model.specs.Calls.{is_served, refusal, request_of, call_of, message_with}
+use Rattle.rb_model.specs.Calls.{request_of, call_of, message_with}
 use Rattle.rb_model.specs.Grammar.{HasArgsIn}
 
 -- the request that was made of what was read

@@ -1,11 +1,10 @@
 -- The first connection that is due is the live one of its number.
 use Rattle.std.specs.Prelude.{⊤, find}
 use Rattle.std.specs.List.{list_any}
-use Rattle.std.proofs.Common.{◌≡◌, ℕ, Bool, true, false, cond, ◌||◌, eqb, List, [], ◌∷◌, Some, refl, sym, ap, subst, ◌∙◌, eq-eqb, arith}
+use Rattle.std.proofs.Common.{◌≡◌, ℕ, Bool, true, false, List, [], ◌∷◌, Some, arith}
 use Rattle.std.proofs.lemmas.Grind.{common_steps}
 use Rattle.std.proofs.lemmas.Bool.{eqb-true}
 use Rattle.rb_model.specs.State.{Phase, Connection}
-use Rattle.rb_model.specs.State.Phase.{Idle, Reading, Owing, Awaiting, Lost}
 use Rattle.rb_model.specs.Connections.{change_first, has_number, is_lost, is_live}
 use Rattle.rb_model.specs.Laws.{is_awaiting}
 use Rattle.rb_model.specs.Losses.{is_due, has_come, deadline}

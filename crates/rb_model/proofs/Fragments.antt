@@ -1,7 +1,7 @@
 -- A marked reply, unrolled into its fragments.
 use Rattle.std.proofs.Common.{◌≡◌, ◌<◌, ◌≤◌, ◌+◌, ℕ, zero, suc, true, false, List, [], ◌∷◌, ◌++◌, length, take, drop, refl, sym, ap, ◌∙◌, append-nil, arith, inl, inr, length-append}
 use Rattle.std.proofs.lemmas.List.{length-take, length-drop}
-use Rattle.std.proofs.lemmas.Bool.{le-ltb, lt-ltb, cond-true, cond-false, cases_lt}
+use Rattle.std.proofs.lemmas.Bool.{lt-ltb, cond-true, cases_lt}
 use Rattle.std.proofs.lemmas.Grind.{common_steps}
 use Rattle.rb_rpc.specs.Records.{Fragment, fragment_header, markings, fragment_size, cut_up, reply_fragments, marked_reply}
 use Rattle.rb_rpc.proofs.Markings.{length-header}
