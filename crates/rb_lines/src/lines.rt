@@ -209,7 +209,8 @@ fn take_line(
 
 /// The events of the lines of a text.
 fn read_lines(alloc: Global, text: &[u8]) -> Result<Vec<Event>, ReadFault>
-    ensures { GivesEvents (λ events. events_of events.items) result (events_from 1 (lines_of text.now)) }
+    ensures { GivesEvents (λ events. events_of events.items) result
+        (events_from 1 (lines_of text.now)) }
 {
     let mut events = Vec::new(alloc);
     for (i, line) in text.split(|b| *b == b'\n').enumerate() {
