@@ -16,7 +16,7 @@ least n = omega arith
 pub returns-in_default-clause-acts : goal.returns-in_default-clause-acts
 returns-in_default-clause-acts c =
     none_given _ c.args.self.now c.args.clock c.args.n
-    (λ x h. rw (nothing_pending _ _ _ _ x.phase c.in_default.not-Giving h.phase) (least c.args.n))
+    (λ x h. rw (nothing_pending _ _ _ _ x.phase c.in_default.not-Owing h.phase) (least c.args.n))
 
 pub returns-then-more-eq0-clause-acts : goal.returns-then-more-eq0-clause-acts
 returns-then-more-eq0-clause-acts c =
