@@ -51,7 +51,7 @@ say_kit
 echo "make test: $crates crates on $cores cores: from nothing about $(minutes_of_test "$cores") minutes;" \
     "what this machine passed before is not proved again"
 # Kits that keep nothing prove all anew, and know no such word.
-if [ "${1:-}" = --anew ] && ! rt help 2> /dev/null | grep -q -e --anew; then
+if [ "${1:-}" = --anew ] && ! rt help 2>&1 | grep -q -e --anew; then
     shift
 fi
 add rt ci "$@"
