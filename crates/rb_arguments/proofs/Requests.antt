@@ -73,7 +73,7 @@ request_asks vers proc bytes are r e = by_procedure (procedure_at vers proc) e
     by_procedure None e = absurd (none-some r e)
     by_procedure (Some p) e = let is = arguments_spelled p bytes are r e in (ap Some is.0, is.1)
 
-asked_request : (vers proc : ℕ) (bytes : List ℕ) (r : Request) → Asks vers proc r bytes → request vers proc bytes ≡ Some r
+pub asked_request : (vers proc : ℕ) (bytes : List ℕ) (r : Request) → Asks vers proc r bytes → request vers proc bytes ≡ Some r
 unfolding request
 asked_request vers proc bytes r is = ap (λ (p : Option Procedure). option_and_then (λ q. arguments q bytes) p) is.0 ∙ arguments_read r bytes is.1
 

@@ -5,7 +5,9 @@ pub mod Phases
 pub mod Fragments
 pub mod Progress
 pub mod DueSlots
+pub mod Soonest
 pub mod Slots
+pub mod Standing
 pub mod Expiring
 pub mod Listings
 pub mod Evicting

@@ -4,6 +4,8 @@ pub mod LiveSlots
 pub mod Reading
 pub mod Giving
 pub mod Listings
+pub mod Deadlines
+pub mod Standings
 pub mod Awaits
 pub mod Settling
 pub mod Costs

@@ -9,11 +9,14 @@ ghost use Rattle.rb_connections.specs.Slots.{wanted_slot, AreBuffers, AreSpare, 
 ghost use Rattle.rb_connections.specs.LiveSlots.{charge_of, count_cost, FindsLive, LendsLive};
 ghost use Rattle.rb_connections.specs.StandsFor.{held_in};
 ghost use Rattle.rb_connections.specs.Listings.{earlier_of, began_before_earliest, with_evicted, stamps_in, IsOldest};
+ghost use Rattle.rb_connections.specs.Deadlines.{slot_deadlines};
+ghost use Rattle.rb_forward.specs.Deadlines.{soonest_of, next_deadline_cost};
 ghost use Rattle.rb_model.specs.Costs.{oldest_cost, evict_cost};
 
 use crate::hints::Hints;
 use crate::slot::{Buffers, CHARGE, Received, Slot, Stage, Wanted, WholeRecord};
-use rb_model::{CoreFault, LONGEST_KEPT, LONGEST_REPLY, Served};
+use rb_forward::sooner;
+use rb_model::{CoreFault, LONGEST_KEPT, LONGEST_REPLY, Served, Standing};
 use rb_registry::Registry;
 use rb_rpc::{LONGEST_FRAGMENT, Peer, one_fragment};
 use rb_xdr::{Kept, Meter, NoMemory, Pool};
@@ -153,6 +156,22 @@ fn oldest_in(slots: &Pool<Slot>, meter: &mut Meter) -> Option<u64>
     oldest
 }
 
+/// The least deadline of the slots.
+fn soonest_in(slots: &Pool<Slot>, meter: &mut Meter) -> Option<u64>
+    requires tie { meter.old.tie ≡ slots.now.tie }
+    ensures soonest { result ≡ soonest_of (slot_deadlines slots.now.entries) }
+    ensures cost { PaysAtMost meter.old meter.new
+        (next_deadline_cost (length slots.now.entries)) }
+{
+    let mut soonest = None;
+    let mut place = None;
+    'slots: while let Some((key, slot)) = slots.entry_after(place, meter) {
+        soonest = sooner(soonest, slot.deadline());
+        place = Some(key);
+    }
+    soonest
+}
+
 /// Whether a list with this stamp began before a change.
 fn began_before_earliest(stamp: Option<u64>, earliest: u64) -> bool
     ensures { result ≡ began_before_earliest earliest stamp }
@@ -257,6 +276,8 @@ impl Connections {
     ghost use Rattle.rb_model.specs.Served.{kind_in, IsWritten, source_for};
     ghost use Rattle.rb_connections.specs.Listings.{CanContinueAll, KeepsListing, EvictsBefore, stamps_of, IsOldest};
     ghost use Rattle.rb_model.specs.Losses.{expire_first};
+    ghost use Rattle.rb_model.specs.Standings.{is_done};
+    ghost use Rattle.rb_connections.specs.Standings.{TellsStanding, TellsReceived, IsStanding, received_part};
     ghost use Rattle.rb_connections.specs.Slots.{Finds, TableActs, TableGives, TableHasArguments, TableLends, TableShows, TakesWhole, KeepsWhole, StaysTable, IsDraft, IsEmptyDraft, empty_table, take_piece, HasBuffers};
     ghost use Rattle.rb_model.specs.Step.{pending_at};
     ghost use Rattle.rb_connections.specs.Costs.{slot_count, look_cost, received_cost, taken_cost, settling_cost, giving_cost};
@@ -368,28 +389,31 @@ impl Connections {
         clock: u64,
         arguments: &mut Kept,
         meter: &mut Meter,
-    ) -> Result<Received, CoreFault>
+    ) -> Result<(Received, Standing), CoreFault>
         requires tie { meter.old.tie ≡ self.old.tie }
         requires arguments { IsDraft meter.old.tie arguments.old }
-        ensures acts { TableActs (on_live id (take_piece clock piece.now)) self.old self.new result }
+        ensures acts { TableActs (on_live id (take_piece clock piece.now)) self.old self.new
+            (received_part result) }
+        ensures stands { TellsReceived id self.new result }
         ensures arguments { TableHasArguments id piece.now self.old arguments.old arguments.new }
         ensures goes_on { GoOn self.old self.new }
-        ensures ends { EndsOnFree id clock self.old self.new result }
-        ensures within { IfOk result (λ got. got.count ≤ length piece.now) }
+        ensures ends { EndsOnFree id clock self.old self.new (received_part result) }
+        ensures within { IfOk result (λ got. got.0.count ≤ length piece.now) }
         ensures refused { OnErr result (self.new ≡ self.old) }
         ensures kept { OnErr result (arguments.new ≡ arguments.old) }
         ensures draft { IsDraft meter.old.tie arguments.new }
         ensures as_many { length self.new.slots ≡ length self.old.slots }
         ensures cost { PaysAtMost meter.old meter.new
-            (2 * slot_count self.old + 3 + taken_cost result) }
+            (2 * slot_count self.old + 3 + taken_cost (received_part result)) }
     {
         let Some(slot) = live_slot(&mut self.slots, &mut self.hints, &mut self.held, id, meter)
         else {
             return Err(CoreFault::Gone);
         };
         let received = slot.take(piece, clock, arguments, meter);
+        let standing = slot.standing();
         self.held += slot.charge(meter);
-        Ok(received)
+        Ok((received, standing))
     }
 
     /// Settles the live connection of the number when its record was answered, or its forwarded call has ended. It
@@ -404,7 +428,7 @@ impl Connections {
         registry: &Registry,
         draft: &mut Kept,
         meter: &mut Meter,
-    )
+    ) -> Standing
         requires registry { meter.old.tie ≡ registry.now.tie }
         requires tie { meter.old.tie ≡ self.old.tie }
         requires draft { IsDraft meter.old.tie draft.old }
@@ -412,6 +436,7 @@ impl Connections {
         requires lists { CanContinueAll (source_for host registry.now) self.old }
         ensures stands { Settles
             (source_for host registry.now) id clock served draft.old.bytes self.old self.new }
+        ensures standing { IsStanding id self.new result }
         ensures lists { CanContinueAll (source_for host registry.now) self.new }
         ensures others { OnlyIsFreed id self.old self.new }
         ensures awaits { AwaitsIfForwarded (kind_in served) id self.old self.new }
@@ -422,14 +447,16 @@ impl Connections {
         let Some(slot) = live_slot(&mut self.slots, &mut self.hints, &mut self.held, id, meter)
         else {
             draft.clear(meter);
-            return;
+            return Standing::Lost;
         };
         slot.settle(served, clock, host, registry, draft, meter);
+        let standing = slot.standing();
         self.held += slot.charge(meter);
+        standing
     }
 
-    /// Counts n of the pending bytes of the live connection of the number as given, or as many as there are: `Gone`
-    /// where there is none. The next fragment of a list is made in a buffer that is empty before and after.
+    /// Counts n of the pending bytes of the live connection of the number as given, or as many as there are, and returns
+    /// where it stands then: `Gone` where there is none. The next fragment of a list is made in a buffer that is empty before and after.
     pub fn give(
         &mut self,
         id: u64,
@@ -439,13 +466,14 @@ impl Connections {
         registry: &Registry,
         draft: &mut Kept,
         meter: &mut Meter,
-    ) -> Result<(), CoreFault>
+    ) -> Result<Standing, CoreFault>
         requires registry { meter.old.tie ≡ registry.now.tie }
         requires tie { meter.old.tie ≡ self.old.tie }
         requires draft { IsEmptyDraft meter.old.tie draft.old }
         requires lists { CanContinueAll (source_for host registry.now) self.old }
         ensures acts { TableGives
-            (source_for host registry.now) id clock n self.old self.new result }
+            (source_for host registry.now) id clock n self.old self.new (is_done result) }
+        ensures stands { TellsStanding id self.new result }
         ensures lists { CanContinueAll (source_for host registry.now) self.new }
         ensures free { NoneIsFreed self.old self.new }
         ensures refused { OnErr result (self.new ≡ self.old) }
@@ -458,8 +486,9 @@ impl Connections {
             return Err(CoreFault::Gone);
         };
         slot.give(n, clock, host, registry, draft, meter);
+        let standing = slot.standing();
         self.held += slot.charge(meter);
-        Ok(())
+        Ok(standing)
     }
 
     /// The least stamp of the lists that are being given.
@@ -561,5 +590,23 @@ impl Connections {
             Some(slot) => Some(slot.number),
             None => None,
         }
+    }
+}
+
+impl Connections {
+    ghost use Rattle.std.specs.Prelude.{◌≡◌};
+    ghost use Rattle.rb_xdr.specs.Meter.{PaysAtMost};
+    ghost use Rattle.rb_forward.specs.Deadlines.{next_deadline_cost};
+    ghost use Rattle.rb_model.specs.NextDeadlines.{next_connection_deadline};
+    ghost use Rattle.rb_connections.specs.Costs.{slot_count};
+    ghost use Rattle.rb_connections.specs.Slots.{TableShows};
+
+    /// The least deadline of the connections, or `None` where none of them has one. Before it `expire` makes none Lost.
+    pub fn next_deadline(&self, meter: &mut Meter) -> Option<u64>
+        requires { meter.old.tie ≡ self.now.tie }
+        ensures soonest { TableShows next_connection_deadline self.now result }
+        ensures cost { PaysAtMost meter.old meter.new (next_deadline_cost (slot_count self.now)) }
+    {
+        soonest_in(&self.slots, meter)
     }
 }

@@ -5,7 +5,7 @@ ghost use Rattle.rb_xdr.specs.Meter.{Pays, PaysAtMost};
 use crate::deadlines::time_in;
 use crate::giving::{Giving, Rest, show_next};
 use crate::reading::{Fed, Reader};
-use rb_model::{Outcome, Served};
+use rb_model::{Outcome, Served, Standing};
 use rb_proto::ListReply;
 use rb_registry::Registry;
 use rb_rpc::{Peer, Verdict};
@@ -162,6 +162,8 @@ impl Slot {
     ghost use Rattle.rb_model.specs.Served.{source_for, IsWritten, kind_in};
     ghost use Rattle.rb_model.specs.Calls.{kept_of};
     ghost use Rattle.rb_connections.specs.Listings.{stamp_of_slot, CanContinueSlot, SlotKeepsListing, CanContinueSlotByAll};
+    ghost use Rattle.rb_connections.specs.Deadlines.{slot_deadline};
+    ghost use Rattle.rb_connections.specs.Standings.{standing_of_slot};
     ghost use Rattle.rb_connections.specs.Giving.{CanMake};
     ghost use Rattle.rb_connections.specs.Settling.{SlotSettles};
     ghost use Rattle.rb_connections.specs.Giving.{SlotShowsNext};
@@ -198,13 +200,37 @@ impl Slot {
     }
 
     /// Whether its deadline has come.
-    #[tactic(auto, unfolding(crate::specs::Slots::is_due_slot, rb_forward::specs::Forwards::later))]
+    #[tactic(auto, unfolding(crate::specs::Slots::is_due_slot, crate::specs::Deadlines::slot_deadline))]
     fn is_due(&self, clock: u64) -> bool
         ensures { result ≡ is_due_slot clock self.now }
     {
-        match time_in(&self.stage) {
-            Some(time) => self.since.saturating_add(time) <= clock,
+        match self.deadline() {
+            Some(moment) => moment <= clock,
             None => false,
+        }
+    }
+
+    /// The moment from which it is due, if there is one.
+    #[tactic(auto, unfolding(crate::specs::Deadlines::slot_deadline, rb_forward::specs::Forwards::later))]
+    pub fn deadline(&self) -> Option<u64>
+        ensures { result ≡ slot_deadline self.now }
+    {
+        match time_in(&self.stage) {
+            Some(time) => Some(self.since.saturating_add(time)),
+            None => None,
+        }
+    }
+
+    /// Where it stands.
+    pub fn standing(&self) -> Standing
+        ensures { result ≡ standing_of_slot self.now }
+    {
+        match self.stage {
+            Stage::Idle => Standing::Idle,
+            Stage::Reading(_) => Standing::Reading,
+            Stage::Owing(_) => Standing::Owing,
+            Stage::Awaiting => Standing::Awaiting,
+            Stage::Lost => Standing::Lost,
         }
     }
 

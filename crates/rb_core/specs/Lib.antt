@@ -7,3 +7,4 @@ pub mod Core
 pub mod CallCosts
 pub mod Events
 pub mod WorkedHeld
+pub mod Standings

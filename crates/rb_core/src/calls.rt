@@ -6,6 +6,7 @@ ghost use Rattle.rb_connections.specs.Awaits.{GoOn, EndsOnFree, StayOpen};
 ghost use Rattle.rb_connections.specs.Giving.{whole_cost};
 ghost use Rattle.rb_core.specs.AtOnce.{IsGivenAtOnce, count_at_once};
 ghost use Rattle.rb_core.specs.CallCosts.{PaysForPiece, PaysInRoom};
+ghost use Rattle.rb_core.specs.Standings.{TellsIfQuiet};
 ghost use Rattle.rb_core.specs.Core.{arguments_in, received_in, HasArguments, TakesPiece};
 ghost use Rattle.rb_serving.specs.Serving.{CanServe, IsEmptyReply, LeavesBooks, source_in};
 ghost use Rattle.rb_core.specs.Eviction.{ServesVerdict};
@@ -14,7 +15,7 @@ ghost use Rattle.rb_connections.specs.Slots.{IsDraft};
 
 use crate::eviction::make_room;
 use rb_connections::{Connections, EndedRecord, Received, give_whole};
-use rb_model::{CoreFault, Outcome, Served};
+use rb_model::{CoreFault, Outcome, Served, Standing};
 use rb_proto::{Books, Context};
 use rb_rpc::{FRAGMENT_HEADER, Verdict, read_call};
 use rb_serving::{kept_arguments, procedure_of, serve, serve_null};
@@ -26,6 +27,8 @@ use rb_xdr::{Kept, Meter};
 pub struct Piece<'a> {
     pub received: Received,
     pub arguments: Option<&'a [u8]>,
+    /// Where the connection stands then, if no record ended.
+    pub standing: Standing,
 }
 
 /// Takes bytes that arrive on the live connection of the number, at most up to the end of a record (RFC 5531 section
@@ -43,6 +46,7 @@ pub fn take_piece<'a>(
     requires arguments { IsDraft meter.old.tie arguments.old }
     ensures acts { TakesPiece id clock piece.now connections.old connections.new result }
     ensures arguments { HasArguments id piece.now connections.old arguments.old arguments.new result }
+    ensures stands { IfOk result (TellsIfQuiet id connections.new) }
     ensures goes_on { GoOn connections.old connections.new }
     ensures ends { EndsOnFree id clock connections.old connections.new (received_in result) }
     ensures within { IfOk result (λ got. got.received.count ≤ length piece.now) }
@@ -60,12 +64,14 @@ pub fn take_piece<'a>(
         return Ok(Piece {
             received: Received { count, ended },
             arguments: Some(kept_arguments(verdict, whole.content)),
+            standing: Standing::Idle,
         });
     }
-    let received = connections.take(id, piece, clock, arguments, meter)?;
+    let (received, standing) = connections.take(id, piece, clock, arguments, meter)?;
     Ok(Piece {
         received,
         arguments: None,
+        standing,
     })
 }
 

@@ -5,9 +5,9 @@ ghost use Rattle.rb_model.specs.Bounds.{bytes_bound};
 
 use crate::calls::{Piece, give_at_once, lend_arguments, serve_verdict, take_piece};
 use rb_connections::{BUFFER_SIZE, Connections, EndedRecord, Received};
-use rb_forward::{Ended, FwdId, LONGEST_FORWARDED_CALL, Unsent};
+use rb_forward::{Ended, FwdId, LONGEST_FORWARDED_CALL, Unsent, sooner};
 use rb_model::{
-    CoreFault, Exchanged, Expired, LONGEST_REPLY, Limits, Outcome, Served, Taken, Told,
+    CoreFault, Exchanged, Expired, LONGEST_REPLY, Limits, Outcome, Served, Standing, Taken, Told,
 };
 use rb_proto::{Books, Context, Listener};
 use rb_rpc::{Caller, LONGEST_FRAGMENT, Peer, read_call};
@@ -170,6 +170,7 @@ impl Core {
     ghost use Rattle.rb_core.specs.StandsFor.{StandsFor};
     ghost use Rattle.rb_core.specs.Core.{ActsWithReply, TellsCaller, context_of};
     ghost use Rattle.rb_model.specs.Exchanges.{count_given};
+    ghost use Rattle.rb_model.specs.Standings.{is_done, standing_of};
     ghost use Rattle.rb_core.specs.AtOnce.{AnswersGiving, CountsGiven, Exchanges, GivesAtOnce};
     ghost use Rattle.rb_core.specs.CallCosts.{sizes_of, PaysForBytes, PaysForDatagram, PaysForExchange, PaysToAnswer, lending_cost};
     ghost use Rattle.rb_connections.specs.Costs.{look_cost, slot_count};
@@ -339,7 +340,7 @@ impl Core {
         ensures bound { StaysWithinSteps self.old (length_taken result) 0 meter.old meter.new }
         ensures quiet { StaysCheapIfQuiet self.old id piece.now result meter.old meter.new }
     {
-        let Exchanged { taken, given: _ } = self.exchange(now, id, piece, &mut [], meter)?;
+        let Exchanged { taken, .. } = self.exchange(now, id, piece, &mut [], meter)?;
         Ok(taken)
     }
 
@@ -358,6 +359,7 @@ impl Core {
         requires { meter.old.tie ≡ self.old.tie }
         ensures acts { Exchanges now id piece.now self.old self.new result room.new }
         ensures count { CountsGiven now id piece.now room.old self.old result }
+        ensures stands { IfOk result (λ done. Shows StandsFor (standing_of id) self.new done.standing) }
         ensures fits { count_given result ≤ length room.new }
         ensures within { IfOk result (λ done. done.taken.count ≤ length piece.now) }
         ensures refused { OnErr result (OnlyBegins self.old self.new) }
@@ -377,18 +379,21 @@ impl Core {
         let Piece {
             received: Received { count, ended },
             arguments,
+            standing,
         } = got;
         let Some(ended) = ended else {
             let closed = false;
             return Ok(Exchanged {
                 taken: Taken { count, closed },
                 given: 0,
+                standing,
             });
         };
-        let (closed, given) = self.answer(id, ended, arguments, room, meter);
+        let (closed, given, standing) = self.answer(id, ended, arguments, room, meter);
         Ok(Exchanged {
             taken: Taken { count, closed },
             given,
+            standing,
         })
     }
 
@@ -403,11 +408,13 @@ impl Core {
         arguments: Option<&[u8]>,
         room: &mut [u8],
         meter: &mut Meter,
-    ) -> (bool, usize)
+    ) -> (bool, usize, Standing)
         requires tie { meter.old.tie ≡ self.old.tie }
         requires idle { IsIdleSince id self.old.clock self.old.connections }
         requires caller { is_waiting id (slots_of self.old.books.forwards) ≡ false }
-        ensures acts { AnswersGiving id ended arguments.entry self.old self.new result room.new }
+        ensures acts { AnswersGiving id ended arguments.entry self.old self.new
+            (result.0, result.1) room.new }
+        ensures stands { Shows StandsFor (standing_of id) self.new result.2 }
         ensures within { result.1 ≤ length room.new }
         ensures count { GivesAtOnce room.old id ended arguments.entry self.old result.1 }
         ensures tie { self.new.tie ≡ self.old.tie }
@@ -430,9 +437,9 @@ impl Core {
         let given = give_at_once(served, &mut self.draft, room, meter);
         if given > 0 {
             // It is Idle since this moment, and stays so.
-            return (false, given);
+            return (false, given, Standing::Idle);
         }
-        self.connections.settle(
+        let standing = self.connections.settle(
             id,
             served,
             self.clock,
@@ -441,7 +448,7 @@ impl Core {
             &mut self.draft,
             meter,
         );
-        (served.is_no_call(), 0)
+        (served.is_no_call(), 0, standing)
     }
 
     /// The number of bytes that are pending on a connection. `Gone` where there is no such connection, or it is Lost.
@@ -469,22 +476,30 @@ impl Core {
     }
 
     /// Records that `n` pending bytes were given at the moment `now`, or all if fewer are pending. The next fragment
-    /// is pending then, or the connection takes the next record. `Gone` where there is no such connection, or it is
+    /// is pending then, or the connection takes the next record; where it stands then is returned. `Gone` where there is no such connection, or it is
     /// Lost.
     #[tactic(auto, using(crate::proofs::HeldBytes::never_passes, crate::proofs::CallBounds::gave_within))]
-    pub fn gave(&mut self, now: u64, id: u64, n: usize, meter: &mut Meter) -> Result<(), CoreFault>
+    pub fn gave(
+        &mut self,
+        now: u64,
+        id: u64,
+        n: usize,
+        meter: &mut Meter,
+    ) -> Result<Standing, CoreFault>
         requires { meter.old.tie ≡ self.old.tie }
-        ensures acts { Acts StandsFor (λ s. gave s now id n) self.old self.new result }
+        ensures acts { Acts StandsFor (λ s. gave s now id n) self.old self.new (is_done result) }
+        ensures stands { IfOk result (Shows StandsFor (standing_of id) self.new) }
         ensures refused { OnErr result (OnlyBegins self.old self.new) }
         ensures tie { self.new.tie ≡ self.old.tie }
         ensures begun { self.new.steps_before ≡ count_shown meter.old }
         ensures held { NeverPasses self.new }
         ensures cost { PaysAtMost meter.old meter.new (gave_cost (sizes_of self.old self.new)) }
-        ensures bound { StaysWithinSteps self.old 0 (length_given result n) meter.old meter.new }
+        ensures bound { StaysWithinSteps self.old 0
+            (length_given (is_done result) n) meter.old meter.new }
     {
         self.steps_before = meter.count();
         let clock = self.clock.max(now);
-        self.connections.give(
+        let standing = self.connections.give(
             id,
             n,
             clock,
@@ -494,7 +509,7 @@ impl Core {
             meter,
         )?;
         self.clock = clock;
-        Ok(())
+        Ok(standing)
     }
 
     /// Removes a connection that was closed, live or Lost, and drops its forwarded call. `Gone` where there is none of
@@ -698,5 +713,34 @@ impl Core {
                 }
             }
         }
+    }
+}
+
+impl Core {
+    ghost use Rattle.std.specs.Prelude.{◌≡◌, ◌+◌};
+    ghost use Rattle.rb_xdr.specs.Meter.{PaysAtMost};
+    ghost use Rattle.rb_forward.specs.Deadlines.{next_deadline_cost};
+    ghost use Rattle.rb_model.specs.NextDeadlines.{next_deadline};
+    ghost use Rattle.rb_connections.specs.Costs.{slot_count};
+    ghost use Rattle.rb_connections.specs.Slots.{Shows};
+    ghost use Rattle.rb_core.specs.StandsFor.{StandsFor};
+    ghost use Rattle.rb_core.specs.Events.{BeginsAt, StaysWithinSteps};
+
+    /// The moment from which `expire` finds something: the least deadline of the connections and of the forwarded calls.
+    /// Before it `expire` finds nothing, and nothing at all where it is `None`.
+    #[tactic(auto, using(crate::proofs::CallBounds::deadline_within))]
+    pub fn next_deadline(&mut self, meter: &mut Meter) -> Option<u64>
+        requires { meter.old.tie ≡ self.old.tie }
+        ensures begun { BeginsAt meter.old self.old self.new }
+        ensures soonest { Shows StandsFor next_deadline self.old result }
+        ensures cost { PaysAtMost meter.old meter.new
+            (next_deadline_cost (slot_count self.old.connections)
+            + next_deadline_cost self.old.books.forwards.cap) }
+        ensures bound { StaysWithinSteps self.old 0 0 meter.old meter.new }
+    {
+        self.steps_before = meter.count();
+        let of_connections = self.connections.next_deadline(meter);
+        let of_forwards = self.books.forwards.next_deadline(meter);
+        sooner(of_connections, of_forwards)
     }
 }

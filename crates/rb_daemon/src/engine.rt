@@ -216,7 +216,7 @@ impl Engine {
         match written {
             Ok(0) => Given::Over,
             Ok(n) => match self.core.gave(self.moment, id, n, &mut self.meter) {
-                Ok(()) => {
+                Ok(_) => {
                     self.tape
                         .record(&Happening::Gave(self.moment, id, n), &Shown::Done);
                     Given::Bytes(n)

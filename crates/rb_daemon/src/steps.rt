@@ -96,7 +96,7 @@ fn hand_in(link: &mut Link, engine: &mut Engine, forwards: &ForwardSocket) -> Op
         return Some(0);
     }
     let id = link.id();
-    let Exchanged { taken, given } = exchange(
+    let Exchanged { taken, given, .. } = exchange(
         engine,
         id,
         link.inbox.bytes(),

@@ -2,6 +2,7 @@ pub mod Callers
 pub mod Ends
 pub mod Heads
 pub mod Runs
+pub mod Soonest
 pub mod Stands
 pub mod TableSteps
 pub mod Tables

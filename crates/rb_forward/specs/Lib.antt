@@ -1,4 +1,5 @@
 pub mod Costs
+pub mod Deadlines
 pub mod Ends
 pub mod Forwards
 pub mod Laws

@@ -4,6 +4,7 @@ ghost use Rattle.std.specs.Map.{values_of};
 ghost use Rattle.rb_forward.specs.Forwards.{head_of};
 
 use crate::buffers::{HEAD, make_spare, put_buffer, take_buffer, write_call};
+use crate::deadlines::soonest_in;
 use crate::entries::{Slot, Wanted, put_slot, wanted_key};
 use crate::outcome::{outcome_of, xid_of};
 use crate::types::{Ended, Forward, FwdId, Gone, Outcome, Unsent};
@@ -310,5 +311,21 @@ impl Forwards {
         self.held -= CHARGE + call.len(meter) as u64;
         put_buffer(&mut self.spare, call, meter);
         Some(Ended { forward, outcome })
+    }
+}
+
+impl Forwards {
+    ghost use Rattle.std.specs.Prelude.{◌≡◌};
+    ghost use Rattle.rb_xdr.specs.Meter.{PaysAtMost};
+    ghost use Rattle.rb_forward.specs.Table.{Whatever};
+    ghost use Rattle.rb_forward.specs.Deadlines.{next_deadline, next_deadline_cost};
+
+    /// The least deadline of the entries, or `None` where there is none. Before it `due` ends nothing.
+    pub fn next_deadline(&self, meter: &mut Meter) -> Option<u64>
+        requires { meter.old.tie ≡ self.now.tie }
+        ensures soonest { Whatever self.now (λ f. result ≡ next_deadline f) }
+        ensures cost { PaysAtMost meter.old meter.new (next_deadline_cost self.now.cap) }
+    {
+        soonest_in(&self.slots, meter)
     }
 }

@@ -3,6 +3,7 @@
 #![tactic(auto)]
 
 mod buffers;
+mod deadlines;
 mod entries;
 mod forwards;
 mod laws;
@@ -11,6 +12,7 @@ mod types;
 mod worked;
 
 pub use buffers::LONGEST_FORWARDED_CALL;
+pub use deadlines::sooner;
 pub use forwards::{Forwards, PATIENCE};
 pub use laws::{calls_end_the_first, each_entry_ends_once};
 pub use outcome::LONGEST_RESULTS;

@@ -127,7 +127,7 @@ spelled bytes are m e = subst (λ (n : Message). Says bytes n) e (sound bytes ar
 
 -- ---- and back
 
-by_verdict_again : (bytes : List ℕ) (v : Verdict) → verdict bytes ≡ v → message_of bytes ≡ message_with v (behind_head v bytes)
+pub by_verdict_again : (bytes : List ℕ) (v : Verdict) → verdict bytes ≡ v → message_of bytes ≡ message_with v (behind_head v bytes)
 unfolding message_of arguments_of
 by_verdict_again bytes v is = ap (λ (w : Verdict). message_with w (behind_head w bytes)) is
 

@@ -75,7 +75,7 @@ change-grows limit change note l true accepted short = More change (accepted ref
 change-grows limit change note l false accepted short = Same refl refl
 
 -- its address may be set on its netid
-settable-short : (row : Row) → can_be_set row ≡ true → length row.addr ≤ 128
+pub settable-short : (row : Row) → can_be_set row ≡ true → length row.addr ≤ 128
 unfolding can_be_set
 settable-short row e = address_short row.netid row.addr (both _ (is_address row.netid row.addr) e).1
 
@@ -231,6 +231,14 @@ step-follows s (Expire now) =
 -- no event changes the setting
 pub step-setting : (s : State) (event : Event) → (step s event).1.setting ≡ s.setting
 step-setting s event = (step-follows s event).setting
+
+-- nor the own rows
+pub step-own : (s : State) (event : Event) → (step s event).1.ledger.own ≡ s.ledger.own
+step-own s event = by_growth (step s event).1.ledger (step-follows s event).grows
+  where
+    by_growth : (l : Ledger) → Grows s.setting.limits.rows s.ledger l → l.own ≡ s.ledger.own
+    by_growth l (Same own same) = own
+    by_growth l (More change accepted short own same) = own
 
 -- ---- what stays so
 

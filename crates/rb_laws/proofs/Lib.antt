@@ -14,6 +14,7 @@ pub mod Entering
 pub mod Entries
 pub mod LeastLost
 pub mod OneThing
+pub mod NextDeadlines
 pub mod Cuts
 pub mod Live
 pub mod ExactTaking
@@ -34,3 +35,6 @@ pub mod RepliesShown
 pub mod KeptLengths
 pub mod Waiting
 pub mod WholeRuns
+pub mod Changes
+pub mod Restoring
+pub mod Spelling

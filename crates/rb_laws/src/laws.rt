@@ -2,10 +2,12 @@
 ghost use Rattle.rb_model.specs.Grammar.{AskedMessagesAreOfTheGrammar, RefusedMessagesAreOfTheGrammar, GarbageMessagesAreOfTheGrammar, NoCallsAreOfTheGrammar};
 ghost use Rattle.rb_model.specs.State.{State};
 ghost use Rattle.rb_model.specs.Laws.{RunsAppend, StatesAppend, RefusedEventsChangeNothing, NumbersNeverRecur, CutsDoNotMatter, NextLostIsLeast, BytesAreTakenExactly, RepliesAreGivenWhole, OwedRepliesStay, LedgersAreWellKept};
+ghost use Rattle.rb_model.specs.ChangeLaws.{ChangesAreAccepted, ChangesAreThoseAccepted, RowsCanBeSet, RowsAreSpelled, KeptCallsAreShort, RowsCanBeSetAgain, KeptRowsAreRestored};
 ghost use Rattle.rb_model.specs.Closings.{ConnectionsCloseExactly};
 ghost use Rattle.rb_model.specs.ForwardLaws.{ConnectionsAwait, RepliesEndTheirOwn, DeadlinesEndOne, UdpCallersAreTold, EventsChangeAtMostOne, EntriesEndOnce};
 ghost use Rattle.rb_model.specs.Sessions.{SessionsAreWhole};
 ghost use Rattle.rb_model.specs.DeadlineLaws.{ExpireDoesOneThing, NothingIsDueSoon};
+ghost use Rattle.rb_model.specs.NextDeadlines.{NextDeadlinesAreExact};
 ghost use Rattle.rb_model.specs.BoundLaws.{StepsAreBounded, RunsAreBounded};
 ghost use Rattle.rb_model.specs.WholeRuns.{EventsArePaidAhead, WholeRunsAreBounded};
 
@@ -116,6 +118,13 @@ pub fn expire_does_one_thing()
     ensures { ExpireDoesOneThing }
 {}
 
+/// In each state, `expire` finds nothing at a moment before the next deadline, or where there is none, and changes nothing
+/// but the clock and the last reply; from the next deadline on it finds something. A moment before the clock counts as the
+/// clock.
+pub fn next_deadlines_are_exact()
+    ensures { NextDeadlinesAreExact }
+{}
+
 /// In each state that a run reaches at good limits, an event costs at most 8 steps for each byte that it takes, lends or tells
 /// that it was given, 64 for each connection, row, key and forwarded call that there may be, and 16 for each byte of the
 /// longest call; and so over each run from there.
@@ -131,4 +140,24 @@ pub fn steps_are_bounded()
 pub fn whole_runs_are_bounded()
     ensures events { EventsArePaidAhead }
     ensures runs { WholeRunsAreBounded }
+{}
+
+/// From every state, an event leaves the accepted changes, or appends one: the SET or UNSET of a whole call that it brings,
+/// from a caller on this machine, which is answered TRUE. Each that is answered so is appended. In every run from an opening,
+/// the changes are those of its calls, in order.
+pub fn changes_are_accepted()
+    ensures events { ChangesAreAccepted }
+    ensures runs { ChangesAreThoseAccepted }
+{}
+
+/// In each state that a run reaches, each row that was set may be set: it is of another program than the portmapper, at an
+/// address of its netid. Where the run is of bytes, bytes can spell each, in a SET of at most 368 bytes. These SETs, from this
+/// machine and by the owners of the rows, are all answered TRUE in a run from any opening with room for them, and set just
+/// these rows, in their order. From the opening of the same setting, at good limits, the live rows are then the same.
+pub fn kept_rows_are_restored()
+    ensures settable { RowsCanBeSet }
+    ensures spelled { RowsAreSpelled }
+    ensures short { KeptCallsAreShort }
+    ensures again { RowsCanBeSetAgain }
+    ensures restored { KeptRowsAreRestored }
 {}

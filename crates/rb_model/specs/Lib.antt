@@ -3,6 +3,7 @@ pub mod Calls
 pub mod Served
 pub mod Connections
 pub mod Losses
+pub mod Standings
 pub mod Ending
 pub mod Step
 pub mod Plain
@@ -13,9 +14,11 @@ pub mod Laws
 pub mod Sessions
 pub mod Exchanges
 pub mod DeadlineLaws
+pub mod NextDeadlines
 pub mod ForwardLaws
 pub mod Closings
 pub mod WholeRuns
+pub mod ChangeLaws
 pub mod BoundLaws
 pub mod Worked
 pub mod WorkedConnections
@@ -23,3 +26,4 @@ pub mod WorkedForwards
 pub mod WorkedDeadlines
 pub mod WorkedLists
 pub mod WorkedBounds
+pub mod WorkedChanges

@@ -44,6 +44,23 @@ pub struct Exchanged {
     pub taken: Taken,
     /// How many bytes of the reply were given, its header among them; 0 where it was not given at once.
     pub given: usize,
+    /// Where the connection stands then.
+    pub standing: Standing,
+}
+
+/// Where a connection stands between two events.
+#[derive(Clone, Copy, Debug, PartialEq, Eq)]
+pub enum Standing {
+    /// It takes the first byte of a record.
+    Idle,
+    /// It takes the next byte of a record.
+    Reading,
+    /// A reply is being given on it.
+    Owing,
+    /// It waits for the end of a forwarded call.
+    Awaiting,
+    /// It is given up and to be closed, or is closed.
+    Lost,
 }
 
 /// What the caller of a forwarded call gets at its end (RFC 1833 sections 2.2.1 and 3.2).

@@ -1,5 +1,6 @@
 //! Worked examples of the definitions.
 ghost use Rattle.rb_model.specs.WorkedConnections.{NoCallCloses, OtherRpcVersionOnTcp, SingleByteFragmentsInOnePiece, SingleByteFragmentsByteByByte, SingleByteFragmentsInSevens, BytesBehindArguments, OneRecordAtATime, OneRecordAtATimePasses, NoCallPasses, GivenInParts, TooMuchIsRefused, GoodLimits, NumbersDoNotRecur};
+ghost use Rattle.rb_model.specs.WorkedChanges.{ChangesOfSomeCalls, ChangesOfPieces, KeptCallsOfSomeCalls};
 ghost use Rattle.rb_model.specs.WorkedForwards.{ForwardWithoutRow, RefusedCallsAreCounted, ForwardUntilDeadline, IndirectPasses, CallitPasses, TargetRefuses, DeniedIsSystemErr, CallitIsSilent, GreatestResults, NoPlace, GreatestArguments, SilentOnTcp, ForwardPassesOnTcp, ForwardOnTcpIsWhole, ClosedCallerIsDropped, EachEndsInTurn};
 ghost use Rattle.rb_model.specs.WorkedBounds.{BytesBounds, StepsBounds};
 ghost use Rattle.rb_model.specs.WorkedLists.{DumpSurvivesUnsetAndEvicts, OldReadersAreEvicted, FullTableRefuses, RowsThatCameAndWentAreNeeded, ListInTwoFragments, ListAsOfItsCall};
@@ -98,4 +99,11 @@ pub fn worked_deadlines()
 pub fn worked_bounds()
     ensures bytes_bounds { BytesBounds }
     ensures steps_bounds { StepsBounds }
+{}
+
+/// The definitions give what the worked examples of changes say.
+pub fn worked_changes()
+    ensures changes_of_some_calls { ChangesOfSomeCalls }
+    ensures changes_of_pieces { ChangesOfPieces }
+    ensures kept_calls_of_some_calls { KeptCallsOfSomeCalls }
 {}

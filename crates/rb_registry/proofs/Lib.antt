@@ -14,3 +14,4 @@ pub mod Cursors
 pub mod WalkLaws
 pub mod RowLaws
 pub mod FoundLaws
+pub mod SetAgain

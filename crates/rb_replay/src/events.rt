@@ -90,7 +90,7 @@ fn gave(core: &mut Core, now: u64, id: u64, n: u64, meter: &mut Meter) -> Output
         return Output::TooMuch;
     }
     match core.gave(now, id, n as usize, meter) {
-        Ok(()) => Output::Done,
+        Ok(_) => Output::Done,
         Err(fault) => Output::Refused(fault),
     }
 }

@@ -301,7 +301,7 @@ array_nil : array [] ≡ number 0
 unfolding array number
 array_nil = refl
 
-AreBytes-sys : (uid : ℕ) → AreBytes (sys_body uid)
+pub AreBytes-sys : (uid : ℕ) → AreBytes (sys_body uid)
 AreBytes-sys uid =
     AreBytes-append (number 0 ++ opaque [] ++ number uid ++ number 0) (number 0)
     (AreBytes-append (number 0 ++ opaque [] ++ number uid) (number 0)

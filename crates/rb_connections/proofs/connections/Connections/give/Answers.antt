@@ -9,10 +9,11 @@ use Rattle.rb_connections.specs.Listings.{CanContinueSlot, CanContinueAll}
 use Rattle.rb_connections.specs.Awaits.{is_free}
 use Rattle.rb_connections.proofs.Holding.{stays_changed}
 use Rattle.rb_connections.proofs.Slots.{acts_from, gone_acts, live_acts}
-use Rattle.rb_connections.proofs.Freed.{none_freed, freed_from}
+use Rattle.rb_connections.proofs.Freed.{found_live, none_freed, freed_from}
 use Rattle.rb_connections.proofs.Listings.{lists_changed}
 use Rattle.rb_connections.proofs.ByHint.{distinct_numbers}
 use Rattle.rb_connections.proofs.LiveSlots.{within_by, live_fits, live_table}
+use Rattle.rb_connections.proofs.Standing.{now_standing}
 use Rattle.rb_connections.proofs.connections.Connections.give.Goals as goal
 
 pub live_slot-requires-clause-numbers : goal.live_slot-requires-clause-numbers
@@ -61,3 +62,14 @@ pub returns-clause-lists : goal.returns-clause-lists
 returns-clause-lists c =
     let source = source_for c.args.host c.args.registry.now in
     lists_changed (the_view c.self.inside) c.args.self.now c.self.view_is source _ c.give.new.self c.requires.lists c.give.ensures.lists
+
+pub returns-clause-stands : goal.returns-clause-stands
+returns-clause-stands c =
+    let tie = c.in-Some.ensures.cost.tie ∙ c.requires.tie ∙ sym (ap (λ t. t.tie) c.self.view_is) in
+    let made =
+    live_table _ _ _ _ _ c.self.invariant _ _ _ c.in-Some.ensures.found _ c.in-Some.ensures.held _ c.charge.ensures.charge c.charge.ensures.within
+    c.give.ensures.stays.number (subst (λ t. HasBuffers t c.give.new.self) tie c.give.ensures.stays.buffers) in
+    let l = found_live c.args.id _ c.self.inside.slots.entries c.in-Some.slot.now c.self.invariant.distinct c.in-Some.ensures.found.key c.in-Some.ensures.found.there in
+    rw c.standing-standing.ensures
+    (now_standing c.args.id _ c.in-Some.slot.now c.give.new.self (the_view c.self.inside) c.in-Some.ensures.found.there l.0 c.give.ensures.stays.number
+    (distinct_numbers _ _ made.numbers))

@@ -12,6 +12,7 @@ use Rattle.rb_connections.proofs.Freed.{found_live, none_idle, one_freed, now_aw
 use Rattle.rb_connections.proofs.Listings.{lists_changed}
 use Rattle.rb_connections.proofs.ByHint.{distinct_numbers}
 use Rattle.rb_connections.proofs.LiveSlots.{within_by, live_fits, live_table}
+use Rattle.rb_connections.proofs.Standing.{now_standing, gone_standing}
 use Rattle.rb_connections.proofs.connections.Connections.settle.Goals as goal
 
 pub live_slot-requires-clause-numbers : goal.live_slot-requires-clause-numbers
@@ -65,3 +66,18 @@ pub returns-clause-lists : goal.returns-clause-lists
 returns-clause-lists c =
     let source = source_for c.args.host c.args.registry.now in
     lists_changed (the_view c.self.inside) c.args.self.now c.self.view_is source _ c.settle.new.self c.requires.lists c.settle.ensures.lists
+
+pub returns-clause-standing : goal.returns-clause-standing
+returns-clause-standing c =
+    let tie = c.in-Some.ensures.cost.tie ∙ c.requires.tie ∙ sym (ap (λ t. t.tie) c.self.view_is) in
+    let made =
+    live_table _ _ _ _ _ c.self.invariant _ _ _ c.in-Some.ensures.found _ c.in-Some.ensures.held _ c.charge.ensures.charge c.charge.ensures.within
+    c.settle.ensures.stays.number (subst (λ t. HasBuffers t c.settle.new.self) tie c.settle.ensures.stays.buffers) in
+    let l = found_live c.args.id _ c.self.inside.slots.entries c.in-Some.slot.now c.self.invariant.distinct c.in-Some.ensures.found.key c.in-Some.ensures.found.there in
+    rw c.standing-standing.ensures
+    (now_standing c.args.id _ c.in-Some.slot.now c.settle.new.self (the_view c.self.inside) c.in-Some.ensures.found.there l.0 c.settle.ensures.stays.number
+    (distinct_numbers _ _ made.numbers))
+
+pub returns-in_default-clause-standing : goal.returns-in_default-clause-standing
+returns-in_default-clause-standing c = λ source o h.
+    gone_standing c.args.id (the_view c.self.inside) c.in_default.ensures.found source o h

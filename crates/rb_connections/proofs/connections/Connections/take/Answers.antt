@@ -11,6 +11,7 @@ use Rattle.rb_connections.proofs.Slots.{acts_from, gone_acts, live_acts, gone_ar
 use Rattle.rb_connections.proofs.Freed.{found_live, ends_from, ended_from}
 use Rattle.rb_connections.proofs.ByHint.{distinct_numbers}
 use Rattle.rb_connections.proofs.LiveSlots.{within_by, live_fits, live_table}
+use Rattle.rb_connections.proofs.Standing.{now_standing}
 use Rattle.rb_connections.proofs.connections.Connections.take.Goals as goal
 
 pub live_slot-requires-clause-numbers : goal.live_slot-requires-clause-numbers
@@ -63,3 +64,14 @@ pub returns-clause-goes_on : goal.returns-clause-goes_on
 returns-clause-goes_on c =
     goes_on_changed (the_view c.self.inside) c.args.self.now c.self.view_is _ c.in-Some.slot.now c.take-received.new.self c.in-Some.ensures.found.there
     c.take-received.ensures.lists c.take-received.ensures.stays.number c.take-received.ensures.awaits (within_by c.take-received.new.self _ c.charge.ensures.charge c.charge.ensures.within)
+
+pub returns-clause-stands : goal.returns-clause-stands
+returns-clause-stands c =
+    let tie = c.in-Some.ensures.cost.tie ∙ c.requires.tie ∙ sym (ap (λ t. t.tie) c.self.view_is) in
+    let made =
+    live_table _ _ _ _ _ c.self.invariant _ _ _ c.in-Some.ensures.found _ c.in-Some.ensures.held _ c.charge.ensures.charge c.charge.ensures.within
+    c.take-received.ensures.stays.number (subst (λ t. HasBuffers t c.take-received.new.self) tie c.take-received.ensures.stays.buffers) in
+    let l = found_live c.args.id _ c.self.inside.slots.entries c.in-Some.slot.now c.self.invariant.distinct c.in-Some.ensures.found.key c.in-Some.ensures.found.there in
+    rw c.standing-standing.ensures
+    (now_standing c.args.id _ c.in-Some.slot.now c.take-received.new.self (the_view c.self.inside) c.in-Some.ensures.found.there l.0 c.take-received.ensures.stays.number
+    (distinct_numbers _ _ made.numbers))

@@ -21,6 +21,7 @@ use Rattle.rb_connections.specs.Slots.{Acts, BecomesFrom, StaysTable}
 use Rattle.rb_connections.specs.Awaits.{has_idle, IsIdleSince}
 use Rattle.rb_connections.specs.Settling.{Settles}
 use Rattle.rb_connections.proofs.Settled.{settled_stays}
+use Rattle.rb_connections.proofs.Standing.{idle_standing}
 use Rattle.rb_core.specs.contracts.events.Core.{the_view}
 use Rattle.rb_core.specs.StandsFor.{Held, StandsFor}
 use Rattle.rb_core.specs.Core.{arguments_in, serve_ended, context_of, without_arguments}
@@ -143,8 +144,8 @@ returns-clause-acts c =
     answered_from c.args.id c.args.ended c.args.arguments (lent_else c) (the_view c.self.inside) c.args.self.now c.lend_arguments-arguments.ensures.value c.self.view_is _ c.is_no_call.result 0 c.give_at_once-given.new.room
     (answers (view_else c) c.args.id c.args.ended.peer (message_with c.args.ended.verdict (lent_else c)) (lent_else c) v.new.books v.new.connections
     (served_in (source_else c) v.result v.new.out.bytes) (acts_else c) v.ensures.leaves.frame v.ensures.open.stays (v.ensures.open.idle c.args.id (idle_else c))
-    c.settle.new.self (served_in (source_else c) v.result v.new.out.bytes) [] c.settle.ensures.stays (leaves_all (served_in (source_else c) v.result v.new.out.bytes))
-    (subst (λ (k : Kept). Settles (source_else c) c.args.id c.self.inside.clock v.result k.bytes v.new.connections c.settle.new.self) (c.give_at_once-given.ensures.none (none_given c)) c.settle.ensures.stands)
+    c.settle-standing.new.self (served_in (source_else c) v.result v.new.out.bytes) [] c.settle-standing.ensures.stays (leaves_all (served_in (source_else c) v.result v.new.out.bytes))
+    (subst (λ (k : Kept). Settles (source_else c) c.args.id c.self.inside.clock v.result k.bytes v.new.connections c.settle-standing.new.self) (c.give_at_once-given.ensures.none (none_given c)) c.settle-standing.ensures.stands)
     c.is_no_call.result (c.is_no_call.ensures (source_else c) v.new.out.bytes)))
 
 pub returns-clause-count : goal.returns-clause-count
@@ -154,3 +155,11 @@ returns-clause-count c =
     (counts (view_else c) c.args.id c.args.ended.peer (message_with c.args.ended.verdict (lent_else c)) (lent_else c) v.new.books v.new.connections
     (served_in (source_else c) v.result v.new.out.bytes) (acts_else c) v.ensures.leaves.frame v.ensures.open.stays (v.ensures.open.idle c.args.id (idle_else c))
     (length c.args.room.now) 0 (sym (none_given c) ∙ c.give_at_once-given.ensures.count ∙ counts_served (length c.args.room.now) (source_else c) v.result v.new.out.bytes))
+
+pub returns-then-given-gt0-clause-stands : goal.returns-then-given-gt0-clause-stands
+returns-then-given-gt0-clause-stands c = λ s h.
+    let v = c.serve_verdict-served in
+    idle_standing c.args.id c.self.inside.clock v.new.connections (v.ensures.open.idle c.args.id (idle_then c).is_idle) (v.ensures.open.if_there c.args.id c.self.inside.clock (idle_then c).if_there) _ s.connections h.connections
+
+pub returns-clause-stands : goal.returns-clause-stands
+returns-clause-stands c = λ s h. c.settle-standing.ensures.standing _ s.connections h.connections

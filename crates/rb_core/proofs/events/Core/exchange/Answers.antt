@@ -151,3 +151,9 @@ pub invariant_of-self-2 : goal.invariant_of-self-2
 invariant_of-self-2 c =
     core_moved _ _ _ _ _ _ _ _ _ _ c.self.invariant c.in_ok-got.ensures.goes_on.stays (awaited_by_table c.self.inside.books.forwards _ _ c.self.invariant.awaited c.in_ok-got.ensures.goes_on.free) (λ told. c.in_ok-got.ensures.goes_on.lists _ told)
     c.self.invariant.is_draft c.self.invariant.empty (search rules)
+
+pub returns-in_default-clause-stands : goal.returns-in_default-clause-stands
+returns-in_default-clause-stands c = λ s h. c.in_ok-got.ensures.stands c.in_default.is _ s.connections h.connections
+
+pub returns-clause-stands : goal.returns-clause-stands
+returns-clause-stands c = λ s h. c.answer-closed.ensures.stands s h

@@ -4,14 +4,17 @@ use Rattle.rb_core.proofs.Steps.{gave_done, gave_refused}
 use Rattle.rb_core.proofs.Begun.{with_steps_before, acts_begun}
 use Rattle.rb_core.proofs.events.Core.gave.Goals as goal
 
-pub returns-in_err-give-clause-acts : goal.returns-in_err-give-clause-acts
-returns-in_err-give-clause-acts c =
+pub returns-in_err-standing-clause-acts : goal.returns-in_err-standing-clause-acts
+returns-in_err-standing-clause-acts c =
     let p = err_from_is_err_and c.from_residual.result c.from_residual.ensures.1 in
-    rw (p.1, p.2, c.in_err-give.ensures.refused) (
+    rw (p.1, p.2, c.in_err-standing.ensures.refused) (
     acts_begun _ (the_view c.self.inside) c.args.self.now _ c.count-self-inside.result _ c.self.view_is
-    (gave_refused (with_steps_before (the_view c.self.inside) c.count-self-inside.result) c.args.now c.max-clock.result c.max-clock.ensures c.give.new.self c.args.id c.args.n _ c.in_err-give.ensures.acts))
+    (gave_refused (with_steps_before (the_view c.self.inside) c.count-self-inside.result) c.args.now c.max-clock.result c.max-clock.ensures c.give.new.self c.args.id c.args.n _ c.in_err-standing.ensures.acts))
 
 pub returns-clause-acts : goal.returns-clause-acts
 returns-clause-acts c =
     acts_begun _ (the_view c.self.inside) c.args.self.now _ c.count-self-inside.result _ c.self.view_is
-    (gave_done (with_steps_before (the_view c.self.inside) c.count-self-inside.result) c.args.now c.max-clock.result c.max-clock.ensures c.give.new.self c.args.id c.args.n _ c.in_ok-give.ensures.stays c.in_ok-give.ensures.acts)
+    (gave_done (with_steps_before (the_view c.self.inside) c.count-self-inside.result) c.args.now c.max-clock.result c.max-clock.ensures c.give.new.self c.args.id c.args.n _ c.in_ok-standing.ensures.stays c.in_ok-standing.ensures.acts)
+
+pub returns-clause-stands : goal.returns-clause-stands
+returns-clause-stands c = λ s h. c.in_ok-standing.ensures.stands _ s.connections h.connections

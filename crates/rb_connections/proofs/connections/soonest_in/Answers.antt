@@ -1,0 +1,20 @@
+use Rattle.std.specs.Map.{values_of}
+use Rattle.std.proofs.Common.{◌≡◌, ◌+◌, arith, ap, ◌∙◌}
+use Rattle.rb_xdr.specs.Meter.{Meter}
+use Rattle.rb_forward.proofs.Soonest.{soonest_found}
+use Rattle.rb_connections.specs.Deadlines.{slot_deadline}
+use Rattle.rb_connections.proofs.connections.soonest_in.Goals as goal
+
+pub slots-preserved : goal.slots-preserved
+slots-preserved c =
+    let paid = rw c.in-Some.ensures.next at c.slots.invariant.steps in
+    let looked : c.entry_after.new.meter.steps ≡ c.slots.meter.steps + 2 = ap (λ (m : Meter). m.steps) c.in-Some.ensures.cost in
+    record {
+      soonest = rw (c.sooner-soonest.ensures, c.deadline.ensures) (rw c.in-Some.ensures.next at c.slots.invariant.soonest);
+      tie = ap (λ (m : Meter). m.tie) c.in-Some.ensures.cost ∙ c.slots.invariant.tie;
+      rises = omega (arith, looked, c.slots.invariant.rises);
+      steps = omega (arith, looked, paid);
+    }
+
+pub returns-clause-soonest : goal.returns-clause-soonest
+returns-clause-soonest c = soonest_found slot_deadline (values_of c.args.slots.now.entries) _ (rw c.in_default.ensures.next at c.slots.invariant.soonest)

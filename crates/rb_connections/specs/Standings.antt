@@ -1,0 +1,33 @@
+-- Where the connections of a table stand, by their slots.
+use Rattle.std.specs.Prelude.{◌≡◌, ℕ, Result, Ok, Err, IfOk}
+use Rattle.rb_model.specs.declared.types.CoreFault.{CoreFault}
+use Rattle.rb_model.specs.declared.types.Standing.{Standing}
+use Rattle.rb_model.specs.State.{Connections}
+use Rattle.rb_model.specs.Connections.{live_connection}
+use Rattle.rb_model.specs.Standings.{standing_in, standing_on}
+use Rattle.rb_model.specs.Served.{Source}
+use Rattle.rb_connections.specs.declared.slot.Slot.{Slot}
+use Rattle.rb_connections.specs.declared.slot.Received.{Received}
+use Rattle.rb_connections.specs.StandsFor.{Table, StandsForConnections}
+use Rattle.rb_connections.specs.Slots.{phase_like}
+
+abbrev pub standing_of_slot : Slot → Standing
+standing_of_slot slot = standing_in (phase_like slot.stage)
+
+-- So stands the connection of the number in whatever the table stands for.
+abbrev pub IsStanding : ℕ → Table → Standing → Type 0
+IsStanding id table standing =
+    (source : Source) (c : Connections) → StandsForConnections source table c → standing ≡ standing_on (live_connection id c.all)
+
+-- the same of a result, if it is none that is refused
+abbrev pub TellsStanding : ℕ → Table → Result Standing CoreFault → Type 0
+TellsStanding id table result = IfOk result (IsStanding id table)
+
+-- what was received, without where the connection stands then
+abbrev pub received_part : Result (Received × Standing) CoreFault → Result Received CoreFault
+received_part (Ok got) = Ok got.0
+received_part (Err fault) = Err fault
+
+-- where it stands then, if bytes were received
+abbrev pub TellsReceived : ℕ → Table → Result (Received × Standing) CoreFault → Type 0
+TellsReceived id table result = IfOk result (λ got. IsStanding id table got.1)

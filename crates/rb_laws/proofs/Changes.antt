@@ -1,0 +1,436 @@
+-- Which events change the rows, and by which calls.
+use Rattle.std.specs.Prelude.{bytes_eq, option_map}
+use Rattle.std.proofs.Common.{◌≡◌, ◌≢◌, ℕ, max, Bool, true, false, cond, ◌&&◌, Option, Some, None, Result, Ok, Err, List, [], ◌∷◌, ◌++◌, map, get_or, refl, sym, ap, subst, ◌∙◌, append-nil, append_assoc, arith}
+use Rattle.std.proofs.lemmas.Bool.{and_parts}
+use Rattle.std.proofs.lemmas.Option.{same_Some}
+use Rattle.std.proofs.lemmas.Slice.Eq.{bytes_eq-Decides}
+use Rattle.rb_xdr.specs.Xdr.{number, boolean, opaque}
+use Rattle.rb_rpc.specs.Replies.{reply_head}
+use Rattle.rb_rpc.specs.declared.peer.Caller.{Caller}
+use Rattle.rb_rpc.specs.declared.peer.Caller.TheVariants.{Tcp, Udp}
+use Rattle.rb_rpc.specs.declared.peer.Peer.{Peer}
+use Rattle.rb_rpc.specs.declared.peer.Kind.{Kind}
+use Rattle.rb_rpc.specs.declared.call.CallHead.{CallHead}
+use Rattle.rb_feed.specs.Feeds.{arguments_of}
+use Rattle.rb_registry.specs.declared.row.Row.{Row}
+use Rattle.rb_registry.specs.declared.row.Which.{Which}
+use Rattle.rb_registry.specs.Rows.{Change}
+use Rattle.rb_registry.specs.Rows.Change.{Added}
+use Rattle.rb_stats.specs.Statistics.{Note}
+use Rattle.rb_stats.specs.Statistics.Note.{WasSet, WasUnset}
+use Rattle.rb_arguments.specs.declared.remote.RemoteCall.{RemoteCall}
+use Rattle.rb_arguments.specs.declared.procedure.MappingProcedure.TheVariants as mappings
+use Rattle.rb_arguments.specs.declared.procedure.RpcbProcedure.TheVariants as rpcbs
+use Rattle.rb_arguments.specs.declared.request.Request.{Request}
+use Rattle.rb_arguments.specs.declared.request.Request.TheVariants as requests
+use Rattle.rb_arguments.specs.declared.mapping.Mapping.{Mapping}
+use Rattle.rb_proto.specs.declared.answers.Answer.{Answer}
+use Rattle.rb_proto.specs.declared.call.Call.{Call}
+use Rattle.rb_proto.specs.declared.answers.Value.TheVariants as values
+use Rattle.rb_proto.specs.declared.context.Context.{Context}
+use Rattle.rb_proto.specs.Ledger.{Ledger, version_of, with_call_noted}
+use Rattle.rb_proto.specs.Results.{result_bytes}
+use Rattle.rb_proto.specs.Answers.{comes_from_here, can_be_set, accepts_row, set_row, accepts_removal, removal_of, unset_rows, change_if, getport, getaddr, getversaddr, answer_to, answer, tell_done}
+use Rattle.rb_model.specs.declared.message.Message.{Message}
+use Rattle.rb_model.specs.declared.message.Message.TheVariants as says
+use Rattle.rb_model.specs.Calls.{Outcome, Outcome as outcomes, message_of, outcome, success, fitting_reply, longest_reply, reply_with}
+use Rattle.rb_forward.specs.declared.types.Ended.{Ended as EntryEnd}
+use Rattle.rb_forward.specs.Forwards.{can_be_sent}
+use Rattle.rb_proto.specs.Forwarding.{forward_call, target_replied, fell_due, caller_dropped, call_sent}
+use Rattle.rb_model.specs.declared.types.Told.{Told}
+use Rattle.rb_model.specs.declared.types.CoreFault.{CoreFault}
+use Rattle.rb_model.specs.declared.types.CoreFault.TheVariants.{Gone}
+use Rattle.rb_model.specs.Losses.{first_due, with_lost, expire_first, stamp_in, evict_early, evict}
+use Rattle.rb_model.specs.Ending.{tell_end, at_fresh_moment, forward_reply, lost_as, expire_connection, expired_as, expire}
+use Rattle.rb_model.specs.State.{State, Phase, Connection, Connections, at_moment, opening}
+use Rattle.rb_model.specs.State.Phase.{Idle, Reading, Owing, Awaiting, Lost}
+use Rattle.rb_model.specs.Connections.{Taking, taking_of, settle, live_connection, changed_at, close_in_table}
+use Rattle.rb_model.specs.Connections.Taking.{TakesNone, GoesOn, Ends}
+use Rattle.rb_model.specs.Step.{Event, Output, context_in, serve, serve_record, when_taken, with_count, bytes_to, bytes, on_connection, dropped_with, sent_call, show_end, show_expired, unless_refused, pending, gave, is_too_much, open_connection, close_connection, with_reply, datagram, output_or, show_taken, show_done, show_outcome, step, after}
+use Rattle.rb_model.specs.Step.Event.{Open, Bytes, Pending, Gave, Closed, NextLost, Datagram, Unsent, Sent, Forward, Expire}
+use Rattle.rb_model.specs.Step.Output.{Opened, TooMuch, IsPending, Replied}
+use Rattle.rb_model.specs.ChangeLaws.{change_asked, change_where, change_told, told_true, is_told_true, Brought, record_in, record_on, brought_by, said_to, change_from, change_by, changes_by, Asks, Owes, GetsReply, MayBeMade, ChangesAtMostOnce, ChangesAreAccepted, ChangesAreThoseAccepted}
+use Rattle.rb_model.specs.ChangeLaws.ChangesAtMostOnce.{Same, OneMore}
+use Rattle.rb_laws.proofs.Cuts.{find-changed}
+use Rattle.rb_laws.proofs.Live.{replying-feeds}
+use Rattle.rb_laws.proofs.Crowds.{plain_lives}
+
+-- ---- answers
+
+apart : (m n : ℕ) → m ≡ 0 → n ≡ 1 → m ≡ n → ⊥
+apart m n a b e = omega arith
+
+-- the last byte of the one is 0, and that of the other 1
+not_both : (xid : ℕ) → success xid (boolean false) ≢ success xid (boolean true)
+unfolding fitting_reply longest_reply reply_head number boolean opaque
+not_both xid e =
+    apart (get_or (success xid (boolean false)) 27 0) (get_or (success xid (boolean true)) 27 0) refl refl (ap (λ (bytes : List ℕ). get_or bytes 27 0) e)
+
+told-true : (xid : ℕ) (b : Bool) → is_told_true xid (outcomes.Reply (success xid (boolean b)) None) ≡ b
+told-true xid true = (bytes_eq-Decides (success xid (boolean true)) (success xid (boolean true))).1 refl
+told-true xid false = by_test (bytes_eq (success xid (boolean false)) (success xid (boolean true))) refl
+  where
+    by_test : (b : Bool) → bytes_eq (success xid (boolean false)) (success xid (boolean true)) ≡ b → b ≡ false
+    by_test false e = refl
+    by_test true e = absurd (not_both xid ((bytes_eq-Decides (success xid (boolean false)) (success xid (boolean true))).0 e))
+
+-- ---- what a call changes
+
+-- the change that it asks for, where it is told TRUE
+abbrev Appends : Ledger → List Change → Ledger → Type 0
+Appends old more new = new.changes ≡ old.changes ++ more
+
+same : (old new : Ledger) → new.changes ≡ old.changes → (told : Bool) → Appends old (change_where told None) new
+same old new e told = e ∙ sym (append-nil old.changes)
+
+change-appends : (change : Change) (note : Note) (l : Ledger) (b : Bool) → Appends l (change_where b (Some change)) (change_if b change note l).1
+change-appends change note l true = refl
+change-appends change note l false = sym (append-nil l.changes)
+
+-- an answer, and the changes with that which was asked for
+record Fits (context : Context) (xid : ℕ) (asked : Option Change) (l : Ledger) (given : Answer × Ledger) : Type 0 where
+  appends : Appends l (change_where (is_told_true xid (reply_with context xid given).0) asked) given.1
+
+done-fits : (context : Context) (xid : ℕ) (asked : Option Change) (l : Ledger) (done : Bool × Ledger) → Appends l (change_where done.0 asked) done.1 → Fits context xid asked l (tell_done values.Bool done)
+unfolding result_bytes
+done-fits context xid asked l (b, new) e = record {
+  appends = rw (told-true xid b) e;
+}
+
+set-fits : (context : Context) (head : CallHead) (xid : ℕ) (o : Option Row) (l : Ledger) → Fits context xid (option_map Added o) l (tell_done values.Bool (set_row context head o l))
+unfolding set_row
+set-fits context head xid None l = done-fits context xid None l (false, l) (same l l refl false)
+set-fits context head xid (Some row) l =
+    done-fits context xid (Some (Added row)) l (set_row context head (Some row) l) (change-appends (Added row) (WasSet (version_of head.vers)) l (accepts_row context l row))
+
+unset-fits : (context : Context) (head : CallHead) (xid prog vers : ℕ) (o : Option Which) (l : Ledger) → Fits context xid (option_map (removal_of head prog vers) o) l (tell_done values.Bool (unset_rows context head prog vers o l))
+unfolding unset_rows
+unset-fits context head xid prog vers None l = done-fits context xid None l (false, l) (same l l refl false)
+unset-fits context head xid prog vers (Some which) l =
+    done-fits context xid (Some (removal_of head prog vers which)) l (unset_rows context head prog vers (Some which) l)
+    (change-appends (removal_of head prog vers which) (WasUnset (version_of head.vers)) l (accepts_removal context l (removal_of head prog vers which)))
+
+other-fits : (context : Context) (xid : ℕ) (l : Ledger) (given : Answer × Ledger) → given.1.changes ≡ l.changes → Fits context xid None l given
+other-fits context xid l given e = record { appends = same l given.1 e (is_told_true xid (reply_with context xid given).0) }
+
+getport-same : (head : CallHead) (m : Mapping) (l : Ledger) → (getport head m l).1.changes ≡ l.changes
+unfolding getport
+getport-same head m l = grind arith
+
+forward-same : (context : Context) (xid : ℕ) (kind : Kind) (remote : RemoteCall) (arguments : List ℕ) (l : Ledger) → (forward_call context xid kind remote arguments l).1.changes ≡ l.changes
+unfolding forward_call
+forward-same context xid kind remote arguments l = grind arith
+
+answer-fits : (context : Context) (head : CallHead) (request : Request) (arguments : List ℕ) (l : Ledger) → Fits context head.xid (change_asked head request) l (answer_to context head request arguments l)
+unfolding getaddr getversaddr
+answer-fits context head (requests.Mapping mappings.Set m) arguments l = set-fits context head head.xid _ l
+answer-fits context head (requests.Mapping mappings.Unset m) arguments l = unset-fits context head head.xid m.prog m.vers (Some _) l
+answer-fits context head (requests.Mapping mappings.Getport m) arguments l = other-fits context head.xid l _ (getport-same head m l)
+answer-fits context head (requests.Rpcb rpcbs.Set r) arguments l = set-fits context head head.xid _ l
+answer-fits context head (requests.Rpcb rpcbs.Unset r) arguments l = unset-fits context head head.xid r.prog r.vers _ l
+answer-fits context head (requests.Rpcb rpcbs.Getaddr r) arguments l = other-fits context head.xid l _ refl
+answer-fits context head (requests.Rpcb rpcbs.Getversaddr r) arguments l = other-fits context head.xid l _ refl
+answer-fits context head (requests.Rpcb rpcbs.Getaddrlist r) arguments l = other-fits context head.xid l _ refl
+answer-fits context head (requests.Void procedure) arguments l = other-fits context head.xid l _ refl
+answer-fits context head (requests.Uaddr2taddr text) arguments l = other-fits context head.xid l _ refl
+answer-fits context head (requests.Taddr2uaddr netbuf) arguments l = other-fits context head.xid l _ refl
+answer-fits context head (requests.Forward kind remote) arguments l = other-fits context head.xid l _ (forward-same context head.xid kind remote arguments l)
+
+pub outcome-appends : (context : Context) (message : Message) (arguments : List ℕ) (l : Ledger)
+    → Appends l (change_told (outcome context message arguments l).0 message) (outcome context message arguments l).1
+unfolding outcome answer with_call_noted
+outcome-appends context says.NoCall arguments l = sym (append-nil l.changes)
+outcome-appends context (says.Refused head) arguments l = sym (append-nil l.changes)
+outcome-appends context (says.Garbage head) arguments l = sym (append-nil l.changes)
+outcome-appends context (says.Asked call) arguments l = (answer-fits context call.head call.request arguments (with_call_noted call.head l)).appends
+
+-- ---- what an event changes
+
+serve-appends : (s : State) (now : ℕ) (caller : Caller) (content : List ℕ)
+    → (serve (at_moment now s) caller content).1.ledger.changes ≡ s.ledger.changes ++ change_from s (Some (record { now = now; caller = caller; content = content }))
+unfolding serve
+serve-appends s now caller content = outcome-appends (context_in (at_moment now s) caller) (message_of content) (arguments_of content) s.ledger
+
+pub outcome-shown : (r : Outcome × State) → (show_outcome (with_reply r)).1.ledger.changes ≡ r.1.ledger.changes
+outcome-shown (outcomes.NoCall, t) = refl
+outcome-shown (outcomes.Reply reply stamp, t) = refl
+outcome-shown (outcomes.Forwarded, t) = refl
+outcome-shown (outcomes.Silent, t) = refl
+
+bytes-append : (s : State) (now id : ℕ) (piece : List ℕ) (o : Option Connection)
+    → (output_or show_taken (bytes_to s now id piece o)).1.ledger.changes ≡ s.ledger.changes ++ change_from s (record_on now id piece o)
+unfolding serve_record
+bytes-append s now id piece None = sym (append-nil s.ledger.changes)
+bytes-append s now id piece (Some c) = by_taking (taking_of c.phase piece)
+  where
+    by_taking : (t : Taking) → (when_taken (at_moment now s) id piece c t).1.ledger.changes ≡ s.ledger.changes ++ change_from s (record_in now id c.peer t)
+    by_taking TakesNone = sym (append-nil s.ledger.changes)
+    by_taking (GoesOn fed) = sym (append-nil s.ledger.changes)
+    by_taking (Ends n content) = serve-appends s now (Tcp id c.peer) content
+
+-- an event that brings no message leaves them
+abbrev Leaves : State → State → Type 0
+Leaves s u = u.ledger.changes ≡ s.ledger.changes
+
+moved-leaves : {A : Type 0} (s : State) (now : ℕ) (show : A → Output) (r : Result A CoreFault × Connections) → Leaves s (output_or show (unless_refused now s r)).1
+moved-leaves s now show r = grind arith
+
+shown-leaves : {A : Type 0} (s : State) (show : A → Output) (r : Result A CoreFault) → Leaves s (output_or show (r, s)).1
+shown-leaves s show r = grind arith
+
+closed-leaves : (s : State) (id : ℕ) (r : Result (Unit {0}) CoreFault × Connections) → Leaves s (output_or show_done (dropped_with s id r)).1
+unfolding caller_dropped
+closed-leaves s id r = grind arith
+
+sent-leaves : (s : State) (number : ℕ) (b : Bool) → Leaves s (output_or show_done (cond b (Ok tt, record s { ledger = call_sent number s.ledger }) (Err Gone, s))).1
+unfolding call_sent
+sent-leaves s number b = grind arith
+
+tell-leaves : (s : State) (at : ℕ) (message : List ℕ) (r : Option EntryEnd × Ledger) → r.1.changes ≡ s.ledger.changes → Leaves s (tell_end message (at_fresh_moment at s) r).1
+tell-leaves s at message r e = grind arith
+
+end-leaves : (s : State) (r : Option Told × State) → Leaves s r.1 → Leaves s (show_end r).1
+end-leaves s (None, t) f = f
+end-leaves s (Some told, t) f = f
+
+expired-leaves : (s : State) (r : Option Told × State) → Leaves s r.1 → Leaves s (show_expired (expired_as r)).1
+unfolding expire_connection expire_first
+expired-leaves s (Some told, t) f = f
+expired-leaves s (None, t) f = by_found (first_due t.clock t.connections)
+  where
+    by_found : (o : Option ℕ) → Leaves s (show_expired (lost_as o, record t { connections = with_lost o t.connections })).1
+    by_found None = f
+    by_found (Some id) = f
+
+replied-leaves : (l : Ledger) (first_xid clock : ℕ) (from : Peer) (message : List ℕ) → (target_replied first_xid clock from message l).1.changes ≡ l.changes
+unfolding target_replied
+replied-leaves l first_xid clock from message = refl
+
+due-leaves : (l : Ledger) (clock : ℕ) → (fell_due clock l).1.changes ≡ l.changes
+unfolding fell_due
+due-leaves l clock = refl
+
+either-leaves : (s : State) (b : Bool) (x y : Output × State) → Leaves s x.1 → Leaves s y.1 → Leaves s (cond b x y).1
+either-leaves s true x y left right = left
+either-leaves s false x y left right = right
+
+nothing-more : (s u : State) → Leaves s u → u.ledger.changes ≡ s.ledger.changes ++ []
+nothing-more s u e = e ∙ sym (append-nil s.ledger.changes)
+
+pub step-appends : (s : State) (event : Event) → (step s event).1.ledger.changes ≡ s.ledger.changes ++ change_by s event
+unfolding step bytes open_connection gave close_connection datagram sent_call forward_reply expire
+step-appends s (Open now peer) = nothing-more s (step s (Open now peer)).1 (moved-leaves s now Opened _)
+step-appends s (Bytes now id piece) = bytes-append s now id piece (live_connection id s.connections.all)
+step-appends s (Pending id) = nothing-more s (step s (Pending id)).1 (shown-leaves s IsPending (pending s id))
+step-appends s (Gave now id n) = nothing-more s (step s (Gave now id n)).1 (either-leaves s (is_too_much n (pending s id)) (TooMuch, s) (output_or show_done (gave s now id n)) refl (moved-leaves s now show_done _))
+step-appends s (Closed id) = nothing-more s (step s (Closed id)).1 (closed-leaves s id (close_in_table id s.connections))
+step-appends s NextLost = nothing-more s s refl
+step-appends s (Datagram now peer content) =
+    outcome-shown (serve (at_moment now s) (Udp peer) content) ∙ serve-appends s now (Udp peer) content
+step-appends s Unsent = nothing-more s s refl
+step-appends s (Sent number) = nothing-more s (step s (Sent number)).1 (sent-leaves s number (can_be_sent number s.ledger.forwards))
+step-appends s (Forward now from message) =
+    nothing-more s (step s (Forward now from message)).1
+    (end-leaves s (tell_end message (at_fresh_moment now s) (target_replied s.setting.first_xid (max s.clock now) from message s.ledger))
+    (tell-leaves s now message (target_replied s.setting.first_xid (max s.clock now) from message s.ledger) (replied-leaves s.ledger s.setting.first_xid (max s.clock now) from message)))
+step-appends s (Expire now) =
+    nothing-more s (step s (Expire now)).1
+    (expired-leaves s (tell_end [] (at_fresh_moment now s) (fell_due (max s.clock now) s.ledger))
+    (tell-leaves s now [] (fell_due (max s.clock now) s.ledger) (due-leaves s.ledger (max s.clock now))))
+
+-- ---- runs
+
+after-appends : (s : State) (events : List Event) → (after s events).ledger.changes ≡ s.ledger.changes ++ changes_by s events
+after-appends s [] = sym (append-nil s.ledger.changes)
+after-appends s (event ∷ events) =
+    after-appends (step s event).1 events
+    ∙ ap (λ (changes : List Change). changes ++ changes_by (step s event).1 events) (step-appends s event)
+    ∙ append_assoc s.ledger.changes (change_by s event) (changes_by (step s event).1 events)
+
+pub changes_are_those_accepted : ChangesAreThoseAccepted
+changes_are_those_accepted limits listener first_xid now events = after-appends (opening limits listener first_xid now) events
+
+-- The answer to a call that asks for the change: it is TRUE alone where its caller is on this machine, and the change may be made.
+record Decided (context : Context) (xid : ℕ) (change : Change) (said : Outcome) : Type 0 where
+  accepted : Bool
+  says : said ≡ outcomes.Reply (success xid (boolean accepted)) None
+  here : accepted ≡ true → comes_from_here context ≡ true
+  may : accepted ≡ true → MayBeMade change
+
+set-decided : (context : Context) (head : CallHead) (xid : ℕ) (o : Option Row) (l : Ledger) (change : Change) → option_map Added o ≡ Some change
+    → Decided context xid change (reply_with context xid (tell_done values.Bool (set_row context head o l))).0
+unfolding set_row accepts_row result_bytes
+set-decided context head xid None l change is = absurd cc
+set-decided context head xid (Some row) l change is = record {
+  accepted = accepts_row context l row;
+  says = refl;
+  here = λ e. (and_parts (comes_from_here context) (can_be_set row) (and_parts (comes_from_here context && can_be_set row) _ e).0).0;
+  may = λ e. subst MayBeMade (same_Some (Added row) change is) (and_parts (comes_from_here context) (can_be_set row) (and_parts (comes_from_here context && can_be_set row) _ e).0).1;
+}
+
+unset-decided : (context : Context) (head : CallHead) (xid prog vers : ℕ) (o : Option Which) (l : Ledger) (change : Change) → option_map (removal_of head prog vers) o ≡ Some change
+    → Decided context xid change (reply_with context xid (tell_done values.Bool (unset_rows context head prog vers o l))).0
+unfolding unset_rows accepts_removal result_bytes
+unset-decided context head xid prog vers None l change is = absurd cc
+unset-decided context head xid prog vers (Some which) l change is = record {
+  accepted = accepts_removal context l (removal_of head prog vers which);
+  says = refl;
+  here = λ e. (and_parts (comes_from_here context) _ e).0;
+  may = λ e. subst MayBeMade (same_Some (removal_of head prog vers which) change is) tt;
+}
+
+answer-decided : (context : Context) (head : CallHead) (request : Request) (arguments : List ℕ) (l : Ledger) (change : Change) → change_asked head request ≡ Some change
+    → Decided context head.xid change (reply_with context head.xid (answer_to context head request arguments l)).0
+answer-decided context head (requests.Mapping mappings.Set m) arguments l change e = set-decided context head head.xid _ l change e
+answer-decided context head (requests.Mapping mappings.Unset m) arguments l change e = unset-decided context head head.xid m.prog m.vers (Some _) l change e
+answer-decided context head (requests.Mapping mappings.Getport m) arguments l change e = absurd cc
+answer-decided context head (requests.Rpcb rpcbs.Set r) arguments l change e = set-decided context head head.xid _ l change e
+answer-decided context head (requests.Rpcb rpcbs.Unset r) arguments l change e = unset-decided context head head.xid r.prog r.vers _ l change e
+answer-decided context head (requests.Rpcb rpcbs.Getaddr r) arguments l change e = absurd cc
+answer-decided context head (requests.Rpcb rpcbs.Getversaddr r) arguments l change e = absurd cc
+answer-decided context head (requests.Rpcb rpcbs.Getaddrlist r) arguments l change e = absurd cc
+answer-decided context head (requests.Void procedure) arguments l change e = absurd cc
+answer-decided context head (requests.Uaddr2taddr text) arguments l change e = absurd cc
+answer-decided context head (requests.Taddr2uaddr netbuf) arguments l change e = absurd cc
+answer-decided context head (requests.Forward kind remote) arguments l change e = absurd cc
+
+asked-decided : (context : Context) (message : Message) (call : Call) (arguments : List ℕ) (l : Ledger) (change : Change) → message ≡ says.Asked call → change_asked call.head call.request ≡ Some change
+    → Decided context call.head.xid change (outcome context message arguments l).0
+unfolding outcome answer
+asked-decided context message call arguments l change is e =
+    rw is (answer-decided context call.head call.request arguments (with_call_noted call.head l) change e)
+
+said-decided : (s : State) (m : Brought) (call : Call) (change : Change) → message_of m.content ≡ says.Asked call → change_asked call.head call.request ≡ Some change
+    → Decided (context_in (at_moment m.now s) m.caller) call.head.xid change (said_to s m)
+unfolding serve
+said-decided s m call change is e = asked-decided (context_in (at_moment m.now s) m.caller) (message_of m.content) call (arguments_of m.content) s.ledger change is e
+
+-- the event brings a call that asks for this change and is answered so
+each-appends : (s : State) (event : Event) (change : Change) → Asks s event change → change_by s event ≡ change ∷ []
+each-appends s event change a =
+    ap (change_from s) a.brings
+    ∙ ap (λ (said : Outcome). change_told said (message_of a.message.content)) a.told
+    ∙ ap (change_told (told_true a.call.head.xid)) a.says
+    ∙ ap (λ (b : Bool). change_where b (change_asked a.call.head a.call.request)) (told-true a.call.head.xid true)
+    ∙ ap (change_where true) a.asks
+
+-- ---- the caller gets the answer
+
+-- a connection with which a record ends is given no list
+ends-no-list : (p : Phase) (piece : List ℕ) (n : ℕ) (content : List ℕ) → taking_of p piece ≡ Ends n content → stamp_in p ≡ None
+unfolding taking_of
+ends-no-list Idle piece n content is = refl
+ends-no-list (Reading fed) piece n content is = refl
+ends-no-list (Owing o) piece n content is = absurd cc
+ends-no-list Awaiting piece n content is = refl
+ends-no-list Lost piece n content is = refl
+
+pub shown-replied : (reply : List ℕ) (r : Outcome × State) → r.0 ≡ outcomes.Reply reply None → (show_outcome (with_reply r)).0 ≡ Replied reply
+shown-replied reply (said, t) is = rw is refl
+
+module _ (s : State) (reply : List ℕ) where
+  -- the state has the reply for the caller
+  abbrev Has : Caller → Output × State → Type 0
+  Has (Udp peer) r = r.0 ≡ Replied reply
+  Has (Tcp id peer) r = Owes r.1 id reply
+
+  settled-owes : (now id : ℕ) (c : Connection) (changes : List ℕ) (t : State) (said : Outcome) → live_connection id s.connections.all ≡ Some c → stamp_in c.phase ≡ None → t.connections ≡ evict changes s.connections
+      → said ≡ outcomes.Reply reply None → Owes (on_connection id (settle now said) t) id reply
+  unfolding live_connection settle
+  settled-owes now id c changes t said there none same is = rw is (record {
+    connection = settle now (outcomes.Reply reply None) c;
+    live = ap (λ (u : Connections). live_connection id (changed_at id (settle now (outcomes.Reply reply None)) u).all) same
+        ∙ find-changed id (settle now (outcomes.Reply reply None)) (replying-feeds id now reply None) (map (evict_early changes) s.connections.all) c (plain_lives id changes s.connections.all c there none);
+    phase = refl;
+  })
+
+  record-has : (now id n : ℕ) (c : Connection) (content : List ℕ) → live_connection id s.connections.all ≡ Some c → stamp_in c.phase ≡ None → said_to s (record { now = now; caller = Tcp id c.peer; content = content }) ≡ outcomes.Reply reply None
+      → Has (Tcp id c.peer) (output_or show_taken (Ok (with_count n (serve_record (at_moment now s) id c.peer content)).0, (with_count n (serve_record (at_moment now s) id c.peer content)).1))
+  unfolding serve_record serve
+  record-has now id n c content there none is =
+      settled-owes (max s.clock now) id c _ (serve (at_moment now s) (Tcp id c.peer) content).1 (said_to s (record { now = now; caller = Tcp id c.peer; content = content })) there none refl is
+
+  bytes-have : (now id : ℕ) (piece : List ℕ) (m : Brought) (o : Option Connection) → live_connection id s.connections.all ≡ o → record_on now id piece o ≡ Some m → said_to s m ≡ outcomes.Reply reply None
+      → Has m.caller (output_or show_taken (bytes_to s now id piece o))
+  bytes-have now id piece m None there brings is = absurd cc
+  bytes-have now id piece m (Some c) there brings is = by_taking (taking_of c.phase piece) refl brings
+    where
+      by_taking : (t : Taking) → taking_of c.phase piece ≡ t → record_in now id c.peer t ≡ Some m → Has m.caller (output_or show_taken (Ok (when_taken (at_moment now s) id piece c t).0, (when_taken (at_moment now s) id piece c t).1))
+      by_taking TakesNone e brings = absurd cc
+      by_taking (GoesOn fed) e brings = absurd cc
+      by_taking (Ends n content) e brings =
+          let same : record { now = now; caller = Tcp id c.peer; content = content } ≡ m = same_Some (record { now = now; caller = Tcp id c.peer; content = content }) m brings in
+          subst (λ (x : Brought). said_to s x ≡ outcomes.Reply reply None → Has x.caller (output_or show_taken (Ok (when_taken (at_moment now s) id piece c (Ends n content)).0, (when_taken (at_moment now s) id piece c (Ends n content)).1)))
+          same (record-has now id n c content there (ends-no-list c.phase piece n content e)) is
+
+gets-reply : (s : State) (event : Event) (m : Brought) (reply : List ℕ) → brought_by s event ≡ Some m → said_to s m ≡ outcomes.Reply reply None → GetsReply s event m.caller reply
+unfolding step datagram bytes
+gets-reply s (Datagram now peer content) m reply brings is =
+    let arrived : Brought = record { now = now; caller = Udp peer; content = content } in
+    subst (λ (x : Brought). said_to s x ≡ outcomes.Reply reply None → GetsReply s (Datagram now peer content) x.caller reply) (same_Some arrived m brings)
+    (shown-replied reply (serve (at_moment now s) (Udp peer) content)) is
+gets-reply s (Bytes now id piece) m reply brings is = by_caller m.caller (bytes-have s reply now id piece m (live_connection id s.connections.all) refl brings is)
+  where
+    by_caller : (caller : Caller) → Has s reply caller (step s (Bytes now id piece)) → GetsReply s (Bytes now id piece) caller reply
+    by_caller (Tcp number peer) h = h
+    by_caller (Udp peer) h = h
+gets-reply s (Open now peer) m reply brings is = absurd cc
+gets-reply s (Pending id) m reply brings is = absurd cc
+gets-reply s (Gave now id n) m reply brings is = absurd cc
+gets-reply s (Closed id) m reply brings is = absurd cc
+gets-reply s NextLost m reply brings is = absurd cc
+gets-reply s Unsent m reply brings is = absurd cc
+gets-reply s (Sent number) m reply brings is = absurd cc
+gets-reply s (Forward now from message) m reply brings is = absurd cc
+gets-reply s (Expire now) m reply brings is = absurd cc
+
+-- ---- the law of one event
+
+pub at-most-once : (s : State) (event : Event) → ChangesAtMostOnce s event
+unfolding comes_from_here
+at-most-once s event = by_brought (brought_by s event) refl
+  where
+    is_same : change_by s event ≡ [] → ChangesAtMostOnce s event
+    is_same e = Same (step-appends s event ∙ ap (λ (more : List Change). s.ledger.changes ++ more) e ∙ append-nil s.ledger.changes)
+
+    by_answer : (m : Brought) (call : Call) (change : Change) → brought_by s event ≡ Some m → message_of m.content ≡ says.Asked call → change_asked call.head call.request ≡ Some change
+        → (d : Decided (context_in (at_moment m.now s) m.caller) call.head.xid change (said_to s m)) (b : Bool) → d.accepted ≡ b → ChangesAtMostOnce s event
+    by_answer m call change brings is asks d true e =
+        let asked : Asks s event change = record { message = m; call = call; brings = brings; says = is; asks = asks; told = d.says ∙ ap (λ (b : Bool). outcomes.Reply (success call.head.xid (boolean b)) None) e } in
+        OneMore change (record {
+          asked = asked;
+          here = d.here e;
+          may = d.may e;
+          gets = gets-reply s event m (success call.head.xid (boolean true)) brings asked.told;
+          appends = step-appends s event ∙ ap (λ (more : List Change). s.ledger.changes ++ more) (each-appends s event change asked);
+        })
+    by_answer m call change brings is asks d false e =
+        is_same (
+        ap (change_from s) brings
+        ∙ ap (change_told (said_to s m)) is
+        ∙ ap (λ (said : Outcome). change_where (is_told_true call.head.xid said) (change_asked call.head call.request)) (d.says ∙ ap (λ (b : Bool). outcomes.Reply (success call.head.xid (boolean b)) None) e)
+        ∙ ap (λ (b : Bool). change_where b (change_asked call.head call.request)) (told-true call.head.xid false)
+        ∙ ap (change_where false) asks)
+
+    by_change : (m : Brought) (call : Call) → brought_by s event ≡ Some m → message_of m.content ≡ says.Asked call → (o : Option Change) → change_asked call.head call.request ≡ o → ChangesAtMostOnce s event
+    by_change m call brings is None e =
+        is_same (ap (change_from s) brings ∙ ap (change_told (said_to s m)) is ∙ ap (change_where (is_told_true call.head.xid (said_to s m))) e)
+    by_change m call brings is (Some change) e =
+        let d = said-decided s m call change is e in by_answer m call change brings is e d d.accepted refl
+
+    by_message : (m : Brought) → brought_by s event ≡ Some m → (message : Message) → message_of m.content ≡ message → ChangesAtMostOnce s event
+    by_message m brings says.NoCall is = is_same (ap (change_from s) brings ∙ ap (change_told (said_to s m)) is)
+    by_message m brings (says.Refused head) is = is_same (ap (change_from s) brings ∙ ap (change_told (said_to s m)) is)
+    by_message m brings (says.Garbage head) is = is_same (ap (change_from s) brings ∙ ap (change_told (said_to s m)) is)
+    by_message m brings (says.Asked call) is = by_change m call brings is (change_asked call.head call.request) refl
+
+    by_brought : (o : Option Brought) → brought_by s event ≡ o → ChangesAtMostOnce s event
+    by_brought None e = is_same (ap (change_from s) e)
+    by_brought (Some m) e = by_message m e (message_of m.content) refl
+
+pub changes_are_accepted : ChangesAreAccepted
+changes_are_accepted s event = record {
+  at_most_once = at-most-once s event;
+  each = λ change a. step-appends s event ∙ ap (λ (more : List Change). s.ledger.changes ++ more) (each-appends s event change a);
+  is = step-appends s event;
+}

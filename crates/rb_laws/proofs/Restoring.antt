@@ -1,0 +1,250 @@
+-- The calls that set the rows of a state again bring them back.
+use Rattle.std.specs.Prelude.{All}
+use Rattle.std.specs.List.{AllByRecursion, list_any}
+use Rattle.std.proofs.Common.{◌≡◌, ℕ, zero, suc, ◌<◌, ◌≤◌, lit<, Bool, true, false, cond, Some, None, List, [], ◌∷◌, ◌++◌, length, map, get_or, refl, sym, ap, subst, ◌∙◌, append-nil, append_assoc, arith}
+use Rattle.std.proofs.lemmas.Bool.{and_parts}
+use Rattle.std.proofs.Math.Seq.{drop-append_seam}
+use Rattle.std.proofs.lemmas.List.Elements.{All-nil, All-head, All-tail, All-same, All-push, All-cons}
+use Rattle.rb_xdr.specs.Xdr.{IsContent, boolean}
+use Rattle.rb_rpc.specs.declared.call.Verdict.TheVariants as verdicts
+use Rattle.rb_rpc.specs.declared.peer.Caller.TheVariants.{Udp}
+use Rattle.rb_rpc.specs.CallBytes.{call_bytes}
+use Rattle.rb_rpc.specs.Grammar.{IsHead}
+use Rattle.rb_rpc.proofs.Calls.{written_again}
+use Rattle.rb_feed.specs.Feeds.{arguments_of}
+use Rattle.rb_registry.specs.declared.row.Netid.{Netid}
+use Rattle.rb_registry.specs.declared.row.Netid.TheVariants.{Tcp, Udp as UdpNetid, Tcp6, Udp6, Local}
+use Rattle.rb_registry.specs.declared.row.Owner.{Owner}
+use Rattle.rb_registry.specs.declared.row.Owner.TheVariants.{Unknown, Uid}
+use Rattle.rb_registry.specs.declared.row.Row.{Row}
+use Rattle.rb_registry.specs.Rows.{Change, netid_text, covers, left_by, live, has_place, are_distinct, is_row, is_on, is_netid}
+use Rattle.rb_registry.specs.Rows.Change.{Added, Removed}
+use Rattle.rb_registry.specs.Laws.{is_accepted, are_accepted}
+use Rattle.rb_registry.proofs.SetAgain.{all_left, rows_are_set_again}
+use Rattle.rb_arguments.specs.declared.procedure.RpcbProcedure.TheVariants as rpcbs
+use Rattle.rb_arguments.specs.declared.request.Request.TheVariants as requests
+use Rattle.rb_arguments.specs.Types.{IsRpcb, rpcb_spelling}
+use Rattle.rb_arguments.specs.Arguments.{procedure_at, is_known, request}
+use Rattle.rb_arguments.specs.Grammar.{Asks}
+use Rattle.rb_arguments.proofs.Requests.{asked_request}
+use Rattle.rb_proto.specs.declared.call.Call.{Call}
+use Rattle.rb_proto.specs.declared.context.Context.{Context}
+use Rattle.rb_proto.specs.Callers.{is_local, owner_of, own_rows}
+use Rattle.rb_proto.specs.Results.{result_bytes}
+use Rattle.rb_proto.specs.declared.listener.Listener.{Listener}
+use Rattle.rb_proto.specs.Ledger.{Ledger, rows_in, with_call_noted}
+use Rattle.rb_proto.specs.Netids.{netid_named}
+use Rattle.rb_proto.specs.Answers.{comes_from_here, can_be_set, accepts_row, set_row, row_of_rpcb, answer}
+use Rattle.rb_model.specs.declared.message.Message.{Message}
+use Rattle.rb_model.specs.declared.message.Message.TheVariants as says
+use Rattle.rb_model.specs.declared.types.Limits.{Limits}
+use Rattle.rb_model.specs.Calls.{Outcome as outcomes, is_served, request_of, call_of, message_of, outcome, success}
+use Rattle.rb_model.specs.State.{State, at_moment, are_good, opening}
+use Rattle.rb_model.specs.Step.{Event, context_in, serve, datagram, step, run, after, IsReached}
+use Rattle.rb_model.specs.ChangeLaws.{credential_for, MayBeMade, ChangesAtMostOnce, set_rows, RowsCanBeSet, IsSpelled, this_machine, set_head, rpcb_for, set_bytes, set_call, set_calls, SaysTrue, Sets, kept_calls, opened_again}
+use Rattle.rb_model.specs.ChangeLaws.ChangesAtMostOnce.{Same, OneMore}
+use Rattle.rb_laws.proofs.Grammar.{by_verdict_again}
+use Rattle.rb_laws.proofs.Ledgers.{settable-short, step-own, step-setting, ledgers_are_well_kept}
+use Rattle.rb_laws.proofs.Changes.{outcome-shown, shown-replied, at-most-once}
+
+-- ---- the bytes of a call are read back
+
+nothing : (limit : ℕ) → IsContent limit []
+nothing limit = (omega arith, omega arith, λ i. omega arith)
+
+small_at : (text : List ℕ) → AllByRecursion (λ b. b < 256) text → (i : ℕ) → get_or text i 0 < 256
+small_at [] all i = omega arith
+small_at (b ∷ text) all zero = all.0
+small_at (b ∷ text) all (suc i) = small_at text all.1 i
+
+netid_fits : (netid : Netid) → IsContent 32 (netid_text netid)
+netid_fits Tcp = (omega arith, omega arith, λ i. small_at (netid_text Tcp) (lit< tt, (lit< tt, (lit< tt, (tt)))) i)
+netid_fits UdpNetid = (omega arith, omega arith, λ i. small_at (netid_text UdpNetid) (lit< tt, (lit< tt, (lit< tt, (tt)))) i)
+netid_fits Tcp6 = (omega arith, omega arith, λ i. small_at (netid_text Tcp6) (lit< tt, (lit< tt, (lit< tt, (lit< tt, (tt))))) i)
+netid_fits Udp6 = (omega arith, omega arith, λ i. small_at (netid_text Udp6) (lit< tt, (lit< tt, (lit< tt, (lit< tt, (tt))))) i)
+netid_fits Local = (omega arith, omega arith, λ i. small_at (netid_text Local) (lit< tt, (lit< tt, (lit< tt, (lit< tt, (lit< tt, (tt)))))) i)
+
+pub rpcb_fits : (row : Row) → IsSpelled row → can_be_set row ≡ true → IsRpcb (rpcb_for row)
+rpcb_fits row is may =
+    let few : length row.addr ≤ 128 = settable-short row may in
+    record { prog = is.prog; vers = is.vers; netid = netid_fits row.netid; addr = (few, omega (arith, few), is.addr); owner = nothing 128 }
+
+asks-set : (row : Row) → IsSpelled row → can_be_set row ≡ true → Asks 4 1 (requests.Rpcb rpcbs.Set (rpcb_for row)) (rpcb_spelling (rpcb_for row))
+unfolding procedure_at
+asks-set row is may = (refl, record { fits = rpcb_fits row is may; rest = []; whole = sym (append-nil (rpcb_spelling (rpcb_for row))) })
+
+-- what the call asks for
+abbrev call_for : Row → Call
+call_for row = record { head = set_head row; request = requests.Rpcb rpcbs.Set (rpcb_for row) }
+
+called : (row : Row) (arguments : List ℕ) → request 4 1 arguments ≡ Some (requests.Rpcb rpcbs.Set (rpcb_for row)) → call_of (set_head row) arguments ≡ says.Asked (call_for row)
+unfolding call_of request_of is_served is_known procedure_at
+called row arguments e = rw e refl
+
+head_fits : (row : Row) → IsHead (set_head row)
+head_fits row = record { xid = omega arith; prog = omega arith; vers = omega arith; proc = omega arith }
+
+pub read-again : (row : Row) → IsSpelled row → can_be_set row ≡ true → message_of (set_bytes row) ≡ says.Asked (call_for row)
+read-again row is may =
+    by_verdict_again (set_bytes row) (verdicts.Call (set_head row) (length (call_bytes (set_head row)))) (written_again (set_head row) (rpcb_spelling (rpcb_for row)) (head_fits row) is.owner)
+    ∙ ap (call_of (set_head row)) (drop-append_seam (call_bytes (set_head row)) (rpcb_spelling (rpcb_for row)))
+    ∙ called row (rpcb_spelling (rpcb_for row)) (asked_request 4 1 (rpcb_spelling (rpcb_for row)) (requests.Rpcb rpcbs.Set (rpcb_for row)) (asks-set row is may))
+
+-- ---- the call sets the row
+
+named : (netid : Netid) → netid_named (netid_text netid) ≡ Some netid
+unfolding netid_named
+named Tcp = refl
+named UdpNetid = refl
+named Tcp6 = refl
+named Udp6 = refl
+named Local = refl
+
+owned : (owner : Owner) → owner_of (credential_for owner) ≡ owner
+owned Unknown = refl
+owned (Uid uid) = refl
+
+row-again : (row : Row) → row_of_rpcb (owner_of (credential_for row.owner)) (rpcb_for row) ≡ Some row
+unfolding row_of_rpcb
+row-again row = rw (named row.netid, owned row.owner) refl
+
+from-here : (context : Context) → context.caller ≡ Udp this_machine → comes_from_here context ≡ true
+unfolding comes_from_here is_local
+from-here context e = rw e refl
+
+sets : (context : Context) (row : Row) (arguments : List ℕ) (l : Ledger) → context.caller ≡ Udp this_machine → can_be_set row ≡ true → has_place context.limit (rows_in l) (length l.changes) row ≡ true
+    → (outcome context (says.Asked (call_for row)) arguments l).1.changes ≡ l.changes ++ Added row ∷ []
+unfolding outcome answer with_call_noted set_row accepts_row
+sets context row arguments l here may place = rw (row-again row, from-here context here, may, place) refl
+
+told-true : (context : Context) (row : Row) (arguments : List ℕ) (l : Ledger) → context.caller ≡ Udp this_machine → can_be_set row ≡ true → has_place context.limit (rows_in l) (length l.changes) row ≡ true
+    → (outcome context (says.Asked (call_for row)) arguments l).0 ≡ outcomes.Reply (success 0 (boolean true)) None
+unfolding outcome answer with_call_noted set_row accepts_row result_bytes
+told-true context row arguments l here may place = rw (row-again row, from-here context here, may, place) refl
+
+set-step : (t : State) (now : ℕ) (row : Row) → IsSpelled row → can_be_set row ≡ true → has_place t.setting.limits.rows (rows_in t.ledger) (length t.ledger.changes) row ≡ true
+    → (step t (set_call now row)).1.ledger.changes ≡ t.ledger.changes ++ Added row ∷ []
+unfolding step datagram serve
+set-step t now row is may place =
+    outcome-shown (serve (at_moment now t) (Udp this_machine) (set_bytes row))
+    ∙ ap (λ (m : Message). (outcome (context_in (at_moment now t) (Udp this_machine)) m (arguments_of (set_bytes row)) t.ledger).1.changes) (read-again row is may)
+    ∙ sets (context_in (at_moment now t) (Udp this_machine)) row (arguments_of (set_bytes row)) t.ledger refl may place
+
+set-says : (t : State) (now : ℕ) (row : Row) → IsSpelled row → can_be_set row ≡ true → has_place t.setting.limits.rows (rows_in t.ledger) (length t.ledger.changes) row ≡ true
+    → SaysTrue (step t (set_call now row)).0
+unfolding step datagram serve
+set-says t now row is may place =
+    shown-replied (success 0 (boolean true)) (serve (at_moment now t) (Udp this_machine) (set_bytes row))
+    (
+    ap (λ (m : Message). (outcome (context_in (at_moment now t) (Udp this_machine)) m (arguments_of (set_bytes row)) t.ledger).0) (read-again row is may)
+    ∙ told-true (context_in (at_moment now t) (Udp this_machine)) row (arguments_of (set_bytes row)) t.ledger refl may place)
+
+-- ---- all of them
+
+-- a run leaves these own rows and these changes, and says TRUE each time
+record Leaves (t : State) (events : List Event) (own : List Row) (changes : List Change) : Type 0 where
+  own_is : (after t events).ledger.own ≡ own
+  changes_are : (after t events).ledger.changes ≡ changes
+  told : All SaysTrue (run t events)
+
+still : (a b : ℕ) (own before : List Row) (changes old more : List Change) → a ≡ b → own ≡ before → changes ≡ old → are_accepted b before old more ≡ true → are_accepted a own changes more ≡ true
+still a b own before changes old more e f g h = rw (e, f, g) h
+
+sets-all : (t : State) (now : ℕ) (rows : List Row) → All IsSpelled rows → All (λ row. can_be_set row ≡ true) rows → are_accepted t.setting.limits.rows t.ledger.own t.ledger.changes (map Added rows) ≡ true
+    → Leaves t (set_calls now rows) t.ledger.own (t.ledger.changes ++ map Added rows)
+sets-all t now [] are may accepted = record { own_is = refl; changes_are = sym (append-nil t.ledger.changes); told = All-nil SaysTrue }
+sets-all t now (row ∷ rows) are may accepted =
+    let parts = and_parts (is_accepted t.setting.limits.rows t.ledger.own t.ledger.changes (Added row)) _ accepted in
+    let u : State = (step t (set_call now row)).1 in
+    let more : u.ledger.changes ≡ t.ledger.changes ++ Added row ∷ [] = set-step t now row (All-head IsSpelled row rows are) (All-head (λ r. can_be_set r ≡ true) row rows may) parts.0 in
+    let says : SaysTrue (step t (set_call now row)).0 = set-says t now row (All-head IsSpelled row rows are) (All-head (λ r. can_be_set r ≡ true) row rows may) parts.0 in
+    let own : u.ledger.own ≡ t.ledger.own = step-own t (set_call now row) in
+    let limit : u.setting.limits.rows ≡ t.setting.limits.rows = ap (λ s. s.limits.rows) (step-setting t (set_call now row)) in
+    let rest = sets-all u now rows (All-tail IsSpelled row rows are) (All-tail (λ r. can_be_set r ≡ true) row rows may) (still _ _ _ _ _ _ (map Added rows) limit own more parts.1) in
+    record {
+      own_is = rest.own_is ∙ own;
+      changes_are = rest.changes_are ∙ ap (λ (changes : List Change). changes ++ map Added rows) more ∙ append_assoc t.ledger.changes (Added row ∷ []) (map Added rows);
+      told = All-cons SaysTrue (step t (set_call now row)).0 (run u (set_calls now rows)) says rest.told;
+    }
+
+-- ---- the rows of a state
+
+-- what holds of each change holds of each row that is left
+pub all-left : (P : Row → Type 0) (Q : Change → Type 0) → ((row : Row) → Q (Added row) → P row) → (changes : List Change) → All Q changes → All P (left_by changes)
+all-left P Q gives [] all = All-nil P
+all-left P Q gives (Removed prog vers which owner ∷ later) all = all-left P Q gives later (All-tail Q (Removed prog vers which owner) later all)
+all-left P Q gives (Added row ∷ later) all = by_test (list_any (covers row) later) (all-left P Q gives later (All-tail Q (Added row) later all))
+  where
+    by_test : (b : Bool) → All P (left_by later) → All P (cond b (left_by later) (row ∷ left_by later))
+    by_test true rest = rest
+    by_test false rest = All-cons P row (left_by later) (gives row (All-head Q (Added row) later all)) rest
+
+abbrev AreMade : State → Type 0
+AreMade s = All MayBeMade s.ledger.changes
+
+step-made : (s : State) (event : Event) → AreMade s → AreMade (step s event).1
+step-made s event all = by_change (at-most-once s event)
+  where
+    by_change : ChangesAtMostOnce s event → AreMade (step s event).1
+    by_change (Same e) = All-same MayBeMade (step s event).1.ledger.changes s.ledger.changes e all
+    by_change (OneMore change a) = All-same MayBeMade (step s event).1.ledger.changes (s.ledger.changes ++ change ∷ []) a.appends (All-push MayBeMade s.ledger.changes change all a.may)
+
+after-made : (s : State) (events : List Event) → AreMade s → AreMade (after s events)
+after-made s [] all = all
+after-made s (event ∷ events) all = after-made (step s event).1 events (step-made s event all)
+
+pub rows_can_be_set : RowsCanBeSet
+rows_can_be_set s r =
+    let start : State = opening r.limits r.listener r.first_xid r.now in
+    let made : AreMade s = subst AreMade (sym r.is) (after-made start r.events (All-nil MayBeMade)) in
+    all-left (λ row. can_be_set row ≡ true) MayBeMade (λ row may. may) s.ledger.changes made
+
+-- ---- from any opening
+
+-- the keys of the own rows are the same for every listener
+same-keys : (one other : Listener) (rows : List Row) → are_distinct (own_rows one ++ rows) ≡ are_distinct (own_rows other ++ rows)
+unfolding own_rows is_row is_on is_netid
+same-keys one other rows = refl
+
+same-length : (one other : Listener) (rows : List Row) → length (own_rows one ++ rows) ≡ length (own_rows other ++ rows)
+unfolding own_rows
+same-length one other rows = refl
+
+good-limit : (limits : Limits) → are_good limits ≡ true → limits.rows ≤ 4096
+good-limit limits good = grind arith
+
+-- the rows of a state, beside the own rows of another listener
+record Beside (s : State) (listener : Listener) : Type 0 where
+  distinct : are_distinct (own_rows listener ++ set_rows s) ≡ true
+  length_is : length (own_rows listener ++ set_rows s) ≡ length (rows_in s.ledger)
+
+beside : (s : State) → IsReached s → (listener : Listener) → Beside s listener
+beside s r listener =
+    let k = ledgers_are_well_kept s r in
+    record {
+      distinct = same-keys listener s.setting.listener (set_rows s) ∙ ap (λ (own : List Row). are_distinct (own ++ set_rows s)) (sym k.own) ∙ k.distinct;
+      length_is = same-length listener s.setting.listener (set_rows s) ∙ ap (λ (own : List Row). length (own ++ set_rows s)) (sym k.own);
+    }
+
+leaves-rows : (s : State) → IsReached s → All IsSpelled (set_rows s) → (limits : Limits) → are_good limits ≡ true → length (rows_in s.ledger) ≤ limits.rows → (listener : Listener) (first_xid opened now : ℕ)
+    → Leaves (opening limits listener first_xid opened) (set_calls now (set_rows s)) (own_rows listener) (map Added (set_rows s))
+leaves-rows s r are limits good room listener first_xid opened now =
+    let b = beside s r listener in
+    let limit = good-limit limits good in
+    let again = rows_are_set_again limits.rows (own_rows listener) (set_rows s) b.distinct (omega (arith, room, b.length_is)) (omega (arith, limit)) in
+    sets-all (opening limits listener first_xid opened) now (set_rows s) are (rows_can_be_set s r) again.0
+
+pub sets-again : (s : State) → IsReached s → All IsSpelled (set_rows s) → (limits : Limits) → are_good limits ≡ true → length (rows_in s.ledger) ≤ limits.rows → (listener : Listener) (first_xid opened now : ℕ)
+    → Sets (opening limits listener first_xid opened) (set_calls now (set_rows s)) (set_rows s)
+sets-again s r are limits good room listener first_xid opened now =
+    let end = leaves-rows s r are limits good room listener first_xid opened now in
+    record { told = end.told; are_set = ap left_by end.changes_are ∙ all_left (set_rows s) }
+
+pub restored : (s : State) → IsReached s → are_good s.setting.limits ≡ true → All IsSpelled (set_rows s) → rows_in (after (opened_again s) (kept_calls s)).ledger ≡ rows_in s.ledger
+restored s r good are =
+    let k = ledgers_are_well_kept s r in
+    let end = leaves-rows s r are s.setting.limits good (k.fit good) s.setting.listener s.setting.first_xid s.clock s.clock in
+    ap (λ (own : List Row). live own (after (opened_again s) (kept_calls s)).ledger.changes) end.own_is
+    ∙ ap (live (own_rows s.setting.listener)) end.changes_are
+    ∙ ap (λ (rows : List Row). own_rows s.setting.listener ++ rows) (all_left (set_rows s))
+    ∙ ap (λ (own : List Row). own ++ set_rows s) (sym k.own)

@@ -1,0 +1,29 @@
+-- Where a connection stands between two events: its phase without its data.
+use Rattle.std.specs.Prelude.{ℕ, Option, Some, None, Result, Ok, Err}
+use Rattle.rb_model.specs.declared.types.CoreFault.{CoreFault}
+use Rattle.rb_model.specs.declared.types.Standing.{Standing}
+use Rattle.rb_model.specs.declared.types.Standing.TheVariants as stands
+use Rattle.rb_model.specs.State.{Phase, Connection, State}
+use Rattle.rb_model.specs.State.Phase.{Idle, Reading, Owing, Awaiting, Lost}
+use Rattle.rb_model.specs.Connections.{live_connection}
+
+abbrev pub standing_in : Phase → Standing
+standing_in Idle = stands.Idle
+standing_in (Reading fed) = stands.Reading
+standing_in (Owing owed) = stands.Owing
+standing_in Awaiting = stands.Awaiting
+standing_in Lost = stands.Lost
+
+-- one that is not live is Lost, or is closed
+abbrev pub standing_on : Option Connection → Standing
+standing_on None = stands.Lost
+standing_on (Some c) = standing_in c.phase
+
+-- where the connection of the number stands
+abbrev pub standing_of : ℕ → State → Standing
+standing_of id s = standing_on (live_connection id s.connections.all)
+
+-- what is answered beside it
+abbrev pub is_done : Result Standing CoreFault → Result (Unit {0}) CoreFault
+is_done (Ok standing) = Ok tt
+is_done (Err fault) = Err fault
