@@ -1,5 +1,7 @@
--- The next deadline of the entries.
-use Rattle.std.specs.Prelude.{ℕ, ◌+◌, ◌*◌, min, List, [], ◌∷◌, map, Option, Some, None}
+-- The least of moments, each of which may be missing, and the next deadline of the entries.
+use Rattle.std.specs.Prelude.{◌≡◌, ℕ, ◌+◌, ◌*◌, min, List, [], ◌∷◌, map, Option, Some, None}
+use Rattle.std.specs.Borrow.{Bor}
+use Rattle.std.specs.Fn.{Shared, FnReturnsAt}
 use Rattle.rb_forward.specs.Forwards.{Entry, Forwards}
 
 -- the lesser of two moments, each of which may be missing
@@ -13,6 +15,14 @@ abbrev pub soonest_of : List (Option ℕ) → Option ℕ
 soonest_of [] = None
 soonest_of (moment ∷ rest) = sooner_of moment (soonest_of rest)
 
+-- what is told of each value is its moment
+abbrev pub TellsMoment : {F T : Type 0} → Shared F (Bor T × Unit {0}) (Option ℕ) → F → (T → Option ℕ) → Type 0
+TellsMoment {F} {T} calls tell moment = (value : T) (told : Option ℕ) → FnReturnsAt calls tell value told → told ≡ moment value
+
+-- what it costs to look for the least moment of so many values: 2 steps for each, and 1
+abbrev pub soonest_cost : ℕ → ℕ
+soonest_cost count = 2 * count + 1
+
 -- each entry has a deadline
 unfoldable pub deadlines_of : List Entry → List (Option ℕ)
 deadlines_of all = map (λ (e : Entry). Some e.deadline) all
@@ -20,7 +30,3 @@ deadlines_of all = map (λ (e : Entry). Some e.deadline) all
 -- the least deadline of the entries, where there are some
 abbrev pub next_deadline : Forwards → Option ℕ
 next_deadline f = soonest_of (deadlines_of f.all)
-
--- what it costs to look for the next deadline of so many: 2 steps for each, and 1
-abbrev pub next_deadline_cost : ℕ → ℕ
-next_deadline_cost count = 2 * count + 1

@@ -1,10 +1,9 @@
-//! The next deadline of what is kept in a table.
-ghost use Rattle.std.specs.Prelude.{◌≡◌, length, map, Some};
+//! The least of moments, each of which may be missing.
+ghost use Rattle.std.specs.Prelude.{◌≡◌, ℕ, length, map, Option};
 ghost use Rattle.std.specs.Map.{values_of};
 ghost use Rattle.rb_xdr.specs.Meter.{PaysAtMost};
-ghost use Rattle.rb_forward.specs.Deadlines.{sooner_of, soonest_of, next_deadline_cost};
+ghost use Rattle.rb_forward.specs.Deadlines.{sooner_of, soonest_of, soonest_cost, TellsMoment};
 
-use crate::entries::Slot;
 use rb_xdr::{Meter, Pool};
 
 /// The lesser of two moments, each of which may be missing.
@@ -18,18 +17,23 @@ pub fn sooner(a: Option<u64>, b: Option<u64>) -> Option<u64>
     }
 }
 
-/// The least deadline of the slots.
-pub(crate) fn soonest_in(slots: &Pool<Slot>, meter: &mut Meter) -> Option<u64>
-    requires tie { meter.old.tie ≡ slots.now.tie }
-    ensures soonest { result ≡ soonest_of
-        (map (λ (slot : Slot). Some slot.deadline) (values_of slots.now.entries)) }
-    ensures cost { PaysAtMost meter.old meter.new
-        (next_deadline_cost (length slots.now.entries)) }
+/// The least moment of the values of a table, of each of which `moment` tells one or none.
+pub fn soonest_in<T, F: Fn(&T) -> Option<u64>>(
+    table: &Pool<T>,
+    moment: F,
+    meter: &mut Meter,
+) -> Option<u64>
+    requires tie { meter.old.tie ≡ table.now.tie }
+    requires callable { F.IsAlwaysCallable moment }
+    ensures soonest { (m : T → Option ℕ) → TellsMoment F.Fn moment m
+        → result ≡ soonest_of (map m (values_of table.now.entries)) }
+    ensures cost { PaysAtMost meter.old meter.new (soonest_cost (length table.now.entries)) }
 {
     let mut soonest = None;
     let mut place = None;
-    'slots: while let Some((key, slot)) = slots.entry_after(place, meter) {
-        soonest = sooner(soonest, Some(slot.deadline));
+    'values: while let Some((key, value)) = table.entry_after(place, meter) {
+        let told = moment(value);
+        soonest = sooner(soonest, told);
         place = Some(key);
     }
     soonest

@@ -318,14 +318,14 @@ impl Forwards {
     ghost use Rattle.std.specs.Prelude.{◌≡◌};
     ghost use Rattle.rb_xdr.specs.Meter.{PaysAtMost};
     ghost use Rattle.rb_forward.specs.Table.{Whatever};
-    ghost use Rattle.rb_forward.specs.Deadlines.{next_deadline, next_deadline_cost};
+    ghost use Rattle.rb_forward.specs.Deadlines.{next_deadline, soonest_cost};
 
     /// The least deadline of the entries, or `None` where there is none. Before it `due` ends nothing.
     pub fn next_deadline(&self, meter: &mut Meter) -> Option<u64>
         requires { meter.old.tie ≡ self.now.tie }
         ensures soonest { Whatever self.now (λ f. result ≡ next_deadline f) }
-        ensures cost { PaysAtMost meter.old meter.new (next_deadline_cost self.now.cap) }
+        ensures cost { PaysAtMost meter.old meter.new (soonest_cost self.now.cap) }
     {
-        soonest_in(&self.slots, meter)
+        soonest_in(&self.slots, |slot| Some(slot.deadline), meter)
     }
 }

@@ -12,7 +12,7 @@ mod types;
 mod worked;
 
 pub use buffers::LONGEST_FORWARDED_CALL;
-pub use deadlines::sooner;
+pub use deadlines::{sooner, soonest_in};
 pub use forwards::{Forwards, PATIENCE};
 pub use laws::{calls_end_the_first, each_entry_ends_once};
 pub use outcome::LONGEST_RESULTS;
