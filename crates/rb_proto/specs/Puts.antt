@@ -1,7 +1,8 @@
 -- What answering and putting results costs.
 use Rattle.std.specs.Prelude.{ℕ, ◌+◌, ◌-◌, ◌*◌, length}
 use Rattle.rb_xdr.specs.Kept.{Kept}
-use Rattle.rb_registry.specs.Registry.{Registry, slots_of}
+use Rattle.rb_xdr.specs.Ordered.{looks}
+use Rattle.rb_registry.specs.Registry.{Registry, slots_of, rows_of}
 use Rattle.rb_forward.specs.Costs.{end_cost, unsent_cost}
 use Rattle.rb_proto.specs.declared.books.Books.{Books}
 use Rattle.rb_proto.specs.Costs.{note_cost, forward_cost, statistics_cost}
@@ -19,17 +20,24 @@ write_cost kept old new = 2 * length (slots_of kept) + 2 + (length new.bytes - l
 abbrev pub list_cost : Registry → Kept → Kept → ℕ
 list_cost kept old new = 4 * length (slots_of kept) + 4 + put_cost old new
 
--- a walk that looks for a row, and what notes the look-up
+-- two searches for a row, and what notes the look-up
 abbrev pub lookup_cost : Books → ℕ
-lookup_cost books = 2 * length (slots_of books.registry) + 3 + note_cost
+lookup_cost books = 2 * looks books.registry.limit + 3 + note_cost
 
--- a walk that changes rows, what notes a look-up, and a new entry for so many bytes of arguments
+-- two searches, and what moves in the index, for the row that is set or for each netid of an UNSET
+abbrev pub set_cost : Registry → ℕ
+set_cost kept = 2 * looks kept.limit + length (rows_of kept) + 2
+
+abbrev pub unset_cost : Registry → ℕ
+unset_cost kept = 5 * set_cost kept
+
+-- a change of rows, what notes a look-up, and a new entry for so many bytes of arguments
 abbrev pub call_cost : Books → ℕ → ℕ
-call_cost books args = 3 * length (slots_of books.registry) + 4 + note_cost + forward_cost args
+call_cost books args = unset_cost books.registry + 3 + note_cost + forward_cost args
 
--- a walk that looks for a row, and one step for the number of the live ones
+-- a search for a row, and one step for the number of the live ones
 abbrev pub room_cost : Books → ℕ
-room_cost books = 2 * length (slots_of books.registry) + 2
+room_cost books = looks books.registry.limit + 2
 
 -- a walk over the rows, with a look at how much is written behind each, and what is written in the room of a part
 abbrev pub part_cost : Registry → ℕ

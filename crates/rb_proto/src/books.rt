@@ -99,7 +99,7 @@ impl Books {
         ensures waiting { IfOk result (λ books. slots_of books.forwards ≡ []) }
         ensures tied { IfOk result (λ books. AreTied meter.old.tie books) }
         ensures bad { IsErrOf result RegistryFault.BadLimits ↔ (limit < 6) }
-        ensures cost { PaysAtMost meter.old meter.new (6 + 2 * forwards) }
+        ensures cost { PaysAtMost meter.old meter.new (66 + 2 * forwards) }
     {
         let registry = Registry::new(alloc, limit, own_rows(listener), meter)?;
         let stats = Stats::new(alloc, meter)?;

@@ -1,6 +1,7 @@
 //! Calls that are forwarded (RFC 1833 sections 2.2.1 and 3.2).
 ghost use Rattle.std.specs.Prelude.{◌≡◌, ◌+◌, ◌*◌, length};
 ghost use Rattle.rb_xdr.specs.Meter.{PaysAtMost};
+ghost use Rattle.rb_xdr.specs.Ordered.{looks};
 ghost use Rattle.rb_registry.specs.Registry.{rows_of, slots_of as row_slots};
 ghost use Rattle.rb_stats.specs.Counting.{HasNoted};
 ghost use Rattle.rb_forward.specs.StandsFor.{slots_of};
@@ -119,7 +120,7 @@ fn peer_to_forward(registry: &Registry, remote: &RemoteCall, meter: &mut Meter) 
     requires { meter.old.tie ≡ registry.now.tie }
     ensures peer { result
         ≡ peer_to_forward remote.now.prog remote.now.vers (rows_of registry.now) }
-    ensures cost { PaysAtMost meter.old meter.new (2 * length (row_slots registry.now) + 1) }
+    ensures cost { PaysAtMost meter.old meter.new (looks registry.now.limit + 1) }
 {
     if remote.prog == RPCB_PROG {
         return None;

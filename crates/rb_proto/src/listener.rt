@@ -1,6 +1,7 @@
 //! Where the daemon listens.
-ghost use Rattle.std.specs.Prelude.{◌≡◌};
+ghost use Rattle.std.specs.Prelude.{IsTrue, ◌≡◌};
 ghost use Rattle.rb_registry.specs.Registry.{AreOwn};
+ghost use Rattle.rb_registry.specs.Rows.{are_distinct};
 ghost use Rattle.rb_proto.specs.Callers.{own_row, own_rows, is_local};
 
 use rb_registry::{Netid, Owner, RPCB_PROG, Row};
@@ -37,10 +38,11 @@ fn own_row(listener: &Listener, vers: u32, netid: Netid) -> Row
 }
 
 /// The rows of the portmapper itself: versions 4, 3 and 2, on tcp and then on udp, at the listener's port of every host.
-#[tactic(auto, unfolding(crate::specs::Callers::own_rows))]
+#[tactic(auto, unfolding(crate::specs::Callers::own_rows, rb_registry::specs::Rows::is_row, rb_registry::specs::Rows::is_on, rb_registry::specs::Rows::is_netid))]
 pub(crate) fn own_rows(listener: &Listener) -> [Row; 6]
     ensures rows { result ≡ own_rows listener.now }
     ensures own { AreOwn result }
+    ensures distinct { IsTrue (are_distinct result) }
 {
     [
         own_row(listener, 4, Netid::Tcp),

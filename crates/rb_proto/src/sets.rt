@@ -1,6 +1,8 @@
 //! SET and UNSET, the procedures that change the registry (RFC 1833 sections 2.2 and 3.2).
 ghost use Rattle.std.specs.Prelude.{◌≡◌, ◌+◌, ◌*◌, length};
 ghost use Rattle.rb_xdr.specs.Meter.{PaysAtMost};
+ghost use Rattle.rb_xdr.specs.Ordered.{looks};
+ghost use Rattle.rb_proto.specs.Puts.{set_cost, unset_cost};
 ghost use Rattle.rb_registry.specs.Registry.{rows_of, slots_of};
 ghost use Rattle.rb_registry.specs.Cursors.{GoesOn};
 ghost use Rattle.rb_proto.specs.Books.{ActsAs, AreTied, SameFrame, HasRoomFor};
@@ -74,7 +76,7 @@ pub(crate) fn accepts(registry: &Registry, context: &Context, row: &Row, meter: 
     requires limit { registry.now.limit ≡ context.now.limit }
     ensures value { result
         ≡ accepts context.now (rows_of registry.now) registry.now.stamp row.now }
-    ensures cost { PaysAtMost meter.old meter.new (2 * length (slots_of registry.now) + 2) }
+    ensures cost { PaysAtMost meter.old meter.new (looks registry.now.limit + 2) }
 {
     if !context.comes_from_here() || !can_be_set(row) {
         return false;
@@ -106,7 +108,7 @@ pub(crate) fn set_row(
     ensures floor { books.new.registry.floor ≡ books.old.registry.floor }
     ensures forwards { books.new.forwards ≡ books.old.forwards }
     ensures frame { SameFrame books.old books.new }
-    ensures cost { PaysAtMost meter.old meter.new (2 * length (slots_of books.old.registry) + 2) }
+    ensures cost { PaysAtMost meter.old meter.new (set_cost books.old.registry) }
 {
     let Some(row) = row else {
         return false;
@@ -140,7 +142,7 @@ pub(crate) fn unset_rows(
     ensures floor { books.new.registry.floor ≡ books.old.registry.floor }
     ensures forwards { books.new.forwards ≡ books.old.forwards }
     ensures frame { SameFrame books.old books.new }
-    ensures cost { PaysAtMost meter.old meter.new (3 * length (slots_of books.old.registry) + 1) }
+    ensures cost { PaysAtMost meter.old meter.new (unset_cost books.old.registry) }
 {
     let Some(which) = which else {
         return false;

@@ -4,7 +4,6 @@ pub mod Tables
 pub mod Changes
 pub mod Finds
 pub mod Searching
-pub mod Newest
 pub mod Holding
 pub mod Counting
 pub mod Registries
@@ -15,3 +14,5 @@ pub mod WalkLaws
 pub mod RowLaws
 pub mod FoundLaws
 pub mod SetAgain
+pub mod Ranks
+pub mod Marks

@@ -8,10 +8,13 @@ use Rattle.rb_xdr.specs.Search.{key_of}
 use Rattle.rb_registry.specs.declared.row.Row.{Row}
 use Rattle.rb_registry.specs.declared.row.Netid.{Netid}
 use Rattle.rb_registry.specs.declared.slot.Slot.{Slot}
-use Rattle.rb_registry.specs.Rows.{find_exact, is_on, is_row}
-use Rattle.rb_registry.specs.Slots.{is_live_at, is_live_row}
+use Rattle.rb_registry.specs.Rows.{find_exact, is_row}
+use Rattle.rb_registry.specs.Slots.{is_live_at}
 use Rattle.rb_registry.specs.Registry.{table_at, live_at}
-use Rattle.rb_registry.proofs.Newest.{newest_of}
+
+-- the row of the program's version on a netid, live after n changes
+unfoldable pub is_live_row : ℕ → ℕ → ℕ → Netid → Slot → Bool
+is_live_row n prog vers netid slot = is_row prog vers netid slot.row && is_live_at n slot
 
 -- a key that was found has a value
 has_value : {T : Type 0} (p : T → Bool) (entries : List (ℕ × T)) (key : ℕ) → Some key ≡ key_of p entries → is_some (value_at entries key) ≡ true
@@ -80,28 +83,3 @@ module _ (n prog vers : ℕ) (netid : Netid) where
           let found = rw t at h in
           let other : eqb e.0 key ≡ false = apart (eqb e.0 key) refl (has_value (is_live_row n prog vers netid) rest key found) in
           rw other (further found ∙ sym (live_step e rest ∙ rw t refl))
-
--- an entry of another program or netid, or one that is not live, is passed
-module _ (n prog vers : ℕ) (netid : Netid) (key : ℕ) (slot : Slot) (rest : List (ℕ × Slot)) (other : (is_on prog netid slot.row && is_live_at n slot) ≡ false) where
-  abbrev left : List (ℕ × Row)
-  left = table_at n rest
-
-  pub passed_exact : find (is_row prog vers netid) (values_of (table_at n ((key, slot) ∷ rest))) ≡ find (is_row prog vers netid) (values_of (table_at n rest))
-  unfolding is_row
-  passed_exact = by_tests (is_on prog netid slot.row) refl (is_live_at n slot) other
-    where
-      by_tests : (c : Bool) → is_on prog netid slot.row ≡ c → (b : Bool) → (is_on prog netid slot.row && b) ≡ false
-          → find (is_row prog vers netid) (values_of (cond b ((key, slot.row) ∷ left) left)) ≡ find (is_row prog vers netid) (values_of left)
-      by_tests c t false h = refl
-      by_tests true t true h = let clash : true ≡ false = rw t at h in absurd cc
-      by_tests false t true h = rw t refl
-
-  pub passed_newest : (newest : Option Row) (greatest : ℕ)
-      → newest_of prog netid newest greatest (values_of (table_at n ((key, slot) ∷ rest))) ≡ newest_of prog netid newest greatest (values_of (table_at n rest))
-  passed_newest newest greatest = by_tests (is_on prog netid slot.row) refl (is_live_at n slot) other
-    where
-      by_tests : (c : Bool) → is_on prog netid slot.row ≡ c → (b : Bool) → (is_on prog netid slot.row && b) ≡ false
-          → newest_of prog netid newest greatest (values_of (cond b ((key, slot.row) ∷ left) left)) ≡ newest_of prog netid newest greatest (values_of left)
-      by_tests c t false h = refl
-      by_tests true t true h = let clash : true ≡ false = rw t at h in absurd cc
-      by_tests false t true h = rw t refl

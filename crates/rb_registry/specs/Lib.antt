@@ -1,5 +1,6 @@
 pub mod Rows
 pub mod Slots
+pub mod Index
 pub mod Registry
 pub mod Table
 pub mod Cursors

@@ -25,12 +25,12 @@ removals entries = filter_map (λ slot. slot.removed) (values_of entries)
 -- ---- the registry
 
 -- the rows with their changes, under their keys, how many there may be, the memory that the table holds (as of a
--- `Pool`), how many changes were accepted, the least number of changes after which the rows can be listed, and the
--- number of the meter that counts the steps
+-- `Pool`) and how many numbers that of the index, how many changes were accepted, the least number of changes after
+-- which the rows can be listed, and the number of the meter that counts the steps
 pub record Registry : Type 0 where
   pub entries : List (ℕ × Slot)
   pub limit : ℕ
-  pub memory : ℕ × ℕ
+  pub memory : (ℕ × ℕ) × ℕ
   pub stamp : ℕ
   pub floor : ℕ
   pub tie : ℕ

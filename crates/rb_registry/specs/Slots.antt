@@ -2,9 +2,8 @@
 use Rattle.std.specs.Prelude.{ℕ, ◌+◌, nat_le, nat_lt, Bool, true, false, not, ◌&&◌, if◌then◌else◌, List, [], ◌∷◌, ◌++◌, length, map, filter, Option, Some, None}
 use Rattle.std.specs.List.{sum_by}
 use Rattle.rb_registry.specs.declared.slot.Slot.{Slot}
-use Rattle.rb_registry.specs.declared.row.Netid.{Netid}
 use Rattle.rb_registry.specs.declared.row.Row.{Row}
-use Rattle.rb_registry.specs.Rows.{Change, covers, is_row}
+use Rattle.rb_registry.specs.Rows.{Change, covers}
 use Rattle.rb_registry.specs.Rows.Change.{Added, Removed}
 
 -- ---- one of them
@@ -17,10 +16,6 @@ stays_at n (Some removed) = nat_lt n removed
 -- live after n changes: added by then, and not yet removed
 unfoldable pub is_live_at : ℕ → Slot → Bool
 is_live_at n slot = nat_le slot.added n && stays_at n slot.removed
-
--- the row of the program's version on a netid, live after n changes
-unfoldable pub is_live_row : ℕ → ℕ → ℕ → Netid → Slot → Bool
-is_live_row n prog vers netid slot = is_row prog vers netid slot.row && is_live_at n slot
 
 -- a row that this change adds
 abbrev pub slot_of : ℕ → Row → Slot

@@ -5,11 +5,13 @@ use Rattle.std.specs.Borrow.{Bor}
 use Rattle.rb_xdr.specs.Pool.{Pool, HasDistinctKeys}
 use Rattle.rb_xdr.specs.Places.{to_come}
 use Rattle.rb_xdr.specs.Meter.{Meter}
+use Rattle.rb_xdr.specs.Ordered.{Ordered}
 use Rattle.rb_registry.specs.declared.slot.Slot.{Slot}
 use Rattle.rb_registry.specs.declared.row.Row.{Row}
 use Rattle.rb_registry.specs.Registry.{table_at, removals, Registry, rows_of, retained_count, StandsForChanges}
 use Rattle.rb_registry.specs.Slots.{is_live_at, removed_by, is_dropped, held_in}
 use Rattle.rb_registry.specs.Rows.{Change, covers, has_place}
+use Rattle.rb_registry.specs.Index.{IsIndexed}
 
 -- ---- what a registry counts
 
@@ -32,7 +34,7 @@ AreStamped stamp [] = Unit {0}
 AreStamped stamp (e ∷ rest) = IsStamped stamp e.1 × AreStamped stamp rest
 
 -- What is true of a registry between two calls, where it counts so many bytes as held, and so many rows as retained.
-pub record IsTable (stamp floor limit held retained : ℕ) (entries : List (ℕ × Slot)) : Type 0 where
+pub record IsTable (stamp floor limit held retained : ℕ) (entries : List (ℕ × Slot)) (tie : ℕ) (index : Ordered) : Type 0 where
   pub distinct : HasDistinctKeys entries
   pub stamped : AreStamped stamp entries
   pub made : floor ≤ stamp
@@ -40,6 +42,9 @@ pub record IsTable (stamp floor limit held retained : ℕ) (entries : List (ℕ 
   pub within : length entries ≤ limit
   pub is_held : held ≡ count_held entries
   pub are_retained : retained ≡ count_retained entries
+  pub indexed : IsIndexed entries index.entries
+  pub index_cap : index.cap ≡ limit
+  pub index_tie : index.tie ≡ tie
 
 -- ---- what a removal marks, and what a trim drops
 

@@ -10,7 +10,7 @@ use crate::slot::Slot;
 use crate::walk::{
     drop_retained, find_exact, find_row, has_key, least_removal, live_after, mark_covered,
 };
-use rb_xdr::{Meter, NoMemory, Pool};
+use rb_xdr::{Meter, NoMemory, Ordered, Pool};
 use std::alloc::Global;
 use std::marker::Model;
 
@@ -24,6 +24,8 @@ const TOO_MANY: usize = 1 << 56;
 #[derive(Drop)]
 pub struct Registry {
     slots: Pool<Slot>,
+    /// The keys of the live rows, by rank.
+    index: Ordered,
     changes: u64,
     floor: u64,
     held: u64,
@@ -35,12 +37,14 @@ pub struct Registry {
 fn layout(registry: &Registry) {
     let Registry {
         slots,
+        index,
         changes,
         floor,
         held,
         retained,
     } = registry;
     let _: &Pool<Slot> = slots;
+    let _: &Ordered = index;
     let _: [u64; 3] = [*changes, *floor, *held];
     let _: usize = *retained;
 }
@@ -54,13 +58,13 @@ impl Model for Registry {
     ghost view = { λ r. record {
       entries = r.slots.entries;
       limit = r.slots.cap;
-      memory = r.slots.memory;
+      memory = (r.slots.memory, r.index.cap);
       stamp = r.changes;
       floor = r.floor;
       tie = r.slots.tie;
     } };
 
-    ghost invariant = { λ r. IsTable r.changes r.floor r.slots.cap r.held r.retained r.slots.entries };
+    ghost invariant = { λ r. IsTable r.changes r.floor r.slots.cap r.held r.retained r.slots.entries r.slots.tie r.index };
 }
 
 // Whether one more change has a number.
@@ -75,9 +79,10 @@ fn is_change_left(changes: u64) -> bool
 impl Registry {
     ghost use Rattle.std.specs.Prelude.{◌≡◌, ◌≤◌, ◌<◌, ◌+◌, ◌*◌, [], length, Some, None, Ok, Err, IfOk, OnOk, OnErr, IfSome, IfNone, IsErrOf, ◌↔◌, option_copied, if◌then◌else◌};
     ghost use Rattle.std.specs.Bool.{OnFalse};
-    ghost use Rattle.rb_xdr.specs.Meter.{Pays, PaysAtMost};
+    ghost use Rattle.rb_xdr.specs.Meter.{PaysAtMost};
+    ghost use Rattle.rb_xdr.specs.Ordered.{looks};
     ghost use Rattle.rb_registry.specs.declared.row.Row.{Row};
-    ghost use Rattle.rb_registry.specs.Rows.{find_exact, find_row, live};
+    ghost use Rattle.rb_registry.specs.Rows.{are_distinct, find_exact, find_row, live};
     ghost use Rattle.rb_registry.specs.Rows.Change.{Added, Removed};
     ghost use Rattle.rb_registry.specs.Registry.{rows_of, slots_of, removals_of, retained_count, Reaches, AreOwn, StandsForChanges};
     ghost use Rattle.rb_registry.specs.Table.{takes, floor_raised, StandsForMore, StandsForSame, later_than, IsLeast, PaysFor};
@@ -95,14 +100,15 @@ impl Registry {
         own_rows: [Row; 6],
         meter: &mut Meter,
     ) -> Result<Registry, RegistryFault>
-        requires { AreOwn own_rows }
+        requires own { AreOwn own_rows }
+        requires distinct { IsTrue (are_distinct own_rows) }
         ensures made { IfOk result (λ made. StandsForChanges made own_rows []) }
         ensures limit { IfOk result (λ made. made.limit ≡ cap) }
         ensures floor { IfOk result (λ made. made.floor ≡ 0) }
         ensures retained { IfOk result (λ made. removals_of made ≡ []) }
         ensures tie { IfOk result (λ made. made.tie ≡ meter.old.tie) }
         ensures bad { IsErrOf result RegistryFault.BadLimits ↔ (cap < 6) }
-        ensures cost { OnOk result (Pays meter.old meter.new 6) }
+        ensures cost { OnOk result (PaysAtMost meter.old meter.new 66) }
         ensures free { OnErr result (meter.new ≡ meter.old) }
     {
         if cap < own_rows.len() {
@@ -113,20 +119,26 @@ impl Registry {
             // Not reached: that much memory is refused.
             return Err(RegistryFault::NoMemory);
         }
+        let mut index = Ordered::new(alloc, cap, meter)?;
         let mut held = 0;
         'own: for row in own_rows {
             held += row.charge();
+            let rank = row.rank();
             let slot = Slot {
                 added: 0,
                 removed: None,
                 row,
             };
-            let Ok(_) = slots.insert(slot, meter) else {
+            let Ok(key) = slots.insert(slot, meter) else {
+                unreachable!()
+            };
+            let Ok(()) = index.insert(rank, key, meter) else {
                 unreachable!()
             };
         }
         Ok(Registry {
             slots,
+            index,
             changes: 0,
             floor: 0,
             held,
@@ -150,19 +162,23 @@ impl Registry {
         ensures limit { self.new.limit ≡ self.old.limit }
         ensures memory { self.new.memory ≡ self.old.memory }
         ensures tie { self.new.tie ≡ self.old.tie }
-        ensures cost { PaysAtMost meter.old meter.new (2 * length (slots_of self.old) + 2) }
+        ensures cost { PaysAtMost meter.old meter.new (2 * looks self.old.limit + length (rows_of self.old) + 2) }
     {
-        if !is_change_left(self.changes) || has_key(&self.slots, self.changes, &row, meter) {
+        if !is_change_left(self.changes) || has_key(&self.index, &row, meter) {
             return false;
         }
         let charge = row.charge();
+        let rank = row.rank();
         let slot = Slot {
             added: self.changes + 1,
             removed: None,
             row,
         };
         match self.slots.insert(slot, meter) {
-            Ok(_) => {
+            Ok(key) => {
+                let Ok(()) = self.index.insert(rank, key, meter) else {
+                    unreachable!()
+                };
                 self.changes += 1;
                 self.held += charge;
                 true
@@ -193,7 +209,8 @@ impl Registry {
         ensures limit { self.new.limit ≡ self.old.limit }
         ensures memory { self.new.memory ≡ self.old.memory }
         ensures tie { self.new.tie ≡ self.old.tie }
-        ensures cost { PaysAtMost meter.old meter.new (3 * length (slots_of self.old) + 1) }
+        ensures cost { PaysAtMost meter.old meter.new
+            (5 * (2 * looks self.old.limit + length (rows_of self.old) + 2)) }
     {
         let removal = Removal {
             prog,
@@ -204,7 +221,13 @@ impl Registry {
         if !is_change_left(self.changes) {
             return false;
         }
-        let removed = mark_covered(&mut self.slots, self.changes, &removal, meter);
+        let removed = mark_covered(
+            &mut self.slots,
+            &mut self.index,
+            self.changes,
+            &removal,
+            meter,
+        );
         if removed == 0 {
             return false;
         }
@@ -218,9 +241,9 @@ impl Registry {
     pub fn find(&self, prog: u32, vers: u32, netid: Netid, meter: &mut Meter) -> Option<&Row>
         requires { meter.old.tie ≡ self.now.tie }
         ensures found { option_copied result ≡ find_row prog vers netid (rows_of self.now) }
-        ensures cost { PaysAtMost meter.old meter.new (2 * length (slots_of self.now) + 1) }
+        ensures cost { PaysAtMost meter.old meter.new (2 * looks self.now.limit + 1) }
     {
-        find_row(&self.slots, self.changes, prog, vers, netid, meter)
+        find_row(&self.slots, &self.index, prog, vers, netid, meter)
     }
 
     /// The live row of exactly this version of the program on the netid, or `None` where there is none (RFC 1833
@@ -228,9 +251,9 @@ impl Registry {
     pub fn find_exact(&self, prog: u32, vers: u32, netid: Netid, meter: &mut Meter) -> Option<&Row>
         requires { meter.old.tie ≡ self.now.tie }
         ensures found { option_copied result ≡ find_exact prog vers netid (rows_of self.now) }
-        ensures cost { PaysAtMost meter.old meter.new (2 * length (slots_of self.now) + 1) }
+        ensures cost { PaysAtMost meter.old meter.new (looks self.now.limit + 1) }
     {
-        find_exact(&self.slots, self.changes, prog, vers, netid, meter)
+        find_exact(&self.slots, &self.index, prog, vers, netid, meter)
     }
 
     /// How many live rows there are, the own rows included.

@@ -1,8 +1,8 @@
 //! A row with the changes that added and removed it.
 ghost use Rattle.std.specs.Prelude.{◌≡◌};
-ghost use Rattle.rb_registry.specs.Slots.{is_live_at, is_live_row, is_dropped};
+ghost use Rattle.rb_registry.specs.Slots.{is_live_at, is_dropped};
 
-use crate::row::{Netid, Row};
+use crate::row::Row;
 use rb_xdr::NoMemory;
 
 /// A row, the number of the change that added it (0 for an own row), and of the one that removed it.
@@ -47,14 +47,6 @@ impl Slot {
                 None => true,
                 Some(removed) => stamp < removed,
             }
-    }
-
-    /// Whether this is the row of the program's version on that netid, live after so many changes.
-    #[tactic(auto, unfolding(crate::specs::Slots::is_live_row))]
-    pub(crate) fn is_live_row(&self, stamp: u64, prog: u32, vers: u32, netid: Netid) -> bool
-        ensures { result ≡ is_live_row stamp prog vers netid self.now }
-    {
-        self.row.is_of(prog, vers, netid) && self.is_live_at(stamp)
     }
 
     /// Whether `trim` drops the row: it was removed by the change of number `oldest` or an earlier one, or by any

@@ -1,110 +1,179 @@
 //! Walks over the rows, live and retained, in their order.
-ghost use Rattle.std.specs.Prelude.{◌≡◌, ◌+◌, ◌*◌, ◌^◌, ◌<◌, length, IfSome, Some, option_copied};
-ghost use Rattle.std.specs.List.{list_any};
-ghost use Rattle.rb_xdr.specs.Meter.{PaysAtMost};
-ghost use Rattle.rb_xdr.specs.Pool.{HasDistinctKeys};
+ghost use Rattle.std.specs.Prelude.{◌≡◌, ℕ, ◌+◌, ◌*◌, ◌^◌, ◌<◌, length, is_some, if◌then◌else◌, IfSome, Some, option_copied};
+ghost use Rattle.std.specs.Option.{option_or};
+ghost use Rattle.rb_xdr.specs.Meter.{Pays, PaysAtMost};
+ghost use Rattle.rb_xdr.specs.Pool.{value_at, HasDistinctKeys};
+ghost use Rattle.rb_xdr.specs.Ordered.{IsRising, looks};
 ghost use Rattle.rb_registry.specs.Removals.{change_of};
-ghost use Rattle.rb_registry.specs.Rows.{find_exact, find_row, is_of_key};
+ghost use Rattle.rb_registry.specs.Rows.{is_netid, find_exact, find_row};
 ghost use Rattle.rb_registry.specs.Registry.{live_at, removals};
-ghost use Rattle.rb_registry.specs.Table.{count_going, with_marks, entries_left, count_retained, count_held, lesser_of, least_of, IsNextLive, count_left, PaysFor};
+ghost use Rattle.rb_registry.specs.Index.{rank, rank_of, IsIndexed, IsSameBut, newest_key, with_marks_where, removal_cost};
+ghost use Rattle.rb_registry.specs.Table.{AreStamped, count_going, with_marks, entries_left, count_retained, count_held, lesser_of, least_of, IsNextLive, count_left, PaysFor};
 
 use crate::removal::Removal;
-use crate::row::{Netid, Row};
+use crate::row::{Netid, Row, rank};
 use crate::slot::Slot;
-use rb_xdr::{Meter, Pool};
+use rb_xdr::{Meter, Ordered, Pool};
 
-/// The row of exactly this version, of those that are live after so many changes.
-#[tactic(auto, unfolding(crate::specs::Rows::find_exact))]
+/// The live row of exactly this version.
 pub(crate) fn find_exact<'a>(
     slots: &'a Pool<Slot>,
-    stamp: u64,
+    index: &Ordered,
     prog: u32,
     vers: u32,
     netid: Netid,
     meter: &mut Meter,
 ) -> Option<&'a Row>
     requires tie { meter.old.tie ≡ slots.now.tie }
+    requires index_tie { meter.old.tie ≡ index.now.tie }
     requires distinct { HasDistinctKeys slots.now.entries }
-    ensures row { option_copied result
+    requires indexed { IsIndexed slots.now.entries index.now.entries }
+    ensures row { (stamp : ℕ) → AreStamped stamp slots.now.entries → option_copied result
         ≡ find_exact prog vers netid (live_at stamp slots.now.entries) }
-    ensures cost { PaysAtMost meter.old meter.new (2 * length slots.now.entries + 1) }
+    ensures cost { PaysAtMost meter.old meter.new (looks (length index.now.entries) + 1) }
 {
-    let key = slots.find_key(|slot| slot.is_live_row(stamp, prog, vers, netid), meter)?;
+    let key = index.find(rank(prog, netid, vers), meter)?;
     let slot = slots.get(key, meter)?;
     Some(&slot.row)
-}
-
-/// Whether there is a live row of the same program, version and netid.
-pub(crate) fn has_key(slots: &Pool<Slot>, stamp: u64, row: &Row, meter: &mut Meter) -> bool
-    requires tie { meter.old.tie ≡ slots.now.tie }
-    requires distinct { HasDistinctKeys slots.now.entries }
-    ensures any { result ≡ list_any (is_of_key row.now) (live_at stamp slots.now.entries) }
-    ensures cost { PaysAtMost meter.old meter.new (2 * length slots.now.entries + 1) }
-{
-    find_exact(slots, stamp, row.prog, row.vers, row.netid, meter).is_some()
 }
 
 /// The live row of exactly this version, else that of the greatest version of the program on that netid.
 pub(crate) fn find_row<'a>(
     slots: &'a Pool<Slot>,
-    stamp: u64,
+    index: &Ordered,
     prog: u32,
     vers: u32,
     netid: Netid,
     meter: &mut Meter,
 ) -> Option<&'a Row>
     requires tie { meter.old.tie ≡ slots.now.tie }
-    ensures row { option_copied result
+    requires index_tie { meter.old.tie ≡ index.now.tie }
+    requires distinct { HasDistinctKeys slots.now.entries }
+    requires indexed { IsIndexed slots.now.entries index.now.entries }
+    ensures row { (stamp : ℕ) → AreStamped stamp slots.now.entries → option_copied result
         ≡ find_row prog vers netid (live_at stamp slots.now.entries) }
-    ensures cost { PaysAtMost meter.old meter.new (2 * length slots.now.entries + 1) }
+    ensures cost { PaysAtMost meter.old meter.new (2 * looks (length index.now.entries) + 1) }
 {
-    let mut newest = None;
-    let mut greatest = 0;
-    let mut place = None;
-    'rows: while let Some((key, slot)) = slots.entry_after(place, meter) {
-        let row = &slot.row;
-        if row.is_on(prog, netid) && slot.is_live_at(stamp) {
-            if row.is_of(prog, vers, netid) {
-                return Some(row);
-            }
-            if newest.is_none() || greatest < row.vers {
-                newest = Some(row);
-                greatest = row.vers;
-            }
-        }
-        place = Some(key);
-    }
-    newest
+    let key = key_of(index, prog, vers, netid, meter)?;
+    let slot = slots.get(key, meter)?;
+    Some(&slot.row)
 }
 
-/// Marks each live row that the removal covers as removed by the next change, and says how many there were.
+/// The key of that row.
+fn key_of(index: &Ordered, prog: u32, vers: u32, netid: Netid, meter: &mut Meter) -> Option<usize>
+    requires { meter.old.tie ≡ index.now.tie }
+    ensures key { result ≡ option_or (value_at index.now.entries (rank prog netid vers))
+        (newest_key prog netid index.now.entries) }
+    ensures rising { IsRising index.now.entries }
+    ensures cost { PaysAtMost meter.old meter.new (2 * looks (length index.now.entries)) }
+{
+    match index.find(rank(prog, netid, vers), meter) {
+        Some(key) => Some(key),
+        None => newest(index, prog, netid, meter),
+    }
+}
+
+/// The key of the greatest version of the program on that netid.
+fn newest(index: &Ordered, prog: u32, netid: Netid, meter: &mut Meter) -> Option<usize>
+    requires { meter.old.tie ≡ index.now.tie }
+    ensures key { result ≡ newest_key prog netid index.now.entries }
+    ensures cost { Pays meter.old meter.new (looks (length index.now.entries)) }
+{
+    let least = rank(prog, netid, 0);
+    match index.last_upto(rank(prog, netid, u32::MAX), meter) {
+        Some((last, key)) if least <= last => Some(key),
+        _ => None,
+    }
+}
+
+/// Whether there is a live row of the same program, version and netid.
+pub(crate) fn has_key(index: &Ordered, row: &Row, meter: &mut Meter) -> bool
+    requires { meter.old.tie ≡ index.now.tie }
+    ensures found { result ≡ is_some (value_at index.now.entries (rank_of row.now)) }
+    ensures vers { row.now.vers < 2 ^ 32 }
+    ensures cost { Pays meter.old meter.new (looks (length index.now.entries)) }
+{
+    index.find(row.rank(), meter).is_some()
+}
+
+/// Marks each live row that the removal covers as removed by the next change, takes it out of the index, and says how
+/// many there were.
 pub(crate) fn mark_covered(
     slots: &mut Pool<Slot>,
+    index: &mut Ordered,
     stamp: u64,
     removal: &Removal,
     meter: &mut Meter,
 ) -> usize
     requires tie { meter.old.tie ≡ slots.old.tie }
+    requires index_tie { meter.old.tie ≡ index.old.tie }
     requires number { stamp + 1 < 2 ^ 64 }
-    requires few { length slots.old.entries < 2 ^ 64 }
     requires distinct { HasDistinctKeys slots.old.entries }
+    requires stamped { AreStamped stamp slots.old.entries }
+    requires indexed { IsIndexed slots.old.entries index.old.entries }
     ensures removed { result ≡ count_going stamp (change_of removal.now) slots.old.entries }
     ensures marks { slots.new ≡ with_marks stamp (change_of removal.now) slots.old }
-    ensures cost { PaysAtMost meter.old meter.new (3 * length slots.old.entries + 1) }
+    ensures indexed { IsIndexed slots.new.entries index.new.entries }
+    ensures index { IsSameBut index.old index.new }
+    ensures cost { PaysAtMost meter.old meter.new
+        (5 * removal_cost (length index.old.entries)) }
 {
     let mut removed = 0;
-    let mut place = None;
-    'rows: while let Some((key, slot)) = slots.entry_after(place, meter) {
-        if slot.is_live_at(stamp) && removal.covers(&slot.row) {
-            let Some(gone) = slots.get_mut(key, meter) else {
-                unreachable!()
-            };
-            gone.removed = Some(stamp + 1);
+    'netids: for netid in NETIDS {
+        if mark_on(slots, index, stamp, removal, netid, meter) {
             removed += 1;
         }
-        place = Some(key);
     }
     removed
+}
+
+const NETIDS: [Netid; 5] = [
+    Netid::Tcp,
+    Netid::Udp,
+    Netid::Tcp6,
+    Netid::Udp6,
+    Netid::Local,
+];
+
+/// The same for the row on this netid, of which there is one at most.
+fn mark_on(
+    slots: &mut Pool<Slot>,
+    index: &mut Ordered,
+    stamp: u64,
+    removal: &Removal,
+    netid: Netid,
+    meter: &mut Meter,
+) -> bool
+    requires tie { meter.old.tie ≡ slots.old.tie }
+    requires index_tie { meter.old.tie ≡ index.old.tie }
+    requires number { stamp + 1 < 2 ^ 64 }
+    requires distinct { HasDistinctKeys slots.old.entries }
+    requires indexed { IsIndexed slots.old.entries index.old.entries }
+    ensures marks { slots.new ≡ with_marks_where (λ other. is_netid other netid) stamp
+        (change_of removal.now) slots.old }
+    ensures distinct { HasDistinctKeys slots.new.entries }
+    ensures indexed { IsIndexed slots.new.entries index.new.entries }
+    ensures removed { (if result then 1 else 0) + length index.new.entries
+        ≡ length index.old.entries }
+    ensures index { IsSameBut index.old index.new }
+    ensures cost { PaysAtMost meter.old meter.new (removal_cost (length index.old.entries)) }
+{
+    if !removal.which.includes(netid) {
+        return false;
+    }
+    let rank = rank(removal.prog, netid, removal.vers);
+    let Some(key) = index.find(rank, meter) else {
+        return false;
+    };
+    let Some(slot) = slots.get_mut(key, meter) else {
+        unreachable!()
+    };
+    if !removal.covers(&slot.row) {
+        return false;
+    }
+    slot.removed = Some(stamp + 1);
+    index.remove(rank, meter);
+    true
 }
 
 /// How many rows were taken out, and how many bytes they held.

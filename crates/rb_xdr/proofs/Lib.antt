@@ -1,5 +1,6 @@
 pub mod Chains
 pub mod FormLaws
+pub mod Ordering
 pub mod PoolLemmas
 pub mod Walks
 pub mod Readers

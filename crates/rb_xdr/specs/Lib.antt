@@ -2,6 +2,7 @@ pub mod Keys
 pub mod Kept
 pub mod Links
 pub mod Meter
+pub mod Ordered
 pub mod Pool
 pub mod Puts
 pub mod PoolLends

@@ -2,6 +2,7 @@
 use Rattle.std.specs.Prelude.{◌≡◌, ℕ, List, [], ◌∷◌, ◌++◌, Some, None, Ok, Err, codes, pos, negsuc}
 use Rattle.rb_xdr.specs.declared.fault.XdrFault.TheVariants.{Short, TooLong, BadBool, BadPadding}
 use Rattle.rb_xdr.specs.Xdr.{XdrFault, Reading, number, words, opaque, array, linked_list, read_number, read_bool, read_opaque, read_array}
+use Rattle.rb_xdr.specs.Ordered.{looks}
 use Rattle.rb_xdr.specs.XdrTypes.{signed, optional, read_signed, read_pair, read_optional}
 
 abbrev pub WritesNumbers : Type 0
@@ -66,3 +67,9 @@ BoolIsTwo = read_bool (0 ∷ 0 ∷ 0 ∷ 2 ∷ []) ≡ Err BadBool
 -- the first field with a fault decides
 abbrev pub FirstFieldDecides : Type 0
 FirstFieldDecides = read_pair read_bool (read_opaque 1) (words (2 ∷ 9 ∷ [])) ≡ Err BadBool
+
+-- ---- searches
+
+-- the looks of a search among none, one, two and five numbers, and among 4,096
+abbrev pub LooksOfSearches : Type 0
+LooksOfSearches = (looks 0 ≡ 0) × (looks 1 ≡ 1) × (looks 2 ≡ 2) × (looks 5 ≡ 4) × (looks 4096 ≡ 13)

@@ -1,5 +1,6 @@
 //! What holds of the spellings of every type.
 ghost use Rattle.std.specs.Prelude.{ℕ, List};
+ghost use Rattle.rb_xdr.specs.Ordered.{LooksAreFew};
 ghost use Rattle.rb_xdr.specs.XdrLaws.{IsReadOfOneText, SpellsOneValue, NoneIsLonger, IsNoFront, NumberIsType, SignedIsType, BooleanIsType, OpaqueIsType};
 
 use crate::xdr::Xdr;
@@ -22,4 +23,9 @@ pub fn types_are_read_exactly()
     ensures int { SignedIsType }
     ensures boolean { BooleanIsType }
     ensures opaque { OpaqueIsType }
+{}
+
+/// A search among at most 2^k numbers takes k + 1 looks at most.
+pub fn few_looks()
+    ensures { LooksAreFew }
 {}

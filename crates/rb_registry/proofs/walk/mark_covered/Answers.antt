@@ -1,79 +1,79 @@
-use Rattle.std.proofs.Common.{◌≡◌, refl, sym, ap, ◌∙◌, arith, ◌+◌, length, Some, None, true, false}
-use Rattle.std.specs.Map.{values_of}
-use Rattle.rb_xdr.specs.Meter.{Meter}
-use Rattle.rb_xdr.specs.Pool.{value_at}
-use Rattle.rb_xdr.specs.Places.{to_come, behind}
+use Rattle.std.proofs.Common.{◌≡◌, ℕ, List, take, length, get_or, refl, sym, ap, ◌∙◌, arith}
+use Rattle.std.specs.List.{list_any}
+use Rattle.std.proofs.lemmas.List.{length-map, take_more, take_all}
+use Rattle.rb_xdr.specs.Pool.{Pool}
+use Rattle.rb_registry.specs.declared.row.Netid.{Netid}
+use Rattle.rb_registry.specs.declared.row.Netid.TheVariants.{Tcp}
+use Rattle.rb_registry.specs.declared.slot.Slot.{Slot}
 use Rattle.rb_registry.specs.Removals.{change_of}
-use Rattle.rb_registry.specs.Table.{goes}
-use Rattle.rb_registry.proofs.Marking.{is_there, behind-with, marked_there, passed_by, all_marked_there}
-use Rattle.rb_registry.proofs.Counting.{count_cons}
-use Rattle.rb_registry.proofs.Tables.{marked_is, goes_is, dead_stays, not_covered_stays, not_marked}
+use Rattle.rb_registry.specs.Rows.{is_netid}
+use Rattle.rb_registry.specs.Table.{with_mark, with_marks, entries_with_marks, count_retained}
+use Rattle.rb_registry.specs.Index.{with_marks_where, marked_where}
+use Rattle.rb_registry.proofs.Counting.{removals-marked}
+use Rattle.rb_registry.proofs.Marks.{netids, is_one, none_marked, one_more, all_marked, ranks_and_retained, removal_cost_more}
 use Rattle.rb_registry.proofs.walk.mark_covered.Goals as goal
-use Rattle.rb_registry.proofs.walk.mark_covered.Goals.{else-is_live_at-via-then-is_live_at+else-covers, else-is_live_at-via-else-is_live_at}
+use Rattle.rb_registry.proofs.walk.mark_covered.Goals.{then-mark_on, else-mark_on, After-netids}
 
-pub unreachable-requires : goal.unreachable-requires
-unreachable-requires c =
-    let there : value_at c.rows.slots.entries c.in-Some.key ≡ Some c.in-Some.slot.now = is_there _ _ _ _ _ _ c.rows.invariant.marking.1 c.in-Some.key _ c.in-Some.ensures.next in
-    let none : None ≡ value_at c.rows.slots.entries c.in-Some.key = c.in_default-get_mut.ensures.value in
-    let clash : None ≡ Some c.in-Some.slot.now = none ∙ there in
-    cc
+pub netids-init : goal.netids-init
+netids-init c = record {
+  marks = rw (none_marked c.args.stamp (change_of c.args.removal.now) c.args.slots.now.entries) refl;
+  distinct = c.requires.distinct;
+  indexed = c.requires.indexed;
+  removed = omega arith;
+  few = omega arith;
+  index = record { cap = refl; tie = refl };
+  meter = refl;
+  rises = omega arith;
+  steps = omega arith;
+}
 
-pub rows-smaller-in-Some-get_mut : goal.rows-smaller-in-Some-get_mut
-rows-smaller-in-Some-get_mut c =
-    let fewer : length (to_come c.rows.slots.entries c.rows.place) ≡ length (behind c.rows.slots.entries c.in-Some.key) + 1 =
-    ap (λ es. length es) c.in-Some.ensures.next ∙ omega arith in
-    rw (behind-with c.rows.slots.entries c.in-Some.key _) (omega (arith, fewer))
-
-pub rows-preserved-in-Some-get_mut : goal.rows-preserved-in-Some-get_mut
-rows-preserved-in-Some-get_mut c =
-    let there : value_at c.rows.slots.entries c.in-Some.key ≡ Some c.in-Some.slot.now = is_there _ _ _ _ _ _ c.rows.invariant.marking.1 c.in-Some.key _ c.in-Some.ensures.next in
-    let got : Some c.in-Some-get_mut.gone.now ≡ value_at c.rows.slots.entries c.in-Some.key = c.in-Some-get_mut.ensures.value in
-    let whole : Some c.in-Some-get_mut.gone.now ≡ Some c.in-Some.slot.now = got ∙ there in
-    let same : c.in-Some-get_mut.gone.now ≡ c.in-Some.slot.now = cc whole in
-    let live = sym c.is_live_at.ensures ∙ c.if-is_live_at.true in
-    let covered = sym c.covers.ensures ∙ c.if-covers.true in
-    let gone = goes_is c.args.stamp (change_of c.args.removal.now) c.in-Some.slot.now live covered in
-    let fewer : length (to_come c.rows.slots.entries c.rows.place) ≡ length (behind c.rows.slots.entries c.in-Some.key) + 1 =
-    ap (λ es. length es) c.in-Some.ensures.next ∙ omega arith in
-    let looked : c.entry_after.new.meter.steps ≡ c.rows.meter.steps + 2 = ap (λ (m : Meter). m.steps) c.in-Some.ensures.cost in
-    let paid : c.get_mut.new.meter.steps ≡ c.entry_after.new.meter.steps + 1 = ap (λ (m : Meter). m.steps) c.get_mut.ensures.cost in
-    let counted = rw c.in-Some.ensures.next at c.rows.invariant.counted in
-    let more = count_cons (goes c.args.stamp (change_of c.args.removal.now)) c.in-Some.slot.now (values_of (behind c.rows.slots.entries c.in-Some.key)) true gone in
-    let tie : c.get_mut.new.meter.tie ≡ c.entry_after.new.meter.tie = ap (λ (m : Meter). m.tie) c.get_mut.ensures.cost in
+pub netids-preserved : goal.netids-preserved
+netids-preserved c =
+    let change = change_of c.args.removal.now in
+    let netid : Netid = get_or netids c.netids.netid-index Tcp in
+    let marked : c.mark_on.new.slots ≡ with_marks_where (λ other. is_netid other (get_or netids c.netids.netid-index Tcp)) c.args.stamp (change_of c.args.removal.now) c.netids.slots = c.mark_on.ensures.marks in
+    let one = one_more (take c.netids.netid-index netids) netid c.args.stamp change c.args.slots.now.entries (marked_where (λ n. list_any (λ other. is_netid n other) (take c.netids.netid-index netids)) c.args.stamp change c.args.slots.now.entries) refl in
+    let longer = take_more netids c.netids.netid-index Tcp (omega (arith, c.netids-test.true)) in
+    let cost = removal_cost_more (length c.netids.index.entries) (length c.args.index.now.entries) (omega (arith, c.netids.invariant.removed)) in
     record {
-      marking = (true, marked_there _ _ _ _ _ _ c.rows.invariant.marking.1 c.in-Some.key _ c.in-Some.ensures.next gone _ (marked_is c.args.stamp (change_of c.args.removal.now) c.in-Some.slot.now c.in-Some-get_mut.gone.now same live covered));
-      counted = rw (behind-with c.rows.slots.entries c.in-Some.key _) (omega (arith, counted, more));
-      cap = c.rows.invariant.cap;
-      memory = c.rows.invariant.memory;
-      tie = c.rows.invariant.tie;
-      meter = tie ∙ ap (λ (m : Meter). m.tie) c.in-Some.ensures.cost ∙ c.rows.invariant.meter;
-      rises = omega (arith, c.rows.invariant.rises, looked, paid);
-      steps = rw (behind-with c.rows.slots.entries c.in-Some.key _) (omega (arith, fewer, looked, paid, c.rows.invariant.steps));
+      marks = marked
+          ∙ ap (λ (p : Pool Slot). with_marks_where (λ other. is_netid other netid) c.args.stamp change p) c.netids.invariant.marks
+          ∙ ap (λ (es : List (ℕ × Slot)). record c.args.slots.now { entries = es }) one
+          ∙ ap (λ (ns : List Netid). with_marks_where (λ n. list_any (λ other. is_netid n other) ns) c.args.stamp change c.args.slots.now) (sym longer);
+      distinct = c.mark_on.ensures.distinct;
+      indexed = c.mark_on.ensures.indexed;
+      removed = elim c.if-mark_on.branch [
+        | then-mark_on w ↦ let one = rw w.if-mark_on.true at c.mark_on.ensures.removed in omega (arith, one, w.removed-is, c.netids.invariant.removed)
+        | else-mark_on w ↦ let none = rw w.if-mark_on.false at c.mark_on.ensures.removed in omega (arith, none, w.removed-is, c.netids.invariant.removed)
+      ];
+      few = elim c.if-mark_on.branch [
+        | then-mark_on w ↦ omega (arith, w.removed-is, c.netids.invariant.few)
+        | else-mark_on w ↦ omega (arith, w.removed-is, c.netids.invariant.few)
+      ];
+      index = record { cap = c.mark_on.ensures.index.cap ∙ c.netids.invariant.index.cap; tie = c.mark_on.ensures.index.tie ∙ c.netids.invariant.index.tie };
+      meter = c.mark_on.ensures.cost.tie ∙ c.netids.invariant.meter;
+      rises = omega (arith, c.mark_on.ensures.cost.rises, c.netids.invariant.rises);
+      steps = omega (arith, c.mark_on.ensures.cost.steps, c.netids.invariant.steps, cost);
     }
 
-pub rows-preserved : goal.rows-preserved
-rows-preserved c =
-    let stays : goes c.args.stamp (change_of c.args.removal.now) c.in-Some.slot.now ≡ false = elim c.else-is_live_at.branch [
-      | else-is_live_at-via-then-is_live_at+else-covers w ↦ not_covered_stays _ _ _ (sym c.is_live_at.ensures ∙ w.if-is_live_at.true) (sym w.covers.ensures ∙ w.if-covers.false)
-      | else-is_live_at-via-else-is_live_at w ↦ dead_stays _ _ _ (sym c.is_live_at.ensures ∙ w.if-is_live_at.false)
-    ] in
-    let fewer : length (to_come c.rows.slots.entries c.rows.place) ≡ length (behind c.rows.slots.entries c.in-Some.key) + 1 =
-    ap (λ es. length es) c.in-Some.ensures.next ∙ omega arith in
-    let looked : c.entry_after.new.meter.steps ≡ c.rows.meter.steps + 2 = ap (λ (m : Meter). m.steps) c.in-Some.ensures.cost in
-    let counted = rw c.in-Some.ensures.next at c.rows.invariant.counted in
-    let more = count_cons (goes c.args.stamp (change_of c.args.removal.now)) c.in-Some.slot.now (values_of (behind c.rows.slots.entries c.in-Some.key)) false stays in
-    record {
-      marking = (c.rows.invariant.marking.0, passed_by _ _ _ _ _ _ c.rows.invariant.marking.1 c.in-Some.key _ c.in-Some.ensures.next stays (not_marked _ _ _ stays));
-      counted = omega (arith, counted, more);
-      cap = c.rows.invariant.cap;
-      memory = c.rows.invariant.memory;
-      tie = c.rows.invariant.tie;
-      meter = ap (λ (m : Meter). m.tie) c.in-Some.ensures.cost ∙ c.rows.invariant.meter;
-      rises = omega (arith, c.rows.invariant.rises, looked);
-      steps = omega (arith, fewer, looked, c.rows.invariant.steps);
-    }
+all_there : (c : After-netids) → c.netids.slots ≡ with_marks c.args.stamp (change_of c.args.removal.now) c.args.slots.now
+all_there c =
+    let whole : take c.netids.netid-index netids ≡ netids = take_all c.netids.netid-index netids (omega (arith, c.netids-test.false)) in
+    let change = change_of c.args.removal.now in
+    c.netids.invariant.marks
+    ∙ ap (λ (ns : List Netid). with_marks_where (λ n. list_any (λ other. is_netid n other) ns) c.args.stamp change c.args.slots.now) whole
+    ∙ ap (λ (es : List (ℕ × Slot)). record c.args.slots.now { entries = es }) (all_marked (λ n. list_any (λ other. is_netid n other) netids) c.args.stamp change c.args.slots.now.entries is_one c.requires.stamped)
 
 pub returns-clause-marks : goal.returns-clause-marks
-returns-clause-marks c =
-    let all = all_marked_there _ _ _ _ _ _ c.rows.invariant.marking.1 c.in_default.ensures.next in
-    rw (← all, ← c.rows.invariant.cap, ← c.rows.invariant.memory, ← c.rows.invariant.tie) refl
+returns-clause-marks c = all_there c
+
+pub returns-clause-removed : goal.returns-clause-removed
+returns-clause-removed c =
+    let change = change_of c.args.removal.now in
+    let entries : c.netids.slots.entries ≡ entries_with_marks c.args.stamp change c.args.slots.now.entries = ap (λ (p : Pool Slot). p.entries) (all_there c) in
+    let now : count_retained c.netids.slots.entries ≡ count_retained (entries_with_marks c.args.stamp change c.args.slots.now.entries) = ap (λ (es : List (ℕ × Slot)). count_retained es) entries in
+    let as_long : length c.netids.slots.entries ≡ length c.args.slots.now.entries = ap (λ (es : List (ℕ × Slot)). length es) entries ∙ length-map {B = ℕ × Slot} c.args.slots.now.entries (λ (e : ℕ × Slot). (e.0, with_mark c.args.stamp change e.1)) in
+    let more = removals-marked c.args.stamp change c.args.slots.now.entries c.requires.stamped in
+    let whole = ranks_and_retained c.netids.slots.entries in
+    let before = ranks_and_retained c.args.slots.now.entries in
+    omega (arith, now, as_long, more, whole, before, c.netids.invariant.removed, c.netids.invariant.indexed.count, c.requires.indexed.count)

@@ -1,4 +1,4 @@
-use Rattle.std.proofs.Common.{refl, append-nil, append_assoc, ◌≡◌, ◌<◌, ◌≤◌, true, sym, ◌∙◌, ap, arith, ◌+◌, length, length-append, List, ◌++◌, ◌∷◌, [], ℕ}
+use Rattle.std.proofs.Common.{refl, rules, append-nil, append_assoc, ◌≡◌, ◌<◌, ◌≤◌, true, false, sym, ◌∙◌, ap, arith, ◌+◌, length, length-append, List, ◌++◌, ◌∷◌, [], ℕ}
 use Rattle.std.specs.Array.Iter.{array_into_iter_items}
 use Rattle.std.specs.Map.{values_of}
 use Rattle.rb_xdr.specs.Meter.{Meter}
@@ -14,43 +14,101 @@ use Rattle.rb_registry.proofs.Finds.{values_of-push}
 use Rattle.rb_registry.proofs.History.{slots-new}
 use Rattle.rb_registry.proofs.Holding.{held-push, held_bound}
 use Rattle.rb_registry.proofs.Tables.{own_now, AreStamped-own, live_and_retained, removals-push}
+use Rattle.rb_xdr.specs.Ordered.{looks, moves}
+use Rattle.rb_registry.proofs.Ranks.{IsIndexed-none, IsIndexed-push, own_missing}
+use Rattle.rb_registry.proofs.Marks.{ranks_and_retained, own_cost}
 use Rattle.rb_registry.proofs.registry.Registry.new.Goals as goal
+
+pub own-init : goal.own-init
+own-init c = record {
+  can_next = tt;
+  finite = tt;
+  left = search rules;
+  table = record {
+    distinct = rw c.in_ok-slots.ensures.empty tt;
+    stamped = rw c.in_ok-slots.ensures.empty tt;
+    made = omega arith;
+    few = search rules;
+    within = rw c.in_ok-slots.ensures.empty (omega arith);
+    is_held = rw c.in_ok-slots.ensures.empty refl;
+    are_retained = rw c.in_ok-slots.ensures.empty refl;
+    indexed = rw (c.in_ok-slots.ensures.empty, c.in_ok-index.ensures.empty) IsIndexed-none;
+    index_cap = c.in_ok-index.ensures.cap ∙ sym c.in_ok-slots.ensures.cap;
+    index_tie = c.in_ok-index.ensures.tie ∙ ap (λ (m : Meter). m.tie) c.in_ok-slots.ensures.free ∙ sym c.in_ok-slots.ensures.tie;
+  };
+  slots = rw c.in_ok-slots.ensures.empty refl;
+  dead = rw c.in_ok-slots.ensures.empty refl;
+  counted = rw c.in_ok-slots.ensures.empty refl;
+  count = rw c.in_ok-slots.ensures.empty refl;
+  rows = rw c.in_ok-slots.ensures.empty refl;
+  cap = c.in_ok-slots.ensures.cap;
+  tie = c.in_ok-slots.ensures.tie;
+  meter = search rules;
+  rises = search rules;
+  steps = search rules;
+}
+
+pub insert-requires-in-own-clause-absent : goal.insert-requires-in-own-clause-absent
+insert-requires-in-own-clause-absent c =
+    rw c.rank-rank.ensures.rank
+    (own_missing c.own.yielded c.in-Some.row _ c.args.own_rows c.own.slots.entries c.own.index.entries c.own.invariant.table.indexed c.own.invariant.table.stamped c.rank-rank.ensures.vers c.own.invariant.rows
+    (ap (λ (rows : List Row). c.own.yielded ++ rows) (sym c.in-Some.ensures.steps) ∙ c.own.invariant.left) c.requires.distinct)
+
+pub unreachable-requires-in_default-insert : goal.unreachable-requires-in_default-insert
+unreachable-requires-in_default-insert c =
+    let room : length c.own.slots.entries < c.own.slots.cap = c.in-Ok.ensures.room.0 (λ i. true) in
+    let whole = ranks_and_retained c.own.slots.entries in
+    let free : length c.own.index.entries < c.own.index.cap = omega (arith, room, whole, c.own.invariant.table.indexed.count, c.own.invariant.table.index_cap) in
+    let clash : false ≡ true = c.in_default-insert.ensures.room.1 free in
+    cc
 
 pub own-preserved : goal.own-preserved
 own-preserved c =
-    let paid : c.insert.new.meter.steps ≡ c.own.meter.steps + 1 = ap (λ (m : Meter). m.steps) c.insert.ensures.cost in
+    let stood : c.own.yielded ++ (c.in-Some.row ∷ array_into_iter_items c.next.new.self) ≡ c.args.own_rows = ap (λ (rows : List Row). c.own.yielded ++ rows) (sym c.in-Some.ensures.steps) ∙ c.own.invariant.left in
+    let missing = own_missing c.own.yielded c.in-Some.row (array_into_iter_items c.next.new.self) c.args.own_rows c.own.slots.entries c.own.index.entries c.own.invariant.table.indexed c.own.invariant.table.stamped c.rank-rank.ensures.vers c.own.invariant.rows stood c.requires.distinct in
+    let pushed = IsIndexed-push c.in-Ok.key 0 c.in-Some.row c.own.slots.entries c.own.index.entries c.own.invariant.table.indexed c.rank-rank.ensures.vers missing in
+    let as_long = length-append c.own.yielded (c.in-Some.row ∷ array_into_iter_items c.next.new.self) in
+    let six : length c.args.own_rows ≡ 6 = search rules in
+    let few : length c.own.slots.entries ≤ 5 = omega (arith, as_long, six, ap (λ (rows : List Row). length rows) stood, c.own.invariant.count) in
+    let cost = own_cost c.own.slots.entries c.own.index.entries c.rank-rank.result c.own.invariant.table.indexed few in
+    let added : c.insert.new.meter.steps ≡ c.own.meter.steps + 1 = ap (λ (m : Meter). m.steps) c.insert.ensures.cost in
+    let moved : c.insert-in-own.new.meter.steps ≡ c.insert.new.meter.steps + (looks (length c.own.index.entries) + moves c.rank-rank.result c.own.index.entries) = ap (λ (m : Meter). m.steps) c.insert-in-own.ensures.cost in
     let longer : length (c.own.yielded ++ c.in-Some.row ∷ []) ≡ length c.own.yielded + 1 = length-append c.own.yielded (c.in-Some.row ∷ []) in
-    let more : length (c.own.slots.entries ++ (c.in-Ok.field-0, slot_of 0 c.in-Some.row) ∷ []) ≡ length c.own.slots.entries + 1 = length-append c.own.slots.entries ((c.in-Ok.field-0, slot_of 0 c.in-Some.row) ∷ []) in
-    let room : length (c.own.slots.entries ++ (c.in-Ok.field-0, slot_of 0 c.in-Some.row) ∷ []) ≤ c.own.slots.cap = let free : length c.own.slots.entries < c.own.slots.cap = c.in-Ok.ensures.room.0 (λ i. true) in omega (arith, more, free) in
+    let more : length (c.own.slots.entries ++ (c.in-Ok.key, slot_of 0 c.in-Some.row) ∷ []) ≡ length c.own.slots.entries + 1 = length-append c.own.slots.entries ((c.in-Ok.key, slot_of 0 c.in-Some.row) ∷ []) in
+    let room : length (c.own.slots.entries ++ (c.in-Ok.key, slot_of 0 c.in-Some.row) ∷ []) ≤ c.own.slots.cap = let free : length c.own.slots.entries < c.own.slots.cap = c.in-Ok.ensures.room.0 (λ i. true) in omega (arith, more, free) in
     record {
       can_next = tt;
       finite = tt;
-      left = append_assoc c.own.yielded (c.in-Some.row ∷ []) _ ∙ ap (λ (rows : List Row). c.own.yielded ++ rows) (sym c.in-Some.ensures.steps) ∙ c.own.invariant.left;
-      table = rw c.in-Ok.ensures.ok (record {
-        distinct = distinct-push c.own.slots.entries c.in-Ok.field-0 (slot_of 0 c.in-Some.row) c.own.invariant.table.distinct c.in-Ok.ensures.fresh;
-        stamped = AreStamped-own c.in-Ok.field-0 c.in-Some.row c.own.slots.entries c.charge-held.ensures.addr c.own.invariant.table.stamped;
+      left = append_assoc c.own.yielded (c.in-Some.row ∷ []) _ ∙ stood;
+      table = rw (c.in-Ok.ensures.ok, c.in-Ok-insert.ensures.ok, c.rank-rank.ensures.rank) (record {
+        distinct = distinct-push c.own.slots.entries c.in-Ok.key (slot_of 0 c.in-Some.row) c.own.invariant.table.distinct c.in-Ok.ensures.fresh;
+        stamped = AreStamped-own c.in-Ok.key c.in-Some.row c.own.slots.entries c.charge-held.ensures.addr c.own.invariant.table.stamped;
         made = c.own.invariant.table.made;
         few = c.own.invariant.table.few;
         within = room;
-        is_held = omega (arith, c.charge-held.ensures.charge, c.own.invariant.table.is_held, held-push c.in-Ok.field-0 0 c.in-Some.row c.own.slots.entries);
-        are_retained = c.own.invariant.table.are_retained ∙ ap (λ (ns : List ℕ). length ns) (sym (removals-push c.in-Ok.field-0 0 c.in-Some.row c.own.slots.entries));
+        is_held = omega (arith, c.charge-held.ensures.charge, c.own.invariant.table.is_held, held-push c.in-Ok.key 0 c.in-Some.row c.own.slots.entries);
+        are_retained = c.own.invariant.table.are_retained ∙ ap (λ (ns : List ℕ). length ns) (sym (removals-push c.in-Ok.key 0 c.in-Some.row c.own.slots.entries));
+        indexed = pushed;
+        index_cap = c.own.invariant.table.index_cap;
+        index_tie = c.own.invariant.table.index_tie;
       });
       slots = rw c.in-Ok.ensures.ok
-          (values_of-push c.own.slots.entries c.in-Ok.field-0 (slot_of 0 c.in-Some.row)
+          (values_of-push c.own.slots.entries c.in-Ok.key (slot_of 0 c.in-Some.row)
           ∙ ap (λ (slots : List Slot). slots ++ slot_of 0 c.in-Some.row ∷ []) (c.own.invariant.slots ∙ slots-new 0 c.own.yielded)
           ∙ sym (map-append (slot_of 0) c.own.yielded (c.in-Some.row ∷ []))
           ∙ sym (slots-new 0 (c.own.yielded ++ c.in-Some.row ∷ [])));
-      dead = rw c.in-Ok.ensures.ok (removals-push c.in-Ok.field-0 0 c.in-Some.row c.own.slots.entries ∙ c.own.invariant.dead);
-      counted = rw c.in-Ok.ensures.ok (live_and_retained 0 _ (AreStamped-own c.in-Ok.field-0 c.in-Some.row c.own.slots.entries c.charge-held.ensures.addr c.own.invariant.table.stamped));
+      dead = rw c.in-Ok.ensures.ok (removals-push c.in-Ok.key 0 c.in-Some.row c.own.slots.entries ∙ c.own.invariant.dead);
+      counted = rw c.in-Ok.ensures.ok (live_and_retained 0 _ (AreStamped-own c.in-Ok.key c.in-Some.row c.own.slots.entries c.charge-held.ensures.addr c.own.invariant.table.stamped));
       count = rw c.in-Ok.ensures.ok (omega (arith, more, longer, c.own.invariant.count));
       rows = rw c.in-Ok.ensures.ok
-          (ap (λ (es : List (ℕ × Row)). values_of es) (own_now c.in-Ok.field-0 c.in-Some.row c.own.slots.entries)
-          ∙ values_of-push (table_at 0 c.own.slots.entries) c.in-Ok.field-0 c.in-Some.row
+          (ap (λ (es : List (ℕ × Row)). values_of es) (own_now c.in-Ok.key c.in-Some.row c.own.slots.entries)
+          ∙ values_of-push (table_at 0 c.own.slots.entries) c.in-Ok.key c.in-Some.row
           ∙ ap (λ (rows : List Row). rows ++ c.in-Some.row ∷ []) c.own.invariant.rows);
       cap = c.insert.ensures.cap ∙ c.own.invariant.cap;
       tie = c.insert.ensures.tie ∙ c.own.invariant.tie;
-      meter = ap (λ (m : Meter). m.tie) c.insert.ensures.cost ∙ c.own.invariant.meter;
-      steps = omega (arith, paid, longer, c.own.invariant.steps);
+      meter = ap (λ (m : Meter). m.tie) c.insert-in-own.ensures.cost ∙ ap (λ (m : Meter). m.tie) c.insert.ensures.cost ∙ c.own.invariant.meter;
+      rises = omega (arith, added, moved, c.own.invariant.rises);
+      steps = omega (arith, added, moved, cost, longer, c.own.invariant.steps);
     }
 
 pub overflow_add-held : goal.overflow_add-held
@@ -65,7 +123,7 @@ returns-clause-made c =
     let given : c.own.yielded ++ [] ≡ c.args.own_rows = rw none at c.own.invariant.left in
     let all : c.own.yielded ≡ c.args.own_rows = sym (append-nil c.own.yielded) ∙ given in
     record {
-      are_own = c.requires;
+      are_own = c.requires.own;
       rows = c.own.invariant.rows ∙ all ∙ sym (append-nil c.args.own_rows);
       past = grind (arith, common_steps, all);
       slots = c.own.invariant.slots ∙ ap (λ (own : List Row). slots_from 0 own []) all;

@@ -1,4 +1,4 @@
-use Rattle.std.proofs.Common.{◌≡◌, ◌+◌, ◌++◌, length, []}
+use Rattle.std.proofs.Common.{◌≡◌, ◌+◌, ◌*◌, ◌≤◌, ◌++◌, length, []}
 use Rattle.std.specs.Array.Iter.{array_into_iter_items}
 use Rattle.std.specs.Map.{values_of}
 use Rattle.rb_registry.specs.Slots.{slots_from}
@@ -11,7 +11,7 @@ invariant-own l = record {
   can_next : (goal.iterator-own).can_next l.row-iterator;
   finite : (goal.iterator-own).is_finite l.row-iterator;
   left : l.yielded ++ array_into_iter_items l.row-iterator ≡ l.fn.own_rows;
-  table : IsTable 0 0 l.slots.cap l.held 0 l.slots.entries;
+  table : IsTable 0 0 l.slots.cap l.held 0 l.slots.entries l.slots.tie l.index;
   slots : values_of l.slots.entries ≡ slots_from 0 l.yielded [];
   dead : removals l.slots.entries ≡ [];
   counted : length (values_of (table_at 0 l.slots.entries)) + length (removals l.slots.entries) ≡ length l.slots.entries;
@@ -20,5 +20,6 @@ invariant-own l = record {
   cap : l.slots.cap ≡ l.fn.cap;
   tie : l.slots.tie ≡ l.fn.meter.tie;
   meter : l.meter.tie ≡ l.fn.meter.tie;
-  steps : l.meter.steps ≡ l.fn.meter.steps + length l.yielded;
+  rises : l.fn.meter.steps ≤ l.meter.steps;
+  steps : l.meter.steps ≤ l.fn.meter.steps + 11 * length l.yielded;
 }

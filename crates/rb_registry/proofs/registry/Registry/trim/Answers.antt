@@ -7,6 +7,7 @@ use Rattle.rb_registry.proofs.Registries.{goes_on-trim, trimmed_now}
 use Rattle.rb_registry.proofs.Stands.{after_trim, fewer_left}
 use Rattle.rb_registry.proofs.Tables.{AreStamped-filter, trimmed_removals}
 use Rattle.rb_registry.proofs.Holding.{held_fits}
+use Rattle.rb_registry.proofs.Ranks.{IsIndexed-left}
 use Rattle.rb_registry.proofs.registry.Registry.trim.Goals as goal
 
 pub drop_retained-dropped-requires-clause-held : goal.drop_retained-dropped-requires-clause-held
@@ -20,6 +21,9 @@ invariant_of-self c = record {
   few = rw c.drop_retained-dropped.ensures.left c.self.invariant.few;
   within = rw c.drop_retained-dropped.ensures.left (let fewer = fewer_left c.args.oldest c.self.inside.slots.entries in let within = c.self.invariant.within in omega (arith, fewer, within));
   is_held = let freed = c.drop_retained-dropped.ensures.bytes in let held = c.self.invariant.is_held in omega (arith, freed, held);
+  indexed = rw c.drop_retained-dropped.ensures.left (IsIndexed-left c.args.oldest c.self.inside.slots.entries c.self.inside.index.entries c.self.invariant.indexed);
+  index_cap = rw c.drop_retained-dropped.ensures.left c.self.invariant.index_cap;
+  index_tie = rw c.drop_retained-dropped.ensures.left c.self.invariant.index_tie;
   are_retained = let dropped = c.drop_retained-dropped.ensures.rows in let dead = c.self.invariant.are_retained in omega (arith, dropped, dead);
 }
 

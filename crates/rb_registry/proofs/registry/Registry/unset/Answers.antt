@@ -1,4 +1,5 @@
-use Rattle.std.proofs.Common.{◌≡◌, ℕ, true, false, sym, subst, ◌∙◌, arith}
+use Rattle.std.proofs.Common.{◌≡◌, ℕ, true, false, sym, ap, subst, ◌∙◌, arith}
+use Rattle.rb_xdr.specs.Pool.{Pool}
 use Rattle.std.specs.List.{list_any}
 use Rattle.std.specs.Map.{values_of}
 use Rattle.std.proofs.lemmas.List.{length-map}
@@ -12,6 +13,7 @@ use Rattle.rb_registry.proofs.Counting.{removals-marked, none_counted, some_coun
 use Rattle.rb_registry.proofs.Registries.{goes_on-unset, goes_on_same, removal_made, no_removal_left, unchanged}
 use Rattle.rb_registry.proofs.Stands.{after_unset}
 use Rattle.rb_registry.proofs.Tables.{AreStamped-marked, distinct-marked, as_many_marked, removals_within}
+use Rattle.rb_registry.proofs.Marks.{looks_within, as_many}
 use Rattle.rb_registry.proofs.registry.Registry.unset.Goals as goal
 use Rattle.rb_registry.proofs.registry.Registry.unset.Goals.{Then-removed-eq0}
 
@@ -24,9 +26,6 @@ pub returns-then-not-is_change_left-clause-taken : goal.returns-then-not-is_chan
 returns-then-not-is_change_left-clause-taken c =
     rw (← c.self.view_is) (sym (no_removal_left _ _ _ (sym c.if-not-is_change_left.ensures.left)))
 
-pub mark_covered-removed-requires-clause-few : goal.mark_covered-removed-requires-clause-few
-mark_covered-removed-requires-clause-few c = omega (arith, c.self.invariant.within, c.self.invariant.few)
-
 pub overflow_add-self-2 : goal.overflow_add-self-2
 overflow_add-self-2 c =
     let change = Removed c.args.prog c.args.vers c.args.which c.args.owner in
@@ -36,12 +35,30 @@ overflow_add-self-2 c =
     omega (arith, more, few, as_long, c.mark_covered-removed.ensures.removed, c.self.invariant.are_retained, c.self.invariant.within, c.self.invariant.few)
 
 pub invariant_of-self : goal.invariant_of-self
-invariant_of-self c = rw (unchanged _ _ _ _ c.mark_covered-removed.ensures.marks (none_goes c)) c.self.invariant
+invariant_of-self c =
+    let same = unchanged _ _ _ _ c.mark_covered-removed.ensures.marks (none_goes c) in
+    record {
+      distinct = rw same c.self.invariant.distinct;
+      stamped = rw same c.self.invariant.stamped;
+      made = c.self.invariant.made;
+      few = rw same c.self.invariant.few;
+      within = rw same c.self.invariant.within;
+      is_held = rw same c.self.invariant.is_held;
+      are_retained = rw same c.self.invariant.are_retained;
+      indexed = c.mark_covered-removed.ensures.indexed;
+      index_cap = c.mark_covered-removed.ensures.index.cap ∙ c.self.invariant.index_cap ∙ sym (ap (λ (p : Pool Slot). p.cap) same);
+      index_tie = c.mark_covered-removed.ensures.index.tie ∙ c.self.invariant.index_tie ∙ sym (ap (λ (p : Pool Slot). p.tie) same);
+    }
 
 pub invariant_of-self-2 : goal.invariant_of-self-2
 invariant_of-self-2 c =
     let change = Removed c.args.prog c.args.vers c.args.which c.args.owner in
-    rw c.mark_covered-removed.ensures.marks (record {
+    let marks = c.mark_covered-removed.ensures.marks in
+    let indexed = rw marks at c.mark_covered-removed.ensures.indexed in
+    rw marks (record {
+      indexed = indexed;
+      index_cap = c.mark_covered-removed.ensures.index.cap ∙ c.self.invariant.index_cap;
+      index_tie = c.mark_covered-removed.ensures.index.tie ∙ c.self.invariant.index_tie;
       distinct = distinct-marked c.self.inside.changes change c.self.inside.slots.entries c.self.invariant.distinct;
       stamped = AreStamped-marked c.self.inside.changes change c.self.inside.slots.entries c.self.invariant.stamped;
       made = let made = c.self.invariant.made in omega (arith, made);
@@ -52,11 +69,11 @@ invariant_of-self-2 c =
     })
 
 pub returns-then-removed-eq0-clause-cursors : goal.returns-then-removed-eq0-clause-cursors
-returns-then-removed-eq0-clause-cursors c = rw (unchanged _ _ _ _ c.mark_covered-removed.ensures.marks (none_goes c), c.self.view_is) (goes_on_same _)
+returns-then-removed-eq0-clause-cursors c = rw (unchanged _ _ _ _ c.mark_covered-removed.ensures.marks (none_goes c), c.mark_covered-removed.ensures.index.cap, c.self.view_is) (goes_on_same _)
 
 pub returns-clause-cursors : goal.returns-clause-cursors
 returns-clause-cursors c =
-    rw (← c.self.view_is, c.mark_covered-removed.ensures.marks) (goes_on-unset (the_view c.self.inside) (Removed c.args.prog c.args.vers c.args.which c.args.owner) c.self.invariant.stamped)
+    rw (← c.self.view_is, c.mark_covered-removed.ensures.marks, c.mark_covered-removed.ensures.index.cap) (goes_on-unset (the_view c.self.inside) (Removed c.args.prog c.args.vers c.args.which c.args.owner) c.self.invariant.stamped)
 
 pub returns-then-removed-eq0-clause-taken : goal.returns-then-removed-eq0-clause-taken
 returns-then-removed-eq0-clause-taken c =
@@ -69,15 +86,15 @@ returns-clause-taken c =
     rw (← c.self.view_is) (sym (removal_made (the_view c.self.inside) change true (sym c.if-not-is_change_left.ensures.left) (sym some)))
 
 pub returns-then-removed-eq0-clause-changes : goal.returns-then-removed-eq0-clause-changes
-returns-then-removed-eq0-clause-changes c own changes h = rw (unchanged _ _ _ _ c.mark_covered-removed.ensures.marks (none_goes c), c.self.view_is) h
+returns-then-removed-eq0-clause-changes c own changes h = rw (unchanged _ _ _ _ c.mark_covered-removed.ensures.marks (none_goes c), c.mark_covered-removed.ensures.index.cap, c.self.view_is) h
 
 pub returns-clause-changes : goal.returns-clause-changes
 returns-clause-changes c own changes h =
-    rw c.mark_covered-removed.ensures.marks
+    rw (c.mark_covered-removed.ensures.marks, c.mark_covered-removed.ensures.index.cap)
     (after_unset (the_view c.self.inside) c.args.prog c.args.vers c.args.which c.args.owner own changes c.self.invariant.stamped c.self.invariant.made (subst (λ (kept : Registry). StandsForChanges kept own changes) (sym c.self.view_is) h))
 
 pub returns-then-removed-eq0-clause-rejected : goal.returns-then-removed-eq0-clause-rejected
-returns-then-removed-eq0-clause-rejected c = rw (unchanged _ _ _ _ c.mark_covered-removed.ensures.marks (none_goes c)) c.self.view_is
+returns-then-removed-eq0-clause-rejected c = rw (unchanged _ _ _ _ c.mark_covered-removed.ensures.marks (none_goes c), c.mark_covered-removed.ensures.index.cap) c.self.view_is
 
 pub returns-then-removed-eq0-clause-count : goal.returns-then-removed-eq0-clause-count
 returns-then-removed-eq0-clause-count c =
@@ -86,3 +103,17 @@ returns-then-removed-eq0-clause-count c =
 pub returns-clause-count : goal.returns-clause-count
 returns-clause-count c =
     rw (← c.self.view_is, c.mark_covered-removed.ensures.marks) (as_many_marked c.self.inside.changes (Removed c.args.prog c.args.vers c.args.which c.args.owner) c.self.inside.slots.entries)
+
+pub returns-then-removed-eq0-clause-cost : goal.returns-then-removed-eq0-clause-cost
+returns-then-removed-eq0-clause-cost c =
+    let more = looks_within c.self.inside.slots.cap c.self.inside.slots.entries c.self.inside.index.entries c.self.invariant.indexed c.self.invariant.within in
+    let rows = as_many c.self.inside.changes c.self.inside.slots.entries c.self.inside.index.entries c.self.invariant.indexed c.self.invariant.stamped in
+    let cost = c.mark_covered-removed.ensures.cost in
+    record { rises = cost.rises; steps = rw (← c.self.view_is) (omega (arith, more, rows, cost.steps)); tie = cost.tie }
+
+pub returns-clause-cost : goal.returns-clause-cost
+returns-clause-cost c =
+    let more = looks_within c.self.inside.slots.cap c.self.inside.slots.entries c.self.inside.index.entries c.self.invariant.indexed c.self.invariant.within in
+    let rows = as_many c.self.inside.changes c.self.inside.slots.entries c.self.inside.index.entries c.self.invariant.indexed c.self.invariant.stamped in
+    let cost = c.mark_covered-removed.ensures.cost in
+    record { rises = cost.rises; steps = rw (← c.self.view_is) (omega (arith, more, rows, cost.steps)); tie = cost.tie }
