@@ -1,7 +1,8 @@
 -- A removal, netid by netid.
-use Rattle.std.proofs.Common.{◌≡◌, ℕ, ◌+◌, ◌<◌, ◌≤◌, Bool, true, false, cond, eqb, not, ◌&&◌, ◌||◌, List, [], ◌∷◌, ◌++◌, length, Option, Some, None, is_some, refl, sym, ap, ◌∙◌, eq-eqb, arith}
+use Rattle.std.proofs.Common.{◌≡◌, ℕ, ◌+◌, ◌<◌, ◌≤◌, Bool, true, false, cond, eqb, not, ◌&&◌, ◌||◌, List, [], ◌∷◌, ◌++◌, ◌*◌, length, take, get_or, Option, Some, None, is_some, refl, sym, ap, ◌∙◌, eq-eqb, arith}
 use Rattle.std.specs.Prelude.{is_none, ◌^◌}
-use Rattle.std.specs.List.{list_any, cons_option}
+use Rattle.std.specs.List.{list_any, cons_option, count_by}
+use Rattle.std.proofs.lemmas.List.Sums.{count_by_more_yes, count_by_more_no}
 use Rattle.std.proofs.lemmas.Bool.{eqb-true}
 use Rattle.rb_xdr.specs.Pool.{value_at, without, with_value, HasDistinctKeys}
 use Rattle.rb_xdr.specs.Ordered.{IsRising, looks, moves}
@@ -11,13 +12,15 @@ use Rattle.rb_registry.specs.declared.row.Netid.{Netid}
 use Rattle.rb_registry.specs.declared.row.Netid.TheVariants.{Tcp, Udp, Tcp6, Udp6, Local}
 use Rattle.rb_registry.specs.declared.row.Owner.{Owner}
 use Rattle.rb_registry.specs.declared.row.Which.{Which}
+use Rattle.rb_registry.specs.declared.row.Which.TheVariants.{All, Inet, One}
 use Rattle.rb_registry.specs.declared.row.Row.{Row}
 use Rattle.rb_registry.specs.declared.slot.Slot.{Slot}
 use Rattle.rb_registry.specs.Rows.{Change, rpcb_prog, covers, is_netid, is_among, may_remove, is_on, is_row}
 use Rattle.rb_registry.specs.Rows.Change.{Removed}
-use Rattle.rb_registry.specs.Registry.{removals, live_at}
+use Rattle.rb_registry.specs.Registry.{Registry, removals, live_at, rows_of}
 use Rattle.rb_registry.specs.Table.{AreStamped, entries_with_marks, count_retained}
-use Rattle.rb_registry.specs.Index.{rank, rank_of, ranks, AreRanked, IsIndexed, goes_where, mark_where, marked_where, removal_cost}
+use Rattle.rb_registry.specs.Index.{rank, rank_of, ranks, AreRanked, IsIndexed, goes_where, mark_where, marked_where}
+use Rattle.rb_registry.specs.Costs.{count_named, unset_cost, removal_cost}
 use Rattle.rb_registry.proofs.Tables.{live_has_none, live_and_retained}
 use Rattle.rb_registry.proofs.Ranks.{same_rank, valued}
 
@@ -340,6 +343,34 @@ is_one Tcp6 = refl
 is_one Udp6 = refl
 is_one Local = refl
 
+-- of them a removal names so many
+pub all_named : (which : Which) → count_by (λ n. is_among n which) netids ≡ count_named which
+unfolding is_among is_netid
+all_named All = refl
+all_named Inet = refl
+all_named (One Tcp) = refl
+all_named (One Udp) = refl
+all_named (One Tcp6) = refl
+all_named (One Udp6) = refl
+all_named (One Local) = refl
+
+-- one netid more costs as much as one removal, where it is named
+pub one_more_cost : (which : Which) (place few many : ℕ) → place < length netids → few ≤ many
+    → count_by (λ n. is_among n which) (take place netids) * removal_cost many + cond (is_among (get_or netids place Tcp) which) (removal_cost few) 0
+    ≤ count_by (λ n. is_among n which) (take (place + 1) netids) * removal_cost many
+one_more_cost which place few many within le = by_test (is_among (get_or netids place Tcp) which) refl
+  where
+    named : Netid → Bool
+    named n = is_among n which
+
+    by_test : (b : Bool) → is_among (get_or netids place Tcp) which ≡ b
+        → count_by named (take place netids) * removal_cost many + cond b (removal_cost few) 0 ≤ count_by named (take (place + 1) netids) * removal_cost many
+    by_test true t =
+        let one = count_by_more_yes named netids place Tcp within t in
+        let more = removal_cost_more few many le in
+        rw one (omega (arith, more))
+    by_test false t = let none = count_by_more_no named netids place Tcp within t in rw none (omega arith)
+
 pub any-push : {T : Type 0} (test : T → Bool) (xs : List T) (y : T) → list_any test (xs ++ y ∷ []) ≡ (list_any test xs || test y)
 any-push test [] y = or_false (test y)
   where
@@ -373,6 +404,13 @@ as_many n entries index indexed stamped =
     let whole = ranks_and_retained entries in
     let live = live_and_retained n entries stamped in
     omega (arith, whole, live, indexed.count)
+
+-- so a removal costs no more than the registry says
+pub named_less : (which : Which) (count : ℕ) (kept : Registry) → looks count ≤ looks kept.limit → count ≡ length (rows_of kept)
+    → count_named which * removal_cost count ≤ unset_cost kept which
+named_less All count kept few rows = omega (arith, few, rows)
+named_less Inet count kept few rows = omega (arith, few, rows)
+named_less (One netid) count kept few rows = omega (arith, few, rows)
 
 -- what one of six own rows costs
 pub own_cost : (entries : List (ℕ × Slot)) (index : List (ℕ × ℕ)) (number : ℕ) → IsIndexed entries index → length entries ≤ 5 → looks (length index) + moves number index ≤ 10

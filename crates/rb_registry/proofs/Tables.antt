@@ -13,7 +13,7 @@ use Rattle.rb_registry.specs.declared.slot.Slot.{Slot}
 use Rattle.rb_registry.specs.Rows.{Change, covers}
 use Rattle.rb_registry.specs.Slots.{is_live_at, stays_at, slot_of, removed_by, is_dropped}
 use Rattle.rb_registry.specs.Table.{IsStamped, AreStamped, goes, with_mark, entries_with_marks, lesser_of, least_of, IsLeast}
-use Rattle.rb_registry.specs.Registry.{table_at, removals}
+use Rattle.rb_registry.specs.Registry.{table_at, live_at, removals}
 
 -- ---- one slot
 
@@ -308,6 +308,15 @@ live_and_retained stamp (e ∷ rest) h = rw (live_has_none stamp e.1 h.0) (by_re
         → length (values_of (cond (is_none removed) ((e.0, e.1.row) ∷ table_at stamp rest) (table_at stamp rest))) + length (cons_option removed (removals rest)) ≡ suc (length rest)
     by_removed None further = omega (arith, further)
     by_removed (Some r) further = omega (arith, further)
+
+-- the live rows are among all rows
+pub live_within : (n : ℕ) (entries : List (ℕ × Slot)) → length (live_at n entries) ≤ length (values_of entries)
+live_within n [] = omega arith
+live_within n (e ∷ rest) = by_test (is_live_at n e.1) (live_within n rest)
+  where
+    by_test : (b : Bool) → length (live_at n rest) ≤ length (values_of rest) → length (values_of (cond b ((e.0, e.1.row) ∷ table_at n rest) (table_at n rest))) ≤ suc (length (values_of rest))
+    by_test true further = omega (arith, further)
+    by_test false further = omega (arith, further)
 
 pub removals-push : (key added : ℕ) (row : Row) (entries : List (ℕ × Slot)) → removals (entries ++ (key, slot_of added row) ∷ []) ≡ removals entries
 removals-push key added row [] = refl

@@ -1,12 +1,13 @@
 -- The index of the live rows, by rank.
 use Rattle.std.specs.Prelude.{◌≡◌, ◌<◌, ℕ, ◌+◌, ◌-◌, ◌*◌, ◌^◌, nat_le, Bool, ◌&&◌, is_none, if◌then◌else◌, List, [], ◌∷◌, length, map, Option, Some, None}
+use Rattle.std.specs.Option.{option_or}
 use Rattle.rb_xdr.specs.Pool.{Pool, value_at, HasDistinctKeys}
-use Rattle.rb_xdr.specs.Ordered.{Ordered, last_upto, looks}
+use Rattle.rb_xdr.specs.Ordered.{Ordered, last_upto}
 use Rattle.rb_registry.specs.declared.row.Netid.{Netid}
 use Rattle.rb_registry.specs.declared.row.Netid.TheVariants.{Tcp, Udp, Tcp6, Udp6, Local}
 use Rattle.rb_registry.specs.declared.row.Row.{Row}
 use Rattle.rb_registry.specs.declared.slot.Slot.{Slot}
-use Rattle.rb_registry.specs.Rows.{Change, covers}
+use Rattle.rb_registry.specs.Rows.{Change, covers, is_netid}
 
 -- ---- ranks
 
@@ -51,6 +52,10 @@ key_from least (Some e) = if nat_le least e.0 then Some e.1 else None
 abbrev pub newest_key : ℕ → Netid → List (ℕ × ℕ) → Option ℕ
 newest_key prog netid index = key_from (rank prog netid 0) (last_upto (rank prog netid (2 ^ 32 - 1)) index)
 
+-- that of the exact version, else of the greatest one
+abbrev pub found_key : ℕ → ℕ → Netid → List (ℕ × ℕ) → Option ℕ
+found_key prog vers netid index = option_or (value_at index (rank prog netid vers)) (newest_key prog netid index)
+
 -- ---- a removal, netid by netid
 
 -- live, covered by the next change, and on one of these netids
@@ -66,11 +71,11 @@ marked_where on stamp change entries = map (λ e. (e.0, mark_where on stamp chan
 abbrev pub with_marks_where : (Netid → Bool) → ℕ → Change → Pool Slot → Pool Slot
 with_marks_where on stamp change pool = record pool { entries = marked_where on stamp change pool.entries }
 
+-- on one netid
+abbrev pub with_marks_on : Netid → ℕ → Change → Pool Slot → Pool Slot
+with_marks_on netid stamp change pool = with_marks_where (λ other. is_netid other netid) stamp change pool
+
 -- the same table, with other entries
 pub record IsSameBut (old new : Ordered) : Type 0 where
   pub cap : new.cap ≡ old.cap
   pub tie : new.tie ≡ old.tie
-
--- what the removal of one row costs at most, among so many
-abbrev pub removal_cost : ℕ → ℕ
-removal_cost count = 2 * looks count + count + 2

@@ -6,5 +6,6 @@ pub mod Table
 pub mod Cursors
 pub mod Walks
 pub mod Removals
+pub mod Costs
 pub mod Laws
 pub mod Worked

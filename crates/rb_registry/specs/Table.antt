@@ -8,7 +8,7 @@ use Rattle.rb_xdr.specs.Meter.{Meter}
 use Rattle.rb_xdr.specs.Ordered.{Ordered}
 use Rattle.rb_registry.specs.declared.slot.Slot.{Slot}
 use Rattle.rb_registry.specs.declared.row.Row.{Row}
-use Rattle.rb_registry.specs.Registry.{table_at, removals, Registry, rows_of, retained_count, StandsForChanges}
+use Rattle.rb_registry.specs.Registry.{table_at, live_at, removals, Registry, rows_of, retained_count, StandsForChanges}
 use Rattle.rb_registry.specs.Slots.{is_live_at, removed_by, is_dropped, held_in}
 use Rattle.rb_registry.specs.Rows.{Change, covers, has_place}
 use Rattle.rb_registry.specs.Index.{IsIndexed}
@@ -45,6 +45,10 @@ pub record IsTable (stamp floor limit held retained : ℕ) (entries : List (ℕ 
   pub indexed : IsIndexed entries index.entries
   pub index_cap : index.cap ≡ limit
   pub index_tie : index.tie ≡ tie
+
+-- Among the live ones of these rows, this is what is found, whichever stamp they have.
+abbrev pub IsFoundAmong : List (ℕ × Slot) → (List Row → Option Row) → Option Row → Type 0
+IsFoundAmong entries find found = (stamp : ℕ) → AreStamped stamp entries → found ≡ find (live_at stamp entries)
 
 -- ---- what a removal marks, and what a trim drops
 

@@ -87,13 +87,14 @@ impl Registry {
     ghost use Rattle.rb_registry.specs.Registry.{rows_of, slots_of, removals_of, retained_count, Reaches, AreOwn, StandsForChanges};
     ghost use Rattle.rb_registry.specs.Table.{takes, floor_raised, StandsForMore, StandsForSame, later_than, IsLeast, PaysFor};
     ghost use Rattle.rb_registry.specs.Removals.{takes_removal};
+    ghost use Rattle.rb_registry.specs.Costs.{set_cost, unset_cost};
     ghost use Rattle.rb_registry.specs.Cursors.{RowsAreLive, StandsIn, PassesOne, IsWithin, IsAtEnd, row_behind, slots_left, GoesOn};
     ghost use Rattle.rb_registry.specs.Slots.{held_in};
 
     /// A registry of these rows, with room for `cap` rows in all, for calls that this meter counts.
     ///
-    /// The own rows are of the portmapper's program, so nobody removes them. `BadLimits` where they are more than
-    /// `cap`, else `NoMemory` where the memory for `cap` rows is refused.
+    /// The own rows are of the portmapper's program, so nobody removes them, and no two are of one version and netid.
+    /// `BadLimits` where they are more than `cap`, else `NoMemory` where the memory for `cap` rows is refused.
     pub fn new(
         alloc: Global,
         cap: usize,
@@ -150,7 +151,8 @@ impl Registry {
     /// row of its program, version and netid is there, the live and the retained rows reach the limit, or
     /// 2^64 - 1 changes were accepted: then nothing changes.
     ///
-    /// It checks neither who sets the row nor whether the address fits the netid.
+    /// It checks neither who sets the row nor whether the address fits the netid. It costs two searches in the index, at
+    /// most a step for each live row, which may move there, and 2.
     pub fn set(&mut self, row: Row, meter: &mut Meter) -> bool
         requires { meter.old.tie ≡ self.old.tie }
         ensures taken { result ≡ takes self.old row }
@@ -162,7 +164,7 @@ impl Registry {
         ensures limit { self.new.limit ≡ self.old.limit }
         ensures memory { self.new.memory ≡ self.old.memory }
         ensures tie { self.new.tie ≡ self.old.tie }
-        ensures cost { PaysAtMost meter.old meter.new (2 * looks self.old.limit + length (rows_of self.old) + 2) }
+        ensures cost { PaysAtMost meter.old meter.new (set_cost self.old) }
     {
         if !is_change_left(self.changes) || has_key(&self.index, &row, meter) {
             return false;
@@ -189,7 +191,8 @@ impl Registry {
 
     /// Removes the rows of the program's version on these netids that a caller of this owner may
     /// remove (RFC 1833 section 2.2.1, RPCBPROC_UNSET), and answers whether there was one. Where
-    /// 2^64 - 1 changes were accepted, none is removed. Removed rows are retained until `trim` drops them.
+    /// 2^64 - 1 changes were accepted, none is removed. Removed rows are retained until `trim` drops them. It costs as
+    /// much as a SET for each netid that is named.
     pub fn unset(
         &mut self,
         prog: u32,
@@ -209,8 +212,7 @@ impl Registry {
         ensures limit { self.new.limit ≡ self.old.limit }
         ensures memory { self.new.memory ≡ self.old.memory }
         ensures tie { self.new.tie ≡ self.old.tie }
-        ensures cost { PaysAtMost meter.old meter.new
-            (5 * (2 * looks self.old.limit + length (rows_of self.old) + 2)) }
+        ensures cost { PaysAtMost meter.old meter.new (unset_cost self.old which) }
     {
         let removal = Removal {
             prog,
@@ -237,7 +239,8 @@ impl Registry {
     }
 
     /// The live row of exactly this version, else that of the greatest version that the program has on the netid, or
-    /// `None` where it has none there (RFC 1833 sections 2.2.1, RPCBPROC_GETADDR, and 3.2, PMAPPROC_GETPORT).
+    /// `None` where it has none there (RFC 1833 sections 2.2.1, RPCBPROC_GETADDR, and 3.2, PMAPPROC_GETPORT). It costs two
+    /// searches in the index at most, and 1.
     pub fn find(&self, prog: u32, vers: u32, netid: Netid, meter: &mut Meter) -> Option<&Row>
         requires { meter.old.tie ≡ self.now.tie }
         ensures found { option_copied result ≡ find_row prog vers netid (rows_of self.now) }
@@ -247,7 +250,7 @@ impl Registry {
     }
 
     /// The live row of exactly this version of the program on the netid, or `None` where there is none (RFC 1833
-    /// section 2.2.2, RPCBPROC_GETVERSADDR).
+    /// section 2.2.2, RPCBPROC_GETVERSADDR). It costs a search in the index, and 1.
     pub fn find_exact(&self, prog: u32, vers: u32, netid: Netid, meter: &mut Meter) -> Option<&Row>
         requires { meter.old.tie ≡ self.now.tie }
         ensures found { option_copied result ≡ find_exact prog vers netid (rows_of self.now) }

@@ -1,14 +1,14 @@
 //! Walks over the rows, live and retained, in their order.
-ghost use Rattle.std.specs.Prelude.{◌≡◌, ℕ, ◌+◌, ◌*◌, ◌^◌, ◌<◌, length, is_some, if◌then◌else◌, IfSome, Some, option_copied};
-ghost use Rattle.std.specs.Option.{option_or};
+ghost use Rattle.std.specs.Prelude.{◌≡◌, ◌+◌, ◌*◌, ◌^◌, ◌<◌, length, is_some, if◌then◌else◌, IfSome, Some, option_copied};
 ghost use Rattle.rb_xdr.specs.Meter.{Pays, PaysAtMost};
 ghost use Rattle.rb_xdr.specs.Pool.{value_at, HasDistinctKeys};
 ghost use Rattle.rb_xdr.specs.Ordered.{IsRising, looks};
 ghost use Rattle.rb_registry.specs.Removals.{change_of};
-ghost use Rattle.rb_registry.specs.Rows.{is_netid, find_exact, find_row};
-ghost use Rattle.rb_registry.specs.Registry.{live_at, removals};
-ghost use Rattle.rb_registry.specs.Index.{rank, rank_of, IsIndexed, IsSameBut, newest_key, with_marks_where, removal_cost};
-ghost use Rattle.rb_registry.specs.Table.{AreStamped, count_going, with_marks, entries_left, count_retained, count_held, lesser_of, least_of, IsNextLive, count_left, PaysFor};
+ghost use Rattle.rb_registry.specs.Rows.{find_exact, find_row};
+ghost use Rattle.rb_registry.specs.Registry.{removals};
+ghost use Rattle.rb_registry.specs.Index.{rank_of, IsIndexed, IsSameBut, newest_key, found_key, with_marks_on};
+ghost use Rattle.rb_registry.specs.Costs.{mark_cost, mark_cost_on};
+ghost use Rattle.rb_registry.specs.Table.{AreStamped, IsFoundAmong, count_going, with_marks, entries_left, count_retained, count_held, lesser_of, least_of, IsNextLive, count_left, PaysFor};
 
 use crate::removal::Removal;
 use crate::row::{Netid, Row, rank};
@@ -28,8 +28,7 @@ pub(crate) fn find_exact<'a>(
     requires index_tie { meter.old.tie ≡ index.now.tie }
     requires distinct { HasDistinctKeys slots.now.entries }
     requires indexed { IsIndexed slots.now.entries index.now.entries }
-    ensures row { (stamp : ℕ) → AreStamped stamp slots.now.entries → option_copied result
-        ≡ find_exact prog vers netid (live_at stamp slots.now.entries) }
+    ensures row { IsFoundAmong slots.now.entries (find_exact prog vers netid) (option_copied result) }
     ensures cost { PaysAtMost meter.old meter.new (looks (length index.now.entries) + 1) }
 {
     let key = index.find(rank(prog, netid, vers), meter)?;
@@ -50,8 +49,7 @@ pub(crate) fn find_row<'a>(
     requires index_tie { meter.old.tie ≡ index.now.tie }
     requires distinct { HasDistinctKeys slots.now.entries }
     requires indexed { IsIndexed slots.now.entries index.now.entries }
-    ensures row { (stamp : ℕ) → AreStamped stamp slots.now.entries → option_copied result
-        ≡ find_row prog vers netid (live_at stamp slots.now.entries) }
+    ensures row { IsFoundAmong slots.now.entries (find_row prog vers netid) (option_copied result) }
     ensures cost { PaysAtMost meter.old meter.new (2 * looks (length index.now.entries) + 1) }
 {
     let key = key_of(index, prog, vers, netid, meter)?;
@@ -62,8 +60,7 @@ pub(crate) fn find_row<'a>(
 /// The key of that row.
 fn key_of(index: &Ordered, prog: u32, vers: u32, netid: Netid, meter: &mut Meter) -> Option<usize>
     requires { meter.old.tie ≡ index.now.tie }
-    ensures key { result ≡ option_or (value_at index.now.entries (rank prog netid vers))
-        (newest_key prog netid index.now.entries) }
+    ensures key { result ≡ found_key prog vers netid index.now.entries }
     ensures rising { IsRising index.now.entries }
     ensures cost { PaysAtMost meter.old meter.new (2 * looks (length index.now.entries)) }
 {
@@ -115,8 +112,7 @@ pub(crate) fn mark_covered(
     ensures marks { slots.new ≡ with_marks stamp (change_of removal.now) slots.old }
     ensures indexed { IsIndexed slots.new.entries index.new.entries }
     ensures index { IsSameBut index.old index.new }
-    ensures cost { PaysAtMost meter.old meter.new
-        (5 * removal_cost (length index.old.entries)) }
+    ensures cost { PaysAtMost meter.old meter.new (mark_cost removal.now index.old) }
 {
     let mut removed = 0;
     'netids: for netid in NETIDS {
@@ -149,14 +145,13 @@ fn mark_on(
     requires number { stamp + 1 < 2 ^ 64 }
     requires distinct { HasDistinctKeys slots.old.entries }
     requires indexed { IsIndexed slots.old.entries index.old.entries }
-    ensures marks { slots.new ≡ with_marks_where (λ other. is_netid other netid) stamp
-        (change_of removal.now) slots.old }
+    ensures marks { slots.new ≡ with_marks_on netid stamp (change_of removal.now) slots.old }
     ensures distinct { HasDistinctKeys slots.new.entries }
     ensures indexed { IsIndexed slots.new.entries index.new.entries }
     ensures removed { (if result then 1 else 0) + length index.new.entries
         ≡ length index.old.entries }
     ensures index { IsSameBut index.old index.new }
-    ensures cost { PaysAtMost meter.old meter.new (removal_cost (length index.old.entries)) }
+    ensures cost { PaysAtMost meter.old meter.new (mark_cost_on netid removal.now index.old) }
 {
     if !removal.which.includes(netid) {
         return false;

@@ -1,5 +1,5 @@
 -- What a contract sees of an `Ordered`.
-use Rattle.std.specs.Prelude.{◌≤◌, ℕ, zero, suc, ◌+◌, ◌-◌, ◌/◌, ◌^◌, nat_le, if◌then◌else◌, List, [], ◌∷◌, length, Option, Some, None, unwrap_or}
+use Rattle.std.specs.Prelude.{◌≤◌, ℕ, zero, suc, ◌+◌, ◌-◌, ◌/◌, ◌^◌, nat_le, Bool, if◌then◌else◌, List, [], ◌∷◌, length, Option, Some, None, unwrap_or}
 
 -- the numbers in rising order, each with its key, how many there may be, and the number of the meter that counts the
 -- calls
@@ -33,6 +33,10 @@ with_number [] number key = (number, key) ∷ []
 with_number (e ∷ rest) number key =
     if nat_le e.0 number then e ∷ with_number rest number key else (number, key) ∷ e ∷ rest
 
+-- the table with it
+abbrev pub with_more : Ordered → ℕ → ℕ → Ordered
+with_more table number key = record table { entries = with_number table.entries number key }
+
 -- ---- costs
 
 -- how often a number can be halved, rounded up, until it is 1, and once more: the looks of a search among so many
@@ -50,3 +54,11 @@ LooksAreFew = (count power : ℕ) → count ≤ 2 ^ power → looks count ≤ po
 -- how many move where a number is put in its place or taken from it, and 1 for itself
 abbrev pub moves : ℕ → List (ℕ × ℕ) → ℕ
 moves number entries = length entries - count_upto number entries + 1
+
+-- a search, and what moves
+abbrev pub insert_cost : ℕ → List (ℕ × ℕ) → ℕ
+insert_cost number entries = looks (length entries) + moves number entries
+
+-- a search and, where the number was there, what moves
+abbrev pub remove_cost : ℕ → List (ℕ × ℕ) → Bool → ℕ
+remove_cost number entries there = looks (length entries) + (if there then moves number entries else 0)

@@ -2,7 +2,7 @@
 use Rattle.std.specs.Prelude.{◌≡◌, ℕ, List, [], ◌∷◌, ◌++◌, Some, None, Ok, Err, codes, pos, negsuc}
 use Rattle.rb_xdr.specs.declared.fault.XdrFault.TheVariants.{Short, TooLong, BadBool, BadPadding}
 use Rattle.rb_xdr.specs.Xdr.{XdrFault, Reading, number, words, opaque, array, linked_list, read_number, read_bool, read_opaque, read_array}
-use Rattle.rb_xdr.specs.Ordered.{looks}
+use Rattle.rb_xdr.specs.Ordered.{last_upto, with_number, looks, moves}
 use Rattle.rb_xdr.specs.XdrTypes.{signed, optional, read_signed, read_pair, read_optional}
 
 abbrev pub WritesNumbers : Type 0
@@ -69,6 +69,17 @@ abbrev pub FirstFieldDecides : Type 0
 FirstFieldDecides = read_pair read_bool (read_opaque 1) (words (2 ∷ 9 ∷ [])) ≡ Err BadBool
 
 -- ---- searches
+
+abbrev pub three : List (ℕ × ℕ)
+three = (2, 0) ∷ (5, 1) ∷ (9, 2) ∷ []
+
+-- among 2, 5 and 9 none is at most 1, and 5 is the last that is at most 8
+abbrev pub FindsLast : Type 0
+FindsLast = (last_upto 1 three ≡ None) × (last_upto 8 three ≡ Some (5, 1))
+
+-- 7 is put before 9, which moves
+abbrev pub PutsInPlace : Type 0
+PutsInPlace = (with_number three 7 3 ≡ (2, 0) ∷ (5, 1) ∷ (7, 3) ∷ (9, 2) ∷ []) × (moves 7 three ≡ 2)
 
 -- the looks of a search among none, one, two and five numbers, and among 4,096
 abbrev pub LooksOfSearches : Type 0

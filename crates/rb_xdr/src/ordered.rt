@@ -1,8 +1,8 @@
 //! Numbers in rising order, each with a key, in storage of fixed capacity whose calls are counted.
-ghost use Rattle.std.specs.Prelude.{◌≡◌, ◌+◌, ◌*◌, ◌<◌, ◌≤◌, ◌↔◌, [], length, if◌then◌else◌, is_some, IsOk, IfOk, OnOk, OnErr, None, vec_len, vec_capacity};
+ghost use Rattle.std.specs.Prelude.{◌≡◌, ◌<◌, ◌≤◌, ◌↔◌, [], length, is_some, IsOk, IfOk, OnOk, OnErr, None, vec_capacity};
 ghost use Rattle.rb_xdr.specs.Meter.{Pays};
 ghost use Rattle.rb_xdr.specs.Pool.{value_at, without};
-ghost use Rattle.rb_xdr.specs.Ordered.{IsRising, count_upto, last_upto, with_number, looks, moves};
+ghost use Rattle.rb_xdr.specs.Ordered.{IsRising, count_upto, last_upto, with_more, looks, insert_cost, remove_cost};
 
 use crate::full::Full;
 use crate::memory::NoMemory;
@@ -14,8 +14,8 @@ use std::snapshot::Snapshot;
 /// A table of at most `cap` numbers in rising order, each with a key. `new` takes and writes all of its memory, and no
 /// later call changes how much it has.
 ///
-/// Each call wants the meter that the table was made with, and searches by halves: a step for each look, of which among
-/// at most 2^k numbers there are at most k + 1.
+/// Each call wants the meter that the table was made with, and searches by halves, a step for each look: of these there
+/// are at most k + 1 among at most 2^k numbers.
 #[derive(Drop)]
 pub struct Ordered {
     entries: Vec<(u128, usize)>,
@@ -121,17 +121,15 @@ impl Ordered {
         }
     }
 
-    /// Adds a number that isn't there, with its key. `Full` where there are `cap` numbers. It costs a search, a step for
-    /// each greater number, and 1, in both cases.
+    /// Adds a number that isn't there, with its key, or `Full` where there are `cap` numbers. It costs a search, a step
+    /// for each greater number, and 1, in both cases.
     pub fn insert(&mut self, number: u128, key: usize, meter: &mut Meter) -> Result<(), Full>
         requires tie { meter.old.tie ≡ self.old.tie }
         requires absent { value_at self.old.entries number ≡ None }
         ensures room { IsOk result ↔ (length self.old.entries < self.old.cap) }
-        ensures ok { OnOk result
-            (self.new ≡ record self.old { entries = with_number self.old.entries number key }) }
+        ensures ok { OnOk result (self.new ≡ with_more self.old number key) }
         ensures err { OnErr result (self.new ≡ self.old) }
-        ensures cost { Pays meter.old meter.new
-            (looks (length self.old.entries) + moves number self.old.entries) }
+        ensures cost { Pays meter.old meter.new (insert_cost number self.old.entries) }
     {
         let place = self.place(number, meter);
         meter.pay((self.entries.len() - place) as u64);
@@ -150,10 +148,9 @@ impl Ordered {
     pub fn remove(&mut self, number: u128, meter: &mut Meter) -> Option<usize>
         requires { meter.old.tie ≡ self.old.tie }
         ensures key { result ≡ value_at self.old.entries number }
-        ensures entries { self.new
-            ≡ record self.old { entries = without self.old.entries number } }
-        ensures cost { Pays meter.old meter.new (looks (length self.old.entries)
-            + (if is_some result then moves number self.old.entries else 0)) }
+        ensures entries { self.new ≡ record self.old { entries = without self.old.entries number } }
+        ensures cost { Pays meter.old meter.new
+            (remove_cost number self.old.entries (is_some result)) }
     {
         let place = self.place(number, meter);
         if place == 0 {

@@ -1,16 +1,16 @@
 use Rattle.std.proofs.Common.{◌≡◌, ℕ, List, take, length, get_or, refl, sym, ap, ◌∙◌, arith}
-use Rattle.std.specs.List.{list_any}
+use Rattle.std.specs.List.{list_any, count_by}
 use Rattle.std.proofs.lemmas.List.{length-map, take_more, take_all}
 use Rattle.rb_xdr.specs.Pool.{Pool}
 use Rattle.rb_registry.specs.declared.row.Netid.{Netid}
 use Rattle.rb_registry.specs.declared.row.Netid.TheVariants.{Tcp}
 use Rattle.rb_registry.specs.declared.slot.Slot.{Slot}
 use Rattle.rb_registry.specs.Removals.{change_of}
-use Rattle.rb_registry.specs.Rows.{is_netid}
+use Rattle.rb_registry.specs.Rows.{is_netid, is_among}
 use Rattle.rb_registry.specs.Table.{with_mark, with_marks, entries_with_marks, count_retained}
 use Rattle.rb_registry.specs.Index.{with_marks_where, marked_where}
 use Rattle.rb_registry.proofs.Counting.{removals-marked}
-use Rattle.rb_registry.proofs.Marks.{netids, is_one, none_marked, one_more, all_marked, ranks_and_retained, removal_cost_more}
+use Rattle.rb_registry.proofs.Marks.{netids, is_one, none_marked, one_more, all_marked, ranks_and_retained, all_named, one_more_cost}
 use Rattle.rb_registry.proofs.walk.mark_covered.Goals as goal
 use Rattle.rb_registry.proofs.walk.mark_covered.Goals.{then-mark_on, else-mark_on, After-netids}
 
@@ -34,7 +34,7 @@ netids-preserved c =
     let marked : c.mark_on.new.slots ≡ with_marks_where (λ other. is_netid other (get_or netids c.netids.netid-index Tcp)) c.args.stamp (change_of c.args.removal.now) c.netids.slots = c.mark_on.ensures.marks in
     let one = one_more (take c.netids.netid-index netids) netid c.args.stamp change c.args.slots.now.entries (marked_where (λ n. list_any (λ other. is_netid n other) (take c.netids.netid-index netids)) c.args.stamp change c.args.slots.now.entries) refl in
     let longer = take_more netids c.netids.netid-index Tcp (omega (arith, c.netids-test.true)) in
-    let cost = removal_cost_more (length c.netids.index.entries) (length c.args.index.now.entries) (omega (arith, c.netids.invariant.removed)) in
+    let cost = one_more_cost c.args.removal.now.which c.netids.netid-index (length c.netids.index.entries) (length c.args.index.now.entries) (omega (arith, c.netids-test.true)) (omega (arith, c.netids.invariant.removed)) in
     record {
       marks = marked
           ∙ ap (λ (p : Pool Slot). with_marks_where (λ other. is_netid other netid) c.args.stamp change p) c.netids.invariant.marks
@@ -77,3 +77,10 @@ returns-clause-removed c =
     let whole = ranks_and_retained c.netids.slots.entries in
     let before = ranks_and_retained c.args.slots.now.entries in
     omega (arith, now, as_long, more, whole, before, c.netids.invariant.removed, c.netids.invariant.indexed.count, c.requires.indexed.count)
+
+pub returns-clause-cost : goal.returns-clause-cost
+returns-clause-cost c =
+    let whole : take c.netids.netid-index netids ≡ netids = take_all c.netids.netid-index netids (omega (arith, c.netids-test.false)) in
+    let named = ap (λ (ns : List Netid). count_by (λ n. is_among n c.args.removal.now.which) ns) whole ∙ all_named c.args.removal.now.which in
+    let steps = rw named at c.netids.invariant.steps in
+    record { rises = c.netids.invariant.rises; steps = steps; tie = c.netids.invariant.meter }

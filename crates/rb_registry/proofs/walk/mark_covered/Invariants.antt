@@ -1,9 +1,10 @@
 use Rattle.std.proofs.Common.{◌≡◌, ◌+◌, ◌*◌, ◌≤◌, length, take}
-use Rattle.std.specs.List.{list_any}
+use Rattle.std.specs.List.{list_any, count_by}
 use Rattle.rb_xdr.specs.Pool.{HasDistinctKeys}
-use Rattle.rb_registry.specs.Rows.{is_netid}
+use Rattle.rb_registry.specs.Rows.{is_netid, is_among}
 use Rattle.rb_registry.specs.Removals.{change_of}
-use Rattle.rb_registry.specs.Index.{IsIndexed, IsSameBut, with_marks_where, removal_cost}
+use Rattle.rb_registry.specs.Index.{IsIndexed, IsSameBut, with_marks_where}
+use Rattle.rb_registry.specs.Costs.{removal_cost}
 use Rattle.rb_registry.proofs.Marks.{netids}
 use Rattle.rb_registry.proofs.walk.mark_covered.Given as goal
 
@@ -18,5 +19,5 @@ invariant-netids l = record {
   index : IsSameBut l.fn.index l.index;
   meter : l.meter.tie ≡ l.fn.meter.tie;
   rises : l.fn.meter.steps ≤ l.meter.steps;
-  steps : l.meter.steps ≤ l.fn.meter.steps + l.netid-index * removal_cost (length l.fn.index.entries);
+  steps : l.meter.steps ≤ l.fn.meter.steps + count_by (λ n. is_among n l.fn.removal.which) (take l.netid-index netids) * removal_cost (length l.fn.index.entries);
 }

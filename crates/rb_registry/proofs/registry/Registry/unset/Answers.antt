@@ -1,4 +1,4 @@
-use Rattle.std.proofs.Common.{◌≡◌, ℕ, true, false, sym, ap, subst, ◌∙◌, arith}
+use Rattle.std.proofs.Common.{◌≡◌, ℕ, true, false, length, sym, ap, subst, ◌∙◌, arith}
 use Rattle.rb_xdr.specs.Pool.{Pool}
 use Rattle.std.specs.List.{list_any}
 use Rattle.std.specs.Map.{values_of}
@@ -13,7 +13,7 @@ use Rattle.rb_registry.proofs.Counting.{removals-marked, none_counted, some_coun
 use Rattle.rb_registry.proofs.Registries.{goes_on-unset, goes_on_same, removal_made, no_removal_left, unchanged}
 use Rattle.rb_registry.proofs.Stands.{after_unset}
 use Rattle.rb_registry.proofs.Tables.{AreStamped-marked, distinct-marked, as_many_marked, removals_within}
-use Rattle.rb_registry.proofs.Marks.{looks_within, as_many}
+use Rattle.rb_registry.proofs.Marks.{looks_within, as_many, named_less}
 use Rattle.rb_registry.proofs.registry.Registry.unset.Goals as goal
 use Rattle.rb_registry.proofs.registry.Registry.unset.Goals.{Then-removed-eq0}
 
@@ -109,11 +109,13 @@ returns-then-removed-eq0-clause-cost c =
     let more = looks_within c.self.inside.slots.cap c.self.inside.slots.entries c.self.inside.index.entries c.self.invariant.indexed c.self.invariant.within in
     let rows = as_many c.self.inside.changes c.self.inside.slots.entries c.self.inside.index.entries c.self.invariant.indexed c.self.invariant.stamped in
     let cost = c.mark_covered-removed.ensures.cost in
-    record { rises = cost.rises; steps = rw (← c.self.view_is) (omega (arith, more, rows, cost.steps)); tie = cost.tie }
+    let less = named_less c.args.which (length c.self.inside.index.entries) (the_view c.self.inside) more rows in
+    record { rises = cost.rises; steps = rw (← c.self.view_is) (omega (arith, less, cost.steps)); tie = cost.tie }
 
 pub returns-clause-cost : goal.returns-clause-cost
 returns-clause-cost c =
     let more = looks_within c.self.inside.slots.cap c.self.inside.slots.entries c.self.inside.index.entries c.self.invariant.indexed c.self.invariant.within in
     let rows = as_many c.self.inside.changes c.self.inside.slots.entries c.self.inside.index.entries c.self.invariant.indexed c.self.invariant.stamped in
     let cost = c.mark_covered-removed.ensures.cost in
-    record { rises = cost.rises; steps = rw (← c.self.view_is) (omega (arith, more, rows, cost.steps)); tie = cost.tie }
+    let less = named_less c.args.which (length c.self.inside.index.entries) (the_view c.self.inside) more rows in
+    record { rises = cost.rises; steps = rw (← c.self.view_is) (omega (arith, less, cost.steps)); tie = cost.tie }
