@@ -19,6 +19,7 @@ pub mod ForwardLaws
 pub mod Closings
 pub mod WholeRuns
 pub mod ChangeLaws
+pub mod HistoryLaws
 pub mod BoundLaws
 pub mod Worked
 pub mod WorkedConnections
@@ -27,3 +28,4 @@ pub mod WorkedDeadlines
 pub mod WorkedLists
 pub mod WorkedBounds
 pub mod WorkedChanges
+pub mod WorkedHistory

@@ -23,7 +23,14 @@ standing_on (Some c) = standing_in c.phase
 abbrev pub standing_of : ℕ → State → Standing
 standing_of id s = standing_on (live_connection id s.connections.all)
 
--- what is answered beside it
-abbrev pub is_done : Result Standing CoreFault → Result (Unit {0}) CoreFault
-is_done (Ok standing) = Ok tt
-is_done (Err fault) = Err fault
+-- ---- results without it
+
+-- of a call that answers it alone
+abbrev pub as_done : Result Standing CoreFault → Result (Unit {0}) CoreFault
+as_done (Ok standing) = Ok tt
+as_done (Err fault) = Err fault
+
+-- of a call that answers it beside something else
+abbrev pub without_standing : {A : Type 0} → Result (A × Standing) CoreFault → Result A CoreFault
+without_standing (Ok (done, standing)) = Ok done
+without_standing (Err fault) = Err fault

@@ -3,11 +3,13 @@ use Rattle.std.specs.Prelude.{◌≡◌, List, [], ◌∷◌, ◌++◌, Some, No
 use Rattle.rb_xdr.specs.Xdr.{words}
 use Rattle.rb_model.specs.declared.types.CoreFault.TheVariants.{Gone}
 use Rattle.rb_model.specs.State.{greatest_number}
-use Rattle.rb_model.specs.Step.{Event, Output, run}
+use Rattle.rb_model.specs.NextDeadlines.{next_deadline}
+use Rattle.rb_model.specs.Step.{Event, Output, run, after}
 use Rattle.rb_model.specs.Step.Event.{Open, Bytes, Pending, Gave, Closed, NextLost, Datagram, Expire}
 use Rattle.rb_model.specs.Step.Output.{Opened, Refused, Took, Done, LostIs, Replied, Forwarded, Nothing, ConnectionClosed, RepliedTo}
 use Rattle.rb_model.specs.Worked.{loopback, fresh, call2, success_reply, call_by_none}
 use Rattle.rb_model.specs.WorkedConnections.{open_event, null_call, in_one}
+use Rattle.rb_model.specs.WorkedForwards.{set_event, indirect}
 
 abbrev pub IdleEnds : Type 0
 IdleEnds =
@@ -61,3 +63,11 @@ ForwardedCallsComeFirst =
     ∷ Expire 300999 ∷ Expire 301000 ∷ Expire 301000 ∷ Expire 301000 ∷ [])
     ≡ Replied (success_reply 3 (1 ∷ [])) ∷ Opened 1 ∷ Forwarded
     ∷ Nothing ∷ RepliedTo loopback (words (15 ∷ 1 ∷ 0 ∷ 0 ∷ 0 ∷ 5 ∷ [])) ∷ ConnectionClosed 1 ∷ Nothing ∷ []
+
+-- the next deadline where nothing has one, of a connection that is Idle and of one that reads a record, and of a forwarded call
+abbrev pub NextOfEach : Type 0
+NextOfEach =
+    (next_deadline fresh ≡ None)
+    × (next_deadline (after fresh (open_event ∷ [])) ≡ Some 300000)
+    × (next_deadline (after fresh (open_event ∷ Bytes 10 1 (0x80 ∷ []) ∷ [])) ≡ Some 30010)
+    × (next_deadline (after fresh (open_event ∷ set_event ∷ Datagram 1000 loopback (indirect 15 200001) ∷ [])) ≡ Some 6000)

@@ -1,10 +1,11 @@
 //! Worked examples of the definitions.
 ghost use Rattle.rb_model.specs.WorkedConnections.{NoCallCloses, OtherRpcVersionOnTcp, SingleByteFragmentsInOnePiece, SingleByteFragmentsByteByByte, SingleByteFragmentsInSevens, BytesBehindArguments, OneRecordAtATime, OneRecordAtATimePasses, NoCallPasses, GivenInParts, TooMuchIsRefused, GoodLimits, NumbersDoNotRecur};
 ghost use Rattle.rb_model.specs.WorkedChanges.{ChangesOfSomeCalls, ChangesOfPieces, KeptCallsOfSomeCalls};
+ghost use Rattle.rb_model.specs.WorkedHistory.{HistoryOfSomeCalls, HistoryOfLookUps, HistoryOfForwards};
 ghost use Rattle.rb_model.specs.WorkedForwards.{ForwardWithoutRow, RefusedCallsAreCounted, ForwardUntilDeadline, IndirectPasses, CallitPasses, TargetRefuses, DeniedIsSystemErr, CallitIsSilent, GreatestResults, NoPlace, GreatestArguments, SilentOnTcp, ForwardPassesOnTcp, ForwardOnTcpIsWhole, ClosedCallerIsDropped, EachEndsInTurn};
 ghost use Rattle.rb_model.specs.WorkedBounds.{BytesBounds, StepsBounds};
 ghost use Rattle.rb_model.specs.WorkedLists.{DumpSurvivesUnsetAndEvicts, OldReadersAreEvicted, FullTableRefuses, RowsThatCameAndWentAreNeeded, ListInTwoFragments, ListAsOfItsCall};
-ghost use Rattle.rb_model.specs.WorkedDeadlines.{IdleEnds, ReadingEnds, TwoEnd, OwingEnds, GivenBytesAreProgress, IdleAfterTheReply, DueAtOnceAtTheGreatestMoment, ForwardedCallsComeFirst};
+ghost use Rattle.rb_model.specs.WorkedDeadlines.{IdleEnds, ReadingEnds, TwoEnd, OwingEnds, GivenBytesAreProgress, IdleAfterTheReply, DueAtOnceAtTheGreatestMoment, ForwardedCallsComeFirst, NextOfEach};
 ghost use Rattle.rb_model.specs.Worked.{NullIsAnswered, SetThenAskThenSetAgain, GreatestVersionElse, OwnRowsAreAsked, LimitIsReached, LocalCallersSet, NothingIsSilent, NullBySys, OtherRpcVersion, TooShort, GreatestCredential, OverlongCredential, SysBodyCutShort, OverlongVerifier, BadResidue, GoodResidue, GssBeforeProgram, OtherVersion, UnknownProcedure, GarbageArguments, OtherProgram, NullOfThree, NullOfFour, GetstatFirstCall, GetstatOfRefusals};
 
 /// The definitions give what the worked examples say.
@@ -93,6 +94,7 @@ pub fn worked_deadlines()
     ensures idle_again { IdleAfterTheReply }
     ensures greatest_moment { DueAtOnceAtTheGreatestMoment }
     ensures forwarded_first { ForwardedCallsComeFirst }
+    ensures next { NextOfEach }
 {}
 
 /// The definitions give what the worked examples of the bounds of held bytes and of steps say.
@@ -106,4 +108,11 @@ pub fn worked_changes()
     ensures changes_of_some_calls { ChangesOfSomeCalls }
     ensures changes_of_pieces { ChangesOfPieces }
     ensures kept_calls_of_some_calls { KeptCallsOfSomeCalls }
+{}
+
+/// The definitions give what the worked examples of the history of calls say.
+pub fn worked_history()
+    ensures history_of_some_calls { HistoryOfSomeCalls }
+    ensures history_of_look_ups { HistoryOfLookUps }
+    ensures history_of_forwards { HistoryOfForwards }
 {}

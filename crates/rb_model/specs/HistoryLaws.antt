@@ -1,0 +1,111 @@
+-- What statistics count: each call that reached its procedure, what it did there, and how each forwarded call ended (RFC 1833
+-- section 2.1, rpcb_stat).
+use Rattle.std.specs.Prelude.{◌≡◌, ℕ, max, is_some, Bool, true, false, if◌then◌else◌, List, [], ◌∷◌, ◌++◌, Option, Some, None}
+use Rattle.rb_rpc.specs.declared.call.CallHead.{CallHead}
+use Rattle.rb_registry.specs.declared.row.Row.{Row}
+use Rattle.rb_registry.specs.declared.row.Transport.{Transport}
+use Rattle.rb_registry.specs.Rows.{netid_of, find_exact, find_row}
+use Rattle.rb_stats.specs.declared.key.Target.{Target}
+use Rattle.rb_stats.specs.Statistics.{Note}
+use Rattle.rb_stats.specs.Statistics.Note.{Called, WasSet, WasUnset, LookedUp}
+use Rattle.rb_forward.specs.declared.types.Ended.{Ended}
+use Rattle.rb_arguments.specs.declared.mapping.Mapping.{Mapping}
+use Rattle.rb_arguments.specs.declared.procedure.MappingProcedure.TheVariants as mappings
+use Rattle.rb_arguments.specs.declared.procedure.RpcbProcedure.TheVariants as rpcbs
+use Rattle.rb_arguments.specs.declared.request.Request.{Request}
+use Rattle.rb_arguments.specs.declared.request.Request.TheVariants as requests
+use Rattle.rb_proto.specs.declared.context.Context.{Context}
+use Rattle.rb_proto.specs.declared.listener.Listener.{Listener}
+use Rattle.rb_proto.specs.Ledger.{rows_in, version_of}
+use Rattle.rb_proto.specs.Netids.{transport_of_prot}
+use Rattle.rb_proto.specs.Answers.{target_of, netid_asked}
+use Rattle.rb_proto.specs.Forwarding.{outcome_note, end_notes, target_replied, fell_due, caller_dropped}
+use Rattle.rb_model.specs.declared.message.Message.{Message}
+use Rattle.rb_model.specs.declared.message.Message.TheVariants as says
+use Rattle.rb_model.specs.declared.types.Limits.{Limits}
+use Rattle.rb_model.specs.Calls.{Outcome, message_of}
+use Rattle.rb_model.specs.Calls.Outcome.{Forwarded}
+use Rattle.rb_model.specs.Connections.{is_there}
+use Rattle.rb_model.specs.State.{State, opening, at_moment}
+use Rattle.rb_model.specs.Step.{context_in, Event, step, after}
+use Rattle.rb_model.specs.Step.Event.{Closed, Forward, Expire}
+use Rattle.rb_model.specs.ChangeLaws.{Brought, brought_by, said_to, is_told_true}
+
+-- ---- what a call is counted as
+
+-- its procedure was called, by this version
+abbrev pub call_note : CallHead → Note
+call_note head = Called (version_of head.vers) head.proc
+
+-- a SET or an UNSET counts once more where it is answered TRUE
+abbrev pub notes_where : Bool → Note → List Note
+notes_where true note = note ∷ []
+notes_where false note = []
+
+-- a look-up of the target: whether it found a row
+abbrev pub lookup_notes : CallHead → Target → Option Row → List Note
+lookup_notes head target found = LookedUp (version_of head.vers) target (is_some found) ∷ []
+
+-- GETPORT by a protocol that is of no transport looks nothing up
+abbrev pub getport_notes : CallHead → Mapping → List Row → Option Transport → List Note
+getport_notes head m rows None = []
+getport_notes head m rows (Some transport) =
+    lookup_notes head (record { prog = m.prog; vers = m.vers; transport = transport }) (find_row m.prog m.vers (netid_of transport) rows)
+
+-- a call that is forwarded counts when it ends, one that could not be as a failure at once
+abbrev pub failure_notes : Outcome → Note → List Note
+failure_notes Forwarded failure = []
+failure_notes said failure = failure ∷ []
+
+-- what a call with this request did, by what it was answered and the rows that were live before it
+abbrev pub notes_done : Context → CallHead → Request → Outcome → List Row → List Note
+notes_done context head (requests.Mapping mappings.Set m) said rows = notes_where (is_told_true head.xid said) (WasSet (version_of head.vers))
+notes_done context head (requests.Mapping mappings.Unset m) said rows = notes_where (is_told_true head.xid said) (WasUnset (version_of head.vers))
+notes_done context head (requests.Mapping mappings.Getport m) said rows = getport_notes head m rows (transport_of_prot m.prot)
+notes_done context head (requests.Rpcb rpcbs.Set r) said rows = notes_where (is_told_true head.xid said) (WasSet (version_of head.vers))
+notes_done context head (requests.Rpcb rpcbs.Unset r) said rows = notes_where (is_told_true head.xid said) (WasUnset (version_of head.vers))
+notes_done context head (requests.Rpcb rpcbs.Getaddr r) said rows = lookup_notes head (target_of context r) (find_row r.prog r.vers (netid_asked context) rows)
+notes_done context head (requests.Rpcb rpcbs.Getversaddr r) said rows = lookup_notes head (target_of context r) (find_exact r.prog r.vers (netid_asked context) rows)
+notes_done context head (requests.Forward kind remote) said rows = failure_notes said (outcome_note kind context.caller remote.prog remote.vers remote.proc false)
+notes_done context head _ said rows = []
+
+-- A message that is no call, or is refused before its procedure is known, counts as nothing. A call of a procedure counts as
+-- called, whether its arguments can be read or not, and then as what it did.
+abbrev pub notes_of : Context → Message → Outcome → List Row → List Note
+notes_of context says.NoCall said rows = []
+notes_of context (says.Refused head) said rows = []
+notes_of context (says.Garbage head) said rows = call_note head ∷ []
+notes_of context (says.Asked call) said rows = call_note call.head ∷ notes_done context call.head call.request said rows
+
+-- ---- what an event is counted as
+
+abbrev pub notes_from : State → Option Brought → List Note
+notes_from s None = []
+notes_from s (Some m) = notes_of (context_in (at_moment m.now s) m.caller) (message_of m.content) (said_to s m) (rows_in s.ledger)
+
+-- the forwarded call that an event ends: by a reply, at its deadline, or with its caller's connection
+abbrev pub call_ended_by : State → Event → Option Ended
+call_ended_by s (Forward now from message) = (target_replied s.setting.first_xid (max s.clock now) from message s.ledger).0
+call_ended_by s (Expire now) = (fell_due (max s.clock now) s.ledger).0
+call_ended_by s (Closed id) = if is_there id s.connections then (caller_dropped id s.ledger).0 else None
+call_ended_by s event = None
+
+-- the notes of the call that an event brings whole, and of the forwarded call that it ends
+abbrev pub notes_by : State → Event → List Note
+notes_by s event = notes_from s (brought_by s event) ++ end_notes (call_ended_by s event)
+
+-- those of the events of a run, in order
+abbrev pub history_by : State → List Event → List Note
+history_by s [] = []
+history_by s (event ∷ events) = notes_by s event ++ history_by (step s event).1 events
+
+-- From every state, an event appends its notes to the history, and nothing else.
+abbrev pub EventsAreNoted : Type 0
+EventsAreNoted = (s : State) (event : Event) → (step s event).1.ledger.history ≡ s.ledger.history ++ notes_by s event
+
+-- In every run, the history is the notes of its events, in order.
+abbrev pub HistoryIsOfItsEvents : Type 0
+HistoryIsOfItsEvents =
+    (limits : Limits) (listener : Listener) (first_xid now : ℕ) (events : List Event)
+    → let start : State = opening limits listener first_xid now in
+    (after start events).ledger.history ≡ history_by start events
