@@ -1,10 +1,24 @@
 -- What answering and putting results costs.
-use Rattle.std.specs.Prelude.{ℕ, ◌+◌, ◌-◌, ◌*◌, length}
+use Rattle.std.specs.Prelude.{ℕ, ◌+◌, ◌-◌, ◌*◌, Bool, true, false, IsTrue, length, Option, Some, None}
 use Rattle.rb_xdr.specs.Kept.{Kept}
 use Rattle.rb_xdr.specs.Ordered.{looks}
-use Rattle.rb_registry.specs.Registry.{Registry, slots_of, rows_of}
+use Rattle.rb_registry.specs.declared.row.Which.{Which}
+use Rattle.rb_registry.specs.declared.row.Which.TheVariants.{Inet}
+use Rattle.rb_registry.specs.Registry.{Registry, slots_of}
+use Rattle.rb_registry.specs.Costs.{set_cost, unset_cost}
 use Rattle.rb_forward.specs.Costs.{end_cost, unsent_cost}
+use Rattle.rb_arguments.specs.declared.procedure.VoidProcedure.TheVariants as voids
+use Rattle.rb_arguments.specs.declared.procedure.MappingProcedure.TheVariants as mappings
+use Rattle.rb_arguments.specs.declared.procedure.RpcbProcedure.TheVariants as rpcbs
+use Rattle.rb_arguments.specs.declared.request.Request.{Request}
+use Rattle.rb_arguments.specs.declared.request.Request.TheVariants as requests
+use Rattle.rb_proto.specs.declared.answers.Answer.{Answer}
+use Rattle.rb_proto.specs.declared.answers.Answer.TheVariants as answers
+use Rattle.rb_proto.specs.declared.answers.Results.{Results}
+use Rattle.rb_proto.specs.declared.answers.Results.TheVariants as results
 use Rattle.rb_proto.specs.declared.books.Books.{Books}
+use Rattle.rb_proto.specs.declared.call.Call.{Call}
+use Rattle.rb_proto.specs.Netids.{which_of}
 use Rattle.rb_proto.specs.Costs.{note_cost, forward_cost, statistics_cost}
 use Rattle.rb_proto.specs.ListReplies.{part_room}
 
@@ -24,16 +38,32 @@ list_cost kept old new = 4 * length (slots_of kept) + 4 + put_cost old new
 abbrev pub lookup_cost : Books → ℕ
 lookup_cost books = 2 * looks books.registry.limit + 3 + note_cost
 
--- two searches, and what moves in the index, for the row that is set or for each netid of an UNSET
-abbrev pub set_cost : Registry → ℕ
-set_cost kept = 2 * looks kept.limit + length (rows_of kept) + 2
+-- the removal of rows on these netids, if they are known
+abbrev pub removal_cost : Registry → Option Which → ℕ
+removal_cost kept None = 0
+removal_cost kept (Some which) = unset_cost kept which
 
-abbrev pub unset_cost : Registry → ℕ
-unset_cost kept = 5 * set_cost kept
+-- a search for the row, a new entry for so many bytes of arguments, and what notes that there is none
+abbrev pub forwarding_cost : Books → ℕ → ℕ
+forwarding_cost books args = looks books.registry.limit + 3 + note_cost + forward_cost args
 
--- a change of rows, what notes a look-up, and a new entry for so many bytes of arguments
-abbrev pub call_cost : Books → ℕ → ℕ
-call_cost books args = unset_cost books.registry + 3 + note_cost + forward_cost args
+-- to do what a call asks for, with so many bytes of arguments; the rows of a list are walked when it is put
+abbrev pub request_cost : Books → Request → ℕ → ℕ
+request_cost books (requests.Void procedure) args = 0
+request_cost books (requests.Mapping mappings.Set m) args = set_cost books.registry
+request_cost books (requests.Mapping mappings.Unset m) args = unset_cost books.registry Inet
+request_cost books (requests.Mapping mappings.Getport m) args = lookup_cost books
+request_cost books (requests.Rpcb rpcbs.Set r) args = set_cost books.registry
+request_cost books (requests.Rpcb rpcbs.Unset r) args = removal_cost books.registry (which_of r.netid)
+request_cost books (requests.Rpcb rpcbs.Getaddr r) args = lookup_cost books
+request_cost books (requests.Rpcb rpcbs.Getversaddr r) args = lookup_cost books
+request_cost books (requests.Rpcb rpcbs.Getaddrlist r) args = 0
+request_cost books (requests.Uaddr2taddr text) args = 0
+request_cost books (requests.Taddr2uaddr netbuf) args = 0
+request_cost books (requests.Forward kind remote) args = forwarding_cost books args
+
+abbrev pub cost_of : Books → Call → ℕ → ℕ
+cost_of books call args = request_cost books call.request args
 
 -- a search for a row, and one step for the number of the live ones
 abbrev pub room_cost : Books → ℕ
@@ -55,6 +85,37 @@ lending_cost books count = unsent_cost books.forwards.cap count
 abbrev pub ending_cost : Books → ℕ
 ending_cost books = end_cost books.forwards.cap + 2 + note_cost
 
--- whatever an answer shows of the books
-abbrev pub results_cost : Books → Kept → Kept → ℕ
-results_cost books old new = list_cost books.registry old new + statistics_cost
+-- to show results of the books: a list walks the rows, and statistics their keys
+abbrev pub results_cost : Books → Results → Kept → Kept → ℕ
+results_cost books (results.Value value) old new = put_cost old new
+results_cost books (results.Rows list) old new = list_cost books.registry old new
+results_cost books results.Statistics old new = statistics_cost + 3 + put_cost old new
+
+-- ---- which calls walk rows
+
+-- a SET or an UNSET, which changes rows, or a list of them
+abbrev pub walks_rows : Request → Bool
+walks_rows (requests.Void voids.PmapDump) = true
+walks_rows (requests.Void voids.Dump) = true
+walks_rows (requests.Mapping mappings.Set m) = true
+walks_rows (requests.Mapping mappings.Unset m) = true
+walks_rows (requests.Rpcb rpcbs.Set r) = true
+walks_rows (requests.Rpcb rpcbs.Unset r) = true
+walks_rows (requests.Rpcb rpcbs.Getaddrlist r) = true
+walks_rows _ = false
+
+-- rows are shown
+abbrev pub are_rows : Results → Bool
+are_rows (results.Value value) = false
+are_rows (results.Rows list) = true
+are_rows results.Statistics = false
+
+abbrev pub shows_rows : Answer → Bool
+shows_rows (answers.Results given) = are_rows given
+shows_rows (answers.Refused status) = false
+shows_rows answers.Forwarded = false
+shows_rows answers.Silent = false
+
+-- a list answers such a call alone
+abbrev pub ListsIfAsked : Call → Answer → Type 0
+ListsIfAsked call given = IsTrue (shows_rows given) → IsTrue (walks_rows call.request)

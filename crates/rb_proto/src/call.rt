@@ -7,7 +7,7 @@ ghost use Rattle.rb_proto.specs.Books.{ActsAs, AreTied, OnlyCallerWaits, SameFra
 ghost use Rattle.rb_arguments.specs.Arguments.{HasArgs};
 ghost use Rattle.rb_registry.specs.Cursors.{GoesOn};
 ghost use Rattle.rb_proto.specs.Answers.{answer, answer_void};
-ghost use Rattle.rb_proto.specs.Puts.{call_cost};
+ghost use Rattle.rb_proto.specs.Puts.{cost_of, ListsIfAsked};
 
 use crate::answers::{Answer, Listing, Results, Value};
 use crate::books::{Books, owner_of};
@@ -75,7 +75,8 @@ pub fn answer(
     ensures cursors { GoesOn books.old.registry books.new.registry }
     ensures floor { books.new.registry.floor ≡ books.old.registry.floor }
     ensures frame { SameFrame books.old books.new }
-    ensures cost { PaysAtMost meter.old meter.new (call_cost books.old (length arguments.now)) }
+    ensures lists { ListsIfAsked call.now result }
+    ensures cost { PaysAtMost meter.old meter.new (cost_of books.old call.now (length arguments.now)) }
 {
     let head = &call.head;
     match &call.request {

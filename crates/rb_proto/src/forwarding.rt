@@ -1,8 +1,8 @@
 //! Calls that are forwarded (RFC 1833 sections 2.2.1 and 3.2).
-ghost use Rattle.std.specs.Prelude.{◌≡◌, ◌+◌, ◌*◌, length};
+ghost use Rattle.std.specs.Prelude.{◌≡◌, ◌+◌, ◌*◌, false, length};
 ghost use Rattle.rb_xdr.specs.Meter.{PaysAtMost};
 ghost use Rattle.rb_xdr.specs.Ordered.{looks};
-ghost use Rattle.rb_registry.specs.Registry.{rows_of, slots_of as row_slots};
+ghost use Rattle.rb_registry.specs.Registry.{rows_of};
 ghost use Rattle.rb_stats.specs.Counting.{HasNoted};
 ghost use Rattle.rb_forward.specs.StandsFor.{slots_of};
 ghost use Rattle.rb_forward.specs.Table.{IsNew};
@@ -10,7 +10,7 @@ ghost use Rattle.rb_proto.specs.Books.{ActsAs, ForwardsAs, AreTied, OnlyCallerWa
 ghost use Rattle.rb_arguments.specs.Remote.{HasContent};
 ghost use Rattle.rb_proto.specs.Forwarding.{version_of_kind, is_indirect, is_pass, peer_at, peer_of_row, peer_to_forward, merged_peer, forward_of, refusal, refuse, end_note};
 ghost use Rattle.rb_proto.specs.Costs.{note_cost};
-ghost use Rattle.rb_proto.specs.Puts.{call_cost};
+ghost use Rattle.rb_proto.specs.Puts.{forwarding_cost, shows_rows};
 
 use crate::answers::Answer;
 use crate::books::Books;
@@ -167,7 +167,8 @@ fn forward_of(
 /// What the caller of a forwarded call is told that failed so: INDIRECT is refused with this status (RFC 1833 section
 /// 2.2.1), and CALLIT and BCAST are silent.
 pub fn refusal(kind: Kind, status: ReplyStatus) -> Answer
-    ensures { result ≡ refusal kind status }
+    ensures answer { result ≡ refusal kind status }
+    ensures lists { shows_rows result ≡ false }
 {
     match kind {
         Kind::Indirect => Answer::Refused(status),
@@ -187,6 +188,7 @@ fn refuse(
     requires { AreTied meter.old.tie books.old }
     ensures acts { ActsAs (refuse context.now kind remote.now status) books.old books.new result }
     ensures told { result ≡ refusal kind status }
+    ensures lists { shows_rows result ≡ false }
     ensures registry { books.new.registry ≡ books.old.registry }
     ensures forwards { books.new.forwards ≡ books.old.forwards }
     ensures frame { SameFrame books.old books.new }
@@ -221,9 +223,10 @@ pub(crate) fn forward_call(
     ensures acts { ForwardsAs context.now xid kind remote.now arguments.now books.old books.new result }
     ensures quiet { StayUnlessForwarded result books.old.forwards books.new.forwards }
     ensures waiting { OnlyCallerWaits context.now.caller books.old books.new }
+    ensures lists { shows_rows result ≡ false }
     ensures registry { books.new.registry ≡ books.old.registry }
     ensures frame { SameFrame books.old books.new }
-    ensures cost { PaysAtMost meter.old meter.new (call_cost books.old (length arguments.now)) }
+    ensures cost { PaysAtMost meter.old meter.new (forwarding_cost books.old (length arguments.now)) }
 {
     let Some(registered) = peer_to_forward(&books.registry, remote, meter) else {
         return refuse(

@@ -127,7 +127,8 @@ pub fn put_results(
     ensures shows { (l : Ledger) → StandsForLedger books.now l
         → shown_in books.now ≡ shown_of l }
     ensures within { length out.old.bytes ≤ limit → length out.new.bytes ≤ limit }
-    ensures cost { PaysAtMost meter.old meter.new (results_cost books.now out.old out.new) }
+    ensures cost { PaysAtMost meter.old meter.new
+        (results_cost books.now results.now out.old out.new) }
 {
     match results {
         Results::Value(value) => put_value(value, limit, out, meter),

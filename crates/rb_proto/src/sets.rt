@@ -1,9 +1,10 @@
 //! SET and UNSET, the procedures that change the registry (RFC 1833 sections 2.2 and 3.2).
-ghost use Rattle.std.specs.Prelude.{◌≡◌, ◌+◌, ◌*◌, length};
+ghost use Rattle.std.specs.Prelude.{◌≡◌, ◌+◌};
 ghost use Rattle.rb_xdr.specs.Meter.{PaysAtMost};
 ghost use Rattle.rb_xdr.specs.Ordered.{looks};
-ghost use Rattle.rb_proto.specs.Puts.{set_cost, unset_cost};
-ghost use Rattle.rb_registry.specs.Registry.{rows_of, slots_of};
+ghost use Rattle.rb_registry.specs.Costs.{set_cost};
+ghost use Rattle.rb_proto.specs.Puts.{removal_cost};
+ghost use Rattle.rb_registry.specs.Registry.{rows_of};
 ghost use Rattle.rb_registry.specs.Cursors.{GoesOn};
 ghost use Rattle.rb_proto.specs.Books.{ActsAs, AreTied, SameFrame, HasRoomFor};
 ghost use Rattle.rb_proto.specs.Answers.{row_of_mapping, row_of_rpcb, can_be_set, row_to_set, accepts, set_row, unset_rows};
@@ -142,7 +143,7 @@ pub(crate) fn unset_rows(
     ensures floor { books.new.registry.floor ≡ books.old.registry.floor }
     ensures forwards { books.new.forwards ≡ books.old.forwards }
     ensures frame { SameFrame books.old books.new }
-    ensures cost { PaysAtMost meter.old meter.new (unset_cost books.old.registry) }
+    ensures cost { PaysAtMost meter.old meter.new (removal_cost books.old.registry which) }
 {
     let Some(which) = which else {
         return false;
